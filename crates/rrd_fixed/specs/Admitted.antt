@@ -1,0 +1,25 @@
+-- Which values a source accepts, and what is kept of them.
+use Rattle.std.specs.Prelude.{ℕ, ◌-◌, ◌^◌, ◌*◌, ℤ, pos, neg_ℤ, int_le, unsigned_abs, nat_lt, if◌then◌else◌, Option, Some, None}
+use Rattle.rrd_fixed.specs.declared.kind.Kind.{Kind}
+use Rattle.rrd_fixed.specs.declared.kind.Kind.TheVariants.{Gauge, Counter, Derive, Absolute}
+use Rattle.rrd_fixed.specs.declared.number.Number.{Number}
+use Rattle.rrd_fixed.specs.Rounding.{floor_of}
+
+-- the value, if it lies from `low` to `high`
+abbrev pub in_range : ℤ → ℤ → ℤ → Option ℤ
+in_range low high value = if int_le low value then (if int_le value high then Some value else None) else None
+
+-- a number below 10^18 in size, kept in millionths
+abbrev pub measured : ℤ → Option ℤ
+measured millionths = if nat_lt (unsigned_abs millionths) (10 ^ 24) then Some millionths else None
+
+-- a whole number without a point, kept in units
+abbrev pub counted : ℤ → ℤ → Number → Option ℤ
+counted low high number = if number.point then None else in_range low high (floor_of number.millionths (pos (10 ^ 6)))
+
+-- the raw value of a number; none if a source of this kind doesn't accept it
+abbrev pub admit : Kind → Number → Option ℤ
+admit Gauge number = measured number.millionths
+admit Absolute number = measured number.millionths
+admit Counter number = counted (pos 0) (pos (2 ^ 64 - 1)) number
+admit Derive number = counted (neg_ℤ (pos (2 ^ 63))) (pos (2 ^ 63 - 1)) number

@@ -1,0 +1,4 @@
+pub mod Rounding
+pub mod Rate
+pub mod Names
+pub mod Admitted

@@ -1,0 +1,21 @@
+//! Cells, rates, names and numbers, and their texts. Values are whole millionths unless a unit is
+//! said, times are seconds since 1970.
+#![tactic(auto)]
+
+mod cell;
+mod kind;
+mod meter;
+mod name;
+mod number;
+mod rates;
+mod raw;
+mod rounding;
+
+pub use cell::Cell;
+pub use kind::Kind;
+pub use meter::Meter;
+pub use name::Name;
+pub use number::Number;
+pub use rates::{rate, rise};
+pub use raw::Raw;
+pub use rounding::near;

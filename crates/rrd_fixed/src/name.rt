@@ -1,0 +1,77 @@
+//! Names of data sources.
+ghost use Rattle.std.specs.Prelude.{◌≡◌, ◌≤◌, length, IfSome, IsSome, ◌↔◌, option_map, Some, None, if◌then◌else◌};
+ghost use Rattle.rrd_fixed.specs.Names.{fits, is_good, is_letter, same_name};
+
+use arrayvec::ArrayString;
+use std::marker::Model;
+
+/// The name of a data source: at most 19 ASCII characters. Contracts see it as the list of its
+/// bytes.
+#[derive(Debug, Drop)]
+pub struct Name {
+    text: ArrayString<19>,
+}
+
+impl Model for Name {
+    ghost use Rattle.std.specs.Prelude.{List, ℕ};
+
+    ghost Value = { List ℕ };
+
+    ghost view = { λ n. n.text.bytes };
+}
+
+impl Name {
+    /// The name of these bytes; none if they are more than 19 or not all ASCII.
+    pub fn fit(bytes: &[u8]) -> Option<Name>
+        ensures { result ≡ (if fits bytes.now then Some bytes.now else None) }
+    {
+        if !bytes.is_ascii() {
+            return None;
+        }
+        let Ok(text) = str::from_utf8(bytes) else {
+            return None;
+        };
+        let Ok(text) = ArrayString::from(text) else {
+            return None;
+        };
+        Some(Name { text })
+    }
+
+    /// Whether the name is one that a data source may have: 1 to 19 characters out of
+    /// `a-z A-Z 0-9 _` (rrdcreate, "DS").
+    pub fn good(&self) -> bool
+        ensures { result ≡ is_good self.now }
+    {
+        let bytes = self.text.as_str().as_bytes();
+        !bytes.is_empty() && bytes.iter().all(|byte| is_letter(*byte))
+    }
+
+    /// The characters.
+    pub fn as_str(&self) -> &str
+        ensures value { result.now ≡ self.now }
+        ensures short { length result.now ≤ 19 }
+    {
+        self.text.as_str()
+    }
+
+    /// The same name again. It takes no memory.
+    pub fn duplicate(&self) -> Name
+        ensures { result ≡ self.now }
+    {
+        Name { text: self.text }
+    }
+
+    /// Whether both are the same name.
+    pub fn same(&self, other: &Name) -> bool
+        ensures { result ≡ same_name self.now other.now }
+    {
+        self.text.as_str() == other.text.as_str()
+    }
+}
+
+// Whether a character may stand in a source's name.
+fn is_letter(byte: u8) -> bool
+    ensures { result ≡ is_letter byte }
+{
+    byte.is_ascii_alphanumeric() || byte == b'_'
+}

@@ -1,0 +1,9 @@
+//! Values as they were given.
+
+/// What a source last reported: in units for COUNTER and DERIVE, in millionths for GAUGE and
+/// ABSOLUTE.
+#[derive(Clone, Copy, Debug, PartialEq, Eq)]
+pub enum Raw {
+    Unknown,
+    Known(i128),
+}
