@@ -1,0 +1,58 @@
+-- Cells added one by one, and the whole list.
+use Rattle.std.proofs.Common.{◌≡◌, refl, ◌∙◌, ap, ℕ, suc, ◌+◌, ℤ, pos, ◌+ℤ◌, List, [], ◌∷◌, length, cond, arith}
+use Rattle.std.proofs.lemmas.Int.{ints}
+use Rattle.std.proofs.lemmas.Bool.{ne_eqb}
+use Rattle.std.specs.List.{fold}
+use Rattle.std.specs.Int.{int_min, int_max}
+use Rattle.rrd_fixed.specs.declared.cell.Cell.{Cell}
+use Rattle.rrd_fixed.specs.declared.cell.Cell.TheVariants.{Unknown, Known}
+use Rattle.rrd_fold.specs.declared.function.Function.{Function}
+use Rattle.rrd_fold.specs.declared.function.Function.TheVariants.{Average, Min, Max, Last}
+use Rattle.rrd_fold.specs.Parts.{Part, nothing, with_value, with_cell, values, summary, part_of}
+
+unfoldable part : ℕ → ℤ → Part
+part known value = record { known = known; value = value }
+
+-- how one more value goes into those that there are
+abbrev into : Function → ℤ → ℤ → ℤ
+into Average value new = value +ℤ new
+into Min value new = int_min value new
+into Max value new = int_max value new
+into Last value new = new
+
+goes_in : (function : Function) (k : ℕ) (value new : ℤ) → with_value function (k + 1) value new ≡ into function value new
+goes_in Average k value new = refl
+goes_in Min k value new = ap (λ b. cond b new (int_min value new)) (ne_eqb (k + 1) 0 (λ e. absurd (omega arith)))
+goes_in Max k value new = ap (λ b. cond b new (int_max value new)) (ne_eqb (k + 1) 0 (λ e. absurd (omega arith)))
+goes_in Last k value new = refl
+
+more : (function : Function) (k : ℕ) (value : ℤ) (cells : List Cell) → fold (with_cell function) (part (k + 1) value) cells ≡ part (k + 1 + length (values cells)) (fold (into function) value (values cells))
+unfolding part
+more function k value [] = ap (λ n. part n value) {x = k + 1} {y = k + 1 + 0} (omega arith)
+more function k value (Unknown ∷ cells) = more function k value cells
+more function k value (Known new ∷ cells) =
+    ap (λ v. fold (with_cell function) (part (k + 1 + 1) v) cells) (goes_in function k value new)
+    ∙ more function (k + 1) (into function value new) cells
+    ∙ ap (λ n. part n (fold (into function) (into function value new) (values cells))) {x = k + 1 + 1 + length (values cells)} {y = k + 1 + suc (length (values cells))} (omega arith)
+
+first : (function : Function) (new : ℤ) → with_value function 0 (pos 0) new ≡ new
+first Average new = omega (arith, ints)
+first Min new = refl
+first Max new = refl
+first Last new = refl
+
+whole : (function : Function) (value : ℤ) (vs : List ℤ) → fold (into function) value vs ≡ summary function (value ∷ vs)
+whole Average value vs = refl
+whole Min value vs = refl
+whole Max value vs = refl
+whole Last value vs = refl
+
+pub fold-with_cell : (function : Function) (cells : List Cell) → fold (with_cell function) nothing cells ≡ part_of function cells
+unfolding part
+fold-with_cell function [] = refl
+fold-with_cell function (Unknown ∷ cells) = fold-with_cell function cells
+fold-with_cell function (Known new ∷ cells) =
+    ap (λ v. fold (with_cell function) (part 1 v) cells) (first function new)
+    ∙ more function 0 new cells
+    ∙ ap (λ n. part n (fold (into function) new (values cells))) {x = 0 + 1 + length (values cells)} {y = suc (length (values cells))} (omega arith)
+    ∙ ap (part (suc (length (values cells)))) (whole function new (values cells))

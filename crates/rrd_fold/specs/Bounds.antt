@@ -1,0 +1,35 @@
+-- How large values are.
+use Rattle.std.specs.Prelude.{ℕ, ◌*◌, ◌≤◌, ◌≡◌, ◌==◌, if◌then◌else◌, ℤ, pos, unsigned_abs}
+use Rattle.rrd_fixed.specs.declared.cell.Cell.{Cell}
+use Rattle.rrd_fixed.specs.declared.cell.Cell.TheVariants.{Unknown, Known}
+use Rattle.rrd_fixed.specs.Rate.{top}
+pub use Rattle.rrd_fixed.specs.Rate.{IsBounded}
+use Rattle.rrd_fold.specs.declared.function.Function.{Function}
+use Rattle.rrd_fold.specs.declared.function.Function.TheVariants.{Average, Min, Max, Last}
+use Rattle.rrd_fold.specs.Parts.{Part, consolidated}
+
+-- a sum of so many values, each from -TOP to TOP
+pub record IsSum (known : ℕ) (sum : ℤ) : Type 0 where
+  pub few : known ≤ 1000000
+  pub bounded : unsigned_abs sum ≤ known * top
+
+-- the unfinished row of a source
+pub record Consolidating : Type 0 where
+  pub function : Function
+  pub part : Part
+
+-- how many values one value may stand for, in size
+abbrev pub weight : Function → ℕ → ℕ
+weight Average known = known
+weight Min known = 1
+weight Max known = 1
+weight Last known = 1
+
+pub record IsConsolidated (function : Function) (known : ℕ) (value : ℤ) : Type 0 where
+  pub few : known ≤ 1000000
+  pub bounded : unsigned_abs value ≤ weight function known * top
+  pub empty : known ≡ 0 → value ≡ pos 0
+
+-- what the known cells come to; unknown where there is none
+abbrev pub finished_cell : Function → Part → Cell
+finished_cell function part = if part.known == 0 then Unknown else Known (consolidated function part)

@@ -1,0 +1,79 @@
+-- A part: how many known cells there were, and what they come to. A step and a row are read off the part of their cells.
+use Rattle.std.specs.Prelude.{ℕ, ◌+◌, ◌-◌, ◌*◌, ◌^◌, ℤ, pos, ◌+ℤ◌, ◌*ℤ◌, int_lt, nat_lt, ◌==◌, if◌then◌else◌, List, [], ◌∷◌, map, replicate, length}
+use Rattle.std.specs.List.{fold}
+use Rattle.std.specs.Int.{int_min, int_max}
+use Rattle.rrd_fixed.specs.declared.cell.Cell.{Cell}
+use Rattle.rrd_fixed.specs.declared.cell.Cell.TheVariants.{Unknown, Known}
+use Rattle.rrd_fixed.specs.Rounding.{near}
+use Rattle.rrd_fold.specs.declared.function.Function.{Function}
+use Rattle.rrd_fold.specs.declared.function.Function.TheVariants.{Average, Min, Max, Last}
+use Rattle.rrd_fold.specs.Groups.{Rule}
+
+-- how many known cells, and their sum, least, greatest or last one; 0 if there is none
+pub record Part : Type 0 where
+  pub known : ℕ
+  pub value : ℤ
+
+-- the part of no cell
+abbrev pub nothing : Part
+nothing = record { known = 0; value = pos 0 }
+
+-- what one more known value makes of a value that stands for `known` others
+abbrev pub with_value : Function → ℕ → ℤ → ℤ → ℤ
+with_value Average known value new = value +ℤ new
+with_value Min known value new = if known == 0 then new else int_min value new
+with_value Max known value new = if known == 0 then new else int_max value new
+with_value Last known value new = new
+
+-- the part with one more cell
+abbrev pub with_cell : Function → Part → Cell → Part
+with_cell function part Unknown = part
+with_cell function part (Known new) = record { known = part.known + 1; value = with_value function part.known part.value new }
+
+-- a step of this many seconds: unknown if more than half of them are
+abbrev pub step_cell : ℕ → Part → Cell
+step_cell step part = if nat_lt step (2 * (step - part.known)) then Unknown else Known (near part.value (pos part.known))
+
+-- what the known steps of a row come to
+abbrev pub consolidated : Function → Part → ℤ
+consolidated Average part = near part.value (pos part.known)
+consolidated Min part = part.value
+consolidated Max part = part.value
+consolidated Last part = part.value
+
+-- a row of so many steps: unknown if too large a share of them is
+abbrev pub row_cell : Function → ℤ → ℕ → Part → Cell
+row_cell function xff steps part = if int_lt (xff *ℤ pos steps) (pos ((steps - part.known) * 10 ^ 6)) then Unknown else Known (consolidated function part)
+
+-- one more cell for each source
+abbrev pub with_each : Function → List Part → List Cell → List Part
+with_each function [] cells = []
+with_each function (part ∷ parts) [] = part ∷ parts
+with_each function (part ∷ parts) (cell ∷ cells) = with_cell function part cell ∷ with_each function parts cells
+
+-- the seconds of a step, and the steps of a row, for so many sources
+abbrev pub seconds_to_steps : ℕ → ℕ → Rule (List Cell) (List Part) (List Cell)
+seconds_to_steps step sources = record { size = step; empty = replicate sources nothing; add = with_each Average; close = map (step_cell step) }
+
+abbrev pub steps_to_rows : Function → ℤ → ℕ → ℕ → Rule (List Cell) (List Part) (List Cell)
+steps_to_rows function xff steps sources = record { size = steps; empty = replicate sources nothing; add = with_each function; close = map (row_cell function xff steps) }
+
+-- ---- the same, said of the whole list
+
+-- the known values
+abbrev pub values : List Cell → List ℤ
+values [] = []
+values (Unknown ∷ cells) = values cells
+values (Known value ∷ cells) = value ∷ values cells
+
+-- their sum, least, greatest or last one; 0 where there is none
+abbrev pub summary : Function → List ℤ → ℤ
+summary function [] = pos 0
+summary Average (value ∷ values) = fold ◌+ℤ◌ value values
+summary Min (value ∷ values) = fold int_min value values
+summary Max (value ∷ values) = fold int_max value values
+summary Last (value ∷ values) = fold (λ before new. new) value values
+
+-- the part that stands for a list
+abbrev pub part_of : Function → List Cell → Part
+part_of function cells = record { known = length (values cells); value = summary function (values cells) }

@@ -1,0 +1,13 @@
+//! Preparations: what the seconds of an unfinished step and the steps of an unfinished row come to
+//! so far.
+#![tactic(auto)]
+
+mod consolidate;
+mod function;
+mod row;
+mod step;
+
+pub use consolidate::{Average, Consolidate, Least};
+pub use function::Function;
+pub use row::RowPrep;
+pub use step::StepPrep;

@@ -1,0 +1,91 @@
+ghost use Rattle.std.specs.Prelude.{◌≡◌, ◌+◌, ◌*◌, ◌^◌, ◌<◌, ◌≤◌, ◌<ℤ◌, ◌≤ℤ◌, pos, unsigned_abs};
+ghost use Rattle.rrd_fold.specs.Parts.{with_cell, row_cell, nothing};
+ghost use Rattle.rrd_fold.specs.Bounds.{IsBounded};
+
+use crate::Function;
+use rrd_fixed::{Cell, Meter, near};
+use std::marker::Model;
+
+/// The unfinished row of one source in an archive: how many known steps there were, and what they come to.
+#[derive(Clone, Copy, Debug)]
+pub struct RowPrep {
+    function: Function,
+    known: u64,
+    value: i128,
+}
+
+impl Model for RowPrep {
+    ghost use Rattle.rrd_fold.specs.Bounds.{Consolidating, IsConsolidated};
+
+    ghost Value = { Consolidating };
+
+    ghost view = { λ r. record { function = r.function; part = record { known = r.known; value = r.value } } };
+
+    ghost invariant = { λ r. IsConsolidated r.function r.known r.value };
+
+    ghost inverse = { λ p. record { function = p.function; known = p.part.known; value = p.part.value } };
+}
+
+impl RowPrep {
+    pub fn new(function: Function) -> RowPrep
+        ensures { result ≡ record { function = function; part = nothing } }
+    {
+        RowPrep {
+            function,
+            known: 0,
+            value: 0,
+        }
+    }
+
+    /// Adds a step.
+    pub fn add(&mut self, cell: Cell, meter: &mut Meter)
+        requires fits { self.old.part.known < 1000000 }
+        requires bounded { IsBounded cell }
+        requires turns { meter.old + 1 < 2 ^ 64 }
+        ensures added { self.new ≡ record { function = self.old.function; part = with_cell self.old.function self.old.part cell } }
+        ensures grows { self.new.part.known ≤ self.old.part.known + 1 }
+        ensures ticked { meter.new ≡ meter.old + 1 }
+    {
+        meter.tick();
+        if let Cell::Known(new) = cell {
+            self.value = match self.function {
+                Function::Average => self.value + new,
+                Function::Min if self.known > 0 => self.value.min(new),
+                Function::Max if self.known > 0 => self.value.max(new),
+                Function::Min | Function::Max | Function::Last => new,
+            };
+            self.known += 1;
+        }
+    }
+
+    /// The row's cell. The preparation starts anew.
+    pub fn close(&mut self, steps: u64, xff: u64, meter: &mut Meter) -> Cell
+        requires some { 1 ≤ steps }
+        requires few { steps ≤ 1000000 }
+        requires part { xff < 1000000 }
+        requires fits { self.old.part.known ≤ steps }
+        requires turns { meter.old + 1 < 2 ^ 64 }
+        ensures value { result ≡ row_cell self.old.function (pos xff) steps self.old.part }
+        ensures bounded { IsBounded result }
+        ensures anew { self.new ≡ record { function = self.old.function; part = nothing } }
+        ensures ticked { meter.new ≡ meter.old + 1 }
+    {
+        meter.tick();
+        let cell = if (steps - self.known) * 1_000_000 > xff * steps {
+            Cell::Unknown
+        } else if let Function::Average = self.function {
+            Cell::Known(near(self.value, self.known as i128))
+        } else {
+            Cell::Known(self.value)
+        };
+        self.known = 0;
+        self.value = 0;
+        cell
+    }
+
+    pub fn function(&self) -> Function
+        ensures { result ≡ self.now.function }
+    {
+        self.function
+    }
+}
