@@ -7,7 +7,7 @@ mod function;
 mod row;
 mod step;
 
-pub use consolidate::{Average, Consolidate, Least};
+pub use consolidate::{Average, Consolidate, Greatest, Latest, Least};
 pub use function::Function;
 pub use row::RowPrep;
 pub use step::StepPrep;

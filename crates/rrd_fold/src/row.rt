@@ -1,6 +1,8 @@
-ghost use Rattle.std.specs.Prelude.{◌≡◌, ◌+◌, ◌*◌, ◌^◌, ◌<◌, ◌≤◌, ◌<ℤ◌, ◌≤ℤ◌, pos, unsigned_abs};
+ghost use Rattle.std.specs.Prelude.{◌≡◌, ◌+◌, ◌*◌, ◌^◌, ◌<◌, ◌≤◌, ◌<ℤ◌, ◌≤ℤ◌, pos, unsigned_abs, replicate};
+ghost use Rattle.std.specs.List.{fold};
+ghost use Rattle.rrd_fixed.specs.Rate.{top};
 ghost use Rattle.rrd_fold.specs.Parts.{with_cell, row_cell, nothing};
-ghost use Rattle.rrd_fold.specs.Bounds.{IsBounded};
+ghost use Rattle.rrd_fold.specs.Bounds.{IsBounded, weight};
 
 use crate::Function;
 use rrd_fixed::{Cell, Meter, near};
@@ -47,6 +49,16 @@ impl RowPrep {
         ensures ticked { meter.new ≡ meter.old + 1 }
     {
         meter.tick();
+        self.take(cell);
+    }
+
+    // Adds a cell, without a turn.
+    fn take(&mut self, cell: Cell)
+        requires fits { self.old.part.known < 1000000 }
+        requires bounded { IsBounded cell }
+        ensures added { self.new ≡ record { function = self.old.function; part = with_cell self.old.function self.old.part cell } }
+        ensures grows { self.new.part.known ≤ self.old.part.known + 1 }
+    {
         if let Cell::Known(new) = cell {
             self.value = match self.function {
                 Function::Average => self.value + new,
@@ -83,6 +95,39 @@ impl RowPrep {
         cell
     }
 
+    /// Adds a step's cell `n` times, which comes to the same as `n` calls of `add` and is one turn.
+    pub fn add_many(&mut self, cell: Cell, n: u64, meter: &mut Meter)
+        requires fits { self.old.part.known + n ≤ 1000000 }
+        requires bounded { IsBounded cell }
+        requires turns { meter.old + 1 < 2 ^ 64 }
+        ensures added { self.new ≡ record { function = self.old.function; part = fold (with_cell self.old.function) self.old.part (replicate n cell) } }
+        ensures grows { self.new.part.known ≤ self.old.part.known + n }
+        ensures ticked { meter.new ≡ meter.old + 1 }
+    {
+        meter.tick();
+        for _i in 0..n {
+            self.take(cell);
+        }
+    }
+
+    /// How many known steps there were.
+    pub fn known(&self) -> u64
+        ensures value { result ≡ self.now.part.known }
+        ensures limit { result ≤ 1000000 }
+    {
+        self.known
+    }
+
+    /// What the known steps come to, in millionths: their sum, least, greatest or last one; 0 if
+    /// there is none.
+    pub fn value(&self) -> i128
+        ensures value { result ≡ self.now.part.value }
+        ensures limit { unsigned_abs result ≤ weight self.now.function self.now.part.known * top }
+    {
+        self.value
+    }
+
+    /// Which function `new` took.
     pub fn function(&self) -> Function
         ensures { result ≡ self.now.function }
     {

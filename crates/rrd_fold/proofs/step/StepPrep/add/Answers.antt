@@ -1,4 +1,4 @@
-use Rattle.std.proofs.Common.{◌≡◌, ◌∙◌, sym, ap, rules, arith, ℤ, pos, ◌+ℤ◌, ◌*ℤ◌, FitsSigned}
+use Rattle.std.proofs.Common.{sym, ap, arith, ◌+ℤ◌, FitsSigned}
 use Rattle.std.proofs.lemmas.Int.{ints, to_z-of_z}
 use Rattle.std.specs.Int.{w128}
 use Rattle.rrd_fold.specs.Parts.{Part}
