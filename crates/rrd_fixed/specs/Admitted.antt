@@ -1,5 +1,5 @@
 -- Which values a source accepts, and what is kept of them.
-use Rattle.std.specs.Prelude.{ℕ, ◌-◌, ◌^◌, ◌*◌, ℤ, pos, neg_ℤ, int_le, unsigned_abs, nat_lt, if◌then◌else◌, Option, Some, None}
+use Rattle.std.specs.Prelude.{◌-◌, ◌^◌, ℤ, pos, neg_ℤ, int_le, unsigned_abs, nat_lt, if◌then◌else◌, Option, Some, None}
 use Rattle.rrd_fixed.specs.declared.kind.Kind.{Kind}
 use Rattle.rrd_fixed.specs.declared.kind.Kind.TheVariants.{Gauge, Counter, Derive, Absolute}
 use Rattle.rrd_fixed.specs.declared.number.Number.{Number}

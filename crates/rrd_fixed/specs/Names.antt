@@ -1,5 +1,5 @@
 -- Names of data sources (rrdcreate, "DS").
-use Rattle.std.specs.Prelude.{ℕ, List, [], ◌∷◌, Bool, true, false, ◌&&◌, ◌||◌, ◌==◌, nat_lt, nat_le, length, not}
+use Rattle.std.specs.Prelude.{ℕ, List, Bool, ◌&&◌, ◌||◌, ◌==◌, nat_lt, nat_le, length}
 use Rattle.std.specs.List.{list_all}
 use Rattle.std.specs.Str.{bytes_eq}
 
@@ -7,17 +7,13 @@ use Rattle.std.specs.Str.{bytes_eq}
 abbrev pub is_letter : ℕ → Bool
 is_letter c = (nat_le 97 c && nat_le c 122) || (nat_le 65 c && nat_le c 90) || (nat_le 48 c && nat_le c 57) || (c == 95)
 
-abbrev pub is_some_text : List ℕ → Bool
-is_some_text [] = false
-is_some_text (c ∷ cs) = true
-
 -- at most 19 ASCII characters: what can be held as a name
 abbrev pub fits : List ℕ → Bool
 fits text = nat_le (length text) 19 && list_all (λ c. nat_lt c 128) text
 
 -- at least one character, and letters alone: what a data source may be called
 abbrev pub is_good : List ℕ → Bool
-is_good name = is_some_text name && list_all is_letter name
+is_good name = nat_lt 0 (length name) && list_all is_letter name
 
 abbrev pub same_name : List ℕ → List ℕ → Bool
 same_name a b = bytes_eq a b

@@ -1,5 +1,6 @@
 //! Names of data sources.
 ghost use Rattle.std.specs.Prelude.{◌≡◌, ◌≤◌, length, IfSome, IsSome, ◌↔◌, option_map, Some, None, if◌then◌else◌};
+ghost use Rattle.std.specs.List.{list_all};
 ghost use Rattle.rrd_fixed.specs.Names.{fits, is_good, is_letter, same_name};
 
 use arrayvec::ArrayString;
@@ -43,7 +44,7 @@ impl Name {
         ensures { result ≡ is_good self.now }
     {
         let bytes = self.text.as_str().as_bytes();
-        !bytes.is_empty() && bytes.iter().all(|byte| is_letter(*byte))
+        !bytes.is_empty() && all_letters(bytes)
     }
 
     /// The characters.
@@ -67,6 +68,13 @@ impl Name {
     {
         self.text.as_str() == other.text.as_str()
     }
+}
+
+// Whether each character may stand in a source's name.
+fn all_letters(bytes: &[u8]) -> bool
+    ensures { result ≡ list_all is_letter bytes.now }
+{
+    bytes.iter().all(|byte| is_letter(*byte))
 }
 
 // Whether a character may stand in a source's name.
