@@ -1,0 +1,17 @@
+pub mod HistoryLemmas
+pub mod RowLemmas
+pub mod ContentLemmas
+pub mod SampleLemmas
+pub mod PassedLemmas
+pub mod Accepted
+pub mod Moving
+pub mod Quiet
+pub mod Undoing
+pub mod Runs
+pub mod Kept
+pub mod Bounded
+pub mod Rates
+pub mod Held
+pub mod Named
+pub mod Staying
+pub mod Fitting

@@ -1,0 +1,10 @@
+pub mod Rules
+pub mod History
+pub mod Passed
+pub mod Commands
+pub mod Verdict
+pub mod Entries
+pub mod Survivors
+pub mod Validity
+pub mod Worked
+pub mod WorkedCommands

@@ -1,0 +1,19 @@
+//! A round-robin database of many data sources and archives, with a journal of replaced cells.
+#![tactic(auto)]
+
+mod create;
+mod definition;
+pub mod laws;
+mod list;
+mod refusal;
+mod resize;
+mod tune;
+mod update;
+
+pub use create::CreateSpec;
+pub use definition::{DsDef, RraDef};
+pub use list::List;
+pub use refusal::Refusal;
+pub use resize::Change;
+pub use tune::Tuning;
+pub use update::{Given, Receipt, Sample, Update};
