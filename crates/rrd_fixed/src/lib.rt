@@ -10,6 +10,8 @@ mod number;
 mod rates;
 mod raw;
 mod rounding;
+mod text;
+mod writing;
 
 pub use cell::Cell;
 pub use kind::Kind;
@@ -19,3 +21,5 @@ pub use number::Number;
 pub use rates::{rate, rise};
 pub use raw::Raw;
 pub use rounding::near;
+pub use text::{cell_string, raw_string, write_cell, write_raw, write_time};
+pub use writing::{WriteFault, write_bytes};

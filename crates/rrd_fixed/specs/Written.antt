@@ -1,0 +1,13 @@
+-- What a call writes, in both outcomes.
+use Rattle.std.specs.Prelude.{◌≡◌, ◌++◌, ℕ, List, Option, Result, Ok, Err}
+use Rattle.std.specs.Io.KnownBytes.{Appends}
+use Rattle.rrd_fixed.specs.declared.writing.WriteFault.{WriteFault}
+
+-- a front of bs was written
+abbrev pub AppendsFront : Option (List ℕ) → Option (List ℕ) → List ℕ → Type 0
+AppendsFront old new bs = (front : List ℕ) × (rest : List ℕ) × (bs ≡ front ++ rest) × Appends old new front
+
+-- at Ok just bs was written, at a fault a front of it
+abbrev pub Writes : {T : Type 0} → Option (List ℕ) → Option (List ℕ) → List ℕ → Result T WriteFault → Type 0
+Writes old new bs (Ok x) = Appends old new bs
+Writes old new bs (Err e) = AppendsFront old new bs
