@@ -4,3 +4,4 @@ pub mod Names
 pub mod Admitted
 pub mod Written
 pub mod Text
+pub mod Reading

@@ -1,0 +1,49 @@
+-- How numbers are written.
+use Rattle.std.specs.Prelude.{ℕ, ◌+◌, ◌-◌, ◌*◌, ◌^◌, pos, neg_ℤ, List, [], ◌∷◌, Bool, true, false, ◌&&◌, ◌==◌, nat_lt, nat_le, length, if◌then◌else◌, Option, Some, None, option_map}
+use Rattle.std.specs.Char.{is_ascii_digit}
+use Rattle.std.specs.List.{list_all, before_first, after_first}
+use Rattle.rrd_fixed.specs.declared.number.Number.{Number}
+
+-- 1 to `most` digits, and nothing else
+abbrev pub are_digits : ℕ → List ℕ → Bool
+are_digits most text = nat_lt 0 (length text) && nat_le (length text) most && list_all is_ascii_digit text
+
+-- the number that digits stand for: each counts ten times as much as the one behind it
+abbrev pub value_of : List ℕ → ℕ
+value_of [] = 0
+value_of (digit ∷ rest) = (digit - 48) * 10 ^ length rest + value_of rest
+
+-- a whole number: 1 to 20 digits, at most 2 ^ 64 - 1
+unfoldable pub whole_of : List ℕ → Option ℕ
+whole_of text = if are_digits 20 text && nat_lt (value_of text) (2 ^ 64) then Some (value_of text) else None
+
+abbrev pub is_point : ℕ → Bool
+is_point c = c == 46
+
+-- the millionths of up to six digits behind a point
+abbrev pub fraction_of : List ℕ → ℕ
+fraction_of digits = value_of digits * 10 ^ (6 - length digits)
+
+-- a number without a point, and one with the digits before and behind its point
+abbrev pub plain : List ℕ → Number
+plain digits = record { millionths = pos (value_of digits * 10 ^ 6); point = false }
+
+abbrev pub pointed : List ℕ → List ℕ → Number
+pointed whole fraction = record { millionths = pos (value_of whole * 10 ^ 6 + fraction_of fraction); point = true }
+
+-- 1 to 20 digits, and then nothing, or a point and 1 to 6 digits
+abbrev pub unsigned_of : List ℕ → Option Number
+unsigned_of text =
+    if are_digits 20 text
+    then Some (plain text)
+    else (if are_digits 20 (before_first is_point text) && are_digits 6 (after_first is_point text)
+    then Some (pointed (before_first is_point text) (after_first is_point text))
+    else None)
+
+abbrev pub negated : Number → Number
+negated number = record number { millionths = neg_ℤ number.millionths }
+
+-- the same with or without a minus before it
+unfoldable pub number_of : List ℕ → Option Number
+number_of [] = None
+number_of (c ∷ rest) = if c == 45 then option_map negated (unsigned_of rest) else unsigned_of (c ∷ rest)
