@@ -1,0 +1,110 @@
+-- Lists of rows: their width, and what an archive holds after each change.
+use Rattle.std.proofs.Common.{◌≡◌, sym, ◌∙◌, ap, subst, ℕ, zero, suc, ◌+◌, ◌-◌, ◌<◌, ◌≤◌, List, [], ◌∷◌, ◌++◌, length, get_or, set, take, drop, map, replicate, arith, length-append, length-drop}
+use Rattle.std.proofs.lemmas.List.{append_assoc, map_push, map-append, set_at, length-take, length-take-le, length-map, length-replicate, take-map, take_more, drop_more}
+use Rattle.rrd_fixed.specs.declared.cell.Cell.{Cell}
+use Rattle.rrd_fixed.specs.declared.cell.Cell.TheVariants.{Unknown}
+use Rattle.rrd_ring.specs.Rows.{width, HasWidth, unknown_rows, IsArchive, AreDropped}
+
+-- ---- the width of rows
+
+pub HasWidth-append : (w : ℕ) (xs ys : List (List Cell)) → HasWidth w xs → HasWidth w ys → HasWidth w (xs ++ ys)
+HasWidth-append w [] ys h k = k
+HasWidth-append w (x ∷ xs) ys h k = (h.0, HasWidth-append w xs ys h.1 k)
+
+pub HasWidth-take : (w n : ℕ) (xs : List (List Cell)) → HasWidth w xs → HasWidth w (take n xs)
+HasWidth-take w zero xs h = tt
+HasWidth-take w (suc n) [] h = tt
+HasWidth-take w (suc n) (x ∷ xs) h = (h.0, HasWidth-take w n xs h.1)
+
+pub HasWidth-drop : (w n : ℕ) (xs : List (List Cell)) → HasWidth w xs → HasWidth w (drop n xs)
+HasWidth-drop w zero xs h = h
+HasWidth-drop w (suc n) [] h = tt
+HasWidth-drop w (suc n) (x ∷ xs) h = HasWidth-drop w n xs h.1
+
+pub HasWidth-replicate : (w n : ℕ) (x : List Cell) → length x ≡ w → HasWidth w (replicate n x)
+HasWidth-replicate w zero x e = tt
+HasWidth-replicate w (suc n) x e = (e, HasWidth-replicate w n x e)
+
+pub HasWidth-unknown_rows : (n w : ℕ) → HasWidth w (unknown_rows n w)
+HasWidth-unknown_rows n w = HasWidth-replicate w n (replicate w Unknown) (length-replicate w Unknown)
+
+-- a row of them
+pub length-row : (w : ℕ) (xs : List (List Cell)) (i : ℕ) (d : List Cell) → HasWidth w xs → i < length xs → length (get_or xs i d) ≡ w
+length-row w [] i d h k = absurd (omega arith)
+length-row w (x ∷ xs) zero d h k = h.0
+length-row w (x ∷ xs) (suc i) d h k = length-row w xs i d h.1 (omega arith)
+
+pub width_is : (w : ℕ) (xs : List (List Cell)) → HasWidth w xs → 0 < length xs → width xs ≡ w
+width_is w [] h k = absurd (omega arith)
+width_is w (x ∷ xs) h k = h.0
+
+-- ---- what an archive and dropped rows may hold
+
+pub IsArchive-from_width : (w : ℕ) (xs : List (List Cell)) → HasWidth w xs → 0 < length xs → length xs ≤ 1000000 → 0 < w → w ≤ 64 → IsArchive xs
+IsArchive-from_width w xs h some few some_cells few_cells =
+    let e = width_is w xs h some in
+    record {
+      some_rows = some;
+      few_rows = few;
+      some_sources = omega (arith, e);
+      few_sources = omega (arith, e);
+      one_width = subst (λ (v : ℕ). HasWidth v xs) (sym e) h;
+    }
+
+pub AreDropped-from_width : (w : ℕ) (xs : List (List Cell)) → HasWidth w xs → length xs ≤ 1000000 → AreDropped xs
+AreDropped-from_width w [] h few = record { few_rows = few; one_width = tt }
+AreDropped-from_width w (x ∷ xs) h few = record { few_rows = few; one_width = subst (λ (v : ℕ). HasWidth v (x ∷ xs)) (sym h.0) h }
+
+pub IsArchive-unknown_rows : (n w : ℕ) → 0 < n → n ≤ 1000000 → 0 < w → w ≤ 64 → IsArchive (unknown_rows n w)
+IsArchive-unknown_rows n w some few some_cells few_cells =
+    let rows = length-replicate n (replicate w Unknown) in
+    IsArchive-from_width w (unknown_rows n w) (HasWidth-unknown_rows n w) (omega (arith, rows)) (omega (arith, rows)) some_cells few_cells
+
+pub AreDropped-unknown_rows : (n w : ℕ) → n ≤ 1000000 → AreDropped (unknown_rows n w)
+AreDropped-unknown_rows n w few = AreDropped-from_width w (unknown_rows n w) (HasWidth-unknown_rows n w) (omega (arith, length-replicate n (replicate w Unknown)))
+
+-- the oldest row goes, and a new one comes
+pub IsArchive-push : (xs : List (List Cell)) (cells : List Cell) → IsArchive xs → length cells ≡ width xs → IsArchive (drop 1 (xs ++ cells ∷ []))
+IsArchive-push xs cells is e =
+    let all = xs ++ cells ∷ [] in
+    let count = length-drop 1 all in
+    let both = length-append xs (cells ∷ []) in
+    let some : 0 < length xs = is.some_rows in
+    let few : length xs ≤ 1000000 = is.few_rows in
+    IsArchive-from_width (width xs) (drop 1 all) (HasWidth-drop (width xs) 1 all (HasWidth-append (width xs) xs (cells ∷ []) is.one_width (e, tt)))
+    (omega arith) (omega arith) is.some_sources is.few_sources
+
+-- rows come back before the oldest ones
+pub IsArchive-put_back : (old xs : List (List Cell)) → IsArchive xs → length old ≤ length xs → HasWidth (width xs) old → IsArchive (old ++ take (length xs - length old) xs)
+IsArchive-put_back old xs is fits wide =
+    let n = length xs - length old in
+    let count = length-append old (take n xs) in
+    let rest = length-take n xs in
+    let some : 0 < length xs = is.some_rows in
+    let few : length xs ≤ 1000000 = is.few_rows in
+    IsArchive-from_width (width xs) (old ++ take n xs) (HasWidth-append (width xs) old (take n xs) wide (HasWidth-take (width xs) n xs is.one_width))
+    (omega arith) (omega arith) is.some_sources is.few_sources
+
+pub AreDropped-take : (n : ℕ) (xs : List (List Cell)) → IsArchive xs → AreDropped (take n xs)
+AreDropped-take n xs is =
+    let few : length xs ≤ 1000000 = is.few_rows in
+    AreDropped-from_width (width xs) (take n xs) (HasWidth-take (width xs) n xs is.one_width) (omega (arith, length-take n xs))
+
+-- ---- rows in vectors
+
+-- the first of some rows goes last, and is written over
+pub turned_map : {A B : Type 0} (f : A → B) (xs : List A) (new : A) (b : B) → 0 < length xs → f new ≡ b → map f (set (drop 1 xs ++ take 1 xs) (length xs - 1) new) ≡ drop 1 (map f xs ++ b ∷ [])
+turned_map f [] new b h e = absurd (omega arith)
+turned_map f (x ∷ xs) new b h e =
+    ap (map f) (set_at xs x [] new (length (x ∷ xs) - 1) (omega arith)) ∙ map_push f xs new ∙ ap (λ c. map f xs ++ c ∷ []) e
+
+-- rows before the first of others
+pub first_map : {A B : Type 0} (f : A → B) (old xs : List A) → map f (old ++ take (length xs - length old) xs) ≡ map f old ++ take (length (map f xs) - length (map f old)) (map f xs)
+first_map f old xs =
+    rw (length-map xs f, length-map old f, take-map f (length xs - length old) xs) (map-append f old (take (length xs - length old) xs))
+
+-- ---- a row written cell by cell
+
+pub copied_more : {A : Type 0} (xs ys : List A) (i : ℕ) (d : A) → i < length xs → i < length ys → set (take i xs ++ drop i ys) i (get_or xs i d) ≡ take (i + 1) xs ++ drop (i + 1) ys
+copied_more xs ys i d h k =
+    rw (drop_more ys i d k, set_at (take i xs) (get_or ys i d) (drop (i + 1) ys) (get_or xs i d) i (length-take-le i xs (omega arith)), take_more xs i d h, append_assoc)

@@ -1,0 +1,39 @@
+-- Rows of cells, oldest first.
+use Rattle.std.specs.Prelude.{◌≡◌, ℕ, ◌-◌, ◌<◌, ◌≤◌, List, [], ◌∷◌, ◌++◌, length, drop, replicate, slice_index_or}
+use Rattle.std.specs.List.{AllByRecursion}
+use Rattle.rrd_fixed.specs.declared.cell.Cell.{Cell}
+use Rattle.rrd_fixed.specs.declared.cell.Cell.TheVariants.{Unknown}
+
+-- the row with a number, counted from the oldest
+abbrev pub row_at : List (List Cell) → ℕ → List Cell
+row_at rows i = slice_index_or rows i []
+
+-- how many cells the oldest row has
+abbrev pub width : List (List Cell) → ℕ
+width [] = 0
+width (row ∷ rows) = length row
+
+-- each row has so many cells
+abbrev pub HasWidth : ℕ → List (List Cell) → Type 0
+HasWidth sources rows = AllByRecursion (λ (row : List Cell). length row ≡ sources) rows
+
+-- so many rows of so many cells each, all unknown
+abbrev pub unknown_rows : ℕ → ℕ → List (List Cell)
+unknown_rows rows sources = replicate rows (replicate sources Unknown)
+
+-- the newest rows, so many of them, with unknown ones before the oldest where there are fewer
+abbrev pub newest_rows : ℕ → List (List Cell) → List (List Cell)
+newest_rows n rows = unknown_rows (n - length rows) (width rows) ++ drop (length rows - n) rows
+
+-- what an archive holds: 1 to 1,000,000 rows of 1 to 64 cells each
+pub record IsArchive (rows : List (List Cell)) : Type 0 where
+  pub some_rows : 0 < length rows
+  pub few_rows : length rows ≤ 1000000
+  pub some_sources : 0 < width rows
+  pub few_sources : width rows ≤ 64
+  pub one_width : HasWidth (width rows) rows
+
+-- rows that an archive dropped: at most 1,000,000, all as wide
+pub record AreDropped (rows : List (List Cell)) : Type 0 where
+  pub few_rows : length rows ≤ 1000000
+  pub one_width : HasWidth (width rows) rows

@@ -1,0 +1,102 @@
+//! Archives of consolidated rows.
+ghost use Rattle.std.specs.Prelude.{◌≡◌, ℕ, ◌+◌, ◌-◌, ◌<◌, ◌≤◌, ◌^◌, List, [], ◌∷◌, ◌++◌, length, take, drop, IfOk};
+ghost use Rattle.std.specs.Borrow.{sem};
+ghost use Rattle.rrd_ring.specs.Rows.{row_at, width, HasWidth, unknown_rows, newest_rows};
+
+use crate::dropped::Dropped;
+use crate::table::{push_unknown, put_first, write_row};
+use rrd_fixed::{Cell, Meter};
+use std::alloc::{AllocError, Global};
+use std::marker::Model;
+
+/// The consolidated rows of an archive: 1 to 1,000,000 of them, each of 1 to 64 cells, one for each
+/// data source. Contracts see the list of the rows, oldest first.
+#[derive(Debug, Drop)]
+pub struct Archive {
+    rows: Vec<Vec<Cell>>,
+}
+
+impl Model for Archive {
+    ghost use Rattle.std.specs.Prelude.{List, map};
+    ghost use Rattle.rrd_fixed.specs.declared.cell.Cell.{Cell};
+    ghost use Rattle.rrd_ring.specs.Rows.{IsArchive};
+
+    ghost Value = { List (List Cell) };
+
+    ghost view = { λ a. map (λ row. row.items) a.rows.items };
+
+    ghost invariant = { λ a. IsArchive (map (λ row. row.items) a.rows.items) };
+}
+
+impl Archive {
+    /// An archive of `rows` rows (1 to 1,000,000) of `sources` cells each (1 to 64), all unknown.
+    pub fn new(alloc: Global, rows: u64, sources: u64) -> Result<Archive, AllocError>
+        requires some_rows { 0 < rows }
+        requires few_rows { rows ≤ 1000000 }
+        requires some_sources { 0 < sources }
+        requires few_sources { sources ≤ 64 }
+        ensures { IfOk result (λ archive. archive ≡ unknown_rows rows sources) }
+    {
+        let mut table = Vec::with_capacity(alloc, rows as usize)?;
+        push_unknown(alloc, &mut table, rows as usize, sources as usize)?;
+        Ok(Archive { rows: table })
+    }
+
+    /// The number of rows, 1 to 1,000,000.
+    pub fn rows(&self) -> u64
+        ensures count { result ≡ length self.now }
+        ensures some { 0 < result }
+        ensures few { result ≤ 1000000 }
+    {
+        self.rows.len() as u64
+    }
+
+    /// The number of cells in each row, one for each data source: 1 to 64.
+    pub fn sources(&self) -> u64
+        ensures count { result ≡ width self.now }
+        ensures each_row { HasWidth result self.now }
+        ensures some { 0 < result }
+        ensures few { result ≤ 64 }
+    {
+        self.rows[0].len() as u64
+    }
+
+    /// The cells of row `i`, counted from the oldest.
+    pub fn row(&self, i: u64) -> &[Cell]
+        requires { i < length self.now }
+        ensures { result.now ≡ row_at self.now i }
+    {
+        &self.rows[i as usize]
+    }
+
+    /// Drops the oldest row, and takes `cells`, one for each data source, as the newest. Adds a turn
+    /// for each cell to the meter.
+    pub fn push_row(&mut self, cells: &[Cell], meter: &mut Meter)
+        requires one_each { length cells.now ≡ width self.old }
+        requires turns { meter.old + length cells.now < 2 ^ 64 }
+        ensures rows { self.new ≡ drop 1 (self.old ++ cells.now ∷ []) }
+        ensures turns { meter.new ≡ meter.old + length cells.now }
+    {
+        let newest = self.rows.len() - 1;
+        self.rows.rotate_left(1);
+        write_row(&mut self.rows[newest], cells, meter);
+    }
+
+    /// A copy of the `n` oldest rows.
+    pub fn oldest(&self, alloc: Global, n: u64) -> Result<Dropped, AllocError>
+        requires { n ≤ length self.now }
+        ensures { IfOk result (λ dropped. dropped ≡ take n self.now) }
+    {
+        Dropped::of(alloc, &self.rows[..n as usize])
+    }
+
+    /// Puts rows back that were the oldest, before those that are still there. As many of the newest
+    /// fall out.
+    pub fn put_back(&mut self, mut dropped: Dropped)
+        requires fits { length dropped ≤ length self.old }
+        requires one_width { HasWidth (width self.old) dropped }
+        ensures { self.new ≡ dropped ++ take (length self.old - length dropped) self.old }
+    {
+        put_first(&mut self.rows, &mut dropped.rows);
+    }
+}
