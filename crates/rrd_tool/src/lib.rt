@@ -1,0 +1,8 @@
+//! Commands over a database: read from words, run, printed.
+#![tactic(auto)]
+
+mod command;
+mod words;
+
+pub use command::{Command, LineFault, Part}
+pub use words::Words
