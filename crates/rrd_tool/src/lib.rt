@@ -4,5 +4,5 @@
 mod command;
 mod words;
 
-pub use command::{Command, LineFault, Part}
-pub use words::Words
+pub use command::{Command, LineFault, Part};
+pub use words::Words;
