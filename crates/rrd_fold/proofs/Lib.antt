@@ -1,3 +1,5 @@
+pub mod AdditionLemmas
 pub mod GroupLemmas
 pub mod PartLemmas
 pub mod Sums
+pub mod SummaryLemmas

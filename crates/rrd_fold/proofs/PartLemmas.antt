@@ -1,17 +1,19 @@
 -- Cells added one by one, and the whole list.
-use Rattle.std.proofs.Common.{◌≡◌, refl, ◌∙◌, ap, ℕ, suc, ◌+◌, ℤ, pos, ◌+ℤ◌, List, [], ◌∷◌, length, cond, arith}
+use Rattle.std.proofs.Common.{◌≡◌, refl, sym, ◌∙◌, ap, ℕ, zero, suc, ◌+◌, ◌-◌, ◌*◌, ◌<◌, ◌≤◌, ℤ, pos, ◌+ℤ◌, List, [], ◌∷◌, ◌++◌, length, true, false, cond, eqb, nat_lt, if◌then◌else◌, arith}
 use Rattle.std.proofs.lemmas.Int.{ints}
 use Rattle.std.proofs.lemmas.Bool.{ne_eqb}
+use Rattle.std.proofs.lemmas.Bool.Decides.{nat_tests}
+use Rattle.std.proofs.lemmas.Nat.{mul-le}
+use Rattle.std.proofs.lemmas.List.Sums.{fold-append}
 use Rattle.std.specs.List.{fold}
 use Rattle.std.specs.Int.{int_min, int_max}
 use Rattle.rrd_fixed.specs.declared.cell.Cell.{Cell}
 use Rattle.rrd_fixed.specs.declared.cell.Cell.TheVariants.{Unknown, Known}
 use Rattle.rrd_fold.specs.declared.function.Function.{Function}
 use Rattle.rrd_fold.specs.declared.function.Function.TheVariants.{Average, Min, Max, Last}
-use Rattle.rrd_fold.specs.Parts.{Part, nothing, with_value, with_cell, values, summary, part_of}
-
-unfoldable part : ℕ → ℤ → Part
-part known value = record { known = known; value = value }
+use Rattle.rrd_fold.specs.Parts.{nothing, with_value, with_cell, values, summary, part_of, consolidated, row_cell}
+use Rattle.rrd_fold.specs.Bounds.{finished_cell}
+use Rattle.rrd_fold.proofs.Sums.{part}
 
 -- how one more value goes into those that there are
 abbrev into : Function → ℤ → ℤ → ℤ
@@ -20,7 +22,7 @@ into Min value new = int_min value new
 into Max value new = int_max value new
 into Last value new = new
 
-goes_in : (function : Function) (k : ℕ) (value new : ℤ) → with_value function (k + 1) value new ≡ into function value new
+pub goes_in : (function : Function) (k : ℕ) (value new : ℤ) → with_value function (k + 1) value new ≡ into function value new
 goes_in Average k value new = refl
 goes_in Min k value new = ap (λ b. cond b new (int_min value new)) (ne_eqb (k + 1) 0 (λ e. absurd (omega arith)))
 goes_in Max k value new = ap (λ b. cond b new (int_max value new)) (ne_eqb (k + 1) 0 (λ e. absurd (omega arith)))
@@ -35,7 +37,7 @@ more function k value (Known new ∷ cells) =
     ∙ more function (k + 1) (into function value new) cells
     ∙ ap (λ n. part n (fold (into function) (into function value new) (values cells))) {x = k + 1 + 1 + length (values cells)} {y = k + 1 + suc (length (values cells))} (omega arith)
 
-first : (function : Function) (new : ℤ) → with_value function 0 (pos 0) new ≡ new
+pub first : (function : Function) (new : ℤ) → with_value function 0 (pos 0) new ≡ new
 first Average new = omega (arith, ints)
 first Min new = refl
 first Max new = refl
@@ -56,3 +58,20 @@ fold-with_cell function (Known new ∷ cells) =
     ∙ more function 0 new cells
     ∙ ap (λ n. part n (fold (into function) new (values cells))) {x = 0 + 1 + length (values cells)} {y = suc (length (values cells))} (omega arith)
     ∙ ap (part (suc (length (values cells)))) (whole function new (values cells))
+
+-- cells that are added to a part that stands for a list
+pub stands_more : (function : Function) (cells more : List Cell) → fold (with_cell function) (part_of function cells) more ≡ part_of function (cells ++ more)
+stands_more function cells more =
+    ap (λ p. fold (with_cell function) p more) (sym (fold-with_cell function cells))
+    ∙ sym (fold-append (with_cell function) nothing cells more)
+    ∙ fold-with_cell function (cells ++ more)
+
+-- the rule of xff, where the count is known to be 0 or not
+pub row_finishes : (function : Function) (xff steps known : ℕ) (value : ℤ) → 1 ≤ steps → xff < 1000000 → row_cell function (pos xff) steps (part known value) ≡ (if nat_lt (xff * steps) ((steps - known) * 1000000) then Unknown else finished_cell function (part known value))
+unfolding part
+row_finishes function xff steps zero value some small =
+    let all : nat_lt (xff * steps) ((steps - 0) * 1000000) ≡ true = let few : xff * steps < (steps - 0) * 1000000 = omega (arith, mul-le xff steps 999999 steps (omega arith) (omega arith)) in grind (arith, nat_tests) in
+    ap (λ b. cond b Unknown (Known (consolidated function (part 0 value)))) all ∙ sym (ap (λ b. cond b Unknown (finished_cell function (part 0 value))) all)
+row_finishes function xff steps (suc k) value some small =
+    let known : eqb (suc k) 0 ≡ false = ne_eqb (suc k) 0 (λ e. absurd (omega arith)) in
+    rw known refl

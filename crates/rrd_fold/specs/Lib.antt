@@ -1,3 +1,5 @@
 pub mod Groups
 pub mod Parts
 pub mod Bounds
+pub mod Additions
+pub mod Summaries

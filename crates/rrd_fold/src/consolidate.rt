@@ -43,7 +43,8 @@ pub trait Consolidate {
 
     /// What the known cells come to, in millionths; unknown if none is known.
     fn finish(&self) -> Cell
-        ensures { result ≡ finished_cell function (part self.now) };
+        ensures value { result ≡ finished_cell function (part self.now) }
+        ensures bounded { IsBounded result };
 }
 
 /// The average of the known cells, rounded to the nearest millionth, halves upwards.

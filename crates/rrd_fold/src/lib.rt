@@ -4,6 +4,7 @@
 
 mod consolidate;
 mod function;
+pub mod laws;
 mod row;
 mod step;
 
@@ -11,3 +12,6 @@ pub use consolidate::{Average, Consolidate, Greatest, Latest, Least};
 pub use function::Function;
 pub use row::RowPrep;
 pub use step::StepPrep;
+
+#[cfg(test)]
+mod tests;

@@ -1,3 +1,4 @@
+//! Rows that are unfinished.
 ghost use Rattle.std.specs.Prelude.{◌≡◌, ◌+◌, ◌*◌, ◌^◌, ◌<◌, ◌≤◌, ◌<ℤ◌, ◌≤ℤ◌, pos, unsigned_abs, replicate};
 ghost use Rattle.std.specs.List.{fold};
 ghost use Rattle.rrd_fixed.specs.Rate.{top};
@@ -8,8 +9,10 @@ use crate::Function;
 use rrd_fixed::{Cell, Meter, near};
 use std::marker::Model;
 
-/// The unfinished row of one source in an archive: how many known steps there were, and what they come to.
-#[derive(Clone, Copy, Debug)]
+/// The unfinished row of one source in an archive: how many known steps there were, at most
+/// 1,000,000, and what they come to in millionths. It stands for the cells of the steps that were
+/// added.
+#[derive(Clone, Copy, Debug, PartialEq, Eq)]
 pub struct RowPrep {
     function: Function,
     known: u64,
@@ -29,6 +32,7 @@ impl Model for RowPrep {
 }
 
 impl RowPrep {
+    /// No step yet, in an archive of this function.
     pub fn new(function: Function) -> RowPrep
         ensures { result ≡ record { function = function; part = nothing } }
     {
@@ -39,7 +43,8 @@ impl RowPrep {
         }
     }
 
-    /// Adds a step.
+    /// Adds the cell of a step, in millionths, a known one from `-TOP` to `TOP`. An unknown one
+    /// changes nothing. It is one turn.
     pub fn add(&mut self, cell: Cell, meter: &mut Meter)
         requires fits { self.old.part.known < 1000000 }
         requires bounded { IsBounded cell }
@@ -52,25 +57,25 @@ impl RowPrep {
         self.take(cell);
     }
 
-    // Adds a cell, without a turn.
-    fn take(&mut self, cell: Cell)
-        requires fits { self.old.part.known < 1000000 }
+    /// Adds a step's cell `n` times, which comes to the same as `n` calls of `add` and is one turn.
+    pub fn add_many(&mut self, cell: Cell, n: u64, meter: &mut Meter)
+        requires fits { self.old.part.known + n ≤ 1000000 }
         requires bounded { IsBounded cell }
-        ensures added { self.new ≡ record { function = self.old.function; part = with_cell self.old.function self.old.part cell } }
-        ensures grows { self.new.part.known ≤ self.old.part.known + 1 }
+        requires turns { meter.old + 1 < 2 ^ 64 }
+        ensures added { self.new ≡ record { function = self.old.function; part = fold (with_cell self.old.function) self.old.part (replicate n cell) } }
+        ensures grows { self.new.part.known ≤ self.old.part.known + n }
+        ensures ticked { meter.new ≡ meter.old + 1 }
     {
-        if let Cell::Known(new) = cell {
-            self.value = match self.function {
-                Function::Average => self.value + new,
-                Function::Min if self.known > 0 => self.value.min(new),
-                Function::Max if self.known > 0 => self.value.max(new),
-                Function::Min | Function::Max | Function::Last => new,
-            };
-            self.known += 1;
+        meter.tick();
+        for _i in 0..n {
+            self.take(cell);
         }
     }
 
-    /// The row's cell. The preparation starts anew.
+    /// The cell of a row of so many steps, 1 to 1,000,000: unknown if a larger share of them is than
+    /// `xff` allows, given in millionths from 0 to 999,999 (rrdcreate, "xff"), else the average of
+    /// the known ones, rounded to the nearest millionth, halves upwards, or the least, the greatest
+    /// or the last of them. The preparation starts anew. It is one turn.
     pub fn close(&mut self, steps: u64, xff: u64, meter: &mut Meter) -> Cell
         requires some { 1 ≤ steps }
         requires few { steps ≤ 1000000 }
@@ -95,21 +100,6 @@ impl RowPrep {
         cell
     }
 
-    /// Adds a step's cell `n` times, which comes to the same as `n` calls of `add` and is one turn.
-    pub fn add_many(&mut self, cell: Cell, n: u64, meter: &mut Meter)
-        requires fits { self.old.part.known + n ≤ 1000000 }
-        requires bounded { IsBounded cell }
-        requires turns { meter.old + 1 < 2 ^ 64 }
-        ensures added { self.new ≡ record { function = self.old.function; part = fold (with_cell self.old.function) self.old.part (replicate n cell) } }
-        ensures grows { self.new.part.known ≤ self.old.part.known + n }
-        ensures ticked { meter.new ≡ meter.old + 1 }
-    {
-        meter.tick();
-        for _i in 0..n {
-            self.take(cell);
-        }
-    }
-
     /// How many known steps there were.
     pub fn known(&self) -> u64
         ensures value { result ≡ self.now.part.known }
@@ -132,5 +122,23 @@ impl RowPrep {
         ensures { result ≡ self.now.function }
     {
         self.function
+    }
+
+    // Adds a cell, without a turn.
+    fn take(&mut self, cell: Cell)
+        requires fits { self.old.part.known < 1000000 }
+        requires bounded { IsBounded cell }
+        ensures added { self.new ≡ record { function = self.old.function; part = with_cell self.old.function self.old.part cell } }
+        ensures grows { self.new.part.known ≤ self.old.part.known + 1 }
+    {
+        if let Cell::Known(new) = cell {
+            self.value = match self.function {
+                Function::Average => self.value + new,
+                Function::Min if self.known > 0 => self.value.min(new),
+                Function::Max if self.known > 0 => self.value.max(new),
+                Function::Min | Function::Max | Function::Last => new,
+            };
+            self.known += 1;
+        }
     }
 }

@@ -1,3 +1,4 @@
+//! Steps that are unfinished.
 ghost use Rattle.std.specs.Prelude.{◌≡◌, ◌+◌, ◌*◌, ◌^◌, ◌<◌, ◌≤◌, ◌*ℤ◌, pos, unsigned_abs, replicate};
 ghost use Rattle.rrd_fixed.specs.Rate.{top};
 ghost use Rattle.std.specs.List.{fold};
@@ -8,7 +9,8 @@ ghost use Rattle.rrd_fold.specs.Bounds.{IsBounded};
 use rrd_fixed::{Cell, Meter, near};
 use std::marker::Model;
 
-/// The unfinished step of one source: how many known seconds there were, and the sum of their rates.
+/// The unfinished step of one source: how many known seconds there were, at most 1,000,000, and the
+/// sum of their rates in millionths. It stands for the rates of the seconds that were added.
 #[derive(Clone, Copy, Debug, PartialEq, Eq)]
 pub struct StepPrep {
     known: u64,
@@ -28,7 +30,7 @@ impl Model for StepPrep {
     ghost inverse = { λ p. record { known = p.known; sum = p.value } };
 }
 
-/// So many times a rate.
+// So many times a rate.
 fn times(rate: i128, seconds: u64) -> i128
     requires few { seconds ≤ 1000000 }
     requires bounded { unsigned_abs rate ≤ top }
@@ -39,13 +41,15 @@ fn times(rate: i128, seconds: u64) -> i128
 }
 
 impl StepPrep {
+    /// No second yet.
     pub fn new() -> StepPrep
         ensures { result ≡ nothing }
     {
         StepPrep { known: 0, sum: 0 }
     }
 
-    /// Adds the rate of so many seconds.
+    /// Adds so many seconds of one rate, in millionths, known ones from `-TOP` to `TOP`. Unknown
+    /// seconds change nothing. It is one turn.
     pub fn add(&mut self, rate: Cell, seconds: u64, meter: &mut Meter)
         requires fits { self.old.known + seconds ≤ 1000000 }
         requires bounded { IsBounded rate }
@@ -61,7 +65,10 @@ impl StepPrep {
         }
     }
 
-    /// The step's cell. The preparation starts anew.
+    /// The cell of a step of so many seconds, 1 to 1,000,000: unknown if more than half of its seconds
+    /// are (rrdcreate; one exactly half unknown is known, which is this project's), else the
+    /// average of the known seconds' rates, rounded to the nearest millionth, halves upwards. The
+    /// preparation starts anew. It is one turn.
     pub fn close(&mut self, step: u64, meter: &mut Meter) -> Cell
         requires some { 1 ≤ step }
         requires few { step ≤ 1000000 }
@@ -82,7 +89,7 @@ impl StepPrep {
         cell
     }
 
-    /// Starts anew.
+    /// Starts anew, as if no second had been added.
     pub fn restart(&mut self)
         ensures { self.new ≡ nothing }
     {
@@ -90,6 +97,7 @@ impl StepPrep {
         self.sum = 0;
     }
 
+    /// How many known seconds there were.
     pub fn known(&self) -> u64
         ensures value { result ≡ self.now.known }
         ensures limit { result ≤ 1000000 }
@@ -97,8 +105,10 @@ impl StepPrep {
         self.known
     }
 
+    /// The sum of the known seconds' rates, in millionths; 0 if there is none.
     pub fn sum(&self) -> i128
-        ensures { result ≡ self.now.value }
+        ensures value { result ≡ self.now.value }
+        ensures limit { unsigned_abs result ≤ self.now.known * top }
     {
         self.sum
     }

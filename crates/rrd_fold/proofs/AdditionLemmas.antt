@@ -1,0 +1,113 @@
+-- Counts and values made by at most two additions.
+use Rattle.std.proofs.Common.{◌≡◌, refl, sym, ◌∙◌, ap, ℕ, zero, suc, ◌+◌, ◌-◌, ◌*◌, ◌/◌, ◌<◌, ◌≤◌, ℤ, pos, negsuc, ◌+ℤ◌, ◌*ℤ◌, unsigned_abs, Bool, true, false, cond, eqb, replicate, arith}
+use Rattle.std.proofs.Common.{⊎_elim}
+use Rattle.std.proofs.lemmas.Int.{ints}
+use Rattle.std.proofs.lemmas.Bool.{cases_lt, ne_eqb}
+use Rattle.std.proofs.lemmas.Nat.{div-add-mod', div_below, mod_below, mul-le}
+use Rattle.std.specs.List.{fold}
+use Rattle.rrd_fixed.specs.Rate.{top}
+use Rattle.rrd_fixed.specs.Rounding.{floor_of}
+use Rattle.rrd_fixed.specs.declared.cell.Cell.TheVariants.{Known}
+use Rattle.rrd_fold.specs.declared.function.Function.{Function}
+use Rattle.rrd_fold.specs.declared.function.Function.TheVariants.{Average, Min, Max, Last}
+use Rattle.rrd_fold.specs.Additions.{MadeByTwo, left_over, higher}
+use Rattle.rrd_fold.specs.Bounds.{weight}
+use Rattle.rrd_fold.specs.Parts.{nothing, with_value, with_cell}
+use Rattle.rrd_fold.proofs.PartLemmas.{first, goes_in}
+use Rattle.rrd_fold.proofs.Sums.{part, fold_sum}
+
+either_way : (b : Bool) (v : ℤ) → cond b v v ≡ v
+either_way true v = refl
+either_way false v = refl
+
+-- a value that comes again changes nothing
+stays_same : (function : Function) (v : ℤ) → ((k : ℕ) → with_value function (k + 1) v v ≡ v) → (k n : ℕ) → fold (with_cell function) (part (k + 1) v) (replicate n (Known v)) ≡ part (k + 1 + n) v
+unfolding part
+stays_same function v same k zero = ap (λ m. part m v) {x = k + 1} {y = k + 1 + 0} (omega arith)
+stays_same function v same k (suc n) =
+    ap (λ w. fold (with_cell function) (part (k + 1 + 1) w) (replicate n (Known v))) (same k)
+    ∙ stays_same function v same (k + 1) n
+    ∙ ap (λ m. part m v) {x = k + 1 + 1 + n} {y = k + 1 + suc n} (omega arith)
+
+one_value : (function : Function) (v : ℤ) → ((k : ℕ) → with_value function (k + 1) v v ≡ v) → (known : ℕ) → 1 ≤ known → fold (with_cell function) nothing (replicate known (Known v)) ≡ part known v
+unfolding part
+one_value function v same zero some = absurd (omega arith)
+one_value function v same (suc n) some =
+    ap (λ w. fold (with_cell function) (part 1 w) (replicate n (Known v))) (first function v)
+    ∙ stays_same function v same 0 n
+    ∙ ap (λ m. part m v) {x = 0 + 1 + n} {y = suc n} (omega arith)
+
+none_left : (function : Function) (v : ℤ) (known : ℕ) → fold (with_cell function) nothing (replicate (known - 0) (Known v)) ≡ fold (with_cell function) nothing (replicate known (Known v))
+none_left function v known = ap (λ n. fold (with_cell function) nothing (replicate n (Known v))) {x = known - 0} {y = known} (omega arith)
+
+-- ---- sums: a quotient and what is left over
+
+pub divided : (sum : ℤ) (known : ℕ) → 1 ≤ known → sum ≡ floor_of sum (pos known) *ℤ pos known +ℤ pos (left_over Average known sum)
+divided (pos n) known some = omega (arith, ints, div-add-mod' n known)
+divided (negsuc n) known some = omega (arith, ints, div-add-mod' n known, mod_below n known some)
+
+left_over_few : (sum : ℤ) (known : ℕ) → 1 ≤ known → left_over Average known sum < known
+left_over_few (pos n) known some = mod_below n known some
+left_over_few (negsuc n) known some = omega arith
+
+share_bounded : (sum : ℤ) (known t : ℕ) → 1 ≤ known → unsigned_abs sum ≤ known * t → unsigned_abs (floor_of sum (pos known)) ≤ t
+share_bounded (pos n) known t some h =
+    let below : n / known < t + 1 = div_below n known (t + 1) some (omega arith) in
+    omega arith
+share_bounded (negsuc n) known t some h =
+    let below : n / known < t = div_below n known t some (omega arith) in
+    omega arith
+
+more_bounded : (sum : ℤ) (known t : ℕ) → 1 ≤ known → unsigned_abs sum ≤ known * t → 0 < left_over Average known sum → unsigned_abs (floor_of sum (pos known) +ℤ pos 1) ≤ t
+more_bounded (pos n) known t some h over =
+    ⊎_elim
+    (λ (low : n / known < t). omega (arith, ints))
+    (λ (high : t ≤ n / known). absurd (omega (arith, div-add-mod' n known, mul-le t known (n / known) known high (omega arith))))
+    (cases_lt (n / known) t)
+more_bounded (negsuc n) known t some h over =
+    let below : n / known < t = div_below n known t some (omega arith) in
+    omega (arith, ints)
+
+some_over : (r : ℕ) → eqb (suc r) 0 ≡ false
+some_over r = ne_eqb (suc r) 0 (λ e. absurd (omega arith))
+
+higher_bounded_by : (r : ℕ) (q : ℤ) (t : ℕ) → unsigned_abs q ≤ t → (0 < r → unsigned_abs (q +ℤ pos 1) ≤ t) → unsigned_abs (cond (eqb r 0) q (q +ℤ pos 1)) ≤ t
+higher_bounded_by zero q t low high = low
+higher_bounded_by (suc r) q t low high = rw (some_over r) (high (omega arith))
+
+one_more_times : (q : ℤ) (n : ℕ) → (q +ℤ pos 1) *ℤ pos n ≡ q *ℤ pos n +ℤ pos n
+one_more_times q zero = omega (arith, ints)
+one_more_times q (suc n) = omega (arith, ints, one_more_times q n)
+
+higher_times : (r : ℕ) (q : ℤ) → cond (eqb r 0) q (q +ℤ pos 1) *ℤ pos r ≡ q *ℤ pos r +ℤ pos r
+higher_times zero q = omega (arith, ints)
+higher_times (suc r) q =
+    rw (some_over r) (one_more_times q (suc r))
+
+both_times : (q high : ℤ) (r d : ℕ) → high *ℤ pos r ≡ q *ℤ pos r +ℤ pos r → (pos 0 +ℤ high *ℤ pos r) +ℤ q *ℤ pos d ≡ q *ℤ pos (r + d) +ℤ pos r
+both_times q high r d e = omega (arith, ints, e)
+
+two_sums : (q high sum : ℤ) (r d known : ℕ) → high *ℤ pos r ≡ q *ℤ pos r +ℤ pos r → known ≡ r + d → sum ≡ q *ℤ pos known +ℤ pos r → fold (with_cell Average) (fold (with_cell Average) nothing (replicate r (Known high))) (replicate d (Known q)) ≡ part known sum
+unfolding part
+two_sums q high sum r d known e whole is =
+    ap (λ p. fold (with_cell Average) p (replicate d (Known q))) (fold_sum nothing high r)
+    ∙ fold_sum (part (0 + r) (pos 0 +ℤ high *ℤ pos r)) q d
+    ∙ ap (λ k. part k ((pos 0 +ℤ high *ℤ pos r) +ℤ q *ℤ pos d)) {x = 0 + r + d} {y = known} (omega arith)
+    ∙ ap (part known) (both_times q high r d e ∙ ap (λ k. q *ℤ pos k +ℤ pos r) (sym whole) ∙ sym is)
+
+pub made_by_two : (function : Function) (known : ℕ) (value : ℤ) → 1 ≤ known → unsigned_abs value ≤ weight function known * top → MadeByTwo function known value
+unfolding part
+made_by_two Average known sum some h =
+    let q = floor_of sum (pos known) in
+    let r = left_over Average known sum in
+    let few = left_over_few sum known some in
+    let low = share_bounded sum known top some h in
+    record {
+      few = few;
+      lower_bounded = low;
+      higher_bounded = higher_bounded_by r q top low (more_bounded sum known top some h);
+      made = two_sums q (higher Average known sum) sum r (known - r) known (higher_times r q) (omega arith) (divided sum known some);
+    }
+made_by_two Min known value some h = record { few = some; lower_bounded = omega arith; higher_bounded = omega arith; made = none_left Min value known ∙ one_value Min value (λ k. goes_in Min k value value ∙ either_way _ value) known some }
+made_by_two Max known value some h = record { few = some; lower_bounded = omega arith; higher_bounded = omega arith; made = none_left Max value known ∙ one_value Max value (λ k. goes_in Max k value value ∙ either_way _ value) known some }
+made_by_two Last known value some h = record { few = some; lower_bounded = omega arith; higher_bounded = omega arith; made = none_left Last value known ∙ one_value Last value (λ k. refl) known some }

@@ -1,0 +1,47 @@
+-- What the value of a list of known cells is.
+use Rattle.std.proofs.Common.{◌≡◌, refl, sym, ◌∙◌, ap, suc, ℤ, ◌+ℤ◌, ◌≤ℤ◌, List, [], ◌∷◌, ◌++◌, arith}
+use Rattle.std.proofs.Common.{⊎_elim}
+use Rattle.std.proofs.lemmas.Int.{ints, fold-int_max_bounds, fold-int_max_reached, fold-int_min_bounds, fold-int_min_reached}
+use Rattle.std.proofs.lemmas.List.Elements.{All-cons}
+use Rattle.std.proofs.lemmas.List.Sums.{fold-append}
+use Rattle.std.specs.List.{fold, Contains}
+use Rattle.std.specs.Int.{int_min, int_max}
+use Rattle.rrd_fold.specs.declared.function.Function.TheVariants.{Average, Min, Max, Last}
+use Rattle.rrd_fold.specs.Parts.{summary}
+use Rattle.rrd_fold.specs.Summaries.{IsLeast, IsGreatest}
+
+from_sum : (v w : ℤ) (xs : List ℤ) → fold ◌+ℤ◌ (v +ℤ w) xs ≡ v +ℤ fold ◌+ℤ◌ w xs
+from_sum v w [] = refl
+from_sum v w (x ∷ xs) = ap (λ s. fold ◌+ℤ◌ s xs) {x = (v +ℤ w) +ℤ x} {y = v +ℤ (w +ℤ x)} (omega (arith, ints)) ∙ from_sum v (w +ℤ x) xs
+
+pub sum_more : (value : ℤ) (more : List ℤ) → summary Average (value ∷ more) ≡ value +ℤ summary Average more
+sum_more value [] = omega (arith, ints)
+sum_more value (x ∷ xs) = from_sum value x xs
+
+here : (x r : ℤ) (xs : List ℤ) → r ≡ x → Contains (x ∷ xs) r
+here x r xs e = (0, omega arith, sym e)
+
+there : (x r : ℤ) (xs : List ℤ) → Contains xs r → Contains (x ∷ xs) r
+there x r xs (k, within, is) = (suc k, omega arith, is)
+
+pub least : (value : ℤ) (more : List ℤ) → IsLeast (summary Min (value ∷ more)) (value ∷ more)
+least value more =
+    let r = fold int_min value more in
+    let bounds = fold-int_min_bounds value more r refl in
+    record {
+      among = ⊎_elim (here value r more) (there value r more) (fold-int_min_reached value more r refl);
+      below = All-cons (λ other. r ≤ℤ other) value more bounds.0 bounds.1;
+    }
+
+pub greatest : (value : ℤ) (more : List ℤ) → IsGreatest (summary Max (value ∷ more)) (value ∷ more)
+greatest value more =
+    let r = fold int_max value more in
+    let bounds = fold-int_max_bounds value more r refl in
+    record {
+      among = ⊎_elim (here value r more) (there value r more) (fold-int_max_reached value more r refl);
+      above = All-cons (λ other. other ≤ℤ r) value more bounds.0 bounds.1;
+    }
+
+pub last : (before : List ℤ) (value : ℤ) → summary Last (before ++ value ∷ []) ≡ value
+last [] value = refl
+last (x ∷ xs) value = fold-append (λ (a b : ℤ). b) x xs (value ∷ [])
