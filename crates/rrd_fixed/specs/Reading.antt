@@ -1,7 +1,7 @@
 -- How numbers are written.
 use Rattle.std.specs.Prelude.{ℕ, ◌+◌, ◌-◌, ◌*◌, ◌^◌, pos, neg_ℤ, List, [], ◌∷◌, Bool, true, false, ◌&&◌, ◌==◌, nat_lt, nat_le, length, if◌then◌else◌, Option, Some, None, option_map}
 use Rattle.std.specs.Char.{is_ascii_digit}
-use Rattle.std.specs.List.{list_all, before_first, after_first}
+use Rattle.std.specs.List.{list_all, list_any, before_first, after_first}
 use Rattle.rrd_fixed.specs.declared.number.Number.{Number}
 
 -- 1 to `most` digits, and nothing else
@@ -24,21 +24,26 @@ is_point c = c == 46
 abbrev pub fraction_of : List ℕ → ℕ
 fraction_of digits = value_of digits * 10 ^ (6 - length digits)
 
--- a number without a point, and one with the digits before and behind its point
-abbrev pub plain : List ℕ → Number
-plain digits = record { millionths = pos (value_of digits * 10 ^ 6); point = false }
+-- 1 to 20 digits, with nothing behind them
+abbrev pub plain_of : List ℕ → Option Number
+plain_of digits =
+    if are_digits 20 digits
+    then Some (record { millionths = pos (value_of digits * 10 ^ 6); point = false })
+    else None
 
-abbrev pub pointed : List ℕ → List ℕ → Number
-pointed whole fraction = record { millionths = pos (value_of whole * 10 ^ 6 + fraction_of fraction); point = true }
+-- 1 to 20 digits before a point, and 1 to 6 digits behind it
+abbrev pub pointed_of : List ℕ → List ℕ → Option Number
+pointed_of whole fraction =
+    if are_digits 20 whole && are_digits 6 fraction
+    then Some (record { millionths = pos (value_of whole * 10 ^ 6 + fraction_of fraction); point = true })
+    else None
 
--- 1 to 20 digits, and then nothing, or a point and 1 to 6 digits
-abbrev pub unsigned_of : List ℕ → Option Number
+-- a number without a sign, cut at its first point if it has one
+unfoldable pub unsigned_of : List ℕ → Option Number
 unsigned_of text =
-    if are_digits 20 text
-    then Some (plain text)
-    else (if are_digits 20 (before_first is_point text) && are_digits 6 (after_first is_point text)
-    then Some (pointed (before_first is_point text) (after_first is_point text))
-    else None)
+    if list_any is_point text
+    then pointed_of (before_first is_point text) (after_first is_point text)
+    else plain_of text
 
 abbrev pub negated : Number → Number
 negated number = record number { millionths = neg_ℤ number.millionths }

@@ -17,7 +17,7 @@ pub use cell::Cell;
 pub use kind::Kind;
 pub use meter::Meter;
 pub use name::Name;
-pub use number::Number;
+pub use number::{Number, admit, read_number, read_whole};
 pub use rates::{rate, rise};
 pub use raw::Raw;
 pub use rounding::near;
