@@ -1,9 +1,11 @@
 -- Lists of rows: their width, and what an archive holds after each change.
-use Rattle.std.proofs.Common.{◌≡◌, sym, ◌∙◌, ap, subst, ℕ, zero, suc, ◌+◌, ◌-◌, ◌<◌, ◌≤◌, List, [], ◌∷◌, ◌++◌, length, get_or, set, take, drop, map, replicate, arith, length-append, length-drop}
-use Rattle.std.proofs.lemmas.List.{append_assoc, map_push, map-append, set_at, length-take, length-take-le, length-map, length-replicate, take-map, take_more, drop_more}
+use Rattle.std.proofs.Common.{Vec, Global, ◌≡◌, refl, sym, ◌∙◌, ap, subst, ℕ, zero, suc, ◌+◌, ◌-◌, ◌<◌, ◌≤◌, List, [], ◌∷◌, ◌++◌, length, get_or, set, take, drop, map, replicate, arith, length-append, length-drop}
+use Rattle.std.proofs.lemmas.List.{append_assoc, map_push, map-append, map-set, get_or-map, length-set, set_at, length-take, length-take-le, length-map, length-replicate, take-map, take_all, drop_all, append-nil, drop-map, take_more, drop_more}
+use Rattle.std.specs.Vec.{with_items}
+use Rattle.std.specs.List.{refill, length_refill}
 use Rattle.rrd_fixed.specs.declared.cell.Cell.{Cell}
 use Rattle.rrd_fixed.specs.declared.cell.Cell.TheVariants.{Unknown}
-use Rattle.rrd_ring.specs.Rows.{width, HasWidth, unknown_rows, IsArchive, AreDropped}
+use Rattle.rrd_ring.specs.Rows.{row_at, with_row, width, HasWidth, unknown_rows, newest_rows, IsArchive, AreDropped}
 
 -- ---- the width of rows
 
@@ -63,6 +65,39 @@ IsArchive-unknown_rows n w some few some_cells few_cells =
 pub AreDropped-unknown_rows : (n w : ℕ) → n ≤ 1000000 → AreDropped (unknown_rows n w)
 AreDropped-unknown_rows n w few = AreDropped-from_width w (unknown_rows n w) (HasWidth-unknown_rows n w) (omega (arith, length-replicate n (replicate w Unknown)))
 
+-- a row is written over
+pub HasWidth-set : (w : ℕ) (xs : List (List Cell)) (i : ℕ) (cells : List Cell) → HasWidth w xs → length cells ≡ w → HasWidth w (set xs i cells)
+HasWidth-set w [] i cells h e = tt
+HasWidth-set w (x ∷ xs) zero cells h e = (e, h.1)
+HasWidth-set w (x ∷ xs) (suc i) cells h e = (h.0, HasWidth-set w xs i cells h.1 e)
+
+-- as many cells are all written
+pub refill_same : {A : Type 0} (xs ws : List A) → length ws ≡ length xs → refill (length xs) xs ws ≡ ws
+refill_same xs ws e = rw (drop_all (length ws) xs (omega arith), append-nil, ← e) (take_all (length ws) ws (omega arith))
+
+pub with_row-same_width : (xs : List (List Cell)) (i : ℕ) (cells : List Cell) → length cells ≡ length (row_at xs i) → with_row xs i cells ≡ set xs i cells
+with_row-same_width xs i cells e = ap (set xs i) (refill_same (row_at xs i) cells e)
+
+pub HasWidth-with_row : (w : ℕ) (xs : List (List Cell)) (i : ℕ) (cells : List Cell) → HasWidth w xs → i < length xs → HasWidth w (with_row xs i cells)
+HasWidth-with_row w xs i cells h k =
+    HasWidth-set w xs i _ h (sym (length_refill (length (row_at xs i)) (row_at xs i) cells refl) ∙ length-row w xs i [] h k)
+
+pub IsArchive-with_row : (xs : List (List Cell)) (i : ℕ) (cells : List Cell) → IsArchive xs → i < length xs → IsArchive (with_row xs i cells)
+IsArchive-with_row xs i cells is k =
+    let new = refill (length (row_at xs i)) (row_at xs i) cells in
+    let count = length-set xs i new in
+    let some : 0 < length xs = is.some_rows in
+    let few : length xs ≤ 1000000 = is.few_rows in
+    IsArchive-from_width (width xs) (with_row xs i cells) (HasWidth-with_row (width xs) xs i cells is.one_width k)
+    (omega arith) (omega arith) is.some_sources is.few_sources
+
+pub AreDropped-with_row : (xs : List (List Cell)) (i : ℕ) (cells : List Cell) → AreDropped xs → i < length xs → AreDropped (with_row xs i cells)
+AreDropped-with_row xs i cells are k =
+    let new = refill (length (row_at xs i)) (row_at xs i) cells in
+    let count = length-set xs i new in
+    let few : length xs ≤ 1000000 = are.few_rows in
+    AreDropped-from_width (width xs) (with_row xs i cells) (HasWidth-with_row (width xs) xs i cells are.one_width k) (omega arith)
+
 -- the oldest row goes, and a new one comes
 pub IsArchive-push : (xs : List (List Cell)) (cells : List Cell) → IsArchive xs → length cells ≡ width xs → IsArchive (drop 1 (xs ++ cells ∷ []))
 IsArchive-push xs cells is e =
@@ -72,6 +107,18 @@ IsArchive-push xs cells is e =
     let some : 0 < length xs = is.some_rows in
     let few : length xs ≤ 1000000 = is.few_rows in
     IsArchive-from_width (width xs) (drop 1 all) (HasWidth-drop (width xs) 1 all (HasWidth-append (width xs) xs (cells ∷ []) is.one_width (e, tt)))
+    (omega arith) (omega arith) is.some_sources is.few_sources
+
+-- another number of rows
+pub IsArchive-newest_rows : (n : ℕ) (xs : List (List Cell)) → 0 < n → n ≤ 1000000 → IsArchive xs → IsArchive (newest_rows n xs)
+IsArchive-newest_rows n xs some few is =
+    let w = width xs in
+    let unknown = unknown_rows (n - length xs) w in
+    let kept = drop (length xs - n) xs in
+    let count = length-append unknown kept in
+    let added = length-replicate (n - length xs) (replicate w Unknown) in
+    let left = length-drop (length xs - n) xs in
+    IsArchive-from_width w (newest_rows n xs) (HasWidth-append w unknown kept (HasWidth-unknown_rows (n - length xs) w) (HasWidth-drop w (length xs - n) xs is.one_width))
     (omega arith) (omega arith) is.some_sources is.few_sources
 
 -- rows come back before the oldest ones
@@ -102,6 +149,24 @@ turned_map f (x ∷ xs) new b h e =
 pub first_map : {A B : Type 0} (f : A → B) (old xs : List A) → map f (old ++ take (length xs - length old) xs) ≡ map f old ++ take (length (map f xs) - length (map f old)) (map f xs)
 first_map f old xs =
     rw (length-map xs f, length-map old f, take-map f (length xs - length old) xs) (map-append f old (take (length xs - length old) xs))
+
+-- a row that was read, and what its vector ends as
+pub row_read : (rows : List (Vec Cell Global)) (i : ℕ) (row : Vec Cell Global) → row ≡ get_or rows i row → i < length rows → row.items ≡ row_at (map (λ row. row.items) rows) i
+row_read rows i row e h = ap (λ (v : Vec Cell Global). v.items) e ∙ sym (get_or-map (λ (v : Vec Cell Global). v.items) rows i row [] h)
+
+pub width_read : (rows : List (Vec Cell Global)) (row : Vec Cell Global) → row ≡ get_or rows 0 row → 0 < length rows → width (map (λ row. row.items) rows) ≡ row.len
+width_read [] row e h = absurd (omega arith)
+width_read (v ∷ vs) row e h = ap (λ (v : Vec Cell Global). length v.items) (sym e) ∙ sym row.ok.0
+
+-- the newest rows are those in the newest vectors, after unknown ones
+pub newest_map : (n : ℕ) (rows : List (Vec Cell Global)) → newest_rows n (map (λ row. row.items) rows) ≡ unknown_rows (n - length rows) (width (map (λ row. row.items) rows)) ++ map (λ row. row.items) (drop (length rows - n) rows)
+newest_map n rows = rw (length-map rows (λ (v : Vec Cell Global). v.items), drop-map (λ (v : Vec Cell Global). v.items) (length rows - n) rows)
+
+pub row_written : (rows : List (Vec Cell Global)) (i : ℕ) (row : Vec Cell Global) (cells : List Cell) → row ≡ get_or rows i row → i < length rows → map (λ row. row.items) (set rows i (with_items row cells)) ≡ with_row (map (λ row. row.items) rows) i cells
+row_written rows i row cells e h =
+    map-set (λ (v : Vec Cell Global). v.items) rows i (with_items row cells)
+    ∙ ap (λ n. set (map (λ (v : Vec Cell Global). v.items) rows) i (refill n row.items cells)) row.ok.0
+    ∙ ap (λ items. set (map (λ (v : Vec Cell Global). v.items) rows) i (refill (length items) items cells)) (row_read rows i row e h)
 
 -- ---- a row written cell by cell
 

@@ -1,12 +1,16 @@
 -- Rows of cells, oldest first.
-use Rattle.std.specs.Prelude.{◌≡◌, ℕ, ◌-◌, ◌<◌, ◌≤◌, List, [], ◌∷◌, ◌++◌, length, drop, replicate, slice_index_or}
-use Rattle.std.specs.List.{AllByRecursion}
+use Rattle.std.specs.Prelude.{◌≡◌, ℕ, ◌-◌, ◌<◌, ◌≤◌, List, [], ◌∷◌, ◌++◌, length, drop, replicate, slice_index_or, slice_set}
+use Rattle.std.specs.List.{AllByRecursion, refill}
 use Rattle.rrd_fixed.specs.declared.cell.Cell.{Cell}
 use Rattle.rrd_fixed.specs.declared.cell.Cell.TheVariants.{Unknown}
 
 -- the row with a number, counted from the oldest
 abbrev pub row_at : List (List Cell) → ℕ → List Cell
 row_at rows i = slice_index_or rows i []
+
+-- the rows with other cells in place of one row, which keeps its number of cells
+abbrev pub with_row : List (List Cell) → ℕ → List Cell → List (List Cell)
+with_row rows i cells = slice_set rows i (refill (length (row_at rows i)) (row_at rows i) cells)
 
 -- how many cells the oldest row has
 abbrev pub width : List (List Cell) → ℕ

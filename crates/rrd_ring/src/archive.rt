@@ -1,13 +1,15 @@
 //! Archives of consolidated rows.
-ghost use Rattle.std.specs.Prelude.{◌≡◌, ℕ, ◌+◌, ◌-◌, ◌<◌, ◌≤◌, ◌^◌, List, [], ◌∷◌, ◌++◌, length, take, drop, IfOk};
+ghost use Rattle.std.specs.Prelude.{◌≡◌, ℕ, ◌+◌, ◌-◌, ◌<◌, ◌≤◌, ◌^◌, List, [], ◌∷◌, ◌++◌, length, take, drop, slice_set, IfOk};
 ghost use Rattle.std.specs.Borrow.{sem};
-ghost use Rattle.rrd_ring.specs.Rows.{row_at, width, HasWidth, unknown_rows, newest_rows};
+ghost use Rattle.rrd_fixed.specs.declared.cell.Cell.{Cell};
+ghost use Rattle.rrd_ring.specs.Rows.{row_at, width, HasWidth, with_row, unknown_rows, newest_rows};
 
 use crate::dropped::Dropped;
-use crate::table::{push_unknown, put_first, write_row};
+use crate::table::{push_copies, push_unknown, put_first, write_row};
 use rrd_fixed::{Cell, Meter};
 use std::alloc::{AllocError, Global};
 use std::marker::Model;
+use std::mem;
 
 /// The consolidated rows of an archive: 1 to 1,000,000 of them, each of 1 to 64 cells, one for each
 /// data source. Contracts see the list of the rows, oldest first.
@@ -29,6 +31,8 @@ impl Model for Archive {
 }
 
 impl Archive {
+    ghost use Rattle.rrd_ring.specs.Lending.{LendsRow};
+
     /// An archive of `rows` rows (1 to 1,000,000) of `sources` cells each (1 to 64), all unknown.
     pub fn new(alloc: Global, rows: u64, sources: u64) -> Result<Archive, AllocError>
         requires some_rows { 0 < rows }
@@ -69,6 +73,16 @@ impl Archive {
         &self.rows[i as usize]
     }
 
+    /// The cells of row `i`, counted from the oldest, to be written.
+    pub fn row_mut(&mut self, i: u64) -> &mut [Cell]
+        requires { i < length self.old }
+        ensures* writes_back { sem 𝓛 (LendsRow self.entry i result) }
+        ensures value { result.now ≡ row_at self.old i }
+        ensures same_width { (cells : List Cell) → length cells ≡ length (row_at self.old i) → with_row self.old i cells ≡ slice_set self.old i cells }
+    {
+        &mut self.rows[i as usize]
+    }
+
     /// Drops the oldest row, and takes `cells`, one for each data source, as the newest. Adds a turn
     /// for each cell to the meter.
     pub fn push_row(&mut self, cells: &[Cell], meter: &mut Meter)
@@ -98,5 +112,30 @@ impl Archive {
         ensures { self.new ≡ dropped ++ take (length self.old - length dropped) self.old }
     {
         put_first(&mut self.rows, &mut dropped.rows);
+    }
+
+    /// The same archive with `rows` rows (1 to 1,000,000): the newest of them, or all after unknown
+    /// rows (rrdresize).
+    pub fn resized(&self, alloc: Global, rows: u64) -> Result<Archive, AllocError>
+        requires some_rows { 0 < rows }
+        requires few_rows { rows ≤ 1000000 }
+        ensures { IfOk result (λ archive. archive ≡ newest_rows rows self.now) }
+    {
+        let wanted = rows as usize;
+        let sources = self.rows[0].len();
+        let added = wanted.saturating_sub(self.rows.len());
+        let removed = self.rows.len().saturating_sub(wanted);
+        let mut table = Vec::with_capacity(alloc, wanted)?;
+        push_unknown(alloc, &mut table, added, sources)?;
+        push_copies(alloc, &mut table, &self.rows[removed..])?;
+        Ok(Archive { rows: table })
+    }
+
+    /// Puts each in the other's place. It takes no memory.
+    pub fn swap(&mut self, other: &mut Archive)
+        ensures mine { self.new ≡ other.old }
+        ensures others { other.new ≡ self.old }
+    {
+        mem::swap(self, other);
     }
 }

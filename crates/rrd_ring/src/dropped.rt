@@ -1,6 +1,8 @@
 //! Rows that an archive dropped.
-ghost use Rattle.std.specs.Prelude.{◌≡◌, ℕ, ◌<◌, ◌≤◌, length, map, IfOk};
-ghost use Rattle.rrd_ring.specs.Rows.{row_at, unknown_rows, AreDropped};
+ghost use Rattle.std.specs.Prelude.{◌≡◌, ℕ, ◌<◌, ◌≤◌, List, length, map, slice_set, IfOk};
+ghost use Rattle.std.specs.Borrow.{sem};
+ghost use Rattle.rrd_fixed.specs.declared.cell.Cell.{Cell};
+ghost use Rattle.rrd_ring.specs.Rows.{row_at, with_row, unknown_rows, AreDropped};
 
 use crate::table::{push_copies, push_unknown};
 use rrd_fixed::Cell;
@@ -27,6 +29,8 @@ impl Model for Dropped {
 }
 
 impl Dropped {
+    ghost use Rattle.rrd_ring.specs.Lending.{LendsDropped};
+
     /// `rows` rows (at most 1,000,000) of `sources` cells each (1 to 64), all unknown.
     pub fn new(alloc: Global, rows: u64, sources: u64) -> Result<Dropped, AllocError>
         requires few_rows { rows ≤ 1000000 }
@@ -63,5 +67,15 @@ impl Dropped {
         ensures { result.now ≡ row_at self.now i }
     {
         &self.rows[i as usize]
+    }
+
+    /// The cells of row `i`, counted from the oldest, to be written.
+    pub fn row_mut(&mut self, i: u64) -> &mut [Cell]
+        requires { i < length self.old }
+        ensures* writes_back { sem 𝓛 (LendsDropped self.entry i result) }
+        ensures value { result.now ≡ row_at self.old i }
+        ensures same_width { (cells : List Cell) → length cells ≡ length (row_at self.old i) → with_row self.old i cells ≡ slice_set self.old i cells }
+    {
+        &mut self.rows[i as usize]
     }
 }
