@@ -1,0 +1,97 @@
+-- Words whose first is neither a subcommand's name nor a flag are refused.
+use Rattle.std.proofs.Common.{◌≡◌, ◌∙◌, ap, sym, refl, codes, Bool, true, false, List, [], ◌∷◌, Option, Some, None, is_some, nat_eq}
+use Rattle.std.specs.Str.{bytes_eq}
+use Rattle.std.proofs.lemmas.Slice.Eq.{bytes_eq-Decides}
+use Rattle.clap.specs.Words.{App, Kinds, Shape, Text, fault_of}
+use Rattle.clap.specs.Kinds.{or_else}
+use Rattle.clap.specs.Faults.{built_fault, check_fault, defaults_fault, entered_fault, settle_fault, turn_fault, walk_fault}
+use Rattle.clap.specs.Walk.{Names, arg_by_index, finished, idle, nothing_held, settled, subcommand_met, walk, walk_from, walked}
+use Rattle.clap.specs.Lexer.{long_of, short_of}
+use Rattle.clap.specs.Simple.{built, entered, names_of}
+use Rattle.clap.specs.declared.error.kind.ErrorKind.TheVariants.{UnknownArgument, InvalidSubcommand}
+use Rattle.clap.proofs.OnLiterals.{clap_on_literals}
+use Rattle.rrd_tool.specs.Serves.{IsRefused, begins_with_minus}
+use Rattle.rrd_tool.specs.Shapes.{rrdi_app, with_options, create_app, update_app, fetch_app, tune_app, resize_app}
+
+abbrev stray : Kinds
+stray = UnknownArgument ∷ InvalidSubcommand ∷ []
+
+stray_turn : (s : Shape) (names : Names) (word : Text) → subcommand_met names idle word ≡ None → bytes_eq word (45 ∷ 45 ∷ []) ≡ false
+    → long_of word ≡ None → short_of word ≡ None → arg_by_index s.rules 1 ≡ None → s.is_leaf ≡ false → turn_fault s names (walk_from nothing_held) word ≡ stray
+stray_turn s names word met dashes long short i l = rw (met, dashes, long, short, i, l) refl
+
+no_dashes : (word : Text) → begins_with_minus word ≡ false → bytes_eq word (45 ∷ 45 ∷ []) ≡ false
+no_dashes [] b = refl
+no_dashes (x ∷ xs) b = rw b refl
+
+no_long : (word : Text) → begins_with_minus word ≡ false → long_of word ≡ None
+no_long [] b = refl
+no_long (x ∷ xs) b = rw b refl
+
+no_short : (word : Text) → begins_with_minus word ≡ false → short_of word ≡ None
+no_short [] b = refl
+no_short (x ∷ xs) b = rw b refl
+
+stray_first : (s : Shape) (names : Names) (word : Text) (rest : List Text) → subcommand_met names idle word ≡ None → begins_with_minus word ≡ false
+    → arg_by_index s.rules 1 ≡ None → s.is_leaf ≡ false → walk_fault s names (walk_from nothing_held) (word ∷ rest) ≡ stray
+unfolding walk_fault
+stray_first s names word rest met b i l = ap (λ first. or_else first (walk_fault s names (walked s.rules names (walk_from nothing_held) word) rest))
+    (stray_turn s names word met (no_dashes word b) (no_long word b) (no_short word b) i l)
+
+stray_refused : (a : App) (word : Text) (rest : List Text) → walk_fault a.top (names_of a) (walk_from nothing_held) (word ∷ rest) ≡ stray
+    → built_fault a nothing_held (word ∷ rest) ≡ stray
+stray_refused a word rest e =
+    let w = walk a.top.rules (names_of a) nothing_held (word ∷ rest) in
+    ap (λ first. or_else first
+    (or_else (entered_fault a w.stopped)
+    (or_else (settle_fault a.top.rules a.top.args_override_self w.held)
+    (or_else (defaults_fault (settled a.top.rules w.held).rows a.top.rules)
+    (check_fault a.top (finished a.top.rules w.held) (is_some (entered a w.stopped))))))) e
+
+other_way : (a b : Text) → bytes_eq a b ≡ false → bytes_eq b a ≡ false
+other_way a b e = go (bytes_eq b a) refl
+  where
+    go : (r : Bool) → bytes_eq b a ≡ r → r ≡ false
+    go false t = refl
+    go true t =
+        let same : b ≡ a = (bytes_eq-Decides b a).0 t in
+        let yes : bytes_eq a b ≡ true = (bytes_eq-Decides a b).1 (sym same) in
+        let bad : true ≡ false = sym yes ∙ e in cc
+
+none_met : (word : Text)
+    → bytes_eq word (codes "create") ≡ false
+    → bytes_eq word (codes "update") ≡ false
+    → bytes_eq word (codes "fetch") ≡ false
+    → bytes_eq word (codes "tune") ≡ false
+    → bytes_eq word (codes "resize") ≡ false
+    → bytes_eq word (codes "last") ≡ false
+    → bytes_eq word (codes "revert") ≡ false
+    → subcommand_met (names_of (built rrdi_app)) idle word ≡ None
+unfolding rrdi_app with_options create_app update_app fetch_app tune_app resize_app clap_on_literals
+none_met word e1 e2 e3 e4 e5 e6 e7 = rw (other_way word _ e1, other_way word _ e2, other_way word _ e3, other_way word _ e4, other_way word _ e5, other_way word _ e6, other_way word _ e7) refl
+
+rrdi_index : arg_by_index (built rrdi_app).top.rules 1 ≡ None
+unfolding rrdi_app with_options create_app update_app fetch_app tune_app resize_app clap_on_literals
+rrdi_index = refl
+
+rrdi_leaf : (built rrdi_app).top.is_leaf ≡ false
+unfolding rrdi_app with_options create_app update_app fetch_app tune_app resize_app clap_on_literals
+rrdi_leaf = refl
+
+rrdi_words : (words : List Text) → fault_of rrdi_app words ≡ built_fault (built rrdi_app) nothing_held words
+unfolding rrdi_app with_options
+rrdi_words words = refl
+
+pub unknown_refused : (word : Text) (rest : List Text) → begins_with_minus word ≡ false
+    → bytes_eq word (codes "create") ≡ false
+    → bytes_eq word (codes "update") ≡ false
+    → bytes_eq word (codes "fetch") ≡ false
+    → bytes_eq word (codes "tune") ≡ false
+    → bytes_eq word (codes "resize") ≡ false
+    → bytes_eq word (codes "last") ≡ false
+    → bytes_eq word (codes "revert") ≡ false
+    → IsRefused (word ∷ rest)
+unknown_refused word rest b e1 e2 e3 e4 e5 e6 e7 none =
+    let stands = stray_refused (built rrdi_app) word rest
+    (stray_first (built rrdi_app).top (names_of (built rrdi_app)) word rest (none_met word e1 e2 e3 e4 e5 e6 e7) b rrdi_index rrdi_leaf) in
+    let bad : stray ≡ [] = sym stands ∙ (sym (rrdi_words (word ∷ rest)) ∙ none) in cc
