@@ -1,0 +1,5 @@
+pub mod Added
+pub mod Simple
+pub mod FirstWord
+pub mod Fast
+pub mod Unknown

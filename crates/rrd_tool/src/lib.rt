@@ -2,6 +2,7 @@
 #![tactic(auto)]
 
 mod command;
+pub mod shapes;
 mod words;
 
 pub use command::{Command, LineFault, Part};
