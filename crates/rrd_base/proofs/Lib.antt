@@ -15,3 +15,4 @@ pub mod Held
 pub mod Named
 pub mod Staying
 pub mod Fitting
+pub mod EachLemmas

@@ -8,3 +8,4 @@ pub mod Survivors
 pub mod Validity
 pub mod Worked
 pub mod WorkedCommands
+pub mod Each

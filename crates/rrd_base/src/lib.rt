@@ -5,6 +5,7 @@ mod create;
 mod definition;
 pub mod laws;
 mod list;
+pub mod preparing;
 mod refusal;
 mod resize;
 mod tune;

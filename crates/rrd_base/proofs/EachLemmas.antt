@@ -1,0 +1,152 @@
+-- Item by item, and a loop's step.
+use Rattle.std.proofs.Common.{◌≡◌, refl, ◌∙◌, ap, ℕ, zero, suc, ◌+◌, ◌<◌, ◌≤◌, List, [], ◌∷◌, ◌++◌, length, take, drop, map, get_or, set, replicate, arith, take_all, append-nil}
+use Rattle.std.proofs.lemmas.List.{drop_all}
+use Rattle.std.specs.List.{fold, AllByRecursion}
+use Rattle.rrd_fixed.specs.declared.cell.Cell.{Cell}
+use Rattle.rrd_fixed.specs.declared.raw.Raw.{Raw}
+use Rattle.rrd_fixed.specs.Rate.{rate, IsAccepted}
+use Rattle.rrd_fold.specs.declared.function.Function.{Function}
+use Rattle.rrd_fold.specs.Parts.{Part, nothing, with_cell, with_each}
+use Rattle.rrd_fold.specs.Bounds.{Consolidating}
+use Rattle.rrd_base.specs.declared.definition.DsDef.{DsDef}
+use Rattle.rrd_base.specs.History.{rates}
+use Rattle.rrd_base.specs.Validity.{AreAccepted, AreParts}
+use Rattle.rrd_base.specs.Each.{map_each, with_step, anew, parts_in, AllOf}
+
+-- ---- what holds of each item
+
+-- of the item at a place
+pub All-at : {A : Type 0} (P : A → Type 0) (xs : List A) (i : ℕ) (d : A) → AllByRecursion P xs → i < length xs → P (get_or xs i d)
+All-at P [] i d is h = absurd (omega arith)
+All-at P (x ∷ xs) zero d is h = is.0
+All-at P (x ∷ xs) (suc i) d is h = All-at P xs i d is.1 (omega arith)
+
+-- of one item more that was written
+pub All-take-set : {A : Type 0} (P : A → Type 0) (xs : List A) (i : ℕ) (x : A) → i < length xs → AllByRecursion P (take i xs) → P x → AllByRecursion P (take (suc i) (set xs i x))
+All-take-set P [] i x h is here = absurd (omega arith)
+All-take-set P (y ∷ xs) zero x h is here = (here, tt)
+All-take-set P (y ∷ xs) (suc i) x h is here = (is.0, All-take-set P xs i x (omega arith) is.1 here)
+
+-- something that follows from it
+pub All-weaker : {A : Type 0} (P Q : A → Type 0) (xs : List A) → ((x : A) → P x → Q x) → AllByRecursion P xs → AllByRecursion Q xs
+All-weaker P Q [] h is = tt
+All-weaker P Q (x ∷ xs) h is = (h x is.0, All-weaker P Q xs h is.1)
+
+-- ---- a function of two lists
+
+-- many seconds of each rate, item by item
+pub fold-with_each : (function : Function) (n : ℕ) (parts : List Part) (cells : List Cell) → fold (with_each function) parts (replicate n cells) ≡ map_each (λ p c. fold (with_cell function) p (replicate n c)) parts cells
+fold-with_each function n [] cells = none n where
+  none : (n : ℕ) → fold (with_each function) [] (replicate n cells) ≡ []
+  none zero = refl
+  none (suc n) = none n
+fold-with_each function n (part ∷ parts) [] = none n where
+  none : (n : ℕ) → fold (with_each function) (part ∷ parts) (replicate n []) ≡ part ∷ parts
+  none zero = refl
+  none (suc n) = none n
+fold-with_each function n (part ∷ parts) (cell ∷ cells) = each n part parts ∙ ap (λ rest. fold (with_cell function) part (replicate n cell) ∷ rest) (fold-with_each function n parts cells) where
+  each : (n : ℕ) (part : Part) (parts : List Part) → fold (with_each function) (part ∷ parts) (replicate n (cell ∷ cells)) ≡ fold (with_cell function) part (replicate n cell) ∷ fold (with_each function) parts (replicate n cells)
+  each zero part parts = refl
+  each (suc n) part parts = each n (with_cell function part cell) (with_each function parts cells)
+
+-- one item more
+pub map_each_more : {P A : Type 0} (f : P → A → P) (ps : List P) (xs : List A) (i : ℕ) (p q : P) (x : A) → i < length ps → i < length xs → p ≡ f (get_or ps i q) (get_or xs i x) → set (map_each f (take i ps) (take i xs) ++ drop i ps) i p ≡ map_each f (take (suc i) ps) (take (suc i) xs) ++ drop (suc i) ps
+map_each_more f [] xs i p q x h k e = absurd (omega arith)
+map_each_more f (a ∷ ps) [] i p q x h k e = absurd (omega arith)
+map_each_more f (a ∷ ps) (y ∷ xs) zero p q x h k e = ap (λ z. z ∷ ps) e
+map_each_more f (a ∷ ps) (y ∷ xs) (suc i) p q x h k e = ap (λ zs. f a y ∷ zs) (map_each_more f ps xs i p q x (omega arith) (omega arith) e)
+
+-- the item that comes next, and the end
+pub map_each_next : {P A : Type 0} (f : P → A → P) (ps : List P) (xs : List A) (i : ℕ) (d : P) → i < length ps → i < length xs → get_or (map_each f (take i ps) (take i xs) ++ drop i ps) i d ≡ get_or ps i d
+map_each_next f [] xs i d h k = absurd (omega arith)
+map_each_next f (a ∷ ps) [] i d h k = absurd (omega arith)
+map_each_next f (a ∷ ps) (y ∷ xs) zero d h k = refl
+map_each_next f (a ∷ ps) (y ∷ xs) (suc i) d h k = map_each_next f ps xs i d (omega arith) (omega arith)
+
+pub map_each_all : {P A : Type 0} (f : P → A → P) (ps : List P) (xs : List A) (i : ℕ) → length ps ≤ i → length xs ≤ i → map_each f (take i ps) (take i xs) ++ drop i ps ≡ map_each f ps xs
+map_each_all f ps xs i h k =
+    ap (λ zs. map_each f zs (take i xs) ++ drop i ps) (take_all i ps h)
+    ∙ ap (λ zs. map_each f ps zs ++ drop i ps) (take_all i xs k)
+    ∙ ap (λ zs. map_each f ps xs ++ zs) (drop_all i ps h) ∙ append-nil (map_each f ps xs)
+
+-- ---- a list written over by what another's items give
+
+-- one item more, the item that comes next, and the end
+pub map_more : {A B : Type 0} (f : A → B) (ps : List A) (ys : List B) (i : ℕ) (d : A) (b : B) → i < length ps → i < length ys → b ≡ f (get_or ps i d) → set (map f (take i ps) ++ drop i ys) i b ≡ map f (take (suc i) ps) ++ drop (suc i) ys
+map_more f [] ys i d b h k e = absurd (omega arith)
+map_more f (p ∷ ps) [] i d b h k e = absurd (omega arith)
+map_more f (p ∷ ps) (y ∷ ys) zero d b h k e = ap (λ z. z ∷ ys) e
+map_more f (p ∷ ps) (y ∷ ys) (suc i) d b h k e = ap (λ zs. f p ∷ zs) (map_more f ps ys i d b (omega arith) (omega arith) e)
+
+pub map_next : {A B : Type 0} (f : A → B) (ps : List A) (ys : List B) (i : ℕ) (d : B) → i < length ps → i < length ys → get_or (map f (take i ps) ++ drop i ys) i d ≡ get_or ys i d
+map_next f [] ys i d h k = absurd (omega arith)
+map_next f (p ∷ ps) [] i d h k = absurd (omega arith)
+map_next f (p ∷ ps) (y ∷ ys) zero d h k = refl
+map_next f (p ∷ ps) (y ∷ ys) (suc i) d h k = map_next f ps ys i d (omega arith) (omega arith)
+
+pub map_all : {A B : Type 0} (f : A → B) (ps : List A) (ys : List B) (i : ℕ) → length ps ≤ i → length ys ≤ i → map f (take i ps) ++ drop i ys ≡ map f ps
+map_all f ps ys i h k =
+    ap (λ zs. map f zs ++ drop i ys) (take_all i ps h) ∙ ap (λ zs. map f ps ++ zs) (drop_all i ys k) ∙ append-nil (map f ps)
+
+pub map-same : {A B : Type 0} (b : B) (xs : List A) → map (λ x. b) xs ≡ replicate (length xs) b
+map-same b [] = refl
+map-same b (x ∷ xs) = ap (λ ys. b ∷ ys) (map-same b xs)
+
+-- ---- rates
+
+-- a raw value that its source accepts
+pub accepted_at : (sources : List DsDef) (raws : List Raw) (i : ℕ) (d : DsDef) (r : Raw) → AreAccepted sources raws → i < length sources → i < length raws → IsAccepted (get_or sources i d).kind (get_or raws i r)
+accepted_at [] raws i d r is h k = absurd (omega arith)
+accepted_at (source ∷ sources) [] i d r is h k = absurd (omega arith)
+accepted_at (source ∷ sources) (raw ∷ raws) zero d r is h k = is.0
+accepted_at (source ∷ sources) (raw ∷ raws) (suc i) d r is h k = accepted_at sources raws i d r is.1 (omega arith) (omega arith)
+
+-- the rate of one source
+abbrev pub rate_of : ℕ → DsDef → Raw → Raw → Cell
+rate_of interval source old new = rate source.kind old new interval source.heartbeat source.min source.max
+
+-- one rate more, and the end
+pub rates_more : (sources : List DsDef) (interval : ℕ) (olds news : List Raw) (cells : List Cell) (i : ℕ) (d : DsDef) (r s : Raw) (cell : Cell) → i < length sources → i < length olds → i < length news → i < length cells → cell ≡ rate_of interval (get_or sources i d) (get_or olds i r) (get_or news i s) → set (rates (take i sources) interval (take i olds) (take i news) ++ drop i cells) i cell ≡ rates (take (suc i) sources) interval (take (suc i) olds) (take (suc i) news) ++ drop (suc i) cells
+rates_more [] interval olds news cells i d r s cell a b k m e = absurd (omega arith)
+rates_more (source ∷ sources) interval [] news cells i d r s cell a b k m e = absurd (omega arith)
+rates_more (source ∷ sources) interval (old ∷ olds) [] cells i d r s cell a b k m e = absurd (omega arith)
+rates_more (source ∷ sources) interval (old ∷ olds) (new ∷ news) [] i d r s cell a b k m e = absurd (omega arith)
+rates_more (source ∷ sources) interval (old ∷ olds) (new ∷ news) (y ∷ cells) zero d r s cell a b k m e = ap (λ z. z ∷ cells) e
+rates_more (source ∷ sources) interval (old ∷ olds) (new ∷ news) (y ∷ cells) (suc i) d r s cell a b k m e =
+    ap (λ zs. rate_of interval source old new ∷ zs) (rates_more sources interval olds news cells i d r s cell (omega arith) (omega arith) (omega arith) (omega arith) e)
+
+pub rates_all : (sources : List DsDef) (interval : ℕ) (olds news : List Raw) (cells : List Cell) (i : ℕ) → length sources ≤ i → length olds ≤ i → length news ≤ i → length cells ≤ i → rates (take i sources) interval (take i olds) (take i news) ++ drop i cells ≡ rates sources interval olds news
+rates_all sources interval olds news cells i a b k m =
+    ap (λ zs. rates zs interval (take i olds) (take i news) ++ drop i cells) (take_all i sources a)
+    ∙ ap (λ zs. rates sources interval zs (take i news) ++ drop i cells) (take_all i olds b)
+    ∙ ap (λ zs. rates sources interval olds zs ++ drop i cells) (take_all i news k)
+    ∙ ap (λ zs. rates sources interval olds news ++ zs) (drop_all i cells m) ∙ append-nil (rates sources interval olds news)
+
+-- ---- preparations
+
+-- seconds fit that leave no more than a step's
+pub parts_fit : (function : Function) (sources passed more : ℕ) (parts : List Part) → AreParts function sources passed parts → passed + more ≤ 1000000 → AllByRecursion (λ (p : Part). p.known + more ≤ 1000000) parts
+parts_fit function sources passed more parts is h = All-weaker _ _ parts (λ p of. omega (arith, of.few)) is.each
+
+-- the parts of preparations of one function
+pub parts_in-with_step : (function : Function) (preps : List Consolidating) (step : List Cell) → AllOf function preps → parts_in (map_each with_step preps step) ≡ with_each function (parts_in preps) step
+parts_in-with_step function [] step of = refl
+parts_in-with_step function (prep ∷ preps) [] of = refl
+parts_in-with_step function (prep ∷ preps) (cell ∷ step) of =
+    let first : with_cell prep.function prep.part cell ≡ with_cell function prep.part cell = ap (λ f. with_cell f prep.part cell) of.0 in
+    let rest = parts_in-with_step function preps step of.1 in
+    cc
+
+pub parts_in-anew : (preps : List Consolidating) → parts_in (map anew preps) ≡ replicate (length preps) nothing
+parts_in-anew [] = refl
+parts_in-anew (prep ∷ preps) = ap (λ rest. nothing ∷ rest) (parts_in-anew preps)
+
+-- they stay of that function
+pub AllOf-with_step : (function : Function) (preps : List Consolidating) (step : List Cell) → AllOf function preps → AllOf function (map_each with_step preps step)
+AllOf-with_step function [] step of = tt
+AllOf-with_step function (prep ∷ preps) [] of = of
+AllOf-with_step function (prep ∷ preps) (cell ∷ step) of = (of.0, AllOf-with_step function preps step of.1)
+
+pub AllOf-anew : (function : Function) (preps : List Consolidating) → AllOf function preps → AllOf function (map anew preps)
+AllOf-anew function [] of = tt
+AllOf-anew function (prep ∷ preps) of = (of.0, AllOf-anew function preps of.1)

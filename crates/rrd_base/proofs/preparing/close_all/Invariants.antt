@@ -1,0 +1,13 @@
+use Rattle.std.proofs.Common.{◌≡◌, ◌+◌, ◌++◌, take, drop, map}
+use Rattle.std.specs.List.{AllByRecursion}
+use Rattle.rrd_fixed.specs.Rate.{IsBounded}
+use Rattle.rrd_fold.specs.Parts.{Part, nothing, step_cell}
+use Rattle.rrd_base.proofs.preparing.close_all.Given as goal
+
+abbrev pub invariant-loop-i : goal.invariant-loop-i
+invariant-loop-i l = record {
+  cells : l.cells ≡ map (step_cell l.step) (take l.i l.fn.preps) ++ drop l.i l.fn.cells;
+  bounded : AllByRecursion IsBounded (take l.i l.cells);
+  anew : l.preps ≡ map (λ (p : Part). nothing) (take l.i l.fn.preps) ++ drop l.i l.fn.preps;
+  ticked : l.meter ≡ l.fn.meter + l.i;
+}

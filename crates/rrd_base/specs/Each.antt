@@ -1,0 +1,32 @@
+-- The preparations of many sources.
+use Rattle.std.specs.Prelude.{◌≡◌, ℕ, ℤ, List, [], ◌∷◌, map}
+use Rattle.std.specs.List.{AllByRecursion}
+use Rattle.rrd_fixed.specs.declared.cell.Cell.{Cell}
+use Rattle.rrd_fold.specs.declared.function.Function.{Function}
+use Rattle.rrd_fold.specs.Parts.{Part, nothing, with_cell, row_cell}
+use Rattle.rrd_fold.specs.Bounds.{Consolidating}
+
+-- a function of two lists, item by item
+abbrev pub map_each : {P A : Type 0} → (P → A → P) → List P → List A → List P
+map_each f [] xs = []
+map_each f (p ∷ ps) [] = p ∷ ps
+map_each f (p ∷ ps) (x ∷ xs) = f p x ∷ map_each f ps xs
+
+-- a row's preparation with one more step, and one that starts anew
+abbrev pub with_step : Consolidating → Cell → Consolidating
+with_step prep cell = record { function = prep.function; part = with_cell prep.function prep.part cell }
+
+abbrev pub anew : Consolidating → Consolidating
+anew prep = record { function = prep.function; part = nothing }
+
+-- what it gives
+abbrev pub row_of : ℤ → ℕ → Consolidating → Cell
+row_of xff steps prep = row_cell prep.function xff steps prep.part
+
+-- the parts that preparations hold
+abbrev pub parts_in : List Consolidating → List Part
+parts_in preps = map (λ (prep : Consolidating). prep.part) preps
+
+-- all consolidate by the same function
+abbrev pub AllOf : Function → List Consolidating → Type 0
+AllOf function preps = AllByRecursion (λ (prep : Consolidating). prep.function ≡ function) preps
