@@ -16,3 +16,4 @@ pub mod Named
 pub mod Staying
 pub mod Fitting
 pub mod EachLemmas
+pub mod Created

@@ -9,3 +9,4 @@ pub mod Validity
 pub mod Worked
 pub mod WorkedCommands
 pub mod Each
+pub mod Creating

@@ -1,5 +1,36 @@
 //! Making a database.
-use crate::{DsDef, List, RraDef};
+ghost use Rattle.std.specs.Prelude.{◌≡◌, ◌-◌, ◌^◌, min, not, map, length, sum};
+ghost use Rattle.std.specs.List.{list_any};
+ghost use Rattle.std.specs.Result.{result_err};
+ghost use Rattle.rrd_fixed.specs.Names.{is_good, same_name};
+ghost use Rattle.rrd_base.specs.Commands.{names};
+ghost use Rattle.rrd_base.specs.Creating as creating;
+ghost use Rattle.rrd_base.specs.Verdict as verdict;
+
+use crate::{DsDef, List, Refusal, RraDef};
+use rrd_fixed::Name;
+
+const LONGEST_STEP: u64 = 1_000_000;
+
+const LATEST_TIME: u64 = 9_999_999_999;
+
+const LONGEST_HEARTBEAT: u64 = 9_999_999_999;
+
+const GREATEST_BOUND: u128 = 18_446_744_073_709_551_615_000_000;
+
+const GREATEST_XFF: i128 = 999_999;
+
+const MOST_STEPS: u64 = 1_000_000;
+
+const MOST_ROWS: u64 = 1_000_000;
+
+const MOST_SOURCES: usize = 64;
+
+const MOST_ARCHIVES: usize = 64;
+
+const MOST_CELLS: u64 = 4_000_000;
+
+const DEEPEST_JOURNAL: u64 = 1_000;
 
 /// What a new database is to be (rrdcreate).
 #[derive(Drop)]
@@ -12,4 +43,226 @@ pub struct CreateSpec {
     pub depth: u64,
     pub sources: List<DsDef>,
     pub archives: List<RraDef>,
+}
+
+/// Whether a database can be made, or the first refusal: each number is judged over all sources or
+/// archives before the next one.
+pub(crate) fn check(spec: &CreateSpec) -> Result<(), Refusal>
+    ensures { result_err result ≡ creating.create_verdict spec.now }
+{
+    check_first(spec)?;
+    check_sources(spec.sources.as_slice())?;
+    check_archives(spec.archives.as_slice())?;
+    check_size(spec)
+}
+
+fn check_first(spec: &CreateSpec) -> Result<(), Refusal>
+    ensures { result_err result ≡ verdict.first_refusal (creating.first_checks spec.now) }
+{
+    if is_bad_step(spec.step) {
+        return Err(Refusal::BadStep);
+    }
+    if spec.start > LATEST_TIME {
+        return Err(Refusal::BadStart);
+    }
+    if spec.sources.len() == 0 {
+        return Err(Refusal::NoSource);
+    }
+    if spec.archives.len() == 0 {
+        return Err(Refusal::NoArchive);
+    }
+    Ok(())
+}
+
+fn check_sources(sources: &[DsDef]) -> Result<(), Refusal>
+    ensures { result_err result ≡ verdict.first_refusal (creating.source_checks sources.now) }
+{
+    if any_bad_name(sources) {
+        return Err(Refusal::BadName);
+    }
+    if any_double_name(sources) {
+        return Err(Refusal::DoubleName);
+    }
+    if any_bad_heartbeat(sources) {
+        return Err(Refusal::BadHeartbeat);
+    }
+    if any_bad_bounds(sources) {
+        return Err(Refusal::BadBounds);
+    }
+    Ok(())
+}
+
+fn check_archives(archives: &[RraDef]) -> Result<(), Refusal>
+    ensures { result_err result ≡ verdict.first_refusal (creating.archive_checks archives.now) }
+{
+    if any_bad_xff(archives) {
+        return Err(Refusal::BadXff);
+    }
+    if any_bad_steps(archives) {
+        return Err(Refusal::BadSteps);
+    }
+    if any_bad_rows(archives) {
+        return Err(Refusal::BadRows);
+    }
+    Ok(())
+}
+
+fn check_size(spec: &CreateSpec) -> Result<(), Refusal>
+    ensures { result_err result ≡ verdict.first_refusal (creating.size_checks spec.now) }
+{
+    if is_too_large(spec) {
+        return Err(Refusal::TooLarge);
+    }
+    if is_bad_depth(spec.depth) {
+        return Err(Refusal::BadDepth);
+    }
+    Ok(())
+}
+
+fn is_bad_step(seconds: u64) -> bool
+    ensures { result ≡ creating.is_bad_step seconds }
+{
+    seconds == 0 || seconds > LONGEST_STEP
+}
+
+fn is_bad_depth(depth: u64) -> bool
+    ensures { result ≡ creating.is_bad_depth depth }
+{
+    depth == 0 || depth > DEEPEST_JOURNAL
+}
+
+// ---- the sources
+
+fn any_bad_name(sources: &[DsDef]) -> bool
+    ensures { result ≡ list_any (λ source. not (is_good source.name)) sources.now }
+{
+    sources.iter().any(|source| !source.name.good())
+}
+
+// Whether a name stands twice.
+fn any_double_name(sources: &[DsDef]) -> bool
+    ensures { result ≡ verdict.is_double (names sources.now) }
+{
+    for i in 0..sources.len() {
+        if any_named(&sources[i + 1..], &sources[i].name) {
+            return true;
+        }
+    }
+    false
+}
+
+fn any_named(sources: &[DsDef], name: &Name) -> bool
+    ensures { result ≡ list_any (λ source. same_name name.now source.name) sources.now }
+{
+    sources.iter().any(|source| name.same(&source.name))
+}
+
+fn any_bad_heartbeat(sources: &[DsDef]) -> bool
+    ensures { result ≡ list_any (λ source. verdict.is_bad_heartbeat source.heartbeat) sources.now }
+{
+    sources
+        .iter()
+        .any(|source| is_bad_heartbeat(source.heartbeat))
+}
+
+fn any_bad_bounds(sources: &[DsDef]) -> bool
+    ensures { result ≡ list_any verdict.has_bad_bounds sources.now }
+{
+    sources.iter().any(|source| has_bad_bounds(source))
+}
+
+/// Whether a heartbeat is not 1 to 9,999,999,999 seconds.
+pub(crate) fn is_bad_heartbeat(seconds: u64) -> bool
+    ensures { result ≡ verdict.is_bad_heartbeat seconds }
+{
+    seconds == 0 || seconds > LONGEST_HEARTBEAT
+}
+
+/// Whether a bound is past the greatest rate, or the least is above the greatest.
+pub(crate) fn has_bad_bounds(source: &DsDef) -> bool
+    ensures { result ≡ verdict.has_bad_bounds source.now }
+{
+    is_far(source.min) || is_far(source.max) || is_crossed(source.min, source.max)
+}
+
+fn is_far(bound: Option<i128>) -> bool
+    ensures { result ≡ verdict.is_far bound }
+{
+    match bound {
+        Some(bound) => bound.unsigned_abs() > GREATEST_BOUND,
+        None => false,
+    }
+}
+
+fn is_crossed(min: Option<i128>, max: Option<i128>) -> bool
+    ensures { result ≡ verdict.is_crossed min max }
+{
+    match (min, max) {
+        (Some(min), Some(max)) => max < min,
+        _ => false,
+    }
+}
+
+// ---- the archives
+
+fn any_bad_xff(archives: &[RraDef]) -> bool
+    ensures { result ≡ list_any (λ archive. creating.is_bad_xff archive.xff) archives.now }
+{
+    archives.iter().any(|archive| is_bad_xff(archive.xff))
+}
+
+fn any_bad_steps(archives: &[RraDef]) -> bool
+    ensures { result ≡ list_any (λ archive. creating.is_bad_steps archive.steps) archives.now }
+{
+    archives.iter().any(|archive| is_bad_steps(archive.steps))
+}
+
+fn any_bad_rows(archives: &[RraDef]) -> bool
+    ensures { result ≡ list_any (λ archive. verdict.is_bad_rows archive.rows) archives.now }
+{
+    archives.iter().any(|archive| is_bad_rows(archive.rows))
+}
+
+// Whether a share, in millionths, is not from 0 to below 1.
+fn is_bad_xff(xff: i128) -> bool
+    ensures { result ≡ creating.is_bad_xff xff }
+{
+    xff < 0 || xff > GREATEST_XFF
+}
+
+fn is_bad_steps(steps: u64) -> bool
+    ensures { result ≡ creating.is_bad_steps steps }
+{
+    steps == 0 || steps > MOST_STEPS
+}
+
+/// Whether a number of rows is not 1 to 1,000,000.
+pub(crate) fn is_bad_rows(rows: u64) -> bool
+    ensures { result ≡ verdict.is_bad_rows rows }
+{
+    rows == 0 || rows > MOST_ROWS
+}
+
+// ---- the size
+
+// Whether there are too many sources, archives or cells.
+fn is_too_large(spec: &CreateSpec) -> bool
+    ensures { result ≡ creating.is_too_large spec.now }
+{
+    let sources = spec.sources.len();
+    let archives = spec.archives.len();
+    sources > MOST_SOURCES
+        || archives > MOST_ARCHIVES
+        || (sources as u64).saturating_mul(all_rows(spec.archives.as_slice())) > MOST_CELLS
+}
+
+// The rows of all archives, or the greatest number if they are more.
+fn all_rows(archives: &[RraDef]) -> u64
+    ensures { result ≡ min (sum (map (λ archive. archive.rows) archives.now)) (2 ^ 64 - 1) }
+{
+    let mut rows: u64 = 0;
+    for archive in archives {
+        rows = rows.saturating_add(archive.rows);
+    }
+    rows
 }

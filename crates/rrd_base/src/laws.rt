@@ -7,6 +7,8 @@ ghost use Rattle.rrd_base.specs.Commands.{Command};
 ghost use Rattle.rrd_base.specs.Entries.{Entry, ComesBack};
 ghost use Rattle.rrd_base.specs.Survivors.{Action, Moves, RunsAgree};
 ghost use Rattle.rrd_base.specs.Validity.{StaysValid, DatabaseStays, RunsStay};
+ghost use Rattle.rrd_base.specs.declared.create.CreateSpec.{CreateSpec};
+ghost use Rattle.rrd_base.specs.Creating.{CreatedIsValid};
 ghost use Rattle.rrd_base.specs.Worked as worked;
 ghost use Rattle.rrd_base.specs.WorkedCommands as commands;
 
@@ -61,6 +63,12 @@ pub fn commands_come_back()
 /// After any list of actions the database is what the survivors make, and its journal their entries.
 pub fn runs_agree()
     ensures { (base : Content) (brought : List Entry) (actions : List Action) → RunsAgree base brought actions }
+{
+}
+
+/// A new database is valid.
+pub fn created_is_valid()
+    ensures { (spec : CreateSpec) → CreatedIsValid spec }
 {
 }
 

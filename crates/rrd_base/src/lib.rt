@@ -1,7 +1,7 @@
 //! A round-robin database of many data sources and archives, with a journal of replaced cells.
 #![tactic(auto)]
 
-mod create;
+pub mod create;
 mod definition;
 pub mod laws;
 mod list;
