@@ -3,3 +3,5 @@ pub mod Simple
 pub mod FirstWord
 pub mod Fast
 pub mod Unknown
+pub mod LineLemmas
+pub mod WordLemmas

@@ -2,8 +2,12 @@
 #![tactic(auto)]
 
 mod command;
+pub mod faults;
+pub mod input;
+pub mod lines;
 pub mod shapes;
 mod words;
 
 pub use command::{Command, LineFault, Part};
+pub use faults::{Fault, write_fault};
 pub use words::Words;

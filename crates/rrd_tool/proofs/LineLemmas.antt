@@ -1,0 +1,121 @@
+-- What a byte more does to an unfinished line.
+use Rattle.std.proofs.Common.{◌≡◌, ◌∙◌, ◌++◌, ◌∷◌, ◌&&◌, ◌≤◌, ℕ, Bool, true, false, List, [], length, sym, ap, refl, append_assoc, append-nil, arith, nat_le, nat_eq, length-append, ⊎_elim}
+use Rattle.std.proofs.lemmas.Bool.{cases_Bool}
+use Rattle.std.proofs.lemmas.Bool.Decides.{nat_tests}
+use Rattle.std.specs.List.{list_all}
+use Rattle.rrd_tool.specs.Lines.{is_empty, is_plain, is_text, without_cr}
+use Rattle.rrd_tool.specs.Held.{HoldsBy, IsLost}
+
+cr_past : (xs : List ℕ) (b : ℕ) (more : List ℕ) → without_cr (xs ++ b ∷ more) ≡ xs ++ without_cr (b ∷ more)
+cr_past [] b more = refl
+cr_past (x ∷ []) b more = refl
+cr_past (x ∷ y ∷ xs) b more = ap (λ l. x ∷ l) (cr_past (y ∷ xs) b more)
+
+and_false : (x : Bool) → (x && false) ≡ false
+and_false true = refl
+and_false false = refl
+
+and_assoc : (x y z : Bool) → ((x && y) && z) ≡ (x && (y && z))
+and_assoc true y z = refl
+and_assoc false y z = refl
+
+all-append : (xs ys : List ℕ) → list_all is_plain (xs ++ ys) ≡ (list_all is_plain xs && list_all is_plain ys)
+all-append [] ys = refl
+all-append (x ∷ xs) ys = ap (λ b. is_plain x && b) (all-append xs ys) ∙ sym (and_assoc (is_plain x) (list_all is_plain xs) (list_all is_plain ys))
+
+not_text : (xs ys : List ℕ) → list_all is_plain ys ≡ false → is_text (xs ++ ys) ≡ false
+not_text xs ys h =
+    ap (λ b. nat_le (length (xs ++ ys)) 65536 && b) (all-append xs ys ∙ ap (λ b. list_all is_plain xs && b) h ∙ and_false (list_all is_plain xs))
+    ∙ and_false (nat_le (length (xs ++ ys)) 65536)
+
+too_long : (xs ys : List ℕ) → 65536 ≤ length xs → 1 ≤ length ys → is_text (xs ++ ys) ≡ false
+too_long xs ys h k =
+    let long : nat_le (length (xs ++ ys)) 65536 ≡ false = grind (arith, nat_tests, length-append xs ys) in
+    ap (λ b. b && list_all is_plain (xs ++ ys)) long
+
+-- what is lost stays so
+pub lost_stays : (line : List ℕ) (b : ℕ) → IsLost line → IsLost (line ++ b ∷ [])
+lost_stays line b h more = ap (λ l. is_text (without_cr l)) (append_assoc line (b ∷ []) more) ∙ h (b ∷ more)
+
+from_here : (bytes : List ℕ) (b : ℕ) (more : List ℕ) (line : List ℕ) → line ≡ bytes
+    → without_cr (line ++ b ∷ [] ++ more) ≡ bytes ++ without_cr (b ∷ more)
+from_here bytes b more line e =
+    ap without_cr (append_assoc line (b ∷ []) more ∙ ap (λ l. l ++ b ∷ more) e) ∙ cr_past bytes b more
+
+-- a CR that is not the last
+pub lost_cr : (bytes line : List ℕ) (b : ℕ) → line ≡ bytes ++ 13 ∷ [] → IsLost (line ++ b ∷ [])
+lost_cr bytes line b e more =
+    let all : without_cr (line ++ b ∷ [] ++ more) ≡ bytes ++ without_cr (13 ∷ b ∷ more) =
+    ap without_cr (append_assoc line (b ∷ []) more ∙ ap (λ l. l ++ b ∷ more) e ∙ append_assoc bytes (13 ∷ []) (b ∷ more))
+    ∙ cr_past bytes 13 (b ∷ more) in
+    ap is_text all ∙ not_text bytes (13 ∷ without_cr (b ∷ more)) refl
+
+unplain : (b : ℕ) (more : List ℕ) → nat_eq b 13 ≡ false → is_plain b ≡ false → list_all is_plain (without_cr (b ∷ more)) ≡ false
+unplain b [] n h = rw n (rw h refl)
+unplain b (c ∷ more) n h = ap (λ x. x && list_all is_plain (without_cr (c ∷ more))) h
+
+-- a byte that is not plain
+pub lost_byte : (bytes line : List ℕ) (b : ℕ) → line ≡ bytes → nat_eq b 13 ≡ false → is_plain b ≡ false → IsLost (line ++ b ∷ [])
+lost_byte bytes line b e n h more = ap is_text (from_here bytes b more line e) ∙ not_text bytes (without_cr (b ∷ more)) (unplain b more n h)
+
+some_left : (b : ℕ) (more : List ℕ) → nat_eq b 13 ≡ false → 1 ≤ length (without_cr (b ∷ more))
+some_left b [] n = rw n (omega arith)
+some_left b (c ∷ more) n = omega arith
+
+-- a byte past the last that may stand
+pub lost_long : (bytes line : List ℕ) (b : ℕ) → line ≡ bytes → nat_eq b 13 ≡ false → 65536 ≤ length bytes → IsLost (line ++ b ∷ [])
+lost_long bytes line b e n h more = ap is_text (from_here bytes b more line e) ∙ too_long bytes (without_cr (b ∷ more)) h (some_left b more n)
+
+both : (x y : Bool) → (x && y) ≡ true → (x ≡ true) × (y ≡ true)
+both true y h = (refl, h)
+both false y h = cc
+
+plain_no_cr : (b : ℕ) → is_plain b ≡ true → nat_eq b 13 ≡ false
+plain_no_cr b h = grind (arith, nat_tests)
+
+-- a line of plain bytes has no CR
+pub plain_whole : (bytes : List ℕ) → list_all is_plain bytes ≡ true → without_cr bytes ≡ bytes
+plain_whole [] h = refl
+plain_whole (b ∷ []) h = rw (plain_no_cr b (both (is_plain b) true h).0) refl
+plain_whole (b ∷ c ∷ bytes) h = ap (λ l. b ∷ l) (plain_whole (c ∷ bytes) (both (is_plain b) (list_all is_plain (c ∷ bytes)) h).1)
+
+pub text_whole : (bytes : List ℕ) → list_all is_plain bytes ≡ true → length bytes ≤ 65536 → is_text bytes ≡ true
+text_whole bytes h k = rw h (grind (arith, nat_tests))
+
+-- what a line of text is
+pub held_text : (has_cr : Bool) (bytes line : List ℕ) → HoldsBy false has_cr bytes line → without_cr line ≡ bytes
+held_text true bytes line h = ap without_cr h.0 ∙ cr_past bytes 13 [] ∙ append-nil bytes
+held_text false bytes line h = ap without_cr (h.0 ∙ append-nil bytes) ∙ plain_whole bytes h.1
+
+pub lost_some : (line : List ℕ) → IsLost line → is_empty line ≡ false
+lost_some [] h = absurd (let bad : true ≡ false = h [] in cc)
+lost_some (b ∷ line) h = refl
+
+none_cr : (bytes : List ℕ) → is_empty (bytes ++ 13 ∷ []) ≡ false
+none_cr [] = refl
+none_cr (b ∷ bytes) = refl
+
+pub cr_some : (bytes line : List ℕ) → HoldsBy false true bytes line → is_empty line ≡ false
+cr_some bytes line h = ap is_empty h.0 ∙ none_cr bytes
+
+none_length : (bytes : List ℕ) → is_empty bytes ≡ nat_eq (length bytes) 0
+none_length [] = refl
+none_length (b ∷ bytes) = grind (arith, nat_tests)
+
+pub plain_some : (bytes line : List ℕ) → HoldsBy false false bytes line → is_empty line ≡ nat_eq (length bytes) 0
+plain_some bytes line h = ap is_empty (h.0 ∙ append-nil bytes) ∙ none_length bytes
+
+-- what is lost is no text
+pub lost_ended : (held : List ℕ) → IsLost held → is_text (without_cr held) ≡ false
+lost_ended held h = ap (λ l. is_text (without_cr l)) (sym (append-nil held)) ∙ h []
+
+-- nor is it with the CR that may stand at its end
+pub lost_cut : (held : List ℕ) → IsLost held → is_text held ≡ false
+lost_cut held h = ⊎_elim
+    (λ (is : is_text held ≡ true). ap is_text (sym (plain_whole held (both (nat_le (length held) 65536) (list_all is_plain held) is).1)) ∙ lost_ended held h)
+    (λ (no : is_text held ≡ false). no)
+    (cases_Bool (is_text held))
+
+-- a line that ends in CR is no text
+pub cr_cut : (bytes held : List ℕ) → HoldsBy false true bytes held → is_text held ≡ false
+cr_cut bytes held h = ap is_text h.0 ∙ not_text bytes (13 ∷ []) refl

@@ -1,0 +1,61 @@
+-- The texts of faults.
+use Rattle.std.specs.Prelude.{◌++◌, ℕ, List, [], codes, decimal, if◌then◌else◌}
+use Rattle.rrd_base.specs.declared.refusal.Refusal.{Refusal}
+use Rattle.rrd_base.specs.declared.refusal.Refusal.TheVariants as refusal
+use Rattle.rrd_tool.specs.Named.{is_numbered, word_of}
+use Rattle.rrd_tool.specs.declared.command.LineFault.{LineFault}
+use Rattle.rrd_tool.specs.declared.command.LineFault.TheVariants as line
+use Rattle.rrd_tool.specs.declared.command.Part.{Part}
+use Rattle.rrd_tool.specs.declared.faults.Fault.{Fault}
+use Rattle.rrd_tool.specs.declared.faults.Fault.TheVariants.{Line, Refused, NoDatabase, Output}
+
+abbrev pub refusal_text : Refusal → List ℕ
+refusal_text refusal.BadStep = codes "bad step"
+refusal_text refusal.BadStart = codes "bad start"
+refusal_text refusal.NoSource = codes "no data source"
+refusal_text refusal.NoArchive = codes "no archive"
+refusal_text refusal.BadName = codes "bad name"
+refusal_text refusal.DoubleName = codes "double name"
+refusal_text refusal.BadHeartbeat = codes "bad heartbeat"
+refusal_text refusal.BadBounds = codes "bad bounds"
+refusal_text refusal.BadXff = codes "bad xff"
+refusal_text refusal.BadSteps = codes "bad steps"
+refusal_text refusal.BadRows = codes "bad rows"
+refusal_text refusal.TooLarge = codes "too large"
+refusal_text refusal.BadDepth = codes "bad journal depth"
+refusal_text refusal.NoSuchSource = codes "no such data source"
+refusal_text refusal.WrongCount = codes "wrong number of values"
+refusal_text refusal.BadValue = codes "bad value"
+refusal_text (refusal.NotLater last) = codes "not later than " ++ decimal last
+refusal_text refusal.NoSample = codes "no sample"
+refusal_text refusal.NothingToTune = codes "nothing to tune"
+refusal_text refusal.NoSuchArchive = codes "no such archive"
+refusal_text refusal.ShrinkTooFar = codes "shrinks too far"
+refusal_text refusal.NothingToRevert = codes "nothing to revert"
+refusal_text refusal.NoArchiveForFunction = codes "no archive for this function"
+refusal_text refusal.SpanTooLong = codes "span too long"
+refusal_text refusal.BadSpan = codes "bad span"
+refusal_text refusal.OutOfMemory = codes "out of memory"
+refusal_text refusal.BadTime = codes "bad time"
+
+-- the part that can't be read; of definitions and samples also which one
+abbrev pub unread_text : Part → ℕ → List ℕ
+unread_text part number = codes "unreadable " ++ word_of part ++ (if is_numbered part then codes " " ++ decimal number else [])
+
+abbrev pub line_fault_text : LineFault → List ℕ
+line_fault_text line.Usage = codes "usage"
+line_fault_text (line.BadWord part number) = unread_text part number
+line_fault_text line.OutOfMemory = codes "out of memory"
+
+abbrev pub fault_text : Fault → List ℕ
+fault_text (Line fault) = line_fault_text fault
+fault_text (Refused fault) = refusal_text fault
+fault_text NoDatabase = codes "no database"
+fault_text Output = codes "write failed"
+
+abbrev pub error_line : List ℕ → List ℕ
+error_line text = codes "ERROR: " ++ text ++ codes "\n"
+
+-- what is written for a fault
+abbrev pub fault_line : Fault → List ℕ
+fault_line fault = error_line (fault_text fault)
