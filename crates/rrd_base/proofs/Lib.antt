@@ -17,3 +17,4 @@ pub mod Staying
 pub mod Fitting
 pub mod EachLemmas
 pub mod Created
+pub mod StoreLemmas

@@ -10,3 +10,4 @@ pub mod Worked
 pub mod WorkedCommands
 pub mod Each
 pub mod Creating
+pub mod Store

@@ -8,6 +8,7 @@ mod list;
 pub mod preparing;
 mod refusal;
 mod resize;
+pub mod store;
 mod tune;
 mod update;
 
