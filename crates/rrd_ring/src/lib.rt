@@ -8,3 +8,6 @@ mod table;
 
 pub use archive::Archive;
 pub use dropped::Dropped;
+
+#[cfg(test)]
+mod tests;

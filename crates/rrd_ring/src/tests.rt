@@ -1,0 +1,132 @@
+//! An archive of 3 rows and 1 source, each call of it once, and each call that takes memory also
+//! where a growth is refused: a run under `rt try --test --fail-alloc N` refuses the Nth one.
+ghost use Rattle.std.specs.Prelude.{◌≡◌, length};
+ghost use Rattle.rrd_ring.specs.Rows.{width, HasWidth};
+
+use crate::{Archive, Dropped};
+use rrd_fixed::{Cell, Meter};
+use std::alloc::AllocError;
+use std::process::Abort;
+use std::test::Fail;
+
+const UNKNOWN: Cell = Cell::Unknown;
+
+const ONE: Cell = Cell::Known(1);
+
+const TWO: Cell = Cell::Known(2);
+
+const THREE: Cell = Cell::Known(3);
+
+const FOUR: Cell = Cell::Known(4);
+
+const FIVE: Cell = Cell::Known(5);
+
+const SIX: Cell = Cell::Known(6);
+
+// The archive has these rows, of one cell each.
+fn assert_rows(rt: &impl Abort, archive: &Archive, cells: &[Cell])
+    ensures count { length archive.now ≡ length cells.now }
+    ensures one_source { width archive.now ≡ 1 }
+    ensures each_row { HasWidth 1 archive.now }
+{
+    assert_eq!(rt; archive.rows(), cells.len() as u64);
+    assert_eq!(rt; archive.sources(), 1);
+    for (i, cell) in cells.iter().enumerate() {
+        assert_eq!(rt; archive.row(i as u64), [*cell].as_slice());
+    }
+}
+
+// The same of dropped rows.
+fn assert_dropped(rt: &impl Abort, dropped: &Dropped, cells: &[Cell])
+    ensures { length dropped.now ≡ length cells.now }
+{
+    assert_eq!(rt; dropped.len(), cells.len() as u64);
+    for (i, cell) in cells.iter().enumerate() {
+        assert_eq!(rt; dropped.row(i as u64), [*cell].as_slice());
+    }
+}
+
+// Pushes a row of one cell, which is one turn.
+fn push(rt: &impl Abort, archive: &mut Archive, cell: Cell) {
+    assert_eq!(rt; archive.sources(), 1);
+    let mut meter = Meter::new();
+    archive.push_row(&[cell], &mut meter);
+    assert_eq!(rt; meter.turns(), 1);
+}
+
+#[test]
+fn archive_as_list(rt: HostRuntime) -> Result<(), Fail> {
+    let alloc = rt.alloc();
+    let mut archive = Archive::new(alloc, 3, 1)?;
+    assert_rows(&rt, &archive, &[UNKNOWN, UNKNOWN, UNKNOWN]);
+    for cell in [ONE, TWO, THREE, FOUR] {
+        push(&rt, &mut archive, cell);
+    }
+    assert_rows(&rt, &archive, &[TWO, THREE, FOUR]);
+    let dropped = archive.oldest(alloc, 2)?;
+    assert_dropped(&rt, &dropped, &[TWO, THREE]);
+    for cell in [FIVE, SIX] {
+        push(&rt, &mut archive, cell);
+    }
+    assert_rows(&rt, &archive, &[FOUR, FIVE, SIX]);
+    archive.put_back(dropped);
+    assert_rows(&rt, &archive, &[TWO, THREE, FOUR]);
+    assert_rows(&rt, &archive.resized(alloc, 2)?, &[THREE, FOUR]);
+    assert_rows(
+        &rt,
+        &archive.resized(alloc, 5)?,
+        &[UNKNOWN, UNKNOWN, TWO, THREE, FOUR],
+    );
+    assert_dropped(&rt, &Dropped::new(alloc, 2, 1)?, &[UNKNOWN, UNKNOWN]);
+    Ok(())
+}
+
+#[test]
+fn rows_are_written_and_swapped(rt: HostRuntime) -> Result<(), Fail> {
+    let alloc = rt.alloc();
+    let mut archive = Archive::new(alloc, 2, 1)?;
+    archive.row_mut(1).copy_from_slice(&[ONE]);
+    let mut other = Archive::new(alloc, 1, 1)?;
+    archive.swap(&mut other);
+    assert_rows(&rt, &archive, &[UNKNOWN]);
+    assert_rows(&rt, &other, &[UNKNOWN, ONE]);
+    let mut dropped = Dropped::new(alloc, 2, 1)?;
+    dropped.row_mut(0).copy_from_slice(&[TWO]);
+    assert_dropped(&rt, &dropped, &[TWO, UNKNOWN]);
+    Ok(())
+}
+
+// Where a call finds no memory the archive is as before, and the same call is answered once there is
+// memory: a run refuses one growth alone.
+#[test]
+fn refused_growth_changes_nothing(rt: HostRuntime) -> Result<(), Fail> {
+    let alloc = rt.alloc();
+    let mut archive = match Archive::new(alloc, 2, 1) {
+        Ok(archive) => archive,
+        Err(AllocError) => Archive::new(alloc, 2, 1)?,
+    };
+    push(&rt, &mut archive, ONE);
+    assert_rows(&rt, &archive, &[UNKNOWN, ONE]);
+    let dropped = match archive.oldest(alloc, 2) {
+        Ok(dropped) => dropped,
+        Err(AllocError) => {
+            assert_rows(&rt, &archive, &[UNKNOWN, ONE]);
+            archive.oldest(alloc, 2)?
+        }
+    };
+    assert_dropped(&rt, &dropped, &[UNKNOWN, ONE]);
+    let grown = match archive.resized(alloc, 3) {
+        Ok(grown) => grown,
+        Err(AllocError) => {
+            assert_rows(&rt, &archive, &[UNKNOWN, ONE]);
+            archive.resized(alloc, 3)?
+        }
+    };
+    assert_rows(&rt, &grown, &[UNKNOWN, UNKNOWN, ONE]);
+    let fresh = match Dropped::new(alloc, 1, 1) {
+        Ok(fresh) => fresh,
+        Err(AllocError) => Dropped::new(alloc, 1, 1)?,
+    };
+    assert_dropped(&rt, &fresh, &[UNKNOWN]);
+    Ok(())
+}
