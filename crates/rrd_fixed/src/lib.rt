@@ -10,6 +10,8 @@ mod number;
 mod rates;
 mod raw;
 mod rounding;
+#[cfg(test)]
+mod tests;
 mod text;
 mod writing;
 

@@ -43,7 +43,7 @@ impl Name {
     pub fn good(&self) -> bool
         ensures { result ≡ is_good self.now }
     {
-        let bytes = self.text.as_str().as_bytes();
+        let bytes = self.as_str().as_bytes();
         !bytes.is_empty() && all_letters(bytes)
     }
 
@@ -66,7 +66,7 @@ impl Name {
     pub fn same(&self, other: &Name) -> bool
         ensures { result ≡ same_name self.now other.now }
     {
-        self.text.as_str() == other.text.as_str()
+        self.as_str() == other.as_str()
     }
 }
 
