@@ -1,5 +1,5 @@
 -- Words whose first is neither a subcommand's name nor a flag are refused.
-use Rattle.std.proofs.Common.{◌≡◌, ◌∙◌, ap, sym, refl, codes, Bool, true, false, List, [], ◌∷◌, Option, Some, None, is_some, nat_eq}
+use Rattle.std.proofs.Common.{◌≡◌, ◌∙◌, ap, sym, refl, codes, Bool, true, false, List, [], ◌∷◌, None, is_some}
 use Rattle.std.specs.Str.{bytes_eq}
 use Rattle.std.proofs.lemmas.Slice.Eq.{bytes_eq-Decides}
 use Rattle.clap.specs.Words.{App, Kinds, Shape, Text, fault_of}

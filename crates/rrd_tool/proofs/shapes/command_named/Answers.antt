@@ -1,4 +1,4 @@
-use Rattle.std.proofs.Common.{◌≡◌, ◌∙◌, sym, codes, ◌∷◌}
+use Rattle.std.proofs.Common.{◌∙◌, sym, codes, ◌∷◌}
 use Rattle.rrd_tool.specs.Shapes.{create_app, update_app, fetch_app, tune_app, resize_app}
 use Rattle.rrd_tool.proofs.Fast.{serves_as, whole_serves, same_name, create_serves, update_serves, fetch_serves, tune_serves, resize_serves, last_serves, revert_serves}
 use Rattle.rrd_tool.proofs.Unknown.{unknown_refused}

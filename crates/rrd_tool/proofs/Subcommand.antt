@@ -1,0 +1,90 @@
+-- What the parts of a subcommand's matches say of the whole, and that there is one.
+use Rattle.std.proofs.Common.{◌≡◌, ◌∙◌, ℕ, ◌&&◌, Bool, List, Option, Some, None, [], ◌∷◌, ap, ap₂, refl, sym, true, false, is_some, option_map, not, Result, Ok, Err, IfSome}
+use Rattle.std.specs.Prelude.{Box}
+use Rattle.clap.specs.Words.{App, Kinds, Row, Shape, Text, built, fault_of, rows_of, found_of, subcommand_of, subcommand_rows}
+use Rattle.clap.specs.Kinds.{check_kinds, or_else}
+use Rattle.clap.specs.Faults.{check_fault, defaults_fault, entered_fault, level_fault, settle_fault, walk_fault}
+use Rattle.clap.specs.Walk.{Held, Names, finished, nothing_held, settled, walk, walk_from}
+use Rattle.clap.specs.Simple.{argument_words, names_of}
+use Rattle.clap.specs.Facts.{explicit_source}
+use Rattle.clap.specs.Takes.{is_given}
+use Rattle.std.specs.List.{list_any}
+use Rattle.clap.specs.declared.parser.matches.SubCommand.{SubCommand}
+use Rattle.clap.specs.declared.parser.matches.ArgMatches.TheViews.{out-SubCommand}
+use Rattle.std.specs.Box.{box_value}
+use Rattle.clap.proofs.OnLiterals.{clap_on_literals}
+use Rattle.rrd_tool.specs.Shapes.{rrdi_app, with_options, create_app, update_app, fetch_app, tune_app, resize_app}
+use Rattle.rrd_tool.specs.Parsed.{IsTaken, entered_of}
+use Rattle.rrd_tool.specs.Reading.{IsReading, line_of}
+use Rattle.rrd_tool.specs.Unread.{Meets}
+use Rattle.rrd_tool.specs.declared.command.Command.{Command}
+use Rattle.rrd_tool.specs.declared.command.LineFault.{LineFault}
+use Rattle.rrd_tool.specs.declared.command.LineFault.TheVariants.{Usage, BadWord, OutOfMemory}
+
+last_empty : (a b : Kinds) → or_else a b ≡ [] → b ≡ []
+last_empty [] b h = h
+last_empty (k ∷ ks) b h = cc
+
+never_without : (w a x : Bool) → a ≡ true → check_kinds w a x ≡ [] → ⊥
+never_without true a x r h = cc
+never_without false true x r h = cc
+never_without false false x r h = cc
+
+enters : (s : Shape) (rows : List Row) (has : Bool) → s.subcommand_required ≡ true → check_fault s rows has ≡ [] → has ≡ true
+enters s rows true r h = refl
+enters s rows false r h = absurd (never_without
+    (s.arg_required_else_help && not (list_any (λ r. explicit_source r.source) rows)) s.subcommand_required
+    (not (s.subcommand_negates_reqs && false) && list_any (λ a. a.required && not (is_given a.id rows)) s.rules)
+    r h)
+
+level_last : (s : Shape) (names : Names) (h : Held) (words : List Text) (has : Bool) (below : Kinds)
+    → level_fault s names h words has below ≡ [] → check_fault s (finished s.rules (walk s.rules names h words).held) has ≡ []
+level_last s names h words has below e =
+    let end = (walk s.rules names h words).held in
+    let d = check_fault s (finished s.rules end) has in
+    let c = or_else (defaults_fault (settled s.rules end).rows s.rules) d in
+    let b = or_else (settle_fault s.rules s.args_override_self end) c in
+    last_empty (defaults_fault (settled s.rules end).rows s.rules) d
+    (last_empty (settle_fault s.rules s.args_override_self end) c
+    (last_empty below b (last_empty (walk_fault s names (walk_from h) words) (or_else below b) e)))
+
+-- words that a command with a required subcommand takes name one
+app_enters : (a : App) (words : List Text) → (built a).top.subcommand_required ≡ true → fault_of a words ≡ []
+    → is_some (subcommand_of a words) ≡ true
+app_enters a words r e =
+    let w = argument_words a words in
+    let at = walk (built a).top.rules (names_of (built a)) nothing_held w in
+    enters (built a).top (finished (built a).top.rules at.held) (is_some (subcommand_of a words)) r
+    (level_last (built a).top (names_of (built a)) nothing_held w (is_some (subcommand_of a words))
+    (entered_fault (built a) at.stopped) e)
+
+rrdi_wants : (built rrdi_app).top.subcommand_required ≡ true
+unfolding rrdi_app with_options create_app update_app fetch_app tune_app resize_app clap_on_literals
+rrdi_wants = refl
+
+-- words that clap takes name a subcommand
+pub taken_enters : (words : List Text) → IsTaken words → is_some (entered_of words) ≡ true
+unfolding entered_of
+taken_enters words h = app_enters rrdi_app words rrdi_wants h
+
+module _ {Z : Type 0} where
+  pub joined : (sub : Option (Box SubCommand Z)) (name : Text) (rows : List Row)
+      → Some name ≡ option_map (λ b. (out-SubCommand (box_value b)).name.now) sub
+      → Some rows ≡ option_map (λ p. p.1) (subcommand_rows sub) → subcommand_rows sub ≡ Some (name, rows)
+  joined None name rows e f = cc
+  joined (Some b) name rows e f =
+      let first : (out-SubCommand (box_value b)).name.now ≡ name = cc in
+      let second : rows_of (found_of (out-SubCommand (box_value b)).matches) ≡ rows = cc in
+      ap₂ (λ n r. Some (n, r)) first second
+
+-- what the matches' subcommand is read as is what the words are read as
+pub read_from : (words : List Text) (now : ℕ) (sub : Option (Text × List Row)) (r : Result Command LineFault)
+    → IsTaken words → sub ≡ entered_of words → is_some sub ≡ true
+    → IfSome sub (λ p. Meets (line_of p.0 p.1 now) r) → IsReading words now r
+read_from words now None r t e s h = cc
+read_from words now (Some p) (Ok c) t e s h =
+    (t, ap (option_map (λ p. line_of p.0 p.1 now)) (sym e) ∙ ap (λ x. Some x) h)
+read_from words now (Some p) (Err Usage) t e s h = absurd h
+read_from words now (Some p) (Err OutOfMemory) t e s h = tt
+read_from words now (Some p) (Err (BadWord q n)) t e s h =
+    (t, ap (option_map (λ p. line_of p.0 p.1 now)) (sym e) ∙ ap (λ x. Some x) h)
