@@ -5,3 +5,7 @@ pub mod Fast
 pub mod Unknown
 pub mod LineLemmas
 pub mod WordLemmas
+pub mod Pieces
+pub mod Each
+pub mod Defined
+pub mod Subcommand

@@ -4,3 +4,7 @@ pub mod Serves
 pub mod Lines
 pub mod Held
 pub mod Faults
+pub mod Parsed
+pub mod Unread
+pub mod Texts
+pub mod Reading

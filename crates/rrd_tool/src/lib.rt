@@ -5,9 +5,13 @@ mod command;
 pub mod faults;
 pub mod input;
 pub mod lines;
-pub mod shapes;
+mod parse;
+mod reading;
+mod shapes;
+mod texts;
 mod words;
 
 pub use command::{Command, LineFault, Part};
 pub use faults::{Fault, write_fault};
+pub use reading::read_command;
 pub use words::Words;
