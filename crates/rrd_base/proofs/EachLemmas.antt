@@ -1,16 +1,18 @@
 -- Item by item, and a loop's step.
-use Rattle.std.proofs.Common.{◌≡◌, refl, ◌∙◌, ap, ℕ, zero, suc, ◌+◌, ◌<◌, ◌≤◌, List, [], ◌∷◌, ◌++◌, length, take, drop, map, get_or, set, replicate, arith, take_all, append-nil}
+use Rattle.std.proofs.Common.{◌≡◌, refl, ◌∙◌, ap, subst, ℕ, zero, suc, ◌+◌, ◌<◌, ◌≤◌, List, [], ◌∷◌, ◌++◌, length, take, drop, map, get_or, set, replicate, arith, take_all, append-nil}
 use Rattle.std.proofs.lemmas.List.{drop_all}
 use Rattle.std.specs.List.{fold, AllByRecursion}
 use Rattle.rrd_fixed.specs.declared.cell.Cell.{Cell}
 use Rattle.rrd_fixed.specs.declared.raw.Raw.{Raw}
 use Rattle.rrd_fixed.specs.Rate.{rate, IsAccepted}
 use Rattle.rrd_fold.specs.declared.function.Function.{Function}
+use Rattle.rrd_fold.specs.declared.function.Function.TheVariants.{Average}
 use Rattle.rrd_fold.specs.Parts.{Part, nothing, with_cell, with_each}
 use Rattle.rrd_fold.specs.Bounds.{Consolidating}
 use Rattle.rrd_base.specs.declared.definition.DsDef.{DsDef}
 use Rattle.rrd_base.specs.History.{rates}
-use Rattle.rrd_base.specs.Validity.{AreAccepted, AreParts}
+use Rattle.rrd_base.specs.Validity.{AreAccepted, AreParts, IsRow}
+use Rattle.rrd_base.proofs.Bounded.{steps_keep}
 use Rattle.rrd_base.specs.Each.{map_each, with_step, anew, parts_in, AllOf}
 
 -- ---- what holds of each item
@@ -150,3 +152,15 @@ AllOf-with_step function (prep ∷ preps) (cell ∷ step) of = (of.0, AllOf-with
 pub AllOf-anew : (function : Function) (preps : List Consolidating) → AllOf function preps → AllOf function (map anew preps)
 AllOf-anew function [] of = tt
 AllOf-anew function (prep ∷ preps) of = (of.0, AllOf-anew function preps of.1)
+
+-- no more known cells than there were cells
+pub parts_known : (function : Function) (sources passed : ℕ) (parts : List Part) → AreParts function sources passed parts → AllByRecursion (λ (p : Part). p.known ≤ passed) parts
+parts_known function sources passed parts is = All-weaker _ _ parts (λ p of. of.few) is.each
+
+-- the parts after more seconds of a step
+pub parts_more : (step sources passed more : ℕ) (parts : List Part) (row : List Cell) → 0 < step → passed + more ≤ step → AreParts Average sources passed parts → IsRow sources row → AreParts Average sources (passed + more) (fold (with_each Average) parts (replicate more row))
+parts_more step sources passed zero parts row some h is of = subst (λ (n : ℕ). AreParts Average sources n parts) {x = passed} {y = passed + 0} (omega arith) is
+parts_more step sources passed (suc more) parts row some h is of =
+    let next = (steps_keep step sources some).adds passed parts row (omega arith) is of in
+    let rest = parts_more step sources (passed + 1) more (with_each Average parts row) row some (omega arith) next of in
+    subst (λ (n : ℕ). AreParts Average sources n (fold (with_each Average) (with_each Average parts row) (replicate more row))) {x = passed + 1 + more} {y = passed + suc more} (omega arith) rest

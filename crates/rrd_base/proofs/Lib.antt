@@ -18,3 +18,4 @@ pub mod Fitting
 pub mod EachLemmas
 pub mod Created
 pub mod StoreLemmas
+pub mod PutBack

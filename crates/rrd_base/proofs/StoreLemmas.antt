@@ -11,13 +11,13 @@ use Rattle.rrd_fold.specs.Bounds.{Consolidating}
 use Rattle.rrd_ring.specs.Rows.{width}
 use Rattle.rrd_base.specs.declared.definition.RraDef.{RraDef}
 use Rattle.rrd_base.specs.Rules.{rows_rule}
-use Rattle.rrd_base.specs.History.{Archive, keep_last}
+use Rattle.rrd_base.specs.History.{Archive}
 use Rattle.rrd_base.specs.Passed.{archive_passed}
-use Rattle.rrd_base.specs.Validity.{IsPart, AreParts, IsRow, IsValidArchive}
+use Rattle.rrd_base.specs.Validity.{AreParts, IsRow, IsValidArchive}
 use Rattle.rrd_base.specs.Each.{map_each, with_step, anew, row_of, parts_in, AllOf}
 use Rattle.rrd_base.proofs.PassedLemmas.{archive_step_within, archive_step_filling}
 use Rattle.rrd_base.proofs.RowLemmas.{length-keep_last}
-use Rattle.rrd_base.proofs.Kept.{All-append, Kept, kept}
+use Rattle.rrd_base.proofs.Kept.{All-append, kept}
 use Rattle.rrd_base.proofs.Bounded.{rows_keep}
 use Rattle.rrd_base.proofs.EachLemmas.{All-weaker, parts_in-with_step, parts_in-anew, AllOf-with_step}
 

@@ -3,9 +3,10 @@ ghost use Rattle.std.specs.Prelude.{◌≡◌, ℕ, ◌+◌, ◌-◌, ◌*◌, �
 ghost use Rattle.std.specs.List.{AllByRecursion};
 ghost use Rattle.rrd_fixed.specs.declared.cell.Cell.TheVariants.{Unknown};
 ghost use Rattle.rrd_fold.specs.Parts.{nothing};
-ghost use Rattle.rrd_ring.specs.Rows.{HasWidth, row_at, width};
-ghost use Rattle.rrd_base.specs.Entries.{put_back as after_put_back};
+ghost use Rattle.rrd_ring.specs.Rows.{newest_rows, row_at};
+ghost use Rattle.rrd_base.specs.Entries.{dropped, put_back as after_put_back, put_back_each};
 ghost use Rattle.rrd_base.specs.Passed.{archive_passed};
+ghost use Rattle.rrd_base.specs.Store.{CanPutBack, CanPutBackEach, IsStepped, befores, functions, saved_functions};
 ghost use Rattle.rrd_base.specs.Validity.{IsRow, IsValidArchive};
 
 use crate::RraDef;
@@ -144,16 +145,53 @@ impl Store {
         })
     }
 
+    // A copy of what an update from one time to another takes from the archive, steps of so many
+    // seconds being taken.
+    fn save_between(
+        &self,
+        alloc: Global,
+        step: u64,
+        from: u64,
+        to: u64,
+    ) -> Result<Saved, AllocError>
+        requires stepped { IsStepped self.now }
+        requires some_step { 0 < step }
+        requires small_step { step ≤ 1000000 }
+        ensures { IfOk result (λ saved. saved ≡ record { function = self.now.def.function; before = dropped step from to self.now }) }
+    {
+        let resolution = step * self.def.steps;
+        let ended = (to / resolution).saturating_sub(from / resolution);
+        self.save(alloc, ended.min(self.rows.rows()))
+    }
+
     /// Puts preparations and rows back. As many of the newest rows fall out. It takes no memory.
     pub fn put_back(&mut self, saved: Saved)
         requires function { saved.function ≡ self.old.def.function }
-        requires fits { length saved.before.rows ≤ length self.old.rows }
-        requires one_width { HasWidth (width self.old.rows) saved.before.rows }
+        requires fits { CanPutBack self.old saved.before }
         ensures { self.new ≡ after_put_back self.old saved.before }
     {
         let Saved { preps, rows, .. } = saved;
         self.preps = preps;
         self.rows.put_back(rows);
+    }
+
+    /// The rows, so many of them (1 to 1,000,000): the newest, or all after unknown ones
+    /// (rrdresize).
+    pub fn resized(&self, alloc: Global, rows: u64) -> Result<Archive, AllocError>
+        requires some_rows { 0 < rows }
+        requires few_rows { rows ≤ 1000000 }
+        ensures { IfOk result (λ new. new ≡ newest_rows rows self.now.rows) }
+    {
+        self.rows.resized(alloc, rows)
+    }
+
+    /// Takes these rows for its own, and gives its own for them. It takes no memory.
+    pub fn swap_rows(&mut self, rows: &mut Archive)
+        ensures mine { self.new ≡ record self.old { def = record self.old.def { rows = length rows.old }; rows = rows.old } }
+        ensures others { rows.new ≡ self.old.rows }
+    {
+        self.def.rows = rows.rows();
+        self.rows.swap(rows);
     }
 }
 
@@ -179,5 +217,39 @@ pub fn take_all(
 {
     for i in 0..stores.len() {
         stores[i].take(step, number, row, meter);
+    }
+}
+
+/// A copy of what an update from one time to another takes from each archive, steps of so many
+/// seconds being taken.
+pub fn save_all(
+    alloc: Global,
+    stores: &[Store],
+    step: u64,
+    from: u64,
+    to: u64,
+) -> Result<Vec<Saved>, AllocError>
+    requires stepped { AllByRecursion IsStepped stores.now }
+    requires some_step { 0 < step }
+    requires small_step { step ≤ 1000000 }
+    ensures values { IfOk result (λ saved. befores saved.items ≡ map (dropped step from to) stores.now) }
+    ensures functions { IfOk result (λ saved. saved_functions saved.items ≡ functions stores.now) }
+{
+    let mut all = Vec::with_capacity(alloc, stores.len())?;
+    for store in stores {
+        let saved = store.save_between(alloc, step, from, to)?;
+        all.push(saved)?;
+    }
+    Ok(all)
+}
+
+/// Puts back what was kept of each archive. It takes no memory.
+pub fn put_back_all(stores: &mut [Store], mut saved: Vec<Saved>)
+    requires functions { saved_functions saved.items ≡ functions stores.old }
+    requires fits { CanPutBackEach stores.old (befores saved.items) }
+    ensures { stores.new ≡ put_back_each stores.old (befores saved.items) }
+{
+    while let Some(old) = saved.pop() {
+        stores[saved.len()].put_back(old);
     }
 }

@@ -1,4 +1,4 @@
-use Rattle.std.proofs.Common.{◌≡◌, ℕ, ◌∙◌, ap, subst, suc, ◌+◌, ◌-◌, ◌*◌, ◌++◌, ◌<◌, ◌≤◌, [], ◌∷◌, take, drop, map, length, set, get_or, arith}
+use Rattle.std.proofs.Common.{◌≡◌, ℕ, ◌∙◌, ap, subst, suc, ◌+◌, ◌-◌, ◌++◌, ◌<◌, [], ◌∷◌, take, drop, map, length, set, get_or, arith}
 use Rattle.std.specs.List.{AllByRecursion}
 use Rattle.rrd_base.specs.Passed.{archive_passed}
 use Rattle.rrd_base.specs.Validity.{IsValidArchive}

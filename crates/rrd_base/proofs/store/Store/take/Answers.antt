@@ -1,12 +1,10 @@
-use Rattle.std.proofs.Common.{◌≡◌, sym, ◌∙◌, ap, subst, ◌+◌, ◌-◌, ◌≤◌, ◌<◌, [], ◌∷◌, ◌++◌, List, length, drop, map, pos, FitsSigned, arith}
+use Rattle.std.proofs.Common.{◌≡◌, sym, ◌∙◌, ap, subst, ◌-◌, ◌≤◌, ◌<◌, [], ◌∷◌, ◌++◌, List, length, drop, map, pos, FitsSigned, arith}
 use Rattle.std.proofs.lemmas.Int.{ints, to_z-of_z}
 use Rattle.std.proofs.lemmas.List.{with_items_is, length-map}
 use Rattle.std.specs.Int.{w128}
 use Rattle.std.specs.List.{AllByRecursion}
 use Rattle.std.specs.Vec.{with_items}
-use Rattle.rrd_fixed.specs.declared.cell.Cell.{Cell}
 use Rattle.rrd_fold.specs.Bounds.{Consolidating}
-use Rattle.rrd_base.specs.History.{Archive}
 use Rattle.rrd_base.specs.Passed.{archive_passed}
 use Rattle.rrd_base.specs.Validity.{IsValidArchive}
 use Rattle.rrd_base.specs.Each.{map_each, with_step, anew, row_of, AllOf}

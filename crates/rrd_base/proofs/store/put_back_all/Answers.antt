@@ -1,0 +1,74 @@
+use Rattle.std.proofs.Common.{◌≡◌, ℕ, sym, ◌∙◌, ap, subst, suc, ◌-◌, ◌+◌, ◌++◌, ◌<◌, take, drop, length, set, get_or, vec_len, arith}
+use Rattle.rrd_base.specs.History.{Archive}
+use Rattle.rrd_base.specs.Entries.{put_back, put_back_each}
+use Rattle.rrd_base.specs.Store.{SavedArchive, CanPutBack, befores}
+use Rattle.rrd_base.proofs.PutBack.{front_short, front_of, popped, put_back_next, put_back_more, as_many, can_at, function_at}
+use Rattle.rrd_base.proofs.store.put_back_all.Goals as goal
+
+pub put_back-requires-clause-function : goal.put_back-requires-clause-function
+put_back-requires-clause-function c =
+    let stores = c.args.stores.now in
+    let saved = c.args.saved.items in
+    let k : ℕ = c.len.result in
+    let old = c.in-Some.old in
+    let d = c.index-stores-len.result in
+    let left = vec_len c.loop-old.saved in
+    let more = c.in-Some.ensures.cases in
+    let few = front_short left saved c.loop-old.saved.items c.loop-old.invariant.left (sym c.loop-old.saved.ok.0) in
+    let count : left ≡ k + 1 = omega (arith, more) in
+    let within : k < length stores = omega (arith, few, as_many stores saved c.requires.fits) in
+    let this = popped left k saved c.loop-old.saved.items old c.loop-old.invariant.left count (cc (c.in-Some.ensures.value old (omega (arith, more)))) in
+    let here : get_or c.loop-old.stores k d ≡ get_or stores k d
+    = ap (λ archives. get_or archives k d) c.loop-old.invariant.value
+    ∙ ap (λ n. get_or (take n stores ++ put_back_each (drop n stores) (drop n (befores saved))) k d) {x = left} {y = suc k} (omega (arith, count))
+    ∙ put_back_next k stores (befores saved) d within in
+    ap (λ (s : SavedArchive). s.function) this ∙ function_at k stores saved d old c.requires.functions within ∙ sym (ap (λ (a : Archive). a.def.function) here)
+
+pub put_back-requires-clause-fits : goal.put_back-requires-clause-fits
+put_back-requires-clause-fits c =
+    let stores = c.args.stores.now in
+    let saved = c.args.saved.items in
+    let k : ℕ = c.len.result in
+    let old = c.in-Some.old in
+    let d = c.index-stores-len.result in
+    let left = vec_len c.loop-old.saved in
+    let more = c.in-Some.ensures.cases in
+    let few = front_short left saved c.loop-old.saved.items c.loop-old.invariant.left (sym c.loop-old.saved.ok.0) in
+    let count : left ≡ k + 1 = omega (arith, more) in
+    let within : k < length stores = omega (arith, few, as_many stores saved c.requires.fits) in
+    let this = popped left k saved c.loop-old.saved.items old c.loop-old.invariant.left count (cc (c.in-Some.ensures.value old (omega (arith, more)))) in
+    let here : get_or c.loop-old.stores k d ≡ get_or stores k d
+    = ap (λ archives. get_or archives k d) c.loop-old.invariant.value
+    ∙ ap (λ n. get_or (take n stores ++ put_back_each (drop n stores) (drop n (befores saved))) k d) {x = left} {y = suc k} (omega (arith, count))
+    ∙ put_back_next k stores (befores saved) d within in
+    subst (λ (a : Archive). CanPutBack a old.before) (sym here)
+    (subst (λ (s : SavedArchive). CanPutBack (get_or stores k d) s.before) (sym this) (can_at k stores saved d old c.requires.fits within))
+
+pub loop-old-preserved : goal.loop-old-preserved
+loop-old-preserved c =
+    let stores = c.args.stores.now in
+    let saved = c.args.saved.items in
+    let k : ℕ = c.len.result in
+    let old = c.in-Some.old in
+    let d = c.index-stores-len.result in
+    let new = c.put_back.new.self in
+    let left = vec_len c.loop-old.saved in
+    let more = c.in-Some.ensures.cases in
+    let few = front_short left saved c.loop-old.saved.items c.loop-old.invariant.left (sym c.loop-old.saved.ok.0) in
+    let count : left ≡ k + 1 = omega (arith, more) in
+    let within : k < length stores = omega (arith, few, as_many stores saved c.requires.fits) in
+    let held : k < length saved = omega (arith, as_many stores saved c.requires.fits) in
+    let this = popped left k saved c.loop-old.saved.items old c.loop-old.invariant.left count (cc (c.in-Some.ensures.value old (omega (arith, more)))) in
+    let was : c.loop-old.stores ≡ take (suc k) stores ++ put_back_each (drop (suc k) stores) (drop (suc k) (befores saved))
+    = c.loop-old.invariant.value ∙ ap (λ n. take n stores ++ put_back_each (drop n stores) (drop n (befores saved))) {x = left} {y = suc k} (omega (arith, count)) in
+    let here : get_or c.loop-old.stores k d ≡ get_or stores k d = ap (λ archives. get_or archives k d) was ∙ put_back_next k stores (befores saved) d within in
+    let back : new ≡ put_back (get_or stores k d) (get_or saved k old).before
+    = c.put_back.ensures ∙ ap (λ a. put_back a old.before) here ∙ ap (λ (s : SavedArchive). put_back (get_or stores k d) s.before) this in
+    let now = c.len.ensures in
+    record {
+      left = c.in-Some.ensures.rest ∙ ap (take (left - 1)) c.loop-old.invariant.left
+          ∙ ap (λ n. take n (take left saved)) {x = left - 1} {y = k} (omega (arith, count))
+          ∙ ap (λ n. take k (take n saved)) {x = left} {y = suc k} (omega (arith, count)) ∙ front_of k saved ∙ ap (λ n. take n saved) now;
+      value = ap (λ archives. set archives k new) was ∙ put_back_more k stores saved d new old within held back
+          ∙ ap (λ n. take n stores ++ put_back_each (drop n stores) (drop n (befores saved))) now;
+    }
