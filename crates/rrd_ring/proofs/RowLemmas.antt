@@ -57,14 +57,6 @@ pub AreDropped-from_width : (w : ℕ) (xs : List (List Cell)) → HasWidth w xs 
 AreDropped-from_width w [] h few = record { few_rows = few; one_width = tt }
 AreDropped-from_width w (x ∷ xs) h few = record { few_rows = few; one_width = subst (λ (v : ℕ). HasWidth v (x ∷ xs)) (sym h.0) h }
 
-pub IsArchive-unknown_rows : (n w : ℕ) → 0 < n → n ≤ 1000000 → 0 < w → w ≤ 64 → IsArchive (unknown_rows n w)
-IsArchive-unknown_rows n w some few some_cells few_cells =
-    let rows = length-replicate n (replicate w Unknown) in
-    IsArchive-from_width w (unknown_rows n w) (HasWidth-unknown_rows n w) (omega (arith, rows)) (omega (arith, rows)) some_cells few_cells
-
-pub AreDropped-unknown_rows : (n w : ℕ) → n ≤ 1000000 → AreDropped (unknown_rows n w)
-AreDropped-unknown_rows n w few = AreDropped-from_width w (unknown_rows n w) (HasWidth-unknown_rows n w) (omega (arith, length-replicate n (replicate w Unknown)))
-
 -- a row is written over
 pub HasWidth-set : (w : ℕ) (xs : List (List Cell)) (i : ℕ) (cells : List Cell) → HasWidth w xs → length cells ≡ w → HasWidth w (set xs i cells)
 HasWidth-set w [] i cells h e = tt

@@ -11,8 +11,8 @@ use std::alloc::{AllocError, Global};
 use std::marker::Model;
 use std::mem;
 
-/// The consolidated rows of an archive: 1 to 1,000,000 of them, each of 1 to 64 cells, one for each
-/// data source. Contracts see the list of the rows, oldest first.
+/// The consolidated rows of an archive: 1 to 1,000,000 of them, each of 1 to 64 cells (millionths, or
+/// unknown), one for each data source. Contracts see the list of the rows, oldest first.
 #[derive(Debug, Drop)]
 pub struct Archive {
     rows: Vec<Vec<Cell>>,
@@ -34,6 +34,7 @@ impl Archive {
     ghost use Rattle.rrd_ring.specs.Lending.{LendsRow};
 
     /// An archive of `rows` rows (1 to 1,000,000) of `sources` cells each (1 to 64), all unknown.
+    /// Answers `AllocError` only for want of memory.
     pub fn new(alloc: Global, rows: u64, sources: u64) -> Result<Archive, AllocError>
         requires some_rows { 0 < rows }
         requires few_rows { rows ≤ 1000000 }
@@ -73,7 +74,8 @@ impl Archive {
         &self.rows[i as usize]
     }
 
-    /// The cells of row `i`, counted from the oldest, to be written.
+    /// The cells of row `i`, counted from the oldest, to be written. The archive ends with what was
+    /// written in their place.
     pub fn row_mut(&mut self, i: u64) -> &mut [Cell]
         requires { i < length self.old }
         ensures* writes_back { sem 𝓛 (LendsRow self.entry i result) }
@@ -84,7 +86,7 @@ impl Archive {
     }
 
     /// Drops the oldest row, and takes `cells`, one for each data source, as the newest. Adds a turn
-    /// for each cell to the meter.
+    /// for each cell to the meter, and takes no memory.
     pub fn push_row(&mut self, cells: &[Cell], meter: &mut Meter)
         requires one_each { length cells.now ≡ width self.old }
         requires turns { meter.old + length cells.now < 2 ^ 64 }
@@ -96,7 +98,8 @@ impl Archive {
         write_row(&mut self.rows[newest], cells, meter);
     }
 
-    /// A copy of the `n` oldest rows.
+    /// A copy of the `n` oldest rows, at most all of them. Answers `AllocError` only for want of
+    /// memory.
     pub fn oldest(&self, alloc: Global, n: u64) -> Result<Dropped, AllocError>
         requires { n ≤ length self.now }
         ensures { IfOk result (λ dropped. dropped ≡ take n self.now) }
@@ -104,8 +107,8 @@ impl Archive {
         Dropped::of(alloc, &self.rows[..n as usize])
     }
 
-    /// Puts rows back that were the oldest, before those that are still there. As many of the newest
-    /// fall out.
+    /// Puts rows back that were the oldest, before those that are still there; as many of the newest
+    /// fall out. They are at most as many as the archive has, with as many cells. It takes no memory.
     pub fn put_back(&mut self, mut dropped: Dropped)
         requires fits { length dropped ≤ length self.old }
         requires one_width { HasWidth (width self.old) dropped }
@@ -114,8 +117,8 @@ impl Archive {
         put_first(&mut self.rows, &mut dropped.rows);
     }
 
-    /// The same archive with `rows` rows (1 to 1,000,000): the newest of them, or all after unknown
-    /// rows (rrdresize).
+    /// The same archive with `rows` rows (1 to 1,000,000): the newest of them, or all of them after
+    /// unknown ones (rrdresize). Answers `AllocError` only for want of memory.
     pub fn resized(&self, alloc: Global, rows: u64) -> Result<Archive, AllocError>
         requires some_rows { 0 < rows }
         requires few_rows { rows ≤ 1000000 }

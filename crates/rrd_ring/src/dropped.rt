@@ -2,15 +2,15 @@
 ghost use Rattle.std.specs.Prelude.{◌≡◌, ℕ, ◌<◌, ◌≤◌, List, length, map, slice_set, IfOk};
 ghost use Rattle.std.specs.Borrow.{sem};
 ghost use Rattle.rrd_fixed.specs.declared.cell.Cell.{Cell};
-ghost use Rattle.rrd_ring.specs.Rows.{row_at, with_row, unknown_rows, AreDropped};
+ghost use Rattle.rrd_ring.specs.Rows.{row_at, width, HasWidth, with_row, unknown_rows, AreDropped};
 
 use crate::table::{push_copies, push_unknown};
 use rrd_fixed::Cell;
 use std::alloc::{AllocError, Global};
 use std::marker::Model;
 
-/// Rows that were the oldest of an archive: at most 1,000,000, all with as many cells. Contracts see
-/// the list of the rows, oldest first.
+/// Rows that were the oldest of an archive: at most 1,000,000, all with as many cells (millionths, or
+/// unknown). Contracts see the list of the rows, oldest first.
 #[derive(Debug, Drop)]
 pub struct Dropped {
     pub(crate) rows: Vec<Vec<Cell>>,
@@ -31,7 +31,8 @@ impl Model for Dropped {
 impl Dropped {
     ghost use Rattle.rrd_ring.specs.Lending.{LendsDropped};
 
-    /// `rows` rows (at most 1,000,000) of `sources` cells each (1 to 64), all unknown.
+    /// `rows` rows (at most 1,000,000) of `sources` cells each (1 to 64), all unknown. Answers
+    /// `AllocError` only for want of memory.
     pub fn new(alloc: Global, rows: u64, sources: u64) -> Result<Dropped, AllocError>
         requires few_rows { rows ≤ 1000000 }
         requires some_sources { 0 < sources }
@@ -56,6 +57,7 @@ impl Dropped {
     /// The number of rows, at most 1,000,000.
     pub fn len(&self) -> u64
         ensures count { result ≡ length self.now }
+        ensures each_row { HasWidth (width self.now) self.now }
         ensures few { result ≤ 1000000 }
     {
         self.rows.len() as u64
@@ -69,7 +71,8 @@ impl Dropped {
         &self.rows[i as usize]
     }
 
-    /// The cells of row `i`, counted from the oldest, to be written.
+    /// The cells of row `i`, counted from the oldest, to be written. The list ends with what was
+    /// written in their place.
     pub fn row_mut(&mut self, i: u64) -> &mut [Cell]
         requires { i < length self.old }
         ensures* writes_back { sem 𝓛 (LendsDropped self.entry i result) }

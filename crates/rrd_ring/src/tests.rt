@@ -97,7 +97,7 @@ fn rows_are_written_and_swapped(rt: HostRuntime) -> Result<(), Fail> {
 }
 
 // Where a call finds no memory the archive is as before, and the same call is answered once there is
-// memory: a run refuses one growth alone.
+// memory: a run refuses one growth alone. (The other tests then end with the error.)
 #[test]
 fn refused_growth_changes_nothing(rt: HostRuntime) -> Result<(), Fail> {
     let alloc = rt.alloc();
