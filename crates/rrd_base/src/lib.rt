@@ -5,10 +5,10 @@ pub mod create;
 mod definition;
 pub mod laws;
 mod list;
-pub mod preparing;
+mod preparing;
 mod refusal;
 mod resize;
-pub mod store;
+mod store;
 mod tune;
 mod update;
 

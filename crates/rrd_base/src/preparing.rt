@@ -35,7 +35,13 @@ fn source_rate(source: &DsDef, interval: u64, old: Raw, new: Raw) -> Cell
 }
 
 /// Writes each source's rate between two samples, so many seconds apart, in millionths.
-pub fn rates_into(sources: &[DsDef], interval: u64, old: &[Raw], new: &[Raw], rates: &mut [Cell])
+pub(crate) fn rates_into(
+    sources: &[DsDef],
+    interval: u64,
+    old: &[Raw],
+    new: &[Raw],
+    rates: &mut [Cell],
+)
     requires one_old_each { length old.now ≡ length sources.now }
     requires one_new_each { length new.now ≡ length sources.now }
     requires room { length rates.old ≡ length sources.now }
@@ -52,7 +58,7 @@ pub fn rates_into(sources: &[DsDef], interval: u64, old: &[Raw], new: &[Raw], ra
 }
 
 /// Adds to each preparation its source's rate, so many seconds of it. A turn for each.
-pub fn add_all(preps: &mut [StepPrep], rates: &[Cell], seconds: u64, meter: &mut Meter)
+pub(crate) fn add_all(preps: &mut [StepPrep], rates: &[Cell], seconds: u64, meter: &mut Meter)
     requires row { IsRow (length preps.old) rates.now }
     requires fits { AllByRecursion (λ (p : Part). p.known + seconds ≤ 1000000) preps.old }
     requires turns { meter.old + length preps.old < 2 ^ 64 }
@@ -66,7 +72,7 @@ pub fn add_all(preps: &mut [StepPrep], rates: &[Cell], seconds: u64, meter: &mut
 
 /// Writes the cell of each source's step, which so many seconds make, and starts each preparation
 /// anew. A turn for each.
-pub fn close_all(preps: &mut [StepPrep], step: u64, cells: &mut [Cell], meter: &mut Meter)
+pub(crate) fn close_all(preps: &mut [StepPrep], step: u64, cells: &mut [Cell], meter: &mut Meter)
     requires room { length cells.old ≡ length preps.old }
     requires some { 1 ≤ step }
     requires few { step ≤ 1000000 }
@@ -83,7 +89,7 @@ pub fn close_all(preps: &mut [StepPrep], step: u64, cells: &mut [Cell], meter: &
 }
 
 /// Adds to each preparation its source's step. A turn for each.
-pub fn add_each(preps: &mut [RowPrep], step: &[Cell], meter: &mut Meter)
+pub(crate) fn add_each(preps: &mut [RowPrep], step: &[Cell], meter: &mut Meter)
     requires row { IsRow (length preps.old) step.now }
     requires fits { AllByRecursion (λ (p : Consolidating). p.part.known < 1000000) preps.old }
     requires turns { meter.old + length preps.old < 2 ^ 64 }
@@ -97,7 +103,13 @@ pub fn add_each(preps: &mut [RowPrep], step: &[Cell], meter: &mut Meter)
 
 /// Writes the cell of each source's row, which so many steps make, and starts each preparation anew.
 /// A turn for each.
-pub fn close_each(preps: &mut [RowPrep], steps: u64, xff: u64, row: &mut [Cell], meter: &mut Meter)
+pub(crate) fn close_each(
+    preps: &mut [RowPrep],
+    steps: u64,
+    xff: u64,
+    row: &mut [Cell],
+    meter: &mut Meter,
+)
     requires room { length row.old ≡ length preps.old }
     requires some { 1 ≤ steps }
     requires few { steps ≤ 1000000 }

@@ -20,7 +20,7 @@ use std::marker::Model;
 /// An archive: its settings, for each source the preparation of its unfinished row, and its rows,
 /// oldest first.
 #[derive(Drop)]
-pub struct Store {
+pub(crate) struct Store {
     def: RraDef,
     preps: Vec<RowPrep>,
     rows: Archive,
@@ -40,7 +40,7 @@ impl Model for Store {
 /// What is kept of an archive, for the steps that it takes to be undone: its preparations, and the
 /// oldest of its rows.
 #[derive(Drop)]
-pub struct Saved {
+pub(crate) struct Saved {
     function: Function,
     preps: Vec<RowPrep>,
     rows: Dropped,
@@ -68,7 +68,7 @@ fn share(xff: i128) -> u64
 
 impl Store {
     /// An archive without steps, so many sources having been defined: all its rows are unknown.
-    pub fn new(alloc: Global, def: RraDef, sources: u64) -> Result<Store, AllocError>
+    pub(crate) fn new(alloc: Global, def: RraDef, sources: u64) -> Result<Store, AllocError>
         requires some_rows { 0 < def.rows }
         requires few_rows { def.rows ≤ 1000000 }
         requires some_sources { 0 < sources }
@@ -81,21 +81,21 @@ impl Store {
     }
 
     /// The settings.
-    pub fn def(&self) -> RraDef
+    pub(crate) fn def(&self) -> RraDef
         ensures { result ≡ self.now.def }
     {
         self.def
     }
 
     /// How many rows there are.
-    pub fn rows(&self) -> u64
+    pub(crate) fn rows(&self) -> u64
         ensures { result ≡ length self.now.rows }
     {
         self.rows.rows()
     }
 
     /// The cell of a source in a row, counted from the oldest.
-    pub fn cell(&self, row: u64, source: usize) -> Cell
+    pub(crate) fn cell(&self, row: u64, source: usize) -> Cell
         requires there { row < length self.now.rows }
         requires within { source < length (row_at self.now.rows row) }
         ensures { result ≡ slice_index_or (row_at self.now.rows row) source Unknown }
@@ -104,7 +104,7 @@ impl Store {
     }
 
     /// The preparation of a source's unfinished row.
-    pub fn prep(&self, source: usize) -> RowPrep
+    pub(crate) fn prep(&self, source: usize) -> RowPrep
         requires { source < length self.now.parts }
         ensures { result ≡ record { function = self.now.def.function; part = slice_index_or self.now.parts source nothing } }
     {
@@ -112,7 +112,7 @@ impl Store {
     }
 
     /// Takes the step that ends as the step of this number. `row` is room for the cells of a row.
-    pub fn take(&mut self, step: &[Cell], number: u64, row: &mut [Cell], meter: &mut Meter)
+    pub(crate) fn take(&mut self, step: &[Cell], number: u64, row: &mut [Cell], meter: &mut Meter)
         requires valid { IsValidArchive (length step.now) (number - 1) self.old }
         requires bounded { IsRow (length step.now) step.now }
         requires numbered { 0 < number }
@@ -132,7 +132,7 @@ impl Store {
     }
 
     /// A copy of the preparations and of the `n` oldest rows.
-    pub fn save(&self, alloc: Global, n: u64) -> Result<Saved, AllocError>
+    pub(crate) fn save(&self, alloc: Global, n: u64) -> Result<Saved, AllocError>
         requires { n ≤ length self.now.rows }
         ensures { IfOk result (λ saved. saved ≡ record { function = self.now.def.function; before = record { parts = self.now.parts; rows = first n self.now.rows } }) }
     {
@@ -165,7 +165,7 @@ impl Store {
     }
 
     /// Puts preparations and rows back. As many of the newest rows fall out. It takes no memory.
-    pub fn put_back(&mut self, saved: Saved)
+    pub(crate) fn put_back(&mut self, saved: Saved)
         requires function { saved.function ≡ self.old.def.function }
         requires fits { CanPutBack self.old saved.before }
         ensures { self.new ≡ after_put_back self.old saved.before }
@@ -177,7 +177,7 @@ impl Store {
 
     /// The rows, so many of them (1 to 1,000,000): the newest, or all after unknown ones
     /// (rrdresize).
-    pub fn resized(&self, alloc: Global, rows: u64) -> Result<Archive, AllocError>
+    pub(crate) fn resized(&self, alloc: Global, rows: u64) -> Result<Archive, AllocError>
         requires some_rows { 0 < rows }
         requires few_rows { rows ≤ 1000000 }
         ensures { IfOk result (λ new. new ≡ newest_rows rows self.now.rows) }
@@ -186,7 +186,7 @@ impl Store {
     }
 
     /// Takes these rows for its own, and gives its own for them. It takes no memory.
-    pub fn swap_rows(&mut self, rows: &mut Archive)
+    pub(crate) fn swap_rows(&mut self, rows: &mut Archive)
         ensures mine { self.new ≡ record self.old { def = record self.old.def { rows = length rows.old }; rows = rows.old } }
         ensures others { rows.new ≡ self.old.rows }
     {
@@ -197,7 +197,7 @@ impl Store {
 
 /// Each archive takes the step that ends as the step of this number. `row` is room for the cells of a
 /// row.
-pub fn take_all(
+pub(crate) fn take_all(
     stores: &mut [Store],
     step: &[Cell],
     number: u64,
@@ -222,7 +222,7 @@ pub fn take_all(
 
 /// A copy of what an update from one time to another takes from each archive, steps of so many
 /// seconds being taken.
-pub fn save_all(
+pub(crate) fn save_all(
     alloc: Global,
     stores: &[Store],
     step: u64,
@@ -244,7 +244,7 @@ pub fn save_all(
 }
 
 /// Puts back what was kept of each archive. It takes no memory.
-pub fn put_back_all(stores: &mut [Store], mut saved: Vec<Saved>)
+pub(crate) fn put_back_all(stores: &mut [Store], mut saved: Vec<Saved>)
     requires functions { saved_functions saved.items ≡ functions stores.old }
     requires fits { CanPutBackEach stores.old (befores saved.items) }
     ensures { stores.new ≡ put_back_each stores.old (befores saved.items) }
