@@ -19,3 +19,4 @@ pub mod EachLemmas
 pub mod Created
 pub mod StoreLemmas
 pub mod PutBack
+pub mod ChoiceLemmas

@@ -11,3 +11,5 @@ pub mod WorkedCommands
 pub mod Each
 pub mod Creating
 pub mod Store
+pub mod Cells
+pub mod Choice

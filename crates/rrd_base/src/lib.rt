@@ -1,6 +1,7 @@
 //! A round-robin database of many data sources and archives, with a journal of replaced cells.
 #![tactic(auto)]
 
+pub mod choose;
 pub mod create;
 mod definition;
 pub mod laws;
@@ -12,6 +13,7 @@ mod store;
 mod tune;
 mod update;
 
+pub use choose::Chosen;
 pub use create::CreateSpec;
 pub use definition::{DsDef, RraDef};
 pub use list::List;
