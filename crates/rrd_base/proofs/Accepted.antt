@@ -34,7 +34,7 @@ accepted_passes base command h = all_pass (checks base command) h
 
 -- ---- its events are a history
 
-readings_rise : (sources : List DsDef) (template : List Name) (now : Moment) (readings : List Sample) → AllByRecursion Passes (sample_checks sources template now.last readings) → IsHistory now (map Sampled (map (sample_of sources template) readings))
+pub readings_rise : (sources : List DsDef) (template : List Name) (now : Moment) (readings : List Sample) → AllByRecursion Passes (sample_checks sources template now.last readings) → IsHistory now (map Sampled (map (sample_of sources template) readings))
 readings_rise sources template now [] p = tt
 readings_rise sources template now (reading ∷ readings) p =
     (leb-false reading.time now.last p.1.0, readings_rise sources template (moment_after now (Sampled (sample_of sources template reading))) readings p.1.1.1.1)

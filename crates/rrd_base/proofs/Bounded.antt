@@ -98,7 +98,7 @@ length-with_each function (part ∷ parts) (cell ∷ cells) = ap suc (length-wit
 pub no_parts : (function : Function) (sources : ℕ) → AreParts function sources 0 (replicate sources nothing)
 no_parts function sources = record { one_each = length-replicate sources nothing; each = All-replicate (IsPart function 0) sources nothing (no_part function) }
 
-more : (function : Function) (sources n : ℕ) (parts : List Part) (row : List Cell) → AreParts function sources n parts → IsRow sources row → AreParts function sources (n + 1) (with_each function parts row)
+pub more : (function : Function) (sources n : ℕ) (parts : List Part) (row : List Cell) → AreParts function sources n parts → IsRow sources row → AreParts function sources (n + 1) (with_each function parts row)
 more function sources n parts row is h = record {
   one_each = length-with_each function parts row ∙ is.one_each;
   each = each_more function n parts row (is.one_each ∙ sym h.one_each) is.each h.each;

@@ -33,7 +33,7 @@ use Rattle.rrd_fixed.specs.Names.{same_name}
 
 -- ---- what is valid is sound
 
-length-accepted : (sources : List DsDef) (raws : List Raw) → AreAccepted sources raws → length raws ≡ length sources
+pub length-accepted : (sources : List DsDef) (raws : List Raw) → AreAccepted sources raws → length raws ≡ length sources
 length-accepted [] [] h = refl
 length-accepted [] (raw ∷ raws) h = absurd h
 length-accepted (source ∷ sources) [] h = absurd h
@@ -303,7 +303,7 @@ fold_depth : (now : Content) (olds : List Held) → (fold with_held now olds).de
 fold_depth now [] = refl
 fold_depth now (old ∷ olds) = fold_depth (with_held now old) olds
 
-undone_depth : (now : Content) (old : Entry) → (undone now old).depth ≡ now.depth
+pub undone_depth : (now : Content) (old : Entry) → (undone now old).depth ≡ now.depth
 undone_depth now (Updated old) = refl
 undone_depth now (WasTuned olds) = fold_depth now olds
 undone_depth now (WasResized archive rows) = refl
@@ -312,7 +312,7 @@ undo_all : (now : Content) (journal : List Entry) → IsValidJournal now journal
 undo_all now [] h = tt
 undo_all now (old ∷ journal) h = (sound (undone now old) h.1, undone_depth now old, undo_all (undone now old) journal h.2)
 
-revert_valid : (now : Content) (journal : List Entry) → IsValidDatabase now journal → let kept = reverted now journal in IsValidDatabase kept.now kept.journal
+pub revert_valid : (now : Content) (journal : List Entry) → IsValidDatabase now journal → let kept = reverted now journal in IsValidDatabase kept.now kept.journal
 revert_valid now [] h = h
 revert_valid now (old ∷ journal) h = record { now_is = h.journal_is.1; journal_is = h.journal_is.2; few = let same = undone_depth now old in omega (arith, h.few) }
 

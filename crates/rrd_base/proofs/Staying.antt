@@ -62,7 +62,7 @@ raw_accepted Derive (Given.Number number) =
     cond_both number.point None (in_range (neg_ℤ (pos (2 ^ 63))) (pos (2 ^ 63 - 1)) value) (λ o. IsAccepted Derive (option_map_or Raw.Known o Raw.Unknown)) (λ e. tt)
     (λ e. admitted_range Derive (neg_ℤ (pos (2 ^ 63))) (pos (2 ^ 63 - 1)) value (λ z a b. (a, omega (arith, ints))))
 
-raws_accepted : (f : DsDef → Given) (sources : List DsDef) → AreAccepted sources (map (λ (source : DsDef). raw_of source.kind (f source)) sources)
+pub raws_accepted : (f : DsDef → Given) (sources : List DsDef) → AreAccepted sources (map (λ (source : DsDef). raw_of source.kind (f source)) sources)
 raws_accepted f [] = tt
 raws_accepted f (source ∷ sources) = (raw_accepted source.kind (f source), raws_accepted f sources)
 

@@ -1,6 +1,18 @@
-//! Samples for a database.
-use crate::List;
-use rrd_fixed::{Name, Number};
+//! Samples for a database: what an update asks, and which updates are accepted.
+ghost use Rattle.std.specs.Prelude.{◌≡◌, ◌<◌, ◌≤◌, ◌∷◌, [], length, map, not, unwrap_or, option_map};
+ghost use Rattle.std.specs.List.{list_any, list_all};
+ghost use Rattle.rrd_base.specs.Commands.{names, raw_of, value_for};
+ghost use Rattle.rrd_base.specs.Verdict.{first_refusal, has_source, is_admitted, is_double, sample_checks, update_checks};
+ghost use Rattle.rrd_base.specs.Updating.{template_checks, template_of};
+ghost use Rattle.rrd_fixed.specs.Rate.{IsAccepted};
+ghost use Rattle.rrd_fixed.specs.Names.{same_name};
+
+use crate::definition::DsDef;
+use crate::{List, Refusal};
+use rrd_fixed::{Name, Number, Raw, admit};
+
+/// The latest time that a sample, a start or an end may have.
+const LATEST: u64 = 9_999_999_999;
 
 /// A value as it is given: `U`, or a number.
 #[derive(Clone, Copy, Debug, PartialEq, Eq)]
@@ -33,4 +45,203 @@ pub struct Receipt {
     pub turns: u64,
     /// How many cells its journal entry holds.
     pub cells: u64,
+}
+
+// Whether a source has that name.
+pub(crate) fn has_source(sources: &[DsDef], name: &Name) -> bool
+    ensures { result ≡ has_source sources.now name.now }
+{
+    sources.iter().any(|source| source.name.same(name))
+}
+
+// Whether a name stands among others.
+fn is_among(name: &Name, names: &[Name]) -> bool
+    ensures { result ≡ list_any (same_name name.now) names.now }
+{
+    names.iter().any(|other| name.same(other))
+}
+
+// Whether a name stands twice.
+fn is_double(names: &[Name]) -> bool
+    ensures { result ≡ is_double names.now }
+{
+    for (place, name) in names.iter().enumerate() {
+        if is_among(name, &names[place + 1..]) {
+            return true;
+        }
+    }
+    false
+}
+
+// The value in the place of a source's name in the template; unknown if it isn't there.
+fn value_named(template: &[Name], values: &[Given], source: &DsDef) -> Given
+    ensures { result ≡ value_for template.now values.now source.now }
+{
+    for place in 0..template.len().min(values.len()) {
+        if template[place].same(&source.name) {
+            return values[place];
+        }
+    }
+    Given::Unknown
+}
+
+// The value in the place of a source's name among all sources.
+fn value_placed(sources: &[DsDef], values: &[Given], source: &DsDef) -> Given
+    ensures { result ≡ value_for (names sources.now) values.now source.now }
+{
+    for place in 0..sources.len().min(values.len()) {
+        if sources[place].name.same(&source.name) {
+            return values[place];
+        }
+    }
+    Given::Unknown
+}
+
+// What is given for a source: by the template, or without one in the sources' order.
+fn value_for(template: &Option<List<Name>>, sources: &[DsDef], values: &[Given], source: &DsDef) -> Given
+    ensures { result ≡ value_for (template_of sources.now template.now) values.now source.now }
+{
+    match template {
+        Some(names) => value_named(names.as_slice(), values, source),
+        None => value_placed(sources, values, source),
+    }
+}
+
+// How many values a sample has to have.
+fn width(template: &Option<List<Name>>, sources: &[DsDef]) -> usize
+    ensures { result ≡ length (template_of sources.now template.now) }
+{
+    match template {
+        Some(names) => names.len(),
+        None => sources.len(),
+    }
+}
+
+// Whether a source accepts what is given.
+fn is_admitted(source: &DsDef, given: Given) -> bool
+    ensures { result ≡ is_admitted source.now given }
+{
+    match given {
+        Given::Unknown => true,
+        Given::Number(number) => admit(source.kind, number).is_some(),
+    }
+}
+
+// Whether each source accepts its value.
+fn are_admitted(template: &Option<List<Name>>, sources: &[DsDef], values: &[Given]) -> bool
+    ensures { result ≡ list_all (λ source. is_admitted source (value_for (template_of sources.now template.now) values.now source)) sources.now }
+{
+    sources
+        .iter()
+        .all(|source| is_admitted(source, value_for(template, sources, values, source)))
+}
+
+// The first thing wrong with a sample after one at `last`.
+fn check_sample(
+    template: &Option<List<Name>>,
+    sources: &[DsDef],
+    last: u64,
+    sample: &Sample,
+) -> Option<Refusal>
+    ensures { result ≡ first_refusal (sample_checks sources.now (template_of sources.now template.now) last (sample.now ∷ [])) }
+{
+    if sample.time > LATEST {
+        return Some(Refusal::BadTime);
+    }
+    if sample.time <= last {
+        return Some(Refusal::NotLater { last });
+    }
+    if sample.values.len() != width(template, sources) {
+        return Some(Refusal::WrongCount);
+    }
+    if !are_admitted(template, sources, sample.values.as_slice()) {
+        return Some(Refusal::BadValue);
+    }
+    None
+}
+
+// The first thing wrong with the samples.
+fn check_samples(
+    template: &Option<List<Name>>,
+    sources: &[DsDef],
+    last: u64,
+    samples: &[Sample],
+) -> Option<Refusal>
+    ensures { result ≡ first_refusal (sample_checks sources.now (template_of sources.now template.now) last samples.now) }
+{
+    let mut last = last;
+    for sample in samples {
+        if let Some(refusal) = check_sample(template, sources, last, sample) {
+            return Some(refusal);
+        }
+        last = sample.time;
+    }
+    None
+}
+
+// Whether one of the names is no source's.
+fn is_unknown(sources: &[DsDef], names: &[Name]) -> bool
+    ensures { result ≡ list_any (λ name. not (has_source sources.now name)) names.now }
+{
+    names.iter().any(|name| !has_source(sources, name))
+}
+
+// The first thing wrong with the template.
+fn check_template(template: &Option<List<Name>>, sources: &[DsDef]) -> Option<Refusal>
+    ensures { result ≡ first_refusal (template_checks sources.now template.now) }
+{
+    let Some(names) = template else {
+        return None;
+    };
+    if is_unknown(sources, names.as_slice()) {
+        return Some(Refusal::NoSuchSource);
+    }
+    if is_double(names.as_slice()) {
+        return Some(Refusal::DoubleName);
+    }
+    None
+}
+
+/// The first thing wrong with an update; none if it is accepted (rrdupdate).
+pub(crate) fn check_update(sources: &[DsDef], last: u64, update: &Update) -> Option<Refusal>
+    ensures { result ≡ first_refusal (update_checks sources.now last update.now) }
+{
+    if let Some(refusal) = check_template(&update.template, sources) {
+        return Some(refusal);
+    }
+    let samples = update.samples.as_slice();
+    if samples.is_empty() {
+        return Some(Refusal::NoSample);
+    }
+    check_samples(&update.template, sources, last, samples)
+}
+
+// What a source keeps of what is given.
+fn raw_of(source: &DsDef, given: Given) -> Raw
+    ensures value { result ≡ raw_of source.now.kind given }
+    ensures accepted { IsAccepted source.now.kind result }
+{
+    match given {
+        Given::Unknown => Raw::Unknown,
+        Given::Number(number) => match admit(source.kind, number) {
+            None => Raw::Unknown,
+            Some(value) => Raw::Known(value),
+        },
+    }
+}
+
+/// The raw values of a sample, one for each source.
+pub(crate) fn raws_into(
+    template: &Option<List<Name>>,
+    sources: &[DsDef],
+    values: &[Given],
+    room: &mut [Raw],
+)
+    requires { length room.old ≡ length sources.now }
+    ensures value { room.new ≡ map (λ source. raw_of source.kind (value_for (template_of sources.now template.now) values.now source)) sources.now }
+{
+    for place in 0..sources.len() {
+        let source = &sources[place];
+        room[place] = raw_of(source, value_for(template, sources, values, source));
+    }
 }

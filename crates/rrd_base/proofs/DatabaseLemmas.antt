@@ -1,0 +1,100 @@
+-- What a database's journal needs, and keeps.
+use Rattle.std.proofs.Common.{◌≡◌, refl, sym, ◌∙◌, ap, subst, ℕ, zero, suc, ◌+◌, ◌-◌, ◌<◌, ◌≤◌, min, List, [], ◌∷◌, ◌++◌, length, map, take, drop, get_or, arith, None, true, false}
+use Rattle.std.specs.List.{fold, enumerate_from, AllByRecursion}
+use Rattle.rrd_fixed.specs.declared.cell.Cell.{Cell}
+use Rattle.rrd_fold.specs.declared.function.Function.{Function}
+use Rattle.rrd_ring.specs.Rows.{HasWidth, width}
+use Rattle.rrd_base.specs.declared.update.Sample.{Sample}
+use Rattle.rrd_base.specs.declared.update.Update.{Update}
+use Rattle.rrd_base.specs.declared.definition.DsDef.{DsDef}
+use Rattle.rrd_base.specs.declared.entry.Entry.{Entry}
+use Rattle.rrd_base.specs.declared.entry.Entry.TheVariants as entry
+use Rattle.rrd_fixed.specs.declared.name.Name.{Name}
+use Rattle.rrd_base.specs.History.{Archive, Content, Event, Sampled, Moment, moment_of, moment_at_end, moment_after, archive_of, content}
+use Rattle.rrd_base.specs.Commands.{Command, Updating, sample_of, moved}
+use Rattle.rrd_base.specs.Entries.{Dropped, BeforeUpdate, put_back, put_back_each}
+use Rattle.rrd_base.specs.Store.{CanPutBack, CanPutBackEach, functions}
+use Rattle.rrd_base.specs.Stored.{HasFunctions}
+use Rattle.rrd_base.specs.Updating.{last_time, template_of}
+use Rattle.rrd_base.specs.Validity.{IsValid, IsValidArchive, IsRow, FitsArchive, FitEach, FitsUpdate}
+use Rattle.rrd_base.specs.Verdict.{verdict, no_sample}
+use Rattle.rrd_base.proofs.Accepted.{accepted_passes}
+use Rattle.rrd_base.proofs.HistoryLemmas.{moment_of-content}
+
+-- ---- the last time
+
+last_at_end : (sources : List DsDef) (template : List Name) (now : Moment) (samples : List Sample) → 0 < length samples → (fold moment_after now (map Sampled (map (sample_of sources template) samples))).last ≡ last_time samples
+last_at_end sources template now [] h = absurd (omega arith)
+last_at_end sources template now (s ∷ []) h = refl
+last_at_end sources template now (s ∷ t ∷ samples) h = last_at_end sources template (moment_after now (Sampled (sample_of sources template s))) (t ∷ samples) (omega arith)
+
+-- an update's content ends at its last sample
+pub moved_last : (base : Content) (update : Update) → 0 < length update.samples → (moved base (Updating update)).last ≡ last_time update.samples
+moved_last base update h =
+    let es = map Sampled (map (sample_of base.sources (template_of base.sources update.template)) update.samples) in
+    ap (λ (m : Moment). m.last) (moment_of-content base es) ∙ last_at_end base.sources (template_of base.sources update.template) (moment_of base) update.samples h
+
+pub last_item : (samples : List Sample) (d : Sample) → 0 < length samples → (get_or samples (length samples - 1) d).time ≡ last_time samples
+last_item [] d h = absurd (omega arith)
+last_item (s ∷ []) d h = refl
+last_item (s ∷ t ∷ samples) d h = ap (λ n. (get_or (s ∷ t ∷ samples) n d).time) {x = length (s ∷ t ∷ samples) - 1} {y = suc (length (t ∷ samples) - 1)} (omega arith) ∙ last_item (t ∷ samples) d (omega arith)
+
+-- ---- functions stay
+
+functions_of_archives : (base : Content) (es : List Event) (index : ℕ) (archives : List Archive) → functions (map (archive_of base es) (enumerate_from index archives)) ≡ functions archives
+functions_of_archives base es index [] = refl
+functions_of_archives base es index (archive ∷ archives) = ap (λ rest. archive.def.function ∷ rest) (functions_of_archives base es (index + 1) archives)
+
+pub functions_moved : (base : Content) (es : List Event) → functions (content base es).archives ≡ functions base.archives
+unfolding content
+functions_moved base es = functions_of_archives base es 0 base.archives
+
+pub functions_put_back : (archives : List Archive) (olds : List Dropped) → functions (put_back_each archives olds) ≡ functions archives
+functions_put_back [] olds = refl
+functions_put_back (archive ∷ archives) [] = refl
+functions_put_back (archive ∷ archives) (old ∷ olds) = ap (λ rest. archive.def.function ∷ rest) (functions_put_back archives olds)
+
+pub has_functions : (before after : List Archive) (entries : List Entry) → functions after ≡ functions before → AllByRecursion (HasFunctions before) entries → AllByRecursion (HasFunctions after) entries
+has_functions before after [] e is = tt
+has_functions before after (entry.Update b ∷ entries) e is = (is.0 ∙ sym e, has_functions before after entries e is.1)
+
+pub All-take : {A : Type 0} (P : A → Type 0) (n : ℕ) (xs : List A) → AllByRecursion P xs → AllByRecursion P (take n xs)
+All-take P zero xs is = tt
+All-take P (suc n) [] is = tt
+All-take P (suc n) (x ∷ xs) is = (is.0, All-take P n xs is.1)
+
+pub All-drop : {A : Type 0} (P : A → Type 0) (n : ℕ) (xs : List A) → AllByRecursion P xs → AllByRecursion P (drop n xs)
+All-drop P zero xs is = is
+All-drop P (suc n) [] is = tt
+All-drop P (suc n) (x ∷ xs) is = All-drop P n xs is.1
+
+pub All-at : {A : Type 0} (P : A → Type 0) (xs : List A) (i : ℕ) (d : A) → i < length xs → AllByRecursion P xs → P (get_or xs i d)
+All-at P [] i d h is = absurd (omega arith)
+All-at P (x ∷ xs) zero d h is = is.0
+All-at P (x ∷ xs) (suc i) d h is = All-at P xs i d (omega arith) is.1
+
+-- ---- what fits can be put back
+
+width_is : (sources : ℕ) (rows : List (List Cell)) → 0 < length rows → AllByRecursion (IsRow sources) rows → width rows ≡ sources
+width_is sources [] h is = absurd (omega arith)
+width_is sources (row ∷ rows) h is = is.0.one_each
+
+can_put_back : (step sources steps from to : ℕ) (archive : Archive) (old : Dropped) → IsValidArchive sources steps archive → FitsArchive step sources from to archive old → CanPutBack archive old
+can_put_back step sources steps from to archive old is fits = record {
+  few = omega (arith, fits.as_many, is.rows_are);
+  one_width = subst (λ n. HasWidth n old.rows) (sym (width_is sources archive.rows (omega (arith, is.rows_are, is.some_rows)) is.each_row)) fits.one_cell_each;
+}
+
+pub can_put_back_each : (step sources steps from to : ℕ) (archives : List Archive) (olds : List Dropped) → AllByRecursion (IsValidArchive sources steps) archives → FitEach step sources from to archives olds → CanPutBackEach archives olds
+can_put_back_each step sources steps from to [] [] is fits = tt
+can_put_back_each step sources steps from to [] (old ∷ olds) is fits = fits
+can_put_back_each step sources steps from to (archive ∷ archives) [] is fits = fits
+can_put_back_each step sources steps from to (archive ∷ archives) (old ∷ olds) is fits = (can_put_back step sources steps from to archive old is.0 fits.0, can_put_back_each step sources steps from to archives olds is.1 fits.1)
+
+-- ---- an accepted update has a sample
+
+pub some_samples : (base : Content) (update : Update) → verdict base (Updating update) ≡ None → 0 < length update.samples
+some_samples base update h = some update.samples (accepted_passes base (Updating update) h).1.1.0 where
+  some : (samples : List Sample) → no_sample samples ≡ false → 0 < length samples
+  some [] e = cc
+  some (sample ∷ samples) e = omega arith

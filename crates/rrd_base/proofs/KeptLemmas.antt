@@ -1,0 +1,81 @@
+-- A database's journal, when an update is added and when the newest entry is taken.
+use Rattle.std.proofs.Common.{◌≡◌, refl, sym, ◌∙◌, ap, subst, ℕ, zero, suc, ◌+◌, ◌-◌, ◌/◌, ◌<◌, ◌≤◌, List, [], ◌∷◌, ◌++◌, length, map, take, drop, get_or, arith, Option, Some, None}
+use Rattle.std.specs.Prelude.{reverse, slice_get}
+use Rattle.std.proofs.lemmas.Option.{slice_get_within, slice_get-get_or}
+use Rattle.std.specs.List.{AllByRecursion}
+use Rattle.circular_buffer.specs.Buffer.{keep_last}
+use Rattle.rrd_base.specs.declared.entry.Entry.{Entry}
+use Rattle.rrd_base.specs.declared.entry.Entry.TheVariants as entry
+use Rattle.rrd_base.specs.declared.entry.Before.{Before}
+use Rattle.rrd_base.specs.declared.update.Update.{Update}
+use Rattle.rrd_base.specs.History.{Archive, Content}
+use Rattle.rrd_base.specs.Commands.{Command, Updating, events, settings_of, moved}
+use Rattle.rrd_base.specs.Entries as entries
+use Rattle.rrd_base.specs.Entries.{undone, entry as entry_for}
+use Rattle.rrd_base.specs.Store.{befores, functions, saved_functions}
+use Rattle.rrd_base.specs.Stored.{before, update_of, entry_of, HasFunctions, CanUndo, journal_of}
+use Rattle.rrd_base.specs.Updating.{last_time}
+use Rattle.rrd_base.specs.Validity.{IsValid, Fits, IsValidDatabase}
+use Rattle.rrd_base.specs.Verdict.{verdict}
+use Rattle.rrd_base.proofs.Accepted.{accepted_passes}
+use Rattle.rrd_base.proofs.DatabaseLemmas.{moved_last, functions_moved, functions_put_back, has_functions, All-take, All-drop, All-at, can_put_back_each}
+use Rattle.rrd_base.proofs.Fitting.{database_stays, revert_valid}
+use Rattle.rrd_base.proofs.JournalLemmas.{journal_push, journal_pop}
+use Rattle.rrd_base.proofs.Kept.{All-append}
+
+-- ---- the newest entry is taken
+
+can_undo : (now : Content) (e : Entry) → IsValid now → HasFunctions now.archives e → Fits now (entry_of e) → CanUndo now.archives e
+can_undo now (entry.Update b) is has fits = (has, can_put_back_each now.step (length now.sources) (now.last / now.step) b.last now.last now.archives (befores b.stores.items) is.archives_are fits.archives_fit)
+
+functions_undone : (now : Content) (e : Entry) → functions (undone now (entry_of e)).archives ≡ functions now.archives
+functions_undone now (entry.Update b) = functions_put_back now.archives (befores b.stores.items)
+
+last_one : {A : Type 0} (xs : List A) (x : A) → Some x ≡ slice_get xs (length xs - 1) → get_or xs (length xs - 1) x ≡ x
+last_one xs x h =
+    let within : length xs - 1 < length xs = slice_get_within xs (length xs - 1) x (sym h) in
+    let here : Some x ≡ Some (get_or xs (length xs - 1) x) = h ∙ slice_get-get_or xs (length xs - 1) x within in
+    cc
+
+pub record Newest (now : Content) (items : List Entry) (e : Entry) : Type 0 where
+  pub newest_is : journal_of items ≡ entry_of e ∷ journal_of (take (length items - 1) items)
+  pub can : CanUndo now.archives e
+  pub valid : IsValid (undone now (entry_of e))
+  pub after : IsValidDatabase (undone now (entry_of e)) (journal_of (take (length items - 1) items))
+  pub functions_stay : AllByRecursion (HasFunctions (undone now (entry_of e)).archives) (take (length items - 1) items)
+
+pub newest : (now : Content) (items : List Entry) (e : Entry) → IsValidDatabase now (journal_of items) → AllByRecursion (HasFunctions now.archives) items → Some e ≡ slice_get items (length items - 1) → Newest now items e
+newest now items e is has h =
+    let rest = take (length items - 1) items in
+    let pop : journal_of items ≡ entry_of e ∷ journal_of rest = journal_pop entry_of items e h in
+    let whole : IsValidDatabase now (entry_of e ∷ journal_of rest) = subst (IsValidDatabase now) pop is in
+    let within : length items - 1 < length items = slice_get_within items (length items - 1) e (sym h) in
+    let here : HasFunctions now.archives e = subst (HasFunctions now.archives) (last_one items e h) (All-at (HasFunctions now.archives) items (length items - 1) e within has) in
+    record {
+      newest_is = pop;
+      can = can_undo now e is.now_is here whole.journal_is.0;
+      valid = whole.journal_is.1;
+      after = revert_valid now (entry_of e ∷ journal_of rest) whole;
+      functions_stay = has_functions now.archives (undone now (entry_of e)).archives rest (functions_undone now e) (All-take (HasFunctions now.archives) (length items - 1) items has);
+    }
+
+-- ---- an update is added
+
+pub record Added (now : Content) (items : List Entry) (update : Update) (b : Before) : Type 0 where
+  pub journal_is : journal_of (keep_last now.depth (items ++ entry.Update b ∷ [])) ≡ take now.depth (entry_for now (Updating update) ∷ journal_of items)
+  pub after : IsValidDatabase (moved now (Updating update)) (journal_of (keep_last now.depth (items ++ entry.Update b ∷ [])))
+  pub functions_stay : AllByRecursion (HasFunctions (moved now (Updating update)).archives) (keep_last now.depth (items ++ entry.Update b ∷ []))
+
+pub added : (now : Content) (items : List Entry) (update : Update) (b : Before) → IsValidDatabase now (journal_of items) → AllByRecursion (HasFunctions now.archives) items → verdict now (Updating update) ≡ None → 0 < length update.samples → update_of b ≡ before now (last_time update.samples) → saved_functions b.stores.items ≡ functions now.archives → Added now items update b
+added now items update b is has accepted some e f =
+    let all = items ++ entry.Update b ∷ [] in
+    let cut = length all - now.depth in
+    let this : entry_of (entry.Update b) ≡ entry_for now (Updating update) = ap entries.Updated (e ∙ ap (before now) (sym (moved_last now update some))) in
+    let journal : journal_of (keep_last now.depth all) ≡ take now.depth (entry_for now (Updating update) ∷ journal_of items)
+    = journal_push entry_of now.depth items (entry.Update b) ∙ ap (λ x. take now.depth (x ∷ journal_of items)) this in
+    let more : AllByRecursion (HasFunctions now.archives) all = All-append (HasFunctions now.archives) items (entry.Update b ∷ []) has (f, tt) in
+    record {
+      journal_is = journal;
+      after = subst (IsValidDatabase (moved now (Updating update))) (sym journal) (database_stays now (journal_of items) (Updating update) is accepted);
+      functions_stay = has_functions now.archives (moved now (Updating update)).archives (keep_last now.depth all) (functions_moved now (events (settings_of now) (Updating update))) (All-drop (HasFunctions now.archives) cut all more);
+    }

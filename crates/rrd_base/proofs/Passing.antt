@@ -1,0 +1,150 @@
+-- Seconds that pass within a step, and what they leave of a valid content.
+use Rattle.std.proofs.Common.{◌≡◌, refl, sym, ◌∙◌, ap, subst, ℕ, zero, suc, ◌+◌, ◌-◌, ◌*◌, ◌/◌, ◌%◌, ◌<◌, ◌≤◌, List, [], ◌∷◌, length, map, replicate, sum, arith, ⊎_elim}
+use Rattle.std.proofs.lemmas.Bool.{cases_lt}
+use Rattle.std.proofs.lemmas.List.{length-replicate, length-map}
+use Rattle.std.proofs.lemmas.Nat.{div-mul-add, mod-mul-add, div-add-mod', mod_below}
+use Rattle.std.specs.List.{fold, AllByRecursion}
+use Rattle.rrd_fixed.specs.declared.cell.Cell.{Cell}
+use Rattle.rrd_fold.specs.declared.function.Function.{Function}
+use Rattle.rrd_fold.specs.declared.function.Function.TheVariants.{Average}
+use Rattle.rrd_fold.specs.Parts.{Part, nothing, with_each, step_cell}
+use Rattle.rrd_base.specs.History.{Content, Archive, IsBase}
+use Rattle.rrd_base.specs.Passed.{archive_passed, passed}
+use Rattle.rrd_base.specs.Commands.{rows_of_archives}
+use Rattle.rrd_base.specs.Validity.{IsPart, AreParts, IsRow, IsValid, IsValidArchive}
+use Rattle.rrd_base.proofs.Bounded.{more, no_parts}
+use Rattle.rrd_base.proofs.Held.{are_archives}
+use Rattle.rrd_base.proofs.PassedLemmas.{passed_within, passed_filling}
+
+pub base_of_valid : (base : Content) → IsValid base → IsBase base
+base_of_valid base is = record { some_step = is.some_step; archives_are = are_archives (length base.sources) (base.last / base.step) base.archives is.archives_are }
+
+-- parts with so many seconds more
+pub parts_more : (function : Function) (sources k n : ℕ) (parts : List Part) (row : List Cell) → AreParts function sources k parts → IsRow sources row → AreParts function sources (k + n) (fold (with_each function) parts (replicate n row))
+parts_more function sources k zero parts row is good = subst (λ m. AreParts function sources m parts) {x = k} {y = k + zero} (omega arith) is
+parts_more function sources k (suc n) parts row is good =
+    subst (λ m. AreParts function sources m (fold (with_each function) (with_each function parts row) (replicate n row))) {x = k + 1 + n} {y = k + suc n} (omega arith)
+    (parts_more function sources (k + 1) n (with_each function parts row) row (more function sources k parts row is good) good)
+
+-- what each part of a list has
+pub few_known : (function : Function) (k limit : ℕ) (parts : List Part) → k ≤ limit → AllByRecursion (IsPart function k) parts → AllByRecursion (λ (p : Part). p.known ≤ limit) parts
+few_known function k limit [] h is = tt
+few_known function k limit (part ∷ parts) h is = let few = is.0.few in (omega arith, few_known function k limit parts h is.1)
+
+pub room_left : (function : Function) (k n limit : ℕ) (parts : List Part) → k + n ≤ limit → AllByRecursion (IsPart function k) parts → AllByRecursion (λ (p : Part). p.known + n ≤ limit) parts
+room_left function k n limit [] h is = tt
+room_left function k n limit (part ∷ parts) h is = let few = is.0.few in (omega arith, room_left function k n limit parts h is.1)
+
+-- where a step ends
+pub not_full : (last n step : ℕ) → 0 < step → last + n ≤ (last / step + 1) * step → ((last + n) % step ≡ 0 → ⊥) → last + n < (last / step + 1) * step
+not_full last n step some h not =
+    ⊎_elim
+    (λ (below : last + n < (last / step + 1) * step). below)
+    (λ (at : (last / step + 1) * step ≤ last + n). absurd (not (ap (λ m. m % step) {x = last + n} {y = (last / step + 1) * step + 0} (omega arith) ∙ mod-mul-add (last / step + 1) step 0 some)))
+    (cases_lt (last + n) ((last / step + 1) * step))
+
+pub full : (last n step : ℕ) → 0 < step → 0 < n → last + n ≤ (last / step + 1) * step → (last + n) % step ≡ 0 → last + n ≡ (last / step + 1) * step
+full last n step some more h divides =
+    let split = div-add-mod' last step in
+    ⊎_elim
+    (λ (below : last + n < (last / step + 1) * step).
+    let r = last + n - last / step * step in
+    let e : (last + n) % step ≡ r = ap (λ m. m % step) {x = last + n} {y = last / step * step + r} (omega arith) ∙ mod-mul-add (last / step) step r (omega arith) in
+    absurd (omega arith))
+    (λ (at : (last / step + 1) * step ≤ last + n). omega arith)
+    (cases_lt (last + n) ((last / step + 1) * step))
+
+pub within_mod : (last n step : ℕ) → 0 < step → last + n < (last / step + 1) * step → (last + n) % step ≡ last % step + n
+within_mod last n step some h =
+    let split = div-add-mod' last step in
+    ap (λ m. m % step) {x = last + n} {y = last / step * step + (last % step + n)} (omega arith) ∙ mod-mul-add (last / step) step (last % step + n) (omega arith)
+
+pub within_div : (last n step : ℕ) → 0 < step → last + n < (last / step + 1) * step → (last + n) / step ≡ last / step
+within_div last n step some h =
+    let split = div-add-mod' last step in
+    ap (λ m. m / step) {x = last + n} {y = last / step * step + (last % step + n)} (omega arith) ∙ div-mul-add (last / step) step (last % step + n) (omega arith)
+
+pub full_div : (last n step : ℕ) → 0 < step → last + n ≡ (last / step + 1) * step → (last + n) / step ≡ last / step + 1
+full_div last n step some h = ap (λ m. m / step) {x = last + n} {y = (last / step + 1) * step + 0} (omega arith) ∙ div-mul-add (last / step + 1) step 0 some
+
+pub full_mod : (last n step : ℕ) → 0 < step → last + n ≡ (last / step + 1) * step → (last + n) % step ≡ 0
+full_mod last n step some h = ap (λ m. m % step) {x = last + n} {y = (last / step + 1) * step + 0} (omega arith) ∙ mod-mul-add (last / step + 1) step 0 some
+
+-- the seconds up to the end of the step are no more than the step
+pub within_step : (last n step : ℕ) → 0 < step → last + n ≤ (last / step + 1) * step → last % step + n ≤ step
+within_step last n step some h = let split = div-add-mod' last step in omega arith
+
+-- ---- a content of these parts
+
+pub leaves : (base : Content) (n : ℕ) (row : List Cell) (parts : List Part) → IsValid base → base.last + n < (base.last / base.step + 1) * base.step → parts ≡ fold (with_each Average) base.parts (replicate n row) → let now : Content = record base { last = base.last + n; parts = parts } in now ≡ passed base (replicate n row)
+leaves base n row parts is h e =
+    let ys = replicate n row in
+    let count = length-replicate n row in
+    sym (passed_within base ys (base_of_valid base is) (omega arith)
+    ∙ ap (λ m. let c : Content = record base { last = base.last + m; parts = fold (with_each Average) base.parts ys } in c) count
+    ∙ ap (λ ps. let c : Content = record base { last = base.last + n; parts = ps } in c) (sym e))
+
+with_filled : Content → ℕ → List Part → List Archive → Content
+with_filled base last parts archives = record base { last = last; parts = parts; archives = archives }
+
+pub fills : (base : Content) (n : ℕ) (row cells : List Cell) (parts : List Part) (archives : List Archive) → IsValid base → base.last + n ≡ (base.last / base.step + 1) * base.step → cells ≡ map (step_cell base.step) (fold (with_each Average) base.parts (replicate n row)) → parts ≡ replicate (length base.sources) nothing → archives ≡ map (archive_passed (length base.sources) (base.last / base.step) (cells ∷ [])) base.archives → let now : Content = record base { last = base.last + n; parts = parts; archives = archives } in now ≡ passed base (replicate n row)
+unfolding with_filled
+fills base n row cells parts archives is h e p a =
+    let ys = replicate n row in
+    let k = length base.sources in
+    let count = length-replicate n row in
+    let closed = map (step_cell base.step) (fold (with_each Average) base.parts ys) in
+    ap (λ z. with_filled base (base.last + n) z archives) p
+    ∙ ap (with_filled base (base.last + n) (replicate k nothing)) a
+    ∙ ap (λ c. with_filled base (base.last + n) (replicate k nothing) (map (archive_passed k (base.last / base.step) (c ∷ [])) base.archives)) e
+    ∙ sym (passed_filling base ys (base_of_valid base is) (omega arith)
+    ∙ ap (λ m. with_filled base (base.last + m) (replicate k nothing) (map (archive_passed k (base.last / base.step) (closed ∷ [])) base.archives)) count)
+
+-- ---- that it is valid
+
+pub valid_left : (base : Content) (n : ℕ) (parts : List Part) → IsValid base → base.last + n < (base.last / base.step + 1) * base.step → base.last + n ≤ 9999999999 → AreParts Average (length base.sources) (base.last % base.step + n) parts → IsValid (record base { last = base.last + n; parts = parts })
+valid_left base n parts is h in_time new = record {
+  some_step = is.some_step;
+  small_step = is.small_step;
+  good_time = in_time;
+  some_depth = is.some_depth;
+  small_depth = is.small_depth;
+  some_source = is.some_source;
+  few_sources = is.few_sources;
+  some_archive = is.some_archive;
+  few_archives = is.few_archives;
+  few_cells = is.few_cells;
+  sources_are = is.sources_are;
+  names_differ = is.names_differ;
+  raws_are = is.raws_are;
+  parts_are = subst (λ m. AreParts Average (length base.sources) m parts) (sym (within_mod base.last n base.step is.some_step h)) new;
+  archives_are = subst (λ m. AllByRecursion (IsValidArchive (length base.sources) m) base.archives) (sym (within_div base.last n base.step is.some_step h)) is.archives_are;
+}
+
+same_def : (sources before : ℕ) (steps : List (List Cell)) (archives : List Archive) → rows_of_archives (map (archive_passed sources before steps) archives) ≡ rows_of_archives archives
+unfolding archive_passed
+same_def sources before steps [] = refl
+same_def sources before steps (archive ∷ archives) = ap (λ rest. archive.def.rows ∷ rest) (same_def sources before steps archives)
+
+pub valid_filled : (base : Content) (n : ℕ) (cells : List Cell) (parts : List Part) (archives : List Archive) → IsValid base → base.last + n ≡ (base.last / base.step + 1) * base.step → base.last + n ≤ 9999999999 → parts ≡ replicate (length base.sources) nothing → archives ≡ map (archive_passed (length base.sources) (base.last / base.step) (cells ∷ [])) base.archives → AllByRecursion (IsValidArchive (length base.sources) (base.last / base.step + 1)) archives → IsValid (record base { last = base.last + n; parts = parts; archives = archives })
+valid_filled base n cells parts archives is h in_time p a good =
+    let k = length base.sources in
+    let count : length archives ≡ length base.archives = ap length a ∙ length-map base.archives (archive_passed k (base.last / base.step) (cells ∷ [])) in
+    let rows : rows_of_archives archives ≡ rows_of_archives base.archives = ap rows_of_archives a ∙ same_def k (base.last / base.step) (cells ∷ []) base.archives in
+    record {
+      some_step = is.some_step;
+      small_step = is.small_step;
+      good_time = in_time;
+      some_depth = is.some_depth;
+      small_depth = is.small_depth;
+      some_source = is.some_source;
+      few_sources = is.few_sources;
+      some_archive = subst (λ m. 0 < m) (sym count) is.some_archive;
+      few_archives = subst (λ m. m ≤ 64) (sym count) is.few_archives;
+      few_cells = subst (λ rs. k * sum rs ≤ 4000000) (sym rows) is.few_cells;
+      sources_are = is.sources_are;
+      names_differ = is.names_differ;
+      raws_are = is.raws_are;
+      parts_are = subst (λ ps. AreParts Average k ((base.last + n) % base.step) ps) (sym p) (subst (λ m. AreParts Average k m (replicate k nothing)) (sym (full_mod base.last n base.step is.some_step h)) (no_parts Average k));
+      archives_are = subst (λ m. AllByRecursion (IsValidArchive k m) archives) (sym (full_div base.last n base.step is.some_step h)) good;
+    }

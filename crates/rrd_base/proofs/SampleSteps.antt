@@ -1,0 +1,56 @@
+-- An update, sample by sample.
+use Rattle.std.proofs.Common.{◌≡◌, refl, sym, ◌∙◌, ap, subst, ℕ, zero, suc, ◌+◌, ◌<◌, ◌≤◌, List, [], ◌∷◌, ◌++◌, length, map, drop, get_or, arith, None}
+use Rattle.std.proofs.Math.Seq.{drop-cons}
+use Rattle.std.proofs.lemmas.Bool.Decides.{nat_tests}
+use Rattle.std.specs.List.{fold, AllByRecursion}
+use Rattle.rrd_fixed.specs.declared.raw.Raw.{Raw}
+use Rattle.rrd_fixed.specs.declared.name.Name.{Name}
+use Rattle.rrd_base.specs.declared.definition.DsDef.{DsDef}
+use Rattle.rrd_base.specs.declared.update.Sample.{Sample}
+use Rattle.rrd_base.specs.declared.update.Given.{Given}
+use Rattle.rrd_base.specs.History.{Content, Moment, Reading, Event, Sampled, moment_of, moment_at_end, moment_after, content, IsHistory}
+use Rattle.rrd_base.specs.Commands.{raw_of, value_for, sample_of}
+use Rattle.rrd_base.specs.Verdict.{sample_checks}
+use Rattle.rrd_base.specs.Validity.{IsValid, AreAccepted}
+use Rattle.rrd_base.proofs.Accepted.{Passes, readings_rise}
+use Rattle.rrd_base.proofs.ContentLemmas.{content-append}
+use Rattle.rrd_base.proofs.HistoryLemmas.{moment_of-content}
+use Rattle.rrd_base.proofs.Passing.{base_of_valid}
+use Rattle.rrd_base.proofs.Staying.{raws_accepted}
+
+-- the item at a place, and those after it
+pub drop_here : {A : Type 0} (xs : List A) (i : ℕ) (x : A) → i < length xs → x ≡ get_or xs i x → drop i xs ≡ x ∷ drop (i + 1) xs
+drop_here xs i x h e = drop-cons xs i x h ∙ ap (λ y. y ∷ drop (suc i) xs) (sym e) ∙ ap (λ n. x ∷ drop n xs) {x = suc i} {y = i + 1} (omega arith)
+
+-- a sample's raw values, over the sources as they are
+pub raws_of_sample : List DsDef → List Name → List Given → List Raw
+raws_of_sample sources template values = map (λ (source : DsDef). raw_of source.kind (value_for template values source)) sources
+
+-- the content after a sample, and those that are left
+pub record Taken (now next : Content) (sources : List DsDef) (template : List Name) (sample : Sample) (rest : List Sample) : Type 0 where
+  pub comes_to : content now (map Sampled (map (sample_of sources template) (sample ∷ rest))) ≡ content next (map Sampled (map (sample_of sources template) rest))
+  pub pass : AllByRecursion Passes (sample_checks sources template next.last rest)
+  pub same_sources : next.sources ≡ now.sources
+  pub last_is : next.last ≡ sample.time
+
+pub one_taken : (now next : Content) (sources : List DsDef) (template : List Name) (sample : Sample) (rest : List Sample) → IsValid now → now.sources ≡ sources → AllByRecursion Passes (sample_checks sources template now.last (sample ∷ rest)) → next ≡ content now (Sampled (sample_of sources template sample) ∷ []) → Taken now next sources template sample rest
+one_taken now next sources template sample rest is same pass e =
+    let reading = sample_of sources template sample in
+    let all = readings_rise sources template (moment_of now) (sample ∷ rest) pass in
+    let after : moment_of (content now (Sampled reading ∷ [])) ≡ moment_at_end now (Sampled reading ∷ []) = moment_of-content now (Sampled reading ∷ []) in
+    let end : moment_of next ≡ moment_at_end now (Sampled reading ∷ []) = ap moment_of e ∙ after in
+    let last : next.last ≡ sample.time = ap (λ (m : Moment). m.last) end in
+    record {
+      comes_to = content-append now (Sampled reading ∷ []) (map Sampled (map (sample_of sources template) rest)) (base_of_valid now is) (all.0, tt) all.1
+          ∙ ap (λ c. content c (map Sampled (map (sample_of sources template) rest))) (sym e);
+      pass = subst (λ t. AllByRecursion Passes (sample_checks sources template t rest)) (sym last) pass.1.1.1.1;
+      same_sources = ap (λ (m : Moment). m.sources) end;
+      last_is = last;
+    }
+
+-- a sample's raw values are accepted
+pub accepted_raws : (now : Content) (sources : List DsDef) (template : List Name) (values : List Given) (raws : List Raw) → now.sources ≡ sources → raws ≡ map (λ (source : DsDef). raw_of source.kind (value_for template values source)) sources → AreAccepted now.sources raws
+accepted_raws now sources template values raws same e = subst (λ ss. AreAccepted ss raws) (sym same) (subst (AreAccepted sources) (sym e) (raws_accepted (value_for template values) sources))
+
+pub later_sample : (sources : List DsDef) (template : List Name) (last : ℕ) (sample : Sample) (rest : List Sample) → AllByRecursion Passes (sample_checks sources template last (sample ∷ rest)) → last < sample.time
+later_sample sources template last sample rest pass = let h = pass.1.0 in grind (arith, nat_tests, h)

@@ -1,0 +1,74 @@
+use Rattle.std.proofs.Common.{◌≡◌, refl, sym, ◌∙◌, ap, subst, ℕ, ◌-◌, ◌<◌, ◌⊎◌, inl, inr, List, [], ◌∷◌, length, take, Some, None, Option, arith}
+use Rattle.rrd_base.specs.declared.refusal.Refusal.{Refusal}
+use Rattle.rrd_base.specs.declared.refusal.Refusal.TheVariants.{OutOfMemory}
+use Rattle.rrd_base.specs.declared.update.Update.{Update}
+use Rattle.rrd_base.specs.History.{Content}
+use Rattle.rrd_base.specs.Commands.{Updating, moved}
+use Rattle.rrd_base.specs.Kept.{kept_of, IsKept}
+use Rattle.rrd_base.specs.Survivors.{Kept, changed}
+use Rattle.rrd_base.specs.Stored.{before, update_of, journal_of}
+use Rattle.rrd_base.specs.Store.{saved_functions, functions}
+use Rattle.rrd_base.specs.Verdict.{first_refusal, update_checks, verdict}
+use Rattle.rrd_base.specs.Contents.{content_of}
+use Rattle.rrd_base.proofs.DatabaseLemmas.{some_samples}
+use Rattle.rrd_base.proofs.KeptLemmas.{Added, added}
+use Rattle.rrd_base.proofs.Moving.{moved_depth}
+use Rattle.rrd_base.proofs.database.Database.update.Goals as goal
+
+-- what was checked is the verdict
+checked : (x : Content) (y z : Content) (update : Update) (answer : Option Refusal) → answer ≡ first_refusal (update_checks x.sources x.last update) → x ≡ y → y ≡ z → verdict z (Updating update) ≡ answer
+unfolding verdict
+checked x y z update answer e f g = sym (e ∙ ap (λ (c : Content). first_refusal (update_checks c.sources c.last update)) (f ∙ g))
+
+pub returns-in-Some-clause-verdict : goal.returns-in-Some-clause-verdict
+returns-in-Some-clause-verdict c =
+    let e = c.check_update.ensures ∙ ap (λ ss. first_refusal (update_checks ss c.contents.inside.last c.args.update.now)) c.deref.ensures.value in
+    inl (checked (content_of c.contents.inside) c.self.inside.contents c.args.self.now.now c.args.update.now c.check_update.result e c.contents.view_is (ap (λ (k : Kept). k.now) c.self.view_is) ∙ c.in-Some.is)
+
+pub returns-in_default-before-clause-verdict : goal.returns-in_default-before-clause-verdict
+returns-in_default-before-clause-verdict c =
+    let e = c.check_update.ensures ∙ ap (λ ss. first_refusal (update_checks ss c.contents.inside.last c.args.update.now)) c.deref.ensures.value in
+    inr (refl, checked (content_of c.contents.inside) c.self.inside.contents c.args.self.now.now c.args.update.now c.check_update.result e c.contents.view_is (ap (λ (k : Kept). k.now) c.self.view_is) ∙ c.in_default.is)
+
+pub returns-in_default-new-clause-verdict : goal.returns-in_default-new-clause-verdict
+returns-in_default-new-clause-verdict c =
+    let e = c.check_update.ensures ∙ ap (λ ss. first_refusal (update_checks ss c.contents.inside.last c.args.update.now)) c.deref.ensures.value in
+    inr (refl, checked (content_of c.contents.inside) c.self.inside.contents c.args.self.now.now c.args.update.now c.check_update.result e c.contents.view_is (ap (λ (k : Kept). k.now) c.self.view_is) ∙ c.in_default.is)
+
+pub returns-clause-verdict : goal.returns-clause-verdict
+returns-clause-verdict c =
+    let e = c.check_update.ensures ∙ ap (λ ss. first_refusal (update_checks ss c.contents.inside.last c.args.update.now)) c.deref.ensures.value in
+    checked (content_of c.contents.inside) c.self.inside.contents c.args.self.now.now c.args.update.now c.check_update.result e c.contents.view_is (ap (λ (k : Kept). k.now) c.self.view_is) ∙ c.in_default.is
+
+pub take_samples-requires-clause-accepted : goal.take_samples-requires-clause-accepted
+take_samples-requires-clause-accepted c =
+    let e = c.check_update.ensures ∙ ap (λ ss. first_refusal (update_checks ss c.contents.inside.last c.args.update.now)) c.deref.ensures.value in
+    checked (content_of c.contents.inside) c.self.inside.contents c.self.inside.contents c.args.update.now c.check_update.result e c.contents.view_is refl ∙ c.in_default.is
+
+pub invariant_of-self : goal.invariant_of-self
+invariant_of-self c =
+    let d = c.self.inside in
+    let update = c.args.update.now in
+    let e = c.check_update.ensures ∙ ap (λ ss. first_refusal (update_checks ss c.contents.inside.last update)) c.deref.ensures.value in
+    let accepted = checked (content_of c.contents.inside) d.contents d.contents update c.check_update.result e c.contents.view_is refl ∙ c.in_default.is in
+    let some = some_samples d.contents update accepted in
+    let saved = c.in-Ok.ensures in
+    let one = added d.contents d.journal.items update c.in-Ok.before c.self.invariant.valid c.self.invariant.functions_stay accepted some (saved.0 ∙ ap (before d.contents) c.end_of.ensures) saved.1 in
+    rw (c.take_samples.ensures, c.push_back-oldest.ensures.items, c.self.invariant.places) (record {
+      places = sym (moved_depth d.contents (Updating update));
+      valid = one.after;
+      functions_stay = one.functions_stay;
+    })
+
+pub returns-clause-ok : goal.returns-clause-ok
+returns-clause-ok c =
+    let d = c.self.inside in
+    let update = c.args.update.now in
+    let e = c.check_update.ensures ∙ ap (λ ss. first_refusal (update_checks ss c.contents.inside.last update)) c.deref.ensures.value in
+    let accepted = checked (content_of c.contents.inside) d.contents d.contents update c.check_update.result e c.contents.view_is refl ∙ c.in_default.is in
+    let some = some_samples d.contents update accepted in
+    let saved = c.in-Ok.ensures in
+    let one = added d.contents d.journal.items update c.in-Ok.before c.self.invariant.valid c.self.invariant.functions_stay accepted some (saved.0 ∙ ap (before d.contents) c.end_of.ensures) saved.1 in
+    rw (c.take_samples.ensures, c.push_back-oldest.ensures.items, c.self.invariant.places)
+    (ap (λ j. let k : Kept = record { now = moved d.contents (Updating update); journal = j } in k) one.journal_is
+    ∙ ap (λ (k : Kept). changed k (Updating update)) c.self.view_is)

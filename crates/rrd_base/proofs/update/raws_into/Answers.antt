@@ -1,0 +1,17 @@
+use Rattle.std.proofs.Common.{◌≡◌, ◌∙◌, ap, suc, ◌+◌, ◌++◌, map, take, drop, set, get_or, length, ◌<◌, arith}
+use Rattle.rrd_base.specs.declared.definition.DsDef.{DsDef}
+use Rattle.rrd_base.specs.Commands.{raw_of, value_for}
+use Rattle.rrd_base.specs.Updating.{template_of}
+use Rattle.rrd_base.proofs.EachLemmas.{map_more}
+use Rattle.rrd_base.proofs.update.raws_into.Goals as goal
+
+pub loop-place-preserved : goal.loop-place-preserved
+loop-place-preserved c =
+    let i = c.loop-place.place in
+    let sources = c.args.sources.now in
+    let f = λ (source : DsDef). raw_of source.kind (value_for (template_of sources c.args.template.now) c.args.values.now source) in
+    let within : i < length sources = omega arith in
+    let within_room : i < length c.args.room.now = omega (arith, c.requires) in
+    ap (λ rs. set rs i c.raw_of.result) c.loop-place.invariant
+    ∙ map_more f sources c.args.room.now i c.index-sources-place.result c.raw_of.result within within_room (c.raw_of.ensures.value ∙ ap (raw_of c.index-sources-place.result.kind) c.value_for.ensures ∙ ap f c.index-sources-place.is)
+    ∙ ap (λ k. map f (take k sources) ++ drop k c.args.room.now) {x = suc i} {y = i + 1} (omega arith)

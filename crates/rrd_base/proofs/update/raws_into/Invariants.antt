@@ -1,0 +1,8 @@
+use Rattle.std.proofs.Common.{◌≡◌, ◌++◌, map, take, drop}
+use Rattle.rrd_base.specs.declared.definition.DsDef.{DsDef}
+use Rattle.rrd_base.specs.Commands.{raw_of, value_for}
+use Rattle.rrd_base.specs.Updating.{template_of}
+use Rattle.rrd_base.proofs.update.raws_into.Given as goal
+
+abbrev pub invariant-loop-place : goal.invariant-loop-place
+invariant-loop-place l = l.room ≡ map (λ (source : DsDef). raw_of source.kind (value_for (template_of l.sources l.template) l.values source)) (take l.place l.sources) ++ drop l.place l.fn.room

@@ -1,0 +1,18 @@
+-- The content that a database's fields hold.
+use Rattle.rrd_base.specs.History.{Content}
+use Rattle.rrd_base.specs.Validity.{IsValid}
+use Rattle.rrd_base.specs.declared.contents.Contents.TheInside.{Inside}
+
+abbrev pub content_of : Inside → Content
+content_of d = record {
+  step = d.step;
+  depth = d.depth;
+  sources = d.sources.items;
+  last = d.last;
+  raws = d.raws.items;
+  parts = d.preps.items;
+  archives = d.stores.items;
+}
+
+abbrev pub IsHeld : Inside → Type 0
+IsHeld d = IsValid (content_of d)

@@ -1,0 +1,31 @@
+-- The journal that a database's fields hold.
+use Rattle.std.specs.Prelude.{◌≡◌, ℕ, List, map, reverse}
+use Rattle.rrd_base.specs.History.{Archive, Content}
+use Rattle.rrd_base.specs.Entries as entries
+use Rattle.rrd_base.specs.Store.{CanPutBackEach, befores, functions, saved_functions}
+use Rattle.rrd_base.specs.declared.entry.Entry.{Entry}
+use Rattle.rrd_base.specs.declared.entry.Entry.TheVariants as entry
+use Rattle.rrd_base.specs.declared.entry.Before.{Before}
+
+-- what an update that ends at a time leaves in the journal
+abbrev pub before : Content → ℕ → entries.BeforeUpdate
+before now end = record { last = now.last; raws = now.raws; parts = now.parts; archives = map (entries.dropped now.step now.last end) now.archives }
+
+-- the entry of an update
+abbrev pub update_of : Before → entries.BeforeUpdate
+update_of b = record { last = b.last; raws = b.raws.items; parts = b.preps.items; archives = befores b.stores.items }
+
+abbrev pub entry_of : Entry → entries.Entry
+entry_of (entry.Update b) = entries.Updated (update_of b)
+
+-- the entry's preparations are those of the archives' functions
+abbrev pub HasFunctions : List Archive → Entry → Type 0
+HasFunctions archives (entry.Update b) = saved_functions b.stores.items ≡ functions archives
+
+-- the entry can be put back
+abbrev pub CanUndo : List Archive → Entry → Type 0
+CanUndo archives (entry.Update b) = (saved_functions b.stores.items ≡ functions archives) × CanPutBackEach archives (befores b.stores.items)
+
+-- the journal, newest first
+abbrev pub journal_of : List Entry → List entries.Entry
+journal_of items = reverse (map entry_of items)

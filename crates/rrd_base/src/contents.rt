@@ -1,0 +1,172 @@
+//! What a database holds, but for its journal: how seconds and samples move it.
+ghost use Rattle.std.specs.Prelude.{◌≡◌, ℕ, ◌+◌, ◌-◌, ◌*◌, ◌/◌, ◌^◌, ◌<◌, ◌≤◌, [], ◌∷◌, length, replicate, IfOk, None};
+ghost use Rattle.rrd_base.specs.Commands.{Updating, moved};
+ghost use Rattle.rrd_base.specs.Room.{HasPlaces};
+ghost use Rattle.rrd_base.specs.Stored.{CanUndo, before, entry_of, update_of};
+ghost use Rattle.rrd_base.specs.Entries.{Updated, undone};
+ghost use Rattle.rrd_base.specs.Store.{CanPutBackEach, befores, functions, saved_functions};
+ghost use Rattle.rrd_base.specs.Verdict.{verdict};
+ghost use Rattle.rrd_base.specs.History.{Sampled, content};
+ghost use Rattle.rrd_base.specs.Passed.{passed};
+ghost use Rattle.rrd_base.specs.Validity.{AreAccepted, IsRow, IsValid};
+
+use crate::Update;
+use crate::definition::DsDef;
+use crate::entry::{Before, Entry};
+use crate::preparing::{add_all, close_all, rates_into};
+use crate::room::Room;
+use crate::store::{Store, put_back_all, save_all, take_all};
+use crate::update::raws_into;
+use rrd_fixed::{Cell, Meter, Raw};
+use rrd_fold::StepPrep;
+use std::alloc::{AllocError, Global};
+use std::marker::Model;
+
+/// The settings, the last time, and for each source and archive what has come so far.
+#[derive(Drop)]
+pub(crate) struct Contents {
+    pub(crate) step: u64,
+    pub(crate) depth: u64,
+    pub(crate) last: u64,
+    pub(crate) sources: Vec<DsDef>,
+    pub(crate) raws: Vec<Raw>,
+    pub(crate) preps: Vec<StepPrep>,
+    pub(crate) stores: Vec<Store>,
+}
+
+impl Model for Contents {
+    ghost use Rattle.rrd_base.specs.History.{Content};
+
+    ghost Value = { Content };
+
+    ghost use Rattle.rrd_base.specs.Contents.{content_of, IsHeld};
+
+    ghost view = { content_of };
+
+    ghost invariant = { IsHeld };
+}
+
+impl Contents {
+    /// Lets so many seconds of the step in progress pass. `step_room` and `row_room` have a place
+    /// for each source.
+    fn pass(
+        &mut self,
+        rates: &[Cell],
+        seconds: u64,
+        step_room: &mut [Cell],
+        row_room: &mut [Cell],
+        meter: &mut Meter,
+    )
+        requires within { self.old.last + seconds ≤ (self.old.last / self.old.step + 1) * self.old.step }
+        requires rates_are { IsRow (length self.old.sources) rates.now }
+        requires some { 0 < seconds }
+        requires in_time { self.old.last + seconds ≤ 9999999999 }
+        requires step_wide { length step_room.old ≡ length self.old.sources }
+        requires row_wide { length row_room.old ≡ length self.old.sources }
+        requires turns { meter.old + 13000 < 2 ^ 64 }
+        ensures turns { meter.new ≤ meter.old + 13000 }
+        ensures last { self.new.last ≡ self.old.last + seconds }
+        ensures step { self.new.step ≡ self.old.step }
+        ensures sources { self.new.sources ≡ self.old.sources }
+        ensures raws { self.new.raws ≡ self.old.raws }
+        ensures value { self.new ≡ passed self.old (replicate seconds rates.now) }
+    {
+        add_all(&mut self.preps, rates, seconds, meter);
+        self.last += seconds;
+        if self.last % self.step == 0 {
+            close_all(&mut self.preps, self.step, step_room, meter);
+            take_all(&mut self.stores, step_room, self.last / self.step, row_room, meter);
+        }
+    }
+
+    /// Takes a sample's raw values, a time after the last one. The rooms have a place for each
+    /// source.
+    fn sample(
+        &mut self,
+        time: u64,
+        raws: &[Raw],
+        rates: &mut [Cell],
+        step_room: &mut [Cell],
+        row_room: &mut [Cell],
+        meter: &mut Meter,
+    )
+        requires later { self.old.last < time }
+        requires in_time { time ≤ 9999999999 }
+        requires accepted { AreAccepted self.old.sources raws.now }
+        requires rates_wide { length rates.old ≡ length self.old.sources }
+        requires step_wide { length step_room.old ≡ length self.old.sources }
+        requires row_wide { length row_room.old ≡ length self.old.sources }
+        requires turns { meter.old + 13000 * (time - self.old.last) < 2 ^ 63 }
+        ensures turns { meter.new ≤ meter.old + 13000 * (time - self.old.last) }
+        ensures value { self.new ≡ content self.old (Sampled (record { time = time; raws = raws.now }) ∷ []) }
+        ensures valid { IsValid self.new }
+    {
+        rates_into(&self.sources, time - self.last, &self.raws, raws, rates);
+        let step = self.step;
+        let mut at = self.last;
+        while at < time {
+            let seconds = ((at / step + 1) * step).min(time) - at;
+            self.pass(rates, seconds, step_room, row_room, meter);
+            at += seconds;
+        }
+        self.raws.copy_from_slice(raws);
+    }
+
+    /// Takes the samples of an update that is accepted. The room has a place for each source.
+    pub(crate) fn take_samples(&mut self, update: &Update, room: &mut Room, meter: &mut Meter)
+        requires valid { IsValid self.old }
+        requires accepted { verdict self.old (Updating update.now) ≡ None }
+        requires places { HasPlaces room.old (length self.old.sources) }
+        requires turns { meter.old ≡ 0 }
+        ensures { self.new ≡ moved self.old (Updating update.now) }
+    {
+        for sample in update.samples.as_slice() {
+            let values = sample.values.as_slice();
+            raws_into(&update.template, &self.sources, values, &mut room.raws);
+            let rates = &mut room.rates;
+            self.sample(sample.time, &room.raws, rates, &mut room.step, &mut room.row, meter);
+        }
+    }
+
+    /// What the journal keeps of an update that ends at a time.
+    pub(crate) fn before(&self, alloc: Global, end: u64) -> Result<Before, AllocError>
+        ensures { IfOk result (λ b. (update_of b ≡ before self.now end) × (saved_functions b.stores.items ≡ functions self.now.archives)) }
+    {
+        Ok(Before {
+            last: self.last,
+            raws: Vec::from_slice(alloc, &self.raws)?,
+            preps: Vec::from_slice(alloc, &self.preps)?,
+            stores: save_all(alloc, &self.stores, self.step, self.last, end)?,
+        })
+    }
+
+    /// Puts back what was before an update. It takes no memory.
+    fn undo_update(&mut self, before: Before)
+        requires functions { saved_functions before.stores.items ≡ functions self.old.archives }
+        requires fits { CanPutBackEach self.old.archives (befores before.stores.items) }
+        requires valid { IsValid (undone self.old (Updated (update_of before))) }
+        ensures { self.new ≡ undone self.old (Updated (update_of before)) }
+    {
+        let Before {
+            last,
+            raws,
+            preps,
+            stores,
+        } = before;
+        self.last = last;
+        self.raws = raws;
+        self.preps = preps;
+        put_back_all(&mut self.stores, stores);
+    }
+
+    /// Puts back what was before a change. It takes no memory.
+    pub(crate) fn undo(&mut self, entry: Entry)
+        requires fits { CanUndo self.old.archives entry }
+        requires valid { IsValid (undone self.old (entry_of entry)) }
+        ensures { self.new ≡ undone self.old (entry_of entry) }
+    {
+        match entry {
+            Entry::Update(before) => self.undo_update(before),
+        }
+    }
+}
