@@ -20,3 +20,9 @@ pub mod Created
 pub mod StoreLemmas
 pub mod PutBack
 pub mod ChoiceLemmas
+pub mod Passing
+pub mod UpdatingLemmas
+pub mod SampleSteps
+pub mod JournalLemmas
+pub mod DatabaseLemmas
+pub mod KeptLemmas

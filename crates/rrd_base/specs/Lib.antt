@@ -13,3 +13,9 @@ pub mod Creating
 pub mod Store
 pub mod Cells
 pub mod Choice
+pub mod Contents
+pub mod Updating
+pub mod Room
+pub mod Stored
+pub mod Kept
+pub mod Answers

@@ -12,7 +12,12 @@ mod resize;
 mod store;
 mod tune;
 mod update;
+mod contents;
+pub mod database;
+mod entry;
+mod room;
 
+pub use database::Database;
 pub use choose::Chosen;
 pub use create::CreateSpec;
 pub use definition::{DsDef, RraDef};
