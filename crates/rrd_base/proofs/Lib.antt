@@ -26,3 +26,4 @@ pub mod SampleSteps
 pub mod JournalLemmas
 pub mod DatabaseLemmas
 pub mod KeptLemmas
+pub mod CellLemmas

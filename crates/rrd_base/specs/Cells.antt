@@ -1,13 +1,13 @@
 -- What an archive shows at each time.
-use Rattle.std.specs.Prelude.{◌≡◌, ℕ, ◌+◌, ◌-◌, ◌*◌, ◌/◌, ◌<◌, ℤ, pos, negsuc, ◌-ℤ◌, ◌*ℤ◌, int_lt, int_le, ◌||◌, if◌then◌else◌, Some, List, [], ◌∷◌, map, length, replicate, slice_get, slice_index_or}
-use Rattle.std.specs.List.{fold}
-use Rattle.std.specs.Int.{int_max}
+use Rattle.std.specs.Prelude.{◌≡◌, ℕ, ◌-◌, ◌*◌, ◌/◌, ℤ, pos, ◌-ℤ◌, unsigned_abs, int_lt, int_le, if◌then◌else◌, Some, List, [], ◌∷◌, map, length, replicate, slice_get, slice_index_or}
+use Rattle.std.specs.List.{fold, range_with_len}
+use Rattle.std.specs.Int.{int_max, int_rem_euclid}
 use Rattle.rrd_fixed.specs.declared.cell.Cell.{Cell}
 use Rattle.rrd_fold.specs.Groups.{group_part}
 use Rattle.rrd_fold.specs.Parts.{seconds_to_steps}
 use Rattle.rrd_base.specs.declared.definition.RraDef.{RraDef}
 use Rattle.rrd_base.specs.Rules.{rows_rule}
-use Rattle.rrd_base.specs.History.{Archive, Content, Event, moment_of, moment_at_end, seconds_of, steps_of, rows_after, content, IsHistory, IsBase}
+use Rattle.rrd_base.specs.History.{Archive, Content, Event, moment_of, moment_at_end, seconds_of, steps_of, rows_of, rows_after, content, IsHistory, IsBase}
 use Rattle.rrd_base.specs.Passed.{row_at}
 
 -- ---- an archive's rows and their times
@@ -43,3 +43,58 @@ reach_after base index archive events =
 -- the time up to which rows have been lost: an archive never shows again what at any moment it had no place for (rrdresize)
 abbrev pub horizon : Content → ℕ → Archive → List Event → ℤ
 horizon base index archive events = greatest (map (reach_after base index archive) (prefixes events))
+
+-- ---- a step and a row by themselves
+
+-- The seconds: `second` in specs/History, the rate of the first sample at or after each (rrdcreate, "The HEARTBEAT and the STEP").
+-- All steps, and all rows, of a history are `steps_of` and `rows_of` there: the lists of these ones.
+
+-- the step of this number, 0 the first since 1970: it has the seconds that pass after so many steps. The base's unfinished step comes before them (rrdcreate, "The HEARTBEAT and the STEP")
+abbrev pub step : Content → List Event → ℕ → List Cell
+step base events number =
+    let rule = seconds_to_steps base.step (length base.sources) in
+    rule.close (group_part rule base.last base.parts (seconds_of base events) number)
+
+-- the row of this number: it has the steps that end after so many rows. The base's unfinished row comes before them (rrdcreate, "RRA")
+abbrev pub row : Content → Archive → List Event → ℕ → List Cell
+row base archive events number =
+    let rule = rows_rule archive.def (length base.sources) in
+    rule.close (group_part rule (base.last / base.step) archive.parts (steps_of base events) number)
+
+-- the row that ends at a time after 1970, a multiple of the resolution
+abbrev pub row_ending : Content → Archive → List Event → ℤ → List Cell
+row_ending base archive events time = row base archive events (unsigned_abs time / resolution base.step archive.def - 1)
+
+-- ---- what an archive shows
+
+-- the row at a time, a multiple of the resolution: unknown up to the horizon and after the end; else the base's where the base has come so far; else that of its steps (rrdresize)
+abbrev pub row_by_time : Content → ℕ → Archive → List Event → ℤ → List Cell
+row_by_time base index archive events time =
+    let size = resolution base.step archive.def in
+    let unknown = replicate (length base.sources) Cell.Unknown in
+    if int_le time (horizon base index archive events) then unknown
+    else (if int_lt (pos (newest size (moment_at_end base events).last)) time then unknown
+    else (if int_le time (pos (newest size base.last)) then row_at base archive time
+    else row_ending base archive events time))
+
+-- a source's cell at a time
+abbrev pub cell_at : Content → ℕ → Archive → List Event → ℤ → ℕ → Cell
+cell_at base index archive events time source = slice_index_or (row_by_time base index archive events time) source Cell.Unknown
+
+-- ---- the laws
+
+-- a time at which rows of this resolution end
+abbrev pub IsMultiple : ℤ → ℕ → Type 0
+IsMultiple time size = int_rem_euclid time (pos size) ≡ pos 0
+
+-- each archive of a history's content shows at each such time the row of that time
+abbrev pub ShowsByTime : Content → List Event → Type 0
+ShowsByTime base events =
+    IsBase base → IsHistory (moment_of base) events →
+    (index : ℕ) (archive shown : Archive) → slice_get base.archives index ≡ Some archive → slice_get (content base events).archives index ≡ Some shown →
+    (time : ℤ) → IsMultiple time (resolution base.step archive.def) → row_at (content base events) shown time ≡ row_by_time base index archive events time
+
+-- the steps and rows of a history, each by itself
+pub record ListsByNumber (base : Content) (archive : Archive) (events : List Event) : Type 0 where
+  pub steps_are : steps_of base events ≡ map (step base events) (range_with_len (base.last / base.step) (length (steps_of base events)))
+  pub rows_are : rows_of base archive events ≡ map (row base archive events) (range_with_len (base.last / base.step / archive.def.steps) (length (rows_of base archive events)))

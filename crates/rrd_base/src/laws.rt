@@ -9,6 +9,7 @@ ghost use Rattle.rrd_base.specs.Survivors.{Action, Moves, RunsAgree};
 ghost use Rattle.rrd_base.specs.Validity.{StaysValid, DatabaseStays, RunsStay};
 ghost use Rattle.rrd_base.specs.declared.create.CreateSpec.{CreateSpec};
 ghost use Rattle.rrd_base.specs.Creating.{CreatedIsValid};
+ghost use Rattle.rrd_base.specs.Cells.{ShowsByTime, ListsByNumber};
 ghost use Rattle.rrd_base.specs.Worked as worked;
 ghost use Rattle.rrd_base.specs.WorkedCommands as commands;
 
@@ -45,6 +46,18 @@ pub fn rows_come_back()
 /// An archive's rows, each by its age.
 pub fn rows_by_age()
     ensures { (rows room : ℕ) (all : List (List Cell)) (unknown : List Cell) → ShowsByAge rows room all unknown }
+{
+}
+
+/// Each archive's rows, each by its time.
+pub fn cells_by_time()
+    ensures { (base : Content) (events : List Event) → ShowsByTime base events }
+{
+}
+
+/// The steps and rows of a history, each by itself.
+pub fn steps_and_rows_by_number()
+    ensures { (base : Content) (archive : Archive) (events : List Event) → ListsByNumber base archive events }
 {
 }
 
