@@ -19,3 +19,4 @@ pub mod Room
 pub mod Stored
 pub mod Kept
 pub mod Answers
+pub mod WorkedTimes

@@ -12,6 +12,7 @@ ghost use Rattle.rrd_base.specs.Creating.{CreatedIsValid};
 ghost use Rattle.rrd_base.specs.Cells.{ShowsByTime, ListsByNumber};
 ghost use Rattle.rrd_base.specs.Worked as worked;
 ghost use Rattle.rrd_base.specs.WorkedCommands as commands;
+ghost use Rattle.rrd_base.specs.WorkedTimes as times;
 
 /// A history may be cut anywhere: the content at the cut is a base for what comes after.
 pub fn content_goes_on()
@@ -116,5 +117,13 @@ pub fn examples()
     ensures refused_whole { commands.RefusedWhole }
     ensures retyped { commands.Retyped }
     ensures bounded { commands.Bounded }
+{
+}
+
+/// So they do for new databases, rows by their times, and fetches.
+pub fn examples_by_time()
+    ensures created { times.Created }
+    ensures resizing { times.Resizing }
+    ensures fetched { times.Fetched }
 {
 }
