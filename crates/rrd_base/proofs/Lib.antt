@@ -27,3 +27,4 @@ pub mod JournalLemmas
 pub mod DatabaseLemmas
 pub mod KeptLemmas
 pub mod CellLemmas
+pub mod ShownLemmas

@@ -20,3 +20,4 @@ pub mod Stored
 pub mod Kept
 pub mod Answers
 pub mod WorkedTimes
+pub mod Shown

@@ -1,6 +1,12 @@
 //! What a database holds, but for its journal: how seconds and samples move it.
-ghost use Rattle.std.specs.Prelude.{◌≡◌, ℕ, ◌+◌, ◌-◌, ◌*◌, ◌/◌, ◌^◌, ◌<◌, ◌≤◌, [], ◌∷◌, length, replicate, IfOk, None};
+ghost use Rattle.std.specs.Prelude.{◌≡◌, ℕ, ◌+◌, ◌-◌, ◌*◌, ◌/◌, ◌^◌, ◌<◌, ◌≤◌, [], ◌∷◌, length, replicate, slice_index_or, IfOk, None, pos, ◌-ℤ◌};
+ghost use Rattle.std.specs.Int.{int_div_euclid};
+ghost use Rattle.rrd_base.specs.Choice.{choice_of};
 ghost use Rattle.rrd_base.specs.Commands.{Updating, moved};
+ghost use Rattle.rrd_base.specs.Creating.{create_verdict, created};
+ghost use Rattle.rrd_base.specs.Shown.{cell_at, definitions, prep_at};
+ghost use Rattle.rrd_fixed.specs.declared.raw.Raw.TheVariants.{Unknown};
+ghost use Rattle.rrd_fold.specs.Parts.{nothing};
 ghost use Rattle.rrd_base.specs.Room.{HasPlaces};
 ghost use Rattle.rrd_base.specs.Stored.{CanUndo, before, entry_of, update_of};
 ghost use Rattle.rrd_base.specs.Entries.{Updated, undone};
@@ -10,15 +16,16 @@ ghost use Rattle.rrd_base.specs.History.{Sampled, content};
 ghost use Rattle.rrd_base.specs.Passed.{passed};
 ghost use Rattle.rrd_base.specs.Validity.{AreAccepted, IsRow, IsValid};
 
-use crate::Update;
+use crate::choose::{Chosen, Request, Search};
 use crate::definition::DsDef;
 use crate::entry::{Before, Entry};
 use crate::preparing::{add_all, close_all, rates_into};
 use crate::room::Room;
-use crate::store::{Store, put_back_all, save_all, take_all};
+use crate::store::{Store, new_all, put_back_all, save_all, take_all};
 use crate::update::raws_into;
+use crate::{CreateSpec, Refusal, Update};
 use rrd_fixed::{Cell, Meter, Raw};
-use rrd_fold::StepPrep;
+use rrd_fold::{RowPrep, StepPrep};
 use std::alloc::{AllocError, Global};
 use std::marker::Model;
 
@@ -47,6 +54,74 @@ impl Model for Contents {
 }
 
 impl Contents {
+    /// A new database's contents: nothing is known yet.
+    pub(crate) fn new(alloc: Global, spec: CreateSpec) -> Result<Contents, AllocError>
+        requires { create_verdict spec ≡ None }
+        ensures { IfOk result (λ contents. contents ≡ created spec) }
+    {
+        let sources = spec.sources.len();
+        let raws = vec![in alloc; Raw::Unknown; sources]?;
+        let preps = vec![in alloc; StepPrep::new(); sources]?;
+        let stores = new_all(alloc, spec.archives.as_slice(), sources as u64)?;
+        Ok(Contents {
+            step: spec.step,
+            depth: spec.depth,
+            last: spec.start,
+            sources: spec.sources.into_vec(),
+            raws,
+            preps,
+            stores,
+        })
+    }
+
+    /// Which archive a fetch reads, and which of its rows.
+    pub(crate) fn choose(&self, request: Request) -> Result<Chosen, Refusal>
+        ensures { result ≡ choice_of self.now.step self.now.last (definitions self.now.archives) request }
+    {
+        let mut search = Search::begin(self.step, self.last, request)?;
+        for (number, store) in self.stores.iter().enumerate() {
+            search.offer(number as u64, &store.def());
+        }
+        search.finish()
+    }
+
+    /// A data source's last raw value.
+    pub(crate) fn raw(&self, source: usize) -> Raw
+        requires { source < length self.now.sources }
+        ensures { result ≡ slice_index_or self.now.raws source Unknown }
+    {
+        self.raws[source]
+    }
+
+    /// The preparation of a source's unfinished step.
+    pub(crate) fn step_prep(&self, source: usize) -> &StepPrep
+        requires { source < length self.now.sources }
+        ensures { result.now ≡ slice_index_or self.now.parts source nothing }
+    {
+        &self.preps[source]
+    }
+
+    /// The preparation of a source's unfinished row in an archive.
+    pub(crate) fn row_prep(&self, archive: usize, source: usize) -> RowPrep
+        requires archive_there { archive < length self.now.archives }
+        requires source_there { source < length self.now.sources }
+        ensures { result ≡ prep_at self.now archive source }
+    {
+        self.stores[archive].prep(source)
+    }
+
+    /// The cell of a source in an archive's row at a time, a multiple of the seconds in a row;
+    /// unknown where the archive has no such row.
+    pub(crate) fn cell(&self, archive: usize, time: i64, source: usize) -> Cell
+        requires archive_there { archive < length self.now.archives }
+        requires source_there { source < length self.now.sources }
+        ensures { result ≡ cell_at self.now archive time source }
+    {
+        let store = &self.stores[archive];
+        let resolution = self.step * store.def().steps;
+        store.cell_of_age(age(self.last, resolution, time), source)
+    }
+
     /// Lets so many seconds of the step in progress pass. `step_room` and `row_room` have a place
     /// for each source.
     fn pass(
@@ -169,4 +244,14 @@ impl Contents {
             Entry::Update(before) => self.undo_update(before),
         }
     }
+}
+
+/// How many rows of so many seconds end after one that ends at `time` up to the last time; negative
+/// if it ends later.
+fn age(last: u64, resolution: u64, time: i64) -> i128
+    requires some { 0 < resolution }
+    requires small { resolution ≤ 10 ^ 12 }
+    ensures { result ≡ pos (last / resolution) -ℤ int_div_euclid time (pos resolution) }
+{
+    i128::from(last / resolution) - i128::from(time.div_euclid(resolution as i64))
 }

@@ -1,18 +1,26 @@
 //! The database.
-ghost use Rattle.std.specs.Prelude.{◌≡◌, ◌<◌, ◌≢◌, [], length, IfOk, OnErr, MatchResult, Err, slice_index_or};
+ghost use Rattle.std.specs.Prelude.{◌≡◌, ◌<◌, ◌≢◌, [], length, IfOk, OnErr, MatchResult, Err, Some, slice_get, slice_index_or};
 ghost use Rattle.rrd_base.specs.Answers.{IsAnswer};
+ghost use Rattle.rrd_fixed.specs.declared.raw.Raw.TheVariants.{Unknown};
+ghost use Rattle.rrd_base.specs.Choice.{choice};
 ghost use Rattle.rrd_base.specs.Commands.{Updating};
+ghost use Rattle.rrd_base.specs.Creating.{create_verdict, created};
+ghost use Rattle.rrd_base.specs.Shown.{cell_at, definitions, prep_at};
+ghost use Rattle.rrd_fold.specs.Parts.{nothing};
 ghost use Rattle.rrd_base.specs.Survivors.{changed, reverted};
 ghost use Rattle.rrd_base.specs.Updating.{end_of};
 ghost use Rattle.rrd_base.specs.Verdict.{verdict};
 
+use crate::choose::Request;
 use crate::contents::Contents;
+use crate::create::check;
 use crate::entry::Entry;
 use crate::room::Room;
 use crate::update::check_update;
-use crate::{DsDef, Receipt, Refusal, RraDef, Update};
+use crate::{Chosen, CreateSpec, DsDef, Receipt, Refusal, RraDef, Update};
 use circular_buffer::HeapCircularBuffer;
-use rrd_fixed::Meter;
+use rrd_fixed::{Cell, Meter, Raw};
+use rrd_fold::{Function, RowPrep, StepPrep};
 use std::alloc::Global;
 use std::marker::Model;
 
@@ -37,6 +45,24 @@ impl Model for Database {
 }
 
 impl Database {
+    /// Makes a database (rrdcreate). Refuses, each number over all sources or archives before the
+    /// next: a bad step, a bad start, no data source, no archive, a bad name, a double name, a bad
+    /// heartbeat, bad bounds, a bad share, bad steps, bad rows, one too large, a bad journal depth,
+    /// and last want of memory.
+    pub fn create(alloc: Global, spec: CreateSpec) -> Result<Database, Refusal>
+        ensures verdict { IsAnswer (create_verdict spec) result }
+        ensures ok { IfOk result (λ d. d ≡ record { now = created spec; journal = [] }) }
+    {
+        check(&spec)?;
+        let Ok(contents) = Contents::new(alloc, spec) else {
+            return Err(Refusal::OutOfMemory);
+        };
+        let Ok(journal) = HeapCircularBuffer::with_capacity(alloc, contents.depth as usize) else {
+            return Err(Refusal::OutOfMemory);
+        };
+        Ok(Database { contents, journal })
+    }
+
     /// Takes the samples of an update, all or none (rrdupdate). Refuses a template that names no
     /// source or one twice, no sample, then sample by sample a bad time, one not later than the one
     /// before, a wrong number of values and a bad value, and last want of memory. The journal gets an
@@ -112,6 +138,69 @@ impl Database {
         ensures count { result ≡ length self.now.now.sources }
     {
         self.contents.sources.len() as u64
+    }
+
+    /// How many archives there are.
+    pub fn archives(&self) -> u64
+        ensures count { result ≡ length self.now.now.archives }
+    {
+        self.contents.stores.len() as u64
+    }
+
+    /// An archive's settings.
+    pub fn archive(&self, number: u64) -> RraDef
+        requires { number < length self.now.now.archives }
+        ensures { Some result ≡ slice_get (definitions self.now.now.archives) number }
+    {
+        self.contents.stores[number as usize].def()
+    }
+
+    /// A data source's last raw value.
+    pub fn last_raw(&self, source: u64) -> Raw
+        requires { source < length self.now.now.sources }
+        ensures { result ≡ slice_index_or self.now.now.raws source Unknown }
+    {
+        self.contents.raw(source as usize)
+    }
+
+    /// The preparation of a data source's unfinished step.
+    pub fn step_prep(&self, source: u64) -> &StepPrep
+        requires { source < length self.now.now.sources }
+        ensures { result.now ≡ slice_index_or self.now.now.parts source nothing }
+    {
+        self.contents.step_prep(source as usize)
+    }
+
+    /// The preparation of a data source's unfinished row in an archive.
+    pub fn row_prep(&self, archive: u64, source: u64) -> RowPrep
+        requires archive_there { archive < length self.now.now.archives }
+        requires source_there { source < length self.now.now.sources }
+        ensures { result ≡ prep_at self.now.now archive source }
+    {
+        self.contents.row_prep(archive as usize, source as usize)
+    }
+
+    /// Which archive a fetch reads, and which of its rows (rrdfetch). Refuses a bad time, a bad span,
+    /// a function that no archive has, and a span of more than 1,000,000 rows.
+    pub fn choose(&self, function: Function, asked: u64, start: u64, end: u64) -> Result<Chosen, Refusal>
+        ensures { result ≡ choice self.now.now function asked start end }
+    {
+        self.contents.choose(Request {
+            function,
+            asked,
+            start,
+            end,
+        })
+    }
+
+    /// The cell of a source in an archive's row at a time, a multiple of the seconds in a row;
+    /// unknown where the archive has no such row.
+    pub fn cell(&self, archive: u64, time: i64, source: u64) -> Cell
+        requires archive_there { archive < length self.now.now.archives }
+        requires source_there { source < length self.now.now.sources }
+        ensures { result ≡ cell_at self.now.now archive time source }
+    {
+        self.contents.cell(archive as usize, time, source as usize)
     }
 
     /// A data source's settings.

@@ -43,6 +43,14 @@ impl<T> List<T> {
         &self.items[at]
     }
 
+    /// The items in order, without the list.
+    pub(crate) fn into_vec(self) -> Vec<T>
+        ensures { result.items ≡ self }
+    {
+        let List { items } = self;
+        items
+    }
+
     /// The items in order.
     pub fn as_slice(&self) -> &[T]
         ensures { result.now ≡ self.now }

@@ -1,11 +1,13 @@
 //! Archives: for each source the preparation of its unfinished row, and the rows.
-ghost use Rattle.std.specs.Prelude.{◌≡◌, ℕ, ◌+◌, ◌-◌, ◌*◌, ◌^◌, ◌<◌, ◌≤◌, ◌≤ℤ◌, [], ◌∷◌, length, map, pos, replicate, slice_index_or, take as first, IfOk};
+ghost use Rattle.std.specs.Prelude.{◌≡◌, ℕ, List, ◌+◌, ◌-◌, ◌*◌, ◌^◌, ◌<◌, ◌≤◌, ◌≤ℤ◌, [], ◌∷◌, length, map, pos, replicate, slice_index_or, take as first, IfOk};
 ghost use Rattle.std.specs.List.{AllByRecursion};
+ghost use Rattle.rrd_fixed.specs.declared.cell.Cell.{Cell};
 ghost use Rattle.rrd_fixed.specs.declared.cell.Cell.TheVariants.{Unknown};
 ghost use Rattle.rrd_fold.specs.Parts.{nothing};
 ghost use Rattle.rrd_ring.specs.Rows.{newest_rows, row_at};
 ghost use Rattle.rrd_base.specs.Entries.{dropped, put_back as after_put_back, put_back_each};
-ghost use Rattle.rrd_base.specs.Passed.{archive_passed};
+ghost use Rattle.rrd_base.specs.Creating.{new_archive};
+ghost use Rattle.rrd_base.specs.Passed.{archive_passed, row_of_age};
 ghost use Rattle.rrd_base.specs.Store.{CanPutBack, CanPutBackEach, IsStepped, befores, functions, saved_functions};
 ghost use Rattle.rrd_base.specs.Validity.{IsRow, IsValidArchive};
 
@@ -101,6 +103,18 @@ impl Store {
         ensures { result ≡ slice_index_or (row_at self.now.rows row) source Unknown }
     {
         self.rows.row(row)[source]
+    }
+
+    /// The cell of a source in a row of an age, 0 for the newest; unknown where there is no such row.
+    pub(crate) fn cell_of_age(&self, age: i128, source: usize) -> Cell
+        requires { (k : ℕ) → k < length self.now.rows → source < length (row_at self.now.rows k) }
+        ensures { (unknown : List Cell) → slice_index_or unknown source Unknown ≡ Unknown → result ≡ slice_index_or (row_of_age self.now.rows unknown age) source Unknown }
+    {
+        let rows = self.rows();
+        if age < 0 || age >= i128::from(rows) {
+            return Cell::Unknown;
+        }
+        self.cell(rows - 1 - age as u64, source)
     }
 
     /// The preparation of a source's unfinished row.
@@ -252,4 +266,18 @@ pub(crate) fn put_back_all(stores: &mut [Store], mut saved: Vec<Saved>)
     while let Some(old) = saved.pop() {
         stores[saved.len()].put_back(old);
     }
+}
+
+/// New archives of these settings, so many sources having been defined.
+pub(crate) fn new_all(alloc: Global, defs: &[RraDef], sources: u64) -> Result<Vec<Store>, AllocError>
+    requires rows { AllByRecursion (λ def. (0 < def.rows) × (def.rows ≤ 1000000)) defs.now }
+    requires some_sources { 0 < sources }
+    requires few_sources { sources ≤ 64 }
+    ensures { IfOk result (λ stores. stores.items ≡ map (new_archive sources) defs.now) }
+{
+    let mut stores = Vec::with_capacity(alloc, defs.len())?;
+    for def in defs {
+        stores.push(Store::new(alloc, *def, sources)?)?;
+    }
+    Ok(stores)
 }

@@ -1,0 +1,31 @@
+-- What is shown of an archive, and what makes a new one good.
+use Rattle.std.proofs.Common.{◌≡◌, refl, sym, ◌∙◌, ap, ℕ, zero, suc, ◌+◌, ◌<◌, ◌≤◌, ℤ, List, [], ◌∷◌, length, map, get_or, arith}
+use Rattle.std.specs.List.{AllByRecursion}
+use Rattle.rrd_fixed.specs.declared.cell.Cell.TheVariants.{Unknown}
+use Rattle.rrd_base.specs.declared.definition.RraDef.{RraDef}
+use Rattle.rrd_base.specs.History.{Archive, Content}
+use Rattle.rrd_base.specs.Creating.{new_archive}
+use Rattle.rrd_base.specs.Passed.{row_at}
+use Rattle.rrd_fold.specs.Bounds.{Consolidating}
+use Rattle.rrd_fold.specs.Parts.{nothing}
+use Rattle.rrd_base.specs.Shown.{cell_in, prep_in}
+use Rattle.rrd_base.specs.Validity.{IsValidArchive}
+
+pub cell_of_archive : (content : Content) (archives : List Archive) (k : ℕ) (d : Archive) (time : ℤ) (source : ℕ) → k < length archives → get_or (row_at content (get_or archives k d) time) source Unknown ≡ cell_in content archives k time source
+cell_of_archive content [] k d time source h = absurd (omega arith)
+cell_of_archive content (a ∷ rest) zero d time source h = refl
+cell_of_archive content (a ∷ rest) (suc k) d time source h = cell_of_archive content rest k d time source (omega arith)
+
+pub good_rows : (sources steps : ℕ) (defs : List RraDef) → AllByRecursion (IsValidArchive sources steps) (map (new_archive sources) defs) → AllByRecursion (λ (def : RraDef). (0 < def.rows) × (def.rows ≤ 1000000)) defs
+good_rows sources steps [] is = tt
+good_rows sources steps (def ∷ defs) is = ((is.0.some_rows, is.0.few_rows), good_rows sources steps defs is.1)
+
+pub prep_of_archive : (archives : List Archive) (k : ℕ) (d : Archive) (source : ℕ) → k < length archives → (let a : Archive = get_or archives k d in let p : Consolidating = record { function = a.def.function; part = get_or a.parts source nothing } in p) ≡ prep_in archives k source
+prep_of_archive [] k d source h = absurd (omega arith)
+prep_of_archive (a ∷ rest) zero d source h = refl
+prep_of_archive (a ∷ rest) (suc k) d source h = prep_of_archive rest k d source (omega arith)
+
+pub parts_there : (sources steps : ℕ) (archives : List Archive) (k : ℕ) (d : Archive) → k < length archives → AllByRecursion (IsValidArchive sources steps) archives → length (get_or archives k d).parts ≡ sources
+parts_there sources steps [] k d h is = absurd (omega arith)
+parts_there sources steps (a ∷ rest) zero d h is = is.0.parts_are.one_each
+parts_there sources steps (a ∷ rest) (suc k) d h is = parts_there sources steps rest k d (omega arith) is.1

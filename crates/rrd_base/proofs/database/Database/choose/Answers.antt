@@ -1,0 +1,13 @@
+use Rattle.std.proofs.Common.{◌≡◌, ◌∙◌, ap}
+use Rattle.rrd_base.specs.declared.choose.Request.{Request}
+use Rattle.rrd_base.specs.History.{Archive, Content}
+use Rattle.rrd_base.specs.Choice.{choice, choice_of}
+use Rattle.rrd_base.specs.Shown.{definitions}
+use Rattle.rrd_base.specs.Survivors.{Kept}
+use Rattle.rrd_base.proofs.database.Database.choose.Goals as goal
+
+pub returns : goal.returns
+unfolding choice
+returns c =
+    let request : Request = record { function = c.args.function; asked = c.args.asked; start = c.args.start; end = c.args.end } in
+    c.choose.ensures ∙ ap (λ (k : Kept). choice_of k.now.step k.now.last (definitions k.now.archives) request) c.self.view_is
