@@ -1,6 +1,9 @@
 //! Worked values: through the bound of the trait, and by the preparations.
-ghost use Rattle.std.specs.Prelude.{◌≡◌, ◌+◌, ◌^◌, ◌<◌, ◌≤◌};
+ghost use Rattle.std.specs.Prelude.{◌≡◌, ◌+◌, ◌*◌, ◌^◌, ◌<◌, ◌≤◌, ◌==◌, if◌then◌else◌, ◌+ℤ◌, pos, unsigned_abs};
+ghost use Rattle.rrd_fixed.specs.Rate.{top};
+ghost use Rattle.rrd_fold.specs.Additions as spec;
 ghost use Rattle.rrd_fold.specs.Bounds.{IsBounded};
+ghost use Rattle.rrd_fold.specs.declared.function.Function.TheVariants as of;
 
 use crate::{Average, Consolidate, Function, Greatest, Latest, Least, RowPrep, StepPrep, laws};
 use rrd_fixed::{Cell, Meter};
@@ -166,10 +169,68 @@ fn readers(rt: HostRuntime) {
 }
 
 #[test]
-fn laws_are_called(rt: HostRuntime) {
+fn laws_are_called() {
     laws::parts_stand();
     laws::values_are_meant();
     laws::rows_finish();
     laws::made_by_two_additions();
     laws::groups_in_pieces::<Cell, StepPrep, Cell>();
+}
+
+// The share of each of so many seconds in a sum, rounded down.
+fn lower(known: u64, sum: i128) -> i128
+    requires some { 1 ≤ known }
+    requires few { known ≤ 1000000 }
+    ensures { result ≡ spec.lower of.Average known sum }
+{
+    sum.div_euclid(known as i128)
+}
+
+// How many seconds have one more, so that the sum comes out.
+fn left_over(known: u64, sum: i128) -> u64
+    requires some { 1 ≤ known }
+    requires few { known ≤ 1000000 }
+    ensures { result ≡ spec.left_over of.Average known sum }
+{
+    sum.rem_euclid(known as i128) as u64
+}
+
+// The share of those, if there are any.
+fn higher(lower: i128, over: u64) -> i128
+    requires { unsigned_abs lower ≤ top }
+    ensures { result ≡ (if over == 0 then lower else lower +ℤ pos 1) }
+{
+    if over == 0 { lower } else { lower + 1 }
+}
+
+// A preparation made again of its count and its sum, as a file would hold them.
+fn made_again(known: u64, sum: i128, meter: &mut Meter) -> StepPrep
+    requires some { 1 ≤ known }
+    requires few { known ≤ 1000000 }
+    requires bounded { unsigned_abs sum ≤ known * top }
+    requires turns { meter.old + 2 < 2 ^ 64 }
+    ensures made { result ≡ record { known = known; value = sum } }
+    ensures ticked { meter.new ≡ meter.old + 2 }
+{
+    laws::made_by_two_additions();
+    let over = left_over(known, sum);
+    let low = lower(known, sum);
+    let high = higher(low, over);
+    let mut step = StepPrep::new();
+    step.add(Cell::Known(high), over, meter);
+    step.add(Cell::Known(low), known - over, meter);
+    step
+}
+
+#[test]
+fn sums_by_two_additions(rt: HostRuntime) {
+    let mut meter = Meter::new();
+    let below = made_again(3, -7, &mut meter);
+    assert_eq!(rt; (below.known(), below.sum()), (3, -7));
+    let greatest = made_again(2, 36_893_488_147_419_103_230_000_000, &mut meter);
+    assert_eq!(rt;
+        (greatest.known(), greatest.sum()),
+        (2, 36_893_488_147_419_103_230_000_000)
+    );
+    assert_eq!(rt; meter.turns(), 4);
 }
