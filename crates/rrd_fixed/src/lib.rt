@@ -4,6 +4,7 @@
 
 mod cell;
 mod kind;
+mod laws;
 mod meter;
 mod name;
 mod number;
@@ -17,11 +18,12 @@ mod writing;
 
 pub use cell::Cell;
 pub use kind::Kind;
+pub use laws::texts_are_read_back;
 pub use meter::Meter;
 pub use name::Name;
 pub use number::{Number, admit, read_number, read_whole};
 pub use rates::{rate, rise};
 pub use raw::Raw;
 pub use rounding::near;
-pub use text::{cell_string, raw_string, write_cell, write_raw, write_time};
+pub use text::{cell_string, raw_string, time_string, write_cell, write_raw, write_time};
 pub use writing::{WriteFault, write_bytes};

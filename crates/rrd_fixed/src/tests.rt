@@ -4,7 +4,7 @@ ghost use Rattle.rrd_fixed.specs.Rate.{IsAccepted};
 
 use crate::{
     Cell, Kind, Meter, Name, Number, Raw, admit, cell_string, near, rate, raw_string, read_number,
-    read_whole, rise, write_bytes, write_cell, write_raw, write_time,
+    read_whole, rise, time_string, write_bytes, write_cell, write_raw, write_time,
 };
 use std::io::{self, Error, ErrorKind, Write};
 use std::test::Fail;
@@ -244,6 +244,7 @@ fn texts(rt: HostRuntime) -> Result<(), Fail> {
         let mut out = Vec::new(rt.alloc());
         assert!(rt; write_time(&mut out, seconds).is_ok());
         assert_eq!(rt; out.as_slice(), wanted.as_bytes());
+        assert_eq!(rt; time_string(seconds).as_str(), wanted);
     }
     Ok(())
 }

@@ -95,6 +95,17 @@ pub fn raw_string(kind: Kind, raw: Raw) -> ArrayString<48>
     }
 }
 
+/// The text of a time in seconds since 1970: a whole number, with a `-` if it is below 0.
+pub fn time_string(seconds: i64) -> ArrayString<20>
+    ensures text { result.bytes ≡ time_text seconds }
+    ensures short { length result.bytes ≤ 20 }
+{
+    let mut buffer = Buffer::new();
+    let mut text = ArrayString::new();
+    text.push_str(buffer.format(seconds));
+    text
+}
+
 /// Writes the text of a cell, as `cell_string` has it.
 pub fn write_cell<W: Write>(out: &mut W, cell: Cell) -> Result<(), WriteFault>
     ensures { Writes (W.contents out.old) (W.contents out.new) (cell_text cell) result }
@@ -109,10 +120,9 @@ pub fn write_raw<W: Write>(out: &mut W, kind: Kind, raw: Raw) -> Result<(), Writ
     write_bytes(out, raw_string(kind, raw).as_str().as_bytes())
 }
 
-/// Writes a time in seconds since 1970, as a whole number with a `-` if it is below 0.
+/// Writes the text of a time, as `time_string` has it.
 pub fn write_time<W: Write>(out: &mut W, seconds: i64) -> Result<(), WriteFault>
     ensures { Writes (W.contents out.old) (W.contents out.new) (time_text seconds) result }
 {
-    let mut buffer = Buffer::new();
-    write_bytes(out, buffer.format(seconds).as_bytes())
+    write_bytes(out, time_string(seconds).as_str().as_bytes())
 }

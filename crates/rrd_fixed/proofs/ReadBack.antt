@@ -1,0 +1,168 @@
+-- What is written is read back.
+use Rattle.std.proofs.Common.{◌≡◌, ◌∙◌, refl, ap, ℕ, zero, suc, ◌+◌, ◌-◌, ◌*◌, ◌/◌, ◌%◌, ◌^◌, ◌<◌, ◌≤◌, ℤ, pos, negsuc, ◌*ℤ◌, unsigned_abs, List, [], ◌∷◌, ◌++◌, Bool, true, false, Some, nat_lt, nat_le, length, decimal, codes, arith, lit<, length-append, append_assoc, append-nil, add-one, neg_ℤ, option_map, ◌==◌}
+use Rattle.std.proofs.Math.Bool.{or-true}
+use Rattle.std.proofs.Math.Seq.{take-append_seam, drop-append-add}
+use Rattle.std.proofs.lemmas.Bool.{lt-ltb}
+use Rattle.std.proofs.lemmas.Fmt.{decimal_by_steps_wide, length-decimal-le_wide}
+use Rattle.std.proofs.lemmas.Grind.{common_steps}
+use Rattle.std.proofs.lemmas.List.Folds.{list_all-append, list_any-append}
+use Rattle.std.specs.Char.{is_ascii_digit}
+use Rattle.std.specs.List.{list_all, list_any, position_or_len, before_first, after_first, repeat}
+use Rattle.rrd_fixed.specs.Reading.{are_digits, fraction_of, is_point, negated, number_of, unsigned_of, value_of, whole_of}
+use Rattle.rrd_fixed.specs.Text.{millionths_text, signed_text, six_digits, whole_text}
+use Rattle.rrd_fixed.specs.declared.number.Number.{Number}
+use Rattle.rrd_fixed.proofs.Digits.{value-push}
+
+-- some digits of the value n
+pub record Digits (n : ℕ) (ds : List ℕ) : Type 0 where
+  pub digits : list_all is_ascii_digit ds ≡ true
+  pub value : value_of ds ≡ n
+  pub some : 0 < length ds
+
+one_digit : (n : ℕ) → n < 10 → Digits n ((48 + n) ∷ [])
+one_digit n small = record {
+  digits = grind (arith, common_steps);
+  value = omega arith;
+  some = lit< tt;
+}
+
+more_digits : (n : ℕ) (ds : List ℕ) → 10 ≤ n → Digits (n / 10) ds → Digits n (ds ++ ((48 + n % 10) ∷ []))
+more_digits n ds many front =
+    let last : is_ascii_digit (48 + n % 10) ≡ true = grind (arith, common_steps) in
+    let value : value_of ds ≡ n / 10 = front.value in
+    record {
+      digits = rw (list_all-append is_ascii_digit ds ((48 + n % 10) ∷ []), front.digits, last) refl;
+      value = rw (value-push ds (48 + n % 10)) (omega arith);
+      some = omega (arith, length-append ds ((48 + n % 10) ∷ []));
+    }
+
+pub decimal_digits : (n : ℕ) → n < 10 ^ 64 → Digits n (decimal n)
+decimal_digits n small = decimal_by_steps_wide Digits one_digit more_digits n small
+
+-- so many digits at most
+fit_digits : (most : ℕ) (ds : List ℕ) → 0 < length ds → length ds ≤ most → list_all is_ascii_digit ds ≡ true → are_digits most ds ≡ true
+fit_digits most ds some short digits =
+    let low : nat_lt 0 (length ds) ≡ true = lt-ltb 0 (length ds) some in
+    let high : nat_le (length ds) most ≡ true = grind (arith, common_steps) in
+    rw (low, high, digits) refl
+
+decimal_fits : (n : ℕ) → n < 10 ^ 20 → are_digits 20 (decimal n) ≡ true
+decimal_fits n small =
+    let wide : n < 10 ^ 64 = omega arith in
+    let is = decimal_digits n wide in
+    fit_digits 20 (decimal n) is.some (length-decimal-le_wide 20 n (lit< tt) small wide) is.digits
+
+pub whole_back : (n : ℕ) → n < 2 ^ 64 → whole_of (decimal n) ≡ Some n
+unfolding whole_of
+whole_back n small =
+    let is = decimal_digits n (omega arith) in
+    let low : nat_lt n (2 ^ 64) ≡ true = lt-ltb n (2 ^ 64) small in
+    rw (decimal_fits n (omega arith), is.value, low) refl
+
+-- where digits end and a point stands, a text is cut
+cut_place : (ds rest : List ℕ) → list_all is_ascii_digit ds ≡ true → position_or_len is_point (ds ++ 46 ∷ rest) ≡ length ds
+cut_place [] rest h = refl
+cut_place (d ∷ ds) rest h =
+    let other : is_point d ≡ false = grind (arith, common_steps) in
+    let others : list_all is_ascii_digit ds ≡ true = grind (arith, common_steps) in
+    rw (other, cut_place ds rest others) (omega arith)
+
+cut_before : (ds rest : List ℕ) → list_all is_ascii_digit ds ≡ true → before_first is_point (ds ++ 46 ∷ rest) ≡ ds
+cut_before ds rest h = rw (cut_place ds rest h) (take-append_seam ds (46 ∷ rest))
+
+cut_behind : (ds rest : List ℕ) → list_all is_ascii_digit ds ≡ true → after_first is_point (ds ++ 46 ∷ rest) ≡ rest
+cut_behind ds rest h = rw (cut_place ds rest h) (drop-append-add ds (46 ∷ rest) 1)
+
+has_point : (ds rest : List ℕ) → list_any is_point (ds ++ 46 ∷ rest) ≡ true
+has_point ds rest = rw (list_any-append is_point ds (46 ∷ rest)) (or-true (list_any is_point ds))
+
+no_point : (ds : List ℕ) → list_all is_ascii_digit ds ≡ true → list_any is_point ds ≡ false
+no_point [] h = refl
+no_point (d ∷ ds) h =
+    let other : is_point d ≡ false = grind (arith, common_steps) in
+    let others : list_all is_ascii_digit ds ≡ true = grind (arith, common_steps) in
+    rw (other, no_point ds others) refl
+
+-- zeros before digits
+zeros_digits : (k n : ℕ) (ds : List ℕ) → Digits n ds → Digits n (repeat k (codes "0") ++ ds)
+zeros_digits zero n ds h = h
+zeros_digits (suc k) n ds h =
+    let rest = zeros_digits k n ds h in
+    let value : value_of (repeat k (codes "0") ++ ds) ≡ n = rest.value in
+    record { digits = rest.digits; value = omega arith; some = omega arith }
+
+zeros_length : (k : ℕ) (ds : List ℕ) → length (repeat k (codes "0") ++ ds) ≡ k + length ds
+zeros_length zero ds = omega arith
+zeros_length (suc k) ds = let rest = zeros_length k ds in omega arith
+
+-- the six digits of a fraction
+six_length : (f : ℕ) → f < 10 ^ 6 → length (six_digits f) ≡ 6
+six_length f small =
+    let short : length (decimal f) ≤ 6 = length-decimal-le_wide 6 f (lit< tt) small (omega arith) in
+    zeros_length (6 - length (decimal f)) (decimal f) ∙ omega arith
+
+six_fraction : (f : ℕ) → f < 10 ^ 6 → (are_digits 6 (six_digits f) ≡ true) × (fraction_of (six_digits f) ≡ f)
+six_fraction f small =
+    let is = zeros_digits (6 - length (decimal f)) f (decimal f) (decimal_digits f (omega arith)) in
+    let six = six_length f small in
+    (fit_digits 6 (six_digits f) is.some (omega arith) is.digits, rw (is.value, six) (omega arith))
+
+unsigned_whole : (n : ℕ) → n < 10 ^ 20 → unsigned_of (decimal n) ≡ Some (record { millionths = pos (n * 10 ^ 6); point = false })
+unfolding unsigned_of
+unsigned_whole n small =
+    let is = decimal_digits n (omega arith) in
+    rw (no_point (decimal n) is.digits, decimal_fits n small, is.value) refl
+
+unsigned_pointed : (w f : ℕ) (ds fs : List ℕ) → Digits w ds → are_digits 20 ds ≡ true → are_digits 6 fs ≡ true → fraction_of fs ≡ f
+    → unsigned_of (ds ++ 46 ∷ fs) ≡ Some (record { millionths = pos (w * 10 ^ 6 + f); point = true })
+unfolding unsigned_of
+unsigned_pointed w f ds fs is fits fraction value =
+    rw (has_point ds fs, cut_before ds fs is.digits, cut_behind ds fs is.digits, fits, fraction, value, is.value) refl
+
+-- a text that begins with a digit has no sign
+unsigned_first : (n : ℕ) (ds rest : List ℕ) → Digits n ds → number_of (ds ++ rest) ≡ unsigned_of (ds ++ rest)
+unfolding number_of
+unsigned_first n [] rest is = absurd (omega (arith, is.some))
+unsigned_first n (d ∷ ds) rest is =
+    let digits : list_all is_ascii_digit (d ∷ ds) ≡ true = is.digits in
+    let other : (d == 45) ≡ false = grind (arith, common_steps) in
+    rw other refl
+
+minus_first : (text : List ℕ) → number_of (codes "-" ++ text) ≡ option_map negated (unsigned_of text)
+unfolding number_of
+minus_first text = refl
+
+as_cut : (n : ℕ) → millionths_text n ≡ decimal (n / 1000000) ++ 46 ∷ six_digits (n % 1000000)
+as_cut n = append_assoc (decimal (n / 1000000)) (codes ".") (six_digits (n % 1000000))
+
+abbrev number : ℕ → Bool → Number
+number m point = record { millionths = pos m; point = point }
+
+unsigned_back : (n : ℕ) → n < 10 ^ 26 → unsigned_of (millionths_text n) ≡ Some (record { millionths = pos n; point = true })
+unsigned_back n small =
+    let is = decimal_digits (n / 1000000) (omega arith) in
+    let fraction = six_fraction (n % 1000000) (omega arith) in
+    let sum : n / 1000000 * 10 ^ 6 + n % 1000000 ≡ n = omega arith in
+    let read = unsigned_pointed (n / 1000000) (n % 1000000) (decimal (n / 1000000)) (six_digits (n % 1000000)) is (decimal_fits (n / 1000000) (omega arith)) fraction.0 fraction.1 in
+    rw (as_cut n) (read ∙ ap (λ m. Some (number m true)) sum)
+
+abbrev signed : ℤ → Bool → Number
+signed m point = record { millionths = m; point = point }
+
+pub number_back : (z : ℤ) → unsigned_abs z < 10 ^ 26 → number_of (signed_text z) ≡ Some (record { millionths = z; point = true })
+number_back (pos n) small =
+    let is = decimal_digits (n / 1000000) (omega arith) in
+    rw (as_cut n) (unsigned_first (n / 1000000) (decimal (n / 1000000)) (46 ∷ six_digits (n % 1000000)) is) ∙ unsigned_back n small
+number_back (negsuc n) small =
+    let low : neg_ℤ (pos (n + 1)) ≡ negsuc n = rw add-one refl in
+    let back = unsigned_back (n + 1) (omega arith) in
+    minus_first (millionths_text (n + 1)) ∙ rw back (ap (λ z. Some (signed z true)) low)
+
+pub units_back : (z : ℤ) → unsigned_abs z < 10 ^ 20 → number_of (whole_text z) ≡ Some (record { millionths = z *ℤ pos (10 ^ 6); point = false })
+units_back (pos n) small =
+    let is = decimal_digits n (omega arith) in
+    (rw append-nil at (unsigned_first n (decimal n) [] is)) ∙ unsigned_whole n small
+units_back (negsuc n) small =
+    let low : neg_ℤ (pos ((n + 1) * 10 ^ 6)) ≡ negsuc n *ℤ pos (10 ^ 6) = rw add-one refl in
+    let back = unsigned_whole (n + 1) (omega arith) in
+    minus_first (decimal (n + 1)) ∙ rw back (ap (λ z. Some (signed z false)) low)
