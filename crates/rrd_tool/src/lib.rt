@@ -8,6 +8,8 @@ pub mod lines;
 mod parse;
 mod reading;
 mod shapes;
+#[cfg(test)]
+mod tests_reading;
 mod texts;
 mod words;
 
