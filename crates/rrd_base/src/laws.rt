@@ -17,92 +17,77 @@ ghost use Rattle.rrd_base.specs.WorkedTimes as times;
 /// A history may be cut anywhere: the content at the cut is a base for what comes after.
 pub fn content_goes_on()
     ensures { (base : Content) (first second : List Event) → GoesOnFromContent base first second }
-{
-}
+{}
 
 /// A history makes a base of a base.
 pub fn stays_base()
     ensures { (base : Content) (events : List Event) → StaysBase base events }
-{
-}
+{}
 
 /// A sample is its rates, in each second of its interval.
 pub fn sample_passes()
     ensures { (base : Content) (reading : Reading) → SampledPasses base reading }
-{
-}
+{}
 
 /// Seconds may pass in two pieces.
 pub fn seconds_pass_in_pieces()
     ensures { (base : Content) (xs ys : List (List Cell)) → PassesInPieces base xs ys }
-{
-}
+{}
 
 /// The rows that an update drops give back those from before it.
 pub fn rows_come_back()
     ensures { (base : Content) (index : ℕ) (archive : Archive) (readings : List Reading) → RowsComeBack base index archive readings }
-{
-}
+{}
 
 /// An archive's rows, each by its age.
 pub fn rows_by_age()
     ensures { (rows room : ℕ) (all : List (List Cell)) (unknown : List Cell) → ShowsByAge rows room all unknown }
-{
-}
+{}
 
 /// Each archive's rows, each by its time.
 pub fn cells_by_time()
     ensures { (base : Content) (events : List Event) → ShowsByTime base events }
-{
-}
+{}
 
 /// The steps and rows of a history, each by itself.
 pub fn steps_and_rows_by_number()
     ensures { (base : Content) (archive : Archive) (events : List Event) → ListsByNumber base archive events }
-{
-}
+{}
 
 /// One command more is one move more.
 pub fn one_more_moves()
     ensures { (base : Content) (commands : List Command) (command : Command) → Moves base commands command }
-{
-}
+{}
 
 /// An accepted command is undone by its entry.
 pub fn commands_come_back()
     ensures { (base : Content) (command : Command) → ComesBack base command }
-{
-}
+{}
 
 /// After any list of actions the database is what the survivors make, and its journal their entries.
 pub fn runs_agree()
     ensures { (base : Content) (brought : List Entry) (actions : List Action) → RunsAgree base brought actions }
-{
-}
+{}
 
 /// A new database is valid.
 pub fn created_is_valid()
     ensures { (spec : CreateSpec) → CreatedIsValid spec }
-{
-}
+{}
 
 /// A command that is accepted moves a valid content to a valid one.
 pub fn stays_valid()
     ensures { (base : Content) (command : Command) → StaysValid base command }
-{
-}
+{}
 
 /// So does it with the journal.
 pub fn database_stays()
     ensures { (now : Content) (journal : List Entry) (command : Command) → DatabaseStays now journal command }
-{
-}
+{}
 
 /// A run from a valid database is what its survivors make, and stays valid.
 pub fn runs_stay()
     ensures { (base : Content) (brought : List Entry) (actions : List Action) → RunsStay base brought actions }
-{
-}
+{}
 
 /// The definitions compute worked examples.
 pub fn examples()
@@ -117,13 +102,11 @@ pub fn examples()
     ensures refused_whole { commands.RefusedWhole }
     ensures retyped { commands.Retyped }
     ensures bounded { commands.Bounded }
-{
-}
+{}
 
 /// So they do for new databases, rows by their times, and fetches.
 pub fn examples_by_time()
     ensures created { times.Created }
     ensures resizing { times.Resizing }
     ensures fetched { times.Fetched }
-{
-}
+{}
