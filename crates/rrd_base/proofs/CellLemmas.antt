@@ -1,10 +1,10 @@
 -- What an archive shows at each time.
-use Rattle.std.proofs.Common.{◌≡◌, refl, sym, ◌∙◌, ap, subst, ℕ, zero, suc, ◌+◌, ◌-◌, ◌*◌, ◌/◌, ◌%◌, ◌<◌, ◌≤◌, min, Bool, true, false, cond, ltb, List, [], ◌∷◌, ◌++◌, length, map, replicate, get_or, arith, length-append, Some, None, ⊎_elim, ℤ, pos, negsuc, ◌-ℤ◌, ◌<ℤ◌, ◌≤ℤ◌, unsigned_abs}
+use Rattle.std.proofs.Common.{◌≡◌, refl, sym, ◌∙◌, ap, subst, ℕ, zero, suc, ◌+◌, ◌-◌, ◌*◌, ◌/◌, ◌%◌, ◌<◌, ◌≤◌, Bool, true, false, cond, ltb, List, [], ◌∷◌, ◌++◌, length, map, replicate, get_or, arith, length-append, Some, ⊎_elim, ℤ, pos, negsuc, ◌-ℤ◌, ◌<ℤ◌, ◌≤ℤ◌, unsigned_abs}
 use Rattle.std.specs.Prelude.{int_lt, int_le, slice_get}
-use Rattle.std.specs.Int.{int_max, int_rem_euclid, int_div_euclid}
+use Rattle.std.specs.Int.{int_max, int_div_euclid}
 use Rattle.std.specs.List.{fold, enumerate_from, range_with_len, AllByRecursion}
 use Rattle.std.proofs.Math.Nat.{div-div-eq-div-mul}
-use Rattle.std.proofs.lemmas.Bool.{cases_lt, cases_Bool, cond_both, lt-ltb, le-ltb, ltb-true, both_ways}
+use Rattle.std.proofs.lemmas.Bool.{cases_lt, cases_Bool, cond_both, lt-ltb, le-ltb}
 use Rattle.std.proofs.lemmas.Int.{ints, clamps}
 use Rattle.std.proofs.lemmas.List.{length-map, get_or_append_left, get_or-append_right}
 use Rattle.std.proofs.lemmas.List.FromFn.{length-map-range_with_len, get_or-map-range_with_len}
@@ -14,7 +14,7 @@ use Rattle.rrd_fold.specs.Groups.{Rule, group_part, finished}
 use Rattle.rrd_fold.proofs.GroupLemmas.{reached_before}
 use Rattle.rrd_fold.specs.Parts.{seconds_to_steps}
 use Rattle.rrd_base.specs.Rules.{rows_rule}
-use Rattle.rrd_base.specs.History.{Archive, Content, Event, Sampled, Tuned, Resized, Moment, moment_after, moment_of, moment_at_end, seconds_of, steps_of, rows_of, rows_after, room, keep_last, filled_up, kept_rows, archive_of, content, IsHistory, IsArchive, IsBase}
+use Rattle.rrd_base.specs.History.{Archive, Content, Event, Sampled, Tuned, Resized, Moment, moment_after, moment_of, moment_at_end, seconds_of, steps_of, rows_of, rows_after, room, keep_last, filled_up, kept_rows, archive_of, content, IsHistory, IsArchive}
 use Rattle.rrd_base.specs.Passed.{row_of_age, row_at}
 use Rattle.rrd_base.specs.Cells.{resolution, newest, reach, prefixes, greatest, reach_after, horizon, row, row_ending, row_by_time, IsMultiple, ShowsByTime, ListsByNumber}
 use Rattle.rrd_base.proofs.HistoryLemmas.{last_rises, length-sources}

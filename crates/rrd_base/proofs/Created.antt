@@ -1,5 +1,5 @@
 -- A new database is valid.
-use Rattle.std.proofs.Common.{◌≡◌, refl, sym, ◌∙◌, ap, ℕ, suc, ◌+◌, ◌-◌, ◌*◌, ◌<◌, ◌≤◌, Bool, true, false, not, ◌||◌, ltb, eqb, List, [], ◌∷◌, ◌++◌, length, map, replicate, None, arith, ℤ, pos, ◌≤ℤ◌}
+use Rattle.std.proofs.Common.{◌≡◌, refl, ap, ℕ, ◌*◌, false, not, ◌||◌, ltb, eqb, List, [], ◌∷◌, length, map, replicate, None, arith, ℤ, pos, ◌≤ℤ◌}
 use Rattle.std.specs.Prelude.{int_lt, sum}
 use Rattle.std.proofs.lemmas.Int.{ints}
 use Rattle.std.proofs.lemmas.Bool.{ltb-false, eqb-false, or_parts, not-false}
@@ -14,12 +14,11 @@ use Rattle.rrd_fold.specs.Parts.{nothing}
 use Rattle.rrd_base.specs.declared.create.CreateSpec.{CreateSpec}
 use Rattle.rrd_base.specs.declared.definition.DsDef.{DsDef}
 use Rattle.rrd_base.specs.declared.definition.RraDef.{RraDef}
-use Rattle.rrd_base.specs.History.{Archive}
-use Rattle.rrd_base.specs.Commands.{names, rows_of_archives}
-use Rattle.rrd_base.specs.Verdict.{is_bad_heartbeat, is_bad_rows, has_bad_bounds, is_double, first_refusal}
-use Rattle.rrd_base.specs.Creating.{is_bad_step, is_bad_xff, is_bad_steps, is_bad_depth, is_too_large, first_checks, source_checks, archive_checks, size_checks, create_checks, create_verdict, new_archive, created}
+use Rattle.rrd_base.specs.Commands.{rows_of_archives}
+use Rattle.rrd_base.specs.Verdict.{is_bad_heartbeat, is_bad_rows, has_bad_bounds}
+use Rattle.rrd_base.specs.Creating.{is_bad_xff, is_bad_steps, create_checks, create_verdict, new_archive, created}
 use Rattle.rrd_base.specs.Validity.{IsSource, AreAccepted, IsPart, AreParts, IsRow, IsValidArchive, IsValid}
-use Rattle.rrd_base.proofs.Accepted.{Passes, all_pass}
+use Rattle.rrd_base.proofs.Accepted.{all_pass}
 use Rattle.rrd_base.proofs.Bounded.{All-replicate}
 
 -- ---- the sources

@@ -1,12 +1,11 @@
 -- Worked examples of new databases, of rows by their times, and of what a fetch reads.
-use Rattle.std.specs.Prelude.{◌≡◌, ℕ, ℤ, pos, negsuc, Some, None, Ok, Err, List, [], ◌∷◌, map}
-use Rattle.rrd_fold.specs.declared.function.Function.{Function}
-use Rattle.rrd_fold.specs.declared.function.Function.TheVariants.{Average, Min, Last}
+use Rattle.std.specs.Prelude.{◌≡◌, ℕ, pos, negsuc, Some, None, Ok, Err, List, [], ◌∷◌, map}
+use Rattle.rrd_fold.specs.declared.function.Function.TheVariants.{Min, Last}
 use Rattle.rrd_base.specs.declared.create.CreateSpec.{CreateSpec}
 use Rattle.rrd_base.specs.declared.definition.DsDef.{DsDef}
 use Rattle.rrd_base.specs.declared.definition.RraDef.{RraDef}
 use Rattle.rrd_base.specs.declared.refusal.Refusal.TheVariants.{BadStep, NoSource, NoArchive, BadXff, BadRows, TooLarge, BadSpan, BadTime, NoArchiveForFunction, SpanTooLong}
-use Rattle.rrd_base.specs.History.{Archive, Content, Event, Resized, content}
+use Rattle.rrd_base.specs.History.{Content, Event, Resized, content}
 use Rattle.rrd_base.specs.Creating.{create_verdict, created as made}
 use Rattle.rrd_base.specs.Cells.{horizon, row_by_time}
 use Rattle.rrd_base.specs.Choice.{choice}

@@ -8,13 +8,13 @@ ghost use Rattle.rrd_base.specs.declared.definition.RraDef.{RraDef};
 ghost use Rattle.rrd_base.specs.Choice as choice;
 ghost use Rattle.rrd_base.specs.Verdict.{first_refusal};
 
+use crate::create::LATEST_TIME;
 use crate::{Refusal, RraDef};
 use rrd_fold::Function;
 use std::marker::Model;
 
-const LATEST_TIME: u64 = 9_999_999_999;
-
-const MOST_ROWS: u64 = 1_000_000;
+// The most rows of one fetch.
+const LONGEST_SPAN: u64 = 1_000_000;
 
 /// What a fetch asks for (rrdfetch).
 #[derive(Clone, Copy, Debug)]
@@ -123,7 +123,7 @@ impl Search {
             return Err(Refusal::NoArchiveForFunction);
         };
         let chosen = span(self.request, &best);
-        if (chosen.hi - chosen.lo) / chosen.res > MOST_ROWS {
+        if (chosen.hi - chosen.lo) / chosen.res > LONGEST_SPAN {
             return Err(Refusal::SpanTooLong);
         }
         Ok(chosen)

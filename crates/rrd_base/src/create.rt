@@ -10,20 +10,26 @@ ghost use Rattle.rrd_base.specs.Verdict as verdict;
 use crate::{DsDef, List, Refusal, RraDef};
 use rrd_fixed::Name;
 
-const LONGEST_STEP: u64 = 1_000_000;
+/// The latest time of a sample, a start or a fetch.
+pub(crate) const LATEST_TIME: u64 = 9_999_999_999;
 
-const LATEST_TIME: u64 = 9_999_999_999;
+// Seconds.
+const LONGEST_STEP: u64 = 1_000_000;
 
 const LONGEST_HEARTBEAT: u64 = 9_999_999_999;
 
+// Millionths: (2^64 - 1) * 10^6.
 const GREATEST_BOUND: u128 = 18_446_744_073_709_551_615_000_000;
 
+// Millionths.
 const GREATEST_XFF: i128 = 999_999;
 
+// Of one row, and of one archive.
 const MOST_STEPS: u64 = 1_000_000;
 
 const MOST_ROWS: u64 = 1_000_000;
 
+// Of one database.
 const MOST_SOURCES: usize = 64;
 
 const MOST_ARCHIVES: usize = 64;

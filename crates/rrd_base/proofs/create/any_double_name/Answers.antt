@@ -1,4 +1,4 @@
-use Rattle.std.proofs.Common.{◌≡◌, sym, ◌∙◌, ap, ℕ, suc, ◌+◌, ◌-◌, ◌<◌, ◌||◌, Bool, true, false, List, [], ◌∷◌, length, map, take, drop, get_or, refl, drop-cons, length-drop, take_all, arith}
+use Rattle.std.proofs.Common.{◌≡◌, sym, ◌∙◌, ap, ℕ, suc, ◌+◌, ◌-◌, ◌<◌, ◌||◌, Bool, true, false, List, [], ◌∷◌, length, take, drop, get_or, refl, drop-cons, length-drop, take_all, arith}
 use Rattle.std.specs.List.{list_any}
 use Rattle.rrd_fixed.specs.Names.{same_name}
 use Rattle.rrd_base.specs.declared.definition.DsDef.{DsDef}

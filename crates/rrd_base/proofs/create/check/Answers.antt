@@ -1,4 +1,4 @@
-use Rattle.std.proofs.Common.{◌≡◌, sym, ◌∙◌, ap, List, [], ◌∷◌, ◌++◌, Option, Some, None, Bool, cond, true, false, refl}
+use Rattle.std.proofs.Common.{◌≡◌, ◌∙◌, ap, List, [], ◌∷◌, ◌++◌, Option, Some, None, Bool, cond, true, false, refl}
 use Rattle.std.proofs.lemmas.Result.{err_from_is_err_and}
 use Rattle.rrd_base.specs.declared.refusal.Refusal.{Refusal}
 use Rattle.rrd_base.specs.Verdict.{Check, first_refusal}

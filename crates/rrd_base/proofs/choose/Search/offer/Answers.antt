@@ -1,4 +1,4 @@
-use Rattle.std.proofs.Common.{◌≡◌, sym, ◌∙◌, ap, true, false, Option, Some, None}
+use Rattle.std.proofs.Common.{◌≡◌, sym, ◌∙◌, ap, Option, Some}
 use Rattle.std.proofs.lemmas.Bool.{both_ways}
 use Rattle.rrd_base.specs.declared.choose.Candidate.{Candidate}
 use Rattle.rrd_base.specs.Choice.{Searched, candidate}
