@@ -83,3 +83,12 @@ fn is_letter(byte: u8) -> bool
 {
     byte.is_ascii_alphanumeric() || byte == b'_'
 }
+
+impl Default for Name {
+    /// The name of no character, which no data source may have.
+    fn default() -> Self {
+        Name {
+            text: ArrayString::new(),
+        }
+    }
+}
