@@ -12,7 +12,7 @@ use Rattle.rrd_base.specs.declared.entry.Entry.TheVariants as entry
 use Rattle.rrd_fixed.specs.declared.name.Name.{Name}
 use Rattle.rrd_base.specs.History.{Archive, Content, Event, Sampled, Moment, moment_of, moment_at_end, moment_after, archive_of, content}
 use Rattle.rrd_base.specs.Commands.{Command, Updating, sample_of, moved}
-use Rattle.rrd_base.specs.Entries.{Dropped, BeforeUpdate, put_back, put_back_each}
+use Rattle.rrd_base.specs.Entries.{Dropped, BeforeUpdate, Held, put_back, put_back_each, with_held, with_rows_at}
 use Rattle.rrd_base.specs.Store.{CanPutBack, CanPutBackEach, functions}
 use Rattle.rrd_base.specs.Stored.{HasFunctions}
 use Rattle.rrd_base.specs.Updating.{last_time, template_of}
@@ -54,9 +54,20 @@ functions_put_back [] olds = refl
 functions_put_back (archive ∷ archives) [] = refl
 functions_put_back (archive ∷ archives) (old ∷ olds) = ap (λ rest. archive.def.function ∷ rest) (functions_put_back archives olds)
 
+pub functions_resized : (archives : List Archive) (number : ℕ) (rows : List (List Cell)) → functions (with_rows_at archives number rows) ≡ functions archives
+functions_resized [] number rows = refl
+functions_resized (archive ∷ archives) zero rows = refl
+functions_resized (archive ∷ archives) (suc number) rows = ap (λ rest. archive.def.function ∷ rest) (functions_resized archives number rows)
+
+pub functions_tuned : (now : Content) (olds : List Held) → functions (fold with_held now olds).archives ≡ functions now.archives
+functions_tuned now [] = refl
+functions_tuned now (old ∷ olds) = functions_tuned (with_held now old) olds
+
 pub has_functions : (before after : List Archive) (entries : List Entry) → functions after ≡ functions before → AllByRecursion (HasFunctions before) entries → AllByRecursion (HasFunctions after) entries
 has_functions before after [] e is = tt
 has_functions before after (entry.Update b ∷ entries) e is = (is.0 ∙ sym e, has_functions before after entries e is.1)
+has_functions before after (entry.Tune held ∷ entries) e is = (tt, has_functions before after entries e is.1)
+has_functions before after (entry.Resize number old ∷ entries) e is = (tt, has_functions before after entries e is.1)
 
 pub All-take : {A : Type 0} (P : A → Type 0) (n : ℕ) (xs : List A) → AllByRecursion P xs → AllByRecursion P (take n xs)
 All-take P zero xs is = tt
@@ -75,7 +86,7 @@ All-at P (x ∷ xs) (suc i) d h is = All-at P xs i d (omega arith) is.1
 
 -- ---- what fits can be put back
 
-width_is : (sources : ℕ) (rows : List (List Cell)) → 0 < length rows → AllByRecursion (IsRow sources) rows → width rows ≡ sources
+pub width_is : (sources : ℕ) (rows : List (List Cell)) → 0 < length rows → AllByRecursion (IsRow sources) rows → width rows ≡ sources
 width_is sources [] h is = absurd (omega arith)
 width_is sources (row ∷ rows) h is = is.0.one_each
 

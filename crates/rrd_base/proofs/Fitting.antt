@@ -215,7 +215,7 @@ some_held tuning number (source ∷ sources) (raw ∷ raws) e h =
     (λ here. omega arith)
     (λ there. some_held tuning (number + 1) sources raws (omega arith) (sym (ap (λ b. b || list_any (is_named tuning) sources) there) ∙ h))
 
-tune_fits : (base : Content) (tuning : Tuning) → IsValid base → verdict base (Tuning_by tuning) ≡ None → Fits (moved base (Tuning_by tuning)) (entry base (Tuning_by tuning))
+pub tune_fits : (base : Content) (tuning : Tuning) → IsValid base → verdict base (Tuning_by tuning) ≡ None → Fits (moved base (Tuning_by tuning)) (entry base (Tuning_by tuning))
 unfolding content
 tune_fits base tuning is h =
     let p = accepted_passes base (Tuning_by tuning) h in

@@ -14,11 +14,12 @@ use Rattle.rrd_base.specs.Entries as entries
 use Rattle.rrd_base.specs.Entries.{undone, entry as entry_for}
 use Rattle.rrd_base.specs.Store.{befores, functions, saved_functions}
 use Rattle.rrd_base.specs.Stored.{before, update_of, entry_of, HasFunctions, CanUndo, journal_of}
+use Rattle.rrd_base.specs.Tuned.{held_of}
 use Rattle.rrd_base.specs.Updating.{last_time}
 use Rattle.rrd_base.specs.Validity.{IsValid, Fits, IsValidDatabase}
 use Rattle.rrd_base.specs.Verdict.{verdict}
 use Rattle.rrd_base.proofs.Accepted.{accepted_passes}
-use Rattle.rrd_base.proofs.DatabaseLemmas.{moved_last, functions_moved, functions_put_back, has_functions, All-take, All-drop, All-at, can_put_back_each}
+use Rattle.rrd_base.proofs.DatabaseLemmas.{moved_last, functions_moved, functions_put_back, functions_resized, functions_tuned, has_functions, All-take, All-drop, All-at, can_put_back_each}
 use Rattle.rrd_base.proofs.Fitting.{database_stays, revert_valid}
 use Rattle.rrd_base.proofs.JournalLemmas.{journal_push, journal_pop}
 use Rattle.rrd_base.proofs.Kept.{All-append}
@@ -27,8 +28,12 @@ use Rattle.rrd_base.proofs.Kept.{All-append}
 
 can_undo : (now : Content) (e : Entry) → IsValid now → HasFunctions now.archives e → Fits now (entry_of e) → CanUndo now.archives e
 can_undo now (entry.Update b) is has fits = (has, can_put_back_each now.step (length now.sources) (now.last / now.step) b.last now.last now.archives (befores b.stores.items) is.archives_are fits.archives_fit)
+can_undo now (entry.Tune held) is has fits = tt
+can_undo now (entry.Resize number old) is has fits = fits.there
 
 functions_undone : (now : Content) (e : Entry) → functions (undone now (entry_of e)).archives ≡ functions now.archives
+functions_undone now (entry.Tune held) = functions_tuned now (map held_of held.items)
+functions_undone now (entry.Resize number old) = functions_resized now.archives number old
 functions_undone now (entry.Update b) = functions_put_back now.archives (befores b.stores.items)
 
 last_one : {A : Type 0} (xs : List A) (x : A) → Some x ≡ slice_get xs (length xs - 1) → get_or xs (length xs - 1) x ≡ x
@@ -59,23 +64,26 @@ newest now items e is has h =
       functions_stay = has_functions now.archives (undone now (entry_of e)).archives rest (functions_undone now e) (All-take (HasFunctions now.archives) (length items - 1) items has);
     }
 
--- ---- an update is added
+-- ---- an entry is added
 
-pub record Added (now : Content) (items : List Entry) (update : Update) (b : Before) : Type 0 where
-  pub journal_is : journal_of (keep_last now.depth (items ++ entry.Update b ∷ [])) ≡ take now.depth (entry_for now (Updating update) ∷ journal_of items)
-  pub after : IsValidDatabase (moved now (Updating update)) (journal_of (keep_last now.depth (items ++ entry.Update b ∷ [])))
-  pub functions_stay : AllByRecursion (HasFunctions (moved now (Updating update)).archives) (keep_last now.depth (items ++ entry.Update b ∷ []))
+pub record Added (now : Content) (items : List Entry) (command : Command) (e : Entry) : Type 0 where
+  pub journal_is : journal_of (keep_last now.depth (items ++ e ∷ [])) ≡ take now.depth (entry_for now command ∷ journal_of items)
+  pub after : IsValidDatabase (moved now command) (journal_of (keep_last now.depth (items ++ e ∷ [])))
+  pub functions_stay : AllByRecursion (HasFunctions (moved now command).archives) (keep_last now.depth (items ++ e ∷ []))
 
-pub added : (now : Content) (items : List Entry) (update : Update) (b : Before) → IsValidDatabase now (journal_of items) → AllByRecursion (HasFunctions now.archives) items → verdict now (Updating update) ≡ None → 0 < length update.samples → update_of b ≡ before now (last_time update.samples) → saved_functions b.stores.items ≡ functions now.archives → Added now items update b
-added now items update b is has accepted some e f =
-    let all = items ++ entry.Update b ∷ [] in
+pub added : (now : Content) (items : List Entry) (command : Command) (e : Entry) → IsValidDatabase now (journal_of items) → AllByRecursion (HasFunctions now.archives) items → verdict now command ≡ None → entry_of e ≡ entry_for now command → HasFunctions now.archives e → Added now items command e
+added now items command e is has accepted this functions =
+    let all = items ++ e ∷ [] in
     let cut = length all - now.depth in
-    let this : entry_of (entry.Update b) ≡ entry_for now (Updating update) = ap entries.Updated (e ∙ ap (before now) (sym (moved_last now update some))) in
-    let journal : journal_of (keep_last now.depth all) ≡ take now.depth (entry_for now (Updating update) ∷ journal_of items)
-    = journal_push entry_of now.depth items (entry.Update b) ∙ ap (λ x. take now.depth (x ∷ journal_of items)) this in
-    let more : AllByRecursion (HasFunctions now.archives) all = All-append (HasFunctions now.archives) items (entry.Update b ∷ []) has (f, tt) in
+    let journal : journal_of (keep_last now.depth all) ≡ take now.depth (entry_for now command ∷ journal_of items)
+    = journal_push entry_of now.depth items e ∙ ap (λ x. take now.depth (x ∷ journal_of items)) this in
+    let more : AllByRecursion (HasFunctions now.archives) all = All-append (HasFunctions now.archives) items (e ∷ []) has (functions, tt) in
     record {
       journal_is = journal;
-      after = subst (IsValidDatabase (moved now (Updating update))) (sym journal) (database_stays now (journal_of items) (Updating update) is accepted);
-      functions_stay = has_functions now.archives (moved now (Updating update)).archives (keep_last now.depth all) (functions_moved now (events (settings_of now) (Updating update))) (All-drop (HasFunctions now.archives) cut all more);
+      after = subst (IsValidDatabase (moved now command)) (sym journal) (database_stays now (journal_of items) command is accepted);
+      functions_stay = has_functions now.archives (moved now command).archives (keep_last now.depth all) (functions_moved now (events (settings_of now) command)) (All-drop (HasFunctions now.archives) cut all more);
     }
+
+-- what an update saved is its entry
+pub update_entry : (now : Content) (update : Update) (b : Before) → 0 < length update.samples → update_of b ≡ before now (last_time update.samples) → entry_of (entry.Update b) ≡ entry_for now (Updating update)
+update_entry now update b some e = ap entries.Updated (e ∙ ap (before now) (sym (moved_last now update some)))

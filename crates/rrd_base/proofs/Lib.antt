@@ -28,3 +28,5 @@ pub mod DatabaseLemmas
 pub mod KeptLemmas
 pub mod CellLemmas
 pub mod ShownLemmas
+pub mod TuneLemmas
+pub mod ResizeLemmas

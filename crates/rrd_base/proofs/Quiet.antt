@@ -28,7 +28,7 @@ module _ (base : Content) (es : List Event) (same : (moment_at_end base es).last
   unfolding parts_of
   parts_same some = ap (unfinished (seconds_to_steps base.step (length base.sources)) base.last base.parts) seconds_none ∙ unfinished_nil (seconds_to_steps base.step (length base.sources)) base.last base.parts some
 
-  rows_none : (archive : Archive) → rows_of base archive es ≡ []
+  pub rows_none : (archive : Archive) → rows_of base archive es ≡ []
   unfolding rows_of
   rows_none archive = ap (finished (rows_rule archive.def (length base.sources)) (base.last / base.step) archive.parts) steps_none ∙ finished_nil (rows_rule archive.def (length base.sources)) (base.last / base.step) archive.parts
 

@@ -21,3 +21,5 @@ pub mod Kept
 pub mod Answers
 pub mod WorkedTimes
 pub mod Shown
+pub mod Tuned
+pub mod Resized

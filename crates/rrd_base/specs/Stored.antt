@@ -1,11 +1,12 @@
 -- The journal that a database's fields hold.
-use Rattle.std.specs.Prelude.{◌≡◌, ℕ, List, map, reverse}
+use Rattle.std.specs.Prelude.{◌≡◌, ◌<◌, ℕ, List, length, map, reverse}
 use Rattle.rrd_base.specs.History.{Archive, Content}
 use Rattle.rrd_base.specs.Entries as entries
 use Rattle.rrd_base.specs.Store.{CanPutBackEach, befores, functions, saved_functions}
 use Rattle.rrd_base.specs.declared.entry.Entry.{Entry}
 use Rattle.rrd_base.specs.declared.entry.Entry.TheVariants as entry
 use Rattle.rrd_base.specs.declared.entry.Before.{Before}
+use Rattle.rrd_base.specs.Tuned.{held_of}
 
 -- what an update that ends at a time leaves in the journal
 abbrev pub before : Content → ℕ → entries.BeforeUpdate
@@ -17,14 +18,20 @@ update_of b = record { last = b.last; raws = b.raws.items; parts = b.preps.items
 
 abbrev pub entry_of : Entry → entries.Entry
 entry_of (entry.Update b) = entries.Updated (update_of b)
+entry_of (entry.Tune held) = entries.WasTuned (map held_of held.items)
+entry_of (entry.Resize number old) = entries.WasResized number old
 
 -- the entry's preparations are those of the archives' functions
 abbrev pub HasFunctions : List Archive → Entry → Type 0
 HasFunctions archives (entry.Update b) = saved_functions b.stores.items ≡ functions archives
+HasFunctions archives (entry.Tune held) = Unit {0}
+HasFunctions archives (entry.Resize number old) = Unit {0}
 
 -- the entry can be put back
 abbrev pub CanUndo : List Archive → Entry → Type 0
 CanUndo archives (entry.Update b) = (saved_functions b.stores.items ≡ functions archives) × CanPutBackEach archives (befores b.stores.items)
+CanUndo archives (entry.Tune held) = Unit {0}
+CanUndo archives (entry.Resize number old) = number < length archives
 
 -- the journal, newest first
 abbrev pub journal_of : List Entry → List entries.Entry

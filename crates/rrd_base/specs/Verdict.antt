@@ -97,13 +97,27 @@ names_no_source sources (Some option) = not (has_source sources option.0)
 abbrev pub asks_nothing : Tuning → Bool
 asks_nothing tuning = is_none tuning.heartbeat && is_none tuning.minimum && is_none tuning.maximum && is_none tuning.kind && is_none tuning.rename
 
+-- an option names no source
+abbrev pub any_names_no_source : List DsDef → Tuning → Bool
+any_names_no_source sources tuning = names_no_source sources tuning.heartbeat || names_no_source sources tuning.minimum || names_no_source sources tuning.maximum || names_no_source sources tuning.kind || names_no_source sources tuning.rename
+
+abbrev pub asks_bad_name : Tuning → Bool
+asks_bad_name tuning = option_map_or (λ (option : Asked Name). not (is_good option.1)) tuning.rename false
+
+-- the new name is that of another source
+abbrev pub asks_double_name : List DsDef → Tuning → Bool
+asks_double_name sources tuning = option_map_or (λ (option : Asked Name). not (same_name option.0 option.1) && has_source sources option.1) tuning.rename false
+
+abbrev pub asks_bad_heartbeat : Tuning → Bool
+asks_bad_heartbeat tuning = option_map_or (λ (option : Asked ℕ). is_bad_heartbeat option.1) tuning.heartbeat false
+
 abbrev pub tune_checks : List DsDef → Tuning → List Check
 tune_checks sources tuning =
     ◌refuses◌ (asks_nothing tuning) NothingToTune
-    ∷ ◌refuses◌ (names_no_source sources tuning.heartbeat || names_no_source sources tuning.minimum || names_no_source sources tuning.maximum || names_no_source sources tuning.kind || names_no_source sources tuning.rename) NoSuchSource
-    ∷ ◌refuses◌ (option_map_or (λ (option : Asked Name). not (is_good option.1)) tuning.rename false) BadName
-    ∷ ◌refuses◌ (option_map_or (λ (option : Asked Name). not (same_name option.0 option.1) && has_source sources option.1) tuning.rename false) DoubleName
-    ∷ ◌refuses◌ (option_map_or (λ (option : Asked ℕ). is_bad_heartbeat option.1) tuning.heartbeat false) BadHeartbeat
+    ∷ ◌refuses◌ (any_names_no_source sources tuning) NoSuchSource
+    ∷ ◌refuses◌ (asks_bad_name tuning) BadName
+    ∷ ◌refuses◌ (asks_double_name sources tuning) DoubleName
+    ∷ ◌refuses◌ (asks_bad_heartbeat tuning) BadHeartbeat
     ∷ ◌refuses◌ (list_any (λ (source : DsDef). has_bad_bounds (tuned tuning source)) sources) BadBounds
     ∷ []
 

@@ -1,31 +1,36 @@
 //! What a database holds, but for its journal: how seconds and samples move it.
-ghost use Rattle.std.specs.Prelude.{◌≡◌, ℕ, ◌+◌, ◌-◌, ◌*◌, ◌/◌, ◌^◌, ◌<◌, ◌≤◌, [], ◌∷◌, length, replicate, slice_index_or, IfOk, None, pos, ◌-ℤ◌};
+ghost use Rattle.std.specs.Prelude.{◌≡◌, ℕ, ◌+◌, ◌-◌, ◌*◌, ◌/◌, ◌^◌, ◌<◌, ◌≤◌, [], ◌∷◌, length, map, replicate, slice_index_or, IfOk, None, pos, ◌-ℤ◌};
 ghost use Rattle.std.specs.Int.{int_div_euclid};
 ghost use Rattle.rrd_base.specs.Choice.{choice_of};
-ghost use Rattle.rrd_base.specs.Commands.{Updating, moved};
+ghost use Rattle.rrd_base.specs.Commands.{Tuning_by, Updating, moved};
 ghost use Rattle.rrd_base.specs.Creating.{create_verdict, created};
 ghost use Rattle.rrd_base.specs.Shown.{cell_at, definitions, prep_at};
 ghost use Rattle.rrd_fixed.specs.declared.raw.Raw.TheVariants.{Unknown};
 ghost use Rattle.rrd_fold.specs.Parts.{nothing};
 ghost use Rattle.rrd_base.specs.Room.{HasPlaces};
 ghost use Rattle.rrd_base.specs.Stored.{CanUndo, before, entry_of, update_of};
-ghost use Rattle.rrd_base.specs.Entries.{Updated, undone};
+ghost use Rattle.rrd_base.specs.Entries.{Updated, WasResized, WasTuned, entry as entry_for, rows_at, undone};
 ghost use Rattle.rrd_base.specs.Store.{CanPutBackEach, befores, functions, saved_functions};
+ghost use Rattle.rrd_base.specs.Tuned.{held_of};
 ghost use Rattle.rrd_base.specs.Verdict.{verdict};
-ghost use Rattle.rrd_base.specs.History.{Sampled, content};
+ghost use Rattle.rrd_base.specs.History.{Resized, Sampled, content};
 ghost use Rattle.rrd_base.specs.Passed.{passed};
+ghost use Rattle.rrd_ring.specs.Rows.{newest_rows};
 ghost use Rattle.rrd_base.specs.Validity.{AreAccepted, IsRow, IsValid};
 
 use crate::choose::{Chosen, Request, Search};
 use crate::definition::DsDef;
-use crate::entry::{Before, Entry};
+use crate::entry::{Before, Entry, Held};
 use crate::preparing::{add_all, close_all, rates_into};
 use crate::room::Room;
 use crate::store::{Store, new_all, put_back_all, save_all, take_all};
+use crate::tune::{hold, put_held_back, tune_all};
 use crate::update::raws_into;
-use crate::{CreateSpec, Refusal, Update};
+use crate::{CreateSpec, Refusal, Tuning, Update};
+use arrayvec::ArrayVec;
 use rrd_fixed::{Cell, Meter, Raw};
 use rrd_fold::{RowPrep, StepPrep};
+use rrd_ring::Archive;
 use std::alloc::{AllocError, Global};
 use std::marker::Model;
 
@@ -234,6 +239,61 @@ impl Contents {
         put_back_all(&mut self.stores, stores);
     }
 
+    // Puts back the sources that a tune named.
+    fn undo_tune(&mut self, held: &ArrayVec<Held, 5>)
+        requires { IsValid (undone self.old (WasTuned (map held_of held.now.items))) }
+        ensures { self.new ≡ undone self.old (WasTuned (map held_of held.now.items)) }
+    {
+        put_held_back(&mut self.sources, &mut self.raws, held.as_slice());
+    }
+
+    // Puts back the rows of a resized archive.
+    fn undo_resize(&mut self, archive: usize, mut old: Archive)
+        requires there { archive < length self.old.archives }
+        requires valid { IsValid (undone self.old (WasResized archive old)) }
+        ensures { self.new ≡ undone self.old (WasResized archive old) }
+    {
+        self.stores[archive].swap_rows(&mut old);
+    }
+
+    /// Gives the sources the settings that a tune asks.
+    pub(crate) fn tune(&mut self, tuning: &Tuning)
+        requires { verdict self.old (Tuning_by tuning.now) ≡ None }
+        ensures { self.new ≡ moved self.old (Tuning_by tuning.now) }
+    {
+        tune_all(&mut self.sources, &mut self.raws, tuning);
+    }
+
+    /// The sources that an accepted tune names, as they are.
+    pub(crate) fn hold(&self, tuning: &Tuning) -> ArrayVec<Held, 5>
+        requires { verdict self.now (Tuning_by tuning.now) ≡ None }
+        ensures { WasTuned (map held_of result.items) ≡ entry_for self.now (Tuning_by tuning.now) }
+    {
+        hold(&self.sources, &self.raws, tuning)
+    }
+
+    /// The rows that an archive has when it is resized to so many (1 to 1,000,000).
+    pub(crate) fn resized(&self, alloc: Global, archive: usize, rows: u64) -> Result<Archive, AllocError>
+        requires there { archive < length self.now.archives }
+        requires some_rows { 0 < rows }
+        requires few_rows { rows ≤ 1000000 }
+        ensures { IfOk result (λ new. new ≡ newest_rows rows (rows_at self.now.archives archive)) }
+    {
+        self.stores[archive].resized(alloc, rows)
+    }
+
+    /// Gives an archive its resized rows, and gives the ones that it had. It takes no memory.
+    pub(crate) fn resize(&mut self, archive: usize, mut rows: Archive) -> Archive
+        requires there { archive < length self.old.archives }
+        requires valid { IsValid (content self.old (Resized archive (length rows) ∷ [])) }
+        requires resized { rows ≡ newest_rows (length rows) (rows_at self.old.archives archive) }
+        ensures contents { self.new ≡ content self.old (Resized archive (length rows) ∷ []) }
+        ensures old { result ≡ rows_at self.old.archives archive }
+    {
+        self.stores[archive].swap_rows(&mut rows);
+        rows
+    }
+
     /// Puts back what was before a change. It takes no memory.
     pub(crate) fn undo(&mut self, entry: Entry)
         requires fits { CanUndo self.old.archives entry }
@@ -242,6 +302,8 @@ impl Contents {
     {
         match entry {
             Entry::Update(before) => self.undo_update(before),
+            Entry::Tune(held) => self.undo_tune(&held),
+            Entry::Resize(archive, old) => self.undo_resize(archive as usize, old),
         }
     }
 }

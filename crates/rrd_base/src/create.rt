@@ -27,14 +27,14 @@ const GREATEST_XFF: i128 = 999_999;
 // Of one row, and of one archive.
 const MOST_STEPS: u64 = 1_000_000;
 
-const MOST_ROWS: u64 = 1_000_000;
+pub(crate) const MOST_ROWS: u64 = 1_000_000;
 
 // Of one database.
 const MOST_SOURCES: usize = 64;
 
 const MOST_ARCHIVES: usize = 64;
 
-const MOST_CELLS: u64 = 4_000_000;
+pub(crate) const MOST_CELLS: u64 = 4_000_000;
 
 const DEEPEST_JOURNAL: u64 = 1_000;
 

@@ -1,9 +1,10 @@
 //! The database.
 ghost use Rattle.std.specs.Prelude.{◌≡◌, ◌<◌, ◌≢◌, [], length, IfOk, OnErr, MatchResult, Err, Some, slice_get, slice_index_or};
+ghost use Rattle.std.specs.Result.{result_err};
 ghost use Rattle.rrd_base.specs.Answers.{IsAnswer};
 ghost use Rattle.rrd_fixed.specs.declared.raw.Raw.TheVariants.{Unknown};
 ghost use Rattle.rrd_base.specs.Choice.{choice};
-ghost use Rattle.rrd_base.specs.Commands.{Updating};
+ghost use Rattle.rrd_base.specs.Commands.{Resizing, Tuning_by, Updating};
 ghost use Rattle.rrd_base.specs.Creating.{create_verdict, created};
 ghost use Rattle.rrd_base.specs.Shown.{cell_at, definitions, prep_at};
 ghost use Rattle.rrd_fold.specs.Parts.{nothing};
@@ -15,9 +16,11 @@ use crate::choose::Request;
 use crate::contents::Contents;
 use crate::create::check;
 use crate::entry::Entry;
+use crate::resize::{Change, check_resize, rows_changed};
 use crate::room::Room;
+use crate::tune::check_tune;
 use crate::update::check_update;
-use crate::{Chosen, CreateSpec, DsDef, Receipt, Refusal, RraDef, Update};
+use crate::{Chosen, CreateSpec, DsDef, Receipt, Refusal, RraDef, Tuning, Update};
 use circular_buffer::HeapCircularBuffer;
 use rrd_fixed::{Cell, Meter, Raw};
 use rrd_fold::{Function, RowPrep, StepPrep};
@@ -89,6 +92,47 @@ impl Database {
             turns: meter.turns(),
             cells: 0,
         })
+    }
+
+    /// Gives data sources new settings, all or none (rrdtune). Refuses a tune without an option, one
+    /// that names no source, a bad or a double name, a bad heartbeat and bad bounds. The journal gets
+    /// an entry; a full one drops its oldest. It takes no memory.
+    pub fn tune(&mut self, tuning: &Tuning) -> Result<(), Refusal>
+        ensures verdict { result_err result ≡ verdict self.old.now (Tuning_by tuning.now) }
+        ensures ok { IfOk result (λ _. self.new ≡ changed self.old (Tuning_by tuning.now)) }
+        ensures err { OnErr result (self.new ≡ self.old) }
+    {
+        let contents = &self.contents;
+        if let Some(refusal) = check_tune(&contents.sources, tuning) {
+            return Err(refusal);
+        }
+        let held = contents.hold(tuning);
+        self.contents.tune(tuning);
+        let _oldest = self.journal.push_back(Entry::Tune(held));
+        Ok(())
+    }
+
+    /// Gives an archive more or fewer rows, its newest being kept (rrdresize). Refuses an archive that
+    /// isn't there, a number of rows that is 0 or leads above 1,000,000, a shrink that leaves no row,
+    /// more than 4,000,000 cells in all, and last want of memory. The journal gets an entry; a full
+    /// one drops its oldest.
+    pub fn resize(&mut self, alloc: Global, archive: u64, change: Change, rows: u64) -> Result<(), Refusal>
+        ensures verdict { IsAnswer (verdict self.old.now (Resizing archive change rows)) result }
+        ensures ok { IfOk result (λ _. self.new ≡ changed self.old (Resizing archive change rows)) }
+        ensures err { OnErr result (self.new ≡ self.old) }
+    {
+        let contents = &self.contents;
+        if let Some(refusal) = check_resize(&contents.sources, &contents.stores, archive, change, rows) {
+            return Err(refusal);
+        }
+        let place = archive as usize;
+        let rows = rows_changed(change, contents.stores[place].def().rows, rows);
+        let Ok(new) = contents.resized(alloc, place, rows) else {
+            return Err(Refusal::OutOfMemory);
+        };
+        let old = self.contents.resize(place, new);
+        let _oldest = self.journal.push_back(Entry::Resize(archive, old));
+        Ok(())
     }
 
     /// Takes back the newest change that the journal holds. It takes no memory. Refused exactly if

@@ -1,4 +1,6 @@
 //! Settings of data sources and archives.
+ghost use Rattle.std.specs.Prelude.{◌≡◌};
+
 use rrd_fixed::{Kind, Name};
 use rrd_fold::Function;
 
@@ -13,6 +15,21 @@ pub struct DsDef {
     pub min: Option<i128>,
     /// The greatest rate that is taken, in millionths; `None` is no bound.
     pub max: Option<i128>,
+}
+
+impl DsDef {
+    /// The same settings again. It takes no memory.
+    pub fn duplicate(&self) -> DsDef
+        ensures { result ≡ self.now }
+    {
+        DsDef {
+            name: self.name.duplicate(),
+            kind: self.kind,
+            heartbeat: self.heartbeat,
+            min: self.min,
+            max: self.max,
+        }
+    }
 }
 
 /// An archive's settings (rrdcreate, "RRA").

@@ -1,8 +1,108 @@
-//! Changes of an archive's number of rows.
+//! Changes of an archive's number of rows: which are accepted.
+ghost use Rattle.std.specs.Prelude.{◌≡◌, ◌<◌, ◌≤◌, length, slice_index_or, sum};
+ghost use Rattle.std.specs.List.{AllByRecursion};
+ghost use Rattle.rrd_base.specs.Commands.{all_rows_after, rows_changed, rows_of_archives};
+ghost use Rattle.rrd_base.specs.History.{Resized};
+ghost use Rattle.rrd_base.specs.Resized.{HasFewRows, settings};
+ghost use Rattle.rrd_base.specs.Verdict as verdict;
+
+use crate::create::{MOST_CELLS, MOST_ROWS, is_bad_rows};
+use crate::store::Store;
+use crate::{DsDef, Refusal};
 
 /// Whether an archive grows or shrinks (rrdresize).
 #[derive(Clone, Copy, Debug, PartialEq, Eq)]
 pub enum Change {
     Grow,
     Shrink,
+}
+
+// Whether the archive would have too many rows.
+fn grows_too_far(change: Change, old: u64, rows: u64) -> bool
+    requires small { old ≤ 1000000 }
+    requires few { rows ≤ 1000000 }
+    ensures { result ≡ verdict.grows_too_far change old rows }
+{
+    match change {
+        Change::Grow => old + rows > MOST_ROWS,
+        Change::Shrink => false,
+    }
+}
+
+// Whether no row would be left.
+fn shrinks_too_far(change: Change, old: u64, rows: u64) -> bool
+    ensures { result ≡ verdict.shrinks_too_far change old rows }
+{
+    match change {
+        Change::Grow => false,
+        Change::Shrink => old <= rows,
+    }
+}
+
+/// How many rows the archive would have.
+pub(crate) fn rows_changed(change: Change, old: u64, rows: u64) -> u64
+    requires small { old ≤ 1000000 }
+    requires few { rows ≤ 1000000 }
+    ensures { result ≡ rows_changed change old rows }
+{
+    match change {
+        Change::Grow => old + rows,
+        Change::Shrink => old.saturating_sub(rows),
+    }
+}
+
+// The rows of all archives.
+fn all_rows(stores: &[Store]) -> u64
+    requires few_rows { AllByRecursion HasFewRows stores.now }
+    requires few { length stores.now ≤ 64 }
+    ensures { result ≡ sum (rows_of_archives stores.now) }
+{
+    let mut rows = 0;
+    for store in stores {
+        rows += store.def().rows;
+    }
+    rows
+}
+
+// The rows of all archives, after a change of one's.
+fn all_rows_then(stores: &[Store], index: usize, change: Change, rows: u64) -> u64
+    requires there { index < length stores.now }
+    requires few_rows { AllByRecursion HasFewRows stores.now }
+    requires few_stores { length stores.now ≤ 64 }
+    requires few { rows ≤ 1000000 }
+    ensures rows { result ≡ sum (all_rows_after (Resized index (rows_changed change (slice_index_or (rows_of_archives stores.now) index 0) rows)) (rows_of_archives stores.now)) }
+    ensures few { result ≤ 66000000 }
+{
+    let old = stores[index].def().rows;
+    all_rows(stores) - old + rows_changed(change, old, rows)
+}
+
+/// The first thing wrong with a resize; none if it is accepted (rrdresize).
+pub(crate) fn check_resize(
+    sources: &[DsDef],
+    stores: &[Store],
+    index: u64,
+    change: Change,
+    rows: u64,
+) -> Option<Refusal>
+    requires few_sources { length sources.now ≤ 64 }
+    requires few_rows { AllByRecursion HasFewRows stores.now }
+    requires few { length stores.now ≤ 64 }
+    ensures { result ≡ verdict.first_refusal (verdict.resize_checks (settings sources.now stores.now) index change rows) }
+{
+    if index >= stores.len() as u64 {
+        return Some(Refusal::NoSuchArchive);
+    }
+    let old = stores[index as usize].def().rows;
+    if is_bad_rows(rows) || grows_too_far(change, old, rows) {
+        return Some(Refusal::BadRows);
+    }
+    if shrinks_too_far(change, old, rows) {
+        return Some(Refusal::ShrinkTooFar);
+    }
+    let all = all_rows_then(stores, index as usize, change, rows);
+    if sources.len() as u64 * all > MOST_CELLS {
+        return Some(Refusal::TooLarge);
+    }
+    None
 }

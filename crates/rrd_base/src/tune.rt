@@ -1,5 +1,18 @@
-//! Changes of sources' settings.
-use rrd_fixed::{Kind, Name};
+//! Changes of sources' settings: what a tune asks, which tunes are accepted, and what they make.
+ghost use Rattle.std.specs.Prelude.{◌≡◌, ◌≤◌, length, map};
+ghost use Rattle.std.specs.List.{list_any};
+ghost use Rattle.rrd_base.specs.Commands as commands;
+ghost use Rattle.rrd_base.specs.Entries as entries;
+ghost use Rattle.rrd_base.specs.History.{raws_under, same_kind};
+ghost use Rattle.rrd_base.specs.Tuned.{held_of, with_raws, with_sources};
+ghost use Rattle.rrd_base.specs.Verdict as verdict;
+
+use crate::create::{has_bad_bounds, is_bad_heartbeat};
+use crate::entry::Held;
+use crate::update::has_source;
+use crate::{DsDef, Refusal};
+use arrayvec::ArrayVec;
+use rrd_fixed::{Kind, Name, Raw};
 
 /// New settings, each for the source of a name (rrdtune). All names are those before the command.
 #[derive(Drop)]
@@ -12,4 +25,245 @@ pub struct Tuning {
     pub maximum: Option<(Name, Option<i128>)>,
     pub kind: Option<(Name, Kind)>,
     pub rename: Option<(Name, Name)>,
+}
+
+// ---- which tunes are accepted
+
+// Whether nothing is asked.
+fn asks_nothing(tuning: &Tuning) -> bool
+    ensures { result ≡ verdict.asks_nothing tuning.now }
+{
+    tuning.heartbeat.is_none()
+        && tuning.minimum.is_none()
+        && tuning.maximum.is_none()
+        && tuning.kind.is_none()
+        && tuning.rename.is_none()
+}
+
+// Whether an option names no source.
+fn names_no_source<T>(sources: &[DsDef], option: &Option<(Name, T)>) -> bool
+    ensures { result ≡ verdict.names_no_source sources.now option.now }
+{
+    match option {
+        Some((name, _)) => !has_source(sources, name),
+        None => false,
+    }
+}
+
+// Whether one of the options names no source.
+fn any_names_no_source(sources: &[DsDef], tuning: &Tuning) -> bool
+    ensures { result ≡ verdict.any_names_no_source sources.now tuning.now }
+{
+    names_no_source(sources, &tuning.heartbeat)
+        || names_no_source(sources, &tuning.minimum)
+        || names_no_source(sources, &tuning.maximum)
+        || names_no_source(sources, &tuning.kind)
+        || names_no_source(sources, &tuning.rename)
+}
+
+// Whether the new name is no good one.
+fn has_bad_name(tuning: &Tuning) -> bool
+    ensures { result ≡ verdict.asks_bad_name tuning.now }
+{
+    match &tuning.rename {
+        Some((_, new)) => !new.good(),
+        None => false,
+    }
+}
+
+// Whether the new name is another source's.
+fn doubles_name(sources: &[DsDef], tuning: &Tuning) -> bool
+    ensures { result ≡ verdict.asks_double_name sources.now tuning.now }
+{
+    match &tuning.rename {
+        Some((old, new)) => !old.same(new) && has_source(sources, new),
+        None => false,
+    }
+}
+
+// Whether a source would have bad bounds.
+fn any_bad_bounds(sources: &[DsDef], tuning: &Tuning) -> bool
+    ensures { result ≡ list_any (λ source. verdict.has_bad_bounds (commands.tuned tuning.now source)) sources.now }
+{
+    sources
+        .iter()
+        .any(|source| has_bad_bounds(&tuned(tuning, source)))
+}
+
+// Whether the new heartbeat is a bad one.
+fn has_bad_heartbeat(tuning: &Tuning) -> bool
+    ensures { result ≡ verdict.asks_bad_heartbeat tuning.now }
+{
+    match &tuning.heartbeat {
+        Some((_, seconds)) => is_bad_heartbeat(*seconds),
+        None => false,
+    }
+}
+
+/// The first thing wrong with a tune; none if it is accepted (rrdtune).
+pub(crate) fn check_tune(sources: &[DsDef], tuning: &Tuning) -> Option<Refusal>
+    ensures { result ≡ verdict.first_refusal (verdict.tune_checks sources.now tuning.now) }
+{
+    if asks_nothing(tuning) {
+        return Some(Refusal::NothingToTune);
+    }
+    if any_names_no_source(sources, tuning) {
+        return Some(Refusal::NoSuchSource);
+    }
+    if has_bad_name(tuning) {
+        return Some(Refusal::BadName);
+    }
+    if doubles_name(sources, tuning) {
+        return Some(Refusal::DoubleName);
+    }
+    if has_bad_heartbeat(tuning) {
+        return Some(Refusal::BadHeartbeat);
+    }
+    if any_bad_bounds(sources, tuning) {
+        return Some(Refusal::BadBounds);
+    }
+    None
+}
+
+// ---- what a tune makes
+
+// What is asked of the source of a name, or else the old value.
+fn asked<T: Copy>(option: &Option<(Name, T)>, name: &Name, old: T) -> T
+    ensures { result ≡ commands.asked option.now name.now old }
+{
+    match option {
+        Some((asked, value)) => {
+            if asked.same(name) {
+                *value
+            } else {
+                old
+            }
+        }
+        None => old,
+    }
+}
+
+// The name of a source after the tune.
+fn renamed(option: &Option<(Name, Name)>, name: &Name) -> Name
+    ensures { result ≡ commands.asked option.now name.now name.now }
+{
+    match option {
+        Some((asked, value)) => {
+            if asked.same(name) {
+                value.duplicate()
+            } else {
+                name.duplicate()
+            }
+        }
+        None => name.duplicate(),
+    }
+}
+
+// A source's settings after the tune.
+fn tuned(tuning: &Tuning, source: &DsDef) -> DsDef
+    ensures { result ≡ commands.tuned tuning.now source.now }
+{
+    let name = &source.name;
+    DsDef {
+        name: renamed(&tuning.rename, name),
+        kind: asked(&tuning.kind, name, source.kind),
+        heartbeat: asked(&tuning.heartbeat, name, source.heartbeat),
+        min: asked(&tuning.minimum, name, source.min),
+        max: asked(&tuning.maximum, name, source.max),
+    }
+}
+
+// A source's raw value under its new settings: another type makes it unknown.
+fn raw_under(old: Kind, new: Kind, raw: Raw) -> Raw
+    ensures { result ≡ commands.raw_under old new raw }
+{
+    if same_kind(old, new) {
+        raw
+    } else {
+        Raw::Unknown
+    }
+}
+
+fn same_kind(old: Kind, new: Kind) -> bool
+    ensures { result ≡ same_kind old new }
+{
+    match (old, new) {
+        (Kind::Gauge, Kind::Gauge) => true,
+        (Kind::Counter, Kind::Counter) => true,
+        (Kind::Derive, Kind::Derive) => true,
+        (Kind::Absolute, Kind::Absolute) => true,
+        _ => false,
+    }
+}
+
+/// Gives each source its new settings.
+pub(crate) fn tune_all(sources: &mut [DsDef], raws: &mut [Raw], tuning: &Tuning)
+    requires { length raws.old ≡ length sources.old }
+    ensures sources { sources.new ≡ map (commands.tuned tuning.now) sources.old }
+    ensures raws { raws.new ≡ raws_under sources.old (map (commands.tuned tuning.now) sources.old) raws.old }
+{
+    for place in 0..sources.len() {
+        let new = tuned(tuning, &sources[place]);
+        raws[place] = raw_under(sources[place].kind, new.kind, raws[place]);
+        sources[place] = new;
+    }
+}
+
+// ---- what is kept of it
+
+// Whether an option is for a source.
+fn is_asked<T>(option: &Option<(Name, T)>, source: &DsDef) -> bool
+    ensures { result ≡ entries.is_asked option.now source.now }
+{
+    match option {
+        Some((name, _)) => name.same(&source.name),
+        None => false,
+    }
+}
+
+// Whether a tune names a source.
+fn is_named(tuning: &Tuning, source: &DsDef) -> bool
+    ensures { result ≡ entries.is_named tuning.now source.now }
+{
+    is_asked(&tuning.heartbeat, source)
+        || is_asked(&tuning.minimum, source)
+        || is_asked(&tuning.maximum, source)
+        || is_asked(&tuning.kind, source)
+        || is_asked(&tuning.rename, source)
+}
+
+/// The sources that a tune names, as they are, by rising number. It takes no memory.
+pub(crate) fn hold(sources: &[DsDef], raws: &[Raw], tuning: &Tuning) -> ArrayVec<Held, 5>
+    requires one_each { length raws.now ≡ length sources.now }
+    requires few { length (entries.held tuning.now 0 sources.now raws.now) ≤ 5 }
+    ensures { map held_of result.items ≡ entries.held tuning.now 0 sources.now raws.now }
+{
+    let mut held = ArrayVec::new();
+    for place in 0..sources.len() {
+        let source = &sources[place];
+        if is_named(tuning, source) {
+            held.push(Held {
+                number: place as u64,
+                source: source.duplicate(),
+                raw: raws[place],
+            });
+        }
+    }
+    held
+}
+
+/// Puts back the sources as they were.
+pub(crate) fn put_held_back(sources: &mut [DsDef], raws: &mut [Raw], held: &[Held])
+    ensures sources { sources.new ≡ with_sources sources.old (map held_of held.now) }
+    ensures raws { raws.new ≡ with_raws raws.old (map held_of held.now) }
+{
+    for one in held {
+        let number = one.number as usize;
+        if number < sources.len() {
+            sources[number] = one.source.duplicate();
+        }
+        if number < raws.len() {
+            raws[number] = one.raw;
+        }
+    }
 }

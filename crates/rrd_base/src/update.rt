@@ -7,12 +7,10 @@ ghost use Rattle.rrd_base.specs.Updating.{template_checks, template_of};
 ghost use Rattle.rrd_fixed.specs.Rate.{IsAccepted};
 ghost use Rattle.rrd_fixed.specs.Names.{same_name};
 
+use crate::create::LATEST_TIME;
 use crate::definition::DsDef;
 use crate::{List, Refusal};
 use rrd_fixed::{Name, Number, Raw, admit};
-
-/// The latest time that a sample, a start or an end may have.
-const LATEST: u64 = 9_999_999_999;
 
 /// A value as it is given: `U`, or a number.
 #[derive(Clone, Copy, Debug, PartialEq, Eq)]
@@ -145,7 +143,7 @@ fn check_sample(
 ) -> Option<Refusal>
     ensures { result ≡ first_refusal (sample_checks sources.now (template_of sources.now template.now) last (sample.now ∷ [])) }
 {
-    if sample.time > LATEST {
+    if sample.time > LATEST_TIME {
         return Some(Refusal::BadTime);
     }
     if sample.time <= last {

@@ -8,10 +8,11 @@ use Rattle.rrd_base.specs.Kept.{kept_of, IsKept}
 use Rattle.rrd_base.specs.Survivors.{Kept, changed}
 use Rattle.rrd_base.specs.Stored.{before, update_of, journal_of}
 use Rattle.rrd_base.specs.Store.{saved_functions, functions}
+use Rattle.rrd_base.specs.declared.entry.Entry.TheVariants as entry
 use Rattle.rrd_base.specs.Verdict.{first_refusal, update_checks, verdict}
 use Rattle.rrd_base.specs.Contents.{content_of}
 use Rattle.rrd_base.proofs.DatabaseLemmas.{some_samples}
-use Rattle.rrd_base.proofs.KeptLemmas.{Added, added}
+use Rattle.rrd_base.proofs.KeptLemmas.{Added, added, update_entry}
 use Rattle.rrd_base.proofs.Moving.{moved_depth}
 use Rattle.rrd_base.proofs.database.Database.update.Goals as goal
 
@@ -53,7 +54,8 @@ invariant_of-self c =
     let accepted = checked (content_of c.contents.inside) d.contents d.contents update c.check_update.result e c.contents.view_is refl ∙ c.in_default.is in
     let some = some_samples d.contents update accepted in
     let saved = c.in-Ok.ensures in
-    let one = added d.contents d.journal.items update c.in-Ok.before c.self.invariant.valid c.self.invariant.functions_stay accepted some (saved.0 ∙ ap (before d.contents) c.end_of.ensures) saved.1 in
+    let this = update_entry d.contents update c.in-Ok.before some (saved.0 ∙ ap (before d.contents) c.end_of.ensures) in
+    let one = added d.contents d.journal.items (Updating update) (entry.Update c.in-Ok.before) c.self.invariant.valid c.self.invariant.functions_stay accepted this saved.1 in
     rw (c.take_samples.ensures, c.push_back-oldest.ensures.items, c.self.invariant.places) (record {
       places = sym (moved_depth d.contents (Updating update));
       valid = one.after;
@@ -68,7 +70,8 @@ returns-clause-ok c =
     let accepted = checked (content_of c.contents.inside) d.contents d.contents update c.check_update.result e c.contents.view_is refl ∙ c.in_default.is in
     let some = some_samples d.contents update accepted in
     let saved = c.in-Ok.ensures in
-    let one = added d.contents d.journal.items update c.in-Ok.before c.self.invariant.valid c.self.invariant.functions_stay accepted some (saved.0 ∙ ap (before d.contents) c.end_of.ensures) saved.1 in
+    let this = update_entry d.contents update c.in-Ok.before some (saved.0 ∙ ap (before d.contents) c.end_of.ensures) in
+    let one = added d.contents d.journal.items (Updating update) (entry.Update c.in-Ok.before) c.self.invariant.valid c.self.invariant.functions_stay accepted this saved.1 in
     rw (c.take_samples.ensures, c.push_back-oldest.ensures.items, c.self.invariant.places)
     (ap (λ j. let k : Kept = record { now = moved d.contents (Updating update); journal = j } in k) one.journal_is
     ∙ ap (λ (k : Kept). changed k (Updating update)) c.self.view_is)

@@ -1,0 +1,89 @@
+-- A tune, source by source.
+use Rattle.std.proofs.Common.{◌≡◌, refl, sym, ◌∙◌, ap, subst, ℕ, zero, suc, ◌+◌, ◌<◌, ◌≤◌, Bool, true, false, cond, List, [], ◌∷◌, ◌++◌, length, take, map, set, get_or, arith, append_assoc, length-append}
+use Rattle.std.specs.List.{fold, AllByRecursion}
+use Rattle.rrd_fixed.specs.declared.raw.Raw.{Raw}
+use Rattle.rrd_base.specs.declared.definition.DsDef.{DsDef}
+use Rattle.rrd_base.specs.declared.tune.Tuning.{Tuning}
+use Rattle.rrd_fixed.specs.declared.cell.Cell.{Cell}
+use Rattle.rrd_base.specs.History.{Archive, Content, raws_under}
+use Rattle.rrd_base.specs.Commands.{raw_under}
+use Rattle.rrd_base.specs.Entries.{Held, held, is_named, with_held, with_rows_at}
+use Rattle.rrd_base.specs.Tuned.{with_raws, with_sources}
+
+-- one raw value more
+pub raws_more : (f : DsDef → DsDef) (sources : List DsDef) (raws : List Raw) (i : ℕ) (d : DsDef) (r e : Raw) → i < length sources → length raws ≡ length sources → e ≡ raw_under (get_or sources i d).kind (f (get_or sources i d)).kind (get_or raws i r) → set (raws_under (take i sources) (map f (take i sources)) raws) i e ≡ raws_under (take (suc i) sources) (map f (take (suc i) sources)) raws
+raws_more f [] raws i d r e h k is = absurd (omega arith)
+raws_more f (s ∷ ss) [] i d r e h k is = absurd (omega arith)
+raws_more f (s ∷ ss) (x ∷ xs) zero d r e h k is = ap (λ z. z ∷ xs) is
+raws_more f (s ∷ ss) (x ∷ xs) (suc i) d r e h k is = ap (λ zs. raw_under s.kind (f s).kind x ∷ zs) (raws_more f ss xs i d r e (omega arith) (omega arith) is)
+
+-- the one that comes next is as it was
+pub raws_next : (f : DsDef → DsDef) (sources : List DsDef) (raws : List Raw) (i : ℕ) (r : Raw) → get_or (raws_under (take i sources) (map f (take i sources)) raws) i r ≡ get_or raws i r
+raws_next f [] raws zero r = refl
+raws_next f [] raws (suc i) r = refl
+raws_next f (s ∷ ss) raws zero r = refl
+raws_next f (s ∷ ss) [] (suc i) r = refl
+raws_next f (s ∷ ss) (x ∷ xs) (suc i) r = raws_next f ss xs i r
+
+pub raws_all : (f : DsDef → DsDef) (sources : List DsDef) (raws : List Raw) (i : ℕ) → length sources ≤ i → raws_under (take i sources) (map f (take i sources)) raws ≡ raws_under sources (map f sources) raws
+raws_all f [] raws zero h = refl
+raws_all f [] raws (suc i) h = refl
+raws_all f (s ∷ ss) raws zero h = absurd (omega arith)
+raws_all f (s ∷ ss) [] (suc i) h = refl
+raws_all f (s ∷ ss) (x ∷ xs) (suc i) h = ap (λ zs. raw_under s.kind (f s).kind x ∷ zs) (raws_all f ss xs i (omega arith))
+
+-- ---- what is held
+
+one_held : Bool → Held → List Held
+one_held b h = cond b (h ∷ []) []
+
+hold_rest : (b : Bool) (h : Held) (xs ys : List Held) → cond b (h ∷ (xs ++ ys)) (xs ++ ys) ≡ cond b (h ∷ xs) xs ++ ys
+hold_rest true h xs ys = refl
+hold_rest false h xs ys = refl
+
+hold_one : (b : Bool) (h : Held) → cond b (h ∷ []) [] ≡ [] ++ cond b (h ∷ []) []
+hold_one true h = refl
+hold_one false h = refl
+
+-- one source more
+pub held_more : (tuning : Tuning) (n i m : ℕ) (sources : List DsDef) (raws : List Raw) (d : DsDef) (r : Raw) → i < length sources → length raws ≡ length sources → m ≡ n + i → held tuning n (take (suc i) sources) (take (suc i) raws) ≡ held tuning n (take i sources) (take i raws) ++ (let h : Held = record { number = m; source = get_or sources i d; raw = get_or raws i r } in cond (is_named tuning (get_or sources i d)) (h ∷ []) [])
+held_more tuning n i m [] raws d r h k e = absurd (omega arith)
+held_more tuning n i m (s ∷ ss) [] d r h k e = absurd (omega arith)
+held_more tuning n zero m (s ∷ ss) (x ∷ xs) d r h k e = ap (λ z. let w : Held = record { number = z; source = s; raw = x } in cond (is_named tuning s) (w ∷ []) []) {x = n} {y = m} (omega arith)
+held_more tuning n (suc i) m (s ∷ ss) (x ∷ xs) d r h k e =
+    let w : Held = record { number = n; source = s; raw = x } in
+    ap (λ zs. cond (is_named tuning s) (w ∷ zs) zs) (held_more tuning (n + 1) i m ss xs d r (omega arith) (omega arith) (omega arith))
+    ∙ hold_rest (is_named tuning s) w (held tuning (n + 1) (take i ss) (take i xs)) _
+
+shorter : (b : Bool) (h : Held) (xs ys : List Held) → length xs ≤ length ys → length (cond b (h ∷ xs) xs) ≤ length (cond b (h ∷ ys) ys)
+shorter true h xs ys k = omega arith
+shorter false h xs ys k = k
+
+-- no more than of all
+pub held_few : (tuning : Tuning) (n i : ℕ) (sources : List DsDef) (raws : List Raw) → length (held tuning n (take i sources) (take i raws)) ≤ length (held tuning n sources raws)
+held_few tuning n zero sources raws = omega arith
+held_few tuning n (suc i) [] raws = omega arith
+held_few tuning n (suc i) (s ∷ ss) [] = omega arith
+held_few tuning n (suc i) (s ∷ ss) (x ∷ xs) = shorter (is_named tuning s) (record { number = n; source = s; raw = x }) (held tuning (n + 1) (take i ss) (take i xs)) (held tuning (n + 1) ss xs) (held_few tuning (n + 1) i ss xs)
+
+-- ---- what is put back
+
+pub held_put_back : (now : Content) (olds : List Held) → fold with_held now olds ≡ (let x : Content = record now { sources = with_sources now.sources olds; raws = with_raws now.raws olds } in x)
+held_put_back now [] = refl
+held_put_back now (old ∷ olds) = held_put_back (with_held now old) olds
+
+-- ---- a resized archive is put back
+
+pub rows_set : (archives : List Archive) (k : ℕ) (d : Archive) (rows : List (List Cell)) → k < length archives → set archives k (let a : Archive = get_or archives k d in let b : Archive = record a { def = record a.def { rows = length rows }; rows = rows } in b) ≡ with_rows_at archives k rows
+rows_set [] k d rows h = absurd (omega arith)
+rows_set (a ∷ rest) zero d rows h = refl
+rows_set (a ∷ rest) (suc k) d rows h = ap (λ xs. a ∷ xs) (rows_set rest k d rows (omega arith))
+
+-- ---- a content with other settings and raw values
+
+pub with_settings : Content → List DsDef → List Raw → Content
+with_settings now sources raws = record now { sources = sources; raws = raws }
+
+pub settings_are : (now : Content) (sources : List DsDef) (raws : List Raw) (ss : List DsDef) (rs : List Raw) → sources ≡ ss → raws ≡ rs → (let x : Content = record now { sources = sources; raws = raws } in x) ≡ (let x : Content = record now { sources = ss; raws = rs } in x)
+unfolding with_settings
+settings_are now sources raws ss rs e f = ap (λ s. with_settings now s raws) e ∙ ap (with_settings now ss) f

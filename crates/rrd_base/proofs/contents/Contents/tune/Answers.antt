@@ -1,0 +1,49 @@
+use Rattle.std.proofs.Common.{◌≡◌, sym, ◌∙◌, ap, subst, map, length, arith, List, ◌∷◌, [], None}
+use Rattle.std.specs.Vec.{with_items}
+use Rattle.std.proofs.lemmas.List.{with_items_is}
+use Rattle.rrd_base.specs.History.{Content, raws_under}
+use Rattle.rrd_base.specs.Commands.{Tuning_by, moved, tuned}
+use Rattle.rrd_base.specs.Contents.{content_of}
+use Rattle.rrd_base.specs.Validity.{IsValid}
+use Rattle.rrd_base.specs.Verdict.{verdict}
+use Rattle.rrd_base.proofs.Fitting.{length-accepted}
+use Rattle.rrd_base.proofs.Passing.{base_of_valid}
+use Rattle.rrd_base.proofs.Quiet.{content_tuned}
+use Rattle.rrd_base.proofs.Staying.{stays_valid}
+use Rattle.rrd_base.proofs.TuneLemmas.{settings_are}
+use Rattle.rrd_base.proofs.contents.Contents.tune.Goals as goal
+
+pub tune_all-requires : goal.tune_all-requires
+tune_all-requires c =
+    let d = c.self.inside in
+    ap length c.deref_mut-2.ensures.value ∙ length-accepted d.sources.items d.raws.items c.self.invariant.raws_are ∙ sym (ap length c.deref_mut.ensures.value)
+
+pub invariant_of-self : goal.invariant_of-self
+invariant_of-self c =
+    let d = c.self.inside in
+    let X : Content = content_of d in
+    let t = c.args.tuning.now in
+    let f = tuned t in
+    let sources : (with_items d.sources c.tune_all.new.sources).items ≡ map f d.sources.items
+    = with_items_is d.sources c.tune_all.new.sources (omega (arith, c.tune_all.auto.sources, c.deref_mut.ensures.len)) ∙ c.tune_all.ensures.sources ∙ ap (map f) c.deref_mut.ensures.value in
+    let raws : (with_items d.raws c.tune_all.new.raws).items ≡ raws_under d.sources.items (map f d.sources.items) d.raws.items
+    = with_items_is d.raws c.tune_all.new.raws (omega (arith, c.tune_all.auto.raws, c.deref_mut-2.ensures.len)) ∙ c.tune_all.ensures.raws
+    ∙ ap (λ ss. raws_under ss (map f ss) c.deref_mut-2.result.now) c.deref_mut.ensures.value ∙ ap (raws_under d.sources.items (map f d.sources.items)) c.deref_mut-2.ensures.value in
+    let same = settings_are X (with_items d.sources c.tune_all.new.sources).items (with_items d.raws c.tune_all.new.raws).items (map f d.sources.items) (raws_under d.sources.items (map f d.sources.items) d.raws.items) sources raws ∙ sym (content_tuned X (map f d.sources.items) (base_of_valid X c.self.invariant)) in
+    let accepted : verdict X (Tuning_by t) ≡ None = subst (λ (x : Content). verdict x (Tuning_by t) ≡ None) (sym c.self.view_is) c.requires in
+    subst IsValid (sym same) (stays_valid X (Tuning_by t) c.self.invariant accepted)
+
+pub returns : goal.returns
+returns c =
+    let d = c.self.inside in
+    let X : Content = content_of d in
+    let t = c.args.tuning.now in
+    let f = tuned t in
+    let sources : (with_items d.sources c.tune_all.new.sources).items ≡ map f d.sources.items
+    = with_items_is d.sources c.tune_all.new.sources (omega (arith, c.tune_all.auto.sources, c.deref_mut.ensures.len)) ∙ c.tune_all.ensures.sources ∙ ap (map f) c.deref_mut.ensures.value in
+    let raws : (with_items d.raws c.tune_all.new.raws).items ≡ raws_under d.sources.items (map f d.sources.items) d.raws.items
+    = with_items_is d.raws c.tune_all.new.raws (omega (arith, c.tune_all.auto.raws, c.deref_mut-2.ensures.len)) ∙ c.tune_all.ensures.raws
+    ∙ ap (λ ss. raws_under ss (map f ss) c.deref_mut-2.result.now) c.deref_mut.ensures.value ∙ ap (raws_under d.sources.items (map f d.sources.items)) c.deref_mut-2.ensures.value in
+    settings_are X (with_items d.sources c.tune_all.new.sources).items (with_items d.raws c.tune_all.new.raws).items (map f d.sources.items) (raws_under d.sources.items (map f d.sources.items) d.raws.items) sources raws
+    ∙ sym (content_tuned X (map f d.sources.items) (base_of_valid X c.self.invariant))
+    ∙ ap (λ (x : Content). moved x (Tuning_by t)) c.self.view_is

@@ -1,0 +1,10 @@
+use Rattle.std.proofs.Common.{◌≡◌, ◌++◌, map, take, drop}
+use Rattle.rrd_base.specs.Commands as commands
+use Rattle.rrd_base.specs.History.{raws_under}
+use Rattle.rrd_base.proofs.tune.tune_all.Given as goal
+
+abbrev pub invariant-loop-place : goal.invariant-loop-place
+invariant-loop-place l = record {
+  sources_are : l.sources ≡ map (commands.tuned l.tuning) (take l.place l.fn.sources) ++ drop l.place l.fn.sources;
+  raws_are : l.raws ≡ raws_under (take l.place l.fn.sources) (map (commands.tuned l.tuning) (take l.place l.fn.sources)) l.fn.raws;
+}

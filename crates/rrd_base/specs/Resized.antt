@@ -1,0 +1,12 @@
+-- An archive's number of rows, and those of all.
+use Rattle.std.specs.Prelude.{ℕ, ◌≤◌, List}
+use Rattle.rrd_base.specs.declared.definition.DsDef.{DsDef}
+use Rattle.rrd_base.specs.History.{Archive}
+use Rattle.rrd_base.specs.Commands.{Settings, rows_of_archives}
+
+-- the settings that these sources and archives have
+abbrev pub settings : List DsDef → List Archive → Settings
+settings sources archives = record { sources = sources; rows = rows_of_archives archives }
+
+pub record HasFewRows (archive : Archive) : Type 0 where
+  pub few : archive.def.rows ≤ 1000000
