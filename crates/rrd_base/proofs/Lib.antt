@@ -30,3 +30,5 @@ pub mod CellLemmas
 pub mod ShownLemmas
 pub mod TuneLemmas
 pub mod ResizeLemmas
+pub mod SlowLemmas
+pub mod SlowRows

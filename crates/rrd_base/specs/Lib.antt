@@ -23,3 +23,4 @@ pub mod WorkedTimes
 pub mod Shown
 pub mod Tuned
 pub mod Resized
+pub mod Slow

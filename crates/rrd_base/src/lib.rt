@@ -9,6 +9,7 @@ mod list;
 mod preparing;
 mod refusal;
 mod resize;
+pub mod slow;
 mod store;
 mod tune;
 mod update;
