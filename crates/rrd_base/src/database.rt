@@ -10,6 +10,7 @@ ghost use Rattle.rrd_base.specs.Shown.{cell_at, definitions, prep_at};
 ghost use Rattle.rrd_fold.specs.Parts.{nothing};
 ghost use Rattle.rrd_base.specs.Survivors.{changed, reverted};
 ghost use Rattle.rrd_base.specs.Updating.{end_of};
+ghost use Rattle.rrd_base.specs.Validity.{IsValid};
 ghost use Rattle.rrd_base.specs.Verdict.{verdict};
 
 use crate::choose::Request;
@@ -177,9 +178,10 @@ impl Database {
         self.journal.len() as u64
     }
 
-    /// How many data sources there are.
+    /// How many data sources there are. That the database is valid can be told here.
     pub fn sources(&self) -> u64
         ensures count { result ≡ length self.now.now.sources }
+        ensures valid { IsValid self.now.now }
     {
         self.contents.sources.len() as u64
     }
