@@ -9,3 +9,8 @@ pub mod Pieces
 pub mod Each
 pub mod Defined
 pub mod Subcommand
+pub mod BatchLemmas
+pub mod RunLemmas
+pub mod MoveLemmas
+pub mod PrintLemmas
+pub mod Choosable

@@ -1,9 +1,10 @@
--- What a byte more does to an unfinished line.
-use Rattle.std.proofs.Common.{◌≡◌, ◌∙◌, ◌++◌, ◌∷◌, ◌&&◌, ◌≤◌, ℕ, Bool, true, false, List, [], length, sym, ap, refl, append_assoc, append-nil, arith, nat_le, nat_eq, length-append, ⊎_elim}
+-- What bytes more do to the lines of an input, and to an unfinished one.
+use Rattle.std.proofs.Common.{◌≡◌, ◌∙◌, ◌++◌, ◌∷◌, ◌&&◌, ◌≤◌, ℕ, Bool, true, false, List, [], length, sym, ap, refl, append_assoc, append-nil, arith, nat_le, nat_eq, length-append, ⊎_elim, if◌then◌else◌, Result, Ok, Err}
+use Rattle.std.specs.Result.{OnOk, is_err}
 use Rattle.std.proofs.lemmas.Bool.{cases_Bool}
 use Rattle.std.proofs.lemmas.Bool.Decides.{nat_tests}
 use Rattle.std.specs.List.{list_all}
-use Rattle.rrd_tool.specs.Lines.{is_empty, is_plain, is_text, without_cr}
+use Rattle.rrd_tool.specs.Lines.{is_empty, is_plain, is_text, last_part, whole_lines, without_cr}
 use Rattle.rrd_tool.specs.Held.{HoldsBy, IsLost}
 
 cr_past : (xs : List ℕ) (b : ℕ) (more : List ℕ) → without_cr (xs ++ b ∷ more) ≡ xs ++ without_cr (b ∷ more)
@@ -119,3 +120,24 @@ lost_cut held h = ⊎_elim
 -- a line that ends in CR is no text
 pub cr_cut : (bytes held : List ℕ) → HoldsBy false true bytes held → is_text held ≡ false
 cr_cut bytes held h = ap is_text h.0 ∙ not_text bytes (13 ∷ []) refl
+
+-- ---- the lines of bytes that come one after another
+
+pub whole_append : (held xs ys : List ℕ) → whole_lines held (xs ++ ys) ≡ whole_lines held xs ++ whole_lines (last_part held xs) ys
+whole_append held [] ys = refl
+whole_append held (x ∷ xs) ys = elim (nat_eq x 10) as
+    (λ v. (if v then without_cr held ∷ whole_lines [] (xs ++ ys) else whole_lines (held ++ x ∷ []) (xs ++ ys))
+    ≡ (if v then without_cr held ∷ whole_lines [] xs else whole_lines (held ++ x ∷ []) xs)
+    ++ whole_lines (if v then last_part [] xs else last_part (held ++ x ∷ []) xs) ys)
+    [ true ↦ ap (λ l. without_cr held ∷ l) (whole_append [] xs ys) | false ↦ whole_append (held ++ x ∷ []) xs ys ]
+
+pub part_append : (held xs ys : List ℕ) → last_part held (xs ++ ys) ≡ last_part (last_part held xs) ys
+part_append held [] ys = refl
+part_append held (x ∷ xs) ys = elim (nat_eq x 10) as
+    (λ v. (if v then last_part [] (xs ++ ys) else last_part (held ++ x ∷ []) (xs ++ ys))
+    ≡ last_part (if v then last_part [] xs else last_part (held ++ x ∷ []) xs) ys)
+    [ true ↦ part_append [] xs ys | false ↦ part_append (held ++ x ∷ []) xs ys ]
+
+pub at_ok : {T E P : Type 0} (r : Result T E) → is_err r ≡ false → OnOk r P → P
+at_ok (Ok x) e p = p
+at_ok (Err f) e p = absurd (let bad : true ≡ false = e in cc)

@@ -8,3 +8,9 @@ pub mod Parsed
 pub mod Unread
 pub mod Texts
 pub mod Reading
+pub mod Batch
+pub mod Printed
+pub mod Run
+pub mod Executed
+pub mod Moves
+pub mod Chosen

@@ -18,9 +18,9 @@ abbrev pub last_part : List ℕ → List ℕ → List ℕ
 last_part held [] = held
 last_part held (b ∷ bs) = if b == 10 then last_part [] bs else last_part (held ++ b ∷ []) bs
 
-abbrev pub is_empty : List ℕ → Bool
+abbrev pub is_empty : {A : Type 0} → List A → Bool
 is_empty [] = true
-is_empty (b ∷ bs) = false
+is_empty (x ∷ xs) = false
 
 -- the line, if it has a byte
 abbrev pub if_some : List ℕ → List (List ℕ)

@@ -117,17 +117,11 @@ struct Place {
 }
 
 impl Display for Place {
-    ghost use Rattle.rrd_tool.specs.Named.{place_text};
-    ghost use Rattle.std.specs.Prelude.{Some};
-
-    ghost output = { λ place. Some (place_text place.part place.number) };
-
     fn fmt<W: fmt::Write>(&self, f: &mut Formatter<W>) -> fmt::Result {
-        let word = self.part.word();
+        f.write_str(self.part.word())?;
         if self.part.is_numbered() {
-            write!(f, "{word} {}", self.number)
-        } else {
-            f.write_str(word)
+            write!(f, " {}", self.number)?;
         }
+        Ok(())
     }
 }

@@ -1,6 +1,6 @@
 //! The lines of an input, byte by byte, and the words of a line.
 ghost use Rattle.std.specs.Prelude.{◌≡◌, ◌≢◌, ◌≤◌, List, ◌++◌, ◌∷◌, [], ℕ, length, option_map, IfOk, vec_capacity};
-ghost use Rattle.std.specs.Prelude.{true, IfSome, OnOk};
+ghost use Rattle.std.specs.Prelude.{true, false, IfSome, OnOk, OnErr};
 ghost use Rattle.std.specs.List.{list_all};
 ghost use Rattle.rrd_tool.specs.Lines.{if_some, is_blank, is_empty, is_plain, text_in, without_cr, words_of};
 
@@ -133,7 +133,8 @@ fn is_blank(byte: u8) -> bool
 // Adds a word, if it has a byte.
 fn push_word(words: &mut Words, word: &[u8]) -> Result<(), AllocError>
     requires { list_all is_plain word.now ≡ true }
-    ensures { OnOk result (words.new ≡ words.old ++ if_some word.now) }
+    ensures ok { OnOk result (words.new ≡ words.old ++ if_some word.now) }
+    ensures err { OnErr result (is_empty word.now ≡ false) }
 {
     if word.is_empty() {
         return Ok(());
@@ -144,10 +145,11 @@ fn push_word(words: &mut Words, word: &[u8]) -> Result<(), AllocError>
     words.push(text)
 }
 
-/// The words of a text, which spaces and tabs part.
+/// The words of a text, which spaces and tabs part. A text without words takes no memory.
 pub fn read_words(alloc: Global, text: &[u8]) -> Result<Words, AllocError>
     requires { list_all is_plain text.now ≡ true }
-    ensures { IfOk result (λ words. words ≡ words_of text.now) }
+    ensures ok { IfOk result (λ words. words ≡ words_of text.now) }
+    ensures err { OnErr result (is_empty (words_of text.now) ≡ false) }
 {
     let mut words = Words::new(alloc);
     let mut from = 0;

@@ -20,7 +20,7 @@ loop-at-preserved c =
     elim c.if-is_blank.branch [
       | then-is_blank+in_ok-push_word w ↦
           let blank : is_blank (get_or text at 0) ≡ true = sym w.if-is_blank.ensures in
-          rw (w.from-is, w.words-is, w.in_ok-push_word.ensures) (
+          rw (w.from-is, w.words-is, w.in_ok-push_word.ensures.ok) (
             omega arith,
             inv.1 ∙ ap (λ rest. c.loop-at.words ++ rest) (step_blank text from at inside blank)
                 ∙ sym (append_assoc c.loop-at.words (if_some (between text from at)) (words_after (between text (at + 1) (at + 1)) (drop (at + 1) text))),

@@ -1,0 +1,25 @@
+-- What the database stands for after more lines.
+use Rattle.std.proofs.Common.{◌≡◌, ◌∙◌, ◌++◌, ◌∷◌, [], List, ℕ, Option, Result}
+use Rattle.std.specs.Io.KnownBytes.{Appends}
+use Rattle.rrd_fixed.specs.declared.writing.WriteFault.{WriteFault}
+use Rattle.rrd_base.specs.Survivors.{State, Kept}
+use Rattle.rrd_tool.specs.Lines.{last_part, whole_lines}
+use Rattle.rrd_tool.specs.Moves.{Moves, MovesRan, MovesStopped}
+use Rattle.rrd_tool.specs.Run.{StandsFor, turn}
+use Rattle.rrd_tool.proofs.BatchLemmas.{answers_more, ran_none, stopped_front}
+
+pub moves_none : (now : ℕ) (b0 : Option Kept) (n : ℕ) (a b : Option (List ℕ)) → Appends a b [] → MovesRan now b0 b0 n n a b []
+moves_none now b0 n a b h s0 s = (s0, s, ran_none (turn now) s0 n a b h)
+
+pub moves_more : {T : Type 0} (now : ℕ) (b0 b1 b2 : Option Kept) (n0 n1 n2 : ℕ) (a b c : Option (List ℕ)) (held xs ys : List ℕ) → MovesRan now b0 b1 n0 n1 a b (whole_lines held xs)
+    → (r : Result T WriteFault) → Moves now b1 b2 n1 n2 b c (whole_lines (last_part held xs) ys) r → Moves now b0 b2 n0 n2 a c (whole_lines held (xs ++ ys)) r
+moves_more now b0 b1 b2 n0 n1 n2 a b c held xs ys f r k s0 s =
+    let p = f s0 s in
+    let q = k p.0 p.1 in
+    (q.0, q.1, answers_more (turn now) s0 p.0 q.0 n0 n1 n2 a b c held xs ys p.2 r q.2)
+
+pub moves_front : (now : ℕ) (b0 b1 : Option Kept) (n0 n1 : ℕ) (a b : Option (List ℕ)) (held xs ys : List ℕ) → MovesStopped now b0 b1 n0 n1 a b (whole_lines held xs)
+    → MovesStopped now b0 b1 n0 n1 a b (whole_lines held (xs ++ ys))
+moves_front now b0 b1 n0 n1 a b held xs ys f s0 s =
+    let p = f s0 s in
+    (p.0, p.1, stopped_front (turn now) s0 p.0 n0 n1 a b held xs ys p.2)

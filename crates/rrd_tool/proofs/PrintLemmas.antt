@@ -1,0 +1,46 @@
+-- Texts one after another.
+use Rattle.std.proofs.Common.{◌≡◌, ◌∙◌, ◌+◌, ◌-◌, ◌*◌, ◌/◌, ◌++◌, ℕ, List, Option, sym, ap, refl, append_assoc, append-nil, add-one, zero, suc, [], ◌∷◌, ◌≤◌, ◌<◌, arith, inl, inr, codes, take, length, get_or}
+use Rattle.std.proofs.Math.Nat.{mul-le-mul_left}
+use Rattle.std.proofs.lemmas.List.{take_more}
+use Rattle.std.proofs.lemmas.Bool.{cases_lt}
+use Rattle.rrd_base.specs.declared.definition.DsDef.{DsDef}
+use Rattle.rrd_fixed.specs.Written.{AppendsFront}
+use Rattle.rrd_fixed.proofs.Writings.{writes_stop}
+use Rattle.rrd_tool.specs.Printed.{names_text, texts_below}
+
+pub below_more : (f : ℕ → List ℕ) (n : ℕ) → texts_below f (n + 1) ≡ texts_below f n ++ f n
+below_more f n = rw add-one refl
+
+below_split : (f : ℕ → List ℕ) (n k : ℕ) → k ≤ n → (rest : List ℕ) × (texts_below f n ≡ texts_below f k ++ rest)
+below_split f zero k le =
+    let none : k ≡ 0 = omega arith in
+    ([], rw none refl)
+below_split f (suc n) k le = elim (cases_lt k (suc n)) [
+  | inl lt ↦ let split = below_split f n k (omega arith) in (split.0 ++ f n, ap (λ l. l ++ f n) split.1 ∙ append_assoc (texts_below f k) split.0 (f n))
+  | inr ge ↦ let same : k ≡ suc n = omega arith in ([], rw same (sym (append-nil (texts_below f n ++ f n))))
+]
+
+-- a fault among the first texts is one among all
+pub front_below : (a b : Option (List ℕ)) (f : ℕ → List ℕ) (k n : ℕ) → k ≤ n → AppendsFront a b (texts_below f k) → AppendsFront a b (texts_below f n)
+front_below a b f k n le p =
+    let split = below_split f n k le in
+    rw split.1 (writes_stop a b (texts_below f k) split.0 p)
+
+names-append : (xs ys : List DsDef) → names_text (xs ++ ys) ≡ names_text xs ++ names_text ys
+names-append [] ys = refl
+names-append (x ∷ xs) ys = ap (λ l. codes " " ++ x.name ++ l) (names-append xs ys) ∙ sym (append_assoc (codes " " ++ x.name) (names_text xs) (names_text ys))
+
+-- one more name
+pub names_more : (sources : List DsDef) (i : ℕ) (source : DsDef) → i < length sources → source ≡ get_or sources i source
+    → names_text (take (i + 1) sources) ≡ names_text (take i sources) ++ codes " " ++ source.name
+names_more sources i source inside is =
+    ap names_text (take_more sources i source inside) ∙ (names-append (take i sources) (get_or sources i source ∷ [])
+    ∙ (ap (λ (s : DsDef). names_text (take i sources) ++ names_text (s ∷ [])) (sym is)
+    ∙ (ap (λ l. names_text (take i sources) ++ l) (append-nil (codes " " ++ source.name)) ∙ sym (append_assoc (names_text (take i sources)) (codes " ") source.name))))
+
+-- the rows up to the last one end by then
+pub within : (k res lo hi : ℕ) → 0 < res → k < (hi - lo) / res → lo + (k + 1) * res ≤ hi
+within k res lo hi some below =
+    let up : k + 1 ≤ (hi - lo) / res = omega arith in
+    let whole : res * (k + 1) ≤ res * ((hi - lo) / res) = mul-le-mul_left res up in
+    omega arith

@@ -1,0 +1,241 @@
+-- How a database keeps to the run, command by command and line by line.
+use Rattle.std.proofs.Common.{◌≡◌, ◌≢◌, ◌∙◌, ◌++◌, ◌∷◌, [], ℕ, Bool, true, false, List, Option, Some, None, Result, Ok, Err, inl, inr, ap, ap₂, sym, refl, subst, append-nil, arith, length, ◌≤◌, option_map}
+use Rattle.std.specs.Prelude.{is_none, if◌then◌else◌}
+use Rattle.std.specs.Result.{result_err}
+use Rattle.std.specs.Io.KnownBytes.{Appends, Keeps}
+use Rattle.rrd_fixed.specs.Written.{AppendsFront}
+use Rattle.rrd_fixed.specs.declared.writing.WriteFault.{WriteFault}
+use Rattle.rrd_base.specs.declared.create.CreateSpec.{CreateSpec}
+use Rattle.rrd_base.specs.declared.refusal.Refusal.{Refusal}
+use Rattle.rrd_base.specs.declared.refusal.Refusal.TheVariants as refusal
+use Rattle.rrd_base.specs.Commands.{Resizing, Tuning_by, Updating}
+use Rattle.rrd_base.specs.Creating.{create_verdict, created}
+use Rattle.rrd_base.specs.Entries.{Entry}
+use Rattle.rrd_base.specs.Survivors.{State, Kept, Changed, Reverted, Stands, step}
+use Rattle.rrd_base.specs.Verdict.{verdict}
+use Rattle.rrd_base.proofs.Created.{created_valid}
+use Rattle.rrd_base.proofs.Fitting.{runs_stay}
+use Rattle.rrd_base.proofs.Runs.{step_stands}
+use Rattle.clap.specs.Words.{fault_of}
+use Rattle.rrd_fixed.proofs.Writings.{Appends-kept}
+use Rattle.rrd_tool.proofs.BatchLemmas.{whole_front}
+use Rattle.rrd_tool.specs.Batch.{Performs, Turn}
+use Rattle.rrd_tool.specs.Executed.{Comes, Executes, IsFault, PrintsBy, RunsOn, kept_next}
+use Rattle.rrd_tool.specs.Faults.{fault_line}
+use Rattle.rrd_tool.specs.Lines.{is_empty, text_in, words_of}
+use Rattle.rrd_tool.specs.Moves.{Asks, line_turns}
+use Rattle.rrd_tool.specs.Reading.{IsReading, reading}
+use Rattle.rrd_tool.specs.Run.{StandsFor, begun, command_of, command_turn, is_change, kept_of, lines_on, next, read_as, reading_turn, refused, revert_verdict, takes_memory, text_turn, turn, unless_short, verdict_on, words_turn}
+use Rattle.rrd_tool.specs.Shapes.{rrdi_app}
+use Rattle.rrd_tool.specs.declared.command.Command.{Command}
+use Rattle.rrd_tool.specs.declared.command.Command.TheVariants.{Create, Update, Tune, Resize, Fetch, Last, Revert}
+use Rattle.rrd_tool.specs.declared.command.LineFault.{LineFault}
+use Rattle.rrd_tool.specs.declared.command.LineFault.TheVariants.{Usage, BadWord, OutOfMemory}
+use Rattle.rrd_tool.specs.declared.command.Part.{Part}
+use Rattle.rrd_tool.specs.declared.faults.Fault.{Fault}
+use Rattle.rrd_tool.specs.declared.faults.Fault.TheVariants.{Line, Refused, NoDatabase, Output}
+
+-- ---- the database
+
+-- the database is the one that the state makes
+pub stands_kept : (kept : Option Kept) (state : Option State) → StandsFor kept state → kept ≡ option_map kept_of state
+stands_kept None None h = refl
+stands_kept None (Some state) h = absurd h
+stands_kept (Some kept) None h = absurd h
+stands_kept (Some kept) (Some state) h = ap₂ (λ now journal. let k : Kept = record { now = now; journal = journal } in Some k) h.now_is h.journal_is
+
+no_refusal : (verdict : Option Refusal) → option_map Refused verdict ≡ None → verdict ≡ None
+no_refusal None h = refl
+no_refusal (Some r) h = absurd cc
+
+created_stands : (spec : CreateSpec) → create_verdict spec ≡ None → Stands (begun (created spec)) (record { now = created spec; journal = [] })
+created_stands spec h = (runs_stay (created spec) [] [] (record { now_is = created_valid spec h; journal_is = tt; few = omega arith })).stands
+
+-- a command that is accepted keeps it so
+pub stands_next : (command : Command) (kept : Option Kept) (state : Option State) → verdict_on kept command ≡ None → StandsFor kept state → StandsFor (kept_next kept command) (next state command)
+stands_next (Create spec) kept state h s = created_stands spec (no_refusal (create_verdict spec) h)
+stands_next (Update update) None state h s = absurd cc
+stands_next (Tune tuning) None state h s = absurd cc
+stands_next (Resize index change rows) None state h s = absurd cc
+stands_next (Fetch function asked start stop) None state h s = absurd cc
+stands_next Last None state h s = absurd cc
+stands_next Revert None state h s = absurd cc
+stands_next (Update update) (Some kept) None h s = absurd s
+stands_next (Update update) (Some kept) (Some state) h s =
+    let accepted : verdict kept.now (Updating update) ≡ None = no_refusal (verdict kept.now (Updating update)) h in
+    let moved : Stands _ (step kept (Changed (Updating update))) = step_stands state kept (Changed (Updating update)) s in
+    rw accepted at moved
+stands_next (Tune tuning) (Some kept) None h s = absurd s
+stands_next (Tune tuning) (Some kept) (Some state) h s =
+    let accepted : verdict kept.now (Tuning_by tuning) ≡ None = no_refusal (verdict kept.now (Tuning_by tuning)) h in
+    let moved : Stands _ (step kept (Changed (Tuning_by tuning))) = step_stands state kept (Changed (Tuning_by tuning)) s in
+    rw accepted at moved
+stands_next (Resize index change rows) (Some kept) None h s = absurd s
+stands_next (Resize index change rows) (Some kept) (Some state) h s =
+    let accepted : verdict kept.now (Resizing index change rows) ≡ None = no_refusal (verdict kept.now (Resizing index change rows)) h in
+    let moved : Stands _ (step kept (Changed (Resizing index change rows))) = step_stands state kept (Changed (Resizing index change rows)) s in
+    rw accepted at moved
+stands_next (Fetch function asked start stop) (Some kept) None h s = absurd s
+stands_next (Fetch function asked start stop) (Some kept) (Some state) h s = s
+stands_next Last (Some kept) None h s = absurd s
+stands_next Last (Some kept) (Some state) h s = s
+stands_next Revert (Some kept) None h s = absurd s
+stands_next Revert (Some kept) (Some state) h s = step_stands state kept Reverted s
+
+-- ---- a command
+
+-- what a command comes to, carried to facts that follow from those on the database
+comes_as : (verdict : Option Fault) (text : List ℕ) (command : Command) (Moved Moved' Same Same' : Type 0) (c0 c1 : Option (List ℕ)) (changed : Bool) (fault : Option Fault)
+    → (verdict ≡ None → Moved → Moved') → (Same → Same') → Comes verdict text command Moved Same c0 c1 changed fault → Comes verdict text command Moved' Same' c0 c1 changed fault
+comes_as verdict text command Moved Moved' Same Same' c0 c1 changed None f g h = (h.0, f h.0 h.1, h.2, h.3)
+comes_as verdict text command Moved Moved' Same Same' c0 c1 changed (Some Output) f g h = (h.0, f h.0 h.1, h.2, h.3)
+comes_as verdict text command Moved Moved' Same Same' c0 c1 changed (Some (Line fault)) f g h = (h.0, g h.1, h.2, h.3)
+comes_as verdict text command Moved Moved' Same Same' c0 c1 changed (Some (Refused fault)) f g h = (h.0, g h.1, h.2, h.3)
+comes_as verdict text command Moved Moved' Same Same' c0 c1 changed (Some NoDatabase) f g h = (h.0, g h.1, h.2, h.3)
+
+-- a command over the database is the command of the run
+pub runs_on : (command : Command) (kept kept1 : Option Kept) (state : Option State) (c0 c1 : Option (List ℕ)) (changed : Bool) (fault : Option Fault) → StandsFor kept state
+    → Comes (verdict_on kept command) (lines_on kept command) command (kept1 ≡ kept_next kept command) (kept1 ≡ kept) c0 c1 changed fault
+    → Comes (verdict_on (option_map kept_of state) command) (lines_on (option_map kept_of state) command) command (StandsFor kept1 (next state command)) (StandsFor kept1 state) c0 c1 changed fault
+runs_on command kept kept1 state c0 c1 changed fault s h =
+    let Here : Option Kept → Type 0 = λ k. Comes (verdict_on k command) (lines_on k command) command (StandsFor kept1 (next state command)) (StandsFor kept1 state) c0 c1 changed fault in
+    let here : Here kept = comes_as (verdict_on kept command) (lines_on kept command) command (kept1 ≡ kept_next kept command) (StandsFor kept1 (next state command)) (kept1 ≡ kept) (StandsFor kept1 state) c0 c1 changed fault
+    (λ accepted moved. subst (λ (k : Option Kept). StandsFor k (next state command)) (sym moved) (stands_next command kept state accepted s))
+    (λ same. subst (λ (k : Option Kept). StandsFor k state) (sym same) s)
+    h in
+    subst Here (stands_kept kept state s) here
+
+-- ---- its turn
+
+abbrev command_turns : Option State → Command → Bool → Turn (Option State)
+command_turns state command is_short = unless_short state (command_turn state command) is_short
+
+module _ (state : Option State) (command : Command) (kept1 : Option Kept) (c0 c1 : Option (List ℕ)) (changed : Bool) where
+  abbrev ComesTo : Option Fault → Type 0
+  ComesTo fault = Comes (verdict_on (option_map kept_of state) command) (lines_on (option_map kept_of state) command) command (StandsFor kept1 (next state command)) (StandsFor kept1 state) c0 c1 changed fault
+
+  abbrev Performed : Option (List ℕ) → Result (Option Fault) WriteFault → Type 0
+  Performed c2 r = (s1 : Option State) × StandsFor kept1 s1 × Performs fault_line (command_turns state command) s1 c0 c2 r
+
+  -- it was done
+  pub done_performs : ComesTo None → Performed c1 (Ok None)
+  done_performs h = (next state command, h.1, (lines_on (option_map kept_of state) command, rw h.0 refl, h.3))
+
+  -- it was done, and what it printed was handed on
+  pub flushed_performs : (c2 : Option (List ℕ)) → ComesTo None → Keeps c1 c2 → Performed c2 (Ok None)
+  flushed_performs c2 h k = (next state command, h.1, (lines_on (option_map kept_of state) command, rw h.0 refl, Appends-kept c0 c1 c2 (lines_on (option_map kept_of state) command) h.3 k))
+
+  -- it was done, and handing on what it printed failed
+  pub unflushed_performs : (c2 : Option (List ℕ)) (e : WriteFault) → ComesTo None → Keeps c1 c2 → Performed c2 (Err e)
+  unflushed_performs c2 e h k = (next state command, h.1, (lines_on (option_map kept_of state) command, rw h.0 refl, whole_front c0 c1 c2 (lines_on (option_map kept_of state) command) h.3 k))
+
+  -- it was done, and a write failed
+  pub unwritten_performs : (e : WriteFault) → ComesTo (Some Output) → Performed c1 (Err e)
+  unwritten_performs e h = (next state command, h.1, (lines_on (option_map kept_of state) command, rw h.0 refl, h.3))
+
+  fault_performs : (fault : Fault) → IsFault (verdict_on (option_map kept_of state) command) command fault → StandsFor kept1 state → Keeps c0 c1 → Performed c1 (Ok (Some fault))
+  fault_performs fault h s k = elim h [
+    | inl e ↦ (state, s, (false, rw e refl, k))
+    | inr short ↦ (state, s, (true, ap (λ (f : Fault). refused state f) (sym short.1), k))
+  ]
+
+  -- it was refused
+  pub refused_performs : (fault : Fault) → fault ≢ Output → ComesTo (Some fault) → Performed c1 (Ok (Some fault))
+  refused_performs Output n h = absurd (n refl)
+  refused_performs (Line fault) n h = fault_performs (Line fault) h.0 h.1 h.3
+  refused_performs (Refused fault) n h = fault_performs (Refused fault) h.0 h.1 h.3
+  refused_performs NoDatabase n h = fault_performs NoDatabase h.0 h.1 h.3
+
+-- turns that are the same are performed the same
+pub performs_as : (turns asked : Bool → Turn (Option State)) (s1 : Option State) (c0 c1 : Option (List ℕ)) (r : Result (Option Fault) WriteFault) → ((is_short : Bool) → turns is_short ≡ asked is_short) → Performs fault_line asked s1 c0 c1 r → Performs fault_line turns s1 c0 c1 r
+performs_as turns asked s1 c0 c1 (Ok None) same h = (h.0, same false ∙ h.1, h.2)
+performs_as turns asked s1 c0 c1 (Ok (Some fault)) same h = (h.0, same h.0 ∙ h.1, h.2)
+performs_as turns asked s1 c0 c1 (Err e) same h = (h.0, same false ∙ h.1, h.2)
+
+-- ---- what a line asks for
+
+empty_true : {A : Type 0} (xs : List A) → xs ≡ [] → is_empty xs ≡ true
+empty_true [] h = refl
+empty_true (x ∷ xs) h = absurd cc
+
+empty_false : {A : Type 0} (xs : List A) → ¬ (xs ≡ []) → is_empty xs ≡ false
+empty_false [] h = absurd (h refl)
+empty_false (x ∷ xs) h = refl
+
+-- what was read is what the words ask for, unless memory was wanting
+command_read : (words : List (List ℕ)) (now : ℕ) (command : Command) → IsReading words now (Ok command) → command_of words now ≡ Ok command
+unfolding command_of
+command_read words now command h = rw (empty_true (fault_of rrdi_app words) h.0, h.1) refl
+
+usage_read : (words : List (List ℕ)) (now : ℕ) → IsReading words now (Err Usage) → command_of words now ≡ Err Usage
+unfolding command_of
+usage_read words now h = rw (empty_false (fault_of rrdi_app words) h) refl
+
+word_read : (words : List (List ℕ)) (now : ℕ) (part : Part) (number : ℕ) → IsReading words now (Err (BadWord part number)) → command_of words now ≡ Err (BadWord part number)
+unfolding command_of
+word_read words now part number h = rw (empty_true (fault_of rrdi_app words) h.0, h.1) refl
+
+-- a line that is no text
+pub asks_usage : (now : ℕ) (line : List ℕ) → text_in line ≡ None → Asks now line (Err Usage)
+unfolding turn
+asks_usage now line h = (false, λ state. ap (λ t. text_turn now state t false) h)
+
+-- a text without words
+pub asks_nothing : (now : ℕ) (line text : List ℕ) → text_in line ≡ Some text → words_of text ≡ [] → Asks now line (Ok None)
+unfolding turn
+asks_nothing now line text h e state = ap (λ t. text_turn now state t false) h ∙ ap (λ ws. words_turn now state ws false) e
+
+-- a text with words
+worded : (now : ℕ) (line text : List ℕ) (words : List (List ℕ)) (state : Option State) (is_short : Bool) → text_in line ≡ Some text → words_of text ≡ words → is_empty words ≡ false
+    → line_turns now state line is_short ≡ unless_short state (reading_turn state (command_of words now)) is_short
+unfolding turn
+worded now line text [] state is_short h e n = absurd (let bad : true ≡ false = n in cc)
+worded now line text (word ∷ words) state is_short h e n = ap (λ t. text_turn now state t is_short) h ∙ ap (λ ws. words_turn now state ws is_short) e
+
+pub asks_short : (now : ℕ) (line text : List ℕ) → text_in line ≡ Some text → is_empty (words_of text) ≡ false → Asks now line (Err OutOfMemory)
+asks_short now line text h n = (true, λ state. worded now line text (words_of text) state true h refl n)
+
+pub asks_command : (now : ℕ) (line text : List ℕ) (words : List (List ℕ)) (command : Command) → text_in line ≡ Some text → words_of text ≡ words → is_empty words ≡ false → IsReading words now (Ok command) → Asks now line (Ok (Some command))
+asks_command now line text words command h e n r state is_short =
+    worded now line text words state is_short h e n ∙ ap (λ c. unless_short state (reading_turn state c) is_short) (command_read words now command r)
+
+pub asks_fault : (now : ℕ) (line text : List ℕ) (words : List (List ℕ)) (fault : LineFault) → text_in line ≡ Some text → words_of text ≡ words → is_empty words ≡ false → IsReading words now (Err fault) → Asks now line (Err fault)
+asks_fault now line text words OutOfMemory h e n r = (true, λ state. worded now line text words state true h e n)
+asks_fault now line text words Usage h e n r = (false, λ state. worded now line text words state false h e n ∙ ap (λ c. reading_turn state c) (usage_read words now r))
+asks_fault now line text words (BadWord part number) h e n r = (false, λ state. worded now line text words state false h e n ∙ ap (λ c. reading_turn state c) (word_read words now part number r))
+
+pub no_length : (words : List (List ℕ)) → length words ≡ 0 → words ≡ []
+no_length [] h = refl
+no_length (word ∷ words) h = absurd (omega arith)
+
+pub some_length : (words : List (List ℕ)) → (length words ≡ 0 → ⊥) → is_empty words ≡ false
+some_length [] h = absurd (h refl)
+some_length (word ∷ words) h = refl
+
+-- ---- what prints
+
+-- a text that was printed, or a front of it
+pub prints_comes : (verdict : Option Fault) (text : List ℕ) (command : Command) (Moved Same : Type 0) (c0 c1 : Option (List ℕ)) (changed : Bool) (fault : Option Fault)
+    → verdict ≡ None → Moved → changed ≡ is_change command → PrintsBy c0 c1 text fault → Comes verdict text command Moved Same c0 c1 changed fault
+prints_comes verdict text command Moved Same c0 c1 changed None v m e p = (v, m, e, p)
+prints_comes verdict text command Moved Same c0 c1 changed (Some Output) v m e p = (v, m, e, p)
+prints_comes verdict text command Moved Same c0 c1 changed (Some (Line fault)) v m e p = absurd p
+prints_comes verdict text command Moved Same c0 c1 changed (Some (Refused fault)) v m e p = absurd p
+prints_comes verdict text command Moved Same c0 c1 changed (Some NoDatabase) v m e p = absurd p
+
+-- ---- what prints nothing
+
+pub appends_nothing : (c : Option (List ℕ)) → Appends c c []
+appends_nothing None = tt
+appends_nothing (Some bytes) = sym (append-nil bytes)
+
+pub revert_accepted : (journal : List Entry) → journal ≢ [] → revert_verdict journal ≡ None
+revert_accepted [] h = absurd (h refl)
+revert_accepted (entry ∷ journal) h = refl
+
+create_prints : (kept : Option Kept) (spec : CreateSpec) → lines_on kept (Create spec) ≡ []
+create_prints None spec = refl
+create_prints (Some kept) spec = refl
+
+pub create_appends : (c : Option (List ℕ)) (kept : Option Kept) (spec : CreateSpec) → Appends c c (lines_on kept (Create spec))
+create_appends c kept spec = subst (Appends c c) (sym (create_prints kept spec)) (appends_nothing c)

@@ -1,0 +1,64 @@
+-- A run over lines, each of which may be answered with want of memory.
+use Rattle.std.specs.Prelude.{◌≡◌, ◌+◌, ◌++◌, ◌∷◌, [], ℕ, Bool, List, Option, Some, None, Result, Ok, Err, map, true, false, if◌then◌else◌}
+use Rattle.std.specs.Io.KnownBytes.{Appends, Keeps}
+use Rattle.rrd_fixed.specs.Written.{AppendsFront}
+use Rattle.rrd_fixed.specs.declared.writing.WriteFault.{WriteFault}
+
+-- a line, and whether it was answered with want of memory
+pub record Told : Type 0 where
+  pub line : List ℕ
+  pub is_short : Bool
+
+-- what a line comes to: the state after it, the text that is written, and whether that is a fault's
+pub record Turn (S : Type 0) : Type 0 where
+  pub state : S
+  pub text : List ℕ
+  pub is_fault : Bool
+
+abbrev pub line_told : Told → List ℕ
+line_told told = told.line
+
+module _ {S : Type 0} (turn : S → Told → Turn S) where
+  abbrev pub state_after : S → List Told → S
+  state_after s [] = s
+  state_after s (p ∷ ps) = state_after (turn s p).state ps
+
+  abbrev pub text_of : S → List Told → List ℕ
+  text_of s [] = []
+  text_of s (p ∷ ps) = (turn s p).text ++ text_of (turn s p).state ps
+
+  abbrev pub faults_of : S → List Told → ℕ
+  faults_of s [] = 0
+  faults_of s (p ∷ ps) = (if (turn s p).is_fault then 1 else 0) + faults_of (turn s p).state ps
+
+  -- the lines were run: the state and the number of faults moved, and the text was written
+  pub record Ran (s0 s1 : S) (n0 n1 : ℕ) (c0 c1 : Option (List ℕ)) (lines : List (List ℕ)) : Type 0 where
+    pub told : List Told
+    pub lines_are : map line_told told ≡ lines
+    pub state : s1 ≡ state_after s0 told
+    pub faults : n1 ≡ n0 + faults_of s0 told
+    pub text : Appends c0 c1 (text_of s0 told)
+
+  -- some of the lines were run, and then a write of the next one's text failed after a front of it
+  pub record Stopped (s0 s1 : S) (n0 n1 : ℕ) (c0 c1 : Option (List ℕ)) (lines : List (List ℕ)) : Type 0 where
+    pub told : List Told
+    pub last : Told
+    pub unrun : List (List ℕ)
+    pub front : List ℕ
+    pub unwritten : List ℕ
+    pub lines_are : map line_told told ++ last.line ∷ unrun ≡ lines
+    pub state : s1 ≡ (turn (state_after s0 told) last).state
+    pub faults : n1 ≡ n0 + faults_of s0 told
+    pub front_is : (turn (state_after s0 told) last).text ≡ front ++ unwritten
+    pub text : Appends c0 c1 (text_of s0 told ++ front)
+
+  abbrev pub Answers : {T : Type 0} → S → S → ℕ → ℕ → Option (List ℕ) → Option (List ℕ) → List (List ℕ) → Result T WriteFault → Type 0
+  Answers s0 s1 n0 n1 c0 c1 lines (Ok x) = Ran s0 s1 n0 n1 c0 c1 lines
+  Answers s0 s1 n0 n1 c0 c1 lines (Err e) = Stopped s0 s1 n0 n1 c0 c1 lines
+
+-- what performing a line answers, whose turn depends on whether memory was wanting: its text is written, or a fault is
+-- answered and nothing written; where a write failed a front of the text is there
+abbrev pub Performs : {S F : Type 0} → (F → List ℕ) → (Bool → Turn S) → S → Option (List ℕ) → Option (List ℕ) → Result (Option F) WriteFault → Type 0
+Performs fault_line turn state c0 c1 (Ok None) = (text : List ℕ) × (turn false ≡ record { state = state; text = text; is_fault = false }) × Appends c0 c1 text
+Performs fault_line turn state c0 c1 (Ok (Some fault)) = (is_short : Bool) × (turn is_short ≡ record { state = state; text = fault_line fault; is_fault = true }) × Keeps c0 c1
+Performs fault_line turn state c0 c1 (Err e) = (text : List ℕ) × (turn false ≡ record { state = state; text = text; is_fault = false }) × AppendsFront c0 c1 text

@@ -1,0 +1,42 @@
+-- What the functions of a batch say of the state, which no value holds.
+use Rattle.std.specs.Prelude.{◌≡◌, [], ℕ, Bool, List, Option, Some, None, Result, Ok, Err}
+use Rattle.rrd_fixed.specs.declared.writing.WriteFault.{WriteFault}
+use Rattle.rrd_base.specs.Survivors.{State, Kept}
+use Rattle.rrd_tool.specs.Batch.{Answers, Performs, Ran, Stopped, Turn}
+use Rattle.rrd_tool.specs.Faults.{fault_line}
+use Rattle.rrd_tool.specs.Run.{StandsFor, command_turn, refused, turn, unless_short}
+use Rattle.rrd_tool.specs.declared.command.Command.{Command}
+use Rattle.rrd_tool.specs.declared.command.LineFault.{LineFault}
+use Rattle.rrd_tool.specs.declared.faults.Fault.{Fault}
+use Rattle.rrd_tool.specs.declared.faults.Fault.TheVariants.{Line}
+
+-- the turn of a line, by whether memory was wanting
+abbrev pub line_turns : ℕ → Option State → List ℕ → Bool → Turn (Option State)
+line_turns now state line is_short = turn now state (record { line = line; is_short = is_short })
+
+-- what a line asks for: a command, nothing, or a fault
+abbrev pub Asks : ℕ → List ℕ → Result (Option Command) LineFault → Type 0
+Asks now line (Ok None) = (state : Option State) → line_turns now state line Bool.false ≡ record { state = state; text = []; is_fault = Bool.false }
+Asks now line (Ok (Some command)) = (state : Option State) (is_short : Bool) → line_turns now state line is_short ≡ unless_short state (command_turn state command) is_short
+Asks now line (Err fault) = (is_short : Bool) × ((state : Option State) → line_turns now state line is_short ≡ refused state (Line fault))
+
+-- from each state that the database stands for, the command, or the line, leads to one that the new database stands for
+abbrev pub MovesBy : Option Kept → Option Kept → Option (List ℕ) → Option (List ℕ) → (Option State → Bool → Turn (Option State)) → Result (Option Fault) WriteFault → Type 0
+MovesBy b0 b1 c0 c1 turns r = (s0 : Option State) → StandsFor b0 s0 → (s1 : Option State) × StandsFor b1 s1 × Performs fault_line (turns s0) s1 c0 c1 r
+
+abbrev pub MovesByCommand : Option Kept → Option Kept → Option (List ℕ) → Option (List ℕ) → Command → Result (Option Fault) WriteFault → Type 0
+MovesByCommand b0 b1 c0 c1 command r = MovesBy b0 b1 c0 c1 (λ state. unless_short state (command_turn state command)) r
+
+abbrev pub MovesByLine : ℕ → Option Kept → Option Kept → Option (List ℕ) → Option (List ℕ) → List ℕ → Result (Option Fault) WriteFault → Type 0
+MovesByLine now b0 b1 c0 c1 line r = MovesBy b0 b1 c0 c1 (λ state. line_turns now state line) r
+
+-- so do these lines
+abbrev pub Moves : {T : Type 0} → ℕ → Option Kept → Option Kept → ℕ → ℕ → Option (List ℕ) → Option (List ℕ) → List (List ℕ) → Result T WriteFault → Type 0
+Moves now b0 b1 n0 n1 c0 c1 lines r = (s0 : Option State) → StandsFor b0 s0 → (s1 : Option State) × StandsFor b1 s1 × Answers (turn now) s0 s1 n0 n1 c0 c1 lines r
+
+-- all of them, or some first ones
+abbrev pub MovesRan : ℕ → Option Kept → Option Kept → ℕ → ℕ → Option (List ℕ) → Option (List ℕ) → List (List ℕ) → Type 0
+MovesRan now b0 b1 n0 n1 c0 c1 lines = (s0 : Option State) → StandsFor b0 s0 → (s1 : Option State) × StandsFor b1 s1 × Ran (turn now) s0 s1 n0 n1 c0 c1 lines
+
+abbrev pub MovesStopped : ℕ → Option Kept → Option Kept → ℕ → ℕ → Option (List ℕ) → Option (List ℕ) → List (List ℕ) → Type 0
+MovesStopped now b0 b1 n0 n1 c0 c1 lines = (s0 : Option State) → StandsFor b0 s0 → (s1 : Option State) × StandsFor b1 s1 × Stopped (turn now) s0 s1 n0 n1 c0 c1 lines

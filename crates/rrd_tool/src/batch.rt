@@ -1,0 +1,290 @@
+//! A batch: each line of an input is run, and what it prints or its fault is written.
+ghost use Rattle.std.specs.Prelude.{◌≡◌, ◌<◌, ◌≤◌, ◌+◌, ◌^◌, ◌∷◌, [], ℕ, List, Option, OnOk, IfSome, true, length, option_map};
+ghost use Rattle.std.specs.List.{list_all};
+ghost use Rattle.std.specs.Result.{result_err};
+ghost use Rattle.std.specs.Io.KnownBytes.{Consumes, Keeps};
+ghost use Rattle.rrd_base.specs.Survivors.{State};
+ghost use Rattle.rrd_tool.specs.Held.{Holds};
+ghost use Rattle.rrd_tool.specs.Lines.{is_plain, last_part, text_in, whole_lines};
+ghost use Rattle.rrd_tool.specs.Moves.{Asks, Moves, MovesByCommand, MovesByLine};
+ghost use Rattle.rrd_tool.specs.Run.{RunOver, StandsFor, is_change};
+
+use crate::execution::execute;
+use crate::faults::{Fault, write_fault};
+use crate::input::read_some;
+use crate::lines::{LineBuffer, read_words};
+use crate::reading::read_command;
+use crate::{Command, LineFault};
+use rrd_base::Database;
+use rrd_fixed::WriteFault;
+use std::alloc::Global;
+use std::io::{ErrorKind, Read, Write};
+
+/// Why a batch ended before its input did.
+#[derive(Clone, Copy, Debug, PartialEq, Eq)]
+pub enum StreamFault {
+    /// A write failed: the run ended with the line that was being answered.
+    Write,
+    /// A read failed, or there were 2^40: an unfinished line wasn't run.
+    Read,
+    /// There was no memory for a line: nothing was read or written.
+    OutOfMemory,
+}
+
+/// How a batch ended.
+#[derive(Drop)]
+pub struct BatchEnd {
+    /// The database after the lines that were run.
+    pub database: Option<Database>,
+    /// How many fault lines were written whole.
+    pub refused: u64,
+    /// Why the batch ended before its input did.
+    pub stream: Option<StreamFault>,
+}
+
+// What stays over a batch: where memory comes from, and the present time.
+#[derive(Clone, Copy)]
+struct Setting {
+    alloc: Global,
+    now: u64,
+}
+
+// What moves: the database, and how many fault lines were written whole.
+#[derive(Drop)]
+struct Batch {
+    database: Option<Database>,
+    refused: u64,
+}
+
+// Hands on what was written. An interrupted flush is tried again, at most 1,000 times in a row.
+fn flush<W: Write>(out: &mut W) -> Result<(), WriteFault>
+    ensures { Keeps (W.contents out.old) (W.contents out.new) }
+{
+    'tries: for _ in 0..1001u32 {
+        match out.flush() {
+            Ok(()) => return Ok(()),
+            Err(error) => {
+                if error.kind() != ErrorKind::Interrupted {
+                    return Err(WriteFault {});
+                }
+            }
+        }
+    }
+    Err(WriteFault {})
+}
+
+// Whether a command changes the database; the others print.
+fn is_change(command: &Command) -> bool
+    ensures { result ≡ is_change command.now }
+{
+    match command {
+        Command::Create(_) => true,
+        Command::Update(_) => true,
+        Command::Tune(_) => true,
+        Command::Resize { .. } => true,
+        Command::Fetch { .. } => false,
+        Command::Last => false,
+        Command::Revert => true,
+    }
+}
+
+// What a line's text asks for; nothing where it has no words.
+fn asked(setting: Setting, text: Option<&[u8]>) -> Result<Option<Command>, LineFault>
+    requires { IfSome text (λ bytes. list_all is_plain bytes.now ≡ true) }
+    ensures { (line : List ℕ) → option_map (λ bytes. bytes.now) text.entry ≡ text_in line
+        → Asks setting.now line result }
+{
+    let Some(text) = text else {
+        return Err(LineFault::Usage);
+    };
+    let Ok(words) = read_words(setting.alloc, text) else {
+        return Err(LineFault::OutOfMemory);
+    };
+    if words.len() == 0 {
+        return Ok(None);
+    }
+    match read_command(setting.alloc, &words, setting.now) {
+        Ok(command) => Ok(Some(command)),
+        Err(fault) => Err(fault),
+    }
+}
+
+// Runs a command. What it printed is handed on.
+fn run_command<W: Write>(
+    alloc: Global,
+    database: &mut Option<Database>,
+    command: Command,
+    out: &mut W,
+) -> Result<Option<Fault>, WriteFault>
+    ensures { MovesByCommand database.old database.new (W.contents out.old) (W.contents out.new) command result }
+{
+    let prints_nothing = is_change(&command);
+    let outcome = execute(alloc, database.take(), command, out);
+    *database = outcome.database;
+    let Some(fault) = outcome.fault else {
+        if prints_nothing {
+            return Ok(None);
+        }
+        flush(out)?;
+        return Ok(None);
+    };
+    match fault {
+        Fault::Output => Err(WriteFault {}),
+        fault => Ok(Some(fault)),
+    }
+}
+
+// Performs a line: its text is written, or its fault answered.
+fn perform<W: Write>(
+    setting: Setting,
+    database: &mut Option<Database>,
+    out: &mut W,
+    text: Option<&[u8]>,
+) -> Result<Option<Fault>, WriteFault>
+    requires { IfSome text (λ bytes. list_all is_plain bytes.now ≡ true) }
+    ensures { (line : List ℕ) → option_map (λ bytes. bytes.now) text.entry ≡ text_in line
+        → MovesByLine setting.now database.old database.new (W.contents out.old) (W.contents out.new) line result }
+{
+    match asked(setting, text) {
+        Ok(None) => Ok(None),
+        Ok(Some(command)) => run_command(setting.alloc, database, command, out),
+        Err(fault) => Ok(Some(Fault::Line(fault))),
+    }
+}
+
+// Answers a line: its text or its fault's line is written and handed on.
+fn answer<W: Write>(
+    setting: Setting,
+    batch: &mut Batch,
+    out: &mut W,
+    text: Option<&[u8]>,
+) -> Result<(), WriteFault>
+    requires plain { IfSome text (λ bytes. list_all is_plain bytes.now ≡ true) }
+    requires room { batch.old.refused + 1 < 2 ^ 64 }
+    ensures told { (line : List ℕ) → option_map (λ bytes. bytes.now) text.entry ≡ text_in line
+        → Moves setting.now batch.old.database batch.new.database batch.old.refused batch.new.refused
+        (W.contents out.old) (W.contents out.new) (line ∷ []) result }
+    ensures count { batch.new.refused ≤ batch.old.refused + 1 }
+{
+    let Some(fault) = perform(setting, &mut batch.database, out, text)? else {
+        return Ok(());
+    };
+    write_fault(out, &fault)?;
+    flush(out)?;
+    batch.refused += 1;
+    Ok(())
+}
+
+// Takes a byte, and answers the line that it ends.
+fn take_byte<W: Write>(
+    setting: Setting,
+    batch: &mut Batch,
+    out: &mut W,
+    line: &mut LineBuffer,
+    byte: u8,
+) -> Result<(), WriteFault>
+    requires { batch.old.refused + 1 < 2 ^ 64 }
+    ensures told { (held : List ℕ) → Holds line.old held
+        → Moves setting.now batch.old.database batch.new.database batch.old.refused batch.new.refused
+        (W.contents out.old) (W.contents out.new) (whole_lines held (byte ∷ [])) result
+        × OnOk result (Holds line.new (last_part held (byte ∷ []))) }
+    ensures count { batch.new.refused ≤ batch.old.refused + 1 }
+{
+    if byte != b'\n' {
+        line.push(byte);
+        return Ok(());
+    }
+    answer(setting, batch, out, line.ended())?;
+    line.clear();
+    Ok(())
+}
+
+// Takes the bytes, and answers each line that is whole.
+fn feed<W: Write>(
+    setting: Setting,
+    batch: &mut Batch,
+    out: &mut W,
+    line: &mut LineBuffer,
+    bytes: &[u8],
+) -> Result<(), WriteFault>
+    requires { batch.old.refused + length bytes.now < 2 ^ 64 }
+    ensures told { (held : List ℕ) → Holds line.old held
+        → Moves setting.now batch.old.database batch.new.database batch.old.refused batch.new.refused
+        (W.contents out.old) (W.contents out.new) (whole_lines held bytes.now) result
+        × OnOk result (Holds line.new (last_part held bytes.now)) }
+    ensures count { batch.new.refused ≤ batch.old.refused + length bytes.now }
+{
+    for byte in bytes {
+        take_byte(setting, batch, out, line, *byte)?;
+    }
+    Ok(())
+}
+
+// Answers each line that the reader gives.
+fn run_lines<R: Read, W: Write>(
+    setting: Setting,
+    batch: &mut Batch,
+    reader: &mut R,
+    out: &mut W,
+) -> Result<(), StreamFault>
+    requires { batch.old.refused ≡ 0 }
+    ensures { (s0 : Option State) → StandsFor batch.old.database s0
+        → (seen : List ℕ) × Consumes (R.remaining reader.old) (R.remaining reader.new) seen
+        × (s1 : Option State) × StandsFor batch.new.database s1
+        × RunOver setting.now seen (R.remaining reader.new) s0 s1 batch.new.refused
+        (W.contents out.old) (W.contents out.new) (result_err result) }
+{
+    let Ok(mut line) = LineBuffer::new(setting.alloc) else {
+        return Err(StreamFault::OutOfMemory);
+    };
+    let mut chunk = [0u8; 65_536];
+    'reads: for _ in 0..1_099_511_627_776u64 {
+        let Ok(count) = read_some(reader, &mut chunk) else {
+            return Err(StreamFault::Read);
+        };
+        if count == 0 {
+            if line.is_empty() {
+                return Ok(());
+            }
+            if answer(setting, batch, out, line.cut()).is_err() {
+                return Err(StreamFault::Write);
+            }
+            return Ok(());
+        }
+        if feed(setting, batch, out, &mut line, &chunk[..count]).is_err() {
+            return Err(StreamFault::Write);
+        }
+    }
+    Err(StreamFault::Read)
+}
+
+/// Runs each line of the reader over the database: what it prints, or its fault's line, is written
+/// and handed on before the next line is run. LF ends a line, a CR right before it is dropped, and a
+/// last line without LF counts; spaces and tabs part words, and a line without words is skipped. A
+/// line over 65,536 bytes, or with a byte that is neither tab nor printable ASCII, is the usage
+/// fault. Takes 65,536 bytes for a line before it reads; reads at most 65,536 bytes at once, and at
+/// most 2^40 times. `now` is the present time in seconds since 1970.
+pub fn run_batch<R: Read, W: Write>(
+    alloc: Global,
+    database: Option<Database>,
+    now: u64,
+    reader: &mut R,
+    out: &mut W,
+) -> BatchEnd
+    ensures { (s0 : Option State) → StandsFor database s0
+        → (seen : List ℕ) × Consumes (R.remaining reader.old) (R.remaining reader.new) seen
+        × (s1 : Option State) × StandsFor result.database s1
+        × RunOver now seen (R.remaining reader.new) s0 s1 result.refused
+        (W.contents out.old) (W.contents out.new) result.stream }
+{
+    let mut batch = Batch {
+        database,
+        refused: 0,
+    };
+    let stream = run_lines(Setting { alloc, now }, &mut batch, reader, out).err();
+    BatchEnd {
+        database: batch.database,
+        refused: batch.refused,
+        stream,
+    }
+}

@@ -1,0 +1,365 @@
+//! Batches and what they print, as a table; now is 0.
+use crate::run_batch;
+use std::test::Fail;
+
+// What a batch is called, its lines, what it prints, and how many of its lines are refused.
+type Case = (&'static str, &'static str, &'static str, u64);
+
+const ROAD_COUNTER: Case = (
+    "road_counter",
+    "create --start 920804400 --step 300 DS:speed:COUNTER:600:U:U RRA:AVERAGE:0.5:1:24 RRA:AVERAGE:0.5:6:10\n\
+update 920804700:12345 920805000:12357 920805300:12363 920805600:12363 920805900:12363\n\
+update 920806200:12373 920806500:12383 920806800:12393 920807100:12399 920807400:12405\n\
+update 920807700:12411 920808000:12415 920808300:12420 920808600:12422 920808900:12423\n\
+fetch AVERAGE -s 920804400 -e 920809200\n",
+    "time: speed\n\
+920804700: nan\n\
+920805000: 0.040000\n\
+920805300: 0.020000\n\
+920805600: 0.000000\n\
+920805900: 0.000000\n\
+920806200: 0.033333\n\
+920806500: 0.033333\n\
+920806800: 0.033333\n\
+920807100: 0.020000\n\
+920807400: 0.020000\n\
+920807700: 0.020000\n\
+920808000: 0.013333\n\
+920808300: 0.016667\n\
+920808600: 0.006667\n\
+920808900: 0.003333\n\
+920809200: nan\n\
+920809500: nan\n",
+    0,
+);
+
+const ROAD_COUNTER_COARSE: Case = (
+    "road_counter_coarse",
+    "create --start 920804400 --step 300 DS:speed:COUNTER:600:U:U RRA:AVERAGE:0.5:1:24 RRA:AVERAGE:0.5:6:10\n\
+update 920804700:12345 920805000:12357 920805300:12363 920805600:12363 920805900:12363\n\
+update 920806200:12373 920806500:12383 920806800:12393 920807100:12399 920807400:12405\n\
+update 920807700:12411 920808000:12415 920808300:12420 920808600:12422 920808900:12423\n\
+fetch AVERAGE -r 1800 -s 920804400 -e 920809200\n",
+    "time: speed\n\
+920806200: 0.018667\n\
+920808000: 0.023333\n\
+920809800: nan\n",
+    0,
+);
+
+const HEARTBEAT_EDGE: Case = (
+    "heartbeat_edge",
+    "create --step 100 --start 1000 DS:g:GAUGE:200:U:U RRA:AVERAGE:0.5:1:10\n\
+update 1200:5\n\
+update 1401:7\n\
+fetch AVERAGE -s 1000 -e 1400\n",
+    "time: g\n\
+1100: 5.000000\n\
+1200: 5.000000\n\
+1300: nan\n\
+1400: nan\n\
+1500: nan\n",
+    0,
+);
+
+const HALF_UNKNOWN_STEP: Case = (
+    "half_unknown_step",
+    "create --step 300 --start 300 DS:g:GAUGE:600:U:U RRA:AVERAGE:0.5:1:10\n\
+update 450:U 600:8 751:U 900:8\n\
+fetch AVERAGE -s 300 -e 899\n",
+    "time: g\n\
+600: 8.000000\n\
+900: nan\n",
+    0,
+);
+
+const HALF_UNKNOWN_ROW: Case = (
+    "half_unknown_row",
+    "create --step 10 --start 0 DS:g:GAUGE:100:U:U RRA:AVERAGE:0.5:6:4\n\
+update 30:U 60:4 100:U 120:4\n\
+fetch AVERAGE -s 0 -e 119\n",
+    "time: g\n\
+60: 4.000000\n\
+120: nan\n",
+    0,
+);
+
+const FOUR_FUNCTIONS: Case = (
+    "four_functions",
+    "create --step 1 --start 0 DS:g:GAUGE:10:U:U RRA:AVERAGE:0.5:4:2 RRA:MIN:0.5:4:2 RRA:MAX:0.5:4:2 RRA:LAST:0.5:4:2\n\
+update 1:3 2:U 3:1 4:2 5:3 6:U 7:1 8:U\n\
+fetch AVERAGE -s 0 -e 7\n\
+fetch MIN -s 0 -e 7\n\
+fetch MAX -s 0 -e 7\n\
+fetch LAST -s 0 -e 7\n",
+    "time: g\n\
+4: 2.000000\n\
+8: 2.000000\n\
+time: g\n\
+4: 1.000000\n\
+8: 1.000000\n\
+time: g\n\
+4: 3.000000\n\
+8: 3.000000\n\
+time: g\n\
+4: 2.000000\n\
+8: 1.000000\n",
+    0,
+);
+
+const CATCH_UP_AND_TIES: Case = (
+    "catch_up_and_ties",
+    "create --step 10 --start 0 DS:g:GAUGE:100:U:U RRA:AVERAGE:0.5:1:4\n\
+update 5:2\n\
+update 35:4\n\
+fetch AVERAGE -s 0 -e 29\n\
+create --step 2 --start 0 DS:g:GAUGE:10:U:U RRA:AVERAGE:0.5:1:4\n\
+update 1:-0.000001 2:0 3:-0.000001 4:-0.000002\n\
+fetch AVERAGE -s 0 -e 3\n",
+    "time: g\n\
+10: 3.000000\n\
+20: 4.000000\n\
+30: 4.000000\n\
+time: g\n\
+2: 0.000000\n\
+4: -0.000001\n",
+    0,
+);
+
+const COUNTER_REVERT: Case = (
+    "counter_revert",
+    "create --step 100 --start 0 DS:c:COUNTER:200:U:U RRA:AVERAGE:0.5:1:10\n\
+update 100:1000\n\
+update 200:5000\n\
+revert\n\
+update 200:1500\n\
+fetch AVERAGE -s 0 -e 199\n\
+update 300:1.5\n",
+    "time: c\n\
+100: nan\n\
+200: 5.000000\n\
+ERROR: bad value\n",
+    1,
+);
+
+const SHORT_JOURNAL: Case = (
+    "short_journal",
+    "create --step 10 --start 0 DS:g:GAUGE:100:U:U RRA:LAST:0.5:1:4 --journal 2\n\
+update 10:1\n\
+update 20:2\n\
+update 30:3\n\
+revert\n\
+revert\n\
+revert\n\
+last\n",
+    "ERROR: nothing to revert\n\
+10\n",
+    1,
+);
+
+const REFUSED_UPDATES: Case = (
+    "refused_updates",
+    "create --step 10 --start 0 DS:g:GAUGE:100:U:U RRA:LAST:0.5:1:4\n\
+update 10:1 20:2 20:3\n\
+last\n\
+update\n\
+update 10000000000:1\n\
+update 10:1:2\n",
+    "ERROR: not later than 20\n\
+0\n\
+ERROR: no sample\n\
+ERROR: bad time\n\
+ERROR: wrong number of values\n",
+    4,
+);
+
+const ARCHIVE_CHOICE: Case = (
+    "archive_choice",
+    "create --step 10 --start 0 DS:g:GAUGE:100:U:U RRA:LAST:0.5:1:3 RRA:LAST:0.5:2:3\n\
+update 100:1\n\
+fetch LAST -s 80 -e 99\n\
+fetch LAST -s 50 -e 99\n\
+fetch LAST -s 0 -e 99\n\
+fetch MIN -s 0 -e 9\n\
+fetch LAST -s 20 -e 10\n\
+fetch LAST -s 0 -e 9999999999\n",
+    "time: g\n\
+90: 1.000000\n\
+100: 1.000000\n\
+time: g\n\
+60: 1.000000\n\
+80: 1.000000\n\
+100: 1.000000\n\
+time: g\n\
+20: nan\n\
+40: nan\n\
+60: 1.000000\n\
+80: 1.000000\n\
+100: 1.000000\n\
+ERROR: no archive for this function\n\
+ERROR: bad span\n\
+ERROR: span too long\n",
+    3,
+);
+
+const REFUSED_CREATES: Case = (
+    "refused_creates",
+    "create --step 0 DS:g:GAUGE:100:U:U RRA:LAST:0.5:1:4\n\
+create --step x\n\
+create\n\
+create DS:g:GAUGE:100:U:U RRA:FOO:0.5:1:4\n\
+create DS:g:GAUGE:100:U:U RRA:LAST:1:1:4\n\
+create DS:g:GAUGE:100:U:U RRA:LAST:0.5:1:1000000 RRA:LAST:0.5:1:1000000 RRA:LAST:0.5:1:1000000 RRA:LAST:0.5:1:1000000 RRA:LAST:0.5:1:1000000\n",
+    "ERROR: bad step\n\
+ERROR: unreadable step\n\
+ERROR: no data source\n\
+ERROR: unreadable definition 2\n\
+ERROR: bad xff\n\
+ERROR: too large\n",
+    6,
+);
+
+const FIRST_PATH: Case = (
+    "first_path",
+    "create --step 10 --start 0 DS:g:GAUGE:100:U:U RRA:AVERAGE:0.5:1:4\n\
+update 10:1\n\
+update 20:2\n\
+fetch AVERAGE -s 0 -e 19\n\
+revert\n\
+fetch AVERAGE -s 0 -e 19\n\
+last\n",
+    "time: g\n\
+10: 1.000000\n\
+20: 2.000000\n\
+time: g\n\
+10: 1.000000\n\
+20: nan\n\
+10\n",
+    0,
+);
+
+const FIRST_PATH_REFUSALS: Case = (
+    "first_path_refusals",
+    "create --step 10 --start 0 DS:g:GAUGE:100:U:U RRA:AVERAGE:0.5:1:4\n\
+update 10:1\n\
+update 20:2\n\
+revert\n\
+update 10:5\n\
+update 20:x\n\
+update 20:1:2\n\
+revert\n\
+revert\n\
+last\n",
+    "ERROR: not later than 10\n\
+ERROR: unreadable sample 1\n\
+ERROR: wrong number of values\n\
+ERROR: nothing to revert\n\
+0\n",
+    4,
+);
+
+const TEMPLATE_OF_ONE_SOURCE: Case = (
+    "template_of_one_source",
+    "create --step 10 --start 0 DS:a:GAUGE:100:U:U DS:b:GAUGE:100:U:U RRA:LAST:0.5:1:4\n\
+update -t b 10:5\n\
+fetch LAST -s 0 -e 9\n\
+update -t x 20:1\n",
+    "time: a b\n\
+10: nan 5.000000\n\
+ERROR: no such data source\n",
+    1,
+);
+
+const NO_WORDS_AND_NO_DATABASE: Case = (
+    "no_words_and_no_database",
+    "\t\r\n\
+\n\
+  \t \n\
+frobnicate\n\
+last\n\
+fetch AVERAGE\n\
+revert\n\
+update 10:1\n",
+    "ERROR: usage\n\
+ERROR: no database\n\
+ERROR: no database\n\
+ERROR: no database\n\
+ERROR: no database\n",
+    5,
+);
+
+const STRANGE_BYTES: Case = (
+    "strange_bytes",
+    "\x01\n\
+last \x7f\n\
+\rlast\n\
+last\r\r\n\
+ last\t\n\
+last\n",
+    "ERROR: usage\n\
+ERROR: usage\n\
+ERROR: usage\n\
+ERROR: usage\n\
+ERROR: no database\n\
+ERROR: no database\n",
+    6,
+);
+
+const A_REFUSED_CREATE_KEEPS_THE_DATABASE: Case = (
+    "a_refused_create_keeps_the_database",
+    "create --step 10 --start 0 DS:g:GAUGE:100:U:U RRA:LAST:0.5:1:4\n\
+update 10:1\n\
+create --step 0 DS:g:GAUGE:100:U:U RRA:LAST:0.5:1:4\n\
+last\n",
+    "ERROR: bad step\n\
+10\n",
+    1,
+);
+
+#[test]
+fn what_is_printed(rt: HostRuntime) -> Result<(), Fail> {
+    let cases = [
+        ROAD_COUNTER,
+        ROAD_COUNTER_COARSE,
+        HEARTBEAT_EDGE,
+        HALF_UNKNOWN_STEP,
+        HALF_UNKNOWN_ROW,
+        FOUR_FUNCTIONS,
+        CATCH_UP_AND_TIES,
+        COUNTER_REVERT,
+        SHORT_JOURNAL,
+    ];
+    for (name, lines, text, refused) in cases {
+        let mut input = lines.as_bytes();
+        let mut out = Vec::new(rt.alloc());
+        let end = run_batch(rt.alloc(), None, 0, &mut input, &mut out);
+        assert!(rt; end.stream.is_none(), "{name}");
+        assert_eq!(rt; out.as_slice(), text.as_bytes(), "{name}");
+        assert_eq!(rt; end.refused, refused, "{name}");
+    }
+    Ok(())
+}
+
+#[test]
+fn what_is_refused(rt: HostRuntime) -> Result<(), Fail> {
+    let cases = [
+        REFUSED_UPDATES,
+        ARCHIVE_CHOICE,
+        REFUSED_CREATES,
+        FIRST_PATH,
+        FIRST_PATH_REFUSALS,
+        TEMPLATE_OF_ONE_SOURCE,
+        NO_WORDS_AND_NO_DATABASE,
+        STRANGE_BYTES,
+        A_REFUSED_CREATE_KEEPS_THE_DATABASE,
+    ];
+    for (name, lines, text, refused) in cases {
+        let mut input = lines.as_bytes();
+        let mut out = Vec::new(rt.alloc());
+        let end = run_batch(rt.alloc(), None, 0, &mut input, &mut out);
+        assert!(rt; end.stream.is_none(), "{name}");
+        assert_eq!(rt; out.as_slice(), text.as_bytes(), "{name}");
+        assert_eq!(rt; end.refused, refused, "{name}");
+    }
+    Ok(())
+}

@@ -1,0 +1,227 @@
+//! Batches over readers and writers that fail, are interrupted or take little.
+ghost use Rattle.std.specs.Prelude.{Some};
+
+use crate::{Command, Fault, StreamFault, execute, run_batch};
+use rrd_base::Database;
+use rrd_fold::Function;
+use std::alloc::Global;
+use std::io::{self, Error, ErrorKind, Read, Write};
+use std::test::Fail;
+
+// A writer that takes up to 7 bytes a call, is interrupted at first, and fails from a call on; and
+// counts what is handed on.
+#[derive(Drop)]
+struct Sink {
+    taken: Vec<u8>,
+    interrupts: u64,
+    calls_left: u64,
+    flushes_left: u64,
+    flushed: u64,
+}
+
+impl Sink {
+    fn new(alloc: Global) -> Sink {
+        Sink {
+            taken: Vec::new(alloc),
+            interrupts: 0,
+            calls_left: u64::MAX,
+            flushes_left: u64::MAX,
+            flushed: 0,
+        }
+    }
+}
+
+impl Write for Sink {
+    ghost contents = { λ w. Some w.taken.items };
+
+    fn write(&mut self, buf: &[u8]) -> io::Result<usize> {
+        if self.interrupts > 0 {
+            self.interrupts -= 1;
+            return Err(Error::from(ErrorKind::Interrupted));
+        }
+        if self.calls_left == 0 {
+            return Err(Error::from(ErrorKind::Other));
+        }
+        self.calls_left -= 1;
+        let part = if buf.len() > 7 { &buf[..7] } else { buf };
+        self.taken.extend_from_slice(part)?;
+        Ok(part.len())
+    }
+
+    fn flush(&mut self) -> io::Result<()> {
+        if self.flushes_left == 0 {
+            return Err(Error::from(ErrorKind::Other));
+        }
+        self.flushes_left -= 1;
+        self.flushed = self.flushed.saturating_add(1);
+        Ok(())
+    }
+}
+
+// A reader that gives up to 5 bytes a call, is interrupted at first, and fails at a call.
+#[derive(Drop)]
+struct Source<'a> {
+    rest: &'a [u8],
+    interrupts: u64,
+    calls_left: u64,
+}
+
+impl<'a> Read for Source<'a> {
+    ghost remaining = { λ r. Some r.rest.now };
+
+    fn read(&mut self, buf: &mut [u8]) -> io::Result<usize> {
+        if self.interrupts > 0 {
+            self.interrupts -= 1;
+            return Err(Error::from(ErrorKind::Interrupted));
+        }
+        if self.calls_left == 0 {
+            return Err(Error::from(ErrorKind::Other));
+        }
+        self.calls_left -= 1;
+        let part = if buf.len() > 5 { &mut buf[..5] } else { buf };
+        self.rest.read(part)
+    }
+}
+
+const MADE: &[u8] =
+    b"create --step 10 --start 0 DS:g:GAUGE:100:U:U RRA:LAST:0.5:1:4\nupdate 10:1\nlast\nupdate 20:2\n";
+
+fn last_of(database: &Option<Database>) -> Option<u64> {
+    match database {
+        Some(database) => Some(database.last()),
+        None => None,
+    }
+}
+
+#[test]
+fn little_at_a_time(rt: HostRuntime) -> Result<(), Fail> {
+    for (interrupts, stream) in [(1000u64, None), (1001, Some(StreamFault::Read))] {
+        let mut input = Source {
+            rest: MADE,
+            interrupts,
+            calls_left: u64::MAX,
+        };
+        let mut out = Sink::new(rt.alloc());
+        let end = run_batch(rt.alloc(), None, 0, &mut input, &mut out);
+        assert_eq!(rt; end.stream, stream, "{interrupts}");
+        let wanted = if stream.is_none() { Some(20) } else { None };
+        assert_eq!(rt; last_of(&end.database), wanted, "{interrupts}");
+    }
+    Ok(())
+}
+
+#[test]
+fn a_failed_read_in_a_line(rt: HostRuntime) -> Result<(), Fail> {
+    // After 16 reads 80 bytes are there, and the second update isn't whole.
+    let mut input = Source {
+        rest: MADE,
+        interrupts: 0,
+        calls_left: 17,
+    };
+    let mut out = Sink::new(rt.alloc());
+    let end = run_batch(rt.alloc(), None, 0, &mut input, &mut out);
+    assert_eq!(rt; end.stream, Some(StreamFault::Read));
+    assert_eq!(rt; last_of(&end.database), Some(10));
+    assert_eq!(rt; out.taken.as_slice(), b"10\n".as_slice());
+    Ok(())
+}
+
+#[test]
+fn interrupted_writes(rt: HostRuntime) -> Result<(), Fail> {
+    for (interrupts, stream) in [(1000u64, None), (1001, Some(StreamFault::Write))] {
+        let mut input = MADE;
+        let mut out = Sink::new(rt.alloc());
+        out.interrupts = interrupts;
+        let end = run_batch(rt.alloc(), None, 0, &mut input, &mut out);
+        assert_eq!(rt; end.stream, stream, "{interrupts}");
+    }
+    Ok(())
+}
+
+#[test]
+fn a_failed_write(rt: HostRuntime) -> Result<(), Fail> {
+    let mut input = MADE;
+    let mut out = Sink::new(rt.alloc());
+    out.calls_left = 0;
+    let end = run_batch(rt.alloc(), None, 0, &mut input, &mut out);
+    assert_eq!(rt; end.stream, Some(StreamFault::Write));
+    assert_eq!(rt; end.refused, 0);
+    assert_eq!(rt; last_of(&end.database), Some(10));
+    Ok(())
+}
+
+#[test]
+fn handed_on_after_each_line_that_printed(rt: HostRuntime) -> Result<(), Fail> {
+    let mut input = MADE;
+    let mut out = Sink::new(rt.alloc());
+    let end = run_batch(rt.alloc(), None, 0, &mut input, &mut out);
+    assert!(rt; end.stream.is_none());
+    assert_eq!(rt; out.flushed, 1);
+    let mut input = MADE;
+    out.flushes_left = 0;
+    let end = run_batch(rt.alloc(), None, 0, &mut input, &mut out);
+    assert_eq!(rt; end.stream, Some(StreamFault::Write));
+    assert_eq!(rt; last_of(&end.database), Some(10));
+    Ok(())
+}
+
+#[test]
+fn the_last_line(rt: HostRuntime) -> Result<(), Fail> {
+    let cases = [
+        ("last", "ERROR: no database\n"),
+        ("last\r\n", "ERROR: no database\n"),
+        ("last\r", "ERROR: usage\n"),
+        ("last\n\t ", "ERROR: no database\n"),
+    ];
+    for (lines, text) in cases {
+        let mut input = lines.as_bytes();
+        let mut out = Vec::new(rt.alloc());
+        let end = run_batch(rt.alloc(), None, 0, &mut input, &mut out);
+        assert!(rt; end.stream.is_none());
+        assert_eq!(rt; out.as_slice(), text.as_bytes());
+    }
+    Ok(())
+}
+
+#[test]
+fn a_line_as_long_as_can_be(rt: HostRuntime) -> Result<(), Fail> {
+    for (length, text) in [
+        (65_536usize, "ERROR: no database\nERROR: no database\n"),
+        (65_537, "ERROR: usage\nERROR: no database\n"),
+    ] {
+        let mut line = vec![in rt.alloc(); b' '; length]?;
+        line.extend_from_slice(b"\r\nlast\n")?;
+        for (place, byte) in b"last".iter().enumerate() {
+            if place < line.len() {
+                line[place] = *byte;
+            }
+        }
+        let mut input = line.as_slice();
+        let mut out = Vec::new(rt.alloc());
+        let end = run_batch(rt.alloc(), None, 0, &mut input, &mut out);
+        assert!(rt; end.stream.is_none());
+        assert_eq!(rt; out.as_slice(), text.as_bytes());
+    }
+    Ok(())
+}
+
+#[test]
+fn a_fetch_cut_short(rt: HostRuntime) -> Result<(), Fail> {
+    let mut input = MADE;
+    let mut out = Vec::new(rt.alloc());
+    let made = run_batch(rt.alloc(), None, 0, &mut input, &mut out);
+    let mut out = Sink::new(rt.alloc());
+    out.calls_left = 2;
+    let fetch = Command::Fetch {
+        function: Function::Last,
+        asked: 1,
+        start: 0,
+        stop: 19,
+    };
+    let end = execute(rt.alloc(), made.database, fetch, &mut out);
+    assert_eq!(rt; end.fault, Some(Fault::Output));
+    assert!(rt; !end.changed);
+    assert_eq!(rt; last_of(&end.database), Some(20));
+    assert_eq!(rt; out.taken.as_slice(), b"time: g\n".as_slice());
+    Ok(())
+}
