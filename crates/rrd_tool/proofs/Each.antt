@@ -25,10 +25,6 @@ module _ {A : Type 0} where
   prepend xs (Ok ys) = Ok (xs ++ ys)
   prepend xs (Err e) = Err e
 
-  pub prepend-nil : (read : Result (List A) Unread) → prepend [] read ≡ read
-  prepend-nil (Ok ys) = refl
-  prepend-nil (Err e) = refl
-
   prepend-more : (xs : List A) (x : A) (read : Result (List A) Unread) → prepend xs (read >>= (λ ys. Ok (x ∷ ys))) ≡ prepend (xs ++ x ∷ []) read
   prepend-more xs x (Ok ys) = ap (λ zs. Ok zs) (sym (append_assoc xs (x ∷ []) ys))
   prepend-more xs x (Err e) = refl

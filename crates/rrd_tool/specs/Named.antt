@@ -1,5 +1,5 @@
 -- The names of a command's parts, as faults print them.
-use Rattle.std.specs.Prelude.{ℕ, List, Bool, true, false, codes}
+use Rattle.std.specs.Prelude.{ℕ, ◌++◌, List, Bool, true, false, codes, decimal, if◌then◌else◌}
 use Rattle.rrd_tool.specs.declared.command.Part.{Part}
 use Rattle.rrd_tool.specs.declared.command.Part.TheVariants as part
 
@@ -27,3 +27,7 @@ abbrev pub is_numbered : Part → Bool
 is_numbered part.Definition = true
 is_numbered part.Sample = true
 is_numbered _ = false
+
+-- a part, and which one it is where there may be several
+abbrev pub place_text : Part → ℕ → List ℕ
+place_text part number = if is_numbered part then word_of part ++ codes " " ++ decimal number else word_of part

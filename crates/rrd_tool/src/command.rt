@@ -117,11 +117,17 @@ struct Place {
 }
 
 impl Display for Place {
+    ghost use Rattle.rrd_tool.specs.Named.{place_text};
+    ghost use Rattle.std.specs.Prelude.{Some};
+
+    ghost output = { λ place. Some (place_text place.part place.number) };
+
     fn fmt<W: fmt::Write>(&self, f: &mut Formatter<W>) -> fmt::Result {
-        f.write_str(self.part.word())?;
+        let word = self.part.word();
         if self.part.is_numbered() {
-            write!(f, " {}", self.number)?;
+            write!(f, "{word} {}", self.number)
+        } else {
+            f.write_str(word)
         }
-        Ok(())
     }
 }

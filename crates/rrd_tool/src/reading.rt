@@ -261,14 +261,18 @@ fn entered(alloc: Global, matches: &ArgMatches<'_>, now: u64) -> Result<Command,
     }
 }
 
-/// The command that the words are, with `now` in seconds since 1970 as the time that `N` and the
-/// defaults mean. `Usage` comes where clap refuses the words, a request for help included;
-/// `BadWord` names the first part that can't be read, in the order of the manual's options and
-/// then the words; `OutOfMemory` comes where a growth was refused.
+/// The command that the words are. `now` is the time that `N` and the defaults mean, in seconds
+/// since 1970.
 ///
-/// Defaults: a step of 300 seconds, a start ten seconds before now, a journal of 16 changes
-/// (rrdcreate; the journal is this project's); a fetch's end is now, its start a day before its
-/// end, its resolution one second (rrdfetch).
+/// Defaults: a step of 300 seconds, a start ten seconds before now but not before 1970 (rrdcreate),
+/// a journal of 16 changes (this project's); a fetch ends now, begins a day before its end but not
+/// before 1970 and asks for a resolution of one second (rrdfetch).
+///
+/// Errors: `Usage` where clap refuses the words, a request for help included. `BadWord` names the
+/// first part that can't be read, in this order: of create step, start, journal, definitions; of
+/// update template, samples; of tune heartbeat, minimum, maximum, type, rename; of resize archive,
+/// change, rows; of fetch function, resolution, start, end. `OutOfMemory` where a growth was
+/// refused.
 pub fn read_command(alloc: Global, words: &Words, now: u64) -> Result<Command, LineFault>
     ensures { IsReading words.now now result }
 {

@@ -36,6 +36,7 @@ fn cut(text: &str) -> Option<(&str, &str)>
 }
 
 // What stands before the first colon, and behind it if there is one.
+#[tactic(auto, using(crate::proofs::Pieces::pieces_none, crate::proofs::Pieces::pieces_some))]
 fn first_piece(text: &str) -> (&str, Option<&str>)
     ensures split { pieces text.now ≡ result.0.now ∷ option_map_or (λ rest. pieces rest.now) result.1 [] }
     ensures shorter { IfSome result.1 (λ rest. length rest.now < length text.now) }

@@ -1,0 +1,23 @@
+//! The usage text.
+
+/// How the program is used, and the commands of a batch.
+pub const USAGE: &str = "usage: rrdi batch
+
+Reads commands from standard input, one a line, runs them in order over one
+round-robin database that it keeps in memory, and writes what they print to
+standard output. A line that is refused changes nothing: it is answered there
+by a line 'ERROR: ' with the reason, and the next line is run.
+
+commands:
+  create [-s|--step SECONDS] [-b|--start TIME] [--journal DEPTH] DEFINITION..
+         a DEFINITION is DS:name:GAUGE|COUNTER|DERIVE|ABSOLUTE:heartbeat:min:max
+         or RRA:AVERAGE|MIN|MAX|LAST:xff:steps:rows
+  update [-t|--template NAME[:NAME..]] TIME|N:VALUE[:VALUE..]..
+  fetch AVERAGE|MIN|MAX|LAST [-r|--resolution SECONDS] [-s|--start TIME]
+         [-e|--end TIME]
+  last
+  revert
+
+Times are seconds since 1970. Status: 0 if no line was refused and nothing
+failed, 1 if not, 2 after this text.
+";
