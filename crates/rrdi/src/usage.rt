@@ -13,6 +13,10 @@ commands:
          a DEFINITION is DS:name:GAUGE|COUNTER|DERIVE|ABSOLUTE:heartbeat:min:max
          or RRA:AVERAGE|MIN|MAX|LAST:xff:steps:rows
   update [-t|--template NAME[:NAME..]] TIME|N:VALUE[:VALUE..]..
+  tune   [--heartbeat NAME:SECONDS] [-i|--minimum NAME:MIN]
+         [-a|--maximum NAME:MAX] [-d|--data-source-type NAME:TYPE]
+         [-r|--data-source-rename NAME:NEW]
+  resize ARCHIVE GROW|SHRINK ROWS
   fetch AVERAGE|MIN|MAX|LAST [-r|--resolution SECONDS] [-s|--start TIME]
          [-e|--end TIME]
   last
