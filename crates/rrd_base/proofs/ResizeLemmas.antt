@@ -130,7 +130,6 @@ kept_resized base at n index archive e is w =
 abbrev pub with_newest : Archive → ℕ → Archive
 with_newest archive n = record archive { def = record archive.def { rows = n }; rows = newest_rows n archive.rows }
 
-
 resized_one : (base : Content) (at n index : ℕ) (archive : Archive) → at ≡ index → IsArchive archive → width archive.rows ≡ length base.sources → archive_of base (Resized at n ∷ []) (index, archive) ≡ with_newest archive n
 unfolding made
 resized_one base at n index archive e is w =

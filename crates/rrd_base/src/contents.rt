@@ -155,7 +155,13 @@ impl Contents {
         self.last += seconds;
         if self.last % self.step == 0 {
             close_all(&mut self.preps, self.step, step_room, meter);
-            take_all(&mut self.stores, step_room, self.last / self.step, row_room, meter);
+            take_all(
+                &mut self.stores,
+                step_room,
+                self.last / self.step,
+                row_room,
+                meter,
+            );
         }
     }
 
@@ -204,7 +210,14 @@ impl Contents {
             let values = sample.values.as_slice();
             raws_into(&update.template, &self.sources, values, &mut room.raws);
             let rates = &mut room.rates;
-            self.sample(sample.time, &room.raws, rates, &mut room.step, &mut room.row, meter);
+            self.sample(
+                sample.time,
+                &room.raws,
+                rates,
+                &mut room.step,
+                &mut room.row,
+                meter,
+            );
         }
     }
 
@@ -273,7 +286,12 @@ impl Contents {
     }
 
     /// The rows that an archive has when it is resized to so many (1 to 1,000,000).
-    pub(crate) fn resized(&self, alloc: Global, archive: usize, rows: u64) -> Result<Archive, AllocError>
+    pub(crate) fn resized(
+        &self,
+        alloc: Global,
+        archive: usize,
+        rows: u64,
+    ) -> Result<Archive, AllocError>
         requires there { archive < length self.now.archives }
         requires some_rows { 0 < rows }
         requires few_rows { rows ≤ 1000000 }

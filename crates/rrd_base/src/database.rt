@@ -117,13 +117,25 @@ impl Database {
     /// isn't there, a number of rows that is 0 or leads above 1,000,000, a shrink that leaves no row,
     /// more than 4,000,000 cells in all, and last want of memory. The journal gets an entry; a full
     /// one drops its oldest.
-    pub fn resize(&mut self, alloc: Global, archive: u64, change: Change, rows: u64) -> Result<(), Refusal>
+    pub fn resize(
+        &mut self,
+        alloc: Global,
+        archive: u64,
+        change: Change,
+        rows: u64,
+    ) -> Result<(), Refusal>
         ensures verdict { IsAnswer (verdict self.old.now (Resizing archive change rows)) result }
         ensures ok { IfOk result (λ _. self.new ≡ changed self.old (Resizing archive change rows)) }
         ensures err { OnErr result (self.new ≡ self.old) }
     {
         let contents = &self.contents;
-        if let Some(refusal) = check_resize(&contents.sources, &contents.stores, archive, change, rows) {
+        if let Some(refusal) = check_resize(
+            &contents.sources,
+            &contents.stores,
+            archive,
+            change,
+            rows,
+        ) {
             return Err(refusal);
         }
         let place = archive as usize;
@@ -228,7 +240,13 @@ impl Database {
 
     /// Which archive a fetch reads, and which of its rows (rrdfetch). Refuses a bad time, a bad span,
     /// a function that no archive has, and a span of more than 1,000,000 rows.
-    pub fn choose(&self, function: Function, asked: u64, start: u64, end: u64) -> Result<Chosen, Refusal>
+    pub fn choose(
+        &self,
+        function: Function,
+        asked: u64,
+        start: u64,
+        end: u64,
+    ) -> Result<Chosen, Refusal>
         ensures { result ≡ choice self.now.now function asked start end }
     {
         self.contents.choose(Request {

@@ -1,6 +1,6 @@
 //! What the journal holds of a change, so that it can be taken back.
-use crate::store::Saved;
 use crate::DsDef;
+use crate::store::Saved;
 use arrayvec::ArrayVec;
 use rrd_fixed::{Kind, Name, Raw};
 use rrd_fold::StepPrep;

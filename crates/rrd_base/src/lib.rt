@@ -1,26 +1,28 @@
 //! A round-robin database of many data sources and archives, with a journal of replaced cells.
 #![tactic(auto)]
 
-pub mod choose;
-pub mod create;
+mod choose;
+mod contents;
+mod create;
+mod database;
 mod definition;
+mod entry;
 pub mod laws;
 mod list;
 mod preparing;
 mod refusal;
 mod resize;
+mod room;
 pub mod slow;
 mod store;
+#[cfg(test)]
+mod tests;
 mod tune;
 mod update;
-mod contents;
-pub mod database;
-mod entry;
-mod room;
 
-pub use database::Database;
 pub use choose::Chosen;
 pub use create::CreateSpec;
+pub use database::Database;
 pub use definition::{DsDef, RraDef};
 pub use list::List;
 pub use refusal::Refusal;

@@ -23,6 +23,9 @@ use rrd_fold::Function;
 use std::alloc::{AllocError, Global};
 use std::marker::Model;
 
+#[cfg(test)]
+mod tests;
+
 // The latest time that a sample may have.
 const LATEST: u64 = 9_999_999_999;
 

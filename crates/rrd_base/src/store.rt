@@ -269,7 +269,11 @@ pub(crate) fn put_back_all(stores: &mut [Store], mut saved: Vec<Saved>)
 }
 
 /// New archives of these settings, so many sources having been defined.
-pub(crate) fn new_all(alloc: Global, defs: &[RraDef], sources: u64) -> Result<Vec<Store>, AllocError>
+pub(crate) fn new_all(
+    alloc: Global,
+    defs: &[RraDef],
+    sources: u64,
+) -> Result<Vec<Store>, AllocError>
     requires rows { AllByRecursion (λ def. (0 < def.rows) × (def.rows ≤ 1000000)) defs.now }
     requires some_sources { 0 < sources }
     requires few_sources { sources ≤ 64 }

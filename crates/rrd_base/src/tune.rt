@@ -132,13 +132,7 @@ fn asked<T: Copy>(option: &Option<(Name, T)>, name: &Name, old: T) -> T
     ensures { result ≡ commands.asked option.now name.now old }
 {
     match option {
-        Some((asked, value)) => {
-            if asked.same(name) {
-                *value
-            } else {
-                old
-            }
-        }
+        Some((asked, value)) => { if asked.same(name) { *value } else { old } }
         None => old,
     }
 }

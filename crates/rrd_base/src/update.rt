@@ -96,7 +96,12 @@ fn value_placed(sources: &[DsDef], values: &[Given], source: &DsDef) -> Given
 }
 
 // What is given for a source: by the template, or without one in the sources' order.
-fn value_for(template: &Option<List<Name>>, sources: &[DsDef], values: &[Given], source: &DsDef) -> Given
+fn value_for(
+    template: &Option<List<Name>>,
+    sources: &[DsDef],
+    values: &[Given],
+    source: &DsDef,
+) -> Given
     ensures { result ≡ value_for (template_of sources.now template.now) values.now source.now }
 {
     match template {
@@ -129,9 +134,7 @@ fn is_admitted(source: &DsDef, given: Given) -> bool
 fn are_admitted(template: &Option<List<Name>>, sources: &[DsDef], values: &[Given]) -> bool
     ensures { result ≡ list_all (λ source. is_admitted source (value_for (template_of sources.now template.now) values.now source)) sources.now }
 {
-    sources
-        .iter()
-        .all(|source| is_admitted(source, value_for(template, sources, values, source)))
+    sources.iter().all(|source| is_admitted(source, value_for(template, sources, values, source)))
 }
 
 // The first thing wrong with a sample after one at `last`.

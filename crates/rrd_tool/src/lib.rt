@@ -14,6 +14,8 @@ mod shapes;
 #[cfg(test)]
 mod tests_batch;
 #[cfg(test)]
+mod tests_changes;
+#[cfg(test)]
 mod tests_faults;
 #[cfg(test)]
 mod tests_reading;

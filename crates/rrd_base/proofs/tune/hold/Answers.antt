@@ -40,13 +40,13 @@ loop-place-preserved c =
     let same = ap (entries.is_named tuning) (sym c.index-sources-place.is) ∙ sym c.is_named.ensures in
     elim c.if-is_named.branch [
       | then-is_named w ↦
-        let named : entries.is_named tuning (get_or sources i d) ≡ true = same ∙ w.if-is_named.true in
-        let pushed : map held_of c.if-is_named.held.items ≡ map held_of c.loop-place.held.items ++ h ∷ []
-        = rw (w.held-is, w.push.ensures.items) (map_push held_of c.loop-place.held.items (record { number = i; source = w.duplicate.result; raw = get_or raws i Unknown })
+          let named : entries.is_named tuning (get_or sources i d) ≡ true = same ∙ w.if-is_named.true in
+          let pushed : map held_of c.if-is_named.held.items ≡ map held_of c.loop-place.held.items ++ h ∷ []
+          = rw (w.held-is, w.push.ensures.items) (map_push held_of c.loop-place.held.items (record { number = i; source = w.duplicate.result; raw = get_or raws i Unknown })
           ∙ ap (λ (s : DsDef). let x : entries.Held = record { number = i; source = s; raw = get_or raws i Unknown } in map held_of c.loop-place.held.items ++ x ∷ []) (w.duplicate.ensures ∙ c.index-sources-place.is)) in
-        pushed ∙ ap (λ zs. zs ++ h ∷ []) c.loop-place.invariant ∙ sym (ap (λ b. entries.held tuning 0 (take i sources) (take i raws) ++ cond b (h ∷ []) []) named) ∙ sym more ∙ next
+          pushed ∙ ap (λ zs. zs ++ h ∷ []) c.loop-place.invariant ∙ sym (ap (λ b. entries.held tuning 0 (take i sources) (take i raws) ++ cond b (h ∷ []) []) named) ∙ sym more ∙ next
       | else-is_named w ↦
-        let other : entries.is_named tuning (get_or sources i d) ≡ false = same ∙ w.if-is_named.false in
-        let kept : map held_of c.if-is_named.held.items ≡ map held_of c.loop-place.held.items = rw w.held-is refl in
-        kept ∙ c.loop-place.invariant ∙ sym (append-nil (entries.held tuning 0 (take i sources) (take i raws))) ∙ sym (ap (λ b. entries.held tuning 0 (take i sources) (take i raws) ++ cond b (h ∷ []) []) other) ∙ sym more ∙ next
+          let other : entries.is_named tuning (get_or sources i d) ≡ false = same ∙ w.if-is_named.false in
+          let kept : map held_of c.if-is_named.held.items ≡ map held_of c.loop-place.held.items = rw w.held-is refl in
+          kept ∙ c.loop-place.invariant ∙ sym (append-nil (entries.held tuning 0 (take i sources) (take i raws))) ∙ sym (ap (λ b. entries.held tuning 0 (take i sources) (take i raws) ++ cond b (h ∷ []) []) other) ∙ sym more ∙ next
     ]

@@ -15,7 +15,7 @@ loop-place-preserved c =
     let here = value_here names values i d Unknown source (omega (arith, c.min-place-end.ensures)) (omega (arith, c.min-place-end.ensures)) in
     let other : cond (same_name (get_or names i d) source.name) (get_or values i Unknown) (value_for (drop (suc i) names) (drop (suc i) values) source) ≡ value_for (drop (suc i) names) (drop (suc i) values) source
     = ap (λ n. cond (same_name n source.name) (get_or values i Unknown) (value_for (drop (suc i) names) (drop (suc i) values) source)) (sym c.index-template-place.is)
-      ∙ ap (λ b. cond b (get_or values i Unknown) (value_for (drop (suc i) names) (drop (suc i) values) source)) (sym c.same.ensures ∙ c.if-same.false) in
+    ∙ ap (λ b. cond b (get_or values i Unknown) (value_for (drop (suc i) names) (drop (suc i) values) source)) (sym c.same.ensures ∙ c.if-same.false) in
     ap (λ n. value_for (drop n names) (drop n values) source) {x = i + 1} {y = suc i} (omega arith) ∙ sym (here ∙ other) ∙ c.loop-place.invariant
 
 pub returns : goal.returns

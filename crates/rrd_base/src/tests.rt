@@ -1,0 +1,570 @@
+//! Small databases, each call on its happy path: updates of fewer, as many and more rows than an
+//! archive has and back, templates, ties, a full journal, and databases as large as they may be.
+use crate::{Chosen, CreateSpec, Database, DsDef, Given, List, Refusal, RraDef, Sample, Update};
+use rrd_fixed::{Cell, Kind, Name, Number, Raw};
+use rrd_fold::Function;
+use std::alloc::{AllocError, Global};
+use std::process::Abort;
+use std::test::Fail;
+
+const UNKNOWN: Given = Given::Unknown;
+
+const NONE: Cell = Cell::Unknown;
+
+// ---- what the tests are made of
+
+// A number that is written without a point.
+fn millionths(millionths: i128) -> Given {
+    Given::Number(Number {
+        millionths,
+        point: false,
+    })
+}
+
+fn units(number: u32) -> Given {
+    millionths(i128::from(number) * 1_000_000)
+}
+
+fn name_of(bytes: &[u8]) -> Result<Name, &'static str> {
+    Name::fit(bytes).ok_or("no name")
+}
+
+fn source(name: &[u8], kind: Kind, heartbeat: u64) -> Result<DsDef, &'static str> {
+    Ok(DsDef {
+        name: name_of(name)?,
+        kind,
+        heartbeat,
+        min: None,
+        max: None,
+    })
+}
+
+// An archive half of whose steps may be unknown.
+fn archive(function: Function, steps: u64, rows: u64) -> RraDef {
+    RraDef {
+        function,
+        xff: 500_000,
+        steps,
+        rows,
+    }
+}
+
+fn spec(
+    alloc: Global,
+    step: u64,
+    depth: u64,
+    sources: List<DsDef>,
+    defs: &[RraDef],
+) -> Result<CreateSpec, AllocError> {
+    let mut archives = List::new(alloc);
+    for def in defs {
+        archives.push(*def)?;
+    }
+    Ok(CreateSpec {
+        step,
+        start: 0,
+        depth,
+        sources,
+        archives,
+    })
+}
+
+// A database of one source, that begins at 0.
+fn of_one(
+    alloc: Global,
+    step: u64,
+    depth: u64,
+    source: DsDef,
+    defs: &[RraDef],
+) -> Result<Database, Fail> {
+    let mut sources = List::new(alloc);
+    sources.push(source)?;
+    Ok(Database::create(alloc, spec(alloc, step, depth, sources, defs)?)?)
+}
+
+// A database of one source, with steps of 10 seconds and an archive of the last four.
+fn of_four_rows(alloc: Global, depth: u64) -> Result<Database, Fail> {
+    let defs = [archive(Function::Last, 1, 4)];
+    of_one(alloc, 10, depth, source(b"g", Kind::Gauge, 100)?, &defs)
+}
+
+fn sample(alloc: Global, time: u64, given: &[Given]) -> Result<Sample, AllocError> {
+    let mut values = List::new(alloc);
+    for value in given {
+        values.push(*value)?;
+    }
+    Ok(Sample { time, values })
+}
+
+// An update without a template, of samples of one value each.
+fn update_of(alloc: Global, samples: &[(u64, Given)]) -> Result<Update, AllocError> {
+    let mut list = List::new(alloc);
+    for (time, given) in samples {
+        list.push(sample(alloc, *time, &[*given])?)?;
+    }
+    Ok(Update {
+        template: None,
+        samples: list,
+    })
+}
+
+fn take(alloc: Global, database: &mut Database, samples: &[(u64, Given)]) -> Result<(), Fail> {
+    database.update(alloc, &update_of(alloc, samples)?)?;
+    Ok(())
+}
+
+// The cell of an archive's row at a time.
+fn cell(rt: &impl Abort, database: &Database, number: u64, time: i64, source: u64) -> Cell {
+    assert!(rt; number < database.archives());
+    assert!(rt; source < database.sources());
+    database.cell(number, time, source)
+}
+
+// The first archive's rows of the first source from a time on, `apart` seconds each, have these
+// values in millionths. The one before and the one after are unknown.
+fn assert_rows(rt: &impl Abort, database: &Database, first: i64, apart: i64, rows: &[i128]) {
+    let mut time = first.saturating_sub(apart);
+    assert_eq!(rt; cell(rt, database, 0, time, 0), NONE, "at {time}");
+    for row in rows {
+        time = time.saturating_add(apart);
+        let shown = cell(rt, database, 0, time, 0);
+        assert_eq!(rt; shown, Cell::Known(*row), "at {time}");
+    }
+    time = time.saturating_add(apart);
+    assert_eq!(rt; cell(rt, database, 0, time, 0), NONE, "at {time}");
+}
+
+fn raw(rt: &impl Abort, database: &Database, source: u64) -> Raw {
+    assert!(rt; source < database.sources());
+    database.last_raw(source)
+}
+
+// ---- each call
+
+#[test]
+fn road_counter(rt: HostRuntime) -> Result<(), Fail> {
+    let alloc = rt.alloc();
+    let mut sources = List::new(alloc);
+    sources.push(source(b"speed", Kind::Counter, 600)?)?;
+    let defs = [
+        archive(Function::Average, 1, 24),
+        archive(Function::Average, 6, 10),
+    ];
+    let asked = CreateSpec {
+        start: 920_804_400,
+        ..spec(alloc, 300, 16, sources, &defs)?
+    };
+    let mut database = Database::create(alloc, asked)?;
+    let given = [
+        12_345, 12_357, 12_363, 12_363, 12_363, 12_373, 12_383, 12_393, 12_399, 12_405, 12_411,
+        12_415, 12_420, 12_422, 12_423,
+    ];
+    let mut time = 920_804_400u64;
+    for value in given {
+        time = time.saturating_add(300);
+        take(alloc, &mut database, &[(time, units(value))])?;
+    }
+    assert_eq!(rt; database.last(), 920_808_900);
+    assert_eq!(rt; database.undoable(), 15);
+    let chosen = database.choose(Function::Average, 1, 920_804_400, 920_809_200);
+    let wanted = Chosen {
+        archive: 0,
+        res: 300,
+        lo: 920_804_400,
+        hi: 920_809_500,
+    };
+    assert_eq!(rt; chosen, Ok(wanted));
+    let fine = [
+        40_000, 20_000, 0, 0, 33_333, 33_333, 33_333, 20_000, 20_000, 20_000, 13_333, 16_667,
+        6_667, 3_333,
+    ];
+    assert_rows(&rt, &database, 920_805_000, 300, &fine);
+    let coarse = [
+        (920_806_200, Cell::Known(18_667)),
+        (920_808_000, Cell::Known(23_333)),
+        (920_809_800, NONE),
+    ];
+    for (at, wanted) in coarse {
+        assert_eq!(rt; cell(&rt, &database, 1, at, 0), wanted, "at {at}");
+    }
+    Ok(())
+}
+
+#[test]
+fn readers(rt: HostRuntime) -> Result<(), Fail> {
+    let alloc = rt.alloc();
+    let defs = [
+        archive(Function::Last, 1, 4),
+        archive(Function::Average, 3, 5),
+    ];
+    let g = source(b"g", Kind::Gauge, 100)?;
+    let mut database = of_one(alloc, 10, 7, g, &defs)?;
+    // 10 seconds at 2, 10 at 5, and 4 at 6 of a step in progress
+    let samples = [(10, units(2)), (20, units(5)), (24, units(6))];
+    take(alloc, &mut database, &samples)?;
+    assert_eq!(rt; database.step(), 10);
+    assert_eq!(rt; database.depth(), 7);
+    assert_eq!(rt; database.last(), 24);
+    assert_eq!(rt; database.undoable(), 1);
+    assert_eq!(rt; database.sources(), 1);
+    assert_eq!(rt; database.archives(), 2);
+    let source = database.source(0);
+    assert_eq!(rt; source.name.as_str(), "g");
+    assert_eq!(rt; source.kind, Kind::Gauge);
+    assert_eq!(rt; source.heartbeat, 100);
+    let second = database.archive(1);
+    assert_eq!(rt;
+        (second.function, second.xff, second.steps, second.rows),
+        (Function::Average, 500_000, 3, 5)
+    );
+    assert_eq!(rt; database.last_raw(0), Raw::Known(6_000_000));
+    let step = database.step_prep(0);
+    assert_eq!(rt; (step.known(), step.sum()), (4, 24_000_000));
+    let row = database.row_prep(1, 0);
+    assert_eq!(rt;
+        (row.known(), row.value(), row.function()),
+        (2, 7_000_000, Function::Average)
+    );
+    let fresh = database.row_prep(0, 0);
+    assert_eq!(rt;
+        (fresh.known(), fresh.value(), fresh.function()),
+        (0, 0, Function::Last)
+    );
+    Ok(())
+}
+
+#[test]
+fn lists(rt: HostRuntime) -> Result<(), Fail> {
+    let mut list = List::new(rt.alloc());
+    assert_eq!(rt; list.len(), 0);
+    for item in [3u8, 1, 2] {
+        list.push(item)?;
+    }
+    assert_eq!(rt; list.as_slice(), [3, 1, 2].as_slice());
+    assert_eq!(rt; list.len(), 3);
+    assert_eq!(rt; *list.get(1), 1);
+    Ok(())
+}
+
+// ---- updates and what takes them back
+
+// Four rows of 10 seconds, and half a step more.
+fn assert_before(rt: &impl Abort, database: &Database) {
+    assert_eq!(rt; database.last(), 45);
+    assert_eq!(rt; database.undoable(), 1);
+    assert_rows(
+        rt,
+        database,
+        10,
+        10,
+        &[1_000_000, 2_000_000, 3_000_000, 4_000_000],
+    );
+    assert_eq!(rt; raw(rt, database, 0), Raw::Known(7_000_000));
+    assert!(rt; database.sources() == 1);
+    let step = database.step_prep(0);
+    assert_eq!(rt; (step.known(), step.sum()), (5, 35_000_000));
+}
+
+// After one update the last four rows, from a time on, are these; then it is taken back.
+fn there_and_back(
+    rt: &impl Abort,
+    alloc: Global,
+    database: &mut Database,
+    samples: &[(u64, Given)],
+    first: i64,
+    rows: &[i128],
+) -> Result<(), Fail> {
+    assert_before(rt, database);
+    take(alloc, database, samples)?;
+    assert_rows(rt, database, first, 10, rows);
+    database.revert()?;
+    assert_before(rt, database);
+    Ok(())
+}
+
+// One update of several samples that together finish fewer rows than the archive has, as many, and
+// more; and one of one sample. The other half of the first step is at 5, so its row is 6.
+#[test]
+fn updates_are_taken_back(rt: HostRuntime) -> Result<(), Fail> {
+    let alloc = rt.alloc();
+    let mut database = of_four_rows(alloc, 16)?;
+    let before = [
+        (10, units(1)),
+        (20, units(2)),
+        (30, units(3)),
+        (40, units(4)),
+        (45, units(7)),
+    ];
+    take(alloc, &mut database, &before)?;
+    let fewer = [(50, units(5)), (60, units(6))];
+    let rows = [3_000_000, 4_000_000, 6_000_000, 6_000_000];
+    there_and_back(&rt, alloc, &mut database, &fewer, 30, &rows)?;
+    let as_many = [(50, units(5)), (60, units(6)), (80, units(8))];
+    let rows = [6_000_000, 6_000_000, 8_000_000, 8_000_000];
+    there_and_back(&rt, alloc, &mut database, &as_many, 50, &rows)?;
+    let more = [
+        (50, units(5)),
+        (60, units(6)),
+        (80, units(8)),
+        (90, units(9)),
+        (100, units(10)),
+    ];
+    let rows = [8_000_000, 8_000_000, 9_000_000, 10_000_000];
+    there_and_back(&rt, alloc, &mut database, &more, 70, &rows)?;
+    let rows = [9_000_000, 9_000_000, 9_000_000, 9_000_000];
+    there_and_back(&rt, alloc, &mut database, &[(145, units(9))], 110, &rows)?;
+    Ok(())
+}
+
+#[test]
+fn full_journal_drops_its_oldest(rt: HostRuntime) -> Result<(), Fail> {
+    let alloc = rt.alloc();
+    let mut database = of_four_rows(alloc, 2)?;
+    take(alloc, &mut database, &[(10, units(1))])?;
+    take(alloc, &mut database, &[(20, units(2))])?;
+    take(alloc, &mut database, &[(30, units(3))])?;
+    assert_eq!(rt; database.undoable(), 2);
+    database.revert()?;
+    database.revert()?;
+    assert_eq!(rt; database.undoable(), 0);
+    assert_eq!(rt; database.revert(), Err(Refusal::NothingToRevert));
+    assert_eq!(rt; database.last(), 10);
+    assert_rows(&rt, &database, 10, 10, &[1_000_000]);
+    assert_eq!(rt; raw(&rt, &database, 0), Raw::Known(1_000_000));
+    Ok(())
+}
+
+#[test]
+fn refused_updates(rt: HostRuntime) -> Result<(), Fail> {
+    let alloc = rt.alloc();
+    let mut database = of_four_rows(alloc, 16)?;
+    let late = [(10, units(1)), (20, units(2)), (20, units(3))];
+    let refused = database.update(alloc, &update_of(alloc, &late)?);
+    assert_eq!(rt; refused, Err(Refusal::NotLater { last: 20 }));
+    assert_eq!(rt; database.last(), 0);
+    let refused = database.update(alloc, &update_of(alloc, &[])?);
+    assert_eq!(rt; refused, Err(Refusal::NoSample));
+    let far = [(10_000_000_000, units(1))];
+    let refused = database.update(alloc, &update_of(alloc, &far)?);
+    assert_eq!(rt; refused, Err(Refusal::BadTime));
+    let mut samples = List::new(alloc);
+    samples.push(sample(alloc, 10, &[UNKNOWN, UNKNOWN])?)?;
+    let wide = Update {
+        template: None,
+        samples,
+    };
+    assert_eq!(rt; database.update(alloc, &wide), Err(Refusal::WrongCount));
+    assert_eq!(rt; database.undoable(), 0);
+    Ok(())
+}
+
+// ---- rules that are easily missed
+
+// A template names sources in an order of its own; one that it leaves out gets unknown, though it had
+// a value before.
+#[test]
+fn templates(rt: HostRuntime) -> Result<(), Fail> {
+    let alloc = rt.alloc();
+    let mut sources = List::new(alloc);
+    sources.push(source(b"a", Kind::Gauge, 100)?)?;
+    sources.push(source(b"b", Kind::Gauge, 100)?)?;
+    let defs = [archive(Function::Last, 1, 4)];
+    let mut database = Database::create(alloc, spec(alloc, 10, 16, sources, &defs)?)?;
+    let mut both = List::new(alloc);
+    both.push(name_of(b"b")?)?;
+    both.push(name_of(b"a")?)?;
+    let mut samples = List::new(alloc);
+    samples.push(sample(alloc, 10, &[units(5), units(6)])?)?;
+    let turned = Update {
+        template: Some(both),
+        samples,
+    };
+    database.update(alloc, &turned)?;
+    assert_eq!(rt; raw(&rt, &database, 0), Raw::Known(6_000_000));
+    assert_eq!(rt; raw(&rt, &database, 1), Raw::Known(5_000_000));
+    let mut second = List::new(alloc);
+    second.push(name_of(b"b")?)?;
+    let mut samples = List::new(alloc);
+    samples.push(sample(alloc, 20, &[units(7)])?)?;
+    let left_out = Update {
+        template: Some(second),
+        samples,
+    };
+    database.update(alloc, &left_out)?;
+    assert_eq!(rt; raw(&rt, &database, 0), Raw::Unknown);
+    assert_eq!(rt; raw(&rt, &database, 1), Raw::Known(7_000_000));
+    assert_eq!(rt; cell(&rt, &database, 0, 10, 0), Cell::Known(6_000_000));
+    assert_eq!(rt; cell(&rt, &database, 0, 20, 0), NONE);
+    assert_eq!(rt; cell(&rt, &database, 0, 20, 1), Cell::Known(7_000_000));
+    Ok(())
+}
+
+// Minus half a millionth is zero, and minus one and a half is minus one.
+#[test]
+fn ties_go_upwards(rt: HostRuntime) -> Result<(), Fail> {
+    let alloc = rt.alloc();
+    let defs = [archive(Function::Average, 2, 4)];
+    let g = source(b"g", Kind::Gauge, 10)?;
+    let mut database = of_one(alloc, 1, 16, g, &defs)?;
+    let samples = [
+        (1, millionths(-1)),
+        (2, millionths(0)),
+        (3, millionths(-1)),
+        (4, millionths(-2)),
+    ];
+    take(alloc, &mut database, &samples)?;
+    assert_rows(&rt, &database, 2, 2, &[0, -1]);
+    Ok(())
+}
+
+// Four seconds at 8, three unknown, three at 5: 47 over 7.
+#[test]
+fn unknown_sample_keeps_earlier_seconds(rt: HostRuntime) -> Result<(), Fail> {
+    let alloc = rt.alloc();
+    let mut database = of_four_rows(alloc, 16)?;
+    take(alloc, &mut database, &[(4, units(8)), (7, UNKNOWN)])?;
+    assert!(rt; database.sources() == 1);
+    let step = database.step_prep(0);
+    assert_eq!(rt; (step.known(), step.sum()), (4, 32_000_000));
+    take(alloc, &mut database, &[(10, units(5))])?;
+    assert_rows(&rt, &database, 10, 10, &[6_714_286]);
+    Ok(())
+}
+
+// Rows of 10 seconds back to 70, rows of 20 back to 40: the finer archive is taken only if it covers
+// the start, and the one that reaches back farthest if none does.
+#[test]
+fn archive_choice(rt: HostRuntime) -> Result<(), Fail> {
+    let alloc = rt.alloc();
+    let defs = [archive(Function::Last, 1, 3), archive(Function::Last, 2, 3)];
+    let g = source(b"g", Kind::Gauge, 100)?;
+    let mut database = of_one(alloc, 10, 16, g, &defs)?;
+    take(alloc, &mut database, &[(100, units(1))])?;
+    let table = [
+        (80, 0, 10, 80),
+        (70, 0, 10, 70),
+        (50, 1, 20, 40),
+        (0, 1, 20, 0),
+    ];
+    for (start, number, res, lo) in table {
+        let chosen = database.choose(Function::Last, 1, start, 99);
+        let wanted = Chosen {
+            archive: number,
+            res,
+            lo,
+            hi: 100,
+        };
+        assert_eq!(rt; chosen, Ok(wanted), "from {start}");
+    }
+    assert_eq!(rt; cell(&rt, &database, 1, 40, 0), NONE);
+    assert_eq!(rt; cell(&rt, &database, 1, 60, 0), Cell::Known(1_000_000));
+    let refused = [
+        (
+            database.choose(Function::Min, 1, 0, 9),
+            Refusal::NoArchiveForFunction,
+        ),
+        (database.choose(Function::Last, 1, 20, 10), Refusal::BadSpan),
+        (
+            database.choose(Function::Last, 1, 0, 9_999_999_999),
+            Refusal::SpanTooLong,
+        ),
+    ];
+    for (chosen, wanted) in refused {
+        assert_eq!(rt; chosen, Err(wanted));
+    }
+    Ok(())
+}
+
+// ---- size
+
+// So many sources, s00, s01, and so on.
+fn many_sources(alloc: Global, count: u8) -> Result<List<DsDef>, Fail> {
+    let mut sources = List::new(alloc);
+    for number in 0..count {
+        let name = [
+            b's',
+            b'0'.saturating_add(number / 10),
+            b'0'.saturating_add(number % 10),
+        ];
+        sources.push(source(&name, Kind::Gauge, 1_000)?)?;
+    }
+    Ok(sources)
+}
+
+// Archive number 0 has rows of 1 second, number 63 rows of 64. A sample at 128 gives source number 7
+// the value 7, and so on.
+#[test]
+fn sixty_four_sources_and_archives(rt: HostRuntime) -> Result<(), Fail> {
+    let alloc = rt.alloc();
+    let mut defs = List::new(alloc);
+    for number in 0..64u64 {
+        defs.push(archive(Function::Last, number + 1, 2))?;
+    }
+    let mut database = Database::create(
+        alloc,
+        CreateSpec {
+            step: 1,
+            start: 0,
+            depth: 1,
+            sources: many_sources(alloc, 64)?,
+            archives: defs,
+        },
+    )?;
+    let mut values = List::new(alloc);
+    for number in 0..64u8 {
+        values.push(units(u32::from(number)))?;
+    }
+    let mut samples = List::new(alloc);
+    samples.push(Sample { time: 128, values })?;
+    let update = Update {
+        template: None,
+        samples,
+    };
+    database.update(alloc, &update)?;
+    let chosen = database.choose(Function::Last, 64, 100, 110);
+    let wanted = Chosen {
+        archive: 63,
+        res: 64,
+        lo: 64,
+        hi: 128,
+    };
+    assert_eq!(rt; chosen, Ok(wanted));
+    for number in 0..64u8 {
+        let known = Cell::Known(i128::from(number) * 1_000_000);
+        let source = u64::from(number);
+        assert_eq!(rt; cell(&rt, &database, 63, 128, source), known);
+        assert_eq!(rt; cell(&rt, &database, 0, 127, source), known);
+        assert_eq!(rt; cell(&rt, &database, 0, 126, source), NONE);
+    }
+    database.revert()?;
+    assert_eq!(rt; database.last(), 0);
+    assert_eq!(rt; cell(&rt, &database, 63, 128, 63), NONE);
+    Ok(())
+}
+
+// 64 times 62,500 cells are 4,000,000, and so are 4 archives of a million rows; one row more is too
+// much.
+#[test]
+fn four_million_cells(rt: HostRuntime) -> Result<(), Fail> {
+    let alloc = rt.alloc();
+    let defs = [archive(Function::Last, 1, 62_500)];
+    let large = spec(alloc, 300, 1, many_sources(alloc, 64)?, &defs)?;
+    let database = Database::create(alloc, large)?;
+    assert_eq!(rt; (database.sources(), database.archives()), (64, 1));
+    let million = archive(Function::Last, 1, 1_000_000);
+    let defs = [
+        million,
+        million,
+        million,
+        million,
+        archive(Function::Last, 1, 1),
+    ];
+    let mut sources = List::new(alloc);
+    sources.push(source(b"g", Kind::Gauge, 100)?)?;
+    let larger = spec(alloc, 300, 1, sources, &defs)?;
+    let Err(refusal) = Database::create(alloc, larger) else {
+        panic!(rt; "made")
+    };
+    assert_eq!(rt; refusal, Refusal::TooLarge);
+    Ok(())
+}
