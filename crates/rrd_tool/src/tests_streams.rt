@@ -78,8 +78,8 @@ impl<'a> Read for Source<'a> {
             return Err(Error::from(ErrorKind::Other));
         }
         self.calls_left -= 1;
-        let part = if buf.len() > 5 { &mut buf[..5] } else { buf };
-        self.rest.read(part)
+        let most = buf.len().min(5);
+        self.rest.read(&mut buf[..most])
     }
 }
 
