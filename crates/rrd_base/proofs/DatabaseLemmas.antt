@@ -1,8 +1,7 @@
 -- What a database's journal needs, and keeps.
-use Rattle.std.proofs.Common.{◌≡◌, refl, sym, ◌∙◌, ap, subst, ℕ, zero, suc, ◌+◌, ◌-◌, ◌<◌, ◌≤◌, min, List, [], ◌∷◌, ◌++◌, length, map, take, drop, get_or, arith, None, true, false}
+use Rattle.std.proofs.Common.{◌≡◌, refl, sym, ◌∙◌, ap, subst, ℕ, zero, suc, ◌+◌, ◌-◌, ◌<◌, List, [], ◌∷◌, length, map, take, drop, get_or, arith, None, false}
 use Rattle.std.specs.List.{fold, enumerate_from, AllByRecursion}
 use Rattle.rrd_fixed.specs.declared.cell.Cell.{Cell}
-use Rattle.rrd_fold.specs.declared.function.Function.{Function}
 use Rattle.rrd_ring.specs.Rows.{HasWidth, width}
 use Rattle.rrd_base.specs.declared.update.Sample.{Sample}
 use Rattle.rrd_base.specs.declared.update.Update.{Update}
@@ -10,13 +9,13 @@ use Rattle.rrd_base.specs.declared.definition.DsDef.{DsDef}
 use Rattle.rrd_base.specs.declared.entry.Entry.{Entry}
 use Rattle.rrd_base.specs.declared.entry.Entry.TheVariants as entry
 use Rattle.rrd_fixed.specs.declared.name.Name.{Name}
-use Rattle.rrd_base.specs.History.{Archive, Content, Event, Sampled, Moment, moment_of, moment_at_end, moment_after, archive_of, content}
-use Rattle.rrd_base.specs.Commands.{Command, Updating, sample_of, moved}
-use Rattle.rrd_base.specs.Entries.{Dropped, BeforeUpdate, Held, put_back, put_back_each, with_held, with_rows_at}
+use Rattle.rrd_base.specs.History.{Archive, Content, Event, Sampled, Moment, moment_of, moment_after, archive_of, content}
+use Rattle.rrd_base.specs.Commands.{Updating, sample_of, moved}
+use Rattle.rrd_base.specs.Entries.{Dropped, Held, put_back_each, with_held, with_rows_at}
 use Rattle.rrd_base.specs.Store.{CanPutBack, CanPutBackEach, functions}
 use Rattle.rrd_base.specs.Stored.{HasFunctions}
 use Rattle.rrd_base.specs.Updating.{last_time, template_of}
-use Rattle.rrd_base.specs.Validity.{IsValid, IsValidArchive, IsRow, FitsArchive, FitEach, FitsUpdate}
+use Rattle.rrd_base.specs.Validity.{IsValidArchive, IsRow, FitsArchive, FitEach}
 use Rattle.rrd_base.specs.Verdict.{verdict, no_sample}
 use Rattle.rrd_base.proofs.Accepted.{accepted_passes}
 use Rattle.rrd_base.proofs.HistoryLemmas.{moment_of-content}

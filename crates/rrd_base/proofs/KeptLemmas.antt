@@ -1,24 +1,23 @@
 -- A database's journal, when an update is added and when the newest entry is taken.
-use Rattle.std.proofs.Common.{◌≡◌, refl, sym, ◌∙◌, ap, subst, ℕ, zero, suc, ◌+◌, ◌-◌, ◌/◌, ◌<◌, ◌≤◌, List, [], ◌∷◌, ◌++◌, length, map, take, drop, get_or, arith, Option, Some, None}
-use Rattle.std.specs.Prelude.{reverse, slice_get}
+use Rattle.std.proofs.Common.{◌≡◌, sym, ◌∙◌, ap, subst, ◌-◌, ◌/◌, ◌<◌, List, [], ◌∷◌, ◌++◌, length, map, take, get_or, Some, None}
+use Rattle.std.specs.Prelude.{slice_get}
 use Rattle.std.proofs.lemmas.Option.{slice_get_within, slice_get-get_or}
 use Rattle.std.specs.List.{AllByRecursion}
 use Rattle.circular_buffer.specs.Buffer.{keep_last}
 use Rattle.rrd_base.specs.declared.entry.Entry.{Entry}
 use Rattle.rrd_base.specs.declared.entry.Entry.TheVariants as entry
-use Rattle.rrd_base.specs.declared.entry.Before.{Before}
+use Rattle.rrd_base.specs.declared.entry.BeforeUpdate.{BeforeUpdate}
 use Rattle.rrd_base.specs.declared.update.Update.{Update}
-use Rattle.rrd_base.specs.History.{Archive, Content}
+use Rattle.rrd_base.specs.History.{Content}
 use Rattle.rrd_base.specs.Commands.{Command, Updating, events, settings_of, moved}
 use Rattle.rrd_base.specs.Entries as entries
 use Rattle.rrd_base.specs.Entries.{undone, entry as entry_for}
-use Rattle.rrd_base.specs.Store.{befores, functions, saved_functions}
+use Rattle.rrd_base.specs.Store.{befores, functions}
 use Rattle.rrd_base.specs.Stored.{before, update_of, entry_of, HasFunctions, CanUndo, journal_of}
 use Rattle.rrd_base.specs.Tuned.{held_of}
 use Rattle.rrd_base.specs.Updating.{last_time}
 use Rattle.rrd_base.specs.Validity.{IsValid, Fits, IsValidDatabase}
 use Rattle.rrd_base.specs.Verdict.{verdict}
-use Rattle.rrd_base.proofs.Accepted.{accepted_passes}
 use Rattle.rrd_base.proofs.DatabaseLemmas.{moved_last, functions_moved, functions_put_back, functions_resized, functions_tuned, has_functions, All-take, All-drop, All-at, can_put_back_each}
 use Rattle.rrd_base.proofs.Fitting.{database_stays, revert_valid}
 use Rattle.rrd_base.proofs.JournalLemmas.{journal_push, journal_pop}
@@ -27,14 +26,14 @@ use Rattle.rrd_base.proofs.Kept.{All-append}
 -- ---- the newest entry is taken
 
 can_undo : (now : Content) (e : Entry) → IsValid now → HasFunctions now.archives e → Fits now (entry_of e) → CanUndo now.archives e
-can_undo now (entry.Update b) is has fits = (has, can_put_back_each now.step (length now.sources) (now.last / now.step) b.last now.last now.archives (befores b.stores.items) is.archives_are fits.archives_fit)
+can_undo now (entry.Update b) is has fits = (has, can_put_back_each now.step (length now.sources) (now.last / now.step) b.last now.last now.archives (befores b.archives.items) is.archives_are fits.archives_fit)
 can_undo now (entry.Tune held) is has fits = tt
 can_undo now (entry.Resize number old) is has fits = fits.there
 
 functions_undone : (now : Content) (e : Entry) → functions (undone now (entry_of e)).archives ≡ functions now.archives
 functions_undone now (entry.Tune held) = functions_tuned now (map held_of held.items)
 functions_undone now (entry.Resize number old) = functions_resized now.archives number old
-functions_undone now (entry.Update b) = functions_put_back now.archives (befores b.stores.items)
+functions_undone now (entry.Update b) = functions_put_back now.archives (befores b.archives.items)
 
 last_one : {A : Type 0} (xs : List A) (x : A) → Some x ≡ slice_get xs (length xs - 1) → get_or xs (length xs - 1) x ≡ x
 last_one xs x h =
@@ -85,5 +84,5 @@ added now items command e is has accepted this functions =
     }
 
 -- what an update saved is its entry
-pub update_entry : (now : Content) (update : Update) (b : Before) → 0 < length update.samples → update_of b ≡ before now (last_time update.samples) → entry_of (entry.Update b) ≡ entry_for now (Updating update)
+pub update_entry : (now : Content) (update : Update) (b : BeforeUpdate) → 0 < length update.samples → update_of b ≡ before now (last_time update.samples) → entry_of (entry.Update b) ≡ entry_for now (Updating update)
 update_entry now update b some e = ap entries.Updated (e ∙ ap (before now) (sym (moved_last now update some)))

@@ -27,6 +27,7 @@ pub mod JournalLemmas
 pub mod DatabaseLemmas
 pub mod KeptLemmas
 pub mod CellLemmas
+pub mod CountLemmas
 pub mod ShownLemmas
 pub mod TuneLemmas
 pub mod ResizeLemmas

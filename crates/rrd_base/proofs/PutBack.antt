@@ -6,7 +6,7 @@ use Rattle.rrd_ring.specs.Rows.{width}
 use Rattle.rrd_base.specs.History.{Archive}
 use Rattle.rrd_base.specs.Entries.{Dropped, put_back, put_back_each}
 use Rattle.rrd_base.specs.Validity.{IsValidArchive, FitsArchive, FitEach}
-use Rattle.rrd_base.specs.Store.{SavedArchive, CanPutBack, CanPutBackEach, befores, functions, saved_functions, IsStepped}
+use Rattle.rrd_base.specs.Store.{Saved, CanPutBack, CanPutBackEach, befores, functions, saved_functions, IsStepped}
 use Rattle.rrd_base.proofs.StoreLemmas.{width_is}
 
 -- the last one of a front, and what is before it
@@ -38,26 +38,26 @@ put_back_next (suc k) (archive ∷ archives) [] d h = put_back_next k archives [
 put_back_next (suc k) (archive ∷ archives) (old ∷ olds) d h = put_back_next k archives olds d (omega arith)
 
 -- one archive more
-pub put_back_more : (k : ℕ) (archives : List Archive) (saved : List SavedArchive) (d new : Archive) (s : SavedArchive) → k < length archives → k < length saved → new ≡ put_back (get_or archives k d) (get_or saved k s).before → set (take (suc k) archives ++ put_back_each (drop (suc k) archives) (drop (suc k) (befores saved))) k new ≡ take k archives ++ put_back_each (drop k archives) (drop k (befores saved))
+pub put_back_more : (k : ℕ) (archives : List Archive) (saved : List Saved) (d new : Archive) (s : Saved) → k < length archives → k < length saved → new ≡ put_back (get_or archives k d) (get_or saved k s).before → set (take (suc k) archives ++ put_back_each (drop (suc k) archives) (drop (suc k) (befores saved))) k new ≡ take k archives ++ put_back_each (drop k archives) (drop k (befores saved))
 put_back_more k [] saved d new s h m e = absurd (omega arith)
 put_back_more k (archive ∷ archives) [] d new s h m e = absurd (omega arith)
 put_back_more zero (archive ∷ archives) (old ∷ saved) d new s h m e = ap (λ first. first ∷ put_back_each archives (befores saved)) e
 put_back_more (suc k) (archive ∷ archives) (old ∷ saved) d new s h m e = ap (λ rest. archive ∷ rest) (put_back_more k archives saved d new s (omega arith) (omega arith) e)
 
 -- what is asked, at a place
-pub as_many : (archives : List Archive) (saved : List SavedArchive) → CanPutBackEach archives (befores saved) → length saved ≡ length archives
+pub as_many : (archives : List Archive) (saved : List Saved) → CanPutBackEach archives (befores saved) → length saved ≡ length archives
 as_many [] [] can = refl
 as_many [] (old ∷ saved) can = absurd can
 as_many (archive ∷ archives) [] can = absurd can
 as_many (archive ∷ archives) (old ∷ saved) can = ap suc (as_many archives saved can.1)
 
-pub can_at : (k : ℕ) (archives : List Archive) (saved : List SavedArchive) (d : Archive) (s : SavedArchive) → CanPutBackEach archives (befores saved) → k < length archives → CanPutBack (get_or archives k d) (get_or saved k s).before
+pub can_at : (k : ℕ) (archives : List Archive) (saved : List Saved) (d : Archive) (s : Saved) → CanPutBackEach archives (befores saved) → k < length archives → CanPutBack (get_or archives k d) (get_or saved k s).before
 can_at k [] saved d s can h = absurd (omega arith)
 can_at k (archive ∷ archives) [] d s can h = absurd can
 can_at zero (archive ∷ archives) (old ∷ saved) d s can h = can.0
 can_at (suc k) (archive ∷ archives) (old ∷ saved) d s can h = can_at k archives saved d s can.1 (omega arith)
 
-pub function_at : (k : ℕ) (archives : List Archive) (saved : List SavedArchive) (d : Archive) (s : SavedArchive) → saved_functions saved ≡ functions archives → k < length archives → (get_or saved k s).function ≡ (get_or archives k d).def.function
+pub function_at : (k : ℕ) (archives : List Archive) (saved : List Saved) (d : Archive) (s : Saved) → saved_functions saved ≡ functions archives → k < length archives → (get_or saved k s).function ≡ (get_or archives k d).def.function
 function_at k [] saved d s e h = absurd (omega arith)
 function_at k (archive ∷ archives) [] d s e h = absurd cc
 function_at zero (archive ∷ archives) (old ∷ saved) d s e h = cc

@@ -1,17 +1,14 @@
 -- An archive with another number of rows.
-use Rattle.std.proofs.Common.{◌≡◌, refl, sym, ◌∙◌, ap, subst, ℕ, zero, suc, ◌+◌, ◌-◌, ◌*◌, ◌/◌, ◌<◌, ◌≤◌, min, cond, eqb, true, false, List, [], ◌∷◌, ◌++◌, length, take, drop, map, replicate, set, get_or, sum, arith, append-nil, eq-eqb, length-append, None}
+use Rattle.std.proofs.Common.{◌≡◌, refl, sym, ◌∙◌, ap, ℕ, zero, suc, ◌+◌, ◌-◌, ◌*◌, ◌/◌, ◌<◌, ◌≤◌, min, cond, eqb, List, [], ◌∷◌, ◌++◌, length, take, drop, map, replicate, set, get_or, sum, arith, append-nil, eq-eqb, length-append, None}
 use Rattle.std.proofs.lemmas.Bool.{leb-false, ne_eqb}
-use Rattle.std.proofs.lemmas.List.{length-drop, length-map, length-replicate, take_more}
+use Rattle.std.proofs.lemmas.List.{length-drop, length-map, length-replicate}
 use Rattle.std.specs.List.{fold, enumerate_from, AllByRecursion}
 use Rattle.rrd_fixed.specs.declared.cell.Cell.{Cell}
-use Rattle.rrd_fixed.specs.declared.cell.Cell.TheVariants as Cell
 use Rattle.rrd_ring.specs.Rows.{newest_rows, width}
-use Rattle.rrd_fold.specs.Parts.{Part}
-use Rattle.rrd_base.specs.declared.definition.DsDef.{DsDef}
-use Rattle.rrd_base.specs.History.{Archive, Content, Event, Resized, moment_of, moment_at_end, rows_after, rows_of, row_parts_of, room, keep_last, filled_up, kept_rows, archive_of, content, IsArchive}
+use Rattle.rrd_base.specs.History.{Archive, Content, Resized, moment_of, rows_after, rows_of, row_parts_of, room, keep_last, filled_up, kept_rows, archive_of, content, IsArchive}
 use Rattle.rrd_base.specs.declared.resize.Change.{Change}
 use Rattle.rrd_base.specs.declared.resize.Change.TheVariants.{Grow, Shrink}
-use Rattle.rrd_base.specs.Commands.{Resizing, all_rows_after, moved, rows_changed, rows_of_archives}
+use Rattle.rrd_base.specs.Commands.{Resizing, moved, rows_changed, rows_of_archives}
 use Rattle.rrd_base.specs.Entries.{rows_at}
 use Rattle.rrd_base.specs.Resized.{HasFewRows}
 use Rattle.rrd_base.specs.Validity.{IsValid, IsValidArchive}

@@ -1,14 +1,14 @@
 -- An update, sample by sample.
-use Rattle.std.proofs.Common.{◌≡◌, refl, sym, ◌∙◌, ap, subst, ℕ, zero, suc, ◌+◌, ◌<◌, ◌≤◌, List, [], ◌∷◌, ◌++◌, length, map, drop, get_or, arith, None}
+use Rattle.std.proofs.Common.{◌≡◌, sym, ◌∙◌, ap, subst, ℕ, suc, ◌+◌, ◌<◌, List, [], ◌∷◌, length, map, drop, get_or, arith}
 use Rattle.std.proofs.Math.Seq.{drop-cons}
 use Rattle.std.proofs.lemmas.Bool.Decides.{nat_tests}
-use Rattle.std.specs.List.{fold, AllByRecursion}
+use Rattle.std.specs.List.{AllByRecursion}
 use Rattle.rrd_fixed.specs.declared.raw.Raw.{Raw}
 use Rattle.rrd_fixed.specs.declared.name.Name.{Name}
 use Rattle.rrd_base.specs.declared.definition.DsDef.{DsDef}
 use Rattle.rrd_base.specs.declared.update.Sample.{Sample}
 use Rattle.rrd_base.specs.declared.update.Given.{Given}
-use Rattle.rrd_base.specs.History.{Content, Moment, Reading, Event, Sampled, moment_of, moment_at_end, moment_after, content, IsHistory}
+use Rattle.rrd_base.specs.History.{Content, Moment, Sampled, moment_of, moment_at_end, content}
 use Rattle.rrd_base.specs.Commands.{raw_of, value_for, sample_of}
 use Rattle.rrd_base.specs.Verdict.{sample_checks}
 use Rattle.rrd_base.specs.Validity.{IsValid, AreAccepted}

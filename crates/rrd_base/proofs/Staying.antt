@@ -27,7 +27,6 @@ use Rattle.rrd_base.specs.Validity.{IsSource, AreAccepted, AreParts, IsRow, IsVa
 use Rattle.rrd_base.proofs.Rates.{seconds_rows}
 use Rattle.rrd_base.proofs.Held.{LeavesGoodRows, parts_valid, archives_valid}
 use Rattle.rrd_base.proofs.Named.{names_differ, names_tuned}
-use Rattle.rrd_base.specs.declared.update.Given.TheVariants as Given
 use Rattle.rrd_fixed.specs.Rounding.{floor_of}
 use Rattle.rrd_base.specs.declared.update.Given.{Given}
 use Rattle.rrd_base.specs.declared.update.Sample.{Sample}

@@ -1,10 +1,9 @@
 -- An update's values, name by name.
-use Rattle.std.proofs.Common.{◌≡◌, refl, sym, ◌∙◌, ap, ℕ, zero, suc, ◌+◌, ◌<◌, ◌≤◌, min, true, false, cond, List, [], ◌∷◌, length, drop, map, get_or, arith}
+use Rattle.std.proofs.Common.{◌≡◌, refl, ap, ℕ, zero, suc, ◌<◌, ◌≤◌, min, cond, List, [], ◌∷◌, length, drop, get_or, arith}
 use Rattle.rrd_fixed.specs.declared.name.Name.{Name}
 use Rattle.rrd_fixed.specs.Names.{same_name}
 use Rattle.rrd_base.specs.declared.definition.DsDef.{DsDef}
 use Rattle.rrd_base.specs.declared.update.Given.{Given}
-use Rattle.rrd_base.specs.declared.update.Given.TheVariants as Given
 use Rattle.rrd_base.specs.Commands.{names, value_for}
 
 -- the value at the first place that is left, or one further on

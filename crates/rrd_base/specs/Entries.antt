@@ -72,6 +72,20 @@ entry base (Updating update) = Updated (record {
 entry base (Tuning_by tuning) = WasTuned (held tuning 0 base.sources base.raws)
 entry base (Resizing archive change rows) = WasResized archive (rows_at base.archives archive)
 
+-- how many cells there are in rows, in what an update dropped, and in an entry
+abbrev pub cells_in : List (List Cell) → ℕ
+cells_in [] = 0
+cells_in (row ∷ rows) = length row + cells_in rows
+
+abbrev pub cells_dropped : List Dropped → ℕ
+cells_dropped [] = 0
+cells_dropped (old ∷ olds) = cells_in old.rows + cells_dropped olds
+
+abbrev pub cells_held : Entry → ℕ
+cells_held (Updated old) = cells_dropped old.archives
+cells_held (WasTuned olds) = 0
+cells_held (WasResized archive rows) = cells_in rows
+
 -- ---- undoing
 
 -- the old rows come back as the oldest; as many of the newest go

@@ -1,5 +1,5 @@
 -- An archive's number of rows, and those of all.
-use Rattle.std.specs.Prelude.{ℕ, ◌≤◌, List}
+use Rattle.std.specs.Prelude.{◌≤◌, List}
 use Rattle.rrd_base.specs.declared.definition.DsDef.{DsDef}
 use Rattle.rrd_base.specs.History.{Archive}
 use Rattle.rrd_base.specs.Commands.{Settings, rows_of_archives}

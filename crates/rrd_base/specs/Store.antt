@@ -6,16 +6,16 @@ use Rattle.rrd_base.specs.History.{Archive}
 use Rattle.rrd_base.specs.Entries.{Dropped}
 
 -- an archive's function, and its preparations and its oldest rows as they were
-pub record SavedArchive : Type 0 where
+pub record Saved : Type 0 where
   pub function : Function
   pub before : Dropped
 
 -- what came before, and the functions
-abbrev pub befores : List SavedArchive → List Dropped
-befores saved = map (λ (old : SavedArchive). old.before) saved
+abbrev pub befores : List Saved → List Dropped
+befores saved = map (λ (old : Saved). old.before) saved
 
-abbrev pub saved_functions : List SavedArchive → List Function
-saved_functions saved = map (λ (old : SavedArchive). old.function) saved
+abbrev pub saved_functions : List Saved → List Function
+saved_functions saved = map (λ (old : Saved). old.function) saved
 
 abbrev pub functions : List Archive → List Function
 functions archives = map (λ (archive : Archive). archive.def.function) archives

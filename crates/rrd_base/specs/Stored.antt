@@ -5,7 +5,7 @@ use Rattle.rrd_base.specs.Entries as entries
 use Rattle.rrd_base.specs.Store.{CanPutBackEach, befores, functions, saved_functions}
 use Rattle.rrd_base.specs.declared.entry.Entry.{Entry}
 use Rattle.rrd_base.specs.declared.entry.Entry.TheVariants as entry
-use Rattle.rrd_base.specs.declared.entry.Before.{Before}
+use Rattle.rrd_base.specs.declared.entry.BeforeUpdate.{BeforeUpdate}
 use Rattle.rrd_base.specs.Tuned.{held_of}
 
 -- what an update that ends at a time leaves in the journal
@@ -13,8 +13,8 @@ abbrev pub before : Content → ℕ → entries.BeforeUpdate
 before now end = record { last = now.last; raws = now.raws; parts = now.parts; archives = map (entries.dropped now.step now.last end) now.archives }
 
 -- the entry of an update
-abbrev pub update_of : Before → entries.BeforeUpdate
-update_of b = record { last = b.last; raws = b.raws.items; parts = b.preps.items; archives = befores b.stores.items }
+abbrev pub update_of : BeforeUpdate → entries.BeforeUpdate
+update_of b = record { last = b.last; raws = b.raws.items; parts = b.preps.items; archives = befores b.archives.items }
 
 abbrev pub entry_of : Entry → entries.Entry
 entry_of (entry.Update b) = entries.Updated (update_of b)
@@ -23,13 +23,13 @@ entry_of (entry.Resize number old) = entries.WasResized number old
 
 -- the entry's preparations are those of the archives' functions
 abbrev pub HasFunctions : List Archive → Entry → Type 0
-HasFunctions archives (entry.Update b) = saved_functions b.stores.items ≡ functions archives
+HasFunctions archives (entry.Update b) = saved_functions b.archives.items ≡ functions archives
 HasFunctions archives (entry.Tune held) = Unit {0}
 HasFunctions archives (entry.Resize number old) = Unit {0}
 
 -- the entry can be put back
 abbrev pub CanUndo : List Archive → Entry → Type 0
-CanUndo archives (entry.Update b) = (saved_functions b.stores.items ≡ functions archives) × CanPutBackEach archives (befores b.stores.items)
+CanUndo archives (entry.Update b) = (saved_functions b.archives.items ≡ functions archives) × CanPutBackEach archives (befores b.archives.items)
 CanUndo archives (entry.Tune held) = Unit {0}
 CanUndo archives (entry.Resize number old) = number < length archives
 

@@ -3,11 +3,11 @@ use Rattle.std.specs.Prelude.{List, slice_set}
 use Rattle.std.specs.List.{fold}
 use Rattle.rrd_fixed.specs.declared.raw.Raw.{Raw}
 use Rattle.rrd_base.specs.declared.definition.DsDef.{DsDef}
-use Rattle.rrd_base.specs.declared.entry.Held.{Held}
+use Rattle.rrd_base.specs.declared.entry.SourceBefore.{SourceBefore}
 use Rattle.rrd_base.specs.Entries as entries
 
 -- a source as an entry holds it
-abbrev pub held_of : Held → entries.Held
+abbrev pub held_of : SourceBefore → entries.Held
 held_of h = record { number = h.number; source = h.source; raw = h.raw }
 
 -- the settings and the raw values with those of the entry

@@ -10,7 +10,6 @@ use Rattle.rrd_base.specs.declared.definition.DsDef.{DsDef}
 use Rattle.rrd_base.specs.declared.refusal.Refusal.{Refusal}
 use Rattle.rrd_base.specs.declared.refusal.Refusal.TheVariants.{BadName, DoubleName, BadHeartbeat, BadBounds, BadRows, TooLarge, NoSuchSource, WrongCount, BadValue, NotLater, NoSample, NothingToTune, NoSuchArchive, ShrinkTooFar, BadTime}
 use Rattle.rrd_base.specs.declared.update.Given.{Given}
-use Rattle.rrd_base.specs.declared.update.Given.TheVariants as Given
 use Rattle.rrd_base.specs.declared.update.Sample.{Sample}
 use Rattle.rrd_base.specs.declared.update.Update.{Update}
 use Rattle.rrd_base.specs.declared.tune.Tuning.{Tuning}

@@ -1,5 +1,5 @@
 -- Worked examples of commands.
-use Rattle.std.specs.Prelude.{◌≡◌, ℕ, ◌*◌, ◌^◌, pos, false, Some, None, List, [], ◌∷◌, map, replicate}
+use Rattle.std.specs.Prelude.{◌≡◌, ℕ, ◌*◌, ◌^◌, pos, false, Some, None, List, [], ◌∷◌, map}
 use Rattle.std.specs.List.{fold}
 use Rattle.rrd_fixed.specs.declared.raw.Raw.{Raw}
 use Rattle.rrd_fixed.specs.declared.kind.Kind.TheVariants.{Gauge}
@@ -9,7 +9,6 @@ use Rattle.rrd_base.specs.declared.definition.DsDef.{DsDef}
 use Rattle.rrd_base.specs.History.{Content}
 use Rattle.rrd_base.specs.Worked.{created, gauge, counter, archive, rows, known, nan}
 use Rattle.rrd_base.specs.declared.update.Given.{Given}
-use Rattle.rrd_base.specs.declared.update.Given.TheVariants as Given
 use Rattle.rrd_base.specs.declared.update.Sample.{Sample}
 use Rattle.rrd_base.specs.declared.tune.Tuning.{Tuning}
 use Rattle.rrd_base.specs.declared.resize.Change.TheVariants.{Grow, Shrink}

@@ -20,7 +20,7 @@ ghost use Rattle.rrd_base.specs.Validity.{AreAccepted, IsRow, IsValid};
 
 use crate::choose::{Chosen, Request, Search};
 use crate::definition::DsDef;
-use crate::entry::{Before, Entry, Held};
+use crate::entry::{BeforeUpdate, Entry, SourceBefore};
 use crate::preparing::{add_all, close_all, rates_into};
 use crate::room::Room;
 use crate::store::{Store, new_all, put_back_all, save_all, take_all};
@@ -222,38 +222,38 @@ impl Contents {
     }
 
     /// What the journal keeps of an update that ends at a time.
-    pub(crate) fn before(&self, alloc: Global, end: u64) -> Result<Before, AllocError>
-        ensures { IfOk result (λ b. (update_of b ≡ before self.now end) × (saved_functions b.stores.items ≡ functions self.now.archives)) }
+    pub(crate) fn before(&self, alloc: Global, end: u64) -> Result<BeforeUpdate, AllocError>
+        ensures { IfOk result (λ b. (update_of b ≡ before self.now end) × (saved_functions b.archives.items ≡ functions self.now.archives)) }
     {
-        Ok(Before {
+        Ok(BeforeUpdate {
             last: self.last,
             raws: Vec::from_slice(alloc, &self.raws)?,
             preps: Vec::from_slice(alloc, &self.preps)?,
-            stores: save_all(alloc, &self.stores, self.step, self.last, end)?,
+            archives: save_all(alloc, &self.stores, self.step, self.last, end)?,
         })
     }
 
     /// Puts back what was before an update. It takes no memory.
-    fn undo_update(&mut self, before: Before)
-        requires functions { saved_functions before.stores.items ≡ functions self.old.archives }
-        requires fits { CanPutBackEach self.old.archives (befores before.stores.items) }
+    fn undo_update(&mut self, before: BeforeUpdate)
+        requires functions { saved_functions before.archives.items ≡ functions self.old.archives }
+        requires fits { CanPutBackEach self.old.archives (befores before.archives.items) }
         requires valid { IsValid (undone self.old (Updated (update_of before))) }
         ensures { self.new ≡ undone self.old (Updated (update_of before)) }
     {
-        let Before {
+        let BeforeUpdate {
             last,
             raws,
             preps,
-            stores,
+            archives,
         } = before;
         self.last = last;
         self.raws = raws;
         self.preps = preps;
-        put_back_all(&mut self.stores, stores);
+        put_back_all(&mut self.stores, archives);
     }
 
     // Puts back the sources that a tune named.
-    fn undo_tune(&mut self, held: &ArrayVec<Held, 5>)
+    fn undo_tune(&mut self, held: &ArrayVec<SourceBefore, 5>)
         requires { IsValid (undone self.old (WasTuned (map held_of held.now.items))) }
         ensures { self.new ≡ undone self.old (WasTuned (map held_of held.now.items)) }
     {
@@ -278,7 +278,7 @@ impl Contents {
     }
 
     /// The sources that an accepted tune names, as they are.
-    pub(crate) fn hold(&self, tuning: &Tuning) -> ArrayVec<Held, 5>
+    pub(crate) fn hold(&self, tuning: &Tuning) -> ArrayVec<SourceBefore, 5>
         requires { verdict self.now (Tuning_by tuning.now) ≡ None }
         ensures { WasTuned (map held_of result.items) ≡ entry_for self.now (Tuning_by tuning.now) }
     {
@@ -321,7 +321,7 @@ impl Contents {
         match entry {
             Entry::Update(before) => self.undo_update(before),
             Entry::Tune(held) => self.undo_tune(&held),
-            Entry::Resize(archive, old) => self.undo_resize(archive as usize, old),
+            Entry::Resize { archive, old } => self.undo_resize(archive as usize, old),
         }
     }
 }

@@ -6,7 +6,9 @@ ghost use Rattle.rrd_fixed.specs.declared.raw.Raw.TheVariants.{Unknown};
 ghost use Rattle.rrd_base.specs.Choice.{choice};
 ghost use Rattle.rrd_base.specs.Commands.{Resizing, Tuning_by, Updating};
 ghost use Rattle.rrd_base.specs.Creating.{create_verdict, created};
+ghost use Rattle.rrd_base.specs.Entries.{cells_held, entry as entry_for};
 ghost use Rattle.rrd_base.specs.Shown.{cell_at, definitions, prep_at};
+ghost use Rattle.rrd_base.specs.Stored.{entry_of};
 ghost use Rattle.rrd_fold.specs.Parts.{nothing};
 ghost use Rattle.rrd_base.specs.Survivors.{changed, reverted};
 ghost use Rattle.rrd_base.specs.Updating.{end_of};
@@ -16,7 +18,7 @@ ghost use Rattle.rrd_base.specs.Verdict.{verdict};
 use crate::choose::Request;
 use crate::contents::Contents;
 use crate::create::check;
-use crate::entry::Entry;
+use crate::entry::{Entry, count_cells};
 use crate::resize::{Change, check_resize, rows_changed};
 use crate::room::Room;
 use crate::tune::check_tune;
@@ -74,6 +76,7 @@ impl Database {
     pub fn update(&mut self, alloc: Global, update: &Update) -> Result<Receipt, Refusal>
         ensures verdict { IsAnswer (verdict self.old.now (Updating update.now)) result }
         ensures ok { IfOk result (λ _. self.new ≡ changed self.old (Updating update.now)) }
+        ensures cells { IfOk result (λ receipt. receipt.cells ≡ cells_held (entry_for self.old.now (Updating update.now))) }
         ensures err { OnErr result (self.new ≡ self.old) }
     {
         let contents = &self.contents;
@@ -86,12 +89,13 @@ impl Database {
         let Ok(mut room) = Room::new(alloc, contents.sources.len()) else {
             return Err(Refusal::OutOfMemory);
         };
+        let cells = count_cells(&before.archives, contents.sources.len() as u64);
         let mut meter = Meter::new();
         self.contents.take_samples(update, &mut room, &mut meter);
         let _oldest = self.journal.push_back(Entry::Update(before));
         Ok(Receipt {
             turns: meter.turns(),
-            cells: 0,
+            cells,
         })
     }
 
@@ -144,7 +148,7 @@ impl Database {
             return Err(Refusal::OutOfMemory);
         };
         let old = self.contents.resize(place, new);
-        let _oldest = self.journal.push_back(Entry::Resize(archive, old));
+        let _oldest = self.journal.push_back(Entry::Resize { archive, old });
         Ok(())
     }
 
@@ -188,6 +192,14 @@ impl Database {
         ensures { result ≡ length self.now.journal }
     {
         self.journal.len() as u64
+    }
+
+    /// A journal entry: 0 is the newest.
+    pub fn entry(&self, number: u64) -> &Entry
+        requires { number < length self.now.journal }
+        ensures { Some (entry_of result.now) ≡ slice_get self.now.journal number }
+    {
+        self.journal.nth_back(number as usize).unwrap()
     }
 
     /// How many data sources there are. That the database is valid can be told here.

@@ -17,6 +17,8 @@ pub mod slow;
 mod store;
 #[cfg(test)]
 mod tests;
+#[cfg(test)]
+mod tests_changes;
 mod tune;
 mod update;
 
@@ -24,8 +26,10 @@ pub use choose::Chosen;
 pub use create::CreateSpec;
 pub use database::Database;
 pub use definition::{DsDef, RraDef};
+pub use entry::{BeforeUpdate, Entry, SourceBefore};
 pub use list::List;
 pub use refusal::Refusal;
 pub use resize::Change;
+pub use store::SavedArchive;
 pub use tune::Tuning;
 pub use update::{Given, Receipt, Sample, Update};

@@ -7,6 +7,7 @@ ghost use Rattle.rrd_fold.specs.Parts.{nothing};
 ghost use Rattle.rrd_ring.specs.Rows.{newest_rows, row_at};
 ghost use Rattle.rrd_base.specs.Entries.{dropped, put_back as after_put_back, put_back_each};
 ghost use Rattle.rrd_base.specs.Creating.{new_archive};
+ghost use Rattle.rrd_base.specs.Each.{AllOf, parts_in};
 ghost use Rattle.rrd_base.specs.Passed.{archive_passed, row_of_age};
 ghost use Rattle.rrd_base.specs.Store.{CanPutBack, CanPutBackEach, IsStepped, befores, functions, saved_functions};
 ghost use Rattle.rrd_base.specs.Validity.{IsRow, IsValidArchive};
@@ -39,24 +40,48 @@ impl Model for Store {
     ghost invariant = { λ s. AllOf s.def.function s.preps.items };
 }
 
-/// What is kept of an archive, for the steps that it takes to be undone: its preparations, and the
-/// oldest of its rows.
+/// What is kept of an archive before an update: for each data source the preparation of its
+/// unfinished row, and the oldest rows, as many as the update finishes or all.
 #[derive(Drop)]
-pub(crate) struct Saved {
+pub struct SavedArchive {
     function: Function,
     preps: Vec<RowPrep>,
     rows: Dropped,
 }
 
-impl Model for Saved {
+impl Model for SavedArchive {
     ghost use Rattle.rrd_base.specs.Each.{AllOf, parts_in};
-    ghost use Rattle.rrd_base.specs.Store.{SavedArchive};
+    ghost use Rattle.rrd_base.specs.Store.{Saved};
 
-    ghost Value = { SavedArchive };
+    ghost Value = { Saved };
 
     ghost view = { λ s. record { function = s.function; before = record { parts = parts_in s.preps.items; rows = s.rows } } };
 
     ghost invariant = { λ s. AllOf s.function s.preps.items };
+}
+
+impl SavedArchive {
+    /// The archive's consolidation function.
+    pub fn function(&self) -> Function
+        ensures { result ≡ self.now.function }
+    {
+        self.function
+    }
+
+    /// For each data source the preparation of its unfinished row.
+    pub fn preps(&self) -> &[RowPrep]
+        ensures parts { parts_in result.now ≡ self.now.before.parts }
+        ensures function { AllOf self.now.function result.now }
+    {
+        self.preps.as_slice()
+    }
+
+    /// The rows, oldest first.
+    pub fn rows(&self) -> &Dropped
+        ensures { result.now ≡ self.now.before.rows }
+    {
+        &self.rows
+    }
 }
 
 // A share in millionths, as an unsigned number.
@@ -146,13 +171,13 @@ impl Store {
     }
 
     /// A copy of the preparations and of the `n` oldest rows.
-    pub(crate) fn save(&self, alloc: Global, n: u64) -> Result<Saved, AllocError>
+    pub(crate) fn save(&self, alloc: Global, n: u64) -> Result<SavedArchive, AllocError>
         requires { n ≤ length self.now.rows }
         ensures { IfOk result (λ saved. saved ≡ record { function = self.now.def.function; before = record { parts = self.now.parts; rows = first n self.now.rows } }) }
     {
         let preps = Vec::from_slice(alloc, &self.preps)?;
         let rows = self.rows.oldest(alloc, n)?;
-        Ok(Saved {
+        Ok(SavedArchive {
             function: self.def.function,
             preps,
             rows,
@@ -167,7 +192,7 @@ impl Store {
         step: u64,
         from: u64,
         to: u64,
-    ) -> Result<Saved, AllocError>
+    ) -> Result<SavedArchive, AllocError>
         requires stepped { IsStepped self.now }
         requires some_step { 0 < step }
         requires small_step { step ≤ 1000000 }
@@ -179,12 +204,12 @@ impl Store {
     }
 
     /// Puts preparations and rows back. As many of the newest rows fall out. It takes no memory.
-    pub(crate) fn put_back(&mut self, saved: Saved)
+    pub(crate) fn put_back(&mut self, saved: SavedArchive)
         requires function { saved.function ≡ self.old.def.function }
         requires fits { CanPutBack self.old saved.before }
         ensures { self.new ≡ after_put_back self.old saved.before }
     {
-        let Saved { preps, rows, .. } = saved;
+        let SavedArchive { preps, rows, .. } = saved;
         self.preps = preps;
         self.rows.put_back(rows);
     }
@@ -242,7 +267,7 @@ pub(crate) fn save_all(
     step: u64,
     from: u64,
     to: u64,
-) -> Result<Vec<Saved>, AllocError>
+) -> Result<Vec<SavedArchive>, AllocError>
     requires stepped { AllByRecursion IsStepped stores.now }
     requires some_step { 0 < step }
     requires small_step { step ≤ 1000000 }
@@ -258,7 +283,7 @@ pub(crate) fn save_all(
 }
 
 /// Puts back what was kept of each archive. It takes no memory.
-pub(crate) fn put_back_all(stores: &mut [Store], mut saved: Vec<Saved>)
+pub(crate) fn put_back_all(stores: &mut [Store], mut saved: Vec<SavedArchive>)
     requires functions { saved_functions saved.items ≡ functions stores.old }
     requires fits { CanPutBackEach stores.old (befores saved.items) }
     ensures { stores.new ≡ put_back_each stores.old (befores saved.items) }

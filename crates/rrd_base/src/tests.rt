@@ -9,7 +9,7 @@ use std::test::Fail;
 
 const UNKNOWN: Given = Given::Unknown;
 
-const NONE: Cell = Cell::Unknown;
+pub(crate) const NONE: Cell = Cell::Unknown;
 
 // ---- what the tests are made of
 
@@ -21,15 +21,15 @@ fn millionths(millionths: i128) -> Given {
     })
 }
 
-fn units(number: u32) -> Given {
+pub(crate) fn units(number: u32) -> Given {
     millionths(i128::from(number) * 1_000_000)
 }
 
-fn name_of(bytes: &[u8]) -> Result<Name, &'static str> {
+pub(crate) fn name_of(bytes: &[u8]) -> Result<Name, &'static str> {
     Name::fit(bytes).ok_or("no name")
 }
 
-fn source(name: &[u8], kind: Kind, heartbeat: u64) -> Result<DsDef, &'static str> {
+pub(crate) fn source(name: &[u8], kind: Kind, heartbeat: u64) -> Result<DsDef, &'static str> {
     Ok(DsDef {
         name: name_of(name)?,
         kind,
@@ -40,7 +40,7 @@ fn source(name: &[u8], kind: Kind, heartbeat: u64) -> Result<DsDef, &'static str
 }
 
 // An archive half of whose steps may be unknown.
-fn archive(function: Function, steps: u64, rows: u64) -> RraDef {
+pub(crate) fn archive(function: Function, steps: u64, rows: u64) -> RraDef {
     RraDef {
         function,
         xff: 500_000,
@@ -49,7 +49,7 @@ fn archive(function: Function, steps: u64, rows: u64) -> RraDef {
     }
 }
 
-fn spec(
+pub(crate) fn spec(
     alloc: Global,
     step: u64,
     depth: u64,
@@ -70,7 +70,7 @@ fn spec(
 }
 
 // A database of one source, that begins at 0.
-fn of_one(
+pub(crate) fn of_one(
     alloc: Global,
     step: u64,
     depth: u64,
@@ -83,7 +83,7 @@ fn of_one(
 }
 
 // A database of one source, with steps of 10 seconds and an archive of the last four.
-fn of_four_rows(alloc: Global, depth: u64) -> Result<Database, Fail> {
+pub(crate) fn of_four_rows(alloc: Global, depth: u64) -> Result<Database, Fail> {
     let defs = [archive(Function::Last, 1, 4)];
     of_one(alloc, 10, depth, source(b"g", Kind::Gauge, 100)?, &defs)
 }
@@ -97,7 +97,7 @@ fn sample(alloc: Global, time: u64, given: &[Given]) -> Result<Sample, AllocErro
 }
 
 // An update without a template, of samples of one value each.
-fn update_of(alloc: Global, samples: &[(u64, Given)]) -> Result<Update, AllocError> {
+pub(crate) fn update_of(alloc: Global, samples: &[(u64, Given)]) -> Result<Update, AllocError> {
     let mut list = List::new(alloc);
     for (time, given) in samples {
         list.push(sample(alloc, *time, &[*given])?)?;
@@ -108,13 +108,23 @@ fn update_of(alloc: Global, samples: &[(u64, Given)]) -> Result<Update, AllocErr
     })
 }
 
-fn take(alloc: Global, database: &mut Database, samples: &[(u64, Given)]) -> Result<(), Fail> {
+pub(crate) fn take(
+    alloc: Global,
+    database: &mut Database,
+    samples: &[(u64, Given)],
+) -> Result<(), Fail> {
     database.update(alloc, &update_of(alloc, samples)?)?;
     Ok(())
 }
 
 // The cell of an archive's row at a time.
-fn cell(rt: &impl Abort, database: &Database, number: u64, time: i64, source: u64) -> Cell {
+pub(crate) fn cell(
+    rt: &impl Abort,
+    database: &Database,
+    number: u64,
+    time: i64,
+    source: u64,
+) -> Cell {
     assert!(rt; number < database.archives());
     assert!(rt; source < database.sources());
     database.cell(number, time, source)
@@ -122,7 +132,13 @@ fn cell(rt: &impl Abort, database: &Database, number: u64, time: i64, source: u6
 
 // The first archive's rows of the first source from a time on, `apart` seconds each, have these
 // values in millionths. The one before and the one after are unknown.
-fn assert_rows(rt: &impl Abort, database: &Database, first: i64, apart: i64, rows: &[i128]) {
+pub(crate) fn assert_rows(
+    rt: &impl Abort,
+    database: &Database,
+    first: i64,
+    apart: i64,
+    rows: &[i128],
+) {
     let mut time = first.saturating_sub(apart);
     assert_eq!(rt; cell(rt, database, 0, time, 0), NONE, "at {time}");
     for row in rows {
@@ -134,7 +150,7 @@ fn assert_rows(rt: &impl Abort, database: &Database, first: i64, apart: i64, row
     assert_eq!(rt; cell(rt, database, 0, time, 0), NONE, "at {time}");
 }
 
-fn raw(rt: &impl Abort, database: &Database, source: u64) -> Raw {
+pub(crate) fn raw(rt: &impl Abort, database: &Database, source: u64) -> Raw {
     assert!(rt; source < database.sources());
     database.last_raw(source)
 }
@@ -478,7 +494,7 @@ fn archive_choice(rt: HostRuntime) -> Result<(), Fail> {
 // ---- size
 
 // So many sources, s00, s01, and so on.
-fn many_sources(alloc: Global, count: u8) -> Result<List<DsDef>, Fail> {
+pub(crate) fn many_sources(alloc: Global, count: u8) -> Result<List<DsDef>, Fail> {
     let mut sources = List::new(alloc);
     for number in 0..count {
         let name = [

@@ -8,7 +8,7 @@ ghost use Rattle.rrd_base.specs.Tuned.{held_of, with_raws, with_sources};
 ghost use Rattle.rrd_base.specs.Verdict as verdict;
 
 use crate::create::{has_bad_bounds, is_bad_heartbeat};
-use crate::entry::Held;
+use crate::entry::SourceBefore;
 use crate::update::has_source;
 use crate::{DsDef, Refusal};
 use arrayvec::ArrayVec;
@@ -227,7 +227,7 @@ fn is_named(tuning: &Tuning, source: &DsDef) -> bool
 }
 
 /// The sources that a tune names, as they are, by rising number. It takes no memory.
-pub(crate) fn hold(sources: &[DsDef], raws: &[Raw], tuning: &Tuning) -> ArrayVec<Held, 5>
+pub(crate) fn hold(sources: &[DsDef], raws: &[Raw], tuning: &Tuning) -> ArrayVec<SourceBefore, 5>
     requires one_each { length raws.now ≡ length sources.now }
     requires few { length (entries.held tuning.now 0 sources.now raws.now) ≤ 5 }
     ensures { map held_of result.items ≡ entries.held tuning.now 0 sources.now raws.now }
@@ -236,7 +236,7 @@ pub(crate) fn hold(sources: &[DsDef], raws: &[Raw], tuning: &Tuning) -> ArrayVec
     for place in 0..sources.len() {
         let source = &sources[place];
         if is_named(tuning, source) {
-            held.push(Held {
+            held.push(SourceBefore {
                 number: place as u64,
                 source: source.duplicate(),
                 raw: raws[place],
@@ -247,7 +247,7 @@ pub(crate) fn hold(sources: &[DsDef], raws: &[Raw], tuning: &Tuning) -> ArrayVec
 }
 
 /// Puts back the sources as they were.
-pub(crate) fn put_held_back(sources: &mut [DsDef], raws: &mut [Raw], held: &[Held])
+pub(crate) fn put_held_back(sources: &mut [DsDef], raws: &mut [Raw], held: &[SourceBefore])
     ensures sources { sources.new ≡ with_sources sources.old (map held_of held.now) }
     ensures raws { raws.new ≡ with_raws raws.old (map held_of held.now) }
 {

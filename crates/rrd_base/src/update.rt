@@ -41,7 +41,7 @@ pub struct Update {
 pub struct Receipt {
     /// How many turns the preparations and the archives took.
     pub turns: u64,
-    /// How many cells its journal entry holds. They are not counted yet: always 0.
+    /// How many cells its journal entry holds.
     pub cells: u64,
 }
 

@@ -1,4 +1,4 @@
-use Rattle.std.proofs.Common.{◌≡◌, ◌∙◌, sym, ap, ◌-◌, get_or, length, arith}
+use Rattle.std.proofs.Common.{◌∙◌, ap, ◌-◌, get_or, length}
 use Rattle.rrd_base.specs.declared.update.Sample.{Sample}
 use Rattle.rrd_base.proofs.DatabaseLemmas.{last_item}
 use Rattle.rrd_base.proofs.database.end_of.Goals as goal

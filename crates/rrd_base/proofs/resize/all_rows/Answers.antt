@@ -1,11 +1,10 @@
-use Rattle.std.proofs.Common.{◌≡◌, sym, ◌∙◌, ap, sum, take, ◌+◌, arith, length}
-use Rattle.rrd_base.specs.Commands.{rows_of_archives}
+use Rattle.std.proofs.Common.{ap, take, arith}
 use Rattle.rrd_base.specs.History.{Archive}
 use Rattle.rrd_base.specs.declared.definition.RraDef.{RraDef}
 use Rattle.rrd_base.proofs.DatabaseLemmas.{All-take}
 use Rattle.std.proofs.lemmas.List.{length-take}
 use Rattle.rrd_base.specs.Resized.{HasFewRows}
-use Rattle.rrd_base.proofs.ResizeLemmas.{few_sum, few_at, sum_take}
+use Rattle.rrd_base.proofs.ResizeLemmas.{few_sum, few_at}
 use Rattle.rrd_base.proofs.resize.all_rows.Goals as goal
 
 pub overflow_add-rows : goal.overflow_add-rows

@@ -1,7 +1,7 @@
 use Rattle.std.proofs.Common.{◌≡◌, ℕ, sym, ◌∙◌, ap, subst, suc, ◌-◌, ◌+◌, ◌++◌, ◌<◌, take, drop, length, set, get_or, vec_len, arith}
 use Rattle.rrd_base.specs.History.{Archive}
 use Rattle.rrd_base.specs.Entries.{put_back, put_back_each}
-use Rattle.rrd_base.specs.Store.{SavedArchive, CanPutBack, befores}
+use Rattle.rrd_base.specs.Store.{Saved, CanPutBack, befores}
 use Rattle.rrd_base.proofs.PutBack.{front_short, front_of, popped, put_back_next, put_back_more, as_many, can_at, function_at}
 use Rattle.rrd_base.proofs.store.put_back_all.Goals as goal
 
@@ -22,7 +22,7 @@ put_back-requires-clause-function c =
     = ap (λ archives. get_or archives k d) c.loop-old.invariant.value
     ∙ ap (λ n. get_or (take n stores ++ put_back_each (drop n stores) (drop n (befores saved))) k d) {x = left} {y = suc k} (omega (arith, count))
     ∙ put_back_next k stores (befores saved) d within in
-    ap (λ (s : SavedArchive). s.function) this ∙ function_at k stores saved d old c.requires.functions within ∙ sym (ap (λ (a : Archive). a.def.function) here)
+    ap (λ (s : Saved). s.function) this ∙ function_at k stores saved d old c.requires.functions within ∙ sym (ap (λ (a : Archive). a.def.function) here)
 
 pub put_back-requires-clause-fits : goal.put_back-requires-clause-fits
 put_back-requires-clause-fits c =
@@ -42,7 +42,7 @@ put_back-requires-clause-fits c =
     ∙ ap (λ n. get_or (take n stores ++ put_back_each (drop n stores) (drop n (befores saved))) k d) {x = left} {y = suc k} (omega (arith, count))
     ∙ put_back_next k stores (befores saved) d within in
     subst (λ (a : Archive). CanPutBack a old.before) (sym here)
-    (subst (λ (s : SavedArchive). CanPutBack (get_or stores k d) s.before) (sym this) (can_at k stores saved d old c.requires.fits within))
+    (subst (λ (s : Saved). CanPutBack (get_or stores k d) s.before) (sym this) (can_at k stores saved d old c.requires.fits within))
 
 pub loop-old-preserved : goal.loop-old-preserved
 loop-old-preserved c =
@@ -63,7 +63,7 @@ loop-old-preserved c =
     = c.loop-old.invariant.value ∙ ap (λ n. take n stores ++ put_back_each (drop n stores) (drop n (befores saved))) {x = left} {y = suc k} (omega (arith, count)) in
     let here : get_or c.loop-old.stores k d ≡ get_or stores k d = ap (λ archives. get_or archives k d) was ∙ put_back_next k stores (befores saved) d within in
     let back : new ≡ put_back (get_or stores k d) (get_or saved k old).before
-    = c.put_back.ensures ∙ ap (λ a. put_back a old.before) here ∙ ap (λ (s : SavedArchive). put_back (get_or stores k d) s.before) this in
+    = c.put_back.ensures ∙ ap (λ a. put_back a old.before) here ∙ ap (λ (s : Saved). put_back (get_or stores k d) s.before) this in
     let now = c.len.ensures in
     record {
       left = c.in-Some.ensures.rest ∙ ap (take (left - 1)) c.loop-old.invariant.left

@@ -1,5 +1,4 @@
-use Rattle.std.proofs.Common.{◌≡◌, sym, ◌∙◌, ap, suc, ◌+◌, ◌++◌, ◌<◌, map, take, drop, set, get_or, length, arith}
-use Rattle.rrd_fixed.specs.declared.raw.Raw.{Raw}
+use Rattle.std.proofs.Common.{◌≡◌, ◌∙◌, ap, suc, ◌+◌, ◌++◌, ◌<◌, map, take, drop, set, get_or, length, arith}
 use Rattle.rrd_fixed.specs.declared.raw.Raw.TheVariants.{Unknown}
 use Rattle.rrd_base.specs.declared.definition.DsDef.{DsDef}
 use Rattle.rrd_base.specs.Commands as commands

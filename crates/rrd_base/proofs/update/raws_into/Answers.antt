@@ -1,4 +1,4 @@
-use Rattle.std.proofs.Common.{◌≡◌, ◌∙◌, ap, suc, ◌+◌, ◌++◌, map, take, drop, set, get_or, length, ◌<◌, arith}
+use Rattle.std.proofs.Common.{◌∙◌, ap, suc, ◌+◌, ◌++◌, map, take, drop, set, length, ◌<◌, arith}
 use Rattle.rrd_base.specs.declared.definition.DsDef.{DsDef}
 use Rattle.rrd_base.specs.Commands.{raw_of, value_for}
 use Rattle.rrd_base.specs.Updating.{template_of}

@@ -1,11 +1,10 @@
-use Rattle.std.proofs.Common.{rules, ◌≡◌, refl, sym, ◌∙◌, ap, subst, FitsSigned, to_z, of_z, ℕ, ◌*◌, ◌/◌, ◌<◌, ℤ, pos, ◌-ℤ◌, List, length, replicate, get_or, arith}
+use Rattle.std.proofs.Common.{rules, ◌≡◌, sym, ◌∙◌, ap, subst, FitsSigned, ◌*◌, ◌/◌, ◌<◌, pos, ◌-ℤ◌, length, replicate, get_or}
 use Rattle.std.proofs.lemmas.List.{get_or-replicate}
 use Rattle.std.specs.Int.{int_div_euclid, w64, w128}
 use Rattle.std.proofs.lemmas.Int.{to_z-of_z}
-use Rattle.rrd_fixed.specs.declared.cell.Cell.{Cell}
 use Rattle.rrd_fixed.specs.declared.cell.Cell.TheVariants.{Unknown}
 use Rattle.rrd_base.specs.declared.definition.RraDef.{RraDef}
-use Rattle.rrd_base.specs.History.{Archive, Content}
+use Rattle.rrd_base.specs.History.{Content}
 use Rattle.rrd_base.specs.Contents.{content_of}
 use Rattle.rrd_base.specs.Passed.{row_at, row_of_age}
 use Rattle.rrd_base.specs.Shown.{cell_at}

@@ -1,13 +1,13 @@
-use Rattle.std.proofs.Common.{◌≡◌, sym, ◌∙◌, ap, subst, ℕ, ◌+◌, ◌-◌, ◌*◌, ◌/◌, ◌%◌, ◌<◌, ◌≤◌, List, ◌∷◌, [], map, replicate, length, arith}
+use Rattle.std.proofs.Common.{◌≡◌, sym, ◌∙◌, ap, subst, ℕ, ◌+◌, ◌-◌, ◌*◌, ◌/◌, ◌%◌, ◌≤◌, List, ◌∷◌, [], map, replicate, length, arith}
 use Rattle.std.specs.List.{fold, AllByRecursion}
 use Rattle.std.specs.Vec.{with_items}
 use Rattle.std.proofs.lemmas.List.{with_items_is}
 use Rattle.rrd_fixed.specs.declared.cell.Cell.{Cell}
 use Rattle.rrd_fold.specs.declared.function.Function.TheVariants.{Average}
 use Rattle.rrd_fold.specs.Parts.{Part, nothing, with_each, step_cell}
-use Rattle.rrd_base.specs.History.{Content, Archive}
+use Rattle.rrd_base.specs.History.{Content}
 use Rattle.rrd_base.specs.Passed.{passed, archive_passed}
-use Rattle.rrd_base.specs.Validity.{IsRow, IsPart, AreParts, IsValid, IsValidArchive}
+use Rattle.rrd_base.specs.Validity.{IsRow, IsValid, IsValidArchive}
 use Rattle.rrd_base.specs.Contents.{content_of}
 use Rattle.rrd_base.proofs.Passing.{parts_more, few_known, not_full, full, full_div, within_step, leaves, fills, valid_left, valid_filled}
 use Rattle.rrd_base.proofs.contents.Contents.pass.Goals as goal

@@ -1,4 +1,4 @@
-use Rattle.std.proofs.Common.{◌≡◌, sym, ◌∙◌, ap, subst, ◌<◌, length, get_or, arith}
+use Rattle.std.proofs.Common.{sym, ◌∙◌, ap, subst, ◌<◌, length, get_or, arith}
 use Rattle.std.proofs.lemmas.List.{get_or_default}
 use Rattle.rrd_fixed.specs.declared.raw.Raw.TheVariants.{Unknown}
 use Rattle.rrd_base.specs.History.{Content}

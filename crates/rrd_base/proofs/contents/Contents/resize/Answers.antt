@@ -1,5 +1,4 @@
-use Rattle.std.proofs.Common.{◌≡◌, sym, ◌∙◌, ap, subst, ◌<◌, List, [], ◌∷◌, length, set, get_or, arith}
-use Rattle.rrd_fixed.specs.declared.cell.Cell.{Cell}
+use Rattle.std.proofs.Common.{◌≡◌, sym, ◌∙◌, ap, subst, ◌<◌, [], ◌∷◌, length, set, get_or}
 use Rattle.rrd_ring.specs.Rows.{newest_rows}
 use Rattle.rrd_base.specs.History.{Archive, Content, Resized, content}
 use Rattle.rrd_base.specs.Entries.{rows_at}

@@ -1,4 +1,4 @@
-use Rattle.std.proofs.Common.{◌≡◌, sym, ◌∙◌, ap, subst, ◌<◌, length, get_or, arith}
+use Rattle.std.proofs.Common.{sym, ◌∙◌, ap, subst, ◌<◌, length, get_or}
 use Rattle.rrd_fold.specs.Bounds.{Consolidating}
 use Rattle.rrd_fold.specs.Parts.{nothing}
 use Rattle.rrd_base.specs.History.{Archive, Content}

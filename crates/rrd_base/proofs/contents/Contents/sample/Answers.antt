@@ -1,8 +1,8 @@
-use Rattle.std.proofs.Common.{◌≡◌, refl, sym, ◌∙◌, ap, subst, ℕ, ◌+◌, ◌-◌, ◌*◌, ◌<◌, ◌≤◌, [], ◌∷◌, replicate, length, arith}
-use Rattle.std.proofs.lemmas.List.{replicate-append-replicate, length-replicate}
-use Rattle.rrd_base.specs.History.{Content, Reading, IsBase, rates}
+use Rattle.std.proofs.Common.{◌≡◌, refl, sym, ◌∙◌, ap, subst, ◌+◌, ◌-◌, ◌<◌, replicate, length, arith}
+use Rattle.std.proofs.lemmas.List.{replicate-append-replicate}
+use Rattle.rrd_base.specs.History.{Content, Reading, rates}
 use Rattle.rrd_base.specs.Passed.{passed}
-use Rattle.rrd_base.specs.Validity.{IsValid, IsRow, AreAccepted}
+use Rattle.rrd_base.specs.Validity.{IsValid, IsRow}
 use Rattle.rrd_base.specs.Contents.{content_of}
 use Rattle.rrd_base.proofs.PassedLemmas.{passed-nil, passed-append, content_of_sample}
 use Rattle.rrd_base.proofs.Fitting.{length-accepted}

@@ -1,5 +1,5 @@
-use Rattle.std.proofs.Common.{◌≡◌, ℕ, ◌+◌, ◌-◌, ◌*◌, ◌<◌, ◌≤◌, [], ◌∷◌, replicate, length}
-use Rattle.rrd_base.specs.Validity.{IsRow, IsValid, AreAccepted}
+use Rattle.std.proofs.Common.{◌≡◌, ◌+◌, ◌-◌, ◌*◌, ◌≤◌, replicate, length}
+use Rattle.rrd_base.specs.Validity.{IsRow, IsValid}
 use Rattle.rrd_base.specs.Passed.{passed}
 use Rattle.rrd_base.proofs.contents.Contents.sample.Given as goal
 

@@ -1,18 +1,15 @@
-use Rattle.std.proofs.Common.{◌≡◌, refl, sym, ◌∙◌, ap, subst, ℕ, ◌+◌, ◌-◌, ◌*◌, ◌<◌, ◌≤◌, List, [], ◌∷◌, length, map, drop, get_or, arith}
+use Rattle.std.proofs.Common.{◌≡◌, refl, sym, ◌∙◌, ap, subst, ◌+◌, [], ◌∷◌, length, map, drop, get_or, arith}
 use Rattle.std.specs.List.{AllByRecursion}
-use Rattle.std.specs.Vec.{with_items}
 use Rattle.rrd_base.specs.declared.definition.DsDef.{DsDef}
 use Rattle.std.proofs.lemmas.List.{with_items_is, drop_all}
 use Rattle.rrd_base.specs.History.{Content, Reading, Sampled, content}
-use Rattle.rrd_base.specs.Commands.{Updating, moved, sample_of, value_for, raw_of}
+use Rattle.rrd_base.specs.Commands.{Updating, sample_of, value_for, raw_of}
 use Rattle.rrd_base.specs.Updating.{template_of}
-use Rattle.rrd_base.specs.Verdict.{sample_checks, verdict}
-use Rattle.rrd_base.specs.Validity.{IsValid, AreAccepted}
+use Rattle.rrd_base.specs.Verdict.{sample_checks}
 use Rattle.rrd_base.proofs.Accepted.{Passes, accepted_passes}
 use Rattle.rrd_base.proofs.Passing.{base_of_valid}
 use Rattle.rrd_base.proofs.Quiet.{content_nil}
 use Rattle.rrd_base.proofs.SampleSteps.{drop_here, one_taken, later_sample, accepted_raws}
-use Rattle.rrd_base.proofs.Staying.{raws_accepted}
 use Rattle.rrd_base.proofs.contents.Contents.take_samples.Goals as goal
 
 pub loop-sample-init : goal.loop-sample-init

@@ -1,4 +1,4 @@
-use Rattle.std.proofs.Common.{◌≡◌, sym, ◌∙◌, ap, subst, map, length, arith, List, ◌∷◌, [], None}
+use Rattle.std.proofs.Common.{◌≡◌, sym, ◌∙◌, ap, subst, map, length, arith, None}
 use Rattle.std.specs.Vec.{with_items}
 use Rattle.std.proofs.lemmas.List.{with_items_is}
 use Rattle.rrd_base.specs.History.{Content, raws_under}

@@ -1,6 +1,5 @@
-use Rattle.std.proofs.Common.{◌≡◌, ◌∙◌, ap}
+use Rattle.std.proofs.Common.{◌∙◌, ap}
 use Rattle.rrd_base.specs.declared.choose.Request.{Request}
-use Rattle.rrd_base.specs.History.{Archive, Content}
 use Rattle.rrd_base.specs.Choice.{choice, choice_of}
 use Rattle.rrd_base.specs.Shown.{definitions}
 use Rattle.rrd_base.specs.Survivors.{Kept}

@@ -1,4 +1,4 @@
-use Rattle.std.proofs.Common.{◌≡◌, refl, sym, ◌∙◌, ap, subst, ℕ, ◌<◌, inl, inr, List, [], ◌∷◌, length, get_or, Some, None, Option, arith}
+use Rattle.std.proofs.Common.{◌≡◌, refl, sym, ◌∙◌, ap, subst, ℕ, inl, inr, get_or, Option}
 use Rattle.rrd_base.specs.declared.refusal.Refusal.{Refusal}
 use Rattle.rrd_base.specs.declared.resize.Change.{Change}
 use Rattle.rrd_base.specs.declared.definition.RraDef.{RraDef}
@@ -15,7 +15,7 @@ use Rattle.rrd_base.specs.Resized.{settings}
 use Rattle.rrd_base.specs.Validity.{IsValid}
 use Rattle.rrd_base.specs.Verdict.{first_refusal, resize_checks, verdict}
 use Rattle.rrd_base.specs.Contents.{content_of}
-use Rattle.rrd_base.proofs.KeptLemmas.{Added, added}
+use Rattle.rrd_base.proofs.KeptLemmas.{added}
 use Rattle.rrd_base.proofs.Moving.{moved_depth}
 use Rattle.rrd_base.proofs.ResizeLemmas.{resized_is, there_is}
 use Rattle.rrd_base.proofs.Staying.{stays_valid}

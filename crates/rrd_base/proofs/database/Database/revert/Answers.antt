@@ -1,10 +1,9 @@
-use Rattle.std.proofs.Common.{◌≡◌, refl, sym, ◌∙◌, ap, subst, ◌-◌, List, [], ◌∷◌, length, take, Some}
+use Rattle.std.proofs.Common.{◌≡◌, sym, ◌∙◌, ap, ◌-◌, List, [], ◌∷◌, length, take}
 use Rattle.rrd_base.specs.Entries.{Entry, undone}
 use Rattle.rrd_base.proofs.Fitting.{undone_depth}
-use Rattle.rrd_base.specs.Kept.{kept_of, IsKept}
 use Rattle.rrd_base.specs.Survivors.{Kept, reverted}
 use Rattle.rrd_base.specs.Stored.{entry_of, journal_of}
-use Rattle.rrd_base.proofs.KeptLemmas.{Newest, newest}
+use Rattle.rrd_base.proofs.KeptLemmas.{newest}
 use Rattle.rrd_base.proofs.database.Database.revert.Goals as goal
 
 pub undo-requires-clause-fits : goal.undo-requires-clause-fits

@@ -1,4 +1,4 @@
-use Rattle.std.proofs.Common.{◌≡◌, refl, sym, ◌∙◌, ap, subst, List, [], ◌∷◌, take, Some, None, Option}
+use Rattle.std.proofs.Common.{◌≡◌, refl, sym, ◌∙◌, ap, Option}
 use Rattle.rrd_base.specs.declared.refusal.Refusal.{Refusal}
 use Rattle.rrd_base.specs.declared.tune.Tuning.{Tuning}
 use Rattle.rrd_base.specs.declared.entry.Entry.TheVariants as entry
@@ -7,7 +7,7 @@ use Rattle.rrd_base.specs.Commands.{Tuning_by, moved}
 use Rattle.rrd_base.specs.Survivors.{Kept, changed}
 use Rattle.rrd_base.specs.Verdict.{first_refusal, tune_checks, verdict}
 use Rattle.rrd_base.specs.Contents.{content_of}
-use Rattle.rrd_base.proofs.KeptLemmas.{Added, added}
+use Rattle.rrd_base.proofs.KeptLemmas.{added}
 use Rattle.rrd_base.proofs.Moving.{moved_depth}
 use Rattle.rrd_base.proofs.database.Database.tune.Goals as goal
 

@@ -1,18 +1,20 @@
-use Rattle.std.proofs.Common.{◌≡◌, refl, sym, ◌∙◌, ap, subst, ℕ, ◌-◌, ◌<◌, ◌⊎◌, inl, inr, List, [], ◌∷◌, length, take, Some, None, Option, arith}
+use Rattle.std.proofs.Common.{◌≡◌, refl, sym, ◌∙◌, ap, subst, ◌/◌, length, map, Option, inl, inr}
 use Rattle.rrd_base.specs.declared.refusal.Refusal.{Refusal}
-use Rattle.rrd_base.specs.declared.refusal.Refusal.TheVariants.{OutOfMemory}
 use Rattle.rrd_base.specs.declared.update.Update.{Update}
 use Rattle.rrd_base.specs.History.{Content}
 use Rattle.rrd_base.specs.Commands.{Updating, moved}
-use Rattle.rrd_base.specs.Kept.{kept_of, IsKept}
 use Rattle.rrd_base.specs.Survivors.{Kept, changed}
-use Rattle.rrd_base.specs.Stored.{before, update_of, journal_of}
-use Rattle.rrd_base.specs.Store.{saved_functions, functions}
+use Rattle.rrd_base.specs.Stored.{before}
 use Rattle.rrd_base.specs.declared.entry.Entry.TheVariants as entry
 use Rattle.rrd_base.specs.Verdict.{first_refusal, update_checks, verdict}
 use Rattle.rrd_base.specs.Contents.{content_of}
 use Rattle.rrd_base.proofs.DatabaseLemmas.{some_samples}
-use Rattle.rrd_base.proofs.KeptLemmas.{Added, added, update_entry}
+use Rattle.rrd_base.proofs.KeptLemmas.{added, update_entry}
+use Rattle.rrd_base.specs.Entries.{BeforeUpdate, Dropped, cells_dropped, cells_held, dropped, entry as entry_for}
+use Rattle.rrd_base.specs.Store.{befores}
+use Rattle.rrd_ring.specs.Rows.{HasWidth}
+use Rattle.std.specs.List.{AllByRecursion}
+use Rattle.rrd_base.proofs.CountLemmas.{wide_dropped}
 use Rattle.rrd_base.proofs.Moving.{moved_depth}
 use Rattle.rrd_base.proofs.database.Database.update.Goals as goal
 
@@ -75,3 +77,26 @@ returns-clause-ok c =
     rw (c.take_samples.ensures, c.push_back-oldest.ensures.items, c.self.invariant.places)
     (ap (λ j. let k : Kept = record { now = moved d.contents (Updating update); journal = j } in k) one.journal_is
     ∙ ap (λ (k : Kept). changed k (Updating update)) c.self.view_is)
+
+pub count_cells-cells-requires-clause-one_each : goal.count_cells-cells-requires-clause-one_each
+count_cells-cells-requires-clause-one_each c =
+    let X = c.self.inside.contents in
+    let is = c.self.invariant.valid.now_is in
+    let n = length X.sources in
+    let kept = map (dropped X.step X.last c.end_of.result) X.archives in
+    let count : c.len-2.result ≡ n = c.len-2.ensures ∙ c.contents.inside.sources.ok.0 ∙ ap (λ (x : Content). length x.sources) c.contents.view_is in
+    let olds : befores c.deref-2.result.now ≡ kept = ap befores c.deref-2.ensures.value ∙ ap (λ (b : BeforeUpdate). b.archives) c.in-Ok.ensures.0 in
+    let wide = wide_dropped n (X.last / X.step) X.step X.last c.end_of.result X.archives is.archives_are in
+    subst (λ xs. AllByRecursion (λ (old : Dropped). HasWidth c.len-2.result old.rows) xs) (sym olds)
+    (subst (λ m. AllByRecursion (λ (old : Dropped). HasWidth m old.rows) kept) (sym count) wide)
+
+pub returns-clause-cells : goal.returns-clause-cells
+returns-clause-cells c =
+    let X = c.self.inside.contents in
+    let update = c.args.update.now in
+    let e = c.check_update.ensures ∙ ap (λ ss. first_refusal (update_checks ss c.contents.inside.last update)) c.deref.ensures.value in
+    let accepted = checked (content_of c.contents.inside) X X update c.check_update.result e c.contents.view_is refl ∙ c.in_default.is in
+    let some = some_samples X update accepted in
+    let this = update_entry X update c.in-Ok.before some (c.in-Ok.ensures.0 ∙ ap (before X) c.end_of.ensures) in
+    c.count_cells-cells.ensures ∙ ap (λ xs. cells_dropped (befores xs)) c.deref-2.ensures.value ∙ ap cells_held this
+    ∙ ap (λ (k : Kept). cells_held (entry_for k.now (Updating update))) c.self.view_is
