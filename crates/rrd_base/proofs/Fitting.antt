@@ -1,5 +1,5 @@
 -- The entry of an accepted command fits, and the journal stays valid.
-use Rattle.std.proofs.Common.{◌≡◌, refl, sym, ◌∙◌, ap, subst, ℕ, zero, suc, ◌+◌, ◌/◌, ◌<◌, ◌≤◌, min, Bool, true, false, cond, ◌||◌, eqb, List, [], ◌∷◌, length, map, take, get_or, arith, ⊎_elim, ◌⊎◌, inl, inr, ltb, Option, Some, None}
+use Rattle.std.proofs.Common.{◌≡◌, refl, sym, ◌∙◌, ap, subst, ℕ, zero, suc, ◌+◌, ◌-◌, ◌/◌, ◌<◌, ◌≤◌, min, Bool, true, false, cond, ◌||◌, eqb, List, [], ◌∷◌, length, map, take, get_or, arith, ⊎_elim, ◌⊎◌, inl, inr, ltb, Option, Some, None}
 use Rattle.std.specs.Prelude.{is_none}
 use Rattle.std.proofs.lemmas.Bool.{cases_Bool, cond_both, or_parts, not-false, both_ways, leb-false, eqb-false, eq-eqb}
 use Rattle.std.proofs.lemmas.List.{length-map, length-take}
@@ -21,7 +21,7 @@ use Rattle.rrd_base.proofs.Runs.{runs_agree, is_none-true}
 use Rattle.rrd_base.proofs.Moving.{moved_sound, moved_depth, settings_of-content}
 use Rattle.std.proofs.lemmas.List.FromFn.{length-enumerate_from}
 use Rattle.rrd_base.proofs.Named.{same_is, same_itself}
-use Rattle.rrd_base.specs.Validity.{AreAccepted, IsRow, IsValidArchive, IsValid, FitsArchive, FitEach, Rise, Fits, IsValidJournal, IsValidDatabase, DatabaseStays, RunsStay}
+use Rattle.rrd_base.specs.Validity.{AreAccepted, IsRow, IsValidArchive, IsValid, FitsArchive, FitEach, Rise, Fits, IsValidJournal, IsValidDatabase, DatabaseStays, RevertTakesBack, RunsStay}
 use Rattle.rrd_base.proofs.Held.{are_archives}
 use Rattle.rrd_base.proofs.Staying.{stays_valid}
 use Rattle.rrd_base.specs.declared.tune.Tuning.{Tuning}
@@ -315,6 +315,14 @@ undo_all now (old ∷ journal) h = (sound (undone now old) h.1, undone_depth now
 pub revert_valid : (now : Content) (journal : List Entry) → IsValidDatabase now journal → let kept = reverted now journal in IsValidDatabase kept.now kept.journal
 revert_valid now [] h = h
 revert_valid now (old ∷ journal) h = record { now_is = h.journal_is.1; journal_is = h.journal_is.2; few = let same = undone_depth now old in omega (arith, h.few) }
+
+pub revert_takes_back : (now : Content) (journal : List Entry) (command : Command) → RevertTakesBack now journal command
+revert_takes_back now journal command is h = places now.depth is.now_is.some_depth where
+  places : (depth : ℕ) → 0 < depth → reverted (moved now command) (take depth (entry now command ∷ journal)) ≡ record { now = now; journal = take (depth - 1) journal }
+  places zero some = absurd (omega arith)
+  places (suc n) some =
+      ap (λ c. let k : Kept = record { now = c; journal = take n journal } in k) (comes_back now command (sound now is.now_is) h)
+      ∙ ap (λ m. let k : Kept = record { now = now; journal = take m journal } in k) {x = n} {y = suc n - 1} (omega arith)
 
 step_valid : (kept : Kept) (action : Action) → IsValidDatabase kept.now kept.journal → let next = step kept action in IsValidDatabase next.now next.journal
 step_valid kept (Changed command) h =

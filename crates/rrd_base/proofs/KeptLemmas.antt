@@ -20,7 +20,7 @@ use Rattle.rrd_base.specs.Validity.{IsValid, Fits, IsValidDatabase}
 use Rattle.rrd_base.specs.Verdict.{verdict}
 use Rattle.rrd_base.proofs.DatabaseLemmas.{moved_last, functions_moved, functions_put_back, functions_resized, functions_tuned, has_functions, All-take, All-drop, All-at, can_put_back_each}
 use Rattle.rrd_base.proofs.Fitting.{database_stays, revert_valid}
-use Rattle.rrd_base.proofs.JournalLemmas.{journal_push, journal_pop}
+use Rattle.rrd_base.proofs.JournalLemmas.{item_at, journal_push, journal_pop}
 use Rattle.rrd_base.proofs.Kept.{All-append}
 
 -- ---- the newest entry is taken
@@ -35,12 +35,6 @@ functions_undone now (entry.Tune held) = functions_tuned now (map held_of held.i
 functions_undone now (entry.Resize number old) = functions_resized now.archives number old
 functions_undone now (entry.Update b) = functions_put_back now.archives (befores b.archives.items)
 
-last_one : {A : Type 0} (xs : List A) (x : A) → Some x ≡ slice_get xs (length xs - 1) → get_or xs (length xs - 1) x ≡ x
-last_one xs x h =
-    let within : length xs - 1 < length xs = slice_get_within xs (length xs - 1) x (sym h) in
-    let here : Some x ≡ Some (get_or xs (length xs - 1) x) = h ∙ slice_get-get_or xs (length xs - 1) x within in
-    cc
-
 pub record Newest (now : Content) (items : List Entry) (e : Entry) : Type 0 where
   pub newest_is : journal_of items ≡ entry_of e ∷ journal_of (take (length items - 1) items)
   pub can : CanUndo now.archives e
@@ -54,7 +48,7 @@ newest now items e is has h =
     let pop : journal_of items ≡ entry_of e ∷ journal_of rest = journal_pop entry_of items e h in
     let whole : IsValidDatabase now (entry_of e ∷ journal_of rest) = subst (IsValidDatabase now) pop is in
     let within : length items - 1 < length items = slice_get_within items (length items - 1) e (sym h) in
-    let here : HasFunctions now.archives e = subst (HasFunctions now.archives) (last_one items e h) (All-at (HasFunctions now.archives) items (length items - 1) e within has) in
+    let here : HasFunctions now.archives e = subst (HasFunctions now.archives) (item_at items (length items - 1) e h) (All-at (HasFunctions now.archives) items (length items - 1) e within has) in
     record {
       newest_is = pop;
       can = can_undo now e is.now_is here whole.journal_is.0;

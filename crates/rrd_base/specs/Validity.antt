@@ -1,5 +1,5 @@
 -- Which databases are valid.
-use Rattle.std.specs.Prelude.{◌≡◌, ℕ, ◌+◌, ◌*◌, ◌/◌, ◌%◌, ◌<◌, ◌≤◌, ◌≢◌, min, pos, ◌≤ℤ◌, unsigned_abs, true, false, List, [], ◌∷◌, length, take, None}
+use Rattle.std.specs.Prelude.{◌≡◌, ℕ, ◌+◌, ◌-◌, ◌*◌, ◌/◌, ◌%◌, ◌<◌, ◌≤◌, ◌≢◌, min, pos, ◌≤ℤ◌, unsigned_abs, true, false, List, [], ◌∷◌, length, take, None}
 use Rattle.std.specs.List.{AllByRecursion, fold}
 use Rattle.rrd_fixed.specs.declared.cell.Cell.{Cell}
 use Rattle.rrd_fixed.specs.declared.raw.Raw.{Raw}
@@ -13,7 +13,7 @@ use Rattle.rrd_base.specs.Commands.{Command, names, settings_of, moved}
 use Rattle.rrd_fixed.specs.Names.{is_good}
 use Rattle.rrd_base.specs.Verdict.{is_double, is_bad_heartbeat, has_bad_bounds, cells, verdict}
 use Rattle.rrd_base.specs.Entries.{Dropped, Held, BeforeUpdate, Entry, Updated, WasTuned, WasResized, rows_between, rows_at, entry, undone}
-use Rattle.rrd_base.specs.Survivors.{Action, step, after, Stands}
+use Rattle.rrd_base.specs.Survivors.{Action, Kept, changed, reverted, step, after, Stands}
 
 -- ---- a content
 
@@ -140,6 +140,12 @@ StaysValid base command = IsValid base → verdict base command ≡ None → IsV
 -- so does it with the journal, a full one dropping its oldest entry
 abbrev pub DatabaseStays : Content → List Entry → Command → Type 0
 DatabaseStays now journal command = IsValidDatabase now journal → verdict now command ≡ None → IsValidDatabase (moved now command) (take now.depth (entry now command ∷ journal))
+
+-- a revert takes an accepted command back: the content and the journal are as before it, but for the oldest entry of a full journal
+abbrev pub RevertTakesBack : Content → List Entry → Command → Type 0
+RevertTakesBack now journal command =
+    let kept = changed (record { now = now; journal = journal }) command in
+    IsValidDatabase now journal → verdict now command ≡ None → reverted kept.now kept.journal ≡ record { now = now; journal = take (now.depth - 1) journal }
 
 -- a run from a valid database keeps to the definition of the survivors, and stays valid
 pub record RunStays (base : Content) (brought : List Entry) (actions : List Action) : Type 0 where

@@ -8,7 +8,7 @@ ghost use Rattle.rrd_base.specs.Commands.{Resizing, Tuning_by, Updating};
 ghost use Rattle.rrd_base.specs.Creating.{create_verdict, created};
 ghost use Rattle.rrd_base.specs.Entries.{cells_held, entry as entry_for};
 ghost use Rattle.rrd_base.specs.Shown.{cell_at, definitions, prep_at};
-ghost use Rattle.rrd_base.specs.Stored.{entry_of};
+ghost use Rattle.rrd_base.specs.Stored.{HasFunctions, entry_of};
 ghost use Rattle.rrd_fold.specs.Parts.{nothing};
 ghost use Rattle.rrd_base.specs.Survivors.{changed, reverted};
 ghost use Rattle.rrd_base.specs.Updating.{end_of};
@@ -194,10 +194,11 @@ impl Database {
         self.journal.len() as u64
     }
 
-    /// A journal entry: 0 is the newest.
+    /// A journal entry; they are numbered from 0, the newest.
     pub fn entry(&self, number: u64) -> &Entry
         requires { number < length self.now.journal }
-        ensures { Some (entry_of result.now) ≡ slice_get self.now.journal number }
+        ensures value { Some (entry_of result.now) ≡ slice_get self.now.journal number }
+        ensures functions { HasFunctions self.now.now.archives result.now }
     {
         self.journal.nth_back(number as usize).unwrap()
     }
@@ -217,7 +218,7 @@ impl Database {
         self.contents.stores.len() as u64
     }
 
-    /// An archive's settings.
+    /// An archive's settings. Archives are numbered from 0, in the order of their definitions.
     pub fn archive(&self, number: u64) -> RraDef
         requires { number < length self.now.now.archives }
         ensures { Some result ≡ slice_get (definitions self.now.now.archives) number }
@@ -225,7 +226,8 @@ impl Database {
         self.contents.stores[number as usize].def()
     }
 
-    /// A data source's last raw value.
+    /// A data source's last raw value: units for COUNTER and DERIVE, millionths for GAUGE and
+    /// ABSOLUTE. Sources are numbered from 0, in the order of their definitions.
     pub fn last_raw(&self, source: u64) -> Raw
         requires { source < length self.now.now.sources }
         ensures { result ≡ slice_index_or self.now.now.raws source Unknown }
@@ -250,7 +252,8 @@ impl Database {
         self.contents.row_prep(archive as usize, source as usize)
     }
 
-    /// Which archive a fetch reads, and which of its rows (rrdfetch). Refuses a bad time, a bad span,
+    /// Which archive a fetch reads, and which of its rows (rrdfetch): `asked` is the wished seconds in
+    /// a row, `start` and `end` are seconds since 1970. Refuses a bad time, a bad span,
     /// a function that no archive has, and a span of more than 1,000,000 rows.
     pub fn choose(
         &self,
@@ -269,8 +272,8 @@ impl Database {
         })
     }
 
-    /// The cell of a source in an archive's row at a time, a multiple of the seconds in a row;
-    /// unknown where the archive has no such row.
+    /// The cell, in millionths, of a source in an archive's row at a time in seconds since 1970, a
+    /// multiple of the seconds in a row; unknown where the archive has no such row.
     pub fn cell(&self, archive: u64, time: i64, source: u64) -> Cell
         requires archive_there { archive < length self.now.now.archives }
         requires source_there { source < length self.now.now.sources }

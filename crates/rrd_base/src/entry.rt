@@ -1,6 +1,8 @@
 //! What the journal holds of a change, so that it can be taken back.
-ghost use Rattle.std.specs.Prelude.{◌≡◌, ◌≤◌, length};
+ghost use Rattle.std.specs.Prelude.{◌≡◌, ◌≤◌, [], None, length};
 ghost use Rattle.std.specs.List.{AllByRecursion};
+ghost use Rattle.rrd_fixed.specs.declared.kind.Kind.TheVariants.{Gauge};
+ghost use Rattle.rrd_fixed.specs.declared.raw.Raw.TheVariants.{Unknown};
 ghost use Rattle.rrd_ring.specs.Rows.{HasWidth};
 ghost use Rattle.rrd_base.specs.Entries.{Dropped, cells_dropped};
 ghost use Rattle.rrd_base.specs.Store.{befores};
@@ -38,7 +40,9 @@ pub struct SourceBefore {
 
 impl Default for SourceBefore {
     // What stands in an unused place.
-    fn default() -> Self {
+    fn default() -> Self
+        ensures { result ≡ record { number = 0; source = record { name = []; kind = Gauge; heartbeat = 0; min = None; max = None }; raw = Unknown } }
+    {
         SourceBefore {
             number: 0,
             source: DsDef {

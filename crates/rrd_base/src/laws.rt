@@ -6,7 +6,7 @@ ghost use Rattle.rrd_base.specs.Passed.{PassesInPieces, SampledPasses, RowsComeB
 ghost use Rattle.rrd_base.specs.Commands.{Command};
 ghost use Rattle.rrd_base.specs.Entries.{Entry, ComesBack};
 ghost use Rattle.rrd_base.specs.Survivors.{Action, Moves, RunsAgree};
-ghost use Rattle.rrd_base.specs.Validity.{StaysValid, DatabaseStays, RunsStay};
+ghost use Rattle.rrd_base.specs.Validity.{StaysValid, DatabaseStays, RevertTakesBack, RunsStay};
 ghost use Rattle.rrd_base.specs.declared.create.CreateSpec.{CreateSpec};
 ghost use Rattle.rrd_base.specs.Creating.{CreatedIsValid};
 ghost use Rattle.rrd_base.specs.Cells.{ShowsByTime, ListsByNumber};
@@ -82,6 +82,12 @@ pub fn stays_valid()
 /// So does it with the journal.
 pub fn database_stays()
     ensures { (now : Content) (journal : List Entry) (command : Command) → DatabaseStays now journal command }
+{}
+
+/// A revert takes an accepted command back, content and journal, but for the oldest entry of a full
+/// journal.
+pub fn revert_takes_back()
+    ensures { (now : Content) (journal : List Entry) (command : Command) → RevertTakesBack now journal command }
 {}
 
 /// A run from a valid database is what its survivors make, and stays valid.

@@ -35,7 +35,7 @@ impl<T> List<T> {
         self.items.len()
     }
 
-    /// The item at a place.
+    /// The item at a place, counted from 0, below the number of items.
     pub fn get(&self, at: usize) -> &T
         requires { at < length self.now }
         ensures { result.now ≡ slice_index_or self.now at result.now }

@@ -1,7 +1,6 @@
 //! The preparations of many sources, item by item.
-ghost use Rattle.std.specs.Prelude.{◌≡◌, ℕ, ◌+◌, ◌^◌, ◌<◌, ◌≤◌, length, map, pos, replicate};
+ghost use Rattle.std.specs.Prelude.{◌≡◌, ◌+◌, ◌^◌, ◌<◌, ◌≤◌, length, map, pos, replicate};
 ghost use Rattle.std.specs.List.{AllByRecursion, fold};
-ghost use Rattle.rrd_fixed.specs.Rate.{IsAccepted, IsBounded, rate as rate_of};
 ghost use Rattle.rrd_fold.specs.Parts.{Part, nothing, step_cell, with_each};
 ghost use Rattle.rrd_fold.specs.Bounds.{Consolidating};
 ghost use Rattle.rrd_fold.specs.declared.function.Function.TheVariants.{Average};
@@ -10,29 +9,8 @@ ghost use Rattle.rrd_base.specs.History as history;
 ghost use Rattle.rrd_base.specs.Validity.{AreAccepted, IsRow};
 
 use crate::DsDef;
-use rrd_fixed::{Cell, Meter, Raw, rate};
+use rrd_fixed::{Cell, Meter, Raw};
 use rrd_fold::{RowPrep, StepPrep};
-
-// The rate of a source between two of its raw values, so many seconds apart.
-fn source_rate(source: &DsDef, interval: u64, old: Raw, new: Raw) -> Cell
-    requires some_time { 1 ≤ interval }
-    requires not_long { interval ≤ 10 ^ 10 }
-    requires old_accepted { IsAccepted source.now.kind old }
-    requires new_accepted { IsAccepted source.now.kind new }
-    ensures value { result ≡ rate_of source.now.kind old new interval source.now.heartbeat source.now.min source.now.max }
-    ensures bounded { IsBounded result }
-{
-    let heartbeat = source.heartbeat;
-    rate(
-        source.kind,
-        old,
-        new,
-        interval,
-        heartbeat,
-        source.min,
-        source.max,
-    )
-}
 
 /// Writes each source's rate between two samples, so many seconds apart, in millionths.
 pub(crate) fn rates_into(
@@ -53,7 +31,7 @@ pub(crate) fn rates_into(
     ensures row { IsRow (length sources.now) rates.new }
 {
     for i in 0..sources.len() {
-        rates[i] = source_rate(&sources[i], interval, old[i], new[i]);
+        rates[i] = sources[i].rate(interval, old[i], new[i]);
     }
 }
 

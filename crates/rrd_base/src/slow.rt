@@ -2,10 +2,9 @@
 //! worked out second by second, as a reader of the definitions would by hand. Nothing is carried
 //! along from group to group, no gap is jumped over, and there is no ring. Tests compare it with the
 //! real database.
-ghost use Rattle.std.specs.Prelude.{◌≡◌, ◌-◌, ◌^◌, ◌<◌, ◌≤◌, ◌≤ℤ◌, pos, length, map, replicate, IfOk, IsTrue, ◌↔◌, None, Some, slice_get};
+ghost use Rattle.std.specs.Prelude.{◌≡◌, ◌-◌, ◌^◌, ◌<◌, ◌≤◌, length, map, replicate, IfOk, IsTrue, ◌↔◌, None, Some, slice_get};
 ghost use Rattle.std.specs.List.{AllByRecursion, fold};
 ghost use Rattle.rrd_fixed.specs.Rate.{IsAccepted, IsBounded};
-ghost use Rattle.rrd_fixed.specs.Rate as rate_by;
 ghost use Rattle.rrd_fixed.specs.declared.raw.Raw.TheVariants.{Unknown};
 ghost use Rattle.rrd_fold.specs.Groups as groups;
 ghost use Rattle.rrd_fold.specs.Parts.{nothing, with_cell, with_each, step_cell, row_cell};
@@ -16,18 +15,15 @@ ghost use Rattle.rrd_base.specs.History.{Archive};
 ghost use Rattle.rrd_base.specs.Slow.{AreInOrder, IsGroup, cell_of, event_of, function_of, latest, rule_of, size_of, taken_of};
 ghost use Rattle.rrd_base.specs.Validity.{AreAccepted, AreParts, IsPart, IsRow};
 
-use crate::create::check;
+use crate::create::{LATEST_TIME, check};
 use crate::{CreateSpec, DsDef, List, RraDef};
-use rrd_fixed::{Cell, Kind, Raw, near, rate};
+use rrd_fixed::{Cell, Kind, Raw, near};
 use rrd_fold::Function;
 use std::alloc::{AllocError, Global};
 use std::marker::Model;
 
 #[cfg(test)]
 mod tests;
-
-// The latest time that a sample may have.
-const LATEST: u64 = 9_999_999_999;
 
 // The least size that a value of a GAUGE or an ABSOLUTE may not have, in millionths.
 const LEAST_REFUSED: u128 = 1_000_000_000_000_000_000_000_000;
@@ -60,15 +56,6 @@ enum Group {
 struct Part {
     known: u64,
     value: i128,
-}
-
-// A share in millionths, as an unsigned number.
-fn share(xff: i128) -> u64
-    requires low { pos 0 ≤ℤ xff }
-    requires high { xff ≤ℤ pos 999999 }
-    ensures { pos result ≡ xff }
-{
-    xff as u64
 }
 
 impl Model for Part {
@@ -130,7 +117,7 @@ impl Part {
         requires part { IsPart def.function def.steps self }
         ensures { result ≡ row_cell def.function def.xff def.steps self }
     {
-        if (def.steps - self.known) * 1_000_000 > share(def.xff) * def.steps {
+        if (def.steps - self.known) * 1_000_000 > def.share() * def.steps {
             return Cell::Unknown;
         }
         match def.function {
@@ -176,26 +163,6 @@ impl Group {
 
 // ---- samples
 
-// A source's rate between two of its raw values, so many seconds apart.
-fn source_rate(source: &DsDef, interval: u64, old: Raw, new: Raw) -> Cell
-    requires some_time { 1 ≤ interval }
-    requires not_long { interval ≤ 10 ^ 10 }
-    requires old_accepted { IsAccepted source.now.kind old }
-    requires new_accepted { IsAccepted source.now.kind new }
-    ensures { result ≡ rate_by.rate source.now.kind old new interval source.now.heartbeat source.now.min source.now.max }
-{
-    let heartbeat = source.heartbeat;
-    rate(
-        source.kind,
-        old,
-        new,
-        interval,
-        heartbeat,
-        source.min,
-        source.max,
-    )
-}
-
 // The rates of a sample's interval, by the raw values of the sample before.
 fn rates(
     alloc: Global,
@@ -212,7 +179,7 @@ fn rates(
 {
     let mut rates = List::new(alloc);
     for i in 0..sources.len() {
-        rates.push(source_rate(&sources[i], interval, old[i], new[i]))?;
+        rates.push(sources[i].rate(interval, old[i], new[i]))?;
     }
     Ok(rates)
 }
@@ -432,7 +399,7 @@ fn are_in_order(sources: &[DsDef], start: u64, readings: &[Reading]) -> bool
 {
     let mut last = start;
     for reading in readings {
-        if reading.time <= last || reading.time > LATEST {
+        if reading.time <= last || reading.time > LATEST_TIME {
             return false;
         }
         if !are_accepted(sources, reading.raws.as_slice()) {

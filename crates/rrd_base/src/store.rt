@@ -1,5 +1,5 @@
 //! Archives: for each source the preparation of its unfinished row, and the rows.
-ghost use Rattle.std.specs.Prelude.{◌≡◌, ℕ, List, ◌+◌, ◌-◌, ◌*◌, ◌^◌, ◌<◌, ◌≤◌, ◌≤ℤ◌, [], ◌∷◌, length, map, pos, replicate, slice_index_or, take as first, IfOk};
+ghost use Rattle.std.specs.Prelude.{◌≡◌, ℕ, List, ◌+◌, ◌-◌, ◌*◌, ◌^◌, ◌<◌, ◌≤◌, [], ◌∷◌, length, map, replicate, slice_index_or, take as first, IfOk};
 ghost use Rattle.std.specs.List.{AllByRecursion};
 ghost use Rattle.rrd_fixed.specs.declared.cell.Cell.{Cell};
 ghost use Rattle.rrd_fixed.specs.declared.cell.Cell.TheVariants.{Unknown};
@@ -84,15 +84,6 @@ impl SavedArchive {
     }
 }
 
-// A share in millionths, as an unsigned number.
-fn share(xff: i128) -> u64
-    requires low { pos 0 ≤ℤ xff }
-    requires high { xff ≤ℤ pos 999999 }
-    ensures { pos result ≡ xff }
-{
-    xff as u64
-}
-
 impl Store {
     /// An archive without steps, so many sources having been defined: all its rows are unknown.
     pub(crate) fn new(alloc: Global, def: RraDef, sources: u64) -> Result<Store, AllocError>
@@ -165,7 +156,7 @@ impl Store {
         add_each(&mut self.preps, step, meter);
         let steps = self.def.steps;
         if number % steps == 0 {
-            close_each(&mut self.preps, steps, share(self.def.xff), row, meter);
+            close_each(&mut self.preps, steps, self.def.share(), row, meter);
             self.rows.push_row(row, meter);
         }
     }

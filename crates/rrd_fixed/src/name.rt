@@ -1,5 +1,5 @@
 //! Names of data sources.
-ghost use Rattle.std.specs.Prelude.{◌≡◌, ◌≤◌, length, IfSome, IsSome, ◌↔◌, option_map, Some, None, if◌then◌else◌};
+ghost use Rattle.std.specs.Prelude.{◌≡◌, ◌≤◌, [], length, IfSome, IsSome, ◌↔◌, option_map, Some, None, if◌then◌else◌};
 ghost use Rattle.std.specs.List.{list_all};
 ghost use Rattle.rrd_fixed.specs.Names.{fits, is_good, is_letter, same_name};
 
@@ -86,7 +86,9 @@ fn is_letter(byte: u8) -> bool
 
 impl Default for Name {
     /// The name of no character, which no data source may have.
-    fn default() -> Self {
+    fn default() -> Self
+        ensures { result ≡ [] }
+    {
         Name {
             text: ArrayString::new(),
         }

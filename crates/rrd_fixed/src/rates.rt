@@ -70,9 +70,10 @@ fn plain_rate(kind: Kind, old: Raw, new: Raw, interval: u64) -> Cell
     }
 }
 
-/// The rate of an interval of so many seconds, in millionths. It is unknown if the interval is
+/// The rate of an interval of 1 to 10^10 seconds, in millionths, between two raw values that the kind
+/// accepts, by a heartbeat in seconds and bounds in millionths. It is unknown if the interval is
 /// longer than the heartbeat, if the value is unknown, for COUNTER and DERIVE if the value before
-/// it is unknown, and if it lies outside its bounds.
+/// it is unknown, and if it lies outside its bounds (rrdcreate, "DS").
 pub fn rate(
     kind: Kind,
     old: Raw,

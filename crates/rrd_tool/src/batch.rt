@@ -36,7 +36,7 @@ pub enum StreamFault {
 pub struct BatchEnd {
     /// The database after the lines that were run.
     pub database: Option<Database>,
-    /// How many fault lines were written whole.
+    /// How many fault lines were written whole and handed on.
     pub refused: u64,
     /// Why the batch ended before its input did.
     pub stream: Option<StreamFault>,

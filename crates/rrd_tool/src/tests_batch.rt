@@ -1,9 +1,28 @@
-//! Batches and what they print, as a table; now is 0.
+//! Batches and what they print, as a table.
 use crate::run_batch;
+use std::alloc::{AllocError, Global};
+use std::process::Abort;
 use std::test::Fail;
 
 // What a batch is called, its lines, what it prints, and how many of its lines are refused.
-type Case = (&'static str, &'static str, &'static str, u64);
+pub(crate) type Case = (&'static str, &'static str, &'static str, u64);
+
+// A batch that begins at this time prints this, and so many of its lines are refused.
+fn assert_batch(rt: &HostRuntime, now: u64, name: &str, lines: &[u8], text: &[u8], refused: u64) {
+    let mut input = lines;
+    let mut out = Vec::new(rt.alloc());
+    let end = run_batch(rt.alloc(), None, now, &mut input, &mut out);
+    assert!(rt; end.stream.is_none(), "{name}");
+    assert_eq!(rt; out.as_slice(), text, "{name}");
+    assert_eq!(rt; end.refused, refused, "{name}");
+}
+
+// Each batch, at time 0, prints what stands with it.
+pub(crate) fn assert_prints(rt: &HostRuntime, cases: &[Case]) {
+    for (name, lines, text, refused) in cases {
+        assert_batch(rt, 0, name, lines.as_bytes(), text.as_bytes(), *refused);
+    }
+}
 
 const ROAD_COUNTER: Case = (
     "road_counter",
@@ -258,16 +277,24 @@ ERROR: nothing to revert\n\
     4,
 );
 
-const TEMPLATE_OF_ONE_SOURCE: Case = (
-    "template_of_one_source",
-    "create --step 10 --start 0 DS:a:GAUGE:100:U:U DS:b:GAUGE:100:U:U RRA:LAST:0.5:1:4\n\
-update -t b 10:5\n\
+// At time 10, its last line without an end.
+const TEMPLATES_AND_NOW: Case = (
+    "templates_and_now",
+    "\t\r\n\
+frobnicate\n\
+last\n\
+create --step 10 --start 0 DS:a:GAUGE:100:U:U DS:b:GAUGE:100:U:U RRA:LAST:0.5:1:4\n\
+update -t b N:5\n\
+last\n\
 fetch LAST -s 0 -e 9\n\
-update -t x 20:1\n",
-    "time: a b\n\
+update -t x 20:1",
+    "ERROR: usage\n\
+ERROR: no database\n\
+10\n\
+time: a b\n\
 10: nan 5.000000\n\
 ERROR: no such data source\n",
-    1,
+    3,
 );
 
 const NO_WORDS_AND_NO_DATABASE: Case = (
@@ -329,14 +356,7 @@ fn what_is_printed(rt: HostRuntime) -> Result<(), Fail> {
         COUNTER_REVERT,
         SHORT_JOURNAL,
     ];
-    for (name, lines, text, refused) in cases {
-        let mut input = lines.as_bytes();
-        let mut out = Vec::new(rt.alloc());
-        let end = run_batch(rt.alloc(), None, 0, &mut input, &mut out);
-        assert!(rt; end.stream.is_none(), "{name}");
-        assert_eq!(rt; out.as_slice(), text.as_bytes(), "{name}");
-        assert_eq!(rt; end.refused, refused, "{name}");
-    }
+    assert_prints(&rt, &cases);
     Ok(())
 }
 
@@ -348,18 +368,59 @@ fn what_is_refused(rt: HostRuntime) -> Result<(), Fail> {
         REFUSED_CREATES,
         FIRST_PATH,
         FIRST_PATH_REFUSALS,
-        TEMPLATE_OF_ONE_SOURCE,
         NO_WORDS_AND_NO_DATABASE,
         STRANGE_BYTES,
         A_REFUSED_CREATE_KEEPS_THE_DATABASE,
     ];
-    for (name, lines, text, refused) in cases {
-        let mut input = lines.as_bytes();
-        let mut out = Vec::new(rt.alloc());
-        let end = run_batch(rt.alloc(), None, 0, &mut input, &mut out);
-        assert!(rt; end.stream.is_none(), "{name}");
-        assert_eq!(rt; out.as_slice(), text.as_bytes(), "{name}");
-        assert_eq!(rt; end.refused, refused, "{name}");
+    assert_prints(&rt, &cases);
+    Ok(())
+}
+
+#[test]
+fn now_is_the_batchs(rt: HostRuntime) -> Result<(), Fail> {
+    let (name, lines, text, refused) = TEMPLATES_AND_NOW;
+    assert_batch(&rt, 10, name, lines.as_bytes(), text.as_bytes(), refused);
+    Ok(())
+}
+
+// A text for each number from 0 to 63, its two digits between what comes before and after them.
+fn sixty_four(alloc: Global, before: &str, after: &str) -> Result<Vec<u8>, AllocError> {
+    let mut bytes = Vec::new(alloc);
+    for number in 0..64u8 {
+        bytes.extend_from_slice(before.as_bytes())?;
+        bytes.push(b'0'.saturating_add(number / 10))?;
+        bytes.push(b'0'.saturating_add(number % 10))?;
+        bytes.extend_from_slice(after.as_bytes())?;
     }
+    Ok(bytes)
+}
+
+fn joined(alloc: Global, parts: &[&[u8]]) -> Result<Vec<u8>, AllocError> {
+    let mut bytes = Vec::new(alloc);
+    for part in parts {
+        bytes.extend_from_slice(part)?;
+    }
+    Ok(bytes)
+}
+
+// 64 sources with names of 19 letters, the values 1000 to 1063.
+#[test]
+fn as_many_sources_as_can_be(rt: HostRuntime) -> Result<(), Fail> {
+    let alloc = rt.alloc();
+    let lines = [
+        "create --step 10 --start 0".as_bytes(),
+        &sixty_four(alloc, " DS:abcdefghijklmnopq", ":GAUGE:100:U:U")?,
+        " RRA:LAST:0.5:1:2\nupdate 10".as_bytes(),
+        &sixty_four(alloc, ":10", "")?,
+        "\nfetch LAST -s 0 -e 9\n".as_bytes(),
+    ];
+    let text = [
+        "time:".as_bytes(),
+        &sixty_four(alloc, " abcdefghijklmnopq", "")?,
+        "\n10:".as_bytes(),
+        &sixty_four(alloc, " 10", ".000000")?,
+        "\n".as_bytes(),
+    ];
+    assert_batch(&rt, 0, "wide", &joined(alloc, &lines)?, &joined(alloc, &text)?, 0);
     Ok(())
 }

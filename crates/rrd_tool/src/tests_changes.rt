@@ -1,9 +1,6 @@
 //! Tunes and resizes in batches, and what then is printed, as a table; now is 0.
-use crate::run_batch;
+use crate::tests_batch::{Case, assert_prints};
 use std::test::Fail;
-
-// What a batch is called, its lines, what it prints, and how many of its lines are refused.
-type Case = (&'static str, &'static str, &'static str, u64);
 
 const SHRINK_AND_GROW: Case = (
     "shrink_and_grow",
@@ -91,13 +88,6 @@ ERROR: no such data source\n",
 #[test]
 fn what_changes_print(rt: HostRuntime) -> Result<(), Fail> {
     let cases = [SHRINK_AND_GROW, BOUNDS_IN_FORCE, TYPE_AND_RENAME];
-    for (name, lines, text, refused) in cases {
-        let mut input = lines.as_bytes();
-        let mut out = Vec::new(rt.alloc());
-        let end = run_batch(rt.alloc(), None, 0, &mut input, &mut out);
-        assert!(rt; end.stream.is_none(), "{name}");
-        assert_eq!(rt; out.as_slice(), text.as_bytes(), "{name}");
-        assert_eq!(rt; end.refused, refused, "{name}");
-    }
+    assert_prints(&rt, &cases);
     Ok(())
 }

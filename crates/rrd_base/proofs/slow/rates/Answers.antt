@@ -13,15 +13,15 @@ bounds-old-i c = omega (arith, accepted_length c.args.sources.now c.args.old.now
 pub bounds-new-i : goal.bounds-new-i
 bounds-new-i c = omega (arith, accepted_length c.args.sources.now c.args.new.now c.requires.new_accepted)
 
-pub source_rate-requires-clause-old_accepted : goal.source_rate-requires-clause-old_accepted
-source_rate-requires-clause-old_accepted c =
+pub rate-requires-clause-old_accepted : goal.rate-requires-clause-old_accepted
+rate-requires-clause-old_accepted c =
     let i = c.loop-i.i in
     let d = c.index-sources-i.result in
     subst (λ (source : DsDef). IsAccepted source.kind (get_or c.args.old.now i Unknown)) (sym c.index-sources-i.is)
     (accepted_at c.args.sources.now c.args.old.now i d Unknown c.requires.old_accepted (omega arith) (omega (arith, accepted_length c.args.sources.now c.args.old.now c.requires.old_accepted)))
 
-pub source_rate-requires-clause-new_accepted : goal.source_rate-requires-clause-new_accepted
-source_rate-requires-clause-new_accepted c =
+pub rate-requires-clause-new_accepted : goal.rate-requires-clause-new_accepted
+rate-requires-clause-new_accepted c =
     let i = c.loop-i.i in
     let d = c.index-sources-i.result in
     subst (λ (source : DsDef). IsAccepted source.kind (get_or c.args.new.now i Unknown)) (sym c.index-sources-i.is)
@@ -34,9 +34,9 @@ loop-i-preserved c =
     let old = c.args.old.now in
     let new = c.args.new.now in
     let d = c.index-sources-i.result in
-    let this = c.source_rate.ensures ∙ ap (λ (source : DsDef). rate_of c.args.interval source (get_or old i Unknown) (get_or new i Unknown)) c.index-sources-i.is in
+    let this = c.rate.ensures.value ∙ ap (λ (source : DsDef). rate_of c.args.interval source (get_or old i Unknown) (get_or new i Unknown)) c.index-sources-i.is in
     c.in_ok-push.ensures
-    ∙ ap (λ zs. zs ++ c.source_rate.result ∷ []) c.loop-i.invariant
+    ∙ ap (λ zs. zs ++ c.rate.result ∷ []) c.loop-i.invariant
     ∙ ap (λ x. rates (take i sources) c.args.interval (take i old) (take i new) ++ x ∷ []) this
     ∙ sym (rates_push sources c.args.interval old new i d Unknown Unknown (omega arith) (omega (arith, accepted_length sources old c.requires.old_accepted)) (omega (arith, accepted_length sources new c.requires.new_accepted)))
     ∙ ap (λ k. rates (take k sources) c.args.interval (take k old) (take k new)) {x = suc i} {y = i + 1} (omega arith)

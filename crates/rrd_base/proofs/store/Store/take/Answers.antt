@@ -66,7 +66,7 @@ returns-then-number-steps-eq0-clause-value c =
     let low = is.xff_low in
     let high = is.xff_high in
     let fits : FitsSigned w128 a.def.xff = omega (arith, ints) in
-    let share : pos c.share.result ≡ a.def.xff = simp to_z-of_z at c.share.ensures in
+    let share : pos c.share.result ≡ a.def.xff = c.share.ensures in
     let row : c.close_each.new.row ≡ map (row_of a.def.xff a.def.steps) (map_each with_step a.preps.items step)
     = c.close_each.ensures.cells ∙ ap (map (row_of (pos c.share.result) a.def.steps)) before ∙ ap (λ xff. map (row_of xff a.def.steps) (map_each with_step a.preps.items step)) share in
     let rows = c.push_row.ensures.rows ∙ ap (λ cells. drop 1 (a.rows ++ cells ∷ [])) row in
