@@ -7,20 +7,34 @@ use std::test::Fail;
 // What a batch is called, its lines, what it prints, and how many of its lines are refused.
 pub(crate) type Case = (&'static str, &'static str, &'static str, u64);
 
-// A batch that begins at this time prints this, and so many of its lines are refused.
-fn assert_batch(rt: &HostRuntime, now: u64, name: &str, lines: &[u8], text: &[u8], refused: u64) {
-    let mut input = lines;
-    let mut out = Vec::new(rt.alloc());
-    let end = run_batch(rt.alloc(), None, now, &mut input, &mut out);
+// A batch: the time at which it runs, its lines, what it prints, and how many of them are refused.
+#[derive(Drop)]
+struct Batch<'a> {
+    now: u64,
+    lines: &'a [u8],
+    text: &'a [u8],
+    refused: u64,
+}
+
+fn assert_batch(rt: &impl Abort, alloc: Global, name: &str, batch: Batch<'_>) {
+    let mut input = batch.lines;
+    let mut out = Vec::new(alloc);
+    let end = run_batch(alloc, None, batch.now, &mut input, &mut out);
     assert!(rt; end.stream.is_none(), "{name}");
-    assert_eq!(rt; out.as_slice(), text, "{name}");
-    assert_eq!(rt; end.refused, refused, "{name}");
+    assert_eq!(rt; out.as_slice(), batch.text, "{name}");
+    assert_eq!(rt; end.refused, batch.refused, "{name}");
 }
 
 // Each batch, at time 0, prints what stands with it.
-pub(crate) fn assert_prints(rt: &HostRuntime, cases: &[Case]) {
+pub(crate) fn assert_prints(rt: &impl Abort, alloc: Global, cases: &[Case]) {
     for (name, lines, text, refused) in cases {
-        assert_batch(rt, 0, name, lines.as_bytes(), text.as_bytes(), *refused);
+        let batch = Batch {
+            now: 0,
+            lines: lines.as_bytes(),
+            text: text.as_bytes(),
+            refused: *refused,
+        };
+        assert_batch(rt, alloc, name, batch);
     }
 }
 
@@ -356,7 +370,7 @@ fn what_is_printed(rt: HostRuntime) -> Result<(), Fail> {
         COUNTER_REVERT,
         SHORT_JOURNAL,
     ];
-    assert_prints(&rt, &cases);
+    assert_prints(&rt, rt.alloc(), &cases);
     Ok(())
 }
 
@@ -372,14 +386,20 @@ fn what_is_refused(rt: HostRuntime) -> Result<(), Fail> {
         STRANGE_BYTES,
         A_REFUSED_CREATE_KEEPS_THE_DATABASE,
     ];
-    assert_prints(&rt, &cases);
+    assert_prints(&rt, rt.alloc(), &cases);
     Ok(())
 }
 
 #[test]
 fn now_is_the_batchs(rt: HostRuntime) -> Result<(), Fail> {
     let (name, lines, text, refused) = TEMPLATES_AND_NOW;
-    assert_batch(&rt, 10, name, lines.as_bytes(), text.as_bytes(), refused);
+    let batch = Batch {
+        now: 10,
+        lines: lines.as_bytes(),
+        text: text.as_bytes(),
+        refused,
+    };
+    assert_batch(&rt, rt.alloc(), name, batch);
     Ok(())
 }
 
@@ -407,20 +427,26 @@ fn joined(alloc: Global, parts: &[&[u8]]) -> Result<Vec<u8>, AllocError> {
 #[test]
 fn as_many_sources_as_can_be(rt: HostRuntime) -> Result<(), Fail> {
     let alloc = rt.alloc();
+    let sources = sixty_four(alloc, " DS:abcdefghijklmnopq", ":GAUGE:100:U:U")?;
+    let values = sixty_four(alloc, ":10", "")?;
     let lines = [
-        "create --step 10 --start 0".as_bytes(),
-        &sixty_four(alloc, " DS:abcdefghijklmnopq", ":GAUGE:100:U:U")?,
-        " RRA:LAST:0.5:1:2\nupdate 10".as_bytes(),
-        &sixty_four(alloc, ":10", "")?,
-        "\nfetch LAST -s 0 -e 9\n".as_bytes(),
+        b"create --step 10 --start 0".as_slice(),
+        &sources,
+        b" RRA:LAST:0.5:1:2\nupdate 10",
+        &values,
+        b"\nfetch LAST -s 0 -e 9\n",
     ];
-    let text = [
-        "time:".as_bytes(),
-        &sixty_four(alloc, " abcdefghijklmnopq", "")?,
-        "\n10:".as_bytes(),
-        &sixty_four(alloc, " 10", ".000000")?,
-        "\n".as_bytes(),
-    ];
-    assert_batch(&rt, 0, "wide", &joined(alloc, &lines)?, &joined(alloc, &text)?, 0);
+    let names = sixty_four(alloc, " abcdefghijklmnopq", "")?;
+    let cells = sixty_four(alloc, " 10", ".000000")?;
+    let text = [b"time:".as_slice(), &names, b"\n10:", &cells, b"\n"];
+    let lines = joined(alloc, &lines)?;
+    let text = joined(alloc, &text)?;
+    let batch = Batch {
+        now: 0,
+        lines: &lines,
+        text: &text,
+        refused: 0,
+    };
+    assert_batch(&rt, alloc, "as_many_sources_as_can_be", batch);
     Ok(())
 }

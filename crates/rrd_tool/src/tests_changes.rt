@@ -88,6 +88,6 @@ ERROR: no such data source\n",
 #[test]
 fn what_changes_print(rt: HostRuntime) -> Result<(), Fail> {
     let cases = [SHRINK_AND_GROW, BOUNDS_IN_FORCE, TYPE_AND_RENAME];
-    assert_prints(&rt, &cases);
+    assert_prints(&rt, rt.alloc(), &cases);
     Ok(())
 }
