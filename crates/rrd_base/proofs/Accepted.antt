@@ -8,7 +8,7 @@ use Rattle.rrd_fixed.specs.declared.raw.Raw.{Raw}
 use Rattle.rrd_fixed.specs.declared.name.Name.{Name}
 use Rattle.rrd_base.specs.declared.definition.DsDef.{DsDef}
 use Rattle.rrd_base.specs.History.{Content, Sampled, Moment, moment_after, moment_of, moment_at_end, raws_under, IsHistory}
-use Rattle.rrd_base.specs.Commands.{Command, Updating, Tuning_by, Resizing, settings_of, sample_of, tuned, names, rows_changed, events}
+use Rattle.rrd_base.specs.Commands.{Command, Updating, TuningBy, Resizing, settings_of, sample_of, tuned, names, rows_changed, events}
 use Rattle.rrd_base.specs.Verdict.{Check, first_refusal, is_bad_rows, grows_too_far, shrinks_too_far, sample_checks, checks, verdict}
 use Rattle.rrd_base.specs.declared.update.Sample.{Sample}
 use Rattle.rrd_base.specs.declared.resize.Change.{Change}
@@ -48,7 +48,7 @@ some_rows Shrink old rows h k = omega (arith, leb-false old rows k)
 pub accepted_history : (base : Content) (command : Command) → verdict base command ≡ None → IsHistory (moment_of base) (events (settings_of base) command)
 accepted_history base (Updating update) h =
     readings_rise base.sources (unwrap_or update.template (names base.sources)) (moment_of base) update.samples (accepted_passes base (Updating update) h).1.1.1
-accepted_history base (Tuning_by tuning) h = (length-map base.sources (tuned tuning), tt)
+accepted_history base (TuningBy tuning) h = (length-map base.sources (tuned tuning), tt)
 accepted_history base (Resizing archive change rows) h =
     let p = accepted_passes base (Resizing archive change rows) h in
     (some_rows change (get_or (settings_of base).rows archive 0) rows p.1.0 p.1.1.0, tt)
@@ -68,5 +68,5 @@ readings_raws sources template now (reading ∷ readings) same each =
 
 pub command_raws : (base : Content) (command : Command) → length base.raws ≡ length base.sources → let end = moment_at_end base (events (settings_of base) command) in length end.raws ≡ length end.sources
 command_raws base (Updating update) each = readings_raws base.sources (unwrap_or update.template (names base.sources)) (moment_of base) update.samples refl each
-command_raws base (Tuning_by tuning) each = length-raws_under base.sources (map (tuned tuning) base.sources) base.raws ∙ each ∙ sym (length-map base.sources (tuned tuning))
+command_raws base (TuningBy tuning) each = length-raws_under base.sources (map (tuned tuning) base.sources) base.raws ∙ each ∙ sym (length-map base.sources (tuned tuning))
 command_raws base (Resizing archive change rows) each = each

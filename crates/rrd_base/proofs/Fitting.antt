@@ -11,7 +11,7 @@ use Rattle.rrd_base.specs.declared.definition.DsDef.{DsDef}
 use Rattle.rrd_base.specs.History.{Archive, Content, Reading, Sampled, Resized, Moment, moment_after, moment_of, moment_at_end, rows_after, archive_of, content, IsHistory, IsArchive}
 use Rattle.rrd_base.proofs.HistoryLemmas.{last_rises, length-sources}
 use Rattle.rrd_base.proofs.SampleLemmas.{rows_of_samples}
-use Rattle.rrd_base.specs.Commands.{Asked, Settings, Command, Updating, Tuning_by, Resizing, settings_of, rows_of_archives, names, sample_of, samples_of, tuned, rows_changed, events, moved}
+use Rattle.rrd_base.specs.Commands.{Asked, Settings, Command, Updating, TuningBy, Resizing, settings_of, rows_of_archives, names, sample_of, samples_of, tuned, rows_changed, events, moved}
 use Rattle.rrd_base.specs.Verdict.{has_source, is_double, is_bad_rows, grows_too_far, shrinks_too_far, no_sample, asks_nothing, names_no_source, verdict}
 use Rattle.rrd_base.specs.Entries.{Held, Entry, Updated, WasTuned, WasResized, rows_between, dropped, is_asked, is_named, held, rows_at, with_held, entry, undone, IsSound}
 use Rattle.rrd_base.specs.Survivors.{Action, Changed, Reverted, Kept, is_accepted, changed, reverted, step, AllUndo}
@@ -215,10 +215,10 @@ some_held tuning number (source ∷ sources) (raw ∷ raws) e h =
     (λ here. omega arith)
     (λ there. some_held tuning (number + 1) sources raws (omega arith) (sym (ap (λ b. b || list_any (is_named tuning) sources) there) ∙ h))
 
-pub tune_fits : (base : Content) (tuning : Tuning) → IsValid base → verdict base (Tuning_by tuning) ≡ None → Fits (moved base (Tuning_by tuning)) (entry base (Tuning_by tuning))
+pub tune_fits : (base : Content) (tuning : Tuning) → IsValid base → verdict base (TuningBy tuning) ≡ None → Fits (moved base (TuningBy tuning)) (entry base (TuningBy tuning))
 unfolding content
 tune_fits base tuning is h =
-    let p = accepted_passes base (Tuning_by tuning) h in
+    let p = accepted_passes base (TuningBy tuning) h in
     let P : ℕ → Type 0 = λ limit. Rise 0 limit (held tuning 0 base.sources base.raws) in
     record {
       some = some_held tuning 0 base.sources base.raws (length-accepted base.sources base.raws is.raws_are) (some_named base.sources tuning p.0 p.1.0);
@@ -277,7 +277,7 @@ resize_fits base archive change rows is h =
 
 fits : (base : Content) (command : Command) → IsValid base → verdict base command ≡ None → Fits (moved base command) (entry base command)
 fits base (Updating update) is h = update_fits base update is h
-fits base (Tuning_by tuning) is h = tune_fits base tuning is h
+fits base (TuningBy tuning) is h = tune_fits base tuning is h
 fits base (Resizing archive change rows) is h = resize_fits base archive change rows is h
 
 -- ---- the journal

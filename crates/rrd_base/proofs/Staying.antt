@@ -18,7 +18,7 @@ use Rattle.rrd_base.specs.declared.definition.DsDef.{DsDef}
 use Rattle.rrd_base.specs.History.{Archive, Content, Reading, Event, Sampled, Tuned, Moment, moment_after, moment_of, moment_at_end, same_kind, raws_under, rows_after, seconds_of, archive_of, content, IsHistory}
 use Rattle.rrd_base.proofs.HistoryLemmas.{length-sources}
 use Rattle.rrd_base.proofs.SampleLemmas.{rows_of_samples}
-use Rattle.rrd_base.specs.Commands.{Asked, Command, Updating, Tuning_by, Resizing, settings_of, settings_after, rows_of_archives, raw_of, value_for, sample_of, samples_of, names, asked, tuned, rows_changed, events}
+use Rattle.rrd_base.specs.Commands.{Asked, Command, Updating, TuningBy, Resizing, settings_of, settings_after, rows_of_archives, raw_of, value_for, sample_of, samples_of, names, asked, tuned, rows_changed, events}
 use Rattle.rrd_base.specs.Verdict.{is_bad_heartbeat, is_bad_rows, has_bad_bounds, has_source, is_double, grows_too_far, sample_checks, cells, verdict}
 use Rattle.rrd_base.proofs.Accepted.{Passes, accepted_passes, accepted_history}
 use Rattle.rrd_base.proofs.Moving.{settings_of-content}
@@ -200,16 +200,16 @@ tuned_sources tuning (source ∷ sources) a b c is =
       tuned_sources tuning sources a b d.1 is.1,
     )
 
-tune_leaves : (base : Content) (tuning : Tuning) → IsValid base → verdict base (Tuning_by tuning) ≡ None → Leaves base (events (settings_of base) (Tuning_by tuning))
+tune_leaves : (base : Content) (tuning : Tuning) → IsValid base → verdict base (TuningBy tuning) ≡ None → Leaves base (events (settings_of base) (TuningBy tuning))
 tune_leaves base tuning is h =
     let news = map (tuned tuning) base.sources in
     let es = Tuned news ∷ [] in
-    let p = accepted_passes base (Tuning_by tuning) h in
+    let p = accepted_passes base (TuningBy tuning) h in
     let f = λ (option : Asked Name). not (same_name option.0 option.1) && has_source base.sources option.1 in
     let free = λ (option : Asked Name) (e : tuning.rename ≡ Some option). sym (ap (λ r. option_map_or f r false) e) ∙ p.1.1.1.0 in
     let SP : List (List _) → Type 0 = λ rows. AllByRecursion (IsRow (length base.sources)) rows in
     record {
-      history = accepted_history base (Tuning_by tuning) h;
+      history = accepted_history base (TuningBy tuning) h;
       good_time = is.good_time;
       sources_are = tuned_sources tuning base.sources p.1.1.0 p.1.1.1.1.0 p.1.1.1.1.1.0 is.sources_are;
       names_differ = ap is_double (names_tuned tuning base.sources) ∙ names_differ tuning.rename base.sources is.names_differ free;
@@ -255,5 +255,5 @@ resize_leaves base archive change rows is h =
 
 pub stays_valid : (base : Content) (command : Command) → StaysValid base command
 stays_valid base (Updating update) is h = left_valid base (events (settings_of base) (Updating update)) is (update_leaves base update is h)
-stays_valid base (Tuning_by tuning) is h = left_valid base (events (settings_of base) (Tuning_by tuning)) is (tune_leaves base tuning is h)
+stays_valid base (TuningBy tuning) is h = left_valid base (events (settings_of base) (TuningBy tuning)) is (tune_leaves base tuning is h)
 stays_valid base (Resizing archive change rows) is h = left_valid base (events (settings_of base) (Resizing archive change rows)) is (resize_leaves base archive change rows is h)

@@ -11,7 +11,7 @@ use Rattle.rrd_base.specs.declared.definition.DsDef.{DsDef}
 use Rattle.rrd_base.specs.History.{Archive, Content, Reading, Sampled, Resized, Moment, moment_after, moment_of, moment_at_end, same_kind, raws_under, rows_of, row_parts_of, rows_after, kept_rows, archive_of, content, IsHistory, IsArchive}
 use Rattle.rrd_base.proofs.ContentLemmas.{length-rows_of, length-kept_rows}
 use Rattle.rrd_base.proofs.SampleLemmas.{rows_of_samples, update_undone}
-use Rattle.rrd_base.specs.Commands.{Asked, Command, Updating, Tuning_by, Resizing, settings_of, samples_of, asked, tuned, rows_changed}
+use Rattle.rrd_base.specs.Commands.{Asked, Command, Updating, TuningBy, Resizing, settings_of, samples_of, asked, tuned, rows_changed}
 use Rattle.rrd_base.specs.Entries.{Held, WasResized, rows_between, dropped, is_asked, is_named, held, rows_at, put_back, put_back_each, with_held, with_rows_at, undone, ComesBack}
 use Rattle.rrd_base.proofs.Accepted.{accepted_passes, accepted_history}
 use Rattle.rrd_base.proofs.Quiet.{made, with_all, content_tuned, resized_other, resized_elsewhere, content_resized, row_parts_same}
@@ -127,7 +127,7 @@ sources_back base tuning number done done_raws (source ∷ sources) (raw ∷ raw
     ∙ go_on)
     (cases_Bool (is_named tuning source))
 
-tune_back : (base : Content) (tuning : Tuning) → ComesBack base (Tuning_by tuning)
+tune_back : (base : Content) (tuning : Tuning) → ComesBack base (TuningBy tuning)
 unfolding with_sources
 tune_back base tuning sound h =
     ap (λ now. fold with_held now (held tuning 0 base.sources base.raws)) (content_tuned base (map (tuned tuning) base.sources) sound.is_base)
@@ -167,5 +167,5 @@ resize_back base archive change rows sound h =
 
 pub comes_back : (base : Content) (command : Command) → ComesBack base command
 comes_back base (Updating update) = update_back base update
-comes_back base (Tuning_by tuning) = tune_back base tuning
+comes_back base (TuningBy tuning) = tune_back base tuning
 comes_back base (Resizing archive change rows) = resize_back base archive change rows

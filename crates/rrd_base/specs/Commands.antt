@@ -1,4 +1,4 @@
--- The commands that change a database, and what happens to it by them.
+-- The commands that change a database, and what happens to it by them (rrdupdate, rrdtune, rrdresize).
 use Rattle.std.specs.Prelude.{ℕ, ◌+◌, ◌-◌, if◌then◌else◌, Option, Some, None, List, [], ◌∷◌, ◌++◌, map, slice_index_or}
 use Rattle.std.specs.List.{fold, enumerate_from}
 use Rattle.std.specs.Option.{option_map_or, unwrap_or}
@@ -25,12 +25,12 @@ Asked A = Name × A
 -- a command that changes a database
 pub data Command : Type 0 where
   Updating : Update → Command
-  Tuning_by : Tuning → Command
+  TuningBy : Tuning → Command
   Resizing : ℕ → Change → ℕ → Command
 
 -- ---- raw values
 
--- the raw value of what is given
+-- the raw value of what is given (rrdupdate; which numbers a source accepts is this project's)
 abbrev pub raw_of : Kind → Given → Raw
 raw_of kind Given.Unknown = Raw.Unknown
 raw_of kind (Given.Number number) = option_map_or Raw.Known (admit kind number) Raw.Unknown
@@ -40,7 +40,7 @@ raw_of kind (Given.Number number) = option_map_or Raw.Known (admit kind number) 
 abbrev pub names : List DsDef → List Name
 names sources = map (λ (source : DsDef). source.name) sources
 
--- the value for a source: the one in the place of its name; unknown if it isn't named
+-- the value for a source: the one in the place of its name; unknown if it isn't named (rrdupdate, "--template")
 abbrev pub value_for : List Name → List Given → DsDef → Given
 value_for [] values source = Given.Unknown
 value_for (name ∷ names) [] source = Given.Unknown
@@ -86,7 +86,7 @@ asked (Some option) name old = if same_name option.0 name then option.1 else old
 abbrev pub raw_under : Kind → Kind → Raw → Raw
 raw_under old new raw = if same_kind old new then raw else Raw.Unknown
 
--- a source's new settings. All names are those before the command
+-- a source's new settings (rrdtune). All names are those before the command (own)
 abbrev pub tuned : Tuning → DsDef → DsDef
 tuned tuning source = record {
   name = asked tuning.rename source.name source.name;
@@ -103,7 +103,7 @@ rows_changed Shrink old rows = old - rows
 -- the events of a command
 abbrev pub events : Settings → Command → List Event
 events settings (Updating update) = map Sampled (samples_of settings.sources update)
-events settings (Tuning_by tuning) = Tuned (map (tuned tuning) settings.sources) ∷ []
+events settings (TuningBy tuning) = Tuned (map (tuned tuning) settings.sources) ∷ []
 events settings (Resizing archive change rows) = Resized archive (rows_changed change (slice_index_or settings.rows archive 0) rows) ∷ []
 
 -- the events of a history, each command under the settings that the earlier ones left

@@ -1,4 +1,4 @@
--- What the journal keeps of a command, and how it is undone.
+-- What the journal keeps of a command, and how it is undone (own).
 use Rattle.std.specs.Prelude.{◌≡◌, ℕ, zero, suc, ◌+◌, ◌-◌, ◌*◌, ◌/◌, min, Bool, false, ◌||◌, if◌then◌else◌, Option, Some, None, List, [], ◌∷◌, ◌++◌, map, length, take, slice_set}
 use Rattle.std.specs.List.{fold}
 use Rattle.rrd_fixed.specs.declared.cell.Cell.{Cell}
@@ -7,7 +7,7 @@ use Rattle.rrd_base.specs.declared.definition.DsDef.{DsDef}
 use Rattle.rrd_base.specs.declared.definition.RraDef.{RraDef}
 use Rattle.rrd_fold.specs.Parts.{Part}
 use Rattle.rrd_base.specs.History.{Archive, Content, IsBase}
-use Rattle.rrd_base.specs.Commands.{Asked, Command, Updating, Tuning_by, Resizing, moved}
+use Rattle.rrd_base.specs.Commands.{Asked, Command, Updating, TuningBy, Resizing, moved}
 use Rattle.rrd_fixed.specs.Names.{same_name}
 use Rattle.rrd_base.specs.declared.tune.Tuning.{Tuning}
 use Rattle.rrd_base.specs.Verdict.{verdict}
@@ -69,7 +69,7 @@ entry base (Updating update) = Updated (record {
   parts = base.parts;
   archives = map (dropped base.step base.last (moved base (Updating update)).last) base.archives;
 })
-entry base (Tuning_by tuning) = WasTuned (held tuning 0 base.sources base.raws)
+entry base (TuningBy tuning) = WasTuned (held tuning 0 base.sources base.raws)
 entry base (Resizing archive change rows) = WasResized archive (rows_at base.archives archive)
 
 -- how many cells there are in rows, in what an update dropped, and in an entry

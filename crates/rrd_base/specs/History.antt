@@ -1,4 +1,4 @@
--- What a history of commands makes of a database, second by second.
+-- What a history of commands makes of a database, second by second. Where no manual page is named, the rule is this project's.
 use Rattle.std.specs.Prelude.{◌≡◌, ℕ, ◌+◌, ◌-◌, ◌*◌, ◌/◌, ◌<◌, min, nat_le, ◌==◌, if◌then◌else◌, Bool, List, [], ◌∷◌, ◌++◌, map, length, drop, replicate}
 use Rattle.std.specs.List.{fold, find, range_with_len, enumerate_from, AllByRecursion}
 use Rattle.std.specs.Option.{option_map_or}
@@ -59,7 +59,7 @@ same_kind Derive Derive = Bool.true
 same_kind Absolute Absolute = Bool.true
 same_kind _ _ = Bool.false
 
--- a raw value under new settings: another kind makes it unknown
+-- a raw value under new settings: another kind makes it unknown (own; rrdtune gives the new type alone)
 abbrev pub raws_under : List DsDef → List DsDef → List Raw → List Raw
 raws_under (old ∷ olds) (new ∷ news) (raw ∷ raws) = (if same_kind old.kind new.kind then raw else Raw.Unknown) ∷ raws_under olds news raws
 raws_under _ _ raws = raws
@@ -69,7 +69,7 @@ moment_after now (Sampled sample) = record { sources = now.sources; last = sampl
 moment_after now (Tuned sources) = record { sources = sources; last = now.last; raws = raws_under now.sources sources now.raws }
 moment_after now (Resized archive rows) = now
 
--- the rates of a sample's interval, by the settings in force and the raw values of the sample before
+-- the rates of a sample's interval, by the settings in force and the raw values of the sample before (rrdcreate, "DS"; that the settings in force hold for the whole interval is this project's)
 abbrev pub rates : List DsDef → ℕ → List Raw → List Raw → List Cell
 rates (source ∷ sources) interval (old ∷ olds) (new ∷ news) = rate source.kind old new interval source.heartbeat source.min source.max ∷ rates sources interval olds news
 rates _ interval _ _ = []
@@ -86,7 +86,7 @@ samples now (Sampled sample ∷ events) = record { time = sample.time; rates = r
 samples now (Tuned sources ∷ events) = samples (moment_after now (Tuned sources)) events
 samples now (Resized archive rows ∷ events) = samples now events
 
--- the rates in a second: those of the first sample at or after it
+-- the rates in a second: those of the first sample at or after it (rrdcreate, "The HEARTBEAT and the STEP")
 abbrev pub second : List Taken → ℕ → List Cell
 second taken at = option_map_or (λ sample. sample.rates) (find (λ sample. nat_le at sample.time) taken) []
 
@@ -107,21 +107,21 @@ moment_at_end base events = fold moment_after (moment_of base) events
 unfoldable pub seconds_of : Content → List Event → List (List Cell)
 seconds_of base events = seconds (samples (moment_of base) events) base.last (moment_at_end base events).last
 
--- the steps that end after the base's last time
+-- the steps that end after the base's last time (rrdcreate, "The HEARTBEAT and the STEP")
 unfoldable pub steps_of : Content → List Event → List (List Cell)
 steps_of base events = finished (seconds_to_steps base.step (length base.sources)) base.last base.parts (seconds_of base events)
 
 unfoldable pub parts_of : Content → List Event → List Part
 parts_of base events = unfinished (seconds_to_steps base.step (length base.sources)) base.last base.parts (seconds_of base events)
 
--- the rows of an archive that end after it
+-- the rows of an archive that end after it (rrdcreate, "RRA")
 unfoldable pub rows_of : Content → Archive → List Event → List (List Cell)
 rows_of base archive events = finished (rows_rule archive.def (length base.sources)) (base.last / base.step) archive.parts (steps_of base events)
 
 unfoldable pub row_parts_of : Content → Archive → List Event → List Part
 row_parts_of base archive events = unfinished (rows_rule archive.def (length base.sources)) (base.last / base.step) archive.parts (steps_of base events)
 
--- how many rows an archive has after an event
+-- how many rows an archive has after an event (rrdresize)
 abbrev pub rows_after : ℕ → ℕ → Event → ℕ
 rows_after index rows (Sampled sample) = rows
 rows_after index rows (Tuned sources) = rows
@@ -140,7 +140,7 @@ room index since rows now (event ∷ events) = min (rows + since now.last) (room
 abbrev pub filled_up : {A : Type 0} → ℕ → A → List A → List A
 filled_up n unknown items = replicate (n - length items) unknown ++ items
 
--- the base's rows and those that ended since, as far as they have always had a place
+-- the base's rows and those that ended since, as far as they have always had a place (rrdcreate, "RRA"; rrdresize)
 unfoldable pub kept_rows : Content → ℕ → Archive → List Event → List (List Cell)
 kept_rows base index archive events =
     let resolution = base.step * archive.def.steps in

@@ -1,4 +1,4 @@
--- What seconds leave of a content.
+-- What seconds leave of a content: steps and rows, one after another.
 use Rattle.std.specs.Prelude.{◌≡◌, ℕ, ◌+◌, ◌-◌, ◌/◌, ◌<◌, List, [], ◌∷◌, ◌++◌, map, length, replicate, take, min, ◌*◌, ◌≤◌, ℤ, pos, negsuc, ◌-ℤ◌, nat_lt, slice_index_or, if◌then◌else◌}
 use Rattle.std.specs.Int.{int_div_euclid}
 use Rattle.rrd_fixed.specs.declared.cell.Cell.{Cell}

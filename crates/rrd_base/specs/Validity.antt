@@ -1,4 +1,4 @@
--- Which databases are valid.
+-- Which databases are valid (own).
 use Rattle.std.specs.Prelude.{◌≡◌, ℕ, ◌+◌, ◌-◌, ◌*◌, ◌/◌, ◌%◌, ◌<◌, ◌≤◌, ◌≢◌, min, pos, ◌≤ℤ◌, unsigned_abs, true, false, List, [], ◌∷◌, length, take, None}
 use Rattle.std.specs.List.{AllByRecursion, fold}
 use Rattle.rrd_fixed.specs.declared.cell.Cell.{Cell}

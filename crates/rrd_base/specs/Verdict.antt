@@ -1,4 +1,4 @@
--- Which commands are accepted, and what refuses the others.
+-- Which commands are accepted, and what refuses the others. What can be wrong is that of rrdupdate, rrdtune and rrdresize; the limits and the order of the refusals are this project's.
 use Rattle.std.specs.Prelude.{ℕ, ◌+◌, ◌*◌, ℤ, int_lt, unsigned_abs, nat_lt, nat_le, ◌==◌, if◌then◌else◌, Bool, true, false, not, ◌&&◌, ◌||◌, Option, Some, None, is_none, List, [], ◌∷◌, length, sum, slice_index_or}
 use Rattle.std.specs.List.{fold, list_any, list_all}
 use Rattle.std.specs.Option.{option_map_or, unwrap_or}
@@ -16,7 +16,7 @@ use Rattle.rrd_base.specs.declared.tune.Tuning.{Tuning}
 use Rattle.rrd_base.specs.declared.resize.Change.{Change}
 use Rattle.rrd_base.specs.declared.resize.Change.TheVariants.{Grow, Shrink}
 use Rattle.rrd_base.specs.History.{Content}
-use Rattle.rrd_base.specs.Commands.{Asked, Command, Updating, Tuning_by, Resizing, Settings, settings_of, settings_after, events, names, value_for, tuned}
+use Rattle.rrd_base.specs.Commands.{Asked, Command, Updating, TuningBy, Resizing, Settings, settings_of, settings_after, events, names, value_for, tuned}
 
 -- what can be wrong, and the refusal that says so
 pub record Check : Type 0 where
@@ -142,7 +142,7 @@ resize_checks settings archive change rows =
 
 abbrev pub checks : Content → Command → List Check
 checks base (Updating update) = update_checks base.sources base.last update
-checks base (Tuning_by tuning) = tune_checks base.sources tuning
+checks base (TuningBy tuning) = tune_checks base.sources tuning
 checks base (Resizing archive change rows) = resize_checks (settings_of base) archive change rows
 
 -- the refusal of a command, none if it is accepted. Memory isn't spoken of

@@ -12,7 +12,7 @@ use Rattle.rrd_base.specs.declared.update.Given.{Given}
 use Rattle.rrd_base.specs.declared.update.Sample.{Sample}
 use Rattle.rrd_base.specs.declared.tune.Tuning.{Tuning}
 use Rattle.rrd_base.specs.declared.resize.Change.TheVariants.{Grow, Shrink}
-use Rattle.rrd_base.specs.Commands.{Command, Updating, Tuning_by, Resizing}
+use Rattle.rrd_base.specs.Commands.{Command, Updating, TuningBy, Resizing}
 use Rattle.rrd_base.specs.declared.refusal.Refusal.TheVariants.{NotLater, NoSample, BadTime, WrongCount, ShrinkTooFar, NoSuchArchive, BadRows, NothingToTune, BadBounds, NoSuchSource}
 use Rattle.rrd_base.specs.Verdict.{verdict}
 use Rattle.rrd_base.specs.Survivors.{Action, Changed, Reverted, Kept, step}
@@ -66,7 +66,7 @@ to_gauge = record no_tuning { kind = Some ((letter 99, Gauge)); rename = Some ((
 -- another type makes the raw value unknown, and a revert brings name and value back
 abbrev pub Retyped : Type 0
 Retyped = let base = created 10 0 (record (counter 100) { name = letter 99 }) (archive Last 1 4 ∷ []) in
-    let tuned = run base (Changed (update (reading 10 7 ∷ [])) ∷ Changed (Tuning_by to_gauge) ∷ []) in
+    let tuned = run base (Changed (update (reading 10 7 ∷ [])) ∷ Changed (TuningBy to_gauge) ∷ []) in
     let back = step tuned Reverted in
     (tuned.now.raws ≡ Raw.Unknown ∷ []) × (map (λ (s : DsDef). s.name) tuned.now.sources ≡ letter 103 ∷ []) × (back.now.raws ≡ Raw.Known (pos 7) ∷ []) × (map (λ (s : DsDef). s.name) back.now.sources ≡ letter 99 ∷ [])
 
@@ -75,10 +75,10 @@ with_maximum = record no_tuning { maximum = Some ((letter 103, Some (pos 5000000
 
 -- new bounds don't change the interval before them; two reverts, and the same update is known again
 abbrev pub Bounded : Type 0
-Bounded = let tuned = run (small 4) (Changed (update (reading 10 9 ∷ [])) ∷ Changed (Tuning_by with_maximum) ∷ Changed (update (reading 20 9 ∷ [])) ∷ []) in
+Bounded = let tuned = run (small 4) (Changed (update (reading 10 9 ∷ [])) ∷ Changed (TuningBy with_maximum) ∷ Changed (update (reading 20 9 ∷ [])) ∷ []) in
     (rows tuned.now ≡ (nan ∷ nan ∷ known 9000000 ∷ nan ∷ []) ∷ [])
     × (rows (fold step tuned (Reverted ∷ Reverted ∷ Changed (update (reading 20 9 ∷ [])) ∷ [])).now ≡ (nan ∷ nan ∷ known 9000000 ∷ known 9000000 ∷ []) ∷ [])
-    × (verdict (small 4) (Tuning_by no_tuning) ≡ Some NothingToTune)
-    × (verdict (small 4) (Tuning_by (record with_maximum { minimum = Some ((letter 103, Some (pos 6000000))) })) ≡ Some BadBounds)
-    × (verdict (small 4) (Tuning_by to_gauge) ≡ Some NoSuchSource)
-    × (verdict (small 4) (Tuning_by with_maximum) ≡ None)
+    × (verdict (small 4) (TuningBy no_tuning) ≡ Some NothingToTune)
+    × (verdict (small 4) (TuningBy (record with_maximum { minimum = Some ((letter 103, Some (pos 6000000))) })) ≡ Some BadBounds)
+    × (verdict (small 4) (TuningBy to_gauge) ≡ Some NoSuchSource)
+    × (verdict (small 4) (TuningBy with_maximum) ≡ None)

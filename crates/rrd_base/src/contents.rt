@@ -2,7 +2,7 @@
 ghost use Rattle.std.specs.Prelude.{◌≡◌, ℕ, ◌+◌, ◌-◌, ◌*◌, ◌/◌, ◌^◌, ◌<◌, ◌≤◌, [], ◌∷◌, length, map, replicate, slice_index_or, IfOk, None, pos, ◌-ℤ◌};
 ghost use Rattle.std.specs.Int.{int_div_euclid};
 ghost use Rattle.rrd_base.specs.Choice.{choice_of};
-ghost use Rattle.rrd_base.specs.Commands.{Tuning_by, Updating, moved};
+ghost use Rattle.rrd_base.specs.Commands.{TuningBy, Updating, moved};
 ghost use Rattle.rrd_base.specs.Creating.{create_verdict, created};
 ghost use Rattle.rrd_base.specs.Shown.{cell_at, definitions, prep_at};
 ghost use Rattle.rrd_fixed.specs.declared.raw.Raw.TheVariants.{Unknown};
@@ -271,16 +271,16 @@ impl Contents {
 
     /// Gives the sources the settings that a tune asks.
     pub(crate) fn tune(&mut self, tuning: &Tuning)
-        requires { verdict self.old (Tuning_by tuning.now) ≡ None }
-        ensures { self.new ≡ moved self.old (Tuning_by tuning.now) }
+        requires { verdict self.old (TuningBy tuning.now) ≡ None }
+        ensures { self.new ≡ moved self.old (TuningBy tuning.now) }
     {
         tune_all(&mut self.sources, &mut self.raws, tuning);
     }
 
     /// The sources that an accepted tune names, as they are.
     pub(crate) fn hold(&self, tuning: &Tuning) -> ArrayVec<SourceBefore, 5>
-        requires { verdict self.now (Tuning_by tuning.now) ≡ None }
-        ensures { WasTuned (map held_of result.items) ≡ entry_for self.now (Tuning_by tuning.now) }
+        requires { verdict self.now (TuningBy tuning.now) ≡ None }
+        ensures { WasTuned (map held_of result.items) ≡ entry_for self.now (TuningBy tuning.now) }
     {
         hold(&self.sources, &self.raws, tuning)
     }

@@ -4,7 +4,7 @@ ghost use Rattle.std.specs.Result.{result_err};
 ghost use Rattle.rrd_base.specs.Answers.{IsAnswer};
 ghost use Rattle.rrd_fixed.specs.declared.raw.Raw.TheVariants.{Unknown};
 ghost use Rattle.rrd_base.specs.Choice.{choice};
-ghost use Rattle.rrd_base.specs.Commands.{Resizing, Tuning_by, Updating};
+ghost use Rattle.rrd_base.specs.Commands.{Resizing, TuningBy, Updating};
 ghost use Rattle.rrd_base.specs.Creating.{create_verdict, created};
 ghost use Rattle.rrd_base.specs.Entries.{cells_held, entry as entry_for};
 ghost use Rattle.rrd_base.specs.Shown.{cell_at, definitions, prep_at};
@@ -103,8 +103,8 @@ impl Database {
     /// that names no source, a bad or a double name, a bad heartbeat and bad bounds. The journal gets
     /// an entry; a full one drops its oldest. It takes no memory.
     pub fn tune(&mut self, tuning: &Tuning) -> Result<(), Refusal>
-        ensures verdict { result_err result ≡ verdict self.old.now (Tuning_by tuning.now) }
-        ensures ok { IfOk result (λ _. self.new ≡ changed self.old (Tuning_by tuning.now)) }
+        ensures verdict { result_err result ≡ verdict self.old.now (TuningBy tuning.now) }
+        ensures ok { IfOk result (λ _. self.new ≡ changed self.old (TuningBy tuning.now)) }
         ensures err { OnErr result (self.new ≡ self.old) }
     {
         let contents = &self.contents;

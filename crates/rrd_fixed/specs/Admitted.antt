@@ -1,4 +1,4 @@
--- Which values a source accepts, and what is kept of them.
+-- Which values a source accepts, and what is kept of them (rrdcreate, "DS"; the ranges are this project's).
 use Rattle.std.specs.Prelude.{◌-◌, ◌^◌, ℤ, pos, neg_ℤ, int_le, unsigned_abs, nat_lt, if◌then◌else◌, Option, Some, None}
 use Rattle.rrd_fixed.specs.declared.kind.Kind.{Kind}
 use Rattle.rrd_fixed.specs.declared.kind.Kind.TheVariants.{Gauge, Counter, Derive, Absolute}

@@ -13,6 +13,11 @@ pub record IsSum (known : ℕ) (sum : ℤ) : Type 0 where
   pub few : known ≤ 1000000
   pub bounded : unsigned_abs sum ≤ known * top
 
+-- how many known cells there are in so many times a cell
+abbrev pub counted : ℕ → Cell → ℕ
+counted n Unknown = 0
+counted n (Known value) = n
+
 -- the unfinished row of a source
 pub record Consolidating : Type 0 where
   pub function : Function

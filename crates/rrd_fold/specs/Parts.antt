@@ -30,18 +30,18 @@ abbrev pub with_cell : Function → Part → Cell → Part
 with_cell function part Unknown = part
 with_cell function part (Known new) = record { known = part.known + 1; value = with_value function part.known part.value new }
 
--- a step of this many seconds: unknown if more than half of them are
+-- a step of this many seconds: unknown if more than half of them are (rrdcreate, "The HEARTBEAT and the STEP"; that one exactly half unknown is known is this project's)
 abbrev pub step_cell : ℕ → Part → Cell
 step_cell step part = if nat_lt step (2 * (step - part.known)) then Unknown else Known (near part.value (pos part.known))
 
--- what the known steps of a row come to
+-- what the known steps of a row come to (rrdcreate, "RRA")
 abbrev pub consolidated : Function → Part → ℤ
 consolidated Average part = near part.value (pos part.known)
 consolidated Min part = part.value
 consolidated Max part = part.value
 consolidated Last part = part.value
 
--- a row of so many steps: unknown if too large a share of them is
+-- a row of so many steps: unknown if too large a share of them is (rrdcreate, "RRA", xff; that exactly the share is known is this project's)
 abbrev pub row_cell : Function → ℤ → ℕ → Part → Cell
 row_cell function xff steps part = if int_lt (xff *ℤ pos steps) (pos ((steps - part.known) * 10 ^ 6)) then Unknown else Known (consolidated function part)
 

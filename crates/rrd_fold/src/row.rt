@@ -3,7 +3,7 @@ ghost use Rattle.std.specs.Prelude.{◌≡◌, ◌+◌, ◌*◌, ◌^◌, ◌<�
 ghost use Rattle.std.specs.List.{fold};
 ghost use Rattle.rrd_fixed.specs.Rate.{top};
 ghost use Rattle.rrd_fold.specs.Parts.{with_cell, row_cell, nothing};
-ghost use Rattle.rrd_fold.specs.Bounds.{IsBounded, weight};
+ghost use Rattle.rrd_fold.specs.Bounds.{IsBounded, counted, weight};
 
 use crate::Function;
 use rrd_fixed::{Cell, Meter, near};
@@ -46,11 +46,11 @@ impl RowPrep {
     /// Adds the cell of a step, in millionths, a known one from `-TOP` to `TOP`. An unknown one
     /// changes nothing. It is one turn.
     pub fn add(&mut self, cell: Cell, meter: &mut Meter)
-        requires fits { self.old.part.known < 1000000 }
+        requires fits { self.old.part.known + counted 1 cell ≤ 1000000 }
         requires bounded { IsBounded cell }
         requires turns { meter.old + 1 < 2 ^ 64 }
         ensures added { self.new ≡ record { function = self.old.function; part = with_cell self.old.function self.old.part cell } }
-        ensures grows { self.new.part.known ≤ self.old.part.known + 1 }
+        ensures grows { self.new.part.known ≤ self.old.part.known + counted 1 cell }
         ensures ticked { meter.new ≡ meter.old + 1 }
     {
         meter.tick();
@@ -59,11 +59,11 @@ impl RowPrep {
 
     /// Adds a step's cell `n` times, which comes to the same as `n` calls of `add` and is one turn.
     pub fn add_many(&mut self, cell: Cell, n: u64, meter: &mut Meter)
-        requires fits { self.old.part.known + n ≤ 1000000 }
+        requires fits { self.old.part.known + counted n cell ≤ 1000000 }
         requires bounded { IsBounded cell }
         requires turns { meter.old + 1 < 2 ^ 64 }
         ensures added { self.new ≡ record { function = self.old.function; part = fold (with_cell self.old.function) self.old.part (replicate n cell) } }
-        ensures grows { self.new.part.known ≤ self.old.part.known + n }
+        ensures grows { self.new.part.known ≤ self.old.part.known + counted n cell }
         ensures ticked { meter.new ≡ meter.old + 1 }
     {
         meter.tick();
@@ -126,10 +126,10 @@ impl RowPrep {
 
     // Adds a cell, without a turn.
     fn take(&mut self, cell: Cell)
-        requires fits { self.old.part.known < 1000000 }
+        requires fits { self.old.part.known + counted 1 cell ≤ 1000000 }
         requires bounded { IsBounded cell }
         ensures added { self.new ≡ record { function = self.old.function; part = with_cell self.old.function self.old.part cell } }
-        ensures grows { self.new.part.known ≤ self.old.part.known + 1 }
+        ensures grows { self.new.part.known ≤ self.old.part.known + counted 1 cell }
     {
         if let Cell::Known(new) = cell {
             self.value = match self.function {

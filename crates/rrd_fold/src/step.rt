@@ -4,7 +4,7 @@ ghost use Rattle.rrd_fixed.specs.Rate.{top};
 ghost use Rattle.std.specs.List.{fold};
 ghost use Rattle.rrd_fold.specs.Parts.{with_cell, step_cell, nothing};
 ghost use Rattle.rrd_fold.specs.declared.function.Function.TheVariants.{Average};
-ghost use Rattle.rrd_fold.specs.Bounds.{IsBounded};
+ghost use Rattle.rrd_fold.specs.Bounds.{IsBounded, counted};
 
 use rrd_fixed::{Cell, Meter, near};
 use std::marker::Model;
@@ -51,11 +51,11 @@ impl StepPrep {
     /// Adds so many seconds of one rate, in millionths, known ones from `-TOP` to `TOP`. Unknown
     /// seconds change nothing. It is one turn.
     pub fn add(&mut self, rate: Cell, seconds: u64, meter: &mut Meter)
-        requires fits { self.old.known + seconds ≤ 1000000 }
+        requires fits { self.old.known + counted seconds rate ≤ 1000000 }
         requires bounded { IsBounded rate }
         requires turns { meter.old + 1 < 2 ^ 64 }
         ensures added { self.new ≡ fold (with_cell Average) self.old (replicate seconds rate) }
-        ensures grows { self.new.known ≤ self.old.known + seconds }
+        ensures grows { self.new.known ≤ self.old.known + counted seconds rate }
         ensures ticked { meter.new ≡ meter.old + 1 }
     {
         meter.tick();

@@ -1,11 +1,13 @@
 -- What bytes more do to the lines of an input, and to an unfinished one.
-use Rattle.std.proofs.Common.{◌≡◌, ◌∙◌, ◌++◌, ◌∷◌, ◌&&◌, ◌≤◌, ℕ, Bool, true, false, List, [], length, sym, ap, refl, append_assoc, append-nil, arith, nat_le, nat_eq, length-append, ⊎_elim, if◌then◌else◌, Result, Ok, Err}
+use Rattle.std.proofs.Common.{◌≡◌, ◌∙◌, ◌++◌, ◌∷◌, ◌&&◌, ◌≤◌, ℕ, Bool, true, false, List, [], length, sym, ap, refl, append_assoc, append-nil, arith, nat_le, nat_eq, length-append, ⊎_elim, ◌⊎◌, inl, inr, if◌then◌else◌, Result, Ok, Err}
 use Rattle.std.specs.Result.{OnOk, is_err}
 use Rattle.std.proofs.lemmas.Bool.{cases_Bool}
 use Rattle.std.proofs.lemmas.Bool.Decides.{nat_tests}
 use Rattle.std.specs.List.{list_all}
 use Rattle.rrd_tool.specs.Lines.{is_empty, is_plain, is_text, last_part, whole_lines, without_cr}
 use Rattle.rrd_tool.specs.Held.{HoldsBy, IsLost}
+use Rattle.rrd_tool.specs.declared.lines.Ending.{Ending}
+use Rattle.rrd_tool.specs.declared.lines.Ending.TheVariants.{Plain, Cr, Lost}
 
 cr_past : (xs : List ℕ) (b : ℕ) (more : List ℕ) → without_cr (xs ++ b ∷ more) ≡ xs ++ without_cr (b ∷ more)
 cr_past [] b more = refl
@@ -84,9 +86,11 @@ pub text_whole : (bytes : List ℕ) → list_all is_plain bytes ≡ true → len
 text_whole bytes h k = rw h (grind (arith, nat_tests))
 
 -- what a line of text is
-pub held_text : (has_cr : Bool) (bytes line : List ℕ) → HoldsBy false has_cr bytes line → without_cr line ≡ bytes
-held_text true bytes line h = ap without_cr h.0 ∙ cr_past bytes 13 [] ∙ append-nil bytes
-held_text false bytes line h = ap without_cr (h.0 ∙ append-nil bytes) ∙ plain_whole bytes h.1
+pub cr_text : (bytes line : List ℕ) → HoldsBy Cr bytes line → without_cr line ≡ bytes
+cr_text bytes line h = ap without_cr h.0 ∙ cr_past bytes 13 [] ∙ append-nil bytes
+
+pub plain_text : (bytes line : List ℕ) → HoldsBy Plain bytes line → without_cr line ≡ bytes
+plain_text bytes line h = ap without_cr h.0 ∙ plain_whole bytes h.1
 
 pub lost_some : (line : List ℕ) → IsLost line → is_empty line ≡ false
 lost_some [] h = absurd (let bad : true ≡ false = h [] in cc)
@@ -96,15 +100,15 @@ none_cr : (bytes : List ℕ) → is_empty (bytes ++ 13 ∷ []) ≡ false
 none_cr [] = refl
 none_cr (b ∷ bytes) = refl
 
-pub cr_some : (bytes line : List ℕ) → HoldsBy false true bytes line → is_empty line ≡ false
+pub cr_some : (bytes line : List ℕ) → HoldsBy Cr bytes line → is_empty line ≡ false
 cr_some bytes line h = ap is_empty h.0 ∙ none_cr bytes
 
 none_length : (bytes : List ℕ) → is_empty bytes ≡ nat_eq (length bytes) 0
 none_length [] = refl
 none_length (b ∷ bytes) = grind (arith, nat_tests)
 
-pub plain_some : (bytes line : List ℕ) → HoldsBy false false bytes line → is_empty line ≡ nat_eq (length bytes) 0
-plain_some bytes line h = ap is_empty (h.0 ∙ append-nil bytes) ∙ none_length bytes
+pub plain_some : (bytes line : List ℕ) → HoldsBy Plain bytes line → is_empty line ≡ nat_eq (length bytes) 0
+plain_some bytes line h = ap is_empty h.0 ∙ none_length bytes
 
 -- what is lost is no text
 pub lost_ended : (held : List ℕ) → IsLost held → is_text (without_cr held) ≡ false
@@ -118,8 +122,22 @@ lost_cut held h = ⊎_elim
     (cases_Bool (is_text held))
 
 -- a line that ends in CR is no text
-pub cr_cut : (bytes held : List ℕ) → HoldsBy false true bytes held → is_text held ≡ false
+pub cr_cut : (bytes held : List ℕ) → HoldsBy Cr bytes held → is_text held ≡ false
 cr_cut bytes held h = ap is_text h.0 ∙ not_text bytes (13 ∷ []) refl
+
+-- ---- what an unfinished line has come to
+
+pub cut_none : (ending : Ending) (bytes held : List ℕ) → (ending ≡ Lost) ⊎ (ending ≡ Cr) → HoldsBy ending bytes held → is_text held ≡ false
+cut_none ending bytes held (inl lost) h = lost_cut held (rw lost at h)
+cut_none ending bytes held (inr cr) h = cr_cut bytes held (rw cr at h)
+
+pub some_held : (ending : Ending) (bytes held : List ℕ) → (ending ≡ Lost) ⊎ (ending ≡ Cr) → HoldsBy ending bytes held → is_empty held ≡ false
+some_held ending bytes held (inl lost) h = lost_some held (rw lost at h)
+some_held ending bytes held (inr cr) h = cr_some bytes held (rw cr at h)
+
+pub kept_text : (ending : Ending) (bytes held : List ℕ) → (ending ≡ Plain) ⊎ (ending ≡ Cr) → HoldsBy ending bytes held → (without_cr held ≡ bytes) × (is_text bytes ≡ true)
+kept_text ending bytes held (inl plain) h = let k = rw plain at h in (plain_text bytes held k, text_whole bytes k.1 k.2)
+kept_text ending bytes held (inr cr) h = let k = rw cr at h in (cr_text bytes held k, text_whole bytes k.1 k.2)
 
 -- ---- the lines of bytes that come one after another
 

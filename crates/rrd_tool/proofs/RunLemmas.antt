@@ -8,7 +8,7 @@ use Rattle.rrd_fixed.specs.declared.writing.WriteFault.{WriteFault}
 use Rattle.rrd_base.specs.declared.create.CreateSpec.{CreateSpec}
 use Rattle.rrd_base.specs.declared.refusal.Refusal.{Refusal}
 use Rattle.rrd_base.specs.declared.refusal.Refusal.TheVariants as refusal
-use Rattle.rrd_base.specs.Commands.{Resizing, Tuning_by, Updating}
+use Rattle.rrd_base.specs.Commands.{Resizing, TuningBy, Updating}
 use Rattle.rrd_base.specs.Creating.{create_verdict, created}
 use Rattle.rrd_base.specs.Entries.{Entry}
 use Rattle.rrd_base.specs.Survivors.{State, Kept, Changed, Reverted, Stands, step}
@@ -67,8 +67,8 @@ stands_next (Update update) (Some kept) (Some state) h s =
     rw accepted at moved
 stands_next (Tune tuning) (Some kept) None h s = absurd s
 stands_next (Tune tuning) (Some kept) (Some state) h s =
-    let accepted : verdict kept.now (Tuning_by tuning) ≡ None = no_refusal (verdict kept.now (Tuning_by tuning)) h in
-    let moved : Stands _ (step kept (Changed (Tuning_by tuning))) = step_stands state kept (Changed (Tuning_by tuning)) s in
+    let accepted : verdict kept.now (TuningBy tuning) ≡ None = no_refusal (verdict kept.now (TuningBy tuning)) h in
+    let moved : Stands _ (step kept (Changed (TuningBy tuning))) = step_stands state kept (Changed (TuningBy tuning)) s in
     rw accepted at moved
 stands_next (Resize index change rows) (Some kept) None h s = absurd s
 stands_next (Resize index change rows) (Some kept) (Some state) h s =

@@ -3,7 +3,7 @@ use Rattle.std.specs.Prelude.{◌≡◌, ◌⊎◌, [], ℕ, Bool, List, Option,
 use Rattle.std.specs.Io.KnownBytes.{Appends, Keeps}
 use Rattle.rrd_fixed.specs.Written.{AppendsFront}
 use Rattle.rrd_base.specs.declared.refusal.Refusal.TheVariants as refusal
-use Rattle.rrd_base.specs.Commands.{Resizing, Tuning_by, Updating}
+use Rattle.rrd_base.specs.Commands.{Resizing, TuningBy, Updating}
 use Rattle.rrd_base.specs.Creating.{created}
 use Rattle.rrd_base.specs.Survivors.{State, Kept, changed, reverted}
 use Rattle.rrd_tool.specs.Run.{StandsFor, is_change, kept_of, lines_on, next, takes_memory, verdict_on}
@@ -18,7 +18,7 @@ abbrev pub kept_next : Option Kept → Command → Option Kept
 kept_next kept (Create spec) = Some (record { now = created spec; journal = [] })
 kept_next None command = None
 kept_next (Some kept) (Update update) = Some (changed kept (Updating update))
-kept_next (Some kept) (Tune tuning) = Some (changed kept (Tuning_by tuning))
+kept_next (Some kept) (Tune tuning) = Some (changed kept (TuningBy tuning))
 kept_next (Some kept) (Resize index change rows) = Some (changed kept (Resizing index change rows))
 kept_next (Some kept) (Fetch function asked start stop) = Some kept
 kept_next (Some kept) Last = Some kept

@@ -6,7 +6,7 @@ use Rattle.rrd_base.specs.declared.create.CreateSpec.{CreateSpec}
 use Rattle.rrd_base.specs.declared.refusal.Refusal.{Refusal}
 use Rattle.rrd_base.specs.declared.refusal.Refusal.TheVariants.{NothingToRevert}
 use Rattle.rrd_base.specs.History.{Content}
-use Rattle.rrd_base.specs.Commands.{Resizing, Tuning_by, Updating}
+use Rattle.rrd_base.specs.Commands.{Resizing, TuningBy, Updating}
 use Rattle.rrd_base.specs.Verdict.{verdict}
 use Rattle.rrd_base.specs.Entries.{Entry}
 use Rattle.rrd_base.specs.Survivors.{State, Kept, Changed, Reverted, survived, journal_of, after, Stands}
@@ -41,7 +41,7 @@ abbrev pub verdict_on : Option Kept → Command → Option Fault
 verdict_on kept (Create spec) = option_map Refused (create_verdict spec)
 verdict_on None command = Some NoDatabase
 verdict_on (Some kept) (Update update) = option_map Refused (verdict kept.now (Updating update))
-verdict_on (Some kept) (Tune tuning) = option_map Refused (verdict kept.now (Tuning_by tuning))
+verdict_on (Some kept) (Tune tuning) = option_map Refused (verdict kept.now (TuningBy tuning))
 verdict_on (Some kept) (Resize index change rows) = option_map Refused (verdict kept.now (Resizing index change rows))
 verdict_on (Some kept) (Fetch function asked start stop) = option_map Refused (result_err (choice kept.now function asked start stop))
 verdict_on (Some kept) Last = None
@@ -87,7 +87,7 @@ abbrev pub next : Option State → Command → Option State
 next state (Create spec) = Some (begun (created spec))
 next None command = None
 next (Some state) (Update update) = Some (after state (Changed (Updating update)))
-next (Some state) (Tune tuning) = Some (after state (Changed (Tuning_by tuning)))
+next (Some state) (Tune tuning) = Some (after state (Changed (TuningBy tuning)))
 next (Some state) (Resize index change rows) = Some (after state (Changed (Resizing index change rows)))
 next (Some state) (Fetch function asked start stop) = Some state
 next (Some state) Last = Some state

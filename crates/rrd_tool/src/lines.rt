@@ -10,12 +10,20 @@ use std::alloc::{AllocError, Global};
 /// The most bytes of a line, without its end.
 const MOST: usize = 65_536;
 
-/// An unfinished line: its bytes, or that no line that begins with them is a text.
+/// What an unfinished line has come to: the plain bytes that are kept, these and a CR behind them, or
+/// that no line that begins so is a text.
+#[derive(Clone, Copy)]
+pub enum Ending {
+    Plain,
+    Cr,
+    Lost,
+}
+
+/// An unfinished line.
 #[derive(Drop)]
 pub struct LineBuffer {
     bytes: Vec<u8>,
-    has_cr: bool,
-    is_lost: bool,
+    ending: Ending,
     ghost room: { 65536 ≤ vec_capacity bytes },
     ghost plain: { list_all is_plain bytes.items ≡ true },
 }
@@ -29,6 +37,7 @@ fn is_plain(byte: u8) -> bool
 
 impl LineBuffer {
     ghost use Rattle.rrd_tool.specs.Held.{Holds};
+    ghost use Rattle.rrd_tool.specs.declared.lines.Ending.TheVariants.{Plain};
 
     /// An empty line, with room for 65,536 bytes.
     pub fn new(alloc: Global) -> Result<LineBuffer, AllocError>
@@ -36,8 +45,7 @@ impl LineBuffer {
     {
         Ok(LineBuffer {
             bytes: Vec::with_capacity(alloc, MOST)?,
-            has_cr: false,
-            is_lost: false,
+            ending: Ending::Plain,
         })
     }
 
@@ -46,23 +54,29 @@ impl LineBuffer {
         requires { byte ≢ 10 }
         ensures { (held : List ℕ) → Holds self.old held → Holds self.new (held ++ byte ∷ []) }
     {
-        if self.is_lost {
-            return;
+        match self.ending {
+            Ending::Lost => {}
+            Ending::Cr => self.ending = Ending::Lost,
+            Ending::Plain => self.push_behind_plain(byte),
         }
-        if self.has_cr {
-            self.is_lost = true;
-            return;
-        }
+    }
+
+    // Adds a byte other than LF behind plain ones.
+    fn push_behind_plain(&mut self, byte: u8)
+        requires other { byte ≢ 10 }
+        requires plain { self.old.ending ≡ Plain }
+        ensures { (held : List ℕ) → Holds self.old held → Holds self.new (held ++ byte ∷ []) }
+    {
         if byte == b'\r' {
-            self.has_cr = true;
+            self.ending = Ending::Cr;
             return;
         }
         if !is_plain(byte) {
-            self.is_lost = true;
+            self.ending = Ending::Lost;
             return;
         }
         if self.bytes.len() >= MOST {
-            self.is_lost = true;
+            self.ending = Ending::Lost;
             return;
         }
         let Ok(()) = self.bytes.push(byte) else {
@@ -77,10 +91,9 @@ impl LineBuffer {
             → option_map (λ text. text.now) result ≡ text_in (without_cr held) }
         ensures plain { IfSome result (λ text. list_all is_plain text.now ≡ true) }
     {
-        if self.is_lost {
-            None
-        } else {
-            Some(self.bytes.as_slice())
+        match self.ending {
+            Ending::Lost => None,
+            Ending::Plain | Ending::Cr => Some(self.bytes.as_slice()),
         }
     }
 
@@ -91,26 +104,20 @@ impl LineBuffer {
             → option_map (λ text. text.now) result ≡ text_in held }
         ensures plain { IfSome result (λ text. list_all is_plain text.now ≡ true) }
     {
-        if self.is_lost {
-            return None;
+        match self.ending {
+            Ending::Lost | Ending::Cr => None,
+            Ending::Plain => Some(self.bytes.as_slice()),
         }
-        if self.has_cr {
-            return None;
-        }
-        Some(self.bytes.as_slice())
     }
 
     /// Whether no byte came.
     pub fn is_empty(&self) -> bool
         ensures { (held : List ℕ) → Holds self.now held → result ≡ is_empty held }
     {
-        if self.is_lost {
-            return false;
+        match self.ending {
+            Ending::Lost | Ending::Cr => false,
+            Ending::Plain => self.bytes.is_empty(),
         }
-        if self.has_cr {
-            return false;
-        }
-        self.bytes.is_empty()
     }
 
     /// Begins a new line.
@@ -118,8 +125,7 @@ impl LineBuffer {
         ensures { Holds self.new [] }
     {
         self.bytes.clear();
-        self.has_cr = false;
-        self.is_lost = false;
+        self.ending = Ending::Plain;
     }
 }
 

@@ -1,6 +1,6 @@
 use Rattle.std.proofs.Common.{◌≡◌, sym, ◌∙◌, ap, subst, length, ◌≤◌, None}
 use Rattle.rrd_base.specs.History.{Content}
-use Rattle.rrd_base.specs.Commands.{Tuning_by}
+use Rattle.rrd_base.specs.Commands.{TuningBy}
 use Rattle.rrd_base.specs.Contents.{content_of}
 use Rattle.rrd_base.specs.Entries.{held}
 use Rattle.rrd_base.specs.Verdict.{verdict}
@@ -16,6 +16,6 @@ pub hold-requires-clause-few : goal.hold-requires-clause-few
 hold-requires-clause-few c =
     let d = c.self.inside in
     let t = c.args.tuning.now in
-    let accepted : verdict (content_of d) (Tuning_by t) ≡ None = subst (λ (x : Content). verdict x (Tuning_by t) ≡ None) (sym c.self.view_is) c.requires in
+    let accepted : verdict (content_of d) (TuningBy t) ≡ None = subst (λ (x : Content). verdict x (TuningBy t) ≡ None) (sym c.self.view_is) c.requires in
     let few = (tune_fits (content_of d) t c.self.invariant accepted).few in
     subst (λ ss. length (held t 0 ss c.deref-2.result.now) ≤ 5) (sym c.deref.ensures.value) (subst (λ rs. length (held t 0 d.sources.items rs) ≤ 5) (sym c.deref-2.ensures.value) few)

@@ -3,7 +3,7 @@ use Rattle.rrd_base.specs.declared.refusal.Refusal.{Refusal}
 use Rattle.rrd_base.specs.declared.tune.Tuning.{Tuning}
 use Rattle.rrd_base.specs.declared.entry.Entry.TheVariants as entry
 use Rattle.rrd_base.specs.History.{Content}
-use Rattle.rrd_base.specs.Commands.{Tuning_by, moved}
+use Rattle.rrd_base.specs.Commands.{TuningBy, moved}
 use Rattle.rrd_base.specs.Survivors.{Kept, changed}
 use Rattle.rrd_base.specs.Verdict.{first_refusal, tune_checks, verdict}
 use Rattle.rrd_base.specs.Contents.{content_of}
@@ -12,7 +12,7 @@ use Rattle.rrd_base.proofs.Moving.{moved_depth}
 use Rattle.rrd_base.proofs.database.Database.tune.Goals as goal
 
 -- what was checked is the verdict
-checked : (x : Content) (y z : Content) (tuning : Tuning) (answer : Option Refusal) → answer ≡ first_refusal (tune_checks x.sources tuning) → x ≡ y → y ≡ z → verdict z (Tuning_by tuning) ≡ answer
+checked : (x : Content) (y z : Content) (tuning : Tuning) (answer : Option Refusal) → answer ≡ first_refusal (tune_checks x.sources tuning) → x ≡ y → y ≡ z → verdict z (TuningBy tuning) ≡ answer
 unfolding verdict
 checked x y z tuning answer e f g = sym (e ∙ ap (λ (c : Content). first_refusal (tune_checks c.sources tuning)) (f ∙ g))
 
@@ -42,9 +42,9 @@ invariant_of-self c =
     let tuning = c.args.tuning.now in
     let e = c.check_tune.ensures ∙ ap (λ ss. first_refusal (tune_checks ss tuning)) c.deref.ensures.value in
     let accepted = checked (content_of c.contents.inside) d.contents d.contents tuning c.check_tune.result e c.contents.view_is refl ∙ c.in_default.is in
-    let one = added d.contents d.journal.items (Tuning_by tuning) (entry.Tune c.hold-held.result) c.self.invariant.valid c.self.invariant.functions_stay accepted c.hold-held.ensures tt in
+    let one = added d.contents d.journal.items (TuningBy tuning) (entry.Tune c.hold-held.result) c.self.invariant.valid c.self.invariant.functions_stay accepted c.hold-held.ensures tt in
     rw (c.tune.ensures, c.push_back-oldest.ensures.items, c.self.invariant.places) (record {
-      places = sym (moved_depth d.contents (Tuning_by tuning));
+      places = sym (moved_depth d.contents (TuningBy tuning));
       valid = one.after;
       functions_stay = one.functions_stay;
     })
@@ -55,7 +55,7 @@ returns-clause-ok c =
     let tuning = c.args.tuning.now in
     let e = c.check_tune.ensures ∙ ap (λ ss. first_refusal (tune_checks ss tuning)) c.deref.ensures.value in
     let accepted = checked (content_of c.contents.inside) d.contents d.contents tuning c.check_tune.result e c.contents.view_is refl ∙ c.in_default.is in
-    let one = added d.contents d.journal.items (Tuning_by tuning) (entry.Tune c.hold-held.result) c.self.invariant.valid c.self.invariant.functions_stay accepted c.hold-held.ensures tt in
+    let one = added d.contents d.journal.items (TuningBy tuning) (entry.Tune c.hold-held.result) c.self.invariant.valid c.self.invariant.functions_stay accepted c.hold-held.ensures tt in
     rw (c.tune.ensures, c.push_back-oldest.ensures.items, c.self.invariant.places)
-    (ap (λ j. let k : Kept = record { now = moved d.contents (Tuning_by tuning); journal = j } in k) one.journal_is
-    ∙ ap (λ (k : Kept). changed k (Tuning_by tuning)) c.self.view_is)
+    (ap (λ j. let k : Kept = record { now = moved d.contents (TuningBy tuning); journal = j } in k) one.journal_is
+    ∙ ap (λ (k : Kept). changed k (TuningBy tuning)) c.self.view_is)

@@ -14,7 +14,8 @@ invariant_of-self c =
     let kept = c.self.invariant.bounded in
     let fits_sum : FitsSigned w128 sum = omega (arith, ints) in
     let fits_more : FitsSigned w128 more = omega (arith, ints) in
-    let both = IsSum_more c.self.inside.known c.args.seconds sum more c.self.invariant (omega arith) c.times.ensures.limit in
+    let few = rw c.in-Known.is at c.requires.fits in
+    let both = IsSum_more c.self.inside.known c.args.seconds sum more c.self.invariant (omega (arith, few)) c.times.ensures.limit in
     let bounded = both.bounded in
     let fits_both : FitsSigned w128 (sum +ℤ more) = omega (arith, ints) in
     simp to_z-of_z both
@@ -30,7 +31,8 @@ returns-in-Known-clause-added c =
     let fits_more : FitsSigned w128 more = omega (arith, ints) in
     let small = rw c.in-Known.is at c.requires.bounded in
     let fits_rate : FitsSigned w128 c.in-Known.rate = omega (arith, ints, small) in
-    let both = IsSum_more c.self.inside.known c.args.seconds sum more c.self.invariant (omega arith) c.times.ensures.limit in
+    let few = rw c.in-Known.is at c.requires.fits in
+    let both = IsSum_more c.self.inside.known c.args.seconds sum more c.self.invariant (omega (arith, few)) c.times.ensures.limit in
     let bounded = both.bounded in
     let fits_both : FitsSigned w128 (sum +ℤ more) = omega (arith, ints) in
     simp to_z-of_z (added c.args.self.now c.args.rate c.in-Known.rate more c.self.inside.known c.args.seconds sum c.self.view_is c.in-Known.is (simp to_z-of_z at c.times.ensures.value))
