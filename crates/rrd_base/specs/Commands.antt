@@ -15,6 +15,7 @@ use Rattle.rrd_base.specs.declared.tune.Tuning.{Tuning}
 use Rattle.rrd_base.specs.declared.resize.Change.{Change}
 use Rattle.rrd_base.specs.declared.resize.Change.TheVariants.{Grow, Shrink}
 use Rattle.rrd_base.specs.History.{Archive, Content, Reading, Event, Sampled, Tuned, Resized, rows_after, same_kind, content}
+pub use Rattle.rrd_base.specs.History.{raw_under}
 
 -- ---- what is asked
 
@@ -81,10 +82,6 @@ samples_of sources update = map (sample_of sources (unwrap_or update.template (n
 abbrev pub asked : {A : Type 0} → Option (Asked A) → Name → A → A
 asked None name old = old
 asked (Some option) name old = if same_name option.0 name then option.1 else old
-
--- a raw value under new settings: another type makes it unknown
-abbrev pub raw_under : Kind → Kind → Raw → Raw
-raw_under old new raw = if same_kind old new then raw else Raw.Unknown
 
 -- a source's new settings (rrdtune). All names are those before the command (own)
 abbrev pub tuned : Tuning → DsDef → DsDef

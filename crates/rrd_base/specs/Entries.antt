@@ -62,13 +62,12 @@ rows_at [] index = []
 rows_at (archive ∷ archives) zero = archive.rows
 rows_at (archive ∷ archives) (suc index) = rows_at archives index
 
+-- what is kept of a content before an update that ends at a time
+abbrev pub before : Content → ℕ → BeforeUpdate
+before base end = record { last = base.last; raws = base.raws; parts = base.parts; archives = map (dropped base.step base.last end) base.archives }
+
 abbrev pub entry : Content → Command → Entry
-entry base (Updating update) = Updated (record {
-  last = base.last;
-  raws = base.raws;
-  parts = base.parts;
-  archives = map (dropped base.step base.last (moved base (Updating update)).last) base.archives;
-})
+entry base (Updating update) = Updated (before base (moved base (Updating update)).last)
 entry base (TuningBy tuning) = WasTuned (held tuning 0 base.sources base.raws)
 entry base (Resizing archive change rows) = WasResized archive (rows_at base.archives archive)
 

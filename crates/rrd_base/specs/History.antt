@@ -60,8 +60,11 @@ same_kind Absolute Absolute = Bool.true
 same_kind _ _ = Bool.false
 
 -- a raw value under new settings: another kind makes it unknown (own; rrdtune gives the new type alone)
+abbrev pub raw_under : Kind → Kind → Raw → Raw
+raw_under old new raw = if same_kind old new then raw else Raw.Unknown
+
 abbrev pub raws_under : List DsDef → List DsDef → List Raw → List Raw
-raws_under (old ∷ olds) (new ∷ news) (raw ∷ raws) = (if same_kind old.kind new.kind then raw else Raw.Unknown) ∷ raws_under olds news raws
+raws_under (old ∷ olds) (new ∷ news) (raw ∷ raws) = raw_under old.kind new.kind raw ∷ raws_under olds news raws
 raws_under _ _ raws = raws
 
 abbrev pub moment_after : Moment → Event → Moment

@@ -2,15 +2,12 @@
 use Rattle.std.specs.Prelude.{◌≡◌, ◌<◌, ℕ, List, length, map, reverse}
 use Rattle.rrd_base.specs.History.{Archive, Content}
 use Rattle.rrd_base.specs.Entries as entries
+pub use Rattle.rrd_base.specs.Entries.{before}
 use Rattle.rrd_base.specs.Store.{CanPutBackEach, befores, functions, saved_functions}
 use Rattle.rrd_base.specs.declared.entry.Entry.{Entry}
 use Rattle.rrd_base.specs.declared.entry.Entry.TheVariants as entry
 use Rattle.rrd_base.specs.declared.entry.BeforeUpdate.{BeforeUpdate}
 use Rattle.rrd_base.specs.Tuned.{held_of}
-
--- what an update that ends at a time leaves in the journal
-abbrev pub before : Content → ℕ → entries.BeforeUpdate
-before now end = record { last = now.last; raws = now.raws; parts = now.parts; archives = map (entries.dropped now.step now.last end) now.archives }
 
 -- the entry of an update
 abbrev pub update_of : BeforeUpdate → entries.BeforeUpdate

@@ -8,6 +8,7 @@ use Rattle.rrd_base.specs.declared.definition.DsDef.{DsDef}
 use Rattle.rrd_fold.specs.declared.function.Function.{Function}
 use Rattle.rrd_fold.specs.declared.function.Function.TheVariants.{Average, Min, Max, Last}
 use Rattle.rrd_fold.specs.Parts.{Part}
+pub use Rattle.rrd_fold.specs.Bounds.{weight}
 use Rattle.rrd_base.specs.History.{Archive, Content}
 use Rattle.rrd_base.specs.Commands.{Command, names, settings_of, moved}
 use Rattle.rrd_fixed.specs.Names.{is_good}
@@ -28,13 +29,6 @@ AreAccepted [] [] = Unit {0}
 AreAccepted [] (raw ∷ raws) = ⊥
 AreAccepted (source ∷ sources) [] = ⊥
 AreAccepted (source ∷ sources) (raw ∷ raws) = IsAccepted source.kind raw × AreAccepted sources raws
-
--- how many values one value may stand for, in size
-abbrev pub weight : Function → ℕ → ℕ
-weight Average known = known
-weight Min known = 1
-weight Max known = 1
-weight Last known = 1
 
 -- a part of at most so many cells, each from -TOP to TOP
 pub record IsPart (function : Function) (passed : ℕ) (part : Part) : Type 0 where

@@ -1,5 +1,5 @@
 -- Which commands are accepted, and what refuses the others. What can be wrong is that of rrdupdate, rrdtune and rrdresize; the limits and the order of the refusals are this project's.
-use Rattle.std.specs.Prelude.{ℕ, ◌+◌, ◌*◌, ℤ, int_lt, unsigned_abs, nat_lt, nat_le, ◌==◌, if◌then◌else◌, Bool, true, false, not, ◌&&◌, ◌||◌, Option, Some, None, is_none, List, [], ◌∷◌, length, sum, slice_index_or}
+use Rattle.std.specs.Prelude.{ℕ, ◌+◌, ◌*◌, ℤ, int_lt, unsigned_abs, nat_lt, nat_le, ◌==◌, if◌then◌else◌, Bool, true, false, not, ◌&&◌, ◌||◌, Option, Some, None, is_none, List, [], ◌∷◌, ◌++◌, length, sum, slice_index_or}
 use Rattle.std.specs.List.{fold, list_any, list_all}
 use Rattle.std.specs.Option.{option_map_or, unwrap_or}
 use Rattle.rrd_fixed.specs.Rate.{top}
@@ -82,12 +82,21 @@ abbrev pub no_sample : List Sample → Bool
 no_sample [] = true
 no_sample (reading ∷ readings) = false
 
+-- the names that the values belong to: those given, or all in their order
+abbrev pub template_of : List DsDef → Option (List Name) → List Name
+template_of sources template = unwrap_or template (names sources)
+
+abbrev pub template_checks : List DsDef → Option (List Name) → List Check
+template_checks sources template =
+    ◌refuses◌ (option_map_or (list_any (λ (name : Name). not (has_source sources name))) template false) NoSuchSource
+    ∷ ◌refuses◌ (option_map_or is_double template false) DoubleName
+    ∷ []
+
 abbrev pub update_checks : List DsDef → ℕ → Update → List Check
 update_checks sources last update =
-    ◌refuses◌ (option_map_or (list_any (λ (name : Name). not (has_source sources name))) update.template false) NoSuchSource
-    ∷ ◌refuses◌ (option_map_or is_double update.template false) DoubleName
-    ∷ ◌refuses◌ (no_sample update.samples) NoSample
-    ∷ sample_checks sources (unwrap_or update.template (names sources)) last update.samples
+    template_checks sources update.template
+    ++ ◌refuses◌ (no_sample update.samples) NoSample
+    ∷ sample_checks sources (template_of sources update.template) last update.samples
 
 abbrev pub names_no_source : {A : Type 0} → List DsDef → Option (Asked A) → Bool
 names_no_source sources None = false
