@@ -14,7 +14,7 @@ use Rattle.rrd_base.specs.declared.update.Update.{Update}
 use Rattle.rrd_base.specs.declared.tune.Tuning.{Tuning}
 use Rattle.rrd_base.specs.declared.resize.Change.{Change}
 use Rattle.rrd_base.specs.declared.resize.Change.TheVariants.{Grow, Shrink}
-use Rattle.rrd_base.specs.History.{Archive, Content, Reading, Event, Sampled, Tuned, Resized, rows_after, same_kind, content}
+use Rattle.rrd_base.specs.History.{Archive, Content, Reading, Event, Sampled, Tuned, Resized, rows_after, content}
 pub use Rattle.rrd_base.specs.History.{raw_under}
 
 -- ---- what is asked

@@ -1,6 +1,6 @@
 -- The journal that a database's fields hold.
-use Rattle.std.specs.Prelude.{◌≡◌, ◌<◌, ℕ, List, length, map, reverse}
-use Rattle.rrd_base.specs.History.{Archive, Content}
+use Rattle.std.specs.Prelude.{◌≡◌, ◌<◌, List, length, map, reverse}
+use Rattle.rrd_base.specs.History.{Archive}
 use Rattle.rrd_base.specs.Entries as entries
 pub use Rattle.rrd_base.specs.Entries.{before}
 use Rattle.rrd_base.specs.Store.{CanPutBackEach, befores, functions, saved_functions}

@@ -6,7 +6,7 @@ use Rattle.rrd_fixed.specs.declared.raw.Raw.{Raw}
 use Rattle.rrd_fixed.specs.Rate.{top, IsAccepted, IsBounded}
 use Rattle.rrd_base.specs.declared.definition.DsDef.{DsDef}
 use Rattle.rrd_fold.specs.declared.function.Function.{Function}
-use Rattle.rrd_fold.specs.declared.function.Function.TheVariants.{Average, Min, Max, Last}
+use Rattle.rrd_fold.specs.declared.function.Function.TheVariants.{Average}
 use Rattle.rrd_fold.specs.Parts.{Part}
 pub use Rattle.rrd_fold.specs.Bounds.{weight}
 use Rattle.rrd_base.specs.History.{Archive, Content}
@@ -14,7 +14,7 @@ use Rattle.rrd_base.specs.Commands.{Command, names, settings_of, moved}
 use Rattle.rrd_fixed.specs.Names.{is_good}
 use Rattle.rrd_base.specs.Verdict.{is_double, is_bad_heartbeat, has_bad_bounds, cells, verdict}
 use Rattle.rrd_base.specs.Entries.{Dropped, Held, BeforeUpdate, Entry, Updated, WasTuned, WasResized, rows_between, rows_at, entry, undone}
-use Rattle.rrd_base.specs.Survivors.{Action, Kept, changed, reverted, step, after, Stands}
+use Rattle.rrd_base.specs.Survivors.{Action, changed, reverted, step, after, Stands}
 
 -- ---- a content
 

@@ -45,9 +45,7 @@ impl DsDef {
         ensures bounded { IsBounded result }
     {
         let heartbeat = self.heartbeat;
-        rate(
-            self.kind, old, new, interval, heartbeat, self.min, self.max,
-        )
+        rate(self.kind, old, new, interval, heartbeat, self.min, self.max)
     }
 }
 

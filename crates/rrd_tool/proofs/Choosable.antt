@@ -1,6 +1,5 @@
 -- What a fetch reads, in a database that is valid.
-use Rattle.std.proofs.Common.{◌≡◌, ◌∙◌, ◌+◌, ◌*◌, ◌/◌, ◌≤◌, ◌<◌, ◌^◌, ◌&&◌, ℕ, Bool, true, false, List, [], ◌∷◌, Option, Some, None, Result, Ok, Err, length, map, sym, ap, refl, subst, arith, ⊎_elim, nat_lt}
-use Rattle.std.specs.Prelude.{if◌then◌else◌}
+use Rattle.std.proofs.Common.{◌≡◌, ◌+◌, ◌*◌, ◌/◌, ◌≤◌, ◌<◌, ℕ, Bool, true, false, List, [], ◌∷◌, Option, Some, None, Result, Ok, length, map, refl, subst, arith, ⊎_elim, nat_lt}
 use Rattle.std.specs.List.{AllByRecursion, find, filter, enumerate_from}
 use Rattle.std.specs.Option.{option_or}
 use Rattle.std.proofs.lemmas.Bool.{cases_Bool}
@@ -12,11 +11,11 @@ use Rattle.rrd_base.specs.declared.choose.Candidate.{Candidate}
 use Rattle.rrd_base.specs.declared.choose.Chosen.{Chosen}
 use Rattle.rrd_base.specs.declared.choose.Request.{Request}
 use Rattle.rrd_base.specs.declared.refusal.Refusal.{Refusal}
-use Rattle.rrd_base.specs.declared.refusal.Refusal.TheVariants.{BadTime, BadSpan, SpanTooLong}
+use Rattle.rrd_base.specs.declared.refusal.Refusal.TheVariants.{BadTime, BadSpan}
 use Rattle.rrd_base.specs.History.{Archive, Content}
 use Rattle.rrd_base.specs.Choice.{best, candidate, candidates, choice, covers, is_farther, is_nearer, same_function, span, span_of, span_rows, taken, unless_refused}
 use Rattle.rrd_base.specs.Validity.{IsValid, IsValidArchive}
-use Rattle.rrd_base.specs.Verdict.{Check, ◌refuses◌, first_refusal}
+use Rattle.rrd_base.specs.Verdict.{◌refuses◌, first_refusal}
 use Rattle.rrd_tool.specs.Chosen.{IsReadable}
 
 -- ---- lists

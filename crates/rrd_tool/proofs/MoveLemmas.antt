@@ -1,11 +1,11 @@
 -- What the database stands for after more lines.
-use Rattle.std.proofs.Common.{◌≡◌, ◌∙◌, ◌++◌, ◌∷◌, [], List, ℕ, Option, Result}
+use Rattle.std.proofs.Common.{◌++◌, [], List, ℕ, Option, Result}
 use Rattle.std.specs.Io.KnownBytes.{Appends}
 use Rattle.rrd_fixed.specs.declared.writing.WriteFault.{WriteFault}
-use Rattle.rrd_base.specs.Survivors.{State, Kept}
+use Rattle.rrd_base.specs.Survivors.{Kept}
 use Rattle.rrd_tool.specs.Lines.{last_part, whole_lines}
 use Rattle.rrd_tool.specs.Moves.{Moves, MovesRan, MovesStopped}
-use Rattle.rrd_tool.specs.Run.{StandsFor, turn}
+use Rattle.rrd_tool.specs.Run.{turn}
 use Rattle.rrd_tool.proofs.BatchLemmas.{answers_more, ran_none, stopped_front}
 
 pub moves_none : (now : ℕ) (b0 : Option Kept) (n : ℕ) (a b : Option (List ℕ)) → Appends a b [] → MovesRan now b0 b0 n n a b []

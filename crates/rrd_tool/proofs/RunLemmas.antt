@@ -1,13 +1,9 @@
 -- How a database keeps to the run, command by command and line by line.
-use Rattle.std.proofs.Common.{◌≡◌, ◌≢◌, ◌∙◌, ◌++◌, ◌∷◌, [], ℕ, Bool, true, false, List, Option, Some, None, Result, Ok, Err, inl, inr, ap, ap₂, sym, refl, subst, append-nil, arith, length, ◌≤◌, option_map}
-use Rattle.std.specs.Prelude.{is_none, if◌then◌else◌}
-use Rattle.std.specs.Result.{result_err}
+use Rattle.std.proofs.Common.{◌≡◌, ◌≢◌, ◌∙◌, ◌∷◌, [], ℕ, Bool, true, false, List, Option, Some, None, Result, Ok, Err, inl, inr, ap, ap₂, sym, refl, subst, append-nil, arith, length, option_map}
 use Rattle.std.specs.Io.KnownBytes.{Appends, Keeps}
-use Rattle.rrd_fixed.specs.Written.{AppendsFront}
 use Rattle.rrd_fixed.specs.declared.writing.WriteFault.{WriteFault}
 use Rattle.rrd_base.specs.declared.create.CreateSpec.{CreateSpec}
 use Rattle.rrd_base.specs.declared.refusal.Refusal.{Refusal}
-use Rattle.rrd_base.specs.declared.refusal.Refusal.TheVariants as refusal
 use Rattle.rrd_base.specs.Commands.{Resizing, TuningBy, Updating}
 use Rattle.rrd_base.specs.Creating.{create_verdict, created}
 use Rattle.rrd_base.specs.Entries.{Entry}
@@ -20,12 +16,12 @@ use Rattle.clap.specs.Words.{fault_of}
 use Rattle.rrd_fixed.proofs.Writings.{Appends-kept}
 use Rattle.rrd_tool.proofs.BatchLemmas.{whole_front}
 use Rattle.rrd_tool.specs.Batch.{Performs, Turn}
-use Rattle.rrd_tool.specs.Executed.{Comes, Executes, IsFault, PrintsBy, RunsOn, kept_next}
+use Rattle.rrd_tool.specs.Executed.{Comes, IsFault, PrintsBy, kept_next}
 use Rattle.rrd_tool.specs.Faults.{fault_line}
 use Rattle.rrd_tool.specs.Lines.{is_empty, text_in, words_of}
 use Rattle.rrd_tool.specs.Moves.{Asks, line_turns}
-use Rattle.rrd_tool.specs.Reading.{IsReading, reading}
-use Rattle.rrd_tool.specs.Run.{StandsFor, begun, command_of, command_turn, is_change, kept_of, lines_on, next, read_as, reading_turn, refused, revert_verdict, takes_memory, text_turn, turn, unless_short, verdict_on, words_turn}
+use Rattle.rrd_tool.specs.Reading.{IsReading}
+use Rattle.rrd_tool.specs.Run.{StandsFor, begun, command_of, command_turn, is_change, kept_of, lines_on, next, reading_turn, refused, revert_verdict, text_turn, turn, unless_short, verdict_on, words_turn}
 use Rattle.rrd_tool.specs.Shapes.{rrdi_app}
 use Rattle.rrd_tool.specs.declared.command.Command.{Command}
 use Rattle.rrd_tool.specs.declared.command.Command.TheVariants.{Create, Update, Tune, Resize, Fetch, Last, Revert}

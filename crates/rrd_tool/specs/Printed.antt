@@ -1,5 +1,5 @@
 -- What the commands print.
-use Rattle.std.specs.Prelude.{◌+◌, ◌-◌, ◌*◌, ◌/◌, ◌++◌, ◌∷◌, [], ℕ, ℤ, List, zero, suc, codes, pos, length, flat_map, Result, Ok, Err}
+use Rattle.std.specs.Prelude.{◌+◌, ◌-◌, ◌*◌, ◌/◌, ◌++◌, ◌∷◌, [], ℕ, ℤ, List, zero, suc, codes, pos, length, Result, Ok, Err}
 use Rattle.rrd_fixed.specs.Text.{cell_text, time_text}
 use Rattle.rrd_base.specs.declared.choose.Chosen.{Chosen}
 use Rattle.rrd_base.specs.declared.definition.DsDef.{DsDef}

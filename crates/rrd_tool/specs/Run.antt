@@ -2,7 +2,6 @@
 use Rattle.std.specs.Prelude.{◌≡◌, ◌∷◌, [], ℕ, Bool, List, Option, Some, None, Result, Ok, Err, true, false, option_map, if◌then◌else◌}
 use Rattle.std.specs.Result.{result_err}
 use Rattle.std.specs.Io.KnownBytes.{IsAtEnd, Keeps}
-use Rattle.rrd_base.specs.declared.create.CreateSpec.{CreateSpec}
 use Rattle.rrd_base.specs.declared.refusal.Refusal.{Refusal}
 use Rattle.rrd_base.specs.declared.refusal.Refusal.TheVariants.{NothingToRevert}
 use Rattle.rrd_base.specs.History.{Content}

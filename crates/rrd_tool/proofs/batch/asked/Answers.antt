@@ -1,4 +1,4 @@
-use Rattle.std.proofs.Common.{◌≡◌, ◌∙◌, [], sym, ap, false, Some, None, length, arith, ℕ, List}
+use Rattle.std.proofs.Common.{◌≡◌, ◌∙◌, [], sym, false, Some}
 use Rattle.rrd_tool.specs.Lines.{is_empty, text_in, words_of}
 use Rattle.rrd_tool.proofs.RunLemmas.{asks_command, asks_fault, asks_nothing, asks_short, asks_usage, no_length, some_length}
 use Rattle.rrd_tool.proofs.batch.asked.Goals as goal

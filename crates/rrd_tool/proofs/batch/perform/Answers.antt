@@ -1,7 +1,4 @@
-use Rattle.std.proofs.Common.{subst, Option, Result}
-use Rattle.rrd_tool.specs.declared.command.Command.{Command}
-use Rattle.rrd_tool.specs.declared.command.LineFault.{LineFault}
-use Rattle.rrd_tool.specs.Moves.{Asks, line_turns}
+use Rattle.rrd_tool.specs.Moves.{line_turns}
 use Rattle.rrd_tool.specs.Run.{command_turn, unless_short}
 use Rattle.rrd_tool.proofs.RunLemmas.{performs_as}
 use Rattle.rrd_tool.proofs.batch.perform.Goals as goal

@@ -1,4 +1,3 @@
-use Rattle.std.proofs.Common.{◌≡◌, None, Some, sym}
 use Rattle.std.proofs.lemmas.Result.{err_from_is_err_and}
 use Rattle.rrd_tool.proofs.RunLemmas.{done_performs, flushed_performs, refused_performs, unflushed_performs, unwritten_performs}
 use Rattle.rrd_tool.proofs.batch.run_command.Goals as goal

@@ -1,7 +1,7 @@
 use Rattle.std.proofs.Common.{◌≡◌, ◌∙◌, ◌++◌, [], take, sym, ap, false, true, arith}
 use Rattle.rrd_tool.specs.Lines.{is_empty, last_part}
 use Rattle.rrd_tool.specs.Run.{turn}
-use Rattle.rrd_tool.proofs.BatchLemmas.{feed_fails, feed_goes, last_fails, last_goes, none_left, ran_none}
+use Rattle.rrd_tool.proofs.BatchLemmas.{feed_fails, feed_goes, last_fails, last_goes, none_left}
 use Rattle.rrd_tool.proofs.LineLemmas.{at_ok, part_append}
 use Rattle.rrd_tool.proofs.batch.run_lines.Goals as goal
 

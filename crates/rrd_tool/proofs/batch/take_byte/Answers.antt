@@ -1,4 +1,4 @@
-use Rattle.std.proofs.Common.{◌≡◌, arith}
+use Rattle.std.proofs.Common.{◌≡◌}
 use Rattle.std.proofs.lemmas.Result.{err_from_is_err_and}
 use Rattle.rrd_tool.specs.Lines.{without_cr}
 use Rattle.rrd_tool.proofs.batch.take_byte.Goals as goal

@@ -1,4 +1,4 @@
-use Rattle.std.proofs.Common.{◌≡◌, Ok, Some, ap, sym, option_map, refl}
+use Rattle.std.proofs.Common.{◌≡◌, Ok, Some, ap, sym, option_map}
 use Rattle.std.specs.Result.{result_err}
 use Rattle.rrd_base.specs.Choice.{choice}
 use Rattle.rrd_tool.specs.Executed.{kept_next}

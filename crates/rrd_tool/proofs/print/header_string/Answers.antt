@@ -1,4 +1,4 @@
-use Rattle.std.proofs.Common.{◌≡◌, ◌∙◌, ◌+◌, ◌*◌, ◌≤◌, ◌<◌, ◌++◌, ap, sym, arith, codes, length}
+use Rattle.std.proofs.Common.{◌∙◌, ◌<◌, ◌++◌, ap, sym, arith, codes, length}
 use Rattle.rrd_tool.proofs.PrintLemmas.{names_more}
 use Rattle.rrd_tool.proofs.print.header_string.Goals as goal
 

@@ -1,8 +1,8 @@
-use Rattle.std.proofs.Common.{◌≡◌, ◌∙◌, ◌-◌, ◌/◌, ◌^◌, pos, to_z, w64, ◌+◌, ◌*◌, ◌≤◌, ◌<◌, ◌++◌, List, ℕ, Ok, Err, ap, sym, arith}
+use Rattle.std.proofs.Common.{◌≡◌, ◌∙◌, ◌-◌, ◌/◌, ◌^◌, pos, to_z, w64, ◌+◌, ◌*◌, ◌≤◌, ◌<◌, ◌++◌, List, ℕ, Ok, Err, ap, arith}
 use Rattle.std.proofs.lemmas.Int.{to_z_pos}
 use Rattle.std.proofs.lemmas.Result.{err_from_is_err_and}
 use Rattle.std.specs.Io.KnownBytes.{Appends}
-use Rattle.rrd_tool.specs.Printed.{row_text, rows_text, texts_below}
+use Rattle.rrd_tool.specs.Printed.{row_text, texts_below}
 use Rattle.rrd_fixed.specs.Written.{AppendsFront}
 use Rattle.rrd_tool.proofs.PrintLemmas.{below_more, front_below, within}
 use Rattle.rrd_fixed.proofs.Writings.{writes_then}

@@ -1,4 +1,4 @@
-use Rattle.std.proofs.Common.{◌≡◌, refl}
+use Rattle.std.proofs.Common.{refl}
 use Rattle.rrd_tool.proofs.LineLemmas.{cut_none}
 use Rattle.rrd_tool.proofs.lines.LineBuffer.cut.Goals as goal
 

@@ -1,4 +1,4 @@
-use Rattle.std.proofs.Common.{◌≡◌, ap, refl, Some}
+use Rattle.std.proofs.Common.{ap, refl, Some}
 use Rattle.rrd_tool.proofs.LineLemmas.{kept_text, lost_ended}
 use Rattle.rrd_tool.proofs.lines.LineBuffer.ended.Goals as goal
 

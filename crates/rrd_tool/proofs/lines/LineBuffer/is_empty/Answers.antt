@@ -1,4 +1,4 @@
-use Rattle.std.proofs.Common.{◌≡◌, sym}
+use Rattle.std.proofs.Common.{sym}
 use Rattle.rrd_tool.proofs.LineLemmas.{some_held}
 use Rattle.rrd_tool.proofs.lines.LineBuffer.is_empty.Goals as goal
 

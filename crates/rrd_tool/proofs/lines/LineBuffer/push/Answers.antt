@@ -1,4 +1,3 @@
-use Rattle.std.proofs.Common.{◌≡◌}
 use Rattle.rrd_tool.proofs.LineLemmas.{lost_cr}
 use Rattle.rrd_tool.proofs.lines.LineBuffer.push.Goals as goal
 
