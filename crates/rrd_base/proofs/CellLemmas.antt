@@ -1,14 +1,14 @@
 -- What an archive shows at each time.
-use Rattle.std.proofs.Common.{◌≡◌, refl, sym, ◌∙◌, ap, subst, ℕ, zero, suc, ◌+◌, ◌-◌, ◌*◌, ◌/◌, ◌%◌, ◌<◌, ◌≤◌, Bool, true, false, cond, ltb, List, [], ◌∷◌, ◌++◌, length, map, replicate, get_or, arith, length-append, Some, ⊎_elim, ℤ, pos, negsuc, ◌-ℤ◌, ◌<ℤ◌, ◌≤ℤ◌, unsigned_abs}
+use Rattle.std.proofs.Common.{◌≡◌, refl, sym, ◌∙◌, ap, subst, ℕ, zero, suc, ◌+◌, ◌-◌, ◌*◌, ◌/◌, ◌%◌, ◌<◌, ◌≤◌, Bool, true, false, cond, ltb, List, [], ◌∷◌, ◌++◌, length, map, replicate, get_or, arith, length-append, Some, ⊎_elim, ℤ, pos, negsuc, ◌+ℤ◌, ◌-ℤ◌, ◌<ℤ◌, ◌≤ℤ◌, unsigned_abs}
 use Rattle.std.specs.Prelude.{int_lt, int_le, slice_get}
 use Rattle.std.specs.Int.{int_max, int_div_euclid}
 use Rattle.std.specs.List.{fold, enumerate_from, range_with_len, AllByRecursion}
 use Rattle.std.proofs.Math.Nat.{div-div-eq-div-mul}
 use Rattle.std.proofs.lemmas.Bool.{cases_lt, cases_Bool, cond_both, lt-ltb, le-ltb}
-use Rattle.std.proofs.lemmas.Int.{ints, clamps}
-use Rattle.std.proofs.lemmas.List.{length-map, get_or_append_left, get_or-append_right}
+use Rattle.std.proofs.lemmas.Int.{ints, clamps, int_rem_euclid_is}
+use Rattle.std.proofs.lemmas.List.{length-map, get_or_append_left, get_or-append_right, ext_get_or}
 use Rattle.std.proofs.lemmas.List.FromFn.{length-map-range_with_len, get_or-map-range_with_len}
-use Rattle.std.proofs.lemmas.Nat.{mul-le, mul-lt, div-mul-add}
+use Rattle.std.proofs.lemmas.Nat.{mul-le, mul-lt, div-mul-add, mod-mul-add}
 use Rattle.rrd_fixed.specs.declared.cell.Cell.{Cell}
 use Rattle.rrd_fold.specs.Groups.{Rule, group_part, finished}
 use Rattle.rrd_fold.proofs.GroupLemmas.{reached_before}
@@ -16,7 +16,7 @@ use Rattle.rrd_fold.specs.Parts.{seconds_to_steps}
 use Rattle.rrd_base.specs.Rules.{rows_rule}
 use Rattle.rrd_base.specs.History.{Archive, Content, Event, Sampled, Tuned, Resized, Moment, moment_after, moment_of, moment_at_end, seconds_of, steps_of, rows_of, rows_after, room, keep_last, filled_up, kept_rows, archive_of, content, IsHistory, IsArchive}
 use Rattle.rrd_base.specs.Passed.{row_of_age, row_at}
-use Rattle.rrd_base.specs.Cells.{resolution, newest, reach, prefixes, greatest, reach_after, horizon, row, row_ending, row_by_time, IsMultiple, ShowsByTime, ListsByNumber}
+use Rattle.rrd_base.specs.Cells.{resolution, newest, reach, prefixes, greatest, reach_after, horizon, row, row_ending, row_by_time, time_of, rows_by_time, archive_by_time, content_by_time, IsMultiple, IsByTime, ShowsByTime, ListsByNumber}
 use Rattle.rrd_base.proofs.HistoryLemmas.{last_rises, length-sources}
 use Rattle.rrd_base.proofs.RowLemmas.{length-keep_last, length-filled_up, room_first, room_last, row_by_age}
 use Rattle.rrd_base.proofs.ContentLemmas.{length-rows_of}
@@ -222,9 +222,10 @@ recent_row base archive es u age n m first end time some at first_is first_step 
 
 -- ---- an archive
 
-row_shown : (base : Content) (index : ℕ) (archive : Archive) (es : List Event) (time : ℤ) → 0 < base.step → IsArchive archive → IsHistory (moment_of base) es → IsMultiple time (resolution base.step archive.def) → row_at (content base es) (archive_of base es (index, archive)) time ≡ row_by_time base index archive es time
-unfolding content kept_rows
-row_shown base index archive es time some_step is h multiple =
+-- the kept row of a time, by its age
+kept_by_time : (base : Content) (index : ℕ) (archive : Archive) (es : List Event) (time : ℤ) → 0 < base.step → IsArchive archive → IsHistory (moment_of base) es → IsMultiple time (resolution base.step archive.def) → row_of_age (kept_rows base index archive es) (replicate (length base.sources) Cell.Unknown) (pos ((moment_at_end base es).last / resolution base.step archive.def) -ℤ int_div_euclid time (pos (resolution base.step archive.def))) ≡ row_by_time base index archive es time
+unfolding kept_rows
+kept_by_time base index archive es time some_step is h multiple =
     let size = resolution base.step archive.def in
     let last = (moment_at_end base es).last in
     let first = base.last / size in
@@ -250,10 +251,7 @@ row_shown base index archive es time some_step is h multiple =
     let ahead = int_lt (pos (newest size last)) time in
     let old = int_le time (pos (newest size base.last)) in
     let later = cond old (row_at base archive time) (row_ending base archive es time) in
-    let names : row_at (content base es) (archive_of base es (index, archive)) time ≡ row_of_age kept u (pos end -ℤ int_div_euclid time (pos size))
-    = ap (λ k. row_of_age kept (replicate k Cell.Unknown) (pos end -ℤ int_div_euclid time (pos size))) (length-sources now es h) in
-    names
-    ∙ ⊎_elim
+    ⊎_elim
     (λ (after_end : end + m < n).
     let ago : pos end -ℤ int_div_euclid time (pos size) ≡ negsuc (n - (end + m) - 1) = omega (arith, ints, at.count_is) in
     let past : cond ahead u later ≡ u = when ahead u later (before (pos (newest size last)) time (ends_under size end n m time some at after_end)) in
@@ -288,6 +286,83 @@ row_shown base index archive es time some_step is h multiple =
     either : (b : Bool) (x : List Cell) → cond b x x ≡ x
     either true x = refl
     either false x = refl
+
+row_shown : (base : Content) (index : ℕ) (archive : Archive) (es : List Event) (time : ℤ) → 0 < base.step → IsArchive archive → IsHistory (moment_of base) es → IsMultiple time (resolution base.step archive.def) → row_at (content base es) (archive_of base es (index, archive)) time ≡ row_by_time base index archive es time
+unfolding content
+row_shown base index archive es time some_step is h multiple =
+    let size = resolution base.step archive.def in
+    let age = pos ((moment_at_end base es).last / size) -ℤ int_div_euclid time (pos size) in
+    ap (λ k. row_of_age (kept_rows base index archive es) (replicate k Cell.Unknown) age) (length-sources (moment_of base) es h)
+    ∙ kept_by_time base index archive es time some_step is h multiple
+
+-- ---- all rows of an archive
+
+multiple_of : (size n m : ℕ) (time : ℤ) → 0 < size → time ≡ pos (n * size) -ℤ pos (m * size) → IsMultiple time size
+multiple_of size n m time some is =
+    int_rem_euclid_is time (pos size) size m (n * size) some refl (omega (arith, ints, is))
+    ∙ ap pos (ap (λ k. k % size) {x = n * size} {y = n * size + 0} (omega arith) ∙ mod-mul-add n size 0 some)
+
+same_count : (size a b : ℕ) → 0 < size → a * size ≡ b * size → a ≡ b
+same_count size a b some e = ⊎_elim
+    (λ (low : a < b). absurd (omega (arith, e, less_rows a b size some low)))
+    (λ (high : b ≤ a). ⊎_elim
+    (λ (lower : b < a). absurd (omega (arith, e, less_rows b a size some lower)))
+    (λ (same : a ≤ b). omega arith)
+    (cases_lt b a))
+    (cases_lt a b)
+
+-- how old the row of a place is
+age_of : (size rows end place : ℕ) (time : ℤ) → 0 < size → place < rows → time ≡ (pos (end * size) -ℤ pos (rows * size)) +ℤ pos ((place + 1) * size) → IsMultiple time size × (pos end -ℤ int_div_euclid time (pos size) ≡ pos (rows - 1 - place))
+age_of size rows end place time some within is =
+    let whole : time ≡ pos ((end + (place + 1)) * size) -ℤ pos (rows * size) = omega (arith, ints, is) in
+    let multiple = multiple_of size (end + (place + 1)) rows time some whole in
+    let found = multiple_at size time some multiple in
+    let n = found.0 in
+    let m = found.1 in
+    let at : IsAt size time n m = found.2 in
+    let same : n + rows ≡ end + (place + 1) + m = same_count size (n + rows) (end + (place + 1) + m) some (omega (arith, ints, whole, at.time_is)) in
+    (multiple, omega (arith, ints, at.count_is, same))
+
+rows_are_by_time : (base : Content) (index : ℕ) (archive : Archive) (es : List Event) → 0 < base.step → IsArchive archive → IsHistory (moment_of base) es → kept_rows base index archive es ≡ rows_by_time base index archive es
+unfolding kept_rows
+rows_are_by_time base index archive es some_step is h =
+    let size = resolution base.step archive.def in
+    let last = (moment_at_end base es).last in
+    let end = last / size in
+    let some : 0 < size = omega (arith, mul-lt 0 0 base.step archive.def.steps some_step is.some_steps) in
+    let u = replicate (length base.sources) Cell.Unknown in
+    let all = archive.rows ++ rows_of base archive es in
+    let since = λ (t : ℕ). end - t / size in
+    let rows = fold (rows_after index) archive.def.rows es in
+    let kept_room = room index since archive.def.rows (moment_of base) es in
+    let kept = filled_up rows u (keep_last kept_room all) in
+    let one = λ (place : ℕ). row_by_time base index archive es (time_of size rows last place) in
+    let count_new : base.last / size + length (rows_of base archive es) ≡ end = length-rows_of base archive es some_step is.some_steps h in
+    let count_all = length-append archive.rows (rows_of base archive es) in
+    let most = room_first index since archive.def.rows (moment_of base) es in
+    let fits = room_last index since archive.def.rows (moment_of base) es in
+    let count : length kept ≡ rows = length-filled_up rows u (keep_last kept_room all) (omega (arith, is.rows_are, most, fits, length-keep_last kept_room all (omega (arith, is.rows_are)))) in
+    let listed = length-map-range_with_len one 0 rows in
+    ext_get_or u kept (map one (range_with_len 0 rows)) (omega (arith, count, listed))
+    (λ place within.
+    let here : place < rows = omega (arith, count, within) in
+    let age = age_of size rows end place (time_of size rows last place) some here refl in
+    let by_age : row_of_age kept u (pos (rows - 1 - place)) ≡ get_or kept place u
+    = when (ltb (rows - 1 - place) (length kept)) (get_or kept (length kept - 1 - (rows - 1 - place)) u) u (lt-ltb (rows - 1 - place) (length kept) (omega (arith, count, here)))
+    ∙ ap (λ k. get_or kept k u) {x = length kept - 1 - (rows - 1 - place)} {y = place} (omega (arith, count, here)) in
+    sym by_age ∙ sym (ap (row_of_age kept u) age.1)
+    ∙ kept_by_time base index archive es (time_of size rows last place) some_step is h age.0
+    ∙ sym (get_or-map-range_with_len one 0 rows place place u (omega (arith, listed, here)) (omega arith)))
+
+each_by_time : (base : Content) (es : List Event) (n : ℕ) (archives : List Archive) → 0 < base.step → IsHistory (moment_of base) es → AllByRecursion IsArchive archives → map (archive_of base es) (enumerate_from n archives) ≡ map (archive_by_time base es) (enumerate_from n archives)
+each_by_time base es n [] some h is = refl
+each_by_time base es n (archive ∷ archives) some h is =
+    ap (λ rows. let a : Archive = record (archive_of base es (n, archive)) { rows = rows } in a ∷ map (archive_of base es) (enumerate_from (n + 1) archives)) (rows_are_by_time base n archive es some is.0 h)
+    ∙ ap (λ rest. archive_by_time base es (n, archive) ∷ rest) (each_by_time base es (n + 1) archives some h is.1)
+
+pub is_by_time : (base : Content) (es : List Event) → IsByTime base es
+unfolding content
+is_by_time base es is h = ap (λ archives. let x : Content = record (content_by_time base es) { archives = archives } in x) (each_by_time base es 0 base.archives is.some_step h is.archives_are)
 
 -- ---- each archive of a content
 

@@ -6,7 +6,8 @@ use Rattle.std.proofs.lemmas.List.Sums.{fold-append}
 use Rattle.std.specs.List.{fold, enumerate_from}
 use Rattle.rrd_base.specs.declared.definition.DsDef.{DsDef}
 use Rattle.rrd_base.specs.History.{Archive, Content, Event, Sampled, Tuned, Resized, Moment, moment_after, moment_of, moment_at_end, rows_after, archive_of, content, IsHistory}
-use Rattle.rrd_base.proofs.HistoryLemmas.{moment_of-content}
+use Rattle.rrd_base.specs.Cells.{archive_by_time, content_by_time}
+use Rattle.rrd_base.proofs.CellLemmas.{is_by_time}
 use Rattle.rrd_base.proofs.ContentLemmas.{content-append, IsBase-content}
 use Rattle.rrd_base.specs.Commands.{Command, Settings, settings_of, rows_of_archives, settings_after, events, events_of, moved}
 use Rattle.rrd_base.specs.Verdict.{verdict}
@@ -57,6 +58,15 @@ settings_of-content base es =
     ap (λ sources. both sources rows) (same_sources (moment_of base) (settings_of base) es refl)
     ∙ ap (both end.sources) (same_rows base es 0 base.archives ∙ sym (rows_of_settings (settings_of base) es))
 
+-- so are those with the rows by their times
+rows_by_time_as_many : (base : Content) (es : List Event) (first : ℕ) (archives : List Archive) → rows_of_archives (map (archive_by_time base es) (enumerate_from first archives)) ≡ rows_of_archives (map (archive_of base es) (enumerate_from first archives))
+rows_by_time_as_many base es first [] = refl
+rows_by_time_as_many base es first (archive ∷ archives) = ap (λ rest. fold (rows_after first) archive.def.rows es ∷ rest) (rows_by_time_as_many base es (first + 1) archives)
+
+settings_by_time : (base : Content) (es : List Event) → settings_of (content_by_time base es) ≡ settings_of (content base es)
+unfolding content both
+settings_by_time base es = ap (both (moment_at_end base es).sources) (rows_by_time_as_many base es 0 base.archives)
+
 -- ---- a command more
 
 pub events_of-push : (settings : Settings) (commands : List Command) (command : Command) → events_of settings (commands ++ command ∷ []) ≡ events_of settings commands ++ events (fold settings_after settings (events_of settings commands)) command
@@ -72,7 +82,7 @@ pub events_of-more : (base : Content) (commands : List Command) (command : Comma
 events_of-more base commands command =
     ap (events_of (settings_of base)) (reverse-append (command ∷ []) commands)
     ∙ events_of-push (settings_of base) (reverse commands) command
-    ∙ ap (λ s. events_of (settings_of base) (reverse commands) ++ events s command) (sym (settings_of-content base (events_of (settings_of base) (reverse commands))))
+    ∙ ap (λ s. events_of (settings_of base) (reverse commands) ++ events s command) (sym (settings_by_time base (events_of (settings_of base) (reverse commands)) ∙ settings_of-content base (events_of (settings_of base) (reverse commands))))
 
 IsHistory-append : (now : Moment) (es fs : List Event) → IsHistory now es → IsHistory (fold moment_after now es) fs → IsHistory now (es ++ fs)
 IsHistory-append now [] fs h k = k
@@ -83,9 +93,7 @@ IsHistory-append now (Resized archive rows ∷ es) fs h k = (h.0, IsHistory-appe
 -- the events of what survives are a history
 next_history : (base : Content) (commands : List Command) (command : Command) → verdict (survived base commands) command ≡ None → IsHistory (moment_at_end base (events_of (settings_of base) (reverse commands))) (events (settings_of (survived base commands)) command)
 next_history base commands command h =
-    let at = moment_of-content base (events_of (settings_of base) (reverse commands)) in
-    let P : Moment → Type 0 = λ now. IsHistory now (events (settings_of (survived base commands)) command) in
-    subst P at (accepted_history (survived base commands) command h)
+    accepted_history (survived base commands) command h
 
 pub survivors_history : (base : Content) (commands : List Command) → AllAccepted base commands → IsHistory (moment_of base) (events_of (settings_of base) (reverse commands))
 survivors_history base [] h = tt
@@ -96,8 +104,13 @@ survivors_history base (command ∷ commands) h =
 
 pub moves : (base : Content) (commands : List Command) (command : Command) → Moves base commands command
 moves base commands command sound h =
-    ap (content base) (events_of-more base commands command)
-    ∙ content-append base (events_of (settings_of base) (reverse commands)) (events (settings_of (survived base commands)) command) sound.is_base (survivors_history base commands h.1) (next_history base commands command h.0)
+    let earlier = events_of (settings_of base) (reverse commands) in
+    let next = events (settings_of (survived base commands)) command in
+    let before = survivors_history base commands h.1 in
+    sym (is_by_time base (events_of (settings_of base) (reverse (command ∷ commands))) sound.is_base (survivors_history base (command ∷ commands) h))
+    ∙ ap (content base) (events_of-more base commands command)
+    ∙ content-append base earlier next sound.is_base before (next_history base commands command h.0)
+    ∙ ap (λ now. content now next) (is_by_time base earlier sound.is_base before)
 
 -- ---- what is sound stays sound
 

@@ -1,13 +1,13 @@
 -- What an archive shows at each time.
-use Rattle.std.specs.Prelude.{◌≡◌, ℕ, ◌-◌, ◌*◌, ◌/◌, ℤ, pos, ◌-ℤ◌, unsigned_abs, int_lt, int_le, if◌then◌else◌, Some, List, [], ◌∷◌, map, length, replicate, slice_get, slice_index_or}
-use Rattle.std.specs.List.{fold, range_with_len}
+use Rattle.std.specs.Prelude.{◌≡◌, ℕ, ◌+◌, ◌-◌, ◌*◌, ◌/◌, ℤ, pos, ◌+ℤ◌, ◌-ℤ◌, unsigned_abs, int_lt, int_le, if◌then◌else◌, Some, List, [], ◌∷◌, map, length, replicate, slice_get, slice_index_or}
+use Rattle.std.specs.List.{fold, enumerate_from, range_with_len}
 use Rattle.std.specs.Int.{int_max, int_rem_euclid}
 use Rattle.rrd_fixed.specs.declared.cell.Cell.{Cell}
 use Rattle.rrd_fold.specs.Groups.{group_part}
 use Rattle.rrd_fold.specs.Parts.{seconds_to_steps}
 use Rattle.rrd_base.specs.declared.definition.RraDef.{RraDef}
 use Rattle.rrd_base.specs.Rules.{rows_rule}
-use Rattle.rrd_base.specs.History.{Archive, Content, Event, moment_of, moment_at_end, seconds_of, steps_of, rows_of, rows_after, content, IsHistory, IsBase}
+use Rattle.rrd_base.specs.History.{Archive, Content, Event, moment_of, moment_at_end, seconds_of, steps_of, parts_of, rows_of, rows_after, archive_of, content, IsHistory, IsBase}
 use Rattle.rrd_base.specs.Passed.{row_at}
 
 -- ---- an archive's rows and their times
@@ -81,7 +81,39 @@ row_by_time base index archive events time =
 abbrev pub cell_at : Content → ℕ → Archive → List Event → ℤ → ℕ → Cell
 cell_at base index archive events time source = slice_index_or (row_by_time base index archive events time) source Cell.Unknown
 
+-- ---- a content by the times of its rows
+
+-- the time of the row of a place, 0 the oldest, among so many rows
+abbrev pub time_of : ℕ → ℕ → ℕ → ℕ → ℤ
+time_of resolution rows last place = reach resolution rows last +ℤ pos ((place + 1) * resolution)
+
+-- an archive's rows, oldest first: those at the last multiples of the resolution up to the end
+abbrev pub rows_by_time : Content → ℕ → Archive → List Event → List (List Cell)
+rows_by_time base index archive events =
+    let size = resolution base.step archive.def in
+    let rows = fold (rows_after index) archive.def.rows events in
+    map (λ (place : ℕ). row_by_time base index archive events (time_of size rows (moment_at_end base events).last place)) (range_with_len 0 rows)
+
+abbrev pub archive_by_time : Content → List Event → ℕ × Archive → Archive
+archive_by_time base events (index, archive) = record (archive_of base events (index, archive)) { rows = rows_by_time base index archive events }
+
+-- the content of a history, each row being that of its time
+abbrev pub content_by_time : Content → List Event → Content
+content_by_time base events = record {
+  step = base.step;
+  depth = base.depth;
+  sources = (moment_at_end base events).sources;
+  last = (moment_at_end base events).last;
+  raws = (moment_at_end base events).raws;
+  parts = parts_of base events;
+  archives = map (archive_by_time base events) (enumerate_from 0 base.archives);
+}
+
 -- ---- the laws
+
+-- the content's rows by list and by time are the same
+abbrev pub IsByTime : Content → List Event → Type 0
+IsByTime base events = IsBase base → IsHistory (moment_of base) events → content base events ≡ content_by_time base events
 
 -- a time at which rows of this resolution end
 abbrev pub IsMultiple : ℤ → ℕ → Type 0

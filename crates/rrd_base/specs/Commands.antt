@@ -16,6 +16,7 @@ use Rattle.rrd_base.specs.declared.resize.Change.{Change}
 use Rattle.rrd_base.specs.declared.resize.Change.TheVariants.{Grow, Shrink}
 use Rattle.rrd_base.specs.History.{Archive, Content, Reading, Event, Sampled, Tuned, Resized, rows_after, content}
 pub use Rattle.rrd_base.specs.History.{raw_under}
+use Rattle.rrd_base.specs.Cells.{content_by_time}
 
 -- ---- what is asked
 
@@ -110,8 +111,9 @@ events_of settings (command ∷ commands) = events settings command ++ events_of
 
 -- ---- the content of a history of commands, and a content moved by one
 
+-- each row is that of its time
 abbrev pub content_of : Content → List Command → Content
-content_of base commands = content base (events_of (settings_of base) commands)
+content_of base commands = content_by_time base (events_of (settings_of base) commands)
 
 abbrev pub moved : Content → Command → Content
 moved base command = content base (events (settings_of base) command)

@@ -9,7 +9,7 @@ ghost use Rattle.rrd_base.specs.Survivors.{Action, Moves, RunsAgree};
 ghost use Rattle.rrd_base.specs.Validity.{StaysValid, DatabaseStays, RevertTakesBack, RunsStay};
 ghost use Rattle.rrd_base.specs.declared.create.CreateSpec.{CreateSpec};
 ghost use Rattle.rrd_base.specs.Creating.{CreatedIsValid};
-ghost use Rattle.rrd_base.specs.Cells.{ShowsByTime, ListsByNumber};
+ghost use Rattle.rrd_base.specs.Cells.{IsByTime, ShowsByTime, ListsByNumber};
 ghost use Rattle.rrd_base.specs.Worked as worked;
 ghost use Rattle.rrd_base.specs.WorkedCommands as commands;
 ghost use Rattle.rrd_base.specs.WorkedTimes as times;
@@ -47,6 +47,11 @@ pub fn rows_by_age()
 /// Each archive's rows, each by its time.
 pub fn cells_by_time()
     ensures { (base : Content) (events : List Event) → ShowsByTime base events }
+{}
+
+/// A content's rows, by list and by time, are the same.
+pub fn content_is_by_time()
+    ensures { (base : Content) (events : List Event) → IsByTime base events }
 {}
 
 /// The steps and rows of a history, each by itself.
