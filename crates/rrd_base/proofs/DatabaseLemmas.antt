@@ -11,6 +11,7 @@ use Rattle.rrd_base.specs.declared.entry.Entry.TheVariants as entry
 use Rattle.rrd_fixed.specs.declared.name.Name.{Name}
 use Rattle.rrd_base.specs.History.{Archive, Content, Event, Sampled, Moment, moment_of, moment_after, archive_of, content}
 use Rattle.rrd_base.specs.Commands.{Updating, sample_of, moved}
+use Rattle.rrd_base.specs.Cells.{archive_by_time, content_by_time}
 use Rattle.rrd_base.specs.Entries.{Dropped, Held, put_back_each, with_held, with_rows_at}
 use Rattle.rrd_base.specs.Store.{CanPutBack, CanPutBackEach, functions}
 use Rattle.rrd_base.specs.Stored.{HasFunctions}
@@ -30,8 +31,7 @@ last_at_end sources template now (s ∷ t ∷ samples) h = last_at_end sources t
 -- an update's content ends at its last sample
 pub moved_last : (base : Content) (update : Update) → 0 < length update.samples → (moved base (Updating update)).last ≡ last_time update.samples
 moved_last base update h =
-    let es = map Sampled (map (sample_of base.sources (template_of base.sources update.template)) update.samples) in
-    ap (λ (m : Moment). m.last) (moment_of-content base es) ∙ last_at_end base.sources (template_of base.sources update.template) (moment_of base) update.samples h
+    last_at_end base.sources (template_of base.sources update.template) (moment_of base) update.samples h
 
 pub last_item : (samples : List Sample) (d : Sample) → 0 < length samples → (get_or samples (length samples - 1) d).time ≡ last_time samples
 last_item [] d h = absurd (omega arith)
@@ -40,12 +40,11 @@ last_item (s ∷ t ∷ samples) d h = ap (λ n. (get_or (s ∷ t ∷ samples) n 
 
 -- ---- functions stay
 
-functions_of_archives : (base : Content) (es : List Event) (index : ℕ) (archives : List Archive) → functions (map (archive_of base es) (enumerate_from index archives)) ≡ functions archives
+functions_of_archives : (base : Content) (es : List Event) (index : ℕ) (archives : List Archive) → functions (map (archive_by_time base es) (enumerate_from index archives)) ≡ functions archives
 functions_of_archives base es index [] = refl
 functions_of_archives base es index (archive ∷ archives) = ap (λ rest. archive.def.function ∷ rest) (functions_of_archives base es (index + 1) archives)
 
-pub functions_moved : (base : Content) (es : List Event) → functions (content base es).archives ≡ functions base.archives
-unfolding content
+pub functions_moved : (base : Content) (es : List Event) → functions (content_by_time base es).archives ≡ functions base.archives
 functions_moved base es = functions_of_archives base es 0 base.archives
 
 pub functions_put_back : (archives : List Archive) (olds : List Dropped) → functions (put_back_each archives olds) ≡ functions archives

@@ -11,39 +11,25 @@ use Rattle.rrd_base.specs.declared.definition.DsDef.{DsDef}
 use Rattle.rrd_base.specs.History.{Archive, Content, Reading, Sampled, Resized, Moment, moment_after, moment_of, moment_at_end, rows_after, archive_of, content, IsHistory, IsArchive}
 use Rattle.rrd_base.proofs.HistoryLemmas.{last_rises, length-sources}
 use Rattle.rrd_base.proofs.SampleLemmas.{rows_of_samples}
-use Rattle.rrd_base.specs.Commands.{Asked, Settings, Command, Updating, TuningBy, Resizing, settings_of, rows_of_archives, names, sample_of, samples_of, tuned, rows_changed, events, moved}
+use Rattle.rrd_base.specs.Commands.{Asked, Settings, Command, Updating, TuningBy, Resizing, settings_of, rows_of_archives, names, sample_of, samples_of, tuned, rows_changed, events, moved, moved_listed}
 use Rattle.rrd_base.specs.Verdict.{has_source, is_double, is_bad_rows, grows_too_far, shrinks_too_far, no_sample, asks_nothing, names_no_source, verdict}
 use Rattle.rrd_base.specs.Entries.{Held, Entry, Updated, WasTuned, WasResized, rows_between, dropped, is_asked, is_named, held, rows_at, with_held, entry, undone, IsSound}
 use Rattle.rrd_base.specs.Survivors.{Action, Changed, Reverted, Kept, is_accepted, changed, reverted, step, AllUndo}
 use Rattle.rrd_base.proofs.Accepted.{accepted_passes, accepted_history}
 use Rattle.rrd_base.proofs.Undoing.{comes_back}
 use Rattle.rrd_base.proofs.Runs.{runs_agree, is_none-true}
-use Rattle.rrd_base.proofs.Moving.{moved_sound, moved_depth, settings_of-content}
+use Rattle.rrd_base.proofs.Moving.{listed_sound, moved_is, moved_depth, settings_of-content}
 use Rattle.std.proofs.lemmas.List.FromFn.{length-enumerate_from}
 use Rattle.rrd_base.proofs.Named.{same_is, same_itself}
 use Rattle.rrd_base.specs.Validity.{AreAccepted, IsRow, IsValidArchive, IsValid, FitsArchive, FitEach, Rise, Fits, IsValidJournal, IsValidDatabase, DatabaseStays, RevertTakesBack, RunsStay}
 use Rattle.rrd_base.proofs.Held.{are_archives}
-use Rattle.rrd_base.proofs.Staying.{stays_valid}
+use Rattle.rrd_base.proofs.Staying.{length-accepted, sound, stays_valid}
 use Rattle.rrd_base.specs.declared.tune.Tuning.{Tuning}
 use Rattle.rrd_base.specs.declared.update.Update.{Update}
 use Rattle.rrd_base.specs.declared.update.Sample.{Sample}
 use Rattle.rrd_base.specs.declared.resize.Change.{Change}
 use Rattle.rrd_base.specs.declared.resize.Change.TheVariants.{Grow, Shrink}
 use Rattle.rrd_fixed.specs.Names.{same_name}
-
--- ---- what is valid is sound
-
-pub length-accepted : (sources : List DsDef) (raws : List Raw) → AreAccepted sources raws → length raws ≡ length sources
-length-accepted [] [] h = refl
-length-accepted [] (raw ∷ raws) h = absurd h
-length-accepted (source ∷ sources) [] h = absurd h
-length-accepted (source ∷ sources) (raw ∷ raws) h = ap suc (length-accepted sources raws h.1)
-
-pub sound : (base : Content) → IsValid base → IsSound base
-sound base is = record {
-  is_base = record { some_step = is.some_step; archives_are = are_archives (length base.sources) (base.last / base.step) base.archives is.archives_are };
-  one_raw_each = length-accepted base.sources base.raws is.raws_are;
-}
 
 -- ---- an update's entry
 
@@ -74,7 +60,7 @@ time_rises sources template now [] some h = absurd cc
 time_rises sources template now (reading ∷ readings) some h =
     omega (arith, h.0, last_rises (moment_after now (Sampled (sample_of sources template reading))) (map Sampled (map (sample_of sources template) readings)) h.1)
 
-update_fits : (base : Content) (update : Update) → IsValid base → verdict base (Updating update) ≡ None → Fits (moved base (Updating update)) (entry base (Updating update))
+update_fits : (base : Content) (update : Update) → IsValid base → verdict base (Updating update) ≡ None → Fits (moved_listed base (Updating update)) (entry base (Updating update))
 unfolding content
 update_fits base update is h =
     let list = samples_of base.sources update in
@@ -215,7 +201,7 @@ some_held tuning number (source ∷ sources) (raw ∷ raws) e h =
     (λ here. omega arith)
     (λ there. some_held tuning (number + 1) sources raws (omega arith) (sym (ap (λ b. b || list_any (is_named tuning) sources) there) ∙ h))
 
-pub tune_fits : (base : Content) (tuning : Tuning) → IsValid base → verdict base (TuningBy tuning) ≡ None → Fits (moved base (TuningBy tuning)) (entry base (TuningBy tuning))
+pub tune_fits : (base : Content) (tuning : Tuning) → IsValid base → verdict base (TuningBy tuning) ≡ None → Fits (moved_listed base (TuningBy tuning)) (entry base (TuningBy tuning))
 unfolding content
 tune_fits base tuning is h =
     let p = accepted_passes base (TuningBy tuning) h in
@@ -251,7 +237,7 @@ another Shrink old rows h k e =
     let some = eqb-false rows 0 (or_parts (eqb rows 0) (ltb 1000000 rows) (or_parts (is_bad_rows rows) (grows_too_far Shrink old rows) h).0).0 in
     omega (arith, some, leb-false old rows k)
 
-resize_fits : (base : Content) (archive : ℕ) (change : Change) (rows : ℕ) → IsValid base → verdict base (Resizing archive change rows) ≡ None → Fits (moved base (Resizing archive change rows)) (entry base (Resizing archive change rows))
+resize_fits : (base : Content) (archive : ℕ) (change : Change) (rows : ℕ) → IsValid base → verdict base (Resizing archive change rows) ≡ None → Fits (moved_listed base (Resizing archive change rows)) (entry base (Resizing archive change rows))
 unfolding content
 resize_fits base archive change rows is h =
     let command = Resizing archive change rows in
@@ -259,14 +245,14 @@ resize_fits base archive change rows is h =
     let settings = settings_of base in
     let old = get_or settings.rows archive 0 in
     let new = rows_changed change old rows in
-    let after = moved base command in
+    let after = moved_listed base command in
     let archives = after.archives in
     let count : length archives ≡ length base.archives = length-map (enumerate_from 0 base.archives) (archive_of base (events settings command)) ∙ length-enumerate_from 0 base.archives in
     let there : archive < length settings.rows = leb-false (length settings.rows) archive p.0 in
     let in_range : archive < length base.archives = omega (arith, length-map base.archives (λ (a : Archive). a.def.rows)) in
     let was : length (rows_at base.archives archive) ≡ old = length-rows_at archive base.archives (sound base is).is_base.archives_are in
     let is_now : length (rows_at archives archive) ≡ new
-    = length-rows_at archive archives (moved_sound base command (sound base is) h).is_base.archives_are
+    = length-rows_at archive archives (listed_sound base command (sound base is) h).is_base.archives_are
     ∙ ap (λ (s : Settings). get_or s.rows archive 0) (settings_of-content base (events settings command))
     ∙ changed_there archive new 0 archive settings.rows (omega arith) there in
     record {
@@ -275,10 +261,13 @@ resize_fits base archive change rows is h =
       another = λ e. another change old rows p.1.0 p.1.1.0 (sym was ∙ e ∙ is_now);
     }
 
+listed_fits : (base : Content) (command : Command) → IsValid base → verdict base command ≡ None → Fits (moved_listed base command) (entry base command)
+listed_fits base (Updating update) is h = update_fits base update is h
+listed_fits base (TuningBy tuning) is h = tune_fits base tuning is h
+listed_fits base (Resizing archive change rows) is h = resize_fits base archive change rows is h
+
 fits : (base : Content) (command : Command) → IsValid base → verdict base command ≡ None → Fits (moved base command) (entry base command)
-fits base (Updating update) is h = update_fits base update is h
-fits base (TuningBy tuning) is h = tune_fits base tuning is h
-fits base (Resizing archive change rows) is h = resize_fits base archive change rows is h
+fits base command is h = subst (λ now. Fits now (entry base command)) (moved_is base command (sound base is) h) (listed_fits base command is h)
 
 -- ---- the journal
 

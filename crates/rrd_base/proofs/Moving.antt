@@ -5,11 +5,11 @@ use Rattle.std.proofs.lemmas.List.{reverse-append}
 use Rattle.std.proofs.lemmas.List.Sums.{fold-append}
 use Rattle.std.specs.List.{fold, enumerate_from}
 use Rattle.rrd_base.specs.declared.definition.DsDef.{DsDef}
-use Rattle.rrd_base.specs.History.{Archive, Content, Event, Sampled, Tuned, Resized, Moment, moment_after, moment_of, moment_at_end, rows_after, archive_of, content, IsHistory}
+use Rattle.rrd_base.specs.History.{Archive, Content, Event, Sampled, Tuned, Resized, Moment, moment_after, moment_of, moment_at_end, rows_after, archive_of, content, IsHistory, IsBase}
 use Rattle.rrd_base.specs.Cells.{archive_by_time, content_by_time}
 use Rattle.rrd_base.proofs.CellLemmas.{is_by_time}
 use Rattle.rrd_base.proofs.ContentLemmas.{content-append, IsBase-content}
-use Rattle.rrd_base.specs.Commands.{Command, Settings, settings_of, rows_of_archives, settings_after, events, events_of, moved}
+use Rattle.rrd_base.specs.Commands.{Command, Settings, settings_of, rows_of_archives, settings_after, events, events_of, moved, moved_listed}
 use Rattle.rrd_base.specs.Verdict.{verdict}
 use Rattle.rrd_base.specs.Entries.{IsSound}
 use Rattle.rrd_base.specs.Survivors.{survived, AllAccepted, Moves}
@@ -102,25 +102,34 @@ survivors_history base (command ∷ commands) h =
     subst P (sym (events_of-more base commands command))
     (IsHistory-append (moment_of base) (events_of (settings_of base) (reverse commands)) (events (settings_of (survived base commands)) command) (survivors_history base commands h.1) (next_history base commands command h.0))
 
+-- a content moved by an accepted command, by list and by time
+pub moved_is : (base : Content) (command : Command) → IsSound base → verdict base command ≡ None → moved_listed base command ≡ moved base command
+moved_is base command sound h = is_by_time base (events (settings_of base) command) sound.is_base (accepted_history base command h)
+
 pub moves : (base : Content) (commands : List Command) (command : Command) → Moves base commands command
 moves base commands command sound h =
     let earlier = events_of (settings_of base) (reverse commands) in
     let next = events (settings_of (survived base commands)) command in
     let before = survivors_history base commands h.1 in
+    let here : content base earlier ≡ survived base commands = is_by_time base earlier sound.is_base before in
+    let is_base : IsBase (survived base commands) = subst IsBase here (IsBase-content base earlier sound.is_base before) in
     sym (is_by_time base (events_of (settings_of base) (reverse (command ∷ commands))) sound.is_base (survivors_history base (command ∷ commands) h))
     ∙ ap (content base) (events_of-more base commands command)
     ∙ content-append base earlier next sound.is_base before (next_history base commands command h.0)
-    ∙ ap (λ now. content now next) (is_by_time base earlier sound.is_base before)
+    ∙ ap (λ now. content now next) here
+    ∙ is_by_time (survived base commands) next is_base (accepted_history (survived base commands) command h.0)
 
 -- ---- what is sound stays sound
 
-pub moved_sound : (base : Content) (command : Command) → IsSound base → verdict base command ≡ None → IsSound (moved base command)
+pub listed_sound : (base : Content) (command : Command) → IsSound base → verdict base command ≡ None → IsSound (moved_listed base command)
 unfolding content
-moved_sound base command sound h = record {
+listed_sound base command sound h = record {
   is_base = IsBase-content base (events (settings_of base) command) sound.is_base (accepted_history base command h);
   one_raw_each = command_raws base command sound.one_raw_each;
 }
 
+pub moved_sound : (base : Content) (command : Command) → IsSound base → verdict base command ≡ None → IsSound (moved base command)
+moved_sound base command sound h = subst IsSound (moved_is base command sound h) (listed_sound base command sound h)
+
 pub moved_depth : (base : Content) (command : Command) → (moved base command).depth ≡ base.depth
-unfolding content
 moved_depth base command = refl

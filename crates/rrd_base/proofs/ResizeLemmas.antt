@@ -8,7 +8,7 @@ use Rattle.rrd_ring.specs.Rows.{newest_rows, width}
 use Rattle.rrd_base.specs.History.{Archive, Content, Resized, moment_of, rows_after, rows_of, row_parts_of, room, keep_last, filled_up, kept_rows, archive_of, content, IsArchive}
 use Rattle.rrd_base.specs.declared.resize.Change.{Change}
 use Rattle.rrd_base.specs.declared.resize.Change.TheVariants.{Grow, Shrink}
-use Rattle.rrd_base.specs.Commands.{Resizing, moved, rows_changed, rows_of_archives}
+use Rattle.rrd_base.specs.Commands.{Resizing, moved_listed, rows_changed, rows_of_archives}
 use Rattle.rrd_base.specs.Entries.{rows_at}
 use Rattle.rrd_base.specs.Resized.{HasFewRows}
 use Rattle.rrd_base.specs.Validity.{IsValid, IsValidArchive}
@@ -170,7 +170,7 @@ there_is now k change rows h =
     omega (arith, low, length-map now.archives (λ (a : Archive). a.def.rows))
 
 -- the new rows are as many as asked
-pub resized_is : (now : Content) (k : ℕ) (change : Change) (rows n : ℕ) (new : List (List Cell)) (d : Archive) → k < length now.archives → n ≡ rows_changed change (get_or now.archives k d).def.rows rows → new ≡ newest_rows n (rows_at now.archives k) → (length new ≡ n) × (content now (Resized k (length new) ∷ []) ≡ moved now (Resizing k change rows))
+pub resized_is : (now : Content) (k : ℕ) (change : Change) (rows n : ℕ) (new : List (List Cell)) (d : Archive) → k < length now.archives → n ≡ rows_changed change (get_or now.archives k d).def.rows rows → new ≡ newest_rows n (rows_at now.archives k) → (length new ≡ n) × (content now (Resized k (length new) ∷ []) ≡ moved_listed now (Resizing k change rows))
 resized_is now k change rows n new d there e f =
     let count : length new ≡ n = ap length f ∙ length-newest_rows n (rows_at now.archives k) in
     (count, ap (λ m. content now (Resized k m ∷ [])) (count ∙ e ∙ ap (λ m. rows_changed change m rows) (sym (rows_at_archive now.archives k d there))))

@@ -18,14 +18,15 @@ use Rattle.rrd_base.specs.declared.definition.DsDef.{DsDef}
 use Rattle.rrd_base.specs.History.{Archive, Content, Reading, Event, Sampled, Tuned, Moment, moment_after, moment_of, moment_at_end, same_kind, raws_under, rows_after, seconds_of, archive_of, content, IsHistory}
 use Rattle.rrd_base.proofs.HistoryLemmas.{length-sources}
 use Rattle.rrd_base.proofs.SampleLemmas.{rows_of_samples}
-use Rattle.rrd_base.specs.Commands.{Asked, Command, Updating, TuningBy, Resizing, settings_of, settings_after, rows_of_archives, raw_of, value_for, sample_of, samples_of, names, asked, tuned, rows_changed, events}
+use Rattle.rrd_base.specs.Commands.{Asked, Command, Updating, TuningBy, Resizing, settings_of, settings_after, rows_of_archives, raw_of, value_for, sample_of, samples_of, names, asked, tuned, rows_changed, events, moved_listed}
 use Rattle.rrd_base.specs.Verdict.{is_bad_heartbeat, is_bad_rows, has_bad_bounds, has_source, is_double, grows_too_far, sample_checks, cells, verdict}
 use Rattle.rrd_base.proofs.Accepted.{Passes, accepted_passes, accepted_history}
-use Rattle.rrd_base.proofs.Moving.{settings_of-content}
+use Rattle.rrd_base.proofs.Moving.{moved_is, settings_of-content}
 use Rattle.rrd_base.proofs.Quiet.{seconds_none}
+use Rattle.rrd_base.specs.Entries.{IsSound}
 use Rattle.rrd_base.specs.Validity.{IsSource, AreAccepted, AreParts, IsRow, IsValidArchive, IsValid, StaysValid}
 use Rattle.rrd_base.proofs.Rates.{seconds_rows}
-use Rattle.rrd_base.proofs.Held.{LeavesGoodRows, parts_valid, archives_valid}
+use Rattle.rrd_base.proofs.Held.{LeavesGoodRows, are_archives, parts_valid, archives_valid}
 use Rattle.rrd_base.proofs.Named.{names_differ, names_tuned}
 use Rattle.rrd_fixed.specs.Rounding.{floor_of}
 use Rattle.rrd_base.specs.declared.update.Given.{Given}
@@ -253,7 +254,26 @@ resize_leaves base archive change rows is h =
       few_cells = below (cells (fold settings_after settings es)) _ (ap cells (settings_of-content base es)) (ltb-false 4000000 (cells (fold settings_after settings es)) p.1.1.1.0);
     }
 
+-- ---- what is valid is sound
+
+pub length-accepted : (sources : List DsDef) (raws : List Raw) → AreAccepted sources raws → length raws ≡ length sources
+length-accepted [] [] h = refl
+length-accepted [] (raw ∷ raws) h = absurd h
+length-accepted (source ∷ sources) [] h = absurd h
+length-accepted (source ∷ sources) (raw ∷ raws) h = ap suc (length-accepted sources raws h.1)
+
+pub sound : (base : Content) → IsValid base → IsSound base
+sound base is = record {
+  is_base = record { some_step = is.some_step; archives_are = are_archives (length base.sources) (base.last / base.step) base.archives is.archives_are };
+  one_raw_each = length-accepted base.sources base.raws is.raws_are;
+}
+
+-- ---- what is valid stays so
+
+pub listed_valid : (base : Content) (command : Command) → IsValid base → verdict base command ≡ None → IsValid (moved_listed base command)
+listed_valid base (Updating update) is h = left_valid base (events (settings_of base) (Updating update)) is (update_leaves base update is h)
+listed_valid base (TuningBy tuning) is h = left_valid base (events (settings_of base) (TuningBy tuning)) is (tune_leaves base tuning is h)
+listed_valid base (Resizing archive change rows) is h = left_valid base (events (settings_of base) (Resizing archive change rows)) is (resize_leaves base archive change rows is h)
+
 pub stays_valid : (base : Content) (command : Command) → StaysValid base command
-stays_valid base (Updating update) is h = left_valid base (events (settings_of base) (Updating update)) is (update_leaves base update is h)
-stays_valid base (TuningBy tuning) is h = left_valid base (events (settings_of base) (TuningBy tuning)) is (tune_leaves base tuning is h)
-stays_valid base (Resizing archive change rows) is h = left_valid base (events (settings_of base) (Resizing archive change rows)) is (resize_leaves base archive change rows is h)
+stays_valid base command is h = subst IsValid (moved_is base command (sound base is) h) (listed_valid base command is h)

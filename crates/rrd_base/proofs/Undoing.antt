@@ -11,9 +11,11 @@ use Rattle.rrd_base.specs.declared.definition.DsDef.{DsDef}
 use Rattle.rrd_base.specs.History.{Archive, Content, Reading, Sampled, Resized, Moment, moment_after, moment_of, moment_at_end, same_kind, raws_under, rows_of, row_parts_of, rows_after, kept_rows, archive_of, content, IsHistory, IsArchive}
 use Rattle.rrd_base.proofs.ContentLemmas.{length-rows_of, length-kept_rows}
 use Rattle.rrd_base.proofs.SampleLemmas.{rows_of_samples, update_undone}
-use Rattle.rrd_base.specs.Commands.{Asked, Command, Updating, TuningBy, Resizing, settings_of, samples_of, asked, tuned, rows_changed}
-use Rattle.rrd_base.specs.Entries.{Held, WasResized, rows_between, dropped, is_asked, is_named, held, rows_at, put_back, put_back_each, with_held, with_rows_at, undone, ComesBack}
+use Rattle.rrd_base.specs.Commands.{Asked, Command, Updating, TuningBy, Resizing, settings_of, samples_of, asked, tuned, rows_changed, moved_listed}
+use Rattle.rrd_base.specs.Verdict.{verdict}
+use Rattle.rrd_base.specs.Entries.{Held, WasResized, rows_between, dropped, is_asked, is_named, held, rows_at, put_back, put_back_each, with_held, with_rows_at, entry, undone, IsSound, ComesBack}
 use Rattle.rrd_base.proofs.Accepted.{accepted_passes, accepted_history}
+use Rattle.rrd_base.proofs.Moving.{moved_is}
 use Rattle.rrd_base.proofs.Quiet.{made, with_all, content_tuned, resized_other, resized_elsewhere, content_resized, row_parts_same}
 use Rattle.rrd_base.specs.declared.tune.Tuning.{Tuning}
 use Rattle.rrd_base.specs.declared.update.Update.{Update}
@@ -53,7 +55,11 @@ archives_back base index (archive ∷ archives) samples some is h =
     let rest = archives_back base (index + 1) archives samples some is.1 h in
     cc
 
-update_back : (base : Content) (update : Update) → ComesBack base (Updating update)
+-- an accepted command is undone by its entry, where the content is said by list
+abbrev ListedBack : Content → Command → Type 0
+ListedBack base command = IsSound base → verdict base command ≡ None → undone (moved_listed base command) (entry base command) ≡ base
+
+update_back : (base : Content) (update : Update) → ListedBack base (Updating update)
 unfolding content with_all
 update_back base update sound h =
     let samples = samples_of base.sources update in
@@ -127,7 +133,7 @@ sources_back base tuning number done done_raws (source ∷ sources) (raw ∷ raw
     ∙ go_on)
     (cases_Bool (is_named tuning source))
 
-tune_back : (base : Content) (tuning : Tuning) → ComesBack base (TuningBy tuning)
+tune_back : (base : Content) (tuning : Tuning) → ListedBack base (TuningBy tuning)
 unfolding with_sources
 tune_back base tuning sound h =
     ap (λ now. fold with_held now (held tuning 0 base.sources base.raws)) (content_tuned base (map (tuned tuning) base.sources) sound.is_base)
@@ -156,7 +162,7 @@ archives_resized_back base at rows first (suc index) (archive ∷ archives) e is
 with_archives : Content → List Archive → Content
 with_archives base archives = record base { archives = archives }
 
-resize_back : (base : Content) (archive : ℕ) (change : Change) (rows : ℕ) → ComesBack base (Resizing archive change rows)
+resize_back : (base : Content) (archive : ℕ) (change : Change) (rows : ℕ) → ListedBack base (Resizing archive change rows)
 unfolding with_archives
 resize_back base archive change rows sound h =
     let new = rows_changed change (slice_index_or (settings_of base).rows archive 0) rows in
@@ -165,7 +171,10 @@ resize_back base archive change rows sound h =
     ap (λ now. undone now (WasResized archive (rows_at base.archives archive))) (content_resized base archive new sound.is_base)
     ∙ ap (λ archives. with_archives base archives) (archives_resized_back base archive new 0 archive base.archives (omega arith) sound.is_base.archives_are there)
 
+listed_back : (base : Content) (command : Command) → ListedBack base command
+listed_back base (Updating update) = update_back base update
+listed_back base (TuningBy tuning) = tune_back base tuning
+listed_back base (Resizing archive change rows) = resize_back base archive change rows
+
 pub comes_back : (base : Content) (command : Command) → ComesBack base command
-comes_back base (Updating update) = update_back base update
-comes_back base (TuningBy tuning) = tune_back base tuning
-comes_back base (Resizing archive change rows) = resize_back base archive change rows
+comes_back base command sound h = ap (λ now. undone now (entry base command)) (sym (moved_is base command sound h)) ∙ listed_back base command sound h

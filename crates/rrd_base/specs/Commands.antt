@@ -116,4 +116,8 @@ abbrev pub content_of : Content → List Command → Content
 content_of base commands = content_by_time base (events_of (settings_of base) commands)
 
 abbrev pub moved : Content → Command → Content
-moved base command = content base (events (settings_of base) command)
+moved base command = content_by_time base (events (settings_of base) command)
+
+-- the same, its rows being the list of those that are kept
+abbrev pub moved_listed : Content → Command → Content
+moved_listed base command = content base (events (settings_of base) command)

@@ -2,7 +2,7 @@
 ghost use Rattle.std.specs.Prelude.{◌≡◌, ℕ, ◌+◌, ◌-◌, ◌*◌, ◌/◌, ◌^◌, ◌<◌, ◌≤◌, [], ◌∷◌, length, map, replicate, slice_index_or, IfOk, None, pos, ◌-ℤ◌};
 ghost use Rattle.std.specs.Int.{int_div_euclid};
 ghost use Rattle.rrd_base.specs.Choice.{choice_of};
-ghost use Rattle.rrd_base.specs.Commands.{TuningBy, Updating, moved};
+ghost use Rattle.rrd_base.specs.Commands.{TuningBy, Updating, moved_listed};
 ghost use Rattle.rrd_base.specs.Creating.{create_verdict, created};
 ghost use Rattle.rrd_base.specs.Shown.{cell_at, definitions, prep_at};
 ghost use Rattle.rrd_fixed.specs.declared.raw.Raw.TheVariants.{Unknown};
@@ -204,7 +204,7 @@ impl Contents {
         requires accepted { verdict self.old (Updating update.now) ≡ None }
         requires places { HasPlaces room.old (length self.old.sources) }
         requires turns { meter.old ≡ 0 }
-        ensures { self.new ≡ moved self.old (Updating update.now) }
+        ensures { self.new ≡ moved_listed self.old (Updating update.now) }
     {
         for sample in update.samples.as_slice() {
             let values = sample.values.as_slice();
@@ -272,7 +272,7 @@ impl Contents {
     /// Gives the sources the settings that a tune asks.
     pub(crate) fn tune(&mut self, tuning: &Tuning)
         requires { verdict self.old (TuningBy tuning.now) ≡ None }
-        ensures { self.new ≡ moved self.old (TuningBy tuning.now) }
+        ensures { self.new ≡ moved_listed self.old (TuningBy tuning.now) }
     {
         tune_all(&mut self.sources, &mut self.raws, tuning);
     }

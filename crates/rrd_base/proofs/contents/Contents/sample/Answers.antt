@@ -1,11 +1,11 @@
 use Rattle.std.proofs.Common.{◌≡◌, refl, sym, ◌∙◌, ap, subst, ◌+◌, ◌-◌, ◌<◌, replicate, length, arith}
 use Rattle.std.proofs.lemmas.List.{replicate-append-replicate}
+use Rattle.rrd_base.proofs.Staying.{length-accepted}
 use Rattle.rrd_base.specs.History.{Content, Reading, rates}
 use Rattle.rrd_base.specs.Passed.{passed}
 use Rattle.rrd_base.specs.Validity.{IsValid, IsRow}
 use Rattle.rrd_base.specs.Contents.{content_of}
 use Rattle.rrd_base.proofs.PassedLemmas.{passed-nil, passed-append, content_of_sample}
-use Rattle.rrd_base.proofs.Fitting.{length-accepted}
 use Rattle.rrd_base.proofs.Passing.{base_of_valid}
 use Rattle.rrd_fold.proofs.GroupLemmas.{next_ahead}
 use Rattle.rrd_base.proofs.contents.Contents.sample.Goals as goal

@@ -16,9 +16,9 @@ use Rattle.rrd_base.specs.Validity.{IsValid}
 use Rattle.rrd_base.specs.Verdict.{first_refusal, resize_checks, verdict}
 use Rattle.rrd_base.specs.Contents.{content_of}
 use Rattle.rrd_base.proofs.KeptLemmas.{added}
-use Rattle.rrd_base.proofs.Moving.{moved_depth}
+use Rattle.rrd_base.proofs.Moving.{moved_depth, moved_is}
 use Rattle.rrd_base.proofs.ResizeLemmas.{resized_is, there_is}
-use Rattle.rrd_base.proofs.Staying.{stays_valid}
+use Rattle.rrd_base.proofs.Staying.{listed_valid, sound}
 use Rattle.rrd_base.proofs.database.Database.resize.Goals as goal
 
 -- what was checked is the verdict
@@ -63,7 +63,7 @@ resize-old-requires-clause-valid c =
     = c.rows_changed-rows.ensures ∙ ap (λ m. commands.rows_changed c.args.change m c.args.rows) (ap (λ (d : RraDef). d.rows) c.def.ensures ∙ ap (λ (a : Archive). a.def.rows) c.index.ensures ∙ ap (λ (x : Content). (get_or x.archives c.args.archive c.index.result.now).def.rows) c.contents.view_is) in
     let rows_are : c.in-Ok.new ≡ newest_rows c.rows_changed-rows.result (rows_at X.archives c.args.archive) = c.in-Ok.ensures in
     let resized = resized_is X c.args.archive c.args.change c.args.rows c.rows_changed-rows.result c.in-Ok.new c.index.result.now there size rows_are in
-    subst IsValid (sym resized.1) (stays_valid X (Resizing c.args.archive c.args.change c.args.rows) c.self.invariant.valid.now_is accepted)
+    subst IsValid (sym resized.1) (listed_valid X (Resizing c.args.archive c.args.change c.args.rows) c.self.invariant.valid.now_is accepted)
 
 pub invariant_of-self : goal.invariant_of-self
 invariant_of-self c =
@@ -79,7 +79,7 @@ invariant_of-self c =
     let command = Resizing c.args.archive c.args.change c.args.rows in
     let this : entry_of (entry.Resize c.args.archive c.resize-old.result) ≡ entry_for X command = ap (entries.WasResized c.args.archive) c.resize-old.ensures.old in
     let one = added d.contents d.journal.items command (entry.Resize c.args.archive c.resize-old.result) c.self.invariant.valid c.self.invariant.functions_stay accepted this tt in
-    let now : c.resize-old.new.self ≡ moved X command = c.resize-old.ensures.contents ∙ resized.1 in
+    let now : c.resize-old.new.self ≡ moved X command = c.resize-old.ensures.contents ∙ resized.1 ∙ moved_is X command (sound X c.self.invariant.valid.now_is) accepted in
     rw (now, c.push_back-oldest.ensures.items, c.self.invariant.places) (record {
       places = sym (moved_depth d.contents command);
       valid = one.after;
@@ -100,7 +100,7 @@ returns-clause-ok c =
     let command = Resizing c.args.archive c.args.change c.args.rows in
     let this : entry_of (entry.Resize c.args.archive c.resize-old.result) ≡ entry_for X command = ap (entries.WasResized c.args.archive) c.resize-old.ensures.old in
     let one = added d.contents d.journal.items command (entry.Resize c.args.archive c.resize-old.result) c.self.invariant.valid c.self.invariant.functions_stay accepted this tt in
-    let now : c.resize-old.new.self ≡ moved X command = c.resize-old.ensures.contents ∙ resized.1 in
+    let now : c.resize-old.new.self ≡ moved X command = c.resize-old.ensures.contents ∙ resized.1 ∙ moved_is X command (sound X c.self.invariant.valid.now_is) accepted in
     rw (now, c.push_back-oldest.ensures.items, c.self.invariant.places)
     (ap (λ j. let k : Kept = record { now = moved d.contents command; journal = j } in k) one.journal_is
     ∙ ap (λ (k : Kept). changed k command) c.self.view_is)

@@ -8,7 +8,8 @@ use Rattle.rrd_base.specs.Survivors.{Kept, changed}
 use Rattle.rrd_base.specs.Verdict.{first_refusal, tune_checks, verdict}
 use Rattle.rrd_base.specs.Contents.{content_of}
 use Rattle.rrd_base.proofs.KeptLemmas.{added}
-use Rattle.rrd_base.proofs.Moving.{moved_depth}
+use Rattle.rrd_base.proofs.Moving.{moved_depth, moved_is}
+use Rattle.rrd_base.proofs.Staying.{sound}
 use Rattle.rrd_base.proofs.database.Database.tune.Goals as goal
 
 -- what was checked is the verdict
@@ -43,7 +44,8 @@ invariant_of-self c =
     let e = c.check_tune.ensures ∙ ap (λ ss. first_refusal (tune_checks ss tuning)) c.deref.ensures.value in
     let accepted = checked (content_of c.contents.inside) d.contents d.contents tuning c.check_tune.result e c.contents.view_is refl ∙ c.in_default.is in
     let one = added d.contents d.journal.items (TuningBy tuning) (entry.Tune c.hold-held.result) c.self.invariant.valid c.self.invariant.functions_stay accepted c.hold-held.ensures tt in
-    rw (c.tune.ensures, c.push_back-oldest.ensures.items, c.self.invariant.places) (record {
+    let now : c.tune.new.self ≡ moved d.contents (TuningBy tuning) = c.tune.ensures ∙ moved_is d.contents (TuningBy tuning) (sound d.contents c.self.invariant.valid.now_is) accepted in
+    rw (now, c.push_back-oldest.ensures.items, c.self.invariant.places) (record {
       places = sym (moved_depth d.contents (TuningBy tuning));
       valid = one.after;
       functions_stay = one.functions_stay;
@@ -56,6 +58,7 @@ returns-clause-ok c =
     let e = c.check_tune.ensures ∙ ap (λ ss. first_refusal (tune_checks ss tuning)) c.deref.ensures.value in
     let accepted = checked (content_of c.contents.inside) d.contents d.contents tuning c.check_tune.result e c.contents.view_is refl ∙ c.in_default.is in
     let one = added d.contents d.journal.items (TuningBy tuning) (entry.Tune c.hold-held.result) c.self.invariant.valid c.self.invariant.functions_stay accepted c.hold-held.ensures tt in
-    rw (c.tune.ensures, c.push_back-oldest.ensures.items, c.self.invariant.places)
+    let now : c.tune.new.self ≡ moved d.contents (TuningBy tuning) = c.tune.ensures ∙ moved_is d.contents (TuningBy tuning) (sound d.contents c.self.invariant.valid.now_is) accepted in
+    rw (now, c.push_back-oldest.ensures.items, c.self.invariant.places)
     (ap (λ j. let k : Kept = record { now = moved d.contents (TuningBy tuning); journal = j } in k) one.journal_is
     ∙ ap (λ (k : Kept). changed k (TuningBy tuning)) c.self.view_is)

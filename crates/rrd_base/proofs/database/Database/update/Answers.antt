@@ -15,7 +15,8 @@ use Rattle.rrd_base.specs.Store.{befores}
 use Rattle.rrd_ring.specs.Rows.{HasWidth}
 use Rattle.std.specs.List.{AllByRecursion}
 use Rattle.rrd_base.proofs.CountLemmas.{wide_dropped}
-use Rattle.rrd_base.proofs.Moving.{moved_depth}
+use Rattle.rrd_base.proofs.Moving.{moved_depth, moved_is}
+use Rattle.rrd_base.proofs.Staying.{sound}
 use Rattle.rrd_base.proofs.database.Database.update.Goals as goal
 
 -- what was checked is the verdict
@@ -58,7 +59,8 @@ invariant_of-self c =
     let saved = c.in-Ok.ensures in
     let this = update_entry d.contents update c.in-Ok.before some (saved.0 ∙ ap (before d.contents) c.end_of.ensures) in
     let one = added d.contents d.journal.items (Updating update) (entry.Update c.in-Ok.before) c.self.invariant.valid c.self.invariant.functions_stay accepted this saved.1 in
-    rw (c.take_samples.ensures, c.push_back-oldest.ensures.items, c.self.invariant.places) (record {
+    let now : c.take_samples.new.self ≡ moved d.contents (Updating update) = c.take_samples.ensures ∙ moved_is d.contents (Updating update) (sound d.contents c.self.invariant.valid.now_is) accepted in
+    rw (now, c.push_back-oldest.ensures.items, c.self.invariant.places) (record {
       places = sym (moved_depth d.contents (Updating update));
       valid = one.after;
       functions_stay = one.functions_stay;
@@ -74,7 +76,8 @@ returns-clause-ok c =
     let saved = c.in-Ok.ensures in
     let this = update_entry d.contents update c.in-Ok.before some (saved.0 ∙ ap (before d.contents) c.end_of.ensures) in
     let one = added d.contents d.journal.items (Updating update) (entry.Update c.in-Ok.before) c.self.invariant.valid c.self.invariant.functions_stay accepted this saved.1 in
-    rw (c.take_samples.ensures, c.push_back-oldest.ensures.items, c.self.invariant.places)
+    let now : c.take_samples.new.self ≡ moved d.contents (Updating update) = c.take_samples.ensures ∙ moved_is d.contents (Updating update) (sound d.contents c.self.invariant.valid.now_is) accepted in
+    rw (now, c.push_back-oldest.ensures.items, c.self.invariant.places)
     (ap (λ j. let k : Kept = record { now = moved d.contents (Updating update); journal = j } in k) one.journal_is
     ∙ ap (λ (k : Kept). changed k (Updating update)) c.self.view_is)
 
