@@ -9,7 +9,7 @@ use Rattle.rrd_base.specs.declared.definition.DsDef.{DsDef}
 use Rattle.rrd_base.specs.declared.entry.Entry.{Entry}
 use Rattle.rrd_base.specs.declared.entry.Entry.TheVariants as entry
 use Rattle.rrd_fixed.specs.declared.name.Name.{Name}
-use Rattle.rrd_base.specs.History.{Archive, Content, Event, Sampled, Moment, moment_of, moment_after, archive_of, content}
+use Rattle.rrd_base.specs.History.{Archive, Content, Event, Sampled, Moment, moment_of, moment_after}
 use Rattle.rrd_base.specs.Commands.{Updating, sample_of, moved}
 use Rattle.rrd_base.specs.Cells.{archive_by_time, content_by_time}
 use Rattle.rrd_base.specs.Entries.{Dropped, Held, put_back_each, with_held, with_rows_at}
@@ -19,7 +19,6 @@ use Rattle.rrd_base.specs.Updating.{last_time, template_of}
 use Rattle.rrd_base.specs.Validity.{IsValidArchive, IsRow, FitsArchive, FitEach}
 use Rattle.rrd_base.specs.Verdict.{verdict, no_sample}
 use Rattle.rrd_base.proofs.Accepted.{accepted_passes}
-use Rattle.rrd_base.proofs.HistoryLemmas.{moment_of-content}
 
 -- ---- the last time
 

@@ -13,7 +13,7 @@ use Rattle.rrd_base.proofs.HistoryLemmas.{last_rises, length-sources}
 use Rattle.rrd_base.proofs.SampleLemmas.{rows_of_samples}
 use Rattle.rrd_base.specs.Commands.{Asked, Settings, Command, Updating, TuningBy, Resizing, settings_of, rows_of_archives, names, sample_of, samples_of, tuned, rows_changed, events, moved, moved_listed}
 use Rattle.rrd_base.specs.Verdict.{has_source, is_double, is_bad_rows, grows_too_far, shrinks_too_far, no_sample, asks_nothing, names_no_source, verdict}
-use Rattle.rrd_base.specs.Entries.{Held, Entry, Updated, WasTuned, WasResized, rows_between, dropped, is_asked, is_named, held, rows_at, with_held, entry, undone, IsSound}
+use Rattle.rrd_base.specs.Entries.{Held, Entry, Updated, WasTuned, WasResized, rows_between, dropped, is_asked, is_named, held, rows_at, with_held, entry, undone}
 use Rattle.rrd_base.specs.Survivors.{Action, Changed, Reverted, Kept, is_accepted, changed, reverted, step, AllUndo}
 use Rattle.rrd_base.proofs.Accepted.{accepted_passes, accepted_history}
 use Rattle.rrd_base.proofs.Undoing.{comes_back}
@@ -21,8 +21,7 @@ use Rattle.rrd_base.proofs.Runs.{runs_agree, is_none-true}
 use Rattle.rrd_base.proofs.Moving.{listed_sound, moved_is, moved_depth, settings_of-content}
 use Rattle.std.proofs.lemmas.List.FromFn.{length-enumerate_from}
 use Rattle.rrd_base.proofs.Named.{same_is, same_itself}
-use Rattle.rrd_base.specs.Validity.{AreAccepted, IsRow, IsValidArchive, IsValid, FitsArchive, FitEach, Rise, Fits, IsValidJournal, IsValidDatabase, DatabaseStays, RevertTakesBack, RunsStay}
-use Rattle.rrd_base.proofs.Held.{are_archives}
+use Rattle.rrd_base.specs.Validity.{IsRow, IsValidArchive, IsValid, FitsArchive, FitEach, Rise, Fits, IsValidJournal, IsValidDatabase, DatabaseStays, RevertTakesBack, RunsStay}
 use Rattle.rrd_base.proofs.Staying.{length-accepted, sound, stays_valid}
 use Rattle.rrd_base.specs.declared.tune.Tuning.{Tuning}
 use Rattle.rrd_base.specs.declared.update.Update.{Update}

@@ -4,7 +4,7 @@ use Rattle.std.specs.Prelude.{is_none}
 use Rattle.std.proofs.lemmas.Bool.{cases_Bool, cases_lt}
 use Rattle.std.proofs.lemmas.List.{length-take}
 use Rattle.std.specs.List.{fold}
-use Rattle.rrd_base.specs.History.{Content, content}
+use Rattle.rrd_base.specs.History.{Content}
 use Rattle.rrd_base.specs.Commands.{Command, moved}
 use Rattle.rrd_base.specs.Verdict.{verdict}
 use Rattle.rrd_base.specs.Entries.{Entry, entry, undone, IsSound}
