@@ -5,7 +5,8 @@ ghost use Rattle.rrd_fixed.specs.Written.{Writes};
 
 use std::io::{ErrorKind, Write};
 
-/// A write failed, took nothing or stayed interrupted. A front of what was to be written is there.
+/// A write failed, took nothing or stayed interrupted. A front of what was to be written is there,
+/// and not all of it.
 #[derive(Debug, Drop)]
 pub struct WriteFault {}
 

@@ -3,7 +3,7 @@ use Rattle.std.proofs.Common.{◌≡◌, ◌∙◌, ◌+◌, ◌++◌, ◌∷◌
 use Rattle.std.specs.Io.KnownBytes.{Appends, Consumes, Keeps}
 use Rattle.std.proofs.KnownBytes.{Appends-trans, Consumes-trans}
 use Rattle.std.specs.Result.{is_err}
-use Rattle.rrd_tool.specs.Batch.{Answers, Performs, Ran, Stopped, Told, Turn, faults_of, line_told, state_after, text_of}
+use Rattle.rrd_tool.specs.Batch.{Answers, AppendsSome, Performs, Ran, Stopped, Told, Turn, faults_of, faults_written, line_told, state_after, text_of}
 use Rattle.rrd_tool.specs.Lines.{if_some, is_empty, last_part, lines_of, whole_lines}
 use Rattle.rrd_fixed.specs.Written.{AppendsFront}
 use Rattle.rrd_fixed.specs.declared.writing.WriteFault.{WriteFault}
@@ -68,9 +68,11 @@ module _ {S : Type 0} (turn : S → Told → Turn S) where
           state = q.state ∙ ap (λ s. (turn s q.last).state) (sym there);
           faults =
               let own = p.faults in
-              let more = q.faults ∙ ap (λ s. n1 + faults_of turn s q.told) p.state in
+              let more = q.faults in
+              let same = ap (λ s. faults_of turn s q.told) p.state in
+              let last = ap (λ s. faults_written (turn s q.last).is_fault q.unwritten) there in
               let both = faults-append s0 p.told q.told in
-              omega (arith, own, more, both);
+              omega (arith, own, more, same, last, both);
           front_is = ap (λ s. (turn s q.last).text) there ∙ q.front_is;
           text = rw (text-append s0 p.told q.told, ← p.state, append_assoc (text_of turn s0 p.told) (text_of turn s1 q.told) q.front)
               (Appends-trans a b c (text_of turn s0 p.told) (text_of turn s1 q.told ++ q.front) p.text q.text);
@@ -160,9 +162,10 @@ module _ {S : Type 0} (turn : S → Told → Turn S) where
   }
 
   -- one line, of whose text a front was written
-  pub stopped_one : (s0 s1 : S) (n : ℕ) (a b : Option (List ℕ)) (told : Told) (is_fault : Bool) (text : List ℕ)
-      → turn s0 told ≡ record { state = s1; text = text; is_fault = is_fault } → AppendsFront a b text → Stopped turn s0 s1 n n a b (told.line ∷ [])
-  stopped_one s0 s1 n a b told is_fault text e h = record {
+  pub stopped_one : (s0 s1 : S) (n n1 : ℕ) (a b : Option (List ℕ)) (told : Told) (is_fault : Bool) (text : List ℕ)
+      → turn s0 told ≡ record { state = s1; text = text; is_fault = is_fault } → (h : AppendsSome a b text) → n1 ≡ n + faults_written is_fault h.1
+      → Stopped turn s0 s1 n n1 a b (told.line ∷ [])
+  stopped_one s0 s1 n n1 a b told is_fault text e h count = record {
     told = [];
     last = told;
     unrun = [];
@@ -170,7 +173,9 @@ module _ {S : Type 0} (turn : S → Told → Turn S) where
     unwritten = h.1;
     lines_are = refl;
     state = sym (ap (λ (t : Turn S). t.state) e);
-    faults = omega arith;
+    faults =
+        let same = ap (λ (t : Turn S). faults_written t.is_fault h.1) e in
+        omega (arith, count, same);
     front_is = ap (λ (t : Turn S). t.text) e ∙ h.2;
     text = h.3;
   }
@@ -178,13 +183,6 @@ module _ {S : Type 0} (turn : S → Told → Turn S) where
 -- the turns of a line
 abbrev pub turns_of : {S : Type 0} → (S → Told → Turn S) → S → List ℕ → Bool → Turn S
 turns_of turn s line is_short = turn s (record { line = line; is_short = is_short })
-
--- equal turns perform alike
-pub performs_as : {S F : Type 0} (fault_line : F → List ℕ) (t u : Bool → Turn S) (s : S) (a b : Option (List ℕ)) (r : Result (Option F) WriteFault) → ((is_short : Bool) → t is_short ≡ u is_short)
-    → Performs fault_line u s a b r → Performs fault_line t s a b r
-performs_as fault_line t u s a b (Ok None) same p = (p.0, same false ∙ p.1, p.2)
-performs_as fault_line t u s a b (Ok (Some f)) same p = (p.0, same p.0 ∙ p.1, p.2)
-performs_as fault_line t u s a b (Err e) same p = (p.0, same false ∙ p.1, p.2)
 
 module _ {S F : Type 0} (turn : S → Told → Turn S) (fault_line : F → List ℕ) where
   -- a line that was performed, or whose text could not be written
@@ -194,7 +192,7 @@ module _ {S F : Type 0} (turn : S → Told → Turn S) (fault_line : F → List 
 
   pub performed_stopped : (s0 s1 : S) (n : ℕ) (a b : Option (List ℕ)) (line : List ℕ) (e : WriteFault) → Performs fault_line (turns_of turn s0 line) s1 a b (Err e)
       → Stopped turn s0 s1 n n a b (line ∷ [])
-  performed_stopped s0 s1 n a b line e p = stopped_one turn s0 s1 n a b (record { line = line; is_short = false }) false p.0 p.1 p.2
+  performed_stopped s0 s1 n a b line e p = stopped_one turn s0 s1 n n a b (record { line = line; is_short = false }) false p.0 p.1 p.2 (omega arith)
 
   -- a line that was refused, and whose fault's line was written, whole or not
   pub refused_whole : (s0 s1 : S) (n : ℕ) (a b c : Option (List ℕ)) (line : List ℕ) (f : F) → Performs fault_line (turns_of turn s0 line) s1 a b (Ok (Some f))
@@ -204,8 +202,12 @@ module _ {S F : Type 0} (turn : S → Told → Turn S) (fault_line : F → List 
   pub refused_stopped : (s0 s1 : S) (n : ℕ) (a b c : Option (List ℕ)) (line : List ℕ) (f : F) → Performs fault_line (turns_of turn s0 line) s1 a b (Ok (Some f))
       → AppendsFront b c (fault_line f) → Stopped turn s0 s1 n n a c (line ∷ [])
   refused_stopped s0 s1 n a b c line f p q =
-      stopped_one turn s0 s1 n a c (record { line = line; is_short = p.0 }) true (fault_line f) p.1 (q.0, q.1, q.2, kept-appends a b c q.0 p.2 q.3)
+      stopped_one turn s0 s1 n n a c (record { line = line; is_short = p.0 }) true (fault_line f) p.1 (q.0, q.1 ∷ q.2, q.3, kept-appends a b c q.0 p.2 q.4) (omega arith)
 
--- a text that is written whole, nothing after it
-pub whole_front : (a b c : Option (List ℕ)) (text : List ℕ) → Appends a b text → Keeps b c → AppendsFront a c text
-whole_front a b c text p q = (text, [], sym (append-nil text), Appends-kept a b c text p q)
+  -- its line was written, and handed on or not
+  pub refused_answers : {T : Type 0} (s0 s1 : S) (n : ℕ) (a b c d : Option (List ℕ)) (line : List ℕ) (f : F) → Performs fault_line (turns_of turn s0 line) s1 a b (Ok (Some f))
+      → Appends b c (fault_line f) → Keeps c d → (r : Result T WriteFault) → Answers turn s0 s1 n (n + 1) a d (line ∷ []) r
+  refused_answers s0 s1 n a b c d line f p q k (Ok x) = refused_whole s0 s1 n a b d line f p (Appends-kept b c d (fault_line f) q k)
+  refused_answers s0 s1 n a b c d line f p q k (Err e) =
+      stopped_one turn s0 s1 n (n + 1) a d (record { line = line; is_short = p.0 }) true (fault_line f) p.1
+        (fault_line f, [], sym (append-nil (fault_line f)), kept-appends a b d (fault_line f) p.2 (Appends-kept b c d (fault_line f) q k)) refl

@@ -14,7 +14,6 @@ use Rattle.rrd_base.proofs.Fitting.{runs_stay}
 use Rattle.rrd_base.proofs.Runs.{step_stands}
 use Rattle.clap.specs.Words.{fault_of}
 use Rattle.rrd_fixed.proofs.Writings.{Appends-kept}
-use Rattle.rrd_tool.proofs.BatchLemmas.{whole_front}
 use Rattle.rrd_tool.specs.Batch.{Performs, Turn}
 use Rattle.rrd_tool.specs.Executed.{Comes, IsFault, PrintsBy, kept_next}
 use Rattle.rrd_tool.specs.Faults.{fault_line}
@@ -123,11 +122,11 @@ module _ (state : Option State) (command : Command) (kept1 : Option Kept) (c0 c1
 
   -- it was done, and handing on what it printed failed
   pub unflushed_performs : (c2 : Option (List ℕ)) (e : WriteFault) → ComesTo None → Keeps c1 c2 → Performed c2 (Err e)
-  unflushed_performs c2 e h k = (next state command, h.1, (lines_on (option_map kept_of state) command, rw h.0 refl, whole_front c0 c1 c2 (lines_on (option_map kept_of state) command) h.3 k))
+  unflushed_performs c2 e h k = (next state command, h.1, (lines_on (option_map kept_of state) command, rw h.0 refl, (lines_on (option_map kept_of state) command, [], sym (append-nil (lines_on (option_map kept_of state) command)), Appends-kept c0 c1 c2 (lines_on (option_map kept_of state) command) h.3 k)))
 
   -- it was done, and a write failed
   pub unwritten_performs : (e : WriteFault) → ComesTo (Some Output) → Performed c1 (Err e)
-  unwritten_performs e h = (next state command, h.1, (lines_on (option_map kept_of state) command, rw h.0 refl, h.3))
+  unwritten_performs e h = (next state command, h.1, (lines_on (option_map kept_of state) command, rw h.0 refl, (h.3.0, h.3.1 ∷ h.3.2, h.3.3, h.3.4)))
 
   fault_performs : (fault : Fault) → IsFault (verdict_on (option_map kept_of state) command) command fault → StandsFor kept1 state → Keeps c0 c1 → Performed c1 (Ok (Some fault))
   fault_performs fault h s k = elim h [

@@ -36,7 +36,7 @@ pub enum StreamFault {
 pub struct BatchEnd {
     /// The database after the lines that were run.
     pub database: Option<Database>,
-    /// How many fault lines were written whole and handed on.
+    /// How many fault lines were written whole.
     pub refused: u64,
     /// Why the batch ended before its input did.
     pub stream: Option<StreamFault>,
@@ -170,9 +170,8 @@ fn answer<W: Write>(
         return Ok(());
     };
     write_fault(out, &fault)?;
-    flush(out)?;
     batch.refused += 1;
-    Ok(())
+    flush(out)
 }
 
 // Takes a byte, and answers the line that it ends.

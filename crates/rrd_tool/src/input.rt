@@ -7,11 +7,11 @@ use std::io::{ErrorKind, Read};
 
 /// A read failed or stayed interrupted. Nothing was read.
 #[derive(Debug, Drop)]
-pub struct ReadFault {}
+pub(crate) struct ReadFault {}
 
 /// Reads into the buffer and says how many bytes came, none only at the end. A read that is
 /// interrupted is tried again, at most 1,000 times in a row.
-pub fn read_some<R: Read>(reader: &mut R, buffer: &mut [u8]) -> Result<usize, ReadFault>
+pub(crate) fn read_some<R: Read>(reader: &mut R, buffer: &mut [u8]) -> Result<usize, ReadFault>
     ensures bound { ReadsAtMost result buffer.new }
     ensures ok { IfOk result (λ n. Consumes (R.remaining reader.old) (R.remaining reader.new) (take n buffer.new)) }
     ensures end { IfOk result (λ n. n ≡ 0 → 0 < length buffer.old → IsAtEnd (R.remaining reader.new)) }

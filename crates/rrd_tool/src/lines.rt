@@ -13,7 +13,7 @@ const MOST: usize = 65_536;
 /// What an unfinished line has come to: the plain bytes that are kept, these and a CR behind them, or
 /// that no line that begins so is a text.
 #[derive(Clone, Copy)]
-pub enum Ending {
+pub(crate) enum Ending {
     Plain,
     Cr,
     Lost,
@@ -21,7 +21,7 @@ pub enum Ending {
 
 /// An unfinished line.
 #[derive(Drop)]
-pub struct LineBuffer {
+pub(crate) struct LineBuffer {
     bytes: Vec<u8>,
     ending: Ending,
     ghost room: { 65536 ≤ vec_capacity bytes },
@@ -40,7 +40,7 @@ impl LineBuffer {
     ghost use Rattle.rrd_tool.specs.declared.lines.Ending.TheVariants.{Plain};
 
     /// An empty line, with room for 65,536 bytes.
-    pub fn new(alloc: Global) -> Result<LineBuffer, AllocError>
+    pub(crate) fn new(alloc: Global) -> Result<LineBuffer, AllocError>
         ensures { IfOk result (λ line. Holds line []) }
     {
         Ok(LineBuffer {
@@ -50,7 +50,7 @@ impl LineBuffer {
     }
 
     /// Adds a byte other than LF.
-    pub fn push(&mut self, byte: u8)
+    pub(crate) fn push(&mut self, byte: u8)
         requires { byte ≢ 10 }
         ensures { (held : List ℕ) → Holds self.old held → Holds self.new (held ++ byte ∷ []) }
     {
@@ -86,7 +86,7 @@ impl LineBuffer {
 
     /// The text of the line that LF ends here, without one CR at its end. None if it is longer than
     /// 65,536 bytes or has a byte that is neither tab nor printable ASCII.
-    pub fn ended(&self) -> Option<&[u8]>
+    pub(crate) fn ended(&self) -> Option<&[u8]>
         ensures text { (held : List ℕ) → Holds self.now held
             → option_map (λ text. text.now) result ≡ text_in (without_cr held) }
         ensures plain { IfSome result (λ text. list_all is_plain text.now ≡ true) }
@@ -99,7 +99,7 @@ impl LineBuffer {
 
     /// The text of the line that the input ends here, without LF: a CR at its end stays, and makes
     /// it none.
-    pub fn cut(&self) -> Option<&[u8]>
+    pub(crate) fn cut(&self) -> Option<&[u8]>
         ensures text { (held : List ℕ) → Holds self.now held
             → option_map (λ text. text.now) result ≡ text_in held }
         ensures plain { IfSome result (λ text. list_all is_plain text.now ≡ true) }
@@ -111,7 +111,7 @@ impl LineBuffer {
     }
 
     /// Whether no byte came.
-    pub fn is_empty(&self) -> bool
+    pub(crate) fn is_empty(&self) -> bool
         ensures { (held : List ℕ) → Holds self.now held → result ≡ is_empty held }
     {
         match self.ending {
@@ -121,7 +121,7 @@ impl LineBuffer {
     }
 
     /// Begins a new line.
-    pub fn clear(&mut self)
+    pub(crate) fn clear(&mut self)
         ensures { Holds self.new [] }
     {
         self.bytes.clear();
@@ -152,7 +152,7 @@ fn push_word(words: &mut Words, word: &[u8]) -> Result<(), AllocError>
 }
 
 /// The words of a text, which spaces and tabs part. A text without words takes no memory.
-pub fn read_words(alloc: Global, text: &[u8]) -> Result<Words, AllocError>
+pub(crate) fn read_words(alloc: Global, text: &[u8]) -> Result<Words, AllocError>
     requires { list_all is_plain text.now ≡ true }
     ensures ok { IfOk result (λ words. words ≡ words_of text.now) }
     ensures err { OnErr result (is_empty (words_of text.now) ≡ false) }

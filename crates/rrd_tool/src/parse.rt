@@ -21,7 +21,7 @@ fn command_for<'a>(alloc: Global, words: &Words) -> Result<Option<clap::Command<
 }
 
 /// What clap makes of the words.
-pub fn parse<'a>(alloc: Global, words: &'a Words) -> Result<ArgMatches<'a>, LineFault>
+pub(crate) fn parse<'a>(alloc: Global, words: &'a Words) -> Result<ArgMatches<'a>, LineFault>
     ensures { IsParsedBy words.entry.now result }
 {
     let Ok(found) = command_for(alloc, words) else {
@@ -43,14 +43,14 @@ pub fn parse<'a>(alloc: Global, words: &'a Words) -> Result<ArgMatches<'a>, Line
 }
 
 /// The value of an argument.
-pub fn text_of<'a>(matches: &ArgMatches<'a>, id: &str) -> Option<&'a str>
+pub(crate) fn text_of<'a>(matches: &ArgMatches<'a>, id: &str) -> Option<&'a str>
     ensures { option_map (λ s. s.now) result ≡ first_of id.now (rows_of (found_of matches.now)) }
 {
     matches.get_str(id)
 }
 
 /// All values of an argument.
-pub fn texts_of<'b, 'a>(matches: &'b ArgMatches<'a>, id: &str) -> Option<&'b [&'a str]>
+pub(crate) fn texts_of<'b, 'a>(matches: &'b ArgMatches<'a>, id: &str) -> Option<&'b [&'a str]>
     ensures { option_map (λ s. map (λ v. v.now) s.now) result ≡ all_of id.now (rows_of (found_of matches.entry.now)) }
 {
     matches.get_raw(id)

@@ -99,7 +99,7 @@ fn with_options<'a>(alloc: Global) -> Result<Command<'a>, AllocError>
 }
 
 /// The command with its subcommands.
-pub fn rrdi_command<'a>(alloc: Global) -> Result<Command<'a>, AllocError>
+pub(crate) fn rrdi_command<'a>(alloc: Global) -> Result<Command<'a>, AllocError>
     ensures { IfOk result (λ c. app_of c ≡ rrdi_app) }
 {
     with_options(alloc)?
@@ -137,7 +137,7 @@ fn is_flag(word: &str) -> bool
 }
 
 /// The command for words that begin with this one; none where such words are refused.
-pub fn command_named<'a>(alloc: Global, name: &str) -> Result<Option<Command<'a>>, AllocError>
+pub(crate) fn command_named<'a>(alloc: Global, name: &str) -> Result<Option<Command<'a>>, AllocError>
     ensures { (rest : List (List ℕ)) → IfOk result (λ o. ServesOrRefuses o (name.now ∷ rest)) }
 {
     if name == "create" {

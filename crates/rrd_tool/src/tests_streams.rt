@@ -151,6 +151,24 @@ fn a_failed_write(rt: HostRuntime) -> Result<(), Fail> {
 }
 
 #[test]
+fn a_fault_counts_once_its_line_is_whole(rt: HostRuntime) -> Result<(), Fail> {
+    for (calls_left, refused, text) in [
+        (2u64, 0u64, "ERROR: no data"),
+        (3, 1, "ERROR: no database\n"),
+    ] {
+        let mut input = "last\n".as_bytes();
+        let mut out = Sink::new(rt.alloc());
+        out.calls_left = calls_left;
+        out.flushes_left = 0;
+        let end = run_batch(rt.alloc(), None, 0, &mut input, &mut out);
+        assert_eq!(rt; end.stream, Some(StreamFault::Write));
+        assert_eq!(rt; end.refused, refused, "{calls_left}");
+        assert_eq!(rt; out.taken.as_slice(), text.as_bytes());
+    }
+    Ok(())
+}
+
+#[test]
 fn handed_on_after_each_line_that_printed(rt: HostRuntime) -> Result<(), Fail> {
     let mut input = MADE;
     let mut out = Sink::new(rt.alloc());

@@ -13,13 +13,13 @@ use std::alloc::Global;
 
 /// One of a new database's definitions (rrdcreate).
 #[derive(Drop)]
-pub enum Definition {
+pub(crate) enum Definition {
     Source(DsDef),
     Archive(RraDef),
 }
 
 /// What was read, or else the fault of that part.
-pub fn or_fault<T>(part: Part, number: u64, read: Option<T>) -> Result<T, LineFault>
+pub(crate) fn or_fault<T>(part: Part, number: u64, read: Option<T>) -> Result<T, LineFault>
     ensures { Meets (or_fault part number read) result }
 {
     match read {
@@ -48,7 +48,7 @@ fn first_piece(text: &str) -> (&str, Option<&str>)
 }
 
 /// A whole number.
-pub fn read_count(text: &str) -> Option<u64>
+pub(crate) fn read_count(text: &str) -> Option<u64>
     ensures { result ≡ whole_of text.now }
 {
     read_whole(text.as_bytes())
@@ -79,7 +79,7 @@ fn read_kind(text: &str) -> Option<Kind>
 }
 
 /// A consolidation function (rrdcreate, "RRA").
-pub fn read_function(text: &str) -> Option<Function>
+pub(crate) fn read_function(text: &str) -> Option<Function>
     ensures { result ≡ function_of text.now }
 {
     if text == "AVERAGE" {
@@ -96,7 +96,7 @@ pub fn read_function(text: &str) -> Option<Function>
 }
 
 /// Whether to grow or to shrink (rrdresize).
-pub fn read_change(text: &str) -> Option<Change>
+pub(crate) fn read_change(text: &str) -> Option<Change>
     ensures { result ≡ change_of text.now }
 {
     if text == "GROW" {
@@ -206,14 +206,14 @@ fn definition_in(text: &str) -> Option<Definition>
 }
 
 /// The definition with this number: `DS:` and a source, or `RRA:` and an archive (rrdcreate).
-pub fn read_definition(number: u64, text: &str) -> Result<Definition, LineFault>
+pub(crate) fn read_definition(number: u64, text: &str) -> Result<Definition, LineFault>
     ensures { Meets (or_fault Part.Definition number (definition_of text.now)) result }
 {
     or_fault(Part::Definition, number, definition_in(text))
 }
 
 /// A name and a heartbeat in seconds (rrdtune).
-pub fn read_heartbeat(text: &str) -> Option<(Name, u64)>
+pub(crate) fn read_heartbeat(text: &str) -> Option<(Name, u64)>
     ensures { result ≡ setting_of whole_of text.now }
 {
     let (name, value) = cut(text)?;
@@ -223,7 +223,7 @@ pub fn read_heartbeat(text: &str) -> Option<(Name, u64)>
 }
 
 /// A name and a bound in millionths (rrdtune).
-pub fn read_limit(text: &str) -> Option<(Name, Option<i128>)>
+pub(crate) fn read_limit(text: &str) -> Option<(Name, Option<i128>)>
     ensures { result ≡ setting_of bound_of text.now }
 {
     let (name, value) = cut(text)?;
@@ -233,7 +233,7 @@ pub fn read_limit(text: &str) -> Option<(Name, Option<i128>)>
 }
 
 /// A name and a type (rrdtune).
-pub fn read_class(text: &str) -> Option<(Name, Kind)>
+pub(crate) fn read_class(text: &str) -> Option<(Name, Kind)>
     ensures { result ≡ setting_of kind_of text.now }
 {
     let (name, value) = cut(text)?;
@@ -243,7 +243,7 @@ pub fn read_class(text: &str) -> Option<(Name, Kind)>
 }
 
 /// A name and a new name (rrdtune).
-pub fn read_rename(text: &str) -> Option<(Name, Name)>
+pub(crate) fn read_rename(text: &str) -> Option<(Name, Name)>
     ensures { result ≡ setting_of name_of text.now }
 {
     let (name, value) = cut(text)?;
@@ -253,7 +253,7 @@ pub fn read_rename(text: &str) -> Option<(Name, Name)>
 }
 
 /// The names of a template, joined by colons (rrdupdate).
-pub fn read_template(alloc: Global, text: &str) -> Result<List<Name>, LineFault>
+pub(crate) fn read_template(alloc: Global, text: &str) -> Result<List<Name>, LineFault>
     ensures { Meets (or_fault Part.Template 1 (template_of text.now)) result }
 {
     let mut names = List::new(alloc);
@@ -287,7 +287,7 @@ fn read_values(alloc: Global, number: u64, text: &str) -> Result<List<Given>, Li
 }
 
 /// The sample with this number: `time:value[:value..]` (rrdupdate).
-pub fn read_sample(alloc: Global, now: u64, number: u64, text: &str) -> Result<Sample, LineFault>
+pub(crate) fn read_sample(alloc: Global, now: u64, number: u64, text: &str) -> Result<Sample, LineFault>
     ensures { Meets (or_fault Part.Sample number (sample_of now text.now)) result }
 {
     let (time, values) = or_fault(Part::Sample, number, cut(text))?;

@@ -9,7 +9,7 @@ pub returns-in_err-at : goal.returns-in_err-at
 returns-in_err-at g c =
     let p = err_from_is_err_and c.from_residual.result c.from_residual.ensures.1 in
     let h = c.in_err-at.ensures.err in
-    rw p.1 (front_kept _ _ _ c.args.bytes.now c.loop-at.at c.loop-at.invariant.1 h)
+    rw p.1 (front_kept _ _ _ c.args.bytes.now c.loop-at.at c.loop-at-test.true c.loop-at.invariant.1 h)
 
 pub loop-at-preserved : goal.loop-at-preserved
 loop-at-preserved g c =

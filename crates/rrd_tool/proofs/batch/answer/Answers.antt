@@ -1,8 +1,7 @@
 use Rattle.std.proofs.lemmas.Result.{err_from_is_err_and}
 use Rattle.rrd_tool.specs.Faults.{fault_line}
 use Rattle.rrd_tool.specs.Run.{turn}
-use Rattle.rrd_tool.proofs.BatchLemmas.{performed_stopped, performed_text, refused_stopped, refused_whole, whole_front}
-use Rattle.rrd_fixed.proofs.Writings.{Appends-kept}
+use Rattle.rrd_tool.proofs.BatchLemmas.{performed_stopped, performed_text, refused_answers, refused_stopped}
 use Rattle.rrd_tool.proofs.batch.answer.Goals as goal
 
 pub returns-in_err-fault-clause-told : goal.returns-in_err-fault-clause-told
@@ -22,17 +21,10 @@ returns-in_err-write_fault-clause-told g c held h h0 s =
     let m = rw c.in-Some.is at (c.in_ok-fault.ensures held h h0 s) in
     rw p.1 (m.0, m.1, refused_stopped (turn c.args.setting.now) fault_line _ _ _ _ (g.W.Write.contents c.perform.new.out) _ held c.in-Some.fault m.2 c.in_err-write_fault.ensures)
 
-pub returns-in_err-flush-clause-told : goal.returns-in_err-flush-clause-told
-returns-in_err-flush-clause-told g c held h h0 s =
-    let p = err_from_is_err_and c.from_residual-in_err-flush.result c.from_residual-in_err-flush.ensures.1 in
-    let m = rw c.in-Some.is at (c.in_ok-fault.ensures held h h0 s) in
-    let asked = fault_line c.in-Some.fault in
-    let text = whole_front (g.W.Write.contents c.perform.new.out) (g.W.Write.contents c.write_fault.new.out) (g.W.Write.contents c.flush.new.out) asked c.in_ok-write_fault.ensures c.flush.ensures in
-    rw p.1 (m.0, m.1, refused_stopped (turn c.args.setting.now) fault_line _ _ _ _ (g.W.Write.contents c.perform.new.out) _ held c.in-Some.fault m.2 text)
-
 pub returns-clause-told : goal.returns-clause-told
 returns-clause-told g c held h h0 s =
-    let m = rw c.in-Some.is at (c.in_ok-fault.ensures held h h0 s) in
-    let asked = fault_line c.in-Some.fault in
-    let text = Appends-kept (g.W.Write.contents c.perform.new.out) (g.W.Write.contents c.write_fault.new.out) (g.W.Write.contents c.flush.new.out) asked c.in_ok-write_fault.ensures c.flush.ensures in
-    (m.0, m.1, refused_whole (turn c.args.setting.now) fault_line _ _ _ _ (g.W.Write.contents c.perform.new.out) _ held c.in-Some.fault m.2 text)
+    let m = rw c.in-Some.is at (c.in_ok-fault.ensures held h h0 s) in (
+      m.0,
+      m.1,
+      refused_answers (turn c.args.setting.now) fault_line _ _ _ _ (g.W.Write.contents c.perform.new.out) (g.W.Write.contents c.write_fault.new.out) _ held c.in-Some.fault m.2 c.in_ok-write_fault.ensures c.flush.ensures c.flush.result,
+    )
