@@ -14,9 +14,9 @@ use Rattle.rrd_fold.specs.Groups.{Rule, group_part, finished}
 use Rattle.rrd_fold.proofs.GroupLemmas.{reached_before}
 use Rattle.rrd_fold.specs.Parts.{seconds_to_steps}
 use Rattle.rrd_base.specs.Rules.{rows_rule}
-use Rattle.rrd_base.specs.History.{Archive, Content, Event, Sampled, Tuned, Resized, Moment, moment_after, moment_of, moment_at_end, seconds_of, steps_of, rows_of, rows_after, room, keep_last, filled_up, kept_rows, archive_of, content, IsHistory, IsArchive}
+use Rattle.rrd_base.specs.History.{Archive, Content, Event, Sampled, Tuned, Resized, Moment, moment_after, moment_of, moment_at_end, seconds_of, steps_of, rows_of, rows_after, room, keep_last, filled_up, kept_rows, archive_of, content_listed, IsHistory, IsArchive}
 use Rattle.rrd_base.specs.Passed.{row_of_age, row_at}
-use Rattle.rrd_base.specs.Cells.{resolution, newest, reach, prefixes, greatest, reach_after, horizon, row, row_ending, row_by_time, time_of, rows_by_time, archive_by_time, content_by_time, IsMultiple, IsByTime, ShowsByTime, ListsByNumber}
+use Rattle.rrd_base.specs.Cells.{resolution, newest, reach, prefixes, greatest, reach_after, horizon, row, row_ending, row_by_time, time_of, rows_by_time, archive_by_time, content, IsMultiple, IsByTime, ShowsByTime, ListsByNumber}
 use Rattle.rrd_base.proofs.HistoryLemmas.{last_rises, length-sources}
 use Rattle.rrd_base.proofs.RowLemmas.{length-keep_last, length-filled_up, room_first, room_last, row_by_age}
 use Rattle.rrd_base.proofs.ContentLemmas.{length-rows_of}
@@ -287,8 +287,8 @@ kept_by_time base index archive es time some_step is h multiple =
     either true x = refl
     either false x = refl
 
-row_shown : (base : Content) (index : ℕ) (archive : Archive) (es : List Event) (time : ℤ) → 0 < base.step → IsArchive archive → IsHistory (moment_of base) es → IsMultiple time (resolution base.step archive.def) → row_at (content base es) (archive_of base es (index, archive)) time ≡ row_by_time base index archive es time
-unfolding content
+row_shown : (base : Content) (index : ℕ) (archive : Archive) (es : List Event) (time : ℤ) → 0 < base.step → IsArchive archive → IsHistory (moment_of base) es → IsMultiple time (resolution base.step archive.def) → row_at (content_listed base es) (archive_of base es (index, archive)) time ≡ row_by_time base index archive es time
+unfolding content_listed
 row_shown base index archive es time some_step is h multiple =
     let size = resolution base.step archive.def in
     let age = pos ((moment_at_end base es).last / size) -ℤ int_div_euclid time (pos size) in
@@ -361,8 +361,8 @@ each_by_time base es n (archive ∷ archives) some h is =
     ∙ ap (λ rest. archive_by_time base es (n, archive) ∷ rest) (each_by_time base es (n + 1) archives some h is.1)
 
 pub is_by_time : (base : Content) (es : List Event) → IsByTime base es
-unfolding content
-is_by_time base es is h = ap (λ archives. let x : Content = record (content_by_time base es) { archives = archives } in x) (each_by_time base es 0 base.archives is.some_step h is.archives_are)
+unfolding content_listed
+is_by_time base es is h = ap (λ archives. let x : Content = record (content base es) { archives = archives } in x) (each_by_time base es 0 base.archives is.some_step h is.archives_are)
 
 -- ---- each archive of a content
 
@@ -381,11 +381,11 @@ one_of (first ∷ archives) zero archive is h = let here : first ≡ archive = c
 one_of (first ∷ archives) (suc index) archive is h = one_of archives index archive is.1 h
 
 pub shows_by_time : (base : Content) (es : List Event) → ShowsByTime base es
-unfolding content
+unfolding content_listed
 shows_by_time base es is h index archive shown there then time multiple =
     let this = shown_is (archive_of base es) 0 base.archives index archive shown there then in
     let number : archive_of base es (index, archive) ≡ shown = ap (λ i. archive_of base es (i, archive)) {x = index} {y = 0 + index} (omega arith) ∙ this in
-    sym (ap (λ a. row_at (content base es) a time) number) ∙ row_shown base index archive es time is.some_step (one_of base.archives index archive is.archives_are there) h multiple
+    sym (ap (λ a. row_at (content_listed base es) a time) number) ∙ row_shown base index archive es time is.some_step (one_of base.archives index archive is.archives_are there) h multiple
 
 -- ---- steps and rows by themselves
 

@@ -7,7 +7,7 @@ use Rattle.std.specs.List.{fold, enumerate_from, AllByRecursion}
 use Rattle.rrd_fixed.specs.declared.cell.Cell.{Cell}
 use Rattle.rrd_fold.specs.Parts.{Part}
 use Rattle.rrd_base.specs.Rules.{rows_rule}
-use Rattle.rrd_base.specs.History.{Archive, Content, Event, Sampled, Tuned, Resized, Moment, moment_after, moment_of, moment_at_end, steps_of, parts_of, rows_of, rows_after, room, keep_last, filled_up, kept_rows, archive_of, content, IsHistory, IsArchive, IsBase}
+use Rattle.rrd_base.specs.History.{Archive, Content, Event, Sampled, Tuned, Resized, Moment, moment_after, moment_of, moment_at_end, steps_of, parts_of, rows_of, rows_after, room, keep_last, filled_up, kept_rows, archive_of, content_listed, IsHistory, IsArchive, IsBase}
 use Rattle.rrd_fold.proofs.GroupLemmas.{length-finished, reached_before}
 use Rattle.rrd_base.proofs.HistoryLemmas.{length-sources, length-steps_of, parts_of-append, rows_of-append, row_parts_of-append}
 use Rattle.rrd_base.proofs.RowLemmas.{rows_again, room_first, room_last, room-append, length-filled_up, length-keep_last}
@@ -42,14 +42,14 @@ mul_positive a b h k = omega (arith, mul-lt 0 0 a b h k)
 div_rises : (m n size : ℕ) → 0 < size → m ≤ n → m / size ≤ n / size
 div_rises m n size pos h = omega (arith, reached_before m (n - m) size pos, ap (λ k. k / size) {x = m + (n - m)} {y = n} (omega arith))
 
-kept_rows-append : (base : Content) (index : ℕ) (archive : Archive) (es fs : List Event) → 0 < base.step → IsArchive archive → IsHistory (moment_of base) es → IsHistory (moment_at_end base es) fs → kept_rows base index archive (es ++ fs) ≡ kept_rows (content base es) index (archive_of base es (index, archive)) fs
-unfolding kept_rows content
+kept_rows-append : (base : Content) (index : ℕ) (archive : Archive) (es fs : List Event) → 0 < base.step → IsArchive archive → IsHistory (moment_of base) es → IsHistory (moment_at_end base es) fs → kept_rows base index archive (es ++ fs) ≡ kept_rows (content_listed base es) index (archive_of base es (index, archive)) fs
+unfolding kept_rows content_listed
 kept_rows-append base index archive es fs pos is h k =
     let res = base.step * archive.def.steps in
     let now = moment_of base in
     let mid = moment_at_end base es in
     let end = fold moment_after mid fs in
-    let middle = content base es in
+    let middle = content_listed base es in
     let moved = archive_of base es (index, archive) in
     let rows = archive.def.rows in
     let rows_mid = fold (rows_after index) rows es in
@@ -78,14 +78,14 @@ kept_rows-append base index archive es fs pos is h k =
     ∙ rows_again rows_mid rows_end then later nan old new (omega (arith, is.rows_are)) (omega arith) (omega arith) (omega arith)
     ∙ ap (λ n. filled_up rows_end (replicate n Cell.Unknown) (keep_last later (kept_rows base index archive es ++ new))) (sym (length-sources now es h))
 
-archive_of-append : (base : Content) (index : ℕ) (archive : Archive) (es fs : List Event) → 0 < base.step → IsArchive archive → IsHistory (moment_of base) es → IsHistory (moment_at_end base es) fs → archive_of base (es ++ fs) (index, archive) ≡ archive_of (content base es) fs (index, archive_of base es (index, archive))
+archive_of-append : (base : Content) (index : ℕ) (archive : Archive) (es fs : List Event) → 0 < base.step → IsArchive archive → IsHistory (moment_of base) es → IsHistory (moment_at_end base es) fs → archive_of base (es ++ fs) (index, archive) ≡ archive_of (content_listed base es) fs (index, archive_of base es (index, archive))
 archive_of-append base index archive es fs pos is h k =
     let one = fold-append (rows_after index) archive.def.rows es fs in
     let two = row_parts_of-append base index archive es fs pos is.some_steps h k in
     let three = kept_rows-append base index archive es fs pos is h k in
     cc
 
-archives-append : (base : Content) (es fs : List Event) (index : ℕ) (archives : List Archive) → 0 < base.step → AllByRecursion IsArchive archives → IsHistory (moment_of base) es → IsHistory (moment_at_end base es) fs → map (archive_of base (es ++ fs)) (enumerate_from index archives) ≡ map (archive_of (content base es) fs) (enumerate_from index (map (archive_of base es) (enumerate_from index archives)))
+archives-append : (base : Content) (es fs : List Event) (index : ℕ) (archives : List Archive) → 0 < base.step → AllByRecursion IsArchive archives → IsHistory (moment_of base) es → IsHistory (moment_at_end base es) fs → map (archive_of base (es ++ fs)) (enumerate_from index archives) ≡ map (archive_of (content_listed base es) fs) (enumerate_from index (map (archive_of base es) (enumerate_from index archives)))
 archives-append base es fs index [] pos is h k = refl
 archives-append base es fs index (archive ∷ archives) pos is h k =
     let one = archive_of-append base index archive es fs pos is.0 h k in
@@ -95,14 +95,14 @@ archives-append base es fs index (archive ∷ archives) pos is h k =
 with_moment : Content → Moment → List Part → List Archive → Content
 with_moment base moment parts archives = record base { sources = moment.sources; last = moment.last; raws = moment.raws; parts = parts; archives = archives }
 
-pub content-append : (base : Content) (es fs : List Event) → IsBase base → IsHistory (moment_of base) es → IsHistory (moment_at_end base es) fs → content base (es ++ fs) ≡ content (content base es) fs
-unfolding content with_moment
-content-append base es fs is h k =
+pub listed-append : (base : Content) (es fs : List Event) → IsBase base → IsHistory (moment_of base) es → IsHistory (moment_at_end base es) fs → content_listed base (es ++ fs) ≡ content_listed (content_listed base es) fs
+unfolding content_listed with_moment
+listed-append base es fs is h k =
     let end = fold moment_after (moment_at_end base es) fs in
     let archives = map (archive_of base (es ++ fs)) (enumerate_from 0 base.archives) in
     ap (λ m. with_moment base m (parts_of base (es ++ fs)) archives) (fold-append moment_after (moment_of base) es fs)
     ∙ ap (λ ps. with_moment base end ps archives) (parts_of-append base es fs is.some_step h k)
-    ∙ ap (with_moment base end (parts_of (content base es) fs)) (archives-append base es fs 0 base.archives is.some_step is.archives_are h k)
+    ∙ ap (with_moment base end (parts_of (content_listed base es) fs)) (archives-append base es fs 0 base.archives is.some_step is.archives_are h k)
 
 -- ---- the content is a base again
 rows_stay : (index rows : ℕ) (now : Moment) (es : List Event) → 0 < rows → IsHistory now es → 0 < fold (rows_after index) rows es
@@ -127,6 +127,6 @@ archives_stay base es index (archive ∷ archives) pos is h = (
   archives_stay base es (index + 1) archives pos is.1 h,
 )
 
-pub IsBase-content : (base : Content) (es : List Event) → IsBase base → IsHistory (moment_of base) es → IsBase (content base es)
-unfolding content
-IsBase-content base es is h = record { some_step = is.some_step; archives_are = archives_stay base es 0 base.archives is.some_step is.archives_are h }
+pub IsBase-listed : (base : Content) (es : List Event) → IsBase base → IsHistory (moment_of base) es → IsBase (content_listed base es)
+unfolding content_listed
+IsBase-listed base es is h = record { some_step = is.some_step; archives_are = archives_stay base es 0 base.archives is.some_step is.archives_are h }

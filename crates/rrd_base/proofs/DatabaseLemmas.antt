@@ -11,7 +11,7 @@ use Rattle.rrd_base.specs.declared.entry.Entry.TheVariants as entry
 use Rattle.rrd_fixed.specs.declared.name.Name.{Name}
 use Rattle.rrd_base.specs.History.{Archive, Content, Event, Sampled, Moment, moment_of, moment_after}
 use Rattle.rrd_base.specs.Commands.{Updating, sample_of, moved}
-use Rattle.rrd_base.specs.Cells.{archive_by_time, content_by_time}
+use Rattle.rrd_base.specs.Cells.{archive_by_time, content}
 use Rattle.rrd_base.specs.Entries.{Dropped, Held, put_back_each, with_held, with_rows_at}
 use Rattle.rrd_base.specs.Store.{CanPutBack, CanPutBackEach, functions}
 use Rattle.rrd_base.specs.Stored.{HasFunctions}
@@ -43,7 +43,7 @@ functions_of_archives : (base : Content) (es : List Event) (index : ℕ) (archiv
 functions_of_archives base es index [] = refl
 functions_of_archives base es index (archive ∷ archives) = ap (λ rest. archive.def.function ∷ rest) (functions_of_archives base es (index + 1) archives)
 
-pub functions_moved : (base : Content) (es : List Event) → functions (content_by_time base es).archives ≡ functions base.archives
+pub functions_moved : (base : Content) (es : List Event) → functions (content base es).archives ≡ functions base.archives
 functions_moved base es = functions_of_archives base es 0 base.archives
 
 pub functions_put_back : (archives : List Archive) (olds : List Dropped) → functions (put_back_each archives olds) ≡ functions archives

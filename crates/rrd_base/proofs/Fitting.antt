@@ -8,7 +8,7 @@ use Rattle.rrd_fixed.specs.declared.cell.Cell.{Cell}
 use Rattle.rrd_fixed.specs.declared.raw.Raw.{Raw}
 use Rattle.rrd_fixed.specs.declared.name.Name.{Name}
 use Rattle.rrd_base.specs.declared.definition.DsDef.{DsDef}
-use Rattle.rrd_base.specs.History.{Archive, Content, Reading, Sampled, Resized, Moment, moment_after, moment_of, moment_at_end, rows_after, archive_of, content, IsHistory, IsArchive}
+use Rattle.rrd_base.specs.History.{Archive, Content, Reading, Sampled, Resized, Moment, moment_after, moment_of, moment_at_end, rows_after, archive_of, content_listed, IsHistory, IsArchive}
 use Rattle.rrd_base.proofs.HistoryLemmas.{last_rises, length-sources}
 use Rattle.rrd_base.proofs.SampleLemmas.{rows_of_samples}
 use Rattle.rrd_base.specs.Commands.{Asked, Settings, Command, Updating, TuningBy, Resizing, settings_of, rows_of_archives, names, sample_of, samples_of, tuned, rows_changed, events, moved, moved_listed}
@@ -60,7 +60,7 @@ time_rises sources template now (reading ∷ readings) some h =
     omega (arith, h.0, last_rises (moment_after now (Sampled (sample_of sources template reading))) (map Sampled (map (sample_of sources template) readings)) h.1)
 
 update_fits : (base : Content) (update : Update) → IsValid base → verdict base (Updating update) ≡ None → Fits (moved_listed base (Updating update)) (entry base (Updating update))
-unfolding content
+unfolding content_listed
 update_fits base update is h =
     let list = samples_of base.sources update in
     let history = accepted_history base (Updating update) h in
@@ -201,7 +201,7 @@ some_held tuning number (source ∷ sources) (raw ∷ raws) e h =
     (λ there. some_held tuning (number + 1) sources raws (omega arith) (sym (ap (λ b. b || list_any (is_named tuning) sources) there) ∙ h))
 
 pub tune_fits : (base : Content) (tuning : Tuning) → IsValid base → verdict base (TuningBy tuning) ≡ None → Fits (moved_listed base (TuningBy tuning)) (entry base (TuningBy tuning))
-unfolding content
+unfolding content_listed
 tune_fits base tuning is h =
     let p = accepted_passes base (TuningBy tuning) h in
     let P : ℕ → Type 0 = λ limit. Rise 0 limit (held tuning 0 base.sources base.raws) in
@@ -237,7 +237,7 @@ another Shrink old rows h k e =
     omega (arith, some, leb-false old rows k)
 
 resize_fits : (base : Content) (archive : ℕ) (change : Change) (rows : ℕ) → IsValid base → verdict base (Resizing archive change rows) ≡ None → Fits (moved_listed base (Resizing archive change rows)) (entry base (Resizing archive change rows))
-unfolding content
+unfolding content_listed
 resize_fits base archive change rows is h =
     let command = Resizing archive change rows in
     let p = accepted_passes base command h in

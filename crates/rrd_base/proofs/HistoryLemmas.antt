@@ -9,7 +9,7 @@ use Rattle.std.specs.List.{fold, range_with_len}
 use Rattle.rrd_fold.specs.Groups.{finished, unfinished}
 use Rattle.rrd_fold.specs.Parts.{seconds_to_steps}
 use Rattle.rrd_base.specs.Rules.{rows_rule}
-use Rattle.rrd_base.specs.History.{Archive, Content, Event, Sampled, Tuned, Resized, Moment, moment_after, moment_of, moment_at_end, rates, Taken, samples, second, seconds, seconds_of, steps_of, parts_of, rows_of, row_parts_of, archive_of, content, IsHistory}
+use Rattle.rrd_base.specs.History.{Archive, Content, Event, Sampled, Tuned, Resized, Moment, moment_after, moment_of, moment_at_end, rates, Taken, samples, second, seconds, seconds_of, steps_of, parts_of, rows_of, row_parts_of, archive_of, content_listed, IsHistory}
 use Rattle.rrd_fold.proofs.GroupLemmas.{goes_on, map_range_same, length-finished, reached_before}
 
 -- ---- samples
@@ -79,8 +79,8 @@ seconds-append now es fs h k =
 
 -- ---- the content after the first piece, as a base
 
-pub moment_of-content : (base : Content) (es : List Event) → moment_of (content base es) ≡ moment_at_end base es
-unfolding content
+pub moment_of-content : (base : Content) (es : List Event) → moment_of (content_listed base es) ≡ moment_at_end base es
+unfolding content_listed
 moment_of-content base es = refl
 
 pub length-sources : (now : Moment) (es : List Event) → IsHistory now es → length (fold moment_after now es).sources ≡ length now.sources
@@ -89,8 +89,8 @@ length-sources now (Sampled sample ∷ es) h = length-sources (moment_after now 
 length-sources now (Tuned sources ∷ es) h = length-sources (moment_after now (Tuned sources)) es h.1 ∙ h.0
 length-sources now (Resized archive rows ∷ es) h = length-sources now es h.1
 
-pub seconds_of-append : (base : Content) (es fs : List Event) → IsHistory (moment_of base) es → IsHistory (moment_at_end base es) fs → seconds_of base (es ++ fs) ≡ seconds_of base es ++ seconds_of (content base es) fs
-unfolding content seconds_of
+pub seconds_of-append : (base : Content) (es fs : List Event) → IsHistory (moment_of base) es → IsHistory (moment_at_end base es) fs → seconds_of base (es ++ fs) ≡ seconds_of base es ++ seconds_of (content_listed base es) fs
+unfolding content_listed seconds_of
 seconds_of-append base es fs h k = seconds-append (moment_of base) es fs h k
 
 pub length-seconds_of : (base : Content) (es : List Event) → IsHistory (moment_of base) es → base.last + length (seconds_of base es) ≡ (moment_at_end base es).last
@@ -98,24 +98,24 @@ unfolding seconds_of
 length-seconds_of base es h =
     omega (arith, last_rises (moment_of base) es h, length-map-range_with_len (second (samples (moment_of base) es)) (base.last + 1) ((moment_at_end base es).last - base.last))
 
-pub steps_of-append : (base : Content) (es fs : List Event) → 0 < base.step → IsHistory (moment_of base) es → IsHistory (moment_at_end base es) fs → steps_of base (es ++ fs) ≡ steps_of base es ++ steps_of (content base es) fs
-unfolding content steps_of parts_of
+pub steps_of-append : (base : Content) (es fs : List Event) → 0 < base.step → IsHistory (moment_of base) es → IsHistory (moment_at_end base es) fs → steps_of base (es ++ fs) ≡ steps_of base es ++ steps_of (content_listed base es) fs
+unfolding content_listed steps_of parts_of
 steps_of-append base es fs pos h k =
     let rule = seconds_to_steps base.step (length base.sources) in
     let A = seconds_of base es in
-    let B = seconds_of (content base es) fs in
+    let B = seconds_of (content_listed base es) fs in
     let on = goes_on rule base.last base.parts A B pos in
     ap (finished rule base.last base.parts) (seconds_of-append base es fs h k)
     ∙ on.finished_is
     ∙ ap (λ n. finished rule base.last base.parts A ++ finished rule n (unfinished rule base.last base.parts A) B) (length-seconds_of base es h)
     ∙ ap (λ n. finished rule base.last base.parts A ++ finished (seconds_to_steps base.step n) (moment_at_end base es).last (unfinished rule base.last base.parts A) B) (sym (length-sources (moment_of base) es h))
 
-pub parts_of-append : (base : Content) (es fs : List Event) → 0 < base.step → IsHistory (moment_of base) es → IsHistory (moment_at_end base es) fs → parts_of base (es ++ fs) ≡ parts_of (content base es) fs
-unfolding content parts_of
+pub parts_of-append : (base : Content) (es fs : List Event) → 0 < base.step → IsHistory (moment_of base) es → IsHistory (moment_at_end base es) fs → parts_of base (es ++ fs) ≡ parts_of (content_listed base es) fs
+unfolding content_listed parts_of
 parts_of-append base es fs pos h k =
     let rule = seconds_to_steps base.step (length base.sources) in
     let A = seconds_of base es in
-    let B = seconds_of (content base es) fs in
+    let B = seconds_of (content_listed base es) fs in
     let on = goes_on rule base.last base.parts A B pos in
     ap (unfinished rule base.last base.parts) (seconds_of-append base es fs h k)
     ∙ on.unfinished_is
@@ -130,26 +130,26 @@ length-steps_of base es pos h =
     let at : (base.last + length (seconds_of base es)) / base.step ≡ (moment_at_end base es).last / base.step = ap (λ n. n / base.step) (length-seconds_of base es h) in
     omega (arith, reached_before base.last (length (seconds_of base es)) base.step pos)
 
-pub rows_of-append : (base : Content) (index : ℕ) (archive : Archive) (es fs : List Event) → 0 < base.step → 0 < archive.def.steps → IsHistory (moment_of base) es → IsHistory (moment_at_end base es) fs → rows_of base archive (es ++ fs) ≡ rows_of base archive es ++ rows_of (content base es) (archive_of base es (index, archive)) fs
-unfolding content rows_of row_parts_of
+pub rows_of-append : (base : Content) (index : ℕ) (archive : Archive) (es fs : List Event) → 0 < base.step → 0 < archive.def.steps → IsHistory (moment_of base) es → IsHistory (moment_at_end base es) fs → rows_of base archive (es ++ fs) ≡ rows_of base archive es ++ rows_of (content_listed base es) (archive_of base es (index, archive)) fs
+unfolding content_listed rows_of row_parts_of
 rows_of-append base index archive es fs pos some h k =
     let rule = rows_rule archive.def (length base.sources) in
     let before = base.last / base.step in
     let A = steps_of base es in
-    let B = steps_of (content base es) fs in
+    let B = steps_of (content_listed base es) fs in
     let on = goes_on rule before archive.parts A B some in
     ap (finished rule before archive.parts) (steps_of-append base es fs pos h k)
     ∙ on.finished_is
     ∙ ap (λ n. finished rule before archive.parts A ++ finished rule n (unfinished rule before archive.parts A) B) (length-steps_of base es pos h)
     ∙ ap (λ n. finished rule before archive.parts A ++ finished (rows_rule archive.def n) ((moment_at_end base es).last / base.step) (unfinished rule before archive.parts A) B) (sym (length-sources (moment_of base) es h))
 
-pub row_parts_of-append : (base : Content) (index : ℕ) (archive : Archive) (es fs : List Event) → 0 < base.step → 0 < archive.def.steps → IsHistory (moment_of base) es → IsHistory (moment_at_end base es) fs → row_parts_of base archive (es ++ fs) ≡ row_parts_of (content base es) (archive_of base es (index, archive)) fs
-unfolding content rows_of row_parts_of
+pub row_parts_of-append : (base : Content) (index : ℕ) (archive : Archive) (es fs : List Event) → 0 < base.step → 0 < archive.def.steps → IsHistory (moment_of base) es → IsHistory (moment_at_end base es) fs → row_parts_of base archive (es ++ fs) ≡ row_parts_of (content_listed base es) (archive_of base es (index, archive)) fs
+unfolding content_listed rows_of row_parts_of
 row_parts_of-append base index archive es fs pos some h k =
     let rule = rows_rule archive.def (length base.sources) in
     let before = base.last / base.step in
     let A = steps_of base es in
-    let B = steps_of (content base es) fs in
+    let B = steps_of (content_listed base es) fs in
     let on = goes_on rule before archive.parts A B some in
     ap (unfinished rule before archive.parts) (steps_of-append base es fs pos h k)
     ∙ on.unfinished_is

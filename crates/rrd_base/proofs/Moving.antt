@@ -5,10 +5,10 @@ use Rattle.std.proofs.lemmas.List.{reverse-append}
 use Rattle.std.proofs.lemmas.List.Sums.{fold-append}
 use Rattle.std.specs.List.{fold, enumerate_from}
 use Rattle.rrd_base.specs.declared.definition.DsDef.{DsDef}
-use Rattle.rrd_base.specs.History.{Archive, Content, Event, Sampled, Tuned, Resized, Moment, moment_after, moment_of, moment_at_end, rows_after, archive_of, content, IsHistory, IsBase}
-use Rattle.rrd_base.specs.Cells.{archive_by_time, content_by_time}
+use Rattle.rrd_base.specs.History.{Archive, Content, Event, Sampled, Tuned, Resized, Moment, moment_after, moment_of, moment_at_end, rows_after, archive_of, content_listed, IsHistory, IsBase}
+use Rattle.rrd_base.specs.Cells.{GoesOnFromContent, StaysBase, archive_by_time, content}
 use Rattle.rrd_base.proofs.CellLemmas.{is_by_time}
-use Rattle.rrd_base.proofs.ContentLemmas.{content-append, IsBase-content}
+use Rattle.rrd_base.proofs.ContentLemmas.{listed-append, IsBase-listed}
 use Rattle.rrd_base.specs.Commands.{Command, Settings, settings_of, rows_of_archives, settings_after, events, events_of, moved, moved_listed}
 use Rattle.rrd_base.specs.Verdict.{verdict}
 use Rattle.rrd_base.specs.Entries.{IsSound}
@@ -50,8 +50,8 @@ rows_of_settings settings (e ∷ es) = rows_of_settings (settings_after settings
 both : List DsDef → List ℕ → Settings
 both sources rows = record { sources = sources; rows = rows }
 
-pub settings_of-content : (base : Content) (es : List Event) → settings_of (content base es) ≡ fold settings_after (settings_of base) es
-unfolding content both
+pub settings_of-content : (base : Content) (es : List Event) → settings_of (content_listed base es) ≡ fold settings_after (settings_of base) es
+unfolding content_listed both
 settings_of-content base es =
     let end = fold settings_after (settings_of base) es in
     let rows = rows_of_archives (map (archive_of base es) (enumerate_from 0 base.archives)) in
@@ -63,8 +63,8 @@ rows_by_time_as_many : (base : Content) (es : List Event) (first : ℕ) (archive
 rows_by_time_as_many base es first [] = refl
 rows_by_time_as_many base es first (archive ∷ archives) = ap (λ rest. fold (rows_after first) archive.def.rows es ∷ rest) (rows_by_time_as_many base es (first + 1) archives)
 
-settings_by_time : (base : Content) (es : List Event) → settings_of (content_by_time base es) ≡ settings_of (content base es)
-unfolding content both
+settings_by_time : (base : Content) (es : List Event) → settings_of (content base es) ≡ settings_of (content_listed base es)
+unfolding content_listed both
 settings_by_time base es = ap (both (moment_at_end base es).sources) (rows_by_time_as_many base es 0 base.archives)
 
 -- ---- a command more
@@ -102,6 +102,18 @@ survivors_history base (command ∷ commands) h =
     subst P (sym (events_of-more base commands command))
     (IsHistory-append (moment_of base) (events_of (settings_of base) (reverse commands)) (events (settings_of (survived base commands)) command) (survivors_history base commands h.1) (next_history base commands command h.0))
 
+-- ---- a history in two pieces
+
+pub stays_base : (base : Content) (events : List Event) → StaysBase base events
+stays_base base events is h = subst IsBase (is_by_time base events is h) (IsBase-listed base events is h)
+
+pub goes_on : (base : Content) (first second : List Event) → GoesOnFromContent base first second
+goes_on base first second is h k =
+    sym (is_by_time base (first ++ second) is (IsHistory-append (moment_of base) first second h k))
+    ∙ listed-append base first second is h k
+    ∙ ap (λ now. content_listed now second) (is_by_time base first is h)
+    ∙ is_by_time (content base first) second (stays_base base first is h) k
+
 -- a content moved by an accepted command, by list and by time
 pub moved_is : (base : Content) (command : Command) → IsSound base → verdict base command ≡ None → moved_listed base command ≡ moved base command
 moved_is base command sound h = is_by_time base (events (settings_of base) command) sound.is_base (accepted_history base command h)
@@ -110,21 +122,15 @@ pub moves : (base : Content) (commands : List Command) (command : Command) → M
 moves base commands command sound h =
     let earlier = events_of (settings_of base) (reverse commands) in
     let next = events (settings_of (survived base commands)) command in
-    let before = survivors_history base commands h.1 in
-    let here : content base earlier ≡ survived base commands = is_by_time base earlier sound.is_base before in
-    let is_base : IsBase (survived base commands) = subst IsBase here (IsBase-content base earlier sound.is_base before) in
-    sym (is_by_time base (events_of (settings_of base) (reverse (command ∷ commands))) sound.is_base (survivors_history base (command ∷ commands) h))
-    ∙ ap (content base) (events_of-more base commands command)
-    ∙ content-append base earlier next sound.is_base before (next_history base commands command h.0)
-    ∙ ap (λ now. content now next) here
-    ∙ is_by_time (survived base commands) next is_base (accepted_history (survived base commands) command h.0)
+    ap (content base) (events_of-more base commands command)
+    ∙ goes_on base earlier next sound.is_base (survivors_history base commands h.1) (next_history base commands command h.0)
 
 -- ---- what is sound stays sound
 
 pub listed_sound : (base : Content) (command : Command) → IsSound base → verdict base command ≡ None → IsSound (moved_listed base command)
-unfolding content
+unfolding content_listed
 listed_sound base command sound h = record {
-  is_base = IsBase-content base (events (settings_of base) command) sound.is_base (accepted_history base command h);
+  is_base = IsBase-listed base (events (settings_of base) command) sound.is_base (accepted_history base command h);
   one_raw_each = command_raws base command sound.one_raw_each;
 }
 

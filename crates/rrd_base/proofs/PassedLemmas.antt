@@ -8,7 +8,7 @@ use Rattle.rrd_fold.specs.declared.function.Function.TheVariants.{Average}
 use Rattle.rrd_fold.specs.Groups.{finished, unfinished}
 use Rattle.rrd_fold.specs.Parts.{Part, nothing, with_each, step_cell, row_cell, seconds_to_steps}
 use Rattle.rrd_base.specs.Rules.{rows_rule}
-use Rattle.rrd_base.specs.History.{Archive, Content, Reading, Sampled, moment_of, rates, samples, second, seconds_of, steps_of, parts_of, rows_of, row_parts_of, keep_last, filled_up, kept_rows, archive_of, content, IsArchive, IsBase}
+use Rattle.rrd_base.specs.History.{Archive, Content, Reading, Sampled, moment_of, rates, samples, second, seconds_of, steps_of, parts_of, rows_of, row_parts_of, keep_last, filled_up, kept_rows, archive_of, content_listed, IsArchive, IsBase}
 use Rattle.rrd_base.specs.Passed.{archive_passed, passed}
 use Rattle.rrd_fold.proofs.GroupLemmas.{finished_nil, unfinished_nil, finished_within, unfinished_within, finished_filling, unfinished_filling, next_divides, next_divides_not, next_ahead, goes_on, length-finished, reached_before}
 use Rattle.rrd_base.proofs.RowLemmas.{keep_last_past, keep_all, split_last, length-keep_last}
@@ -100,8 +100,8 @@ archives_of_sample base index (archive ∷ archives) sample is h =
     let rest = archives_of_sample base (index + 1) archives sample is.1 h in
     cc
 
-pub content_of_sample : (base : Content) (sample : Reading) → IsBase base → base.last < sample.time → content base (Sampled sample ∷ []) ≡ record (passed base (replicate (sample.time - base.last) (rates base.sources (sample.time - base.last) base.raws sample.raws))) { raws = sample.raws }
-unfolding content passed with_passed steps_of parts_of
+pub content_of_sample : (base : Content) (sample : Reading) → IsBase base → base.last < sample.time → content_listed base (Sampled sample ∷ []) ≡ record (passed base (replicate (sample.time - base.last) (rates base.sources (sample.time - base.last) base.raws sample.raws))) { raws = sample.raws }
+unfolding content_listed passed with_passed steps_of parts_of
 content_of_sample base sample is h =
     let n = sample.time - base.last in
     let here = rates base.sources n base.raws sample.raws in

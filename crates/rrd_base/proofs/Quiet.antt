@@ -7,7 +7,7 @@ use Rattle.rrd_fixed.specs.declared.raw.Raw.{Raw}
 use Rattle.rrd_base.specs.declared.definition.DsDef.{DsDef}
 use Rattle.rrd_fold.specs.Groups.{finished, unfinished}
 use Rattle.rrd_fold.specs.Parts.{Part, seconds_to_steps}
-use Rattle.rrd_base.specs.History.{Archive, Content, Event, Tuned, Resized, moment_of, moment_at_end, raws_under, samples, second, seconds_of, steps_of, parts_of, rows_of, row_parts_of, rows_after, room, keep_last, filled_up, kept_rows, archive_of, content, IsArchive, IsBase}
+use Rattle.rrd_base.specs.History.{Archive, Content, Event, Tuned, Resized, moment_of, moment_at_end, raws_under, samples, second, seconds_of, steps_of, parts_of, rows_of, row_parts_of, rows_after, room, keep_last, filled_up, kept_rows, archive_of, content_listed, IsArchive, IsBase}
 use Rattle.rrd_fold.proofs.GroupLemmas.{finished_nil, unfinished_nil}
 use Rattle.rrd_base.proofs.RowLemmas.{keep_all}
 use Rattle.rrd_base.specs.Rules.{rows_rule}
@@ -72,15 +72,15 @@ unfoldable pub with_all : Content → List DsDef → ℕ → List Raw → List P
 with_all base sources last raws parts archives = record base { sources = sources; last = last; raws = raws; parts = parts; archives = archives }
 
 -- no event
-pub content_nil : (base : Content) → IsBase base → content base [] ≡ base
-unfolding content with_all
+pub content_nil : (base : Content) → IsBase base → content_listed base [] ≡ base
+unfolding content_listed with_all
 content_nil base is =
     ap (λ ps. with_all base base.sources base.last base.raws ps (map (archive_of base []) (enumerate_from 0 base.archives))) (parts_same base [] refl is.some_step)
     ∙ ap (with_all base base.sources base.last base.raws base.parts) (archives_stay base [] 0 base.archives refl is.archives_are (λ index rows low. refl) (λ index rows since low h. omega arith))
 
 -- other settings of the sources
-pub content_tuned : (base : Content) (sources : List DsDef) → IsBase base → content base (Tuned sources ∷ []) ≡ record base { sources = sources; raws = raws_under base.sources sources base.raws }
-unfolding content with_all
+pub content_tuned : (base : Content) (sources : List DsDef) → IsBase base → content_listed base (Tuned sources ∷ []) ≡ record base { sources = sources; raws = raws_under base.sources sources base.raws }
+unfolding content_listed with_all
 content_tuned base sources is =
     let es = Tuned sources ∷ [] in
     let raws = raws_under base.sources sources base.raws in
@@ -104,7 +104,7 @@ resized_elsewhere base at rows first archives h is =
     (λ index old since low k. other_room base at rows index old since (λ e. absurd (omega arith)) k)
 
 -- the parts of the sources stay too
-pub content_resized : (base : Content) (at rows : ℕ) → IsBase base → content base (Resized at rows ∷ []) ≡ record base { archives = map (archive_of base (Resized at rows ∷ [])) (enumerate_from 0 base.archives) }
-unfolding content with_all
+pub content_resized : (base : Content) (at rows : ℕ) → IsBase base → content_listed base (Resized at rows ∷ []) ≡ record base { archives = map (archive_of base (Resized at rows ∷ [])) (enumerate_from 0 base.archives) }
+unfolding content_listed with_all
 content_resized base at rows is =
     ap (λ ps. with_all base base.sources base.last base.raws ps (map (archive_of base (Resized at rows ∷ [])) (enumerate_from 0 base.archives))) (parts_same base (Resized at rows ∷ []) refl is.some_step)

@@ -5,7 +5,7 @@ use Rattle.std.proofs.lemmas.List.{length-drop, length-map, length-replicate}
 use Rattle.std.specs.List.{fold, enumerate_from, AllByRecursion}
 use Rattle.rrd_fixed.specs.declared.cell.Cell.{Cell}
 use Rattle.rrd_ring.specs.Rows.{newest_rows, width}
-use Rattle.rrd_base.specs.History.{Archive, Content, Resized, moment_of, rows_after, rows_of, row_parts_of, room, keep_last, filled_up, kept_rows, archive_of, content, IsArchive}
+use Rattle.rrd_base.specs.History.{Archive, Content, Resized, moment_of, rows_after, rows_of, row_parts_of, room, keep_last, filled_up, kept_rows, archive_of, content_listed, IsArchive}
 use Rattle.rrd_base.specs.declared.resize.Change.{Change}
 use Rattle.rrd_base.specs.declared.resize.Change.TheVariants.{Grow, Shrink}
 use Rattle.rrd_base.specs.Commands.{Resizing, moved_listed, rows_changed, rows_of_archives}
@@ -151,7 +151,7 @@ resized_at base at n first (suc k) (archive ∷ archives) d e h is w =
 abbrev pub with_rows : Archive → List (List Cell) → Archive
 with_rows archive rows = record archive { def = record archive.def { rows = length rows }; rows = rows }
 
-pub contents_resized : (now : Content) (k : ℕ) (rows : List (List Cell)) (d : Archive) → IsValid now → k < length now.archives → rows ≡ newest_rows (length rows) (rows_at now.archives k) → record now { archives = set now.archives k (with_rows (get_or now.archives k d) rows) } ≡ content now (Resized k (length rows) ∷ [])
+pub contents_resized : (now : Content) (k : ℕ) (rows : List (List Cell)) (d : Archive) → IsValid now → k < length now.archives → rows ≡ newest_rows (length rows) (rows_at now.archives k) → record now { archives = set now.archives k (with_rows (get_or now.archives k d) rows) } ≡ content_listed now (Resized k (length rows) ∷ [])
 contents_resized now k rows d is there e =
     let n = length rows in
     let archive = get_or now.archives k d in
@@ -170,7 +170,7 @@ there_is now k change rows h =
     omega (arith, low, length-map now.archives (λ (a : Archive). a.def.rows))
 
 -- the new rows are as many as asked
-pub resized_is : (now : Content) (k : ℕ) (change : Change) (rows n : ℕ) (new : List (List Cell)) (d : Archive) → k < length now.archives → n ≡ rows_changed change (get_or now.archives k d).def.rows rows → new ≡ newest_rows n (rows_at now.archives k) → (length new ≡ n) × (content now (Resized k (length new) ∷ []) ≡ moved_listed now (Resizing k change rows))
+pub resized_is : (now : Content) (k : ℕ) (change : Change) (rows n : ℕ) (new : List (List Cell)) (d : Archive) → k < length now.archives → n ≡ rows_changed change (get_or now.archives k d).def.rows rows → new ≡ newest_rows n (rows_at now.archives k) → (length new ≡ n) × (content_listed now (Resized k (length new) ∷ []) ≡ moved_listed now (Resizing k change rows))
 resized_is now k change rows n new d there e f =
     let count : length new ≡ n = ap length f ∙ length-newest_rows n (rows_at now.archives k) in
-    (count, ap (λ m. content now (Resized k m ∷ [])) (count ∙ e ∙ ap (λ m. rows_changed change m rows) (sym (rows_at_archive now.archives k d there))))
+    (count, ap (λ m. content_listed now (Resized k m ∷ [])) (count ∙ e ∙ ap (λ m. rows_changed change m rows) (sym (rows_at_archive now.archives k d there))))

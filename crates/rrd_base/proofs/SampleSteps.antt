@@ -8,12 +8,12 @@ use Rattle.rrd_fixed.specs.declared.name.Name.{Name}
 use Rattle.rrd_base.specs.declared.definition.DsDef.{DsDef}
 use Rattle.rrd_base.specs.declared.update.Sample.{Sample}
 use Rattle.rrd_base.specs.declared.update.Given.{Given}
-use Rattle.rrd_base.specs.History.{Content, Moment, Sampled, moment_of, moment_at_end, content}
+use Rattle.rrd_base.specs.History.{Content, Moment, Sampled, moment_of, moment_at_end, content_listed}
 use Rattle.rrd_base.specs.Commands.{raw_of, value_for, sample_of}
 use Rattle.rrd_base.specs.Verdict.{sample_checks}
 use Rattle.rrd_base.specs.Validity.{IsValid, AreAccepted}
 use Rattle.rrd_base.proofs.Accepted.{Passes, readings_rise}
-use Rattle.rrd_base.proofs.ContentLemmas.{content-append}
+use Rattle.rrd_base.proofs.ContentLemmas.{listed-append}
 use Rattle.rrd_base.proofs.HistoryLemmas.{moment_of-content}
 use Rattle.rrd_base.proofs.Passing.{base_of_valid}
 use Rattle.rrd_base.proofs.Staying.{raws_accepted}
@@ -28,21 +28,21 @@ raws_of_sample sources template values = map (λ (source : DsDef). raw_of source
 
 -- the content after a sample, and those that are left
 pub record Taken (now next : Content) (sources : List DsDef) (template : List Name) (sample : Sample) (rest : List Sample) : Type 0 where
-  pub comes_to : content now (map Sampled (map (sample_of sources template) (sample ∷ rest))) ≡ content next (map Sampled (map (sample_of sources template) rest))
+  pub comes_to : content_listed now (map Sampled (map (sample_of sources template) (sample ∷ rest))) ≡ content_listed next (map Sampled (map (sample_of sources template) rest))
   pub pass : AllByRecursion Passes (sample_checks sources template next.last rest)
   pub same_sources : next.sources ≡ now.sources
   pub last_is : next.last ≡ sample.time
 
-pub one_taken : (now next : Content) (sources : List DsDef) (template : List Name) (sample : Sample) (rest : List Sample) → IsValid now → now.sources ≡ sources → AllByRecursion Passes (sample_checks sources template now.last (sample ∷ rest)) → next ≡ content now (Sampled (sample_of sources template sample) ∷ []) → Taken now next sources template sample rest
+pub one_taken : (now next : Content) (sources : List DsDef) (template : List Name) (sample : Sample) (rest : List Sample) → IsValid now → now.sources ≡ sources → AllByRecursion Passes (sample_checks sources template now.last (sample ∷ rest)) → next ≡ content_listed now (Sampled (sample_of sources template sample) ∷ []) → Taken now next sources template sample rest
 one_taken now next sources template sample rest is same pass e =
     let reading = sample_of sources template sample in
     let all = readings_rise sources template (moment_of now) (sample ∷ rest) pass in
-    let after : moment_of (content now (Sampled reading ∷ [])) ≡ moment_at_end now (Sampled reading ∷ []) = moment_of-content now (Sampled reading ∷ []) in
+    let after : moment_of (content_listed now (Sampled reading ∷ [])) ≡ moment_at_end now (Sampled reading ∷ []) = moment_of-content now (Sampled reading ∷ []) in
     let end : moment_of next ≡ moment_at_end now (Sampled reading ∷ []) = ap moment_of e ∙ after in
     let last : next.last ≡ sample.time = ap (λ (m : Moment). m.last) end in
     record {
-      comes_to = content-append now (Sampled reading ∷ []) (map Sampled (map (sample_of sources template) rest)) (base_of_valid now is) (all.0, tt) all.1
-          ∙ ap (λ c. content c (map Sampled (map (sample_of sources template) rest))) (sym e);
+      comes_to = listed-append now (Sampled reading ∷ []) (map Sampled (map (sample_of sources template) rest)) (base_of_valid now is) (all.0, tt) all.1
+          ∙ ap (λ c. content_listed c (map Sampled (map (sample_of sources template) rest))) (sym e);
       pass = subst (λ t. AllByRecursion Passes (sample_checks sources template t rest)) (sym last) pass.1.1.1.1;
       same_sources = ap (λ (m : Moment). m.sources) end;
       last_is = last;

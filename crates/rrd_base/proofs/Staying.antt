@@ -15,7 +15,7 @@ use Rattle.rrd_fixed.specs.declared.kind.Kind.TheVariants.{Gauge, Counter, Deriv
 use Rattle.rrd_fixed.specs.Rate.{IsAccepted}
 use Rattle.rrd_fixed.specs.declared.name.Name.{Name}
 use Rattle.rrd_base.specs.declared.definition.DsDef.{DsDef}
-use Rattle.rrd_base.specs.History.{Archive, Content, Reading, Event, Sampled, Tuned, Moment, moment_after, moment_of, moment_at_end, same_kind, raws_under, rows_after, seconds_of, archive_of, content, IsHistory}
+use Rattle.rrd_base.specs.History.{Archive, Content, Reading, Event, Sampled, Tuned, Moment, moment_after, moment_of, moment_at_end, same_kind, raws_under, rows_after, seconds_of, archive_of, content_listed, IsHistory}
 use Rattle.rrd_base.proofs.HistoryLemmas.{length-sources}
 use Rattle.rrd_base.proofs.SampleLemmas.{rows_of_samples}
 use Rattle.rrd_base.specs.Commands.{Asked, Command, Updating, TuningBy, Resizing, settings_of, settings_after, rows_of_archives, raw_of, value_for, sample_of, samples_of, names, asked, tuned, rows_changed, events, moved_listed}
@@ -109,14 +109,14 @@ record Leaves (base : Content) (es : List Event) : Type 0 where
   good_rows : LeavesGoodRows es
   few_cells : length (moment_at_end base es).sources * sum (rows_of_archives (map (archive_of base es) (enumerate_from 0 base.archives))) ≤ 4000000
 
-left_valid : (base : Content) (es : List Event) → IsValid base → Leaves base es → IsValid (content base es)
-unfolding content
+left_valid : (base : Content) (es : List Event) → IsValid base → Leaves base es → IsValid (content_listed base es)
+unfolding content_listed
 left_valid base es is left =
     let end = moment_at_end base es in
     let as_many : length end.sources ≡ length base.sources = length-sources (moment_of base) es left.history in
     let count : length (map (archive_of base es) (enumerate_from 0 base.archives)) ≡ length base.archives = length-map (enumerate_from 0 base.archives) (archive_of base es) ∙ length-enumerate_from 0 base.archives in
     let AP : ℕ → Type 0 = λ n. AllByRecursion (IsValidArchive n (end.last / base.step)) (map (archive_of base es) (enumerate_from 0 base.archives)) in
-    let PP : ℕ → Type 0 = λ n. AreParts Rattle.rrd_fold.specs.declared.function.Function.TheVariants.Average n (end.last % base.step) (content base es).parts in
+    let PP : ℕ → Type 0 = λ n. AreParts Rattle.rrd_fold.specs.declared.function.Function.TheVariants.Average n (end.last % base.step) (content_listed base es).parts in
     record {
       some_step = is.some_step;
       small_step = is.small_step;
@@ -232,7 +232,7 @@ few_changed Grow old rows h k = ltb-false 1000000 (old + rows) (or_parts (is_bad
 few_changed Shrink old rows h k = omega arith
 
 resize_leaves : (base : Content) (archive : ℕ) (change : Change) (rows : ℕ) → IsValid base → verdict base (Resizing archive change rows) ≡ None → Leaves base (events (settings_of base) (Resizing archive change rows))
-unfolding content
+unfolding content_listed
 resize_leaves base archive change rows is h =
     let command = Resizing archive change rows in
     let settings = settings_of base in

@@ -8,7 +8,7 @@ use Rattle.rrd_fixed.specs.declared.kind.Kind.{Kind}
 use Rattle.rrd_fixed.specs.declared.kind.Kind.TheVariants.{Gauge, Counter, Derive, Absolute}
 use Rattle.rrd_fixed.specs.declared.name.Name.{Name}
 use Rattle.rrd_base.specs.declared.definition.DsDef.{DsDef}
-use Rattle.rrd_base.specs.History.{Archive, Content, Reading, Sampled, Resized, Moment, moment_after, moment_of, moment_at_end, same_kind, raws_under, rows_of, row_parts_of, rows_after, kept_rows, archive_of, content, IsHistory, IsArchive}
+use Rattle.rrd_base.specs.History.{Archive, Content, Reading, Sampled, Resized, Moment, moment_after, moment_of, moment_at_end, same_kind, raws_under, rows_of, row_parts_of, rows_after, kept_rows, archive_of, content_listed, IsHistory, IsArchive}
 use Rattle.rrd_base.proofs.ContentLemmas.{length-rows_of, length-kept_rows}
 use Rattle.rrd_base.proofs.SampleLemmas.{rows_of_samples, update_undone}
 use Rattle.rrd_base.specs.Commands.{Asked, Command, Updating, TuningBy, Resizing, settings_of, samples_of, asked, tuned, rows_changed, moved_listed}
@@ -60,7 +60,7 @@ abbrev ListedBack : Content → Command → Type 0
 ListedBack base command = IsSound base → verdict base command ≡ None → undone (moved_listed base command) (entry base command) ≡ base
 
 update_back : (base : Content) (update : Update) → ListedBack base (Updating update)
-unfolding content with_all
+unfolding content_listed with_all
 update_back base update sound h =
     let samples = samples_of base.sources update in
     let archives = put_back_each (map (archive_of base (map Sampled samples)) (enumerate_from 0 base.archives)) (map (dropped base.step base.last (moment_at_end base (map Sampled samples)).last) base.archives) in

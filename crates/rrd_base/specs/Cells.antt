@@ -1,5 +1,5 @@
 -- What an archive shows at each time.
-use Rattle.std.specs.Prelude.{◌≡◌, ℕ, ◌+◌, ◌-◌, ◌*◌, ◌/◌, ℤ, pos, ◌+ℤ◌, ◌-ℤ◌, unsigned_abs, int_lt, int_le, if◌then◌else◌, Some, List, [], ◌∷◌, map, length, replicate, slice_get, slice_index_or}
+use Rattle.std.specs.Prelude.{◌≡◌, ℕ, ◌+◌, ◌-◌, ◌*◌, ◌/◌, ◌++◌, ℤ, pos, ◌+ℤ◌, ◌-ℤ◌, unsigned_abs, int_lt, int_le, if◌then◌else◌, Some, List, [], ◌∷◌, map, length, replicate, slice_get, slice_index_or}
 use Rattle.std.specs.List.{fold, enumerate_from, range_with_len}
 use Rattle.std.specs.Int.{int_max, int_rem_euclid}
 use Rattle.rrd_fixed.specs.declared.cell.Cell.{Cell}
@@ -7,7 +7,7 @@ use Rattle.rrd_fold.specs.Groups.{group_part}
 use Rattle.rrd_fold.specs.Parts.{seconds_to_steps}
 use Rattle.rrd_base.specs.declared.definition.RraDef.{RraDef}
 use Rattle.rrd_base.specs.Rules.{rows_rule}
-use Rattle.rrd_base.specs.History.{Archive, Content, Event, moment_of, moment_at_end, seconds_of, steps_of, parts_of, rows_of, rows_after, archive_of, content, IsHistory, IsBase}
+use Rattle.rrd_base.specs.History.{Archive, Content, Event, moment_of, moment_at_end, seconds_of, steps_of, parts_of, rows_of, rows_after, archive_of, content_listed, IsHistory, IsBase}
 use Rattle.rrd_base.specs.Passed.{row_at}
 
 -- ---- an archive's rows and their times
@@ -98,8 +98,8 @@ abbrev pub archive_by_time : Content → List Event → ℕ × Archive → Archi
 archive_by_time base events (index, archive) = record (archive_of base events (index, archive)) { rows = rows_by_time base index archive events }
 
 -- the content of a history, each row being that of its time
-abbrev pub content_by_time : Content → List Event → Content
-content_by_time base events = record {
+abbrev pub content : Content → List Event → Content
+content base events = record {
   step = base.step;
   depth = base.depth;
   sources = (moment_at_end base events).sources;
@@ -111,9 +111,17 @@ content_by_time base events = record {
 
 -- ---- the laws
 
+-- what a history in two pieces comes to is what its second piece makes of the first one's content
+abbrev pub GoesOnFromContent : Content → List Event → List Event → Type 0
+GoesOnFromContent base first second =
+    IsBase base → IsHistory (moment_of base) first → IsHistory (moment_at_end base first) second → content base (first ++ second) ≡ content (content base first) second
+
+abbrev pub StaysBase : Content → List Event → Type 0
+StaysBase base events = IsBase base → IsHistory (moment_of base) events → IsBase (content base events)
+
 -- the content's rows by list and by time are the same
 abbrev pub IsByTime : Content → List Event → Type 0
-IsByTime base events = IsBase base → IsHistory (moment_of base) events → content base events ≡ content_by_time base events
+IsByTime base events = IsBase base → IsHistory (moment_of base) events → content_listed base events ≡ content base events
 
 -- a time at which rows of this resolution end
 abbrev pub IsMultiple : ℤ → ℕ → Type 0
@@ -123,8 +131,8 @@ IsMultiple time size = int_rem_euclid time (pos size) ≡ pos 0
 abbrev pub ShowsByTime : Content → List Event → Type 0
 ShowsByTime base events =
     IsBase base → IsHistory (moment_of base) events →
-    (index : ℕ) (archive shown : Archive) → slice_get base.archives index ≡ Some archive → slice_get (content base events).archives index ≡ Some shown →
-    (time : ℤ) → IsMultiple time (resolution base.step archive.def) → row_at (content base events) shown time ≡ row_by_time base index archive events time
+    (index : ℕ) (archive shown : Archive) → slice_get base.archives index ≡ Some archive → slice_get (content_listed base events).archives index ≡ Some shown →
+    (time : ℤ) → IsMultiple time (resolution base.step archive.def) → row_at (content_listed base events) shown time ≡ row_by_time base index archive events time
 
 -- the steps and rows of a history, each by itself
 pub record ListsByNumber (base : Content) (archive : Archive) (events : List Event) : Type 0 where

@@ -14,9 +14,9 @@ use Rattle.rrd_base.specs.declared.update.Update.{Update}
 use Rattle.rrd_base.specs.declared.tune.Tuning.{Tuning}
 use Rattle.rrd_base.specs.declared.resize.Change.{Change}
 use Rattle.rrd_base.specs.declared.resize.Change.TheVariants.{Grow, Shrink}
-use Rattle.rrd_base.specs.History.{Archive, Content, Reading, Event, Sampled, Tuned, Resized, rows_after, content}
+use Rattle.rrd_base.specs.History.{Archive, Content, Reading, Event, Sampled, Tuned, Resized, rows_after, content_listed}
 pub use Rattle.rrd_base.specs.History.{raw_under}
-use Rattle.rrd_base.specs.Cells.{content_by_time}
+use Rattle.rrd_base.specs.Cells.{content}
 
 -- ---- what is asked
 
@@ -113,11 +113,11 @@ events_of settings (command ∷ commands) = events settings command ++ events_of
 
 -- each row is that of its time
 abbrev pub content_of : Content → List Command → Content
-content_of base commands = content_by_time base (events_of (settings_of base) commands)
+content_of base commands = content base (events_of (settings_of base) commands)
 
 abbrev pub moved : Content → Command → Content
-moved base command = content_by_time base (events (settings_of base) command)
+moved base command = content base (events (settings_of base) command)
 
 -- the same, its rows being the list of those that are kept
 abbrev pub moved_listed : Content → Command → Content
-moved_listed base command = content base (events (settings_of base) command)
+moved_listed base command = content_listed base (events (settings_of base) command)

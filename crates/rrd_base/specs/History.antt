@@ -158,9 +158,9 @@ archive_of base events (index, archive) = record {
   rows = kept_rows base index archive events;
 }
 
--- the content that the events make of a base
-unfoldable pub content : Content → List Event → Content
-content base events = record base {
+-- the content that the events make of a base, its rows said by list: `content` in specs/Cells says each by its time, and is the definition
+unfoldable pub content_listed : Content → List Event → Content
+content_listed base events = record base {
   sources = (moment_at_end base events).sources;
   last = (moment_at_end base events).last;
   raws = (moment_at_end base events).raws;
@@ -185,10 +185,3 @@ pub record IsArchive (archive : Archive) : Type 0 where
 pub record IsBase (base : Content) : Type 0 where
   pub some_step : 0 < base.step
   pub archives_are : AllByRecursion IsArchive base.archives
-
--- what a history in two pieces comes to is what its second piece makes of the first one's content
-abbrev pub GoesOnFromContent : Content → List Event → List Event → Type 0
-GoesOnFromContent base first second = IsBase base → IsHistory (moment_of base) first → IsHistory (moment_at_end base first) second → content base (first ++ second) ≡ content (content base first) second
-
-abbrev pub StaysBase : Content → List Event → Type 0
-StaysBase base events = IsBase base → IsHistory (moment_of base) events → IsBase (content base events)

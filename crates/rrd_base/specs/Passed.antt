@@ -5,7 +5,7 @@ use Rattle.rrd_fixed.specs.declared.cell.Cell.{Cell}
 use Rattle.rrd_fold.specs.Groups.{finished, unfinished}
 use Rattle.rrd_fold.specs.Parts.{seconds_to_steps}
 use Rattle.rrd_base.specs.Rules.{rows_rule}
-use Rattle.rrd_base.specs.History.{Archive, Content, Reading, Sampled, keep_last, filled_up, rates, rows_of, kept_rows, content, IsBase, IsArchive}
+use Rattle.rrd_base.specs.History.{Archive, Content, Reading, Sampled, keep_last, filled_up, rates, rows_of, kept_rows, content_listed, IsBase, IsArchive}
 
 -- an archive after these steps, `before` having ended earlier
 unfoldable pub archive_passed : ℕ → ℕ → List (List Cell) → Archive → Archive
@@ -30,7 +30,7 @@ PassesInPieces base xs ys = IsBase base → passed base (xs ++ ys) ≡ passed (p
 
 -- a sample is its rates, in each second of its interval
 abbrev pub SampledPasses : Content → Reading → Type 0
-SampledPasses base sample = IsBase base → base.last < sample.time → content base (Sampled sample ∷ []) ≡ record (passed base (replicate (sample.time - base.last) (rates base.sources (sample.time - base.last) base.raws sample.raws))) { raws = sample.raws }
+SampledPasses base sample = IsBase base → base.last < sample.time → content_listed base (Sampled sample ∷ []) ≡ record (passed base (replicate (sample.time - base.last) (rates base.sources (sample.time - base.last) base.raws sample.raws))) { raws = sample.raws }
 
 -- the rows from before an update: the oldest of them, as many as the update finished, then those that it left
 abbrev pub RowsComeBack : Content → ℕ → Archive → List Reading → Type 0

@@ -5,7 +5,7 @@ use Rattle.rrd_base.specs.declared.create.CreateSpec.{CreateSpec}
 use Rattle.rrd_base.specs.declared.definition.DsDef.{DsDef}
 use Rattle.rrd_base.specs.declared.definition.RraDef.{RraDef}
 use Rattle.rrd_base.specs.declared.refusal.Refusal.TheVariants.{BadStep, NoSource, NoArchive, BadXff, BadRows, TooLarge, BadSpan, BadTime, NoArchiveForFunction, SpanTooLong}
-use Rattle.rrd_base.specs.History.{Content, Event, Resized, content}
+use Rattle.rrd_base.specs.History.{Content, Event, Resized, content_listed}
 use Rattle.rrd_base.specs.Creating.{create_verdict, created as made}
 use Rattle.rrd_base.specs.Cells.{horizon, row_by_time}
 use Rattle.rrd_base.specs.Choice.{choice}
@@ -45,7 +45,7 @@ Resizing =
 
 -- two archives of three rows, of one and of two steps, at 100 seconds
 abbrev pub two_archives : Content
-two_archives = content (created 10 0 (gauge 100) (archive Last 1 3 ∷ archive Last 2 3 ∷ [])) (at 100 1 ∷ [])
+two_archives = content_listed (created 10 0 (gauge 100) (archive Last 1 3 ∷ archive Last 2 3 ∷ [])) (at 100 1 ∷ [])
 
 -- the finer one reaches the start, only the coarser one does, neither does; and what is refused
 abbrev pub Fetched : Type 0

@@ -13,7 +13,7 @@ ghost use Rattle.rrd_base.specs.Entries.{Updated, WasResized, WasTuned, entry as
 ghost use Rattle.rrd_base.specs.Store.{CanPutBackEach, befores, functions, saved_functions};
 ghost use Rattle.rrd_base.specs.Tuned.{held_of};
 ghost use Rattle.rrd_base.specs.Verdict.{verdict};
-ghost use Rattle.rrd_base.specs.History.{Resized, Sampled, content};
+ghost use Rattle.rrd_base.specs.History.{Resized, Sampled, content_listed};
 ghost use Rattle.rrd_base.specs.Passed.{passed};
 ghost use Rattle.rrd_ring.specs.Rows.{newest_rows};
 ghost use Rattle.rrd_base.specs.Validity.{AreAccepted, IsRow, IsValid};
@@ -184,7 +184,7 @@ impl Contents {
         requires row_wide { length row_room.old ≡ length self.old.sources }
         requires turns { meter.old + 13000 * (time - self.old.last) < 2 ^ 63 }
         ensures turns { meter.new ≤ meter.old + 13000 * (time - self.old.last) }
-        ensures value { self.new ≡ content self.old (Sampled (record { time = time; raws = raws.now }) ∷ []) }
+        ensures value { self.new ≡ content_listed self.old (Sampled (record { time = time; raws = raws.now }) ∷ []) }
         ensures valid { IsValid self.new }
     {
         rates_into(&self.sources, time - self.last, &self.raws, raws, rates);
@@ -303,9 +303,9 @@ impl Contents {
     /// Gives an archive its resized rows, and gives the ones that it had. It takes no memory.
     pub(crate) fn resize(&mut self, archive: usize, mut rows: Archive) -> Archive
         requires there { archive < length self.old.archives }
-        requires valid { IsValid (content self.old (Resized archive (length rows) ∷ [])) }
+        requires valid { IsValid (content_listed self.old (Resized archive (length rows) ∷ [])) }
         requires resized { rows ≡ newest_rows (length rows) (rows_at self.old.archives archive) }
-        ensures contents { self.new ≡ content self.old (Resized archive (length rows) ∷ []) }
+        ensures contents { self.new ≡ content_listed self.old (Resized archive (length rows) ∷ []) }
         ensures old { result ≡ rows_at self.old.archives archive }
     {
         self.stores[archive].swap_rows(&mut rows);

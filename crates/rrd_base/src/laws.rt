@@ -1,7 +1,7 @@
 //! Laws of the definitions alone. Each is the contract of a function that does nothing.
 ghost use Rattle.std.specs.Prelude.{◌≡◌, ℕ, List};
 ghost use Rattle.rrd_fixed.specs.declared.cell.Cell.{Cell};
-ghost use Rattle.rrd_base.specs.History.{Archive, Content, Event, Reading, GoesOnFromContent, StaysBase};
+ghost use Rattle.rrd_base.specs.History.{Archive, Content, Event, Reading};
 ghost use Rattle.rrd_base.specs.Passed.{PassesInPieces, SampledPasses, RowsComeBack, ShowsByAge};
 ghost use Rattle.rrd_base.specs.Commands.{Command};
 ghost use Rattle.rrd_base.specs.Entries.{Entry, ComesBack};
@@ -9,7 +9,7 @@ ghost use Rattle.rrd_base.specs.Survivors.{Action, Moves, RunsAgree};
 ghost use Rattle.rrd_base.specs.Validity.{StaysValid, DatabaseStays, RevertTakesBack, RunsStay};
 ghost use Rattle.rrd_base.specs.declared.create.CreateSpec.{CreateSpec};
 ghost use Rattle.rrd_base.specs.Creating.{CreatedIsValid};
-ghost use Rattle.rrd_base.specs.Cells.{IsByTime, ShowsByTime, ListsByNumber};
+ghost use Rattle.rrd_base.specs.Cells.{GoesOnFromContent, IsByTime, ListsByNumber, ShowsByTime, StaysBase};
 ghost use Rattle.rrd_base.specs.Worked as worked;
 ghost use Rattle.rrd_base.specs.WorkedCommands as commands;
 ghost use Rattle.rrd_base.specs.WorkedTimes as times;

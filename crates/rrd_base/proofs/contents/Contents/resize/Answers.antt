@@ -1,6 +1,6 @@
 use Rattle.std.proofs.Common.{◌≡◌, sym, ◌∙◌, ap, subst, ◌<◌, [], ◌∷◌, length, set, get_or}
 use Rattle.rrd_ring.specs.Rows.{newest_rows}
-use Rattle.rrd_base.specs.History.{Archive, Content, Resized, content}
+use Rattle.rrd_base.specs.History.{Archive, Content, Resized, content_listed}
 use Rattle.rrd_base.specs.Entries.{rows_at}
 use Rattle.rrd_base.specs.Contents.{content_of}
 use Rattle.rrd_base.specs.Validity.{IsValid}
@@ -19,7 +19,7 @@ invariant_of-self c =
     = ap (set d.stores.items k) (c.swap_rows.ensures.mine ∙ ap (λ (a : Archive). with_rows a rows) c.index_mut.ensures.value) in
     let whole = contents_resized X k rows c.index_mut.result.now c.self.invariant there asked in
     subst (λ xs. IsValid (record X { archives = xs })) (sym one)
-    (subst IsValid (sym whole) (subst (λ (x : Content). IsValid (content x (Resized k (length rows) ∷ []))) (sym c.self.view_is) c.requires.valid))
+    (subst IsValid (sym whole) (subst (λ (x : Content). IsValid (content_listed x (Resized k (length rows) ∷ []))) (sym c.self.view_is) c.requires.valid))
 
 pub returns-clause-contents : goal.returns-clause-contents
 returns-clause-contents c =
@@ -33,7 +33,7 @@ returns-clause-contents c =
     = ap (set d.stores.items k) (c.swap_rows.ensures.mine ∙ ap (λ (a : Archive). with_rows a rows) c.index_mut.ensures.value) in
     ap (λ xs. let x : Content = record X { archives = xs } in x) one
     ∙ contents_resized X k rows c.index_mut.result.now c.self.invariant there asked
-    ∙ ap (λ (x : Content). content x (Resized k (length rows) ∷ [])) c.self.view_is
+    ∙ ap (λ (x : Content). content_listed x (Resized k (length rows) ∷ [])) c.self.view_is
 
 pub returns-clause-old : goal.returns-clause-old
 returns-clause-old c =

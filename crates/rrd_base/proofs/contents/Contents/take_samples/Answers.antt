@@ -2,7 +2,7 @@ use Rattle.std.proofs.Common.{◌≡◌, refl, sym, ◌∙◌, ap, subst, ◌+�
 use Rattle.std.specs.List.{AllByRecursion}
 use Rattle.rrd_base.specs.declared.definition.DsDef.{DsDef}
 use Rattle.std.proofs.lemmas.List.{with_items_is, drop_all}
-use Rattle.rrd_base.specs.History.{Content, Reading, Sampled, content}
+use Rattle.rrd_base.specs.History.{Content, Reading, Sampled, content_listed}
 use Rattle.rrd_base.specs.Commands.{Updating, sample_of, value_for, raw_of}
 use Rattle.rrd_base.specs.Updating.{template_of}
 use Rattle.rrd_base.specs.Verdict.{sample_checks}
@@ -67,13 +67,13 @@ loop-sample-preserved c =
     let same_list = c.as_slice-sample-items.ensures in
     let here : drop i all ≡ sample ∷ drop (i + 1) all = drop_here all i sample (omega (arith, ap length same_list)) (c.sample-item.is ∙ ap (λ zs. get_or zs i sample) same_list) in
     let next = c.sample.new.self in
-    let moved_is : next ≡ content now (Sampled (sample_of X.sources template sample) ∷ [])
-    = c.sample.ensures.value ∙ ap (λ rs. let r : Reading = record { time = sample.time; raws = rs } in content now (Sampled r ∷ [])) (written ∙ raws_are) in
+    let moved_is : next ≡ content_listed now (Sampled (sample_of X.sources template sample) ∷ [])
+    = c.sample.ensures.value ∙ ap (λ rs. let r : Reading = record { time = sample.time; raws = rs } in content_listed now (Sampled r ∷ [])) (written ∙ raws_are) in
     let pass = subst (λ zs. AllByRecursion Passes (sample_checks X.sources template now.last zs)) here was.pass in
     let taken = one_taken now next X.sources template sample (drop (i + 1) all) was.valid was.same_sources pass moved_is in
     let later = later_sample X.sources template now.last sample (drop (i + 1) all) pass in
     record {
-      comes_to = sym taken.comes_to ∙ ap (λ zs. content now (map Sampled (map (sample_of X.sources template) zs))) (sym here) ∙ was.comes_to;
+      comes_to = sym taken.comes_to ∙ ap (λ zs. content_listed now (map Sampled (map (sample_of X.sources template) zs))) (sym here) ∙ was.comes_to;
       pass = taken.pass;
       same_sources = taken.same_sources ∙ was.same_sources;
       valid = c.sample.ensures.valid;
@@ -88,4 +88,4 @@ returns c =
     let was = c.loop-sample.invariant in
     let all = c.args.update.now.samples in
     let none : drop c.loop-sample.sample-index all ≡ [] = drop_all c.loop-sample.sample-index all (omega (arith, ap length c.as_slice-sample-items.ensures)) in
-    sym (ap (λ zs. content c.loop-sample.self (map Sampled (map (sample_of X.sources (template_of X.sources c.args.update.now.template)) zs))) none ∙ content_nil c.loop-sample.self (base_of_valid c.loop-sample.self was.valid)) ∙ was.comes_to
+    sym (ap (λ zs. content_listed c.loop-sample.self (map Sampled (map (sample_of X.sources (template_of X.sources c.args.update.now.template)) zs))) none ∙ content_nil c.loop-sample.self (base_of_valid c.loop-sample.self was.valid)) ∙ was.comes_to

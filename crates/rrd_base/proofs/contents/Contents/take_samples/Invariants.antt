@@ -1,6 +1,6 @@
 use Rattle.std.proofs.Common.{◌≡◌, ◌-◌, ◌*◌, ◌≤◌, length, map, drop}
 use Rattle.std.specs.List.{AllByRecursion}
-use Rattle.rrd_base.specs.History.{Sampled, content}
+use Rattle.rrd_base.specs.History.{Sampled, content_listed}
 use Rattle.rrd_base.specs.Commands.{Updating, moved_listed, sample_of}
 use Rattle.rrd_base.specs.Room.{HasPlaces}
 use Rattle.rrd_base.specs.Updating.{template_of}
@@ -15,7 +15,7 @@ invariant-loop-sample l =
     let template = template_of sources l.update.template in
     let left = drop l.sample-index l.update.samples in
     record {
-      comes_to : content l.self (map Sampled (map (sample_of sources template) left)) ≡ moved_listed l.fn.self (Updating l.update);
+      comes_to : content_listed l.self (map Sampled (map (sample_of sources template) left)) ≡ moved_listed l.fn.self (Updating l.update);
       pass : AllByRecursion Passes (sample_checks sources template l.self.last left);
       same_sources : l.self.sources ≡ l.fn.self.sources;
       valid : IsValid l.self;
