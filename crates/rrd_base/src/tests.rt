@@ -1,28 +1,23 @@
-//! Small databases, each call on its happy path: updates of fewer, as many and more rows than an
-//! archive has and back, templates, ties, a full journal, and databases as large as they may be.
-use crate::{Chosen, CreateSpec, Database, DsDef, Given, List, Refusal, RraDef, Sample, Update};
+//! Small databases, each call on its happy path: the readers, updates of fewer, as many and more rows
+//! than an archive has and back, and databases as large as they may be. What batches print is tested in
+//! rrd_tool.
+use crate::{CreateSpec, Database, DsDef, Given, List, Refusal, RraDef, Sample, Update};
 use rrd_fixed::{Cell, Kind, Name, Number, Raw};
 use rrd_fold::Function;
 use std::alloc::{AllocError, Global};
 use std::process::Abort;
 use std::test::Fail;
 
-const UNKNOWN: Given = Given::Unknown;
-
 pub(crate) const NONE: Cell = Cell::Unknown;
 
 // ---- what the tests are made of
 
-// A number that is written without a point.
-fn millionths(millionths: i128) -> Given {
+// So many whole units, written without a point.
+pub(crate) fn units(number: u32) -> Given {
     Given::Number(Number {
-        millionths,
+        millionths: i128::from(number) * 1_000_000,
         point: false,
     })
-}
-
-pub(crate) fn units(number: u32) -> Given {
-    millionths(i128::from(number) * 1_000_000)
 }
 
 pub(crate) fn name_of(bytes: &[u8]) -> Result<Name, &'static str> {
@@ -158,55 +153,6 @@ pub(crate) fn raw(rt: &impl Abort, database: &Database, source: u64) -> Raw {
 // ---- each call
 
 #[test]
-fn road_counter(rt: HostRuntime) -> Result<(), Fail> {
-    let alloc = rt.alloc();
-    let mut sources = List::new(alloc);
-    sources.push(source(b"speed", Kind::Counter, 600)?)?;
-    let defs = [
-        archive(Function::Average, 1, 24),
-        archive(Function::Average, 6, 10),
-    ];
-    let asked = CreateSpec {
-        start: 920_804_400,
-        ..spec(alloc, 300, 16, sources, &defs)?
-    };
-    let mut database = Database::create(alloc, asked)?;
-    let given = [
-        12_345, 12_357, 12_363, 12_363, 12_363, 12_373, 12_383, 12_393, 12_399, 12_405, 12_411,
-        12_415, 12_420, 12_422, 12_423,
-    ];
-    let mut time = 920_804_400u64;
-    for value in given {
-        time = time.saturating_add(300);
-        take(alloc, &mut database, &[(time, units(value))])?;
-    }
-    assert_eq!(rt; database.last(), 920_808_900);
-    assert_eq!(rt; database.undoable(), 15);
-    let chosen = database.choose(Function::Average, 1, 920_804_400, 920_809_200);
-    let wanted = Chosen {
-        archive: 0,
-        res: 300,
-        lo: 920_804_400,
-        hi: 920_809_500,
-    };
-    assert_eq!(rt; chosen, Ok(wanted));
-    let fine = [
-        40_000, 20_000, 0, 0, 33_333, 33_333, 33_333, 20_000, 20_000, 20_000, 13_333, 16_667,
-        6_667, 3_333,
-    ];
-    assert_rows(&rt, &database, 920_805_000, 300, &fine);
-    let coarse = [
-        (920_806_200, Cell::Known(18_667)),
-        (920_808_000, Cell::Known(23_333)),
-        (920_809_800, NONE),
-    ];
-    for (at, wanted) in coarse {
-        assert_eq!(rt; cell(&rt, &database, 1, at, 0), wanted, "at {at}");
-    }
-    Ok(())
-}
-
-#[test]
 fn readers(rt: HostRuntime) -> Result<(), Fail> {
     let alloc = rt.alloc();
     let defs = [
@@ -332,165 +278,6 @@ fn updates_are_taken_back(rt: HostRuntime) -> Result<(), Fail> {
     Ok(())
 }
 
-#[test]
-fn full_journal_drops_its_oldest(rt: HostRuntime) -> Result<(), Fail> {
-    let alloc = rt.alloc();
-    let mut database = of_four_rows(alloc, 2)?;
-    take(alloc, &mut database, &[(10, units(1))])?;
-    take(alloc, &mut database, &[(20, units(2))])?;
-    take(alloc, &mut database, &[(30, units(3))])?;
-    assert_eq!(rt; database.undoable(), 2);
-    database.revert()?;
-    database.revert()?;
-    assert_eq!(rt; database.undoable(), 0);
-    assert_eq!(rt; database.revert(), Err(Refusal::NothingToRevert));
-    assert_eq!(rt; database.last(), 10);
-    assert_rows(&rt, &database, 10, 10, &[1_000_000]);
-    assert_eq!(rt; raw(&rt, &database, 0), Raw::Known(1_000_000));
-    Ok(())
-}
-
-#[test]
-fn refused_updates(rt: HostRuntime) -> Result<(), Fail> {
-    let alloc = rt.alloc();
-    let mut database = of_four_rows(alloc, 16)?;
-    let late = [(10, units(1)), (20, units(2)), (20, units(3))];
-    let refused = database.update(alloc, &update_of(alloc, &late)?);
-    assert_eq!(rt; refused, Err(Refusal::NotLater { last: 20 }));
-    assert_eq!(rt; database.last(), 0);
-    let refused = database.update(alloc, &update_of(alloc, &[])?);
-    assert_eq!(rt; refused, Err(Refusal::NoSample));
-    let far = [(10_000_000_000, units(1))];
-    let refused = database.update(alloc, &update_of(alloc, &far)?);
-    assert_eq!(rt; refused, Err(Refusal::BadTime));
-    let mut samples = List::new(alloc);
-    samples.push(sample(alloc, 10, &[UNKNOWN, UNKNOWN])?)?;
-    let wide = Update {
-        template: None,
-        samples,
-    };
-    assert_eq!(rt; database.update(alloc, &wide), Err(Refusal::WrongCount));
-    assert_eq!(rt; database.undoable(), 0);
-    Ok(())
-}
-
-// ---- rules that are easily missed
-
-// A template names sources in an order of its own; one that it leaves out gets unknown, though it had
-// a value before.
-#[test]
-fn templates(rt: HostRuntime) -> Result<(), Fail> {
-    let alloc = rt.alloc();
-    let mut sources = List::new(alloc);
-    sources.push(source(b"a", Kind::Gauge, 100)?)?;
-    sources.push(source(b"b", Kind::Gauge, 100)?)?;
-    let defs = [archive(Function::Last, 1, 4)];
-    let mut database = Database::create(alloc, spec(alloc, 10, 16, sources, &defs)?)?;
-    let mut both = List::new(alloc);
-    both.push(name_of(b"b")?)?;
-    both.push(name_of(b"a")?)?;
-    let mut samples = List::new(alloc);
-    samples.push(sample(alloc, 10, &[units(5), units(6)])?)?;
-    let turned = Update {
-        template: Some(both),
-        samples,
-    };
-    database.update(alloc, &turned)?;
-    assert_eq!(rt; raw(&rt, &database, 0), Raw::Known(6_000_000));
-    assert_eq!(rt; raw(&rt, &database, 1), Raw::Known(5_000_000));
-    let mut second = List::new(alloc);
-    second.push(name_of(b"b")?)?;
-    let mut samples = List::new(alloc);
-    samples.push(sample(alloc, 20, &[units(7)])?)?;
-    let left_out = Update {
-        template: Some(second),
-        samples,
-    };
-    database.update(alloc, &left_out)?;
-    assert_eq!(rt; raw(&rt, &database, 0), Raw::Unknown);
-    assert_eq!(rt; raw(&rt, &database, 1), Raw::Known(7_000_000));
-    assert_eq!(rt; cell(&rt, &database, 0, 10, 0), Cell::Known(6_000_000));
-    assert_eq!(rt; cell(&rt, &database, 0, 20, 0), NONE);
-    assert_eq!(rt; cell(&rt, &database, 0, 20, 1), Cell::Known(7_000_000));
-    Ok(())
-}
-
-// Minus half a millionth is zero, and minus one and a half is minus one.
-#[test]
-fn ties_go_upwards(rt: HostRuntime) -> Result<(), Fail> {
-    let alloc = rt.alloc();
-    let defs = [archive(Function::Average, 2, 4)];
-    let g = source(b"g", Kind::Gauge, 10)?;
-    let mut database = of_one(alloc, 1, 16, g, &defs)?;
-    let samples = [
-        (1, millionths(-1)),
-        (2, millionths(0)),
-        (3, millionths(-1)),
-        (4, millionths(-2)),
-    ];
-    take(alloc, &mut database, &samples)?;
-    assert_rows(&rt, &database, 2, 2, &[0, -1]);
-    Ok(())
-}
-
-// Four seconds at 8, three unknown, three at 5: 47 over 7.
-#[test]
-fn unknown_sample_keeps_earlier_seconds(rt: HostRuntime) -> Result<(), Fail> {
-    let alloc = rt.alloc();
-    let mut database = of_four_rows(alloc, 16)?;
-    take(alloc, &mut database, &[(4, units(8)), (7, UNKNOWN)])?;
-    assert!(rt; database.sources() == 1);
-    let step = database.step_prep(0);
-    assert_eq!(rt; (step.known(), step.sum()), (4, 32_000_000));
-    take(alloc, &mut database, &[(10, units(5))])?;
-    assert_rows(&rt, &database, 10, 10, &[6_714_286]);
-    Ok(())
-}
-
-// Rows of 10 seconds back to 70, rows of 20 back to 40: the finer archive is taken only if it covers
-// the start, and the one that reaches back farthest if none does.
-#[test]
-fn archive_choice(rt: HostRuntime) -> Result<(), Fail> {
-    let alloc = rt.alloc();
-    let defs = [archive(Function::Last, 1, 3), archive(Function::Last, 2, 3)];
-    let g = source(b"g", Kind::Gauge, 100)?;
-    let mut database = of_one(alloc, 10, 16, g, &defs)?;
-    take(alloc, &mut database, &[(100, units(1))])?;
-    let table = [
-        (80, 0, 10, 80),
-        (70, 0, 10, 70),
-        (50, 1, 20, 40),
-        (0, 1, 20, 0),
-    ];
-    for (start, number, res, lo) in table {
-        let chosen = database.choose(Function::Last, 1, start, 99);
-        let wanted = Chosen {
-            archive: number,
-            res,
-            lo,
-            hi: 100,
-        };
-        assert_eq!(rt; chosen, Ok(wanted), "from {start}");
-    }
-    assert_eq!(rt; cell(&rt, &database, 1, 40, 0), NONE);
-    assert_eq!(rt; cell(&rt, &database, 1, 60, 0), Cell::Known(1_000_000));
-    let refused = [
-        (
-            database.choose(Function::Min, 1, 0, 9),
-            Refusal::NoArchiveForFunction,
-        ),
-        (database.choose(Function::Last, 1, 20, 10), Refusal::BadSpan),
-        (
-            database.choose(Function::Last, 1, 0, 9_999_999_999),
-            Refusal::SpanTooLong,
-        ),
-    ];
-    for (chosen, wanted) in refused {
-        assert_eq!(rt; chosen, Err(wanted));
-    }
-    Ok(())
-}
-
 // ---- size
 
 // So many sources, s00, s01, and so on.
@@ -505,57 +292,6 @@ pub(crate) fn many_sources(alloc: Global, count: u8) -> Result<List<DsDef>, Fail
         sources.push(source(&name, Kind::Gauge, 1_000)?)?;
     }
     Ok(sources)
-}
-
-// Archive number 0 has rows of 1 second, number 63 rows of 64. A sample at 128 gives source number 7
-// the value 7, and so on.
-#[test]
-fn sixty_four_sources_and_archives(rt: HostRuntime) -> Result<(), Fail> {
-    let alloc = rt.alloc();
-    let mut defs = List::new(alloc);
-    for number in 0..64u64 {
-        defs.push(archive(Function::Last, number + 1, 2))?;
-    }
-    let mut database = Database::create(
-        alloc,
-        CreateSpec {
-            step: 1,
-            start: 0,
-            depth: 1,
-            sources: many_sources(alloc, 64)?,
-            archives: defs,
-        },
-    )?;
-    let mut values = List::new(alloc);
-    for number in 0..64u8 {
-        values.push(units(u32::from(number)))?;
-    }
-    let mut samples = List::new(alloc);
-    samples.push(Sample { time: 128, values })?;
-    let update = Update {
-        template: None,
-        samples,
-    };
-    database.update(alloc, &update)?;
-    let chosen = database.choose(Function::Last, 64, 100, 110);
-    let wanted = Chosen {
-        archive: 63,
-        res: 64,
-        lo: 64,
-        hi: 128,
-    };
-    assert_eq!(rt; chosen, Ok(wanted));
-    for number in 0..64u8 {
-        let known = Cell::Known(i128::from(number) * 1_000_000);
-        let source = u64::from(number);
-        assert_eq!(rt; cell(&rt, &database, 63, 128, source), known);
-        assert_eq!(rt; cell(&rt, &database, 0, 127, source), known);
-        assert_eq!(rt; cell(&rt, &database, 0, 126, source), NONE);
-    }
-    database.revert()?;
-    assert_eq!(rt; database.last(), 0);
-    assert_eq!(rt; cell(&rt, &database, 63, 128, 63), NONE);
-    Ok(())
 }
 
 // 64 times 62,500 cells are 4,000,000, and so are 4 archives of a million rows; one row more is too

@@ -140,79 +140,25 @@ fn the_same_type_keeps_the_raw_value(rt: HostRuntime) -> Result<(), Fail> {
     Ok(())
 }
 
-// A new maximum holds for the samples after it, and for none after it is taken back.
-#[test]
-fn bounds_in_force(rt: HostRuntime) -> Result<(), Fail> {
-    let alloc = rt.alloc();
-    let mut database = of_four_rows(alloc, 16)?;
-    take(alloc, &mut database, &[(10, units(9))])?;
-    let five = Some((name_of(b"g")?, Some(5_000_000)));
-    let tuning = Tuning {
-        maximum: five,
-        ..nothing()
-    };
-    database.tune(&tuning)?;
-    take(alloc, &mut database, &[(20, units(9))])?;
-    assert_rows(&rt, &database, 10, 10, &[9_000_000]);
-    database.revert()?;
-    database.revert()?;
-    take(alloc, &mut database, &[(20, units(9))])?;
-    assert_rows(&rt, &database, 10, 10, &[9_000_000, 9_000_000]);
-    assert_eq!(rt; database.tune(&nothing()), Err(Refusal::NothingToTune));
-    let crossed = Tuning {
-        minimum: Some((name_of(b"g")?, Some(6_000_000))),
-        maximum: Some((name_of(b"g")?, Some(5_000_000))),
-        ..nothing()
-    };
-    assert_eq!(rt; database.tune(&crossed), Err(Refusal::BadBounds));
-    assert_eq!(rt; database.undoable(), 2);
-    Ok(())
-}
-
 // ---- resizes
 
 #[test]
-fn shrink_and_grow(rt: HostRuntime) -> Result<(), Fail> {
+fn a_resize_keeps_the_old_rows(rt: HostRuntime) -> Result<(), Fail> {
     let alloc = rt.alloc();
-    let defs = [archive(Function::Last, 1, 6)];
-    let g = source(b"g", Kind::Gauge, 100)?;
-    let mut database = of_one(alloc, 10, 16, g, &defs)?;
-    let samples = [
-        (10, units(1)),
-        (20, units(2)),
-        (30, units(3)),
-        (40, units(4)),
-        (50, units(5)),
-        (60, units(6)),
-    ];
-    take(alloc, &mut database, &samples)?;
-    database.resize(alloc, 0, Change::Shrink, 4)?;
+    let mut database = of_four_rows(alloc, 16)?;
+    take(alloc, &mut database, &[(20, units(1)), (40, units(2))])?;
+    database.resize(alloc, 0, Change::Shrink, 3)?;
     let Entry::Resize { archive: 0, old } = newest(&rt, &database) else {
         panic!(rt; "no resize")
     };
-    assert_eq!(rt; old.rows(), 6);
+    assert_eq!(rt; old.rows(), 4);
     assert_eq!(rt; old.row(0), [Cell::Known(1_000_000)].as_slice());
-    database.resize(alloc, 0, Change::Grow, 4)?;
-    assert_rows(&rt, &database, 50, 10, &[5_000_000, 6_000_000]);
     assert!(rt; database.archives() == 1);
-    assert_eq!(rt; database.archive(0).rows, 6);
+    assert_eq!(rt; database.archive(0).rows, 1);
+    assert_rows(&rt, &database, 40, 10, &[2_000_000]);
     database.revert()?;
-    assert!(rt; database.archives() == 1);
-    assert_eq!(rt; database.archive(0).rows, 2);
-    database.revert()?;
-    let rows = [
-        1_000_000, 2_000_000, 3_000_000, 4_000_000, 5_000_000, 6_000_000,
-    ];
+    let rows = [1_000_000, 1_000_000, 2_000_000, 2_000_000];
     assert_rows(&rt, &database, 10, 10, &rows);
-    let refused = [
-        (0, Change::Shrink, 6, Refusal::ShrinkTooFar),
-        (1, Change::Grow, 1, Refusal::NoSuchArchive),
-        (0, Change::Grow, 1_000_000, Refusal::BadRows),
-    ];
-    for (number, change, rows, wanted) in refused {
-        assert_eq!(rt; database.resize(alloc, number, change, rows), Err(wanted));
-    }
-    assert_eq!(rt; database.undoable(), 1);
     Ok(())
 }
 

@@ -210,4 +210,4 @@ module _ {S F : Type 0} (turn : S → Told → Turn S) (fault_line : F → List 
   refused_answers s0 s1 n a b c d line f p q k (Ok x) = refused_whole s0 s1 n a b d line f p (Appends-kept b c d (fault_line f) q k)
   refused_answers s0 s1 n a b c d line f p q k (Err e) =
       stopped_one turn s0 s1 n (n + 1) a d (record { line = line; is_short = p.0 }) true (fault_line f) p.1
-        (fault_line f, [], sym (append-nil (fault_line f)), kept-appends a b d (fault_line f) p.2 (Appends-kept b c d (fault_line f) q k)) refl
+      (fault_line f, [], sym (append-nil (fault_line f)), kept-appends a b d (fault_line f) p.2 (Appends-kept b c d (fault_line f) q k)) refl

@@ -137,7 +137,10 @@ fn is_flag(word: &str) -> bool
 }
 
 /// The command for words that begin with this one; none where such words are refused.
-pub(crate) fn command_named<'a>(alloc: Global, name: &str) -> Result<Option<Command<'a>>, AllocError>
+pub(crate) fn command_named<'a>(
+    alloc: Global,
+    name: &str,
+) -> Result<Option<Command<'a>>, AllocError>
     ensures { (rest : List (List ℕ)) → IfOk result (λ o. ServesOrRefuses o (name.now ∷ rest)) }
 {
     if name == "create" {

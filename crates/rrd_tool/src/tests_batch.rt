@@ -159,6 +159,44 @@ time: g\n\
     0,
 );
 
+// Minus half a millionth is zero, and minus one and a half is minus one.
+const TIES_BELOW_ZERO_IN_ROWS: Case = (
+    "ties_below_zero_in_rows",
+    "create --step 1 --start 0 DS:g:GAUGE:10:U:U RRA:AVERAGE:0.5:2:4\n\
+update 1:-0.000001 2:0 3:-0.000001 4:-0.000002\n\
+fetch AVERAGE -s 0 -e 3\n",
+    "time: g\n\
+2: 0.000000\n\
+4: -0.000001\n",
+    0,
+);
+
+// Four seconds at 8, three unknown, three at 5: 47 over 7.
+const UNKNOWN_SAMPLE_IN_A_STEP: Case = (
+    "unknown_sample_in_a_step",
+    "create --step 10 --start 0 DS:g:GAUGE:100:U:U RRA:LAST:0.5:1:4\n\
+update 4:8 7:U\n\
+update 10:5\n\
+fetch LAST -s 0 -e 9\n",
+    "time: g\n\
+10: 6.714286\n",
+    0,
+);
+
+// A template names sources in an order of its own; one that it leaves out gets unknown, though it had
+// a value before.
+const A_SOURCE_LEFT_OUT: Case = (
+    "a_source_left_out",
+    "create --step 10 --start 0 DS:a:GAUGE:100:U:U DS:b:GAUGE:100:U:U RRA:LAST:0.5:1:4\n\
+update --template b:a 10:5:6\n\
+update --template b 20:7\n\
+fetch LAST -s 0 -e 19\n",
+    "time: a b\n\
+10: 6.000000 5.000000\n\
+20: nan 7.000000\n",
+    0,
+);
+
 const COUNTER_REVERT: Case = (
     "counter_revert",
     "create --step 100 --start 0 DS:c:COUNTER:200:U:U RRA:AVERAGE:0.5:1:10\n\
@@ -367,6 +405,9 @@ fn what_is_printed(rt: HostRuntime) -> Result<(), Fail> {
         HALF_UNKNOWN_ROW,
         FOUR_FUNCTIONS,
         CATCH_UP_AND_TIES,
+        TIES_BELOW_ZERO_IN_ROWS,
+        UNKNOWN_SAMPLE_IN_A_STEP,
+        A_SOURCE_LEFT_OUT,
         COUNTER_REVERT,
         SHORT_JOURNAL,
     ];
@@ -403,14 +444,12 @@ fn now_is_the_batchs(rt: HostRuntime) -> Result<(), Fail> {
     Ok(())
 }
 
-// A text for each number from 0 to 63, its two digits between what comes before and after them.
+// A text for each number from 36 to 99, the number between what comes before and after it.
 fn sixty_four(alloc: Global, before: &str, after: &str) -> Result<Vec<u8>, AllocError> {
     let mut bytes = Vec::new(alloc);
-    for number in 0..64u8 {
-        bytes.extend_from_slice(before.as_bytes())?;
-        bytes.push(b'0'.saturating_add(number / 10))?;
-        bytes.push(b'0'.saturating_add(number % 10))?;
-        bytes.extend_from_slice(after.as_bytes())?;
+    for number in 36..100u8 {
+        let text = format!(in alloc; "{before}{number}{after}")?;
+        bytes.extend_from_slice(text.as_bytes())?;
     }
     Ok(bytes)
 }
@@ -423,22 +462,24 @@ fn joined(alloc: Global, parts: &[&[u8]]) -> Result<Vec<u8>, AllocError> {
     Ok(bytes)
 }
 
-// 64 sources with names of 19 letters, the values 1000 to 1063.
+// 64 sources with names of 19 letters, the values 1036 to 1099, and 64 archives of 136 to 199 rows.
 #[test]
-fn as_many_sources_as_can_be(rt: HostRuntime) -> Result<(), Fail> {
+fn as_many_sources_and_archives_as_can_be(rt: HostRuntime) -> Result<(), Fail> {
     let alloc = rt.alloc();
     let sources = sixty_four(alloc, " DS:abcdefghijklmnopq", ":GAUGE:100:U:U")?;
+    let archives = sixty_four(alloc, " RRA:LAST:0.5:1:1", "")?;
     let values = sixty_four(alloc, ":10", "")?;
     let lines = [
         b"create --step 10 --start 0".as_slice(),
         &sources,
-        b" RRA:LAST:0.5:1:2\nupdate 10",
+        &archives,
+        b"\nupdate 10",
         &values,
-        b"\nfetch LAST -s 0 -e 9\n",
+        b"\nfetch LAST -s 0 -e 9\nrevert\nlast\n",
     ];
     let names = sixty_four(alloc, " abcdefghijklmnopq", "")?;
     let cells = sixty_four(alloc, " 10", ".000000")?;
-    let text = [b"time:".as_slice(), &names, b"\n10:", &cells, b"\n"];
+    let text = [b"time:".as_slice(), &names, b"\n10:", &cells, b"\n0\n"];
     let lines = joined(alloc, &lines)?;
     let text = joined(alloc, &text)?;
     let batch = Batch {
@@ -447,6 +488,6 @@ fn as_many_sources_as_can_be(rt: HostRuntime) -> Result<(), Fail> {
         text: &text,
         refused: 0,
     };
-    assert_batch(&rt, alloc, "as_many_sources_as_can_be", batch);
+    assert_batch(&rt, alloc, "as_many_sources_and_archives_as_can_be", batch);
     Ok(())
 }

@@ -287,7 +287,12 @@ fn read_values(alloc: Global, number: u64, text: &str) -> Result<List<Given>, Li
 }
 
 /// The sample with this number: `time:value[:value..]` (rrdupdate).
-pub(crate) fn read_sample(alloc: Global, now: u64, number: u64, text: &str) -> Result<Sample, LineFault>
+pub(crate) fn read_sample(
+    alloc: Global,
+    now: u64,
+    number: u64,
+    text: &str,
+) -> Result<Sample, LineFault>
     ensures { Meets (or_fault Part.Sample number (sample_of now text.now)) result }
 {
     let (time, values) = or_fault(Part::Sample, number, cut(text))?;
