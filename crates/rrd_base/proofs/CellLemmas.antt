@@ -16,7 +16,7 @@ use Rattle.rrd_fold.specs.Parts.{seconds_to_steps}
 use Rattle.rrd_base.specs.Rules.{rows_rule}
 use Rattle.rrd_base.specs.History.{Archive, Content, Event, Sampled, Tuned, Resized, Moment, moment_after, moment_of, moment_at_end, seconds_of, steps_of, rows_of, rows_after, room, keep_last, filled_up, kept_rows, archive_of, content_listed, IsHistory, IsArchive}
 use Rattle.rrd_base.specs.Passed.{row_of_age, row_at}
-use Rattle.rrd_base.specs.Cells.{resolution, newest, reach, prefixes, greatest, reach_after, horizon, row, row_ending, row_by_time, time_of, rows_by_time, archive_by_time, content, IsMultiple, IsByTime, ShowsByTime, ListsByNumber}
+use Rattle.rrd_base.specs.Cells.{resolution, newest, reach, prefixes, greatest, reach_after, horizon, row, row_ending, row_by_time, time_of, rows_by_time, archive_by_time, content, IsMultiple, IsListed, ShowsByTime, ListsByNumber}
 use Rattle.rrd_base.proofs.HistoryLemmas.{last_rises, length-sources}
 use Rattle.rrd_base.proofs.RowLemmas.{length-keep_last, length-filled_up, room_first, room_last, row_by_age}
 use Rattle.rrd_base.proofs.ContentLemmas.{length-rows_of}
@@ -360,9 +360,9 @@ each_by_time base es n (archive ∷ archives) some h is =
     ap (λ rows. let a : Archive = record (archive_of base es (n, archive)) { rows = rows } in a ∷ map (archive_of base es) (enumerate_from (n + 1) archives)) (rows_are_by_time base n archive es some is.0 h)
     ∙ ap (λ rest. archive_by_time base es (n, archive) ∷ rest) (each_by_time base es (n + 1) archives some h is.1)
 
-pub is_by_time : (base : Content) (es : List Event) → IsByTime base es
+pub is_listed : (base : Content) (es : List Event) → IsListed base es
 unfolding content_listed
-is_by_time base es is h = ap (λ archives. let x : Content = record (content base es) { archives = archives } in x) (each_by_time base es 0 base.archives is.some_step h is.archives_are)
+is_listed base es is h = ap (λ archives. let x : Content = record (content base es) { archives = archives } in x) (each_by_time base es 0 base.archives is.some_step h is.archives_are)
 
 -- ---- each archive of a content
 

@@ -6,7 +6,9 @@ use Rattle.rrd_ring.specs.Rows.{HasWidth}
 use Rattle.rrd_base.specs.History.{Archive}
 use Rattle.rrd_base.specs.Entries.{Dropped, cells_in, cells_dropped, dropped, rows_between}
 use Rattle.rrd_base.specs.Store.{Saved, befores}
-use Rattle.rrd_base.specs.Validity.{IsRow, IsValidArchive}
+use Rattle.rrd_base.specs.Validity.{IsValidArchive}
+use Rattle.rrd_base.proofs.AllLemmas.{All-take}
+use Rattle.rrd_base.proofs.StoreLemmas.{rows_wide}
 
 -- rows of as many cells each
 pub cells_wide : (sources : ℕ) (rows : List (List Cell)) → HasWidth sources rows → cells_in rows ≡ length rows * sources
@@ -28,12 +30,7 @@ wide_at sources (s ∷ rest) (suc i) d h is = wide_at sources rest i d (omega ar
 
 -- ---- what an update drops of valid archives
 
-wide_front : (sources n : ℕ) (rows : List (List Cell)) → AllByRecursion (IsRow sources) rows → HasWidth sources (take n rows)
-wide_front sources zero rows is = tt
-wide_front sources (suc n) [] is = tt
-wide_front sources (suc n) (row ∷ rows) is = (is.0.one_each, wide_front sources n rows is.1)
-
 pub wide_dropped : (sources steps step from to : ℕ) (archives : List Archive) → AllByRecursion (IsValidArchive sources steps) archives → AllByRecursion (λ (old : Dropped). HasWidth sources old.rows) (map (dropped step from to) archives)
 wide_dropped sources steps step from to [] is = tt
 wide_dropped sources steps step from to (archive ∷ archives) is =
-    (wide_front sources (min (rows_between step archive.def from to) (length archive.rows)) archive.rows is.0.each_row, wide_dropped sources steps step from to archives is.1)
+    (All-take _ (min (rows_between step archive.def from to) (length archive.rows)) archive.rows (rows_wide sources archive.rows is.0.each_row), wide_dropped sources steps step from to archives is.1)

@@ -1,8 +1,7 @@
 -- What a database's journal needs, and keeps.
-use Rattle.std.proofs.Common.{◌≡◌, refl, sym, ◌∙◌, ap, subst, ℕ, zero, suc, ◌+◌, ◌-◌, ◌<◌, List, [], ◌∷◌, length, map, take, drop, get_or, arith, None, false}
+use Rattle.std.proofs.Common.{◌≡◌, refl, sym, ◌∙◌, ap, ℕ, zero, suc, ◌+◌, ◌-◌, ◌<◌, List, [], ◌∷◌, length, map, get_or, arith, None, false}
 use Rattle.std.specs.List.{fold, enumerate_from, AllByRecursion}
 use Rattle.rrd_fixed.specs.declared.cell.Cell.{Cell}
-use Rattle.rrd_ring.specs.Rows.{HasWidth, width}
 use Rattle.rrd_base.specs.declared.update.Sample.{Sample}
 use Rattle.rrd_base.specs.declared.update.Update.{Update}
 use Rattle.rrd_base.specs.declared.definition.DsDef.{DsDef}
@@ -13,10 +12,9 @@ use Rattle.rrd_base.specs.History.{Archive, Content, Event, Sampled, Moment, mom
 use Rattle.rrd_base.specs.Commands.{Updating, sample_of, moved}
 use Rattle.rrd_base.specs.Cells.{archive_by_time, content}
 use Rattle.rrd_base.specs.Entries.{Dropped, Held, put_back_each, with_held, with_rows_at}
-use Rattle.rrd_base.specs.Store.{CanPutBack, CanPutBackEach, functions}
+use Rattle.rrd_base.specs.Store.{functions}
 use Rattle.rrd_base.specs.Stored.{HasFunctions}
 use Rattle.rrd_base.specs.Updating.{last_time, template_of}
-use Rattle.rrd_base.specs.Validity.{IsValidArchive, IsRow, FitsArchive, FitEach}
 use Rattle.rrd_base.specs.Verdict.{verdict, no_sample}
 use Rattle.rrd_base.proofs.Accepted.{accepted_passes}
 
@@ -65,39 +63,6 @@ has_functions before after [] e is = tt
 has_functions before after (entry.Update b ∷ entries) e is = (is.0 ∙ sym e, has_functions before after entries e is.1)
 has_functions before after (entry.Tune held ∷ entries) e is = (tt, has_functions before after entries e is.1)
 has_functions before after (entry.Resize number old ∷ entries) e is = (tt, has_functions before after entries e is.1)
-
-pub All-take : {A : Type 0} (P : A → Type 0) (n : ℕ) (xs : List A) → AllByRecursion P xs → AllByRecursion P (take n xs)
-All-take P zero xs is = tt
-All-take P (suc n) [] is = tt
-All-take P (suc n) (x ∷ xs) is = (is.0, All-take P n xs is.1)
-
-pub All-drop : {A : Type 0} (P : A → Type 0) (n : ℕ) (xs : List A) → AllByRecursion P xs → AllByRecursion P (drop n xs)
-All-drop P zero xs is = is
-All-drop P (suc n) [] is = tt
-All-drop P (suc n) (x ∷ xs) is = All-drop P n xs is.1
-
-pub All-at : {A : Type 0} (P : A → Type 0) (xs : List A) (i : ℕ) (d : A) → i < length xs → AllByRecursion P xs → P (get_or xs i d)
-All-at P [] i d h is = absurd (omega arith)
-All-at P (x ∷ xs) zero d h is = is.0
-All-at P (x ∷ xs) (suc i) d h is = All-at P xs i d (omega arith) is.1
-
--- ---- what fits can be put back
-
-pub width_is : (sources : ℕ) (rows : List (List Cell)) → 0 < length rows → AllByRecursion (IsRow sources) rows → width rows ≡ sources
-width_is sources [] h is = absurd (omega arith)
-width_is sources (row ∷ rows) h is = is.0.one_each
-
-can_put_back : (step sources steps from to : ℕ) (archive : Archive) (old : Dropped) → IsValidArchive sources steps archive → FitsArchive step sources from to archive old → CanPutBack archive old
-can_put_back step sources steps from to archive old is fits = record {
-  few = omega (arith, fits.as_many, is.rows_are);
-  one_width = subst (λ n. HasWidth n old.rows) (sym (width_is sources archive.rows (omega (arith, is.rows_are, is.some_rows)) is.each_row)) fits.one_cell_each;
-}
-
-pub can_put_back_each : (step sources steps from to : ℕ) (archives : List Archive) (olds : List Dropped) → AllByRecursion (IsValidArchive sources steps) archives → FitEach step sources from to archives olds → CanPutBackEach archives olds
-can_put_back_each step sources steps from to [] [] is fits = tt
-can_put_back_each step sources steps from to [] (old ∷ olds) is fits = fits
-can_put_back_each step sources steps from to (archive ∷ archives) [] is fits = fits
-can_put_back_each step sources steps from to (archive ∷ archives) (old ∷ olds) is fits = (can_put_back step sources steps from to archive old is.0 fits.0, can_put_back_each step sources steps from to archives olds is.1 fits.1)
 
 -- ---- an accepted update has a sample
 

@@ -12,27 +12,9 @@ use Rattle.rrd_fold.specs.Bounds.{Consolidating}
 use Rattle.rrd_base.specs.declared.definition.DsDef.{DsDef}
 use Rattle.rrd_base.specs.History.{rates}
 use Rattle.rrd_base.specs.Validity.{AreAccepted, AreParts, IsRow}
+use Rattle.rrd_base.proofs.AllLemmas.{All-weaker}
 use Rattle.rrd_base.proofs.Bounded.{steps_keep}
 use Rattle.rrd_base.specs.Each.{map_each, with_step, anew, parts_in, AllOf}
-
--- ---- what holds of each item
-
--- of the item at a place
-pub All-at : {A : Type 0} (P : A → Type 0) (xs : List A) (i : ℕ) (d : A) → AllByRecursion P xs → i < length xs → P (get_or xs i d)
-All-at P [] i d is h = absurd (omega arith)
-All-at P (x ∷ xs) zero d is h = is.0
-All-at P (x ∷ xs) (suc i) d is h = All-at P xs i d is.1 (omega arith)
-
--- of one item more that was written
-pub All-take-set : {A : Type 0} (P : A → Type 0) (xs : List A) (i : ℕ) (x : A) → i < length xs → AllByRecursion P (take i xs) → P x → AllByRecursion P (take (suc i) (set xs i x))
-All-take-set P [] i x h is here = absurd (omega arith)
-All-take-set P (y ∷ xs) zero x h is here = (here, tt)
-All-take-set P (y ∷ xs) (suc i) x h is here = (is.0, All-take-set P xs i x (omega arith) is.1 here)
-
--- something that follows from it
-pub All-weaker : {A : Type 0} (P Q : A → Type 0) (xs : List A) → ((x : A) → P x → Q x) → AllByRecursion P xs → AllByRecursion Q xs
-All-weaker P Q [] h is = tt
-All-weaker P Q (x ∷ xs) h is = (h x is.0, All-weaker P Q xs h is.1)
 
 -- ---- a function of two lists
 

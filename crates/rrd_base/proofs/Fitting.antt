@@ -4,7 +4,6 @@ use Rattle.std.specs.Prelude.{is_none}
 use Rattle.std.proofs.lemmas.Bool.{cases_Bool, cond_both, or_parts, not-false, both_ways, leb-false, eqb-false, eq-eqb}
 use Rattle.std.proofs.lemmas.List.{length-map, length-take}
 use Rattle.std.specs.List.{fold, enumerate_from, list_any, AllByRecursion}
-use Rattle.rrd_fixed.specs.declared.cell.Cell.{Cell}
 use Rattle.rrd_fixed.specs.declared.raw.Raw.{Raw}
 use Rattle.rrd_fixed.specs.declared.name.Name.{Name}
 use Rattle.rrd_base.specs.declared.definition.DsDef.{DsDef}
@@ -17,6 +16,8 @@ use Rattle.rrd_base.specs.Entries.{Held, Entry, Updated, WasTuned, WasResized, r
 use Rattle.rrd_base.specs.Survivors.{Action, Changed, Reverted, Kept, is_accepted, changed, reverted, step, AllUndo}
 use Rattle.rrd_base.proofs.Accepted.{accepted_passes, accepted_history}
 use Rattle.rrd_base.proofs.Undoing.{comes_back}
+use Rattle.rrd_base.proofs.AllLemmas.{All-take}
+use Rattle.rrd_base.proofs.StoreLemmas.{rows_wide}
 use Rattle.rrd_base.proofs.Runs.{runs_agree, is_none-true}
 use Rattle.rrd_base.proofs.Moving.{listed_sound, moved_is, moved_depth, settings_of-content}
 use Rattle.std.proofs.lemmas.List.FromFn.{length-enumerate_from}
@@ -32,22 +33,13 @@ use Rattle.rrd_fixed.specs.Names.{same_name}
 
 -- ---- an update's entry
 
-one_cell_each : (n k : ℕ) (rows : List (List Cell)) → AllByRecursion (IsRow n) rows → AllByRecursion (λ (row : List Cell). length row ≡ n) (take k rows)
-one_cell_each n zero rows h = tt
-one_cell_each n (suc k) [] h = tt
-one_cell_each n (suc k) (row ∷ rows) h = (h.0.one_each, one_cell_each n k rows h.1)
-
-all_cells : (n : ℕ) (rows : List (List Cell)) → AllByRecursion (IsRow n) rows → AllByRecursion (λ (row : List Cell). length row ≡ n) rows
-all_cells n [] h = tt
-all_cells n (row ∷ rows) h = (h.0.one_each, all_cells n rows h.1)
-
 archive_fits : (base : Content) (sources end : ℕ) (list : List Reading) (index : ℕ) (archive : Archive) → IsValidArchive sources (base.last / base.step) archive → FitsArchive base.step sources base.last end (archive_of base (map Sampled list) (index, archive)) (dropped base.step base.last end archive)
 archive_fits base sources end list index archive is =
     let m = min (rows_between base.step archive.def base.last end) (length archive.rows) in
     record {
       one_part_each = is.parts_are.one_each;
       as_many = omega (arith, length-take m archive.rows, rows_of_samples index archive.def.rows list, is.rows_are);
-      one_cell_each = one_cell_each sources m archive.rows is.each_row;
+      one_cell_each = All-take _ m archive.rows (rows_wide sources archive.rows is.each_row);
     }
 
 each_fits : (base : Content) (sources end : ℕ) (list : List Reading) (index : ℕ) (archives : List Archive) → AllByRecursion (IsValidArchive sources (base.last / base.step)) archives → FitEach base.step sources base.last end (map (archive_of base (map Sampled list)) (enumerate_from index archives)) (map (dropped base.step base.last end) archives)
@@ -256,7 +248,7 @@ resize_fits base archive change rows is h =
     ∙ changed_there archive new 0 archive settings.rows (omega arith) there in
     record {
       there = omega arith;
-      one_cell_each = all_cells (length base.sources) (rows_at base.archives archive) (rows_at_all (length base.sources) (base.last / base.step) archive base.archives is.archives_are);
+      one_cell_each = rows_wide (length base.sources) (rows_at base.archives archive) (rows_at_all (length base.sources) (base.last / base.step) archive base.archives is.archives_are);
       another = λ e. another change old rows p.1.0 p.1.1.0 (sym was ∙ e ∙ is_now);
     }
 

@@ -1,5 +1,5 @@
 -- What a history leaves of a valid content.
-use Rattle.std.proofs.Common.{subst, ℕ, zero, suc, ◌+◌, ◌-◌, ◌*◌, ◌/◌, ◌%◌, ◌<◌, ◌≤◌, List, [], ◌∷◌, ◌++◌, length, map, drop, replicate}
+use Rattle.std.proofs.Common.{subst, ℕ, ◌+◌, ◌-◌, ◌*◌, ◌/◌, ◌%◌, ◌<◌, ◌≤◌, List, [], ◌∷◌, ◌++◌, length, map, replicate}
 use Rattle.std.proofs.lemmas.List.{length-replicate}
 use Rattle.std.specs.List.{fold, enumerate_from, AllByRecursion}
 use Rattle.rrd_fixed.specs.declared.cell.Cell.{Cell}
@@ -10,14 +10,10 @@ use Rattle.rrd_base.specs.History.{Archive, Content, Event, moment_of, moment_at
 use Rattle.rrd_base.proofs.HistoryLemmas.{length-seconds_of, length-steps_of}
 use Rattle.rrd_base.proofs.ContentLemmas.{length-kept_rows}
 use Rattle.rrd_base.specs.Validity.{AreParts, IsRow, IsValidArchive, IsValid}
+use Rattle.rrd_base.proofs.AllLemmas.{All-drop}
 use Rattle.rrd_base.proofs.Kept.{All-append, Kept, kept}
 use Rattle.rrd_base.proofs.Bounded.{All-replicate, steps_keep, rows_keep}
 use Rattle.rrd_base.specs.Rules.{rows_rule}
-
-All-drop : {A : Type 0} (P : A → Type 0) (n : ℕ) (xs : List A) → AllByRecursion P xs → AllByRecursion P (drop n xs)
-All-drop P zero xs h = h
-All-drop P (suc n) [] h = tt
-All-drop P (suc n) (x ∷ xs) h = All-drop P n xs h.1
 
 pub is_archive : {sources steps : ℕ} (archive : Archive) → IsValidArchive sources steps archive → IsArchive archive
 is_archive archive is = record { some_steps = is.some_steps; some_rows = is.some_rows; rows_are = is.rows_are }

@@ -18,7 +18,9 @@ use Rattle.rrd_base.specs.Tuned.{held_of}
 use Rattle.rrd_base.specs.Updating.{last_time}
 use Rattle.rrd_base.specs.Validity.{IsValid, Fits, IsValidDatabase}
 use Rattle.rrd_base.specs.Verdict.{verdict}
-use Rattle.rrd_base.proofs.DatabaseLemmas.{moved_last, functions_moved, functions_put_back, functions_resized, functions_tuned, has_functions, All-take, All-drop, All-at, can_put_back_each}
+use Rattle.rrd_base.proofs.DatabaseLemmas.{moved_last, functions_moved, functions_put_back, functions_resized, functions_tuned, has_functions}
+use Rattle.rrd_base.proofs.AllLemmas.{All-take, All-drop, All-at}
+use Rattle.rrd_base.proofs.PutBack.{can_put_back_each}
 use Rattle.rrd_base.proofs.Fitting.{database_stays, revert_valid}
 use Rattle.rrd_base.proofs.JournalLemmas.{item_at, journal_push, journal_pop}
 use Rattle.rrd_base.proofs.Kept.{All-append}
@@ -48,7 +50,7 @@ newest now items e is has h =
     let pop : journal_of items ≡ entry_of e ∷ journal_of rest = journal_pop entry_of items e h in
     let whole : IsValidDatabase now (entry_of e ∷ journal_of rest) = subst (IsValidDatabase now) pop is in
     let within : length items - 1 < length items = slice_get_within items (length items - 1) e (sym h) in
-    let here : HasFunctions now.archives e = subst (HasFunctions now.archives) (item_at items (length items - 1) e h) (All-at (HasFunctions now.archives) items (length items - 1) e within has) in
+    let here : HasFunctions now.archives e = subst (HasFunctions now.archives) (item_at items (length items - 1) e h) (All-at (HasFunctions now.archives) items (length items - 1) e has within) in
     record {
       newest_is = pop;
       can = can_undo now e is.now_is here whole.journal_is.0;

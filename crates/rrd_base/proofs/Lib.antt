@@ -15,6 +15,7 @@ pub mod Held
 pub mod Named
 pub mod Staying
 pub mod Fitting
+pub mod AllLemmas
 pub mod EachLemmas
 pub mod Created
 pub mod StoreLemmas

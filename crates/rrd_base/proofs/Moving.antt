@@ -7,7 +7,7 @@ use Rattle.std.specs.List.{fold, enumerate_from}
 use Rattle.rrd_base.specs.declared.definition.DsDef.{DsDef}
 use Rattle.rrd_base.specs.History.{Archive, Content, Event, Sampled, Tuned, Resized, Moment, moment_after, moment_of, moment_at_end, rows_after, archive_of, content_listed, IsHistory, IsBase}
 use Rattle.rrd_base.specs.Cells.{GoesOnFromContent, StaysBase, archive_by_time, content}
-use Rattle.rrd_base.proofs.CellLemmas.{is_by_time}
+use Rattle.rrd_base.proofs.CellLemmas.{is_listed}
 use Rattle.rrd_base.proofs.ContentLemmas.{listed-append, IsBase-listed}
 use Rattle.rrd_base.specs.Commands.{Command, Settings, settings_of, rows_of_archives, settings_after, events, events_of, moved, moved_listed}
 use Rattle.rrd_base.specs.Verdict.{verdict}
@@ -105,18 +105,18 @@ survivors_history base (command ∷ commands) h =
 -- ---- a history in two pieces
 
 pub stays_base : (base : Content) (events : List Event) → StaysBase base events
-stays_base base events is h = subst IsBase (is_by_time base events is h) (IsBase-listed base events is h)
+stays_base base events is h = subst IsBase (is_listed base events is h) (IsBase-listed base events is h)
 
 pub goes_on : (base : Content) (first second : List Event) → GoesOnFromContent base first second
 goes_on base first second is h k =
-    sym (is_by_time base (first ++ second) is (IsHistory-append (moment_of base) first second h k))
+    sym (is_listed base (first ++ second) is (IsHistory-append (moment_of base) first second h k))
     ∙ listed-append base first second is h k
-    ∙ ap (λ now. content_listed now second) (is_by_time base first is h)
-    ∙ is_by_time (content base first) second (stays_base base first is h) k
+    ∙ ap (λ now. content_listed now second) (is_listed base first is h)
+    ∙ is_listed (content base first) second (stays_base base first is h) k
 
 -- a content moved by an accepted command, by list and by time
 pub moved_is : (base : Content) (command : Command) → IsSound base → verdict base command ≡ None → moved_listed base command ≡ moved base command
-moved_is base command sound h = is_by_time base (events (settings_of base) command) sound.is_base (accepted_history base command h)
+moved_is base command sound h = is_listed base (events (settings_of base) command) sound.is_base (accepted_history base command h)
 
 pub moves : (base : Content) (commands : List Command) (command : Command) → Moves base commands command
 moves base commands command sound h =

@@ -14,7 +14,8 @@ use Rattle.rrd_base.specs.Resized.{HasFewRows}
 use Rattle.rrd_base.specs.Validity.{IsValid, IsValidArchive}
 use Rattle.rrd_base.specs.Verdict.{verdict}
 use Rattle.rrd_base.proofs.Accepted.{accepted_passes}
-use Rattle.rrd_base.proofs.DatabaseLemmas.{All-at, width_is}
+use Rattle.rrd_base.proofs.AllLemmas.{All-at}
+use Rattle.rrd_base.proofs.StoreLemmas.{width_is}
 use Rattle.rrd_base.proofs.Passing.{base_of_valid}
 use Rattle.rrd_base.proofs.Quiet.{content_resized, made, rows_none, row_parts_same, resized_other, resized_elsewhere}
 
@@ -155,7 +156,7 @@ pub contents_resized : (now : Content) (k : ℕ) (rows : List (List Cell)) (d : 
 contents_resized now k rows d is there e =
     let n = length rows in
     let archive = get_or now.archives k d in
-    let one : IsValidArchive (length now.sources) (now.last / now.step) archive = All-at (IsValidArchive (length now.sources) (now.last / now.step)) now.archives k d there is.archives_are in
+    let one : IsValidArchive (length now.sources) (now.last / now.step) archive = All-at (IsValidArchive (length now.sources) (now.last / now.step)) now.archives k d is.archives_are there in
     let w = width_is (length now.sources) archive.rows (omega (arith, one.rows_are, one.some_rows)) one.each_row in
     let base = base_of_valid now is in
     let same : rows ≡ newest_rows n archive.rows = e ∙ ap (newest_rows n) (sym (rows_of_place now.archives k d there)) in

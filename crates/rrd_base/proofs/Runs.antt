@@ -9,7 +9,7 @@ use Rattle.rrd_base.specs.Commands.{Command, moved}
 use Rattle.rrd_base.specs.Verdict.{verdict}
 use Rattle.rrd_base.specs.Entries.{Entry, entry, undone, IsSound}
 use Rattle.rrd_base.specs.Survivors.{Action, Changed, Reverted, State, Kept, survived, is_accepted, entries, with_change, without_last, after, reverted, changed, step, AllAccepted, AllUndo, Stands, RunsAgree}
-use Rattle.rrd_base.proofs.CellLemmas.{is_by_time}
+use Rattle.rrd_base.proofs.CellLemmas.{is_listed}
 use Rattle.rrd_base.proofs.Moving.{moves, moved_sound}
 use Rattle.rrd_base.proofs.Quiet.{content_nil}
 use Rattle.rrd_base.proofs.Undoing.{comes_back}
@@ -31,7 +31,7 @@ is_none-true (Some x) h = absurd cc
 -- ---- what survived
 
 pub survived_nil : (base : Content) → IsSound base → survived base [] ≡ base
-survived_nil base sound = sym (is_by_time base [] sound.is_base tt) ∙ content_nil base sound.is_base
+survived_nil base sound = sym (is_listed base [] sound.is_base tt) ∙ content_nil base sound.is_base
 
 pub survived_sound : (base : Content) (commands : List Command) → IsSound base → AllAccepted base commands → IsSound (survived base commands)
 survived_sound base [] sound h = subst IsSound (sym (survived_nil base sound)) sound

@@ -21,7 +21,8 @@ use Rattle.rrd_base.specs.History.{Taken, Sampled, moment_after, rates, samples,
 use Rattle.rrd_base.specs.Slow.{event_of, reading_of, taken_of, AreInOrder, latest, size_of, function_of, cell_of, rule_of, IsGroup}
 use Rattle.rrd_base.specs.Validity.{AreAccepted, AreParts, IsPart, IsRow}
 use Rattle.rrd_base.proofs.Bounded.{steps_keep, rows_keep}
-use Rattle.rrd_base.proofs.EachLemmas.{All-weaker, rate_of}
+use Rattle.rrd_base.proofs.EachLemmas.{rate_of}
+use Rattle.rrd_base.proofs.AllLemmas.{All-weaker}
 use Rattle.rrd_base.proofs.Kept.{Keeps}
 use Rattle.rrd_fold.proofs.GroupLemmas.{map_range_same}
 

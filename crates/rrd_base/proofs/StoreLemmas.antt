@@ -8,7 +8,7 @@ use Rattle.rrd_fold.specs.declared.function.Function.{Function}
 use Rattle.rrd_fold.specs.Groups.{finished}
 use Rattle.rrd_fold.specs.Parts.{Part, nothing, with_cell, with_each, row_cell}
 use Rattle.rrd_fold.specs.Bounds.{Consolidating}
-use Rattle.rrd_ring.specs.Rows.{width}
+use Rattle.rrd_ring.specs.Rows.{HasWidth, width}
 use Rattle.rrd_base.specs.declared.definition.RraDef.{RraDef}
 use Rattle.rrd_base.specs.Rules.{rows_rule}
 use Rattle.rrd_base.specs.History.{Archive}
@@ -19,7 +19,8 @@ use Rattle.rrd_base.proofs.PassedLemmas.{archive_step_within, archive_step_filli
 use Rattle.rrd_base.proofs.RowLemmas.{length-keep_last}
 use Rattle.rrd_base.proofs.Kept.{All-append, kept}
 use Rattle.rrd_base.proofs.Bounded.{rows_keep}
-use Rattle.rrd_base.proofs.EachLemmas.{All-weaker, parts_in-with_step, parts_in-anew, AllOf-with_step}
+use Rattle.rrd_base.proofs.AllLemmas.{All-drop, All-weaker}
+use Rattle.rrd_base.proofs.EachLemmas.{parts_in-with_step, parts_in-anew, AllOf-with_step}
 
 -- an archive of these preparations
 abbrev pub shown : RraDef → List Consolidating → List (List Cell) → Archive
@@ -79,17 +80,15 @@ preps_close limit [] step is = tt
 preps_close limit (prep ∷ preps) [] is = All-weaker _ _ (prep ∷ preps) (λ p h. omega (arith, h)) (preps_fit limit limit (prep ∷ preps) (omega arith) is)
 preps_close limit (prep ∷ preps) (cell ∷ step) is = (one_more limit prep.function prep.part cell is.0, preps_close limit preps step is.1)
 
--- a row is as wide as there are sources
+-- rows are as wide as there are sources
+pub rows_wide : (sources : ℕ) (rows : List (List Cell)) → AllByRecursion (IsRow sources) rows → HasWidth sources rows
+rows_wide sources rows is = All-weaker _ _ rows (λ row of. of.one_each) is
+
 pub width_is : (sources : ℕ) (rows : List (List Cell)) → 0 < length rows → AllByRecursion (IsRow sources) rows → width rows ≡ sources
 width_is sources [] some is = absurd (omega arith)
 width_is sources (row ∷ rows) some is = is.0.one_each
 
 -- ---- what is valid stays valid
-
-All-drop : {A : Type 0} (P : A → Type 0) (n : ℕ) (xs : List A) → AllByRecursion P xs → AllByRecursion P (drop n xs)
-All-drop P zero xs h = h
-All-drop P (suc n) [] h = tt
-All-drop P (suc n) (x ∷ xs) h = All-drop P n xs h.1
 
 pub passed_valid : (sources before : ℕ) (steps : List (List Cell)) (archive : Archive) → IsValidArchive sources before archive → AllByRecursion (IsRow sources) steps → IsValidArchive sources (before + length steps) (archive_passed sources before steps archive)
 unfolding archive_passed

@@ -120,8 +120,8 @@ abbrev pub StaysBase : Content → List Event → Type 0
 StaysBase base events = IsBase base → IsHistory (moment_of base) events → IsBase (content base events)
 
 -- the content's rows by list and by time are the same
-abbrev pub IsByTime : Content → List Event → Type 0
-IsByTime base events = IsBase base → IsHistory (moment_of base) events → content_listed base events ≡ content base events
+abbrev pub IsListed : Content → List Event → Type 0
+IsListed base events = IsBase base → IsHistory (moment_of base) events → content_listed base events ≡ content base events
 
 -- a time at which rows of this resolution end
 abbrev pub IsMultiple : ℤ → ℕ → Type 0

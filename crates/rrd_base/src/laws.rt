@@ -9,7 +9,7 @@ ghost use Rattle.rrd_base.specs.Survivors.{Action, Moves, RunsAgree};
 ghost use Rattle.rrd_base.specs.Validity.{StaysValid, DatabaseStays, RevertTakesBack, RunsStay};
 ghost use Rattle.rrd_base.specs.declared.create.CreateSpec.{CreateSpec};
 ghost use Rattle.rrd_base.specs.Creating.{CreatedIsValid};
-ghost use Rattle.rrd_base.specs.Cells.{GoesOnFromContent, IsByTime, ListsByNumber, ShowsByTime, StaysBase};
+ghost use Rattle.rrd_base.specs.Cells.{GoesOnFromContent, IsListed, ListsByNumber, ShowsByTime, StaysBase};
 ghost use Rattle.rrd_base.specs.Worked as worked;
 ghost use Rattle.rrd_base.specs.WorkedCommands as commands;
 ghost use Rattle.rrd_base.specs.WorkedTimes as times;
@@ -50,8 +50,8 @@ pub fn cells_by_time()
 {}
 
 /// A content's rows, by list and by time, are the same.
-pub fn content_is_by_time()
-    ensures { (base : Content) (events : List Event) → IsByTime base events }
+pub fn content_is_listed()
+    ensures { (base : Content) (events : List Event) → IsListed base events }
 {}
 
 /// The steps and rows of a history, each by itself.

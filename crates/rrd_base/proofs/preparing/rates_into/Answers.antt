@@ -4,7 +4,8 @@ use Rattle.rrd_fixed.specs.declared.raw.Raw.TheVariants.{Unknown}
 use Rattle.rrd_fixed.specs.Rate.{IsAccepted, IsBounded}
 use Rattle.rrd_base.specs.declared.definition.DsDef.{DsDef}
 use Rattle.rrd_base.specs.History.{rates}
-use Rattle.rrd_base.proofs.EachLemmas.{All-take-set, accepted_at, rate_of, rates_more}
+use Rattle.rrd_base.proofs.AllLemmas.{All-take-set}
+use Rattle.rrd_base.proofs.EachLemmas.{accepted_at, rate_of, rates_more}
 use Rattle.rrd_base.proofs.preparing.rates_into.Goals as goal
 
 pub rate-requires-clause-old_accepted : goal.rate-requires-clause-old_accepted

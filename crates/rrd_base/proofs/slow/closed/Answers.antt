@@ -1,7 +1,7 @@
 use Rattle.std.proofs.Common.{◌≡◌, sym, ◌∙◌, ap, subst, ◌≤◌, length, get_or, arith}
 use Rattle.rrd_base.specs.Slow.{function_of, size_of}
 use Rattle.rrd_base.specs.Validity.{AreParts, IsPart}
-use Rattle.rrd_base.proofs.EachLemmas.{All-at}
+use Rattle.rrd_base.proofs.AllLemmas.{All-at}
 use Rattle.rrd_base.proofs.SlowLemmas.{parts_weaker}
 use Rattle.rrd_base.proofs.slow.closed.Goals as goal
 

@@ -5,7 +5,7 @@ use Rattle.std.specs.Vec.{with_items}
 use Rattle.rrd_fold.specs.Parts.{nothing, with_each}
 use Rattle.rrd_base.specs.Validity.{AreParts, IsRow}
 use Rattle.rrd_base.proofs.Bounded.{more}
-use Rattle.rrd_base.proofs.EachLemmas.{All-at}
+use Rattle.rrd_base.proofs.AllLemmas.{All-at}
 use Rattle.rrd_base.proofs.SlowLemmas.{fold_more}
 use Rattle.rrd_base.proofs.slow.parts_of.Goals as goal
 

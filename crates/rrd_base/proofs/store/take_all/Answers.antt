@@ -2,7 +2,8 @@ use Rattle.std.proofs.Common.{◌≡◌, ℕ, ◌∙◌, ap, subst, suc, ◌+◌
 use Rattle.std.specs.List.{AllByRecursion}
 use Rattle.rrd_base.specs.Passed.{archive_passed}
 use Rattle.rrd_base.specs.Validity.{IsValidArchive}
-use Rattle.rrd_base.proofs.EachLemmas.{All-take-set, map_more, map_next}
+use Rattle.rrd_base.proofs.AllLemmas.{All-take-set}
+use Rattle.rrd_base.proofs.EachLemmas.{map_more, map_next}
 use Rattle.rrd_base.proofs.store.take_all.Goals as goal
 
 pub loop-i-preserved : goal.loop-i-preserved

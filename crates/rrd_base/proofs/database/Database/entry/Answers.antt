@@ -4,7 +4,7 @@ use Rattle.std.specs.Option.{option_copied}
 use Rattle.std.proofs.lemmas.Bool.{lt-ltb}
 use Rattle.std.proofs.lemmas.List.{length-reverse, length-map}
 use Rattle.std.proofs.lemmas.Option.{slice_get_within}
-use Rattle.rrd_base.proofs.DatabaseLemmas.{All-at}
+use Rattle.rrd_base.proofs.AllLemmas.{All-at}
 use Rattle.rrd_base.specs.Stored.{HasFunctions, entry_of, journal_of}
 use Rattle.rrd_base.specs.Survivors.{Kept}
 use Rattle.rrd_base.proofs.JournalLemmas.{item_at, journal_at}
@@ -33,4 +33,4 @@ returns-clause-functions c =
     let here : Some e ≡ slice_get items at
     = sym (ap option_copied c.unwrap.ensures) ∙ c.nth_back.ensures ∙ ap (λ b. cond b (slice_get items at) None) (lt-ltb k (length items) within) in
     subst (λ (d : Kept). HasFunctions d.now.archives e) c.self.view_is
-    (subst (HasFunctions archives) (item_at items at e here) (All-at (HasFunctions archives) items at e (slice_get_within items at e (sym here)) c.self.invariant.functions_stay))
+    (subst (HasFunctions archives) (item_at items at e here) (All-at (HasFunctions archives) items at e c.self.invariant.functions_stay (slice_get_within items at e (sym here))))
