@@ -375,7 +375,7 @@ shown_is f n (first ∷ archives) zero archive shown h k =
 shown_is f n (first ∷ archives) (suc index) archive shown h k =
     ap (λ i. f (i, archive)) {x = n + suc index} {y = n + 1 + index} (omega arith) ∙ shown_is f (n + 1) archives index archive shown h k
 
-one_of : (archives : List Archive) (index : ℕ) (archive : Archive) → AllByRecursion IsArchive archives → slice_get archives index ≡ Some archive → IsArchive archive
+pub one_of : (archives : List Archive) (index : ℕ) (archive : Archive) → AllByRecursion IsArchive archives → slice_get archives index ≡ Some archive → IsArchive archive
 one_of [] index archive is h = absurd cc
 one_of (first ∷ archives) zero archive is h = let here : first ≡ archive = cc in subst IsArchive here is.0
 one_of (first ∷ archives) (suc index) archive is h = one_of archives index archive is.1 h

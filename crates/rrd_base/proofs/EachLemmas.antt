@@ -1,7 +1,7 @@
 -- Item by item, and a loop's step.
 use Rattle.std.proofs.Common.{◌≡◌, refl, ◌∙◌, ap, subst, ℕ, zero, suc, ◌+◌, ◌<◌, ◌≤◌, List, [], ◌∷◌, ◌++◌, length, take, drop, map, get_or, set, replicate, arith, take_all, append-nil}
 use Rattle.std.proofs.lemmas.List.{drop_all}
-use Rattle.std.specs.List.{fold, AllByRecursion}
+use Rattle.std.specs.List.{fold}
 use Rattle.rrd_fixed.specs.declared.cell.Cell.{Cell}
 use Rattle.rrd_fixed.specs.declared.raw.Raw.{Raw}
 use Rattle.rrd_fixed.specs.Rate.{rate, IsAccepted}
@@ -12,7 +12,6 @@ use Rattle.rrd_fold.specs.Bounds.{Consolidating}
 use Rattle.rrd_base.specs.declared.definition.DsDef.{DsDef}
 use Rattle.rrd_base.specs.History.{rates}
 use Rattle.rrd_base.specs.Validity.{AreAccepted, AreParts, IsRow}
-use Rattle.rrd_base.proofs.AllLemmas.{All-weaker}
 use Rattle.rrd_base.proofs.Bounded.{steps_keep}
 use Rattle.rrd_base.specs.Each.{map_each, with_step, anew, parts_in, AllOf}
 
@@ -99,18 +98,7 @@ rates_more (source ∷ sources) interval (old ∷ olds) (new ∷ news) (y ∷ ce
 rates_more (source ∷ sources) interval (old ∷ olds) (new ∷ news) (y ∷ cells) (suc i) d r s cell a b k m e =
     ap (λ zs. rate_of interval source old new ∷ zs) (rates_more sources interval olds news cells i d r s cell (omega arith) (omega arith) (omega arith) (omega arith) e)
 
-pub rates_all : (sources : List DsDef) (interval : ℕ) (olds news : List Raw) (cells : List Cell) (i : ℕ) → length sources ≤ i → length olds ≤ i → length news ≤ i → length cells ≤ i → rates (take i sources) interval (take i olds) (take i news) ++ drop i cells ≡ rates sources interval olds news
-rates_all sources interval olds news cells i a b k m =
-    ap (λ zs. rates zs interval (take i olds) (take i news) ++ drop i cells) (take_all i sources a)
-    ∙ ap (λ zs. rates sources interval zs (take i news) ++ drop i cells) (take_all i olds b)
-    ∙ ap (λ zs. rates sources interval olds zs ++ drop i cells) (take_all i news k)
-    ∙ ap (λ zs. rates sources interval olds news ++ zs) (drop_all i cells m) ∙ append-nil (rates sources interval olds news)
-
 -- ---- preparations
-
--- seconds fit that leave no more than a step's
-pub parts_fit : (function : Function) (sources passed more : ℕ) (parts : List Part) → AreParts function sources passed parts → passed + more ≤ 1000000 → AllByRecursion (λ (p : Part). p.known + more ≤ 1000000) parts
-parts_fit function sources passed more parts is h = All-weaker _ _ parts (λ p of. omega (arith, of.few)) is.each
 
 -- the parts of preparations of one function
 pub parts_in-with_step : (function : Function) (preps : List Consolidating) (step : List Cell) → AllOf function preps → parts_in (map_each with_step preps step) ≡ with_each function (parts_in preps) step
@@ -134,10 +122,6 @@ AllOf-with_step function (prep ∷ preps) (cell ∷ step) of = (of.0, AllOf-with
 pub AllOf-anew : (function : Function) (preps : List Consolidating) → AllOf function preps → AllOf function (map anew preps)
 AllOf-anew function [] of = tt
 AllOf-anew function (prep ∷ preps) of = (of.0, AllOf-anew function preps of.1)
-
--- no more known cells than there were cells
-pub parts_known : (function : Function) (sources passed : ℕ) (parts : List Part) → AreParts function sources passed parts → AllByRecursion (λ (p : Part). p.known ≤ passed) parts
-parts_known function sources passed parts is = All-weaker _ _ parts (λ p of. of.few) is.each
 
 -- the parts after more seconds of a step
 pub parts_more : (step sources passed more : ℕ) (parts : List Part) (row : List Cell) → 0 < step → passed + more ≤ step → AreParts Average sources passed parts → IsRow sources row → AreParts Average sources (passed + more) (fold (with_each Average) parts (replicate more row))

@@ -11,7 +11,7 @@ use Rattle.rrd_base.specs.Rules.{rows_rule}
 use Rattle.rrd_base.specs.History.{Archive, Content, Reading, Sampled, moment_of, rates, samples, second, seconds_of, steps_of, parts_of, rows_of, row_parts_of, keep_last, filled_up, kept_rows, archive_of, content_listed, IsArchive, IsBase}
 use Rattle.rrd_base.specs.Passed.{archive_passed, passed}
 use Rattle.rrd_fold.proofs.GroupLemmas.{finished_nil, unfinished_nil, finished_within, unfinished_within, finished_filling, unfinished_filling, next_divides, next_divides_not, next_ahead, goes_on, length-finished, reached_before}
-use Rattle.rrd_base.proofs.RowLemmas.{keep_last_past, keep_all, split_last, length-keep_last}
+use Rattle.rrd_base.proofs.RowLemmas.{filled_already, keep_last_past, keep_all, split_last, length-keep_last}
 
 -- to keep the last of a list twice is to keep them once
 keep_last-append : {A : Type 0} (n : ℕ) (xs ys : List A) → n ≤ length xs → keep_last n (xs ++ ys) ≡ keep_last n (keep_last n xs ++ ys)
@@ -76,9 +76,6 @@ seconds_of_sample : (base : Content) (sample : Reading) → base.last < sample.t
 unfolding seconds_of
 seconds_of_sample base sample h =
     map_same (second (samples (moment_of base) (Sampled sample ∷ []))) (rates base.sources (sample.time - base.last) base.raws sample.raws) (base.last + 1) (sample.time - base.last) (λ i low high. rw (le-leb i sample.time (omega arith)))
-
-filled_already : {A : Type 0} (n : ℕ) (u : A) (xs : List A) → length xs ≡ n → filled_up n u xs ≡ xs
-filled_already n u xs h = ap (λ m. replicate m u ++ xs) {x = n - length xs} {y = 0} (omega arith)
 
 archive_of_sample : (base : Content) (index : ℕ) (archive : Archive) (sample : Reading) → IsArchive archive → base.last < sample.time → archive_of base (Sampled sample ∷ []) (index, archive) ≡ archive_passed (length base.sources) (base.last / base.step) (steps_of base (Sampled sample ∷ [])) archive
 unfolding archive_passed rows_of row_parts_of kept_rows
@@ -194,12 +191,3 @@ passed-nil base is =
     let e : base.last + 0 ≡ base.last = omega arith in
     let split = next_ahead base.last base.step is.some_step in
     passed_within base [] is (omega arith) ∙ ap (λ n. with_passed base n base.parts base.archives) e
-
--- the step of a content, and its last time, after seconds
-pub passed-step : (base : Content) (xs : List (List Cell)) → (passed base xs).step ≡ base.step
-unfolding passed
-passed-step base xs = refl
-
-pub passed-last : (base : Content) (xs : List (List Cell)) → (passed base xs).last ≡ base.last + length xs
-unfolding passed
-passed-last base xs = refl

@@ -9,11 +9,8 @@ use Rattle.rrd_fold.specs.Groups.{finished, unfinished}
 use Rattle.rrd_fold.specs.Parts.{Part, seconds_to_steps}
 use Rattle.rrd_base.specs.History.{Archive, Content, Event, Tuned, Resized, moment_of, moment_at_end, raws_under, samples, second, seconds_of, steps_of, parts_of, rows_of, row_parts_of, rows_after, room, keep_last, filled_up, kept_rows, archive_of, content_listed, IsArchive, IsBase}
 use Rattle.rrd_fold.proofs.GroupLemmas.{finished_nil, unfinished_nil}
-use Rattle.rrd_base.proofs.RowLemmas.{keep_all}
+use Rattle.rrd_base.proofs.RowLemmas.{filled_already, keep_all}
 use Rattle.rrd_base.specs.Rules.{rows_rule}
-
-filled_already : {A : Type 0} (n : ℕ) (u : A) (xs : List A) → length xs ≡ n → filled_up n u xs ≡ xs
-filled_already n u xs h = ap (λ m. replicate m u ++ xs) {x = n - length xs} {y = 0} (omega arith)
 
 module _ (base : Content) (es : List Event) (same : (moment_at_end base es).last ≡ base.last) where
   pub seconds_none : seconds_of base es ≡ []

@@ -1,5 +1,5 @@
 -- An archive with another number of rows.
-use Rattle.std.proofs.Common.{◌≡◌, refl, sym, ◌∙◌, ap, ℕ, zero, suc, ◌+◌, ◌-◌, ◌*◌, ◌/◌, ◌<◌, ◌≤◌, min, cond, eqb, List, [], ◌∷◌, ◌++◌, length, take, drop, map, replicate, set, get_or, sum, arith, append-nil, eq-eqb, length-append, None}
+use Rattle.std.proofs.Common.{◌≡◌, refl, sym, ◌∙◌, ap, ℕ, zero, suc, ◌+◌, ◌-◌, ◌*◌, ◌/◌, ◌<◌, ◌≤◌, min, cond, eqb, List, [], ◌∷◌, ◌++◌, length, drop, map, replicate, set, get_or, sum, arith, append-nil, eq-eqb, length-append, None}
 use Rattle.std.proofs.lemmas.Bool.{leb-false, ne_eqb}
 use Rattle.std.proofs.lemmas.List.{length-drop, length-map, length-replicate}
 use Rattle.std.specs.List.{fold, enumerate_from, AllByRecursion}
@@ -84,14 +84,6 @@ few_at (a ∷ rest) (suc k) d h is = few_at rest k d (omega arith) is.1
 pub few_sum : (archives : List Archive) → AllByRecursion HasFewRows archives → sum (rows_of_archives archives) ≤ length archives * 1000000
 few_sum [] is = omega arith
 few_sum (a ∷ rest) is = let f = is.0.few in omega (arith, f, few_sum rest is.1, sum_more a.def.rows (rows_of_archives rest))
-
--- those of one archive more
-pub sum_take : (archives : List Archive) (i : ℕ) (d : Archive) → i < length archives → sum (rows_of_archives (take (i + 1) archives)) ≡ sum (rows_of_archives (take i archives)) + (get_or archives i d).def.rows
-sum_take archives i d h = ap (λ n. sum (rows_of_archives (take n archives))) {x = i + 1} {y = suc i} (omega arith) ∙ next archives i d h where
-  next : (archives : List Archive) (i : ℕ) (d : Archive) → i < length archives → sum (rows_of_archives (take (suc i) archives)) ≡ sum (rows_of_archives (take i archives)) + (get_or archives i d).def.rows
-  next [] i d h = absurd (omega arith)
-  next (a ∷ rest) zero d h = omega (arith, sum_more a.def.rows [])
-  next (a ∷ rest) (suc i) d h = omega (arith, next rest i d (omega arith), sum_more a.def.rows (rows_of_archives (take i rest)), sum_more a.def.rows (rows_of_archives (take (suc i) rest)))
 
 pub have_few : (sources steps : ℕ) (archives : List Archive) → AllByRecursion (IsValidArchive sources steps) archives → AllByRecursion HasFewRows archives
 have_few sources steps [] is = tt

@@ -24,6 +24,10 @@ length-keep_last n xs h = omega (arith, length-drop (length xs - n) xs)
 pub split_last : {A : Type 0} (n : ℕ) (xs : List A) → take (length xs - n) xs ++ keep_last n xs ≡ xs
 split_last n xs = take-append-drop (length xs - n) xs
 
+-- what is full already stays
+pub filled_already : {A : Type 0} (n : ℕ) (u : A) (xs : List A) → length xs ≡ n → filled_up n u xs ≡ xs
+filled_already n u xs h = ap (λ m. replicate m u ++ xs) {x = n - length xs} {y = 0} (omega arith)
+
 pub length-filled_up : {A : Type 0} (n : ℕ) (u : A) (xs : List A) → length xs ≤ n → length (filled_up n u xs) ≡ n
 length-filled_up n u xs h = omega (arith, length-append (replicate (n - length xs) u) xs, length-replicate (n - length xs) u)
 

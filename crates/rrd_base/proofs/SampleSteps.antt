@@ -22,10 +22,6 @@ use Rattle.rrd_base.proofs.Staying.{raws_accepted}
 pub drop_here : {A : Type 0} (xs : List A) (i : ℕ) (x : A) → i < length xs → x ≡ get_or xs i x → drop i xs ≡ x ∷ drop (i + 1) xs
 drop_here xs i x h e = drop-cons xs i x h ∙ ap (λ y. y ∷ drop (suc i) xs) (sym e) ∙ ap (λ n. x ∷ drop n xs) {x = suc i} {y = i + 1} (omega arith)
 
--- a sample's raw values, over the sources as they are
-pub raws_of_sample : List DsDef → List Name → List Given → List Raw
-raws_of_sample sources template values = map (λ (source : DsDef). raw_of source.kind (value_for template values source)) sources
-
 -- the content after a sample, and those that are left
 pub record Taken (now next : Content) (sources : List DsDef) (template : List Name) (sample : Sample) (rest : List Sample) : Type 0 where
   pub comes_to : content_listed now (map Sampled (map (sample_of sources template) (sample ∷ rest))) ≡ content_listed next (map Sampled (map (sample_of sources template) rest))

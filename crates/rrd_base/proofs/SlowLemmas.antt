@@ -19,20 +19,12 @@ use Rattle.rrd_base.specs.Each.{map_each}
 use Rattle.rrd_base.specs.History as history
 use Rattle.rrd_base.specs.History.{Taken, Sampled, moment_after, rates, samples, second, seconds, IsHistory}
 use Rattle.rrd_base.specs.Slow.{event_of, reading_of, taken_of, AreInOrder, latest, size_of, function_of, cell_of, rule_of, IsGroup}
-use Rattle.rrd_base.specs.Validity.{AreAccepted, AreParts, IsPart, IsRow}
-use Rattle.rrd_base.proofs.Bounded.{steps_keep, rows_keep}
+use Rattle.rrd_base.specs.Validity.{AreAccepted, AreParts, IsPart}
 use Rattle.rrd_base.proofs.EachLemmas.{rate_of}
 use Rattle.rrd_base.proofs.AllLemmas.{All-weaker}
-use Rattle.rrd_base.proofs.Kept.{Keeps}
 use Rattle.rrd_fold.proofs.GroupLemmas.{map_range_same}
 
 -- ---- samples
-
-pub accepted_length : (sources : List DsDef) (raws : List Raw) → AreAccepted sources raws → length raws ≡ length sources
-accepted_length [] [] h = refl
-accepted_length [] (raw ∷ raws) h = absurd h
-accepted_length (source ∷ sources) [] h = absurd h
-accepted_length (source ∷ sources) (raw ∷ raws) h = ap suc (accepted_length sources raws h.1)
 
 pub unknown_accepted : (sources : List DsDef) → AreAccepted sources (replicate (length sources) Unknown)
 unknown_accepted [] = tt
@@ -111,11 +103,6 @@ pub with_each_is : (function : Function) (parts : List Part) (cells : List Cell)
 with_each_is function [] cells = refl
 with_each_is function (part ∷ parts) [] = refl
 with_each_is function (part ∷ parts) (cell ∷ cells) = ap (λ rest. with_cell function part cell ∷ rest) (with_each_is function parts cells)
-
--- what a group's parts keep to
-pub group_keeps : (group : Group) (sources : ℕ) → IsGroup group → Keeps (rule_of group sources) (IsRow sources) (AreParts (function_of group) sources) (IsRow sources)
-group_keeps (Step seconds) sources is = steps_keep seconds sources is.0
-group_keeps (Row def) sources is = rows_keep def sources is.0 is.2 is.3
 
 pub some_size : (group : Group) → IsGroup group → 0 < size_of group
 some_size (Step seconds) is = is.0

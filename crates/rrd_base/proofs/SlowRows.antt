@@ -1,7 +1,7 @@
 -- The plain slow program's rows are those of the history.
-use Rattle.std.proofs.Common.{◌≡◌, sym, ◌∙◌, ap, ℕ, zero, suc, ◌+◌, ◌/◌, ◌<◌, ◌≤◌, List, [], ◌∷◌, length, map, replicate, get_or, arith, None, Some}
+use Rattle.std.proofs.Common.{◌≡◌, refl, sym, ◌∙◌, ap, subst, ℕ, zero, suc, ◌+◌, ◌/◌, ◌<◌, ◌≤◌, List, [], ◌∷◌, ◌++◌, length, map, replicate, get_or, arith, None, Some}
 use Rattle.std.specs.Prelude.{slice_get}
-use Rattle.std.specs.List.{AllByRecursion}
+use Rattle.std.specs.List.{AllByRecursion, enumerate_from}
 use Rattle.std.proofs.Math.Nat.{div-le_self}
 use Rattle.rrd_fixed.specs.declared.cell.Cell.{Cell}
 use Rattle.rrd_fixed.specs.declared.raw.Raw.TheVariants.{Unknown}
@@ -16,13 +16,17 @@ use Rattle.rrd_base.specs.declared.slow.Group.TheVariants.{Step, Row}
 use Rattle.rrd_base.specs.declared.slow.Reading.{Reading}
 use Rattle.rrd_base.specs.declared.slow.Taken as slow
 use Rattle.rrd_base.specs.Creating.{create_verdict, created, new_archive}
-use Rattle.rrd_base.specs.History.{Archive, Event, moment_of, moment_at_end, samples, seconds, seconds_of, steps_of, rows_of}
-use Rattle.rrd_base.specs.Slow.{event_of, reading_of, taken_of, AreInOrder, latest, rule_of, IsGroup}
+use Rattle.rrd_base.specs.Cells.{content}
+use Rattle.rrd_base.specs.History.{Archive, Content, Event, Sampled, archive_of, content_listed, keep_last, moment_of, moment_at_end, samples, seconds, seconds_of, steps_of, rows_of}
+use Rattle.rrd_base.specs.Slow.{event_of, reading_of, taken_of, AreInOrder, AreNewest, latest, rule_of, IsGroup}
 use Rattle.rrd_base.specs.Validity.{AreParts, IsRow, IsValidArchive}
 use Rattle.rrd_base.proofs.Bounded.{steps_keep}
+use Rattle.rrd_base.proofs.CellLemmas.{is_listed, one_of}
 use Rattle.rrd_base.proofs.Created.{created_valid}
 use Rattle.rrd_base.proofs.Kept.{kept}
+use Rattle.rrd_base.proofs.Passing.{base_of_valid}
 use Rattle.rrd_base.proofs.Rates.{seconds_rows}
+use Rattle.rrd_base.proofs.SampleLemmas.{kept_rows_of_samples, rows_of_samples}
 use Rattle.rrd_base.proofs.SlowLemmas.{is_history, are_accepted, events_are, latest_is, latest_later, latest_small, length-seconds}
 
 -- ---- seconds
@@ -98,3 +102,43 @@ rows_are spec events sources defs i d steps rows same same_defs steps_is rows_is
     ∙ ap (λ (ds : List RraDef). finished (rule_of (Row (get_or ds i d)) n) before (replicate n nothing) steps) same_defs
     ∙ ap (finished (rule_of (Row (get_or spec.archives i d)) n) before (replicate n nothing)) steps_is
     ∙ ap (λ (a : Archive). finished (rule_of (Row a.def) n) before a.parts (steps_of (created spec) events)) (sym (kept_is n spec.archives i d archive e))
+
+-- ---- what an archive then shows
+
+-- the archive that one of a content was before
+shown_from : (f : ℕ × Archive → Archive) (n : ℕ) (archives : List Archive) (index : ℕ) (shown : Archive)
+    → slice_get (map f (enumerate_from n archives)) index ≡ Some shown → (archive : Archive) × (slice_get archives index ≡ Some archive) × (f (n + index, archive) ≡ shown)
+shown_from f n [] index shown h = absurd cc
+shown_from f n (first ∷ archives) zero shown h =
+    let here : f (n, first) ≡ shown = cc in
+    (first, refl, ap (λ i. f (i, first)) {x = n + 0} {y = n} (omega arith) ∙ here)
+shown_from f n (first ∷ archives) (suc index) shown h =
+    let rest = shown_from f (n + 1) archives index shown h in
+    (rest.0, rest.1, ap (λ i. f (i, rest.0)) {x = n + suc index} {y = n + 1 + index} (omega arith) ∙ rest.2)
+
+pub are_newest : (spec : CreateSpec) (readings : List Reading) (number : ℕ) (d : RraDef) (rows : List (List Cell)) → create_verdict spec ≡ None → AreInOrder spec.sources spec.start readings
+    → ((kept : Archive) → slice_get (created spec).archives number ≡ Some kept → rows ≡ rows_of (created spec) kept (map event_of readings))
+    → AreNewest spec (map event_of readings) number rows
+unfolding content_listed
+are_newest spec readings number d rows accepted order all shown there =
+    let base = created spec in
+    let n = length spec.sources in
+    let nan = replicate n Cell.Unknown in
+    let samples = map Sampled (map reading_of readings) in
+    let is_base = base_of_valid base (created_valid spec accepted) in
+    let listed : slice_get (content_listed base samples).archives number ≡ Some shown
+    = ap (λ (x : Content). slice_get x.archives number) (is_listed base samples is_base (is_history spec.sources spec.start (replicate n Unknown) readings order))
+    ∙ ap (λ es. slice_get (content base es).archives number) (sym (events_are readings)) ∙ there in
+    let from = shown_from (archive_of base samples) 0 base.archives number shown listed in
+    let archive = from.0 in
+    let is = one_of base.archives number archive is_base.archives_are from.1 in
+    let blank : archive.rows ≡ replicate archive.def.rows nan = subst (λ (a : Archive). a.rows ≡ replicate a.def.rows nan) (sym (kept_is n spec.archives number d archive from.1)) refl in
+    let finished_rows : rows_of base archive samples ≡ rows = ap (rows_of base archive) (sym (events_are readings)) ∙ sym (all archive from.1) in
+    let as_many : archive.def.rows ≡ shown.def.rows = sym (rows_of_samples (0 + number) archive.def.rows (map reading_of readings)) ∙ ap (λ (a : Archive). a.def.rows) from.2 in
+    let kept : shown.rows ≡ keep_last (length archive.rows) (archive.rows ++ rows_of base archive samples)
+    = sym (ap (λ (a : Archive). a.rows) from.2) ∙ kept_rows_of_samples base (0 + number) archive (map reading_of readings) is in
+    let first : shown.rows ≡ keep_last archive.def.rows (archive.rows ++ rows)
+    = kept ∙ ap (λ zs. keep_last (length archive.rows) (archive.rows ++ zs)) finished_rows ∙ ap (λ k. keep_last k (archive.rows ++ rows)) is.rows_are in
+    first
+    ∙ ap (λ zs. keep_last archive.def.rows (zs ++ rows)) blank
+    ∙ ap (λ k. keep_last k (replicate k nan ++ rows)) as_many

@@ -34,16 +34,9 @@ raws_all f (s ∷ ss) (x ∷ xs) (suc i) h = ap (λ zs. raw_under s.kind (f s).k
 
 -- ---- what is held
 
-one_held : Bool → Held → List Held
-one_held b h = cond b (h ∷ []) []
-
 hold_rest : (b : Bool) (h : Held) (xs ys : List Held) → cond b (h ∷ (xs ++ ys)) (xs ++ ys) ≡ cond b (h ∷ xs) xs ++ ys
 hold_rest true h xs ys = refl
 hold_rest false h xs ys = refl
-
-hold_one : (b : Bool) (h : Held) → cond b (h ∷ []) [] ≡ [] ++ cond b (h ∷ []) []
-hold_one true h = refl
-hold_one false h = refl
 
 -- one source more
 pub held_more : (tuning : Tuning) (n i m : ℕ) (sources : List DsDef) (raws : List Raw) (d : DsDef) (r : Raw) → i < length sources → length raws ≡ length sources → m ≡ n + i → held tuning n (take (suc i) sources) (take (suc i) raws) ≡ held tuning n (take i sources) (take i raws) ++ (let h : Held = record { number = m; source = get_or sources i d; raw = get_or raws i r } in cond (is_named tuning (get_or sources i d)) (h ∷ []) [])

@@ -1,16 +1,19 @@
 -- The plain slow program: what it takes, and how it groups cells.
-use Rattle.std.specs.Prelude.{ℕ, ◌<◌, ◌≤◌, pos, ◌≤ℤ◌, List, [], ◌∷◌, map, replicate}
+use Rattle.std.specs.Prelude.{◌≡◌, ℕ, ◌<◌, ◌≤◌, pos, ◌≤ℤ◌, Some, List, [], ◌∷◌, ◌++◌, length, map, replicate, slice_get}
 use Rattle.rrd_fixed.specs.declared.cell.Cell.{Cell}
 use Rattle.rrd_fold.specs.declared.function.Function.{Function}
 use Rattle.rrd_fold.specs.declared.function.Function.TheVariants.{Average}
 use Rattle.rrd_fold.specs.Groups.{Rule}
 use Rattle.rrd_fold.specs.Parts.{Part, nothing, with_each, step_cell, row_cell}
+use Rattle.rrd_base.specs.declared.create.CreateSpec.{CreateSpec}
 use Rattle.rrd_base.specs.declared.definition.DsDef.{DsDef}
 use Rattle.rrd_base.specs.declared.slow.Group.{Group}
 use Rattle.rrd_base.specs.declared.slow.Group.TheVariants.{Step, Row}
 use Rattle.rrd_base.specs.declared.slow.Reading as given
 use Rattle.rrd_base.specs.declared.slow.Taken as slow
-use Rattle.rrd_base.specs.History.{Event, Reading, Sampled, Taken}
+use Rattle.rrd_base.specs.Cells.{content}
+use Rattle.rrd_base.specs.Creating.{created}
+use Rattle.rrd_base.specs.History.{Archive, Event, Reading, Sampled, Taken, keep_last}
 use Rattle.rrd_base.specs.Validity.{AreAccepted}
 
 -- ---- samples
@@ -59,3 +62,11 @@ rule_of group sources = record { size = size_of group; empty = replicate sources
 abbrev pub IsGroup : Group → Type 0
 IsGroup (Step seconds) = (0 < seconds) × (seconds ≤ 1000000)
 IsGroup (Row def) = (0 < def.steps) × (def.steps ≤ 1000000) × (pos 0 ≤ℤ def.xff) × (def.xff ≤ℤ pos 999999)
+
+-- ---- what an archive then shows
+
+-- the archive of this number has the newest of these rows in the content of the history, after unknown ones where they are too few
+abbrev pub AreNewest : CreateSpec → List Event → ℕ → List (List Cell) → Type 0
+AreNewest spec events number rows =
+    (shown : Archive) → slice_get (content (created spec) events).archives number ≡ Some shown
+    → shown.rows ≡ keep_last shown.def.rows (replicate shown.def.rows (replicate (length spec.sources) Cell.Unknown) ++ rows)

@@ -38,9 +38,6 @@ at time value = Sampled (record { time = time; raws = Raw.Known (pos (value * 10
 abbrev pub count_at : ℕ → ℕ → Event
 count_at time value = Sampled (record { time = time; raws = Raw.Known (pos value) ∷ [] })
 
-abbrev pub unknown_at : ℕ → Event
-unknown_at time = Sampled (record { time = time; raws = Raw.Unknown ∷ [] })
-
 -- the first archive's rows
 abbrev pub rows : Content → List (List (List Cell))
 rows content = map (λ (a : Archive). a.rows) content.archives

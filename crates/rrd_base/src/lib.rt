@@ -15,10 +15,6 @@ mod resize;
 mod room;
 pub mod slow;
 mod store;
-#[cfg(test)]
-mod tests;
-#[cfg(test)]
-mod tests_changes;
 mod tune;
 mod update;
 

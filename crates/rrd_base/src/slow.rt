@@ -12,7 +12,7 @@ ghost use Rattle.rrd_fold.specs.declared.function.Function.TheVariants.{Average}
 ghost use Rattle.rrd_base.specs.Creating.{create_verdict, created};
 ghost use Rattle.rrd_base.specs.History as history;
 ghost use Rattle.rrd_base.specs.History.{Archive};
-ghost use Rattle.rrd_base.specs.Slow.{AreInOrder, IsGroup, cell_of, event_of, function_of, latest, rule_of, size_of, taken_of};
+ghost use Rattle.rrd_base.specs.Slow.{AreInOrder, AreNewest, IsGroup, cell_of, event_of, function_of, latest, rule_of, size_of, taken_of};
 ghost use Rattle.rrd_base.specs.Validity.{AreAccepted, AreParts, IsPart, IsRow};
 
 use crate::create::{LATEST_TIME, check};
@@ -21,9 +21,6 @@ use rrd_fixed::{Cell, Kind, Raw, near};
 use rrd_fold::Function;
 use std::alloc::{AllocError, Global};
 use std::marker::Model;
-
-#[cfg(test)]
-mod tests;
 
 // The least size that a value of a GAUGE or an ABSOLUTE may not have, in millionths.
 const LEAST_REFUSED: u128 = 1_000_000_000_000_000_000_000_000;
@@ -339,7 +336,8 @@ fn last_time(start: u64, readings: &[Reading]) -> u64
 }
 
 /// The rows of an archive of a new database that its samples finish, oldest first, each with a cell
-/// for each source. Archives are counted from 0.
+/// for each source. The archive keeps the newest of them, as many as it has rows. Archives are
+/// counted from 0.
 pub fn rows(
     alloc: Global,
     spec: &CreateSpec,
@@ -349,7 +347,8 @@ pub fn rows(
     requires accepted { create_verdict spec.now ≡ None }
     requires there { archive < length spec.now.archives }
     requires in_order { AreInOrder spec.now.sources spec.now.start readings.now }
-    ensures { IfOk result (λ rows. (kept : Archive) → slice_get (created spec.now).archives archive ≡ Some kept → rows ≡ history.rows_of (created spec.now) kept (map event_of readings.now)) }
+    ensures all { IfOk result (λ rows. (kept : Archive) → slice_get (created spec.now).archives archive ≡ Some kept → rows ≡ history.rows_of (created spec.now) kept (map event_of readings.now)) }
+    ensures newest { IfOk result (λ rows. AreNewest spec.now (map event_of readings.now) archive rows) }
 {
     let sources = spec.sources.as_slice();
     let taken = samples(alloc, sources, spec.start, readings)?;

@@ -11,9 +11,9 @@ is_letter c = (nat_le 97 c && nat_le c 122) || (nat_le 65 c && nat_le c 90) || (
 abbrev pub fits : List ℕ → Bool
 fits text = nat_le (length text) 19 && list_all (λ c. nat_lt c 128) text
 
--- at least one character, and letters alone: what a data source may be called
+-- 1 to 19 characters, letters alone: what a data source may be called
 abbrev pub is_good : List ℕ → Bool
-is_good name = nat_lt 0 (length name) && list_all is_letter name
+is_good name = nat_lt 0 (length name) && nat_le (length name) 19 && list_all is_letter name
 
 abbrev pub same_name : List ℕ → List ℕ → Bool
 same_name a b = bytes_eq a b

@@ -4,7 +4,7 @@ use Rattle.std.specs.Io.KnownBytes.{Appends, Consumes, Keeps}
 use Rattle.std.proofs.KnownBytes.{Appends-trans, Consumes-trans}
 use Rattle.std.specs.Result.{is_err}
 use Rattle.rrd_tool.specs.Batch.{Answers, AppendsSome, Performs, Ran, Stopped, Told, Turn, faults_of, faults_written, line_told, state_after, text_of}
-use Rattle.rrd_tool.specs.Lines.{if_some, is_empty, last_part, lines_of, whole_lines}
+use Rattle.rrd_tool.specs.Lines.{is_empty, last_part, lines_of, whole_lines}
 use Rattle.rrd_fixed.specs.Written.{AppendsFront}
 use Rattle.rrd_fixed.specs.declared.writing.WriteFault.{WriteFault}
 use Rattle.rrd_fixed.proofs.Writings.{Appends-kept}
@@ -119,14 +119,10 @@ module _ {S : Type 0} (turn : S → Told → Turn S) where
 
     -- a write failed among their answers
     pub feed_fails : (r : Result (Unit {0}) WriteFault) → is_err r ≡ true → Answers turn s1 s2 n1 n2 c1 c2 (whole_lines (last_part [] seen) more) r
-        → (s : List ℕ) × Consumes r0 r2 s × Stopped turn s0 s2 n0 n2 c0 c2 (lines_of s)
+        → Consumes r0 r2 (seen ++ more) × Stopped turn s0 s2 n0 n2 c0 c2 (whole_lines [] (seen ++ more))
     feed_fails (Ok x) e q = absurd (let bad : false ≡ true = e in cc)
     feed_fails (Err f) e q =
-        let front = answers_more {T = Unit {0}} s0 s1 s2 n0 n1 n2 c0 c1 c2 [] seen more p (Err f) q in (
-          seen ++ more,
-          Consumes-trans r0 r1 r2 seen more took takes,
-          stopped_more s0 s2 n0 n2 c0 c2 (whole_lines [] (seen ++ more)) (if_some (last_part [] (seen ++ more))) front,
-        )
+        (Consumes-trans r0 r1 r2 seen more took takes, answers_more {T = Unit {0}} s0 s1 s2 n0 n1 n2 c0 c1 c2 [] seen more p (Err f) q)
 
     -- nothing more was there
     took_all : more ≡ [] → Consumes r0 r2 seen
@@ -140,9 +136,9 @@ module _ {S : Type 0} (turn : S → Told → Turn S) where
 
     -- and its write failed
     pub last_fails : more ≡ [] → is_empty (last_part [] seen) ≡ false → (r : Result (Unit {0}) WriteFault) → is_err r ≡ true
-        → Answers turn s1 s2 n1 n2 c1 c2 (last_part [] seen ∷ []) r → (s : List ℕ) × Consumes r0 r2 s × Stopped turn s0 s2 n0 n2 c0 c2 (lines_of s)
+        → Answers turn s1 s2 n1 n2 c1 c2 (last_part [] seen ∷ []) r → Consumes r0 r2 seen × Stopped turn s0 s2 n0 n2 c0 c2 (lines_of seen)
     last_fails z some (Ok x) e q = absurd (let bad : false ≡ true = e in cc)
-    last_fails z some (Err f) e q = (seen, took_all z, rw some (ran_stopped s0 s1 s2 n0 n1 n2 c0 c1 c2 (whole_lines [] seen) (last_part [] seen ∷ []) p q))
+    last_fails z some (Err f) e q = (took_all z, rw some (ran_stopped s0 s1 s2 n0 n1 n2 c0 c1 c2 (whole_lines [] seen) (last_part [] seen ∷ []) p q))
 
     -- there was no last line
     pub none_left : more ≡ [] → is_empty (last_part [] seen) ≡ true → Consumes r0 r2 seen × Ran turn s0 s1 n0 n1 c0 c1 (lines_of seen)

@@ -36,10 +36,6 @@ too_long xs ys h k =
     let long : nat_le (length (xs ++ ys)) 65536 ≡ false = grind (arith, nat_tests, length-append xs ys) in
     ap (λ b. b && list_all is_plain (xs ++ ys)) long
 
--- what is lost stays so
-pub lost_stays : (line : List ℕ) (b : ℕ) → IsLost line → IsLost (line ++ b ∷ [])
-lost_stays line b h more = ap (λ l. is_text (without_cr l)) (append_assoc line (b ∷ []) more) ∙ h (b ∷ more)
-
 from_here : (bytes : List ℕ) (b : ℕ) (more : List ℕ) (line : List ℕ) → line ≡ bytes
     → without_cr (line ++ b ∷ [] ++ more) ≡ bytes ++ without_cr (b ∷ more)
 from_here bytes b more line e =
@@ -106,9 +102,6 @@ cr_some bytes line h = ap is_empty h.0 ∙ none_cr bytes
 none_length : (bytes : List ℕ) → is_empty bytes ≡ nat_eq (length bytes) 0
 none_length [] = refl
 none_length (b ∷ bytes) = grind (arith, nat_tests)
-
-pub plain_some : (bytes line : List ℕ) → HoldsBy Plain bytes line → is_empty line ≡ nat_eq (length bytes) 0
-plain_some bytes line h = ap is_empty h.0 ∙ none_length bytes
 
 -- what is lost is no text
 pub lost_ended : (held : List ℕ) → IsLost held → is_text (without_cr held) ≡ false

@@ -1,15 +1,19 @@
 -- What the database stands for after more lines.
-use Rattle.std.proofs.Common.{◌++◌, [], List, ℕ, Option, Result}
-use Rattle.std.specs.Io.KnownBytes.{Appends}
+use Rattle.std.proofs.Common.{◌++◌, List, ℕ, Option, Result}
 use Rattle.rrd_fixed.specs.declared.writing.WriteFault.{WriteFault}
-use Rattle.rrd_base.specs.Survivors.{Kept}
+use Rattle.rrd_base.specs.Survivors.{State, Kept}
 use Rattle.rrd_tool.specs.Lines.{last_part, whole_lines}
-use Rattle.rrd_tool.specs.Moves.{Moves, MovesRan, MovesStopped}
-use Rattle.rrd_tool.specs.Run.{turn}
-use Rattle.rrd_tool.proofs.BatchLemmas.{answers_more, ran_none, stopped_front}
+use Rattle.rrd_tool.specs.Moves.{Moves}
+use Rattle.rrd_tool.specs.Batch.{Ran, Stopped}
+use Rattle.rrd_tool.specs.Run.{StandsFor, turn}
+use Rattle.rrd_tool.proofs.BatchLemmas.{answers_more, stopped_front}
 
-pub moves_none : (now : ℕ) (b0 : Option Kept) (n : ℕ) (a b : Option (List ℕ)) → Appends a b [] → MovesRan now b0 b0 n n a b []
-moves_none now b0 n a b h s0 s = (s0, s, ran_none (turn now) s0 n a b h)
+-- all of them, or some first ones
+abbrev pub MovesRan : ℕ → Option Kept → Option Kept → ℕ → ℕ → Option (List ℕ) → Option (List ℕ) → List (List ℕ) → Type 0
+MovesRan now b0 b1 n0 n1 c0 c1 lines = (s0 : Option State) → StandsFor b0 s0 → (s1 : Option State) × StandsFor b1 s1 × Ran (turn now) s0 s1 n0 n1 c0 c1 lines
+
+abbrev pub MovesStopped : ℕ → Option Kept → Option Kept → ℕ → ℕ → Option (List ℕ) → Option (List ℕ) → List (List ℕ) → Type 0
+MovesStopped now b0 b1 n0 n1 c0 c1 lines = (s0 : Option State) → StandsFor b0 s0 → (s1 : Option State) × StandsFor b1 s1 × Stopped (turn now) s0 s1 n0 n1 c0 c1 lines
 
 pub moves_more : {T : Type 0} (now : ℕ) (b0 b1 b2 : Option Kept) (n0 n1 n2 : ℕ) (a b c : Option (List ℕ)) (held xs ys : List ℕ) → MovesRan now b0 b1 n0 n1 a b (whole_lines held xs)
     → (r : Result T WriteFault) → Moves now b1 b2 n1 n2 b c (whole_lines (last_part held xs) ys) r → Moves now b0 b2 n0 n2 a c (whole_lines held (xs ++ ys)) r

@@ -5,7 +5,7 @@ use Rattle.std.proofs.lemmas.Bool.Decides.{nat_tests}
 use Rattle.std.specs.List.{list_all}
 use Rattle.std.specs.Str.{IsAscii, IsUtf8}
 use Rattle.std.proofs.lemmas.Str.{IsUtf8-from_ascii}
-use Rattle.rrd_tool.specs.Lines.{if_some, is_blank, is_empty, is_plain, words_after}
+use Rattle.rrd_tool.specs.Lines.{if_some, is_blank, is_plain, words_after}
 
 -- ---- plain bytes
 
@@ -71,14 +71,3 @@ step_letter text from at le inside letter =
     ap (words_after (between text from at)) (drop-cons text at 0 inside ∙ ap (λ n. get_or text at 0 ∷ drop n text) (sym (add-one at)))
     ∙ words_letter (between text from at) (drop (at + 1) text) (get_or text at 0) letter
     ∙ ap (λ begun. words_after begun (drop (at + 1) text)) (sym (between_more text from at le inside))
-
--- a word that stands among the words
-pub word_among : (words rest : List (List ℕ)) (word : List ℕ) → is_empty word ≡ false → is_empty (words ++ (if_some word ++ rest)) ≡ false
-word_among (w ∷ words) rest word h = refl
-word_among [] rest [] h = absurd (let bad : true ≡ false = h in cc)
-word_among [] rest (b ∷ word) h = refl
-
-pub word_last : (words : List (List ℕ)) (word : List ℕ) → is_empty word ≡ false → is_empty (words ++ if_some word) ≡ false
-word_last (w ∷ words) word h = refl
-word_last [] [] h = absurd (let bad : true ≡ false = h in cc)
-word_last [] (b ∷ word) h = refl

@@ -1,4 +1,4 @@
--- What running one command comes to.
+-- What running one command comes to (own).
 use Rattle.std.specs.Prelude.{◌≡◌, ◌⊎◌, [], ℕ, Bool, List, Option, Some, None, true, false, option_map}
 use Rattle.std.specs.Io.KnownBytes.{Appends, Keeps}
 use Rattle.rrd_fixed.specs.Written.{AppendsFront}

@@ -1,4 +1,4 @@
--- The texts of faults.
+-- The texts of faults (own).
 use Rattle.std.specs.Prelude.{◌++◌, ℕ, List, [], codes, decimal, if◌then◌else◌}
 use Rattle.rrd_base.specs.declared.refusal.Refusal.{Refusal}
 use Rattle.rrd_base.specs.declared.refusal.Refusal.TheVariants as refusal

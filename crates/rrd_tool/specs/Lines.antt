@@ -1,4 +1,4 @@
--- The lines of an input, and the words of a line.
+-- The lines of an input, and the words of a line (own; rrdtool reads such lines by its command `-`).
 use Rattle.std.specs.Prelude.{◌==◌, ◌&&◌, ◌||◌, ◌++◌, ◌∷◌, [], ℕ, Bool, List, Option, Some, None, length, if◌then◌else◌, nat_le, true, false}
 use Rattle.std.specs.List.{list_all}
 

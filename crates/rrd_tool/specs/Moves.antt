@@ -2,7 +2,7 @@
 use Rattle.std.specs.Prelude.{◌≡◌, [], ℕ, Bool, List, Option, Some, None, Result, Ok, Err}
 use Rattle.rrd_fixed.specs.declared.writing.WriteFault.{WriteFault}
 use Rattle.rrd_base.specs.Survivors.{State, Kept}
-use Rattle.rrd_tool.specs.Batch.{Answers, Performs, Ran, Stopped, Turn}
+use Rattle.rrd_tool.specs.Batch.{Answers, Performs, Turn}
 use Rattle.rrd_tool.specs.Faults.{fault_line}
 use Rattle.rrd_tool.specs.Run.{StandsFor, command_turn, refused, turn, unless_short}
 use Rattle.rrd_tool.specs.declared.command.Command.{Command}
@@ -33,10 +33,3 @@ MovesByLine now b0 b1 c0 c1 line r = MovesBy b0 b1 c0 c1 (λ state. line_turns n
 -- so do these lines
 abbrev pub Moves : {T : Type 0} → ℕ → Option Kept → Option Kept → ℕ → ℕ → Option (List ℕ) → Option (List ℕ) → List (List ℕ) → Result T WriteFault → Type 0
 Moves now b0 b1 n0 n1 c0 c1 lines r = (s0 : Option State) → StandsFor b0 s0 → (s1 : Option State) × StandsFor b1 s1 × Answers (turn now) s0 s1 n0 n1 c0 c1 lines r
-
--- all of them, or some first ones
-abbrev pub MovesRan : ℕ → Option Kept → Option Kept → ℕ → ℕ → Option (List ℕ) → Option (List ℕ) → List (List ℕ) → Type 0
-MovesRan now b0 b1 n0 n1 c0 c1 lines = (s0 : Option State) → StandsFor b0 s0 → (s1 : Option State) × StandsFor b1 s1 × Ran (turn now) s0 s1 n0 n1 c0 c1 lines
-
-abbrev pub MovesStopped : ℕ → Option Kept → Option Kept → ℕ → ℕ → Option (List ℕ) → Option (List ℕ) → List (List ℕ) → Type 0
-MovesStopped now b0 b1 n0 n1 c0 c1 lines = (s0 : Option State) → StandsFor b0 s0 → (s1 : Option State) × StandsFor b1 s1 × Stopped (turn now) s0 s1 n0 n1 c0 c1 lines

@@ -1,4 +1,4 @@
--- The names of a command's parts, as faults print them.
+-- The names of a command's parts, as faults print them (own).
 use Rattle.std.specs.Prelude.{ℕ, ◌++◌, List, Bool, true, false, codes, decimal, if◌then◌else◌}
 use Rattle.rrd_tool.specs.declared.command.Part.{Part}
 use Rattle.rrd_tool.specs.declared.command.Part.TheVariants as part

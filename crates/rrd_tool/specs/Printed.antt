@@ -1,4 +1,4 @@
--- What the commands print.
+-- What the commands print (own; the lines of a fetch are those of rrdfetch, "Output format", with cells in plain digits; rrdlast).
 use Rattle.std.specs.Prelude.{◌+◌, ◌-◌, ◌*◌, ◌/◌, ◌++◌, ◌∷◌, [], ℕ, ℤ, List, zero, suc, codes, pos, length, Result, Ok, Err}
 use Rattle.rrd_fixed.specs.Text.{cell_text, time_text}
 use Rattle.rrd_base.specs.declared.choose.Chosen.{Chosen}

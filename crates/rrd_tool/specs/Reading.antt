@@ -1,4 +1,4 @@
--- What a list of words means as a command.
+-- What a list of words means as a command (rrdcreate, rrdupdate, rrdtune, rrdresize, rrdfetch, rrdlast; the order in which the parts are read is own).
 use Rattle.std.specs.Prelude.{◌≡◌, ◌-◌, ℕ, List, [], Option, Some, Result, Ok, Err, codes, if◌then◌else◌, unwrap_or, option_map}
 use Rattle.std.specs.Str.{bytes_eq}
 use Rattle.clap.specs.Words.{Row, Text, all_of, first_of}
@@ -24,7 +24,7 @@ definitions_of words =
     each_of definition_of part.Definition 1 words
     >>= (λ definitions. Ok (sources_in definitions, archives_in definitions))
 
--- the step is 300 seconds by default, the start ten seconds before now, and 16 changes can be reverted
+-- the step is 300 seconds by default, the start ten seconds before now (rrdcreate), and 16 changes can be reverted (own)
 abbrev pub create_of : List Row → ℕ → Result Command Unread
 create_of rows now =
     given whole_of part.Step (first_of (codes "step") rows) 300
@@ -67,7 +67,7 @@ resize_of rows =
     >>= (λ change. required whole_of part.Rows (first_of (codes "rows") rows)
     >>= (λ count. Ok (command.Resize index change count))))
 
--- a fetch ends now by default and begins a day before its end; its resolution is one second
+-- a fetch ends now by default and begins a day before its end; its resolution is one second (rrdfetch)
 abbrev pub fetch_of : List Row → ℕ → Result Command Unread
 fetch_of rows now =
     required function_of part.Function (first_of (codes "function") rows)

@@ -1,5 +1,5 @@
--- The run: what the lines of an input make of a database, and what they print.
-use Rattle.std.specs.Prelude.{◌≡◌, ◌∷◌, [], ℕ, Bool, List, Option, Some, None, Result, Ok, Err, true, false, option_map, if◌then◌else◌}
+-- The run: what the lines of an input make of a database, and what they print (own).
+use Rattle.std.specs.Prelude.{◌≡◌, ◌⊎◌, ◌∷◌, [], ℕ, Bool, List, Option, Some, None, Result, Ok, Err, true, false, option_map, if◌then◌else◌}
 use Rattle.std.specs.Result.{result_err}
 use Rattle.std.specs.Io.KnownBytes.{IsAtEnd, Keeps}
 use Rattle.rrd_base.specs.declared.refusal.Refusal.{Refusal}
@@ -148,10 +148,11 @@ turn now state told = text_turn now state (text_in told.line) told.is_short
 -- ---- the run
 
 -- `seen` is what was read. At the end of the input all its lines were run; after a failed read those that were whole;
--- after a failed write some first ones, of the last of which a front of the text was written; with no memory for a line
+-- after a failed write some first ones of those, or at the end of the input of all, of the last of which a front of the text was written; with no memory for a line
 -- nothing was read or written
 abbrev pub RunOver : ℕ → List ℕ → Option (List ℕ) → Option State → Option State → ℕ → Option (List ℕ) → Option (List ℕ) → Option StreamFault → Type 0
 RunOver now seen r1 s0 s1 n c0 c1 None = IsAtEnd r1 × Ran (turn now) s0 s1 0 n c0 c1 (lines_of seen)
 RunOver now seen r1 s0 s1 n c0 c1 (Some stream.Read) = Ran (turn now) s0 s1 0 n c0 c1 (whole_lines [] seen)
-RunOver now seen r1 s0 s1 n c0 c1 (Some stream.Write) = Stopped (turn now) s0 s1 0 n c0 c1 (lines_of seen)
+RunOver now seen r1 s0 s1 n c0 c1 (Some stream.Write) =
+    Stopped (turn now) s0 s1 0 n c0 c1 (whole_lines [] seen) ⊎ (IsAtEnd r1 × Stopped (turn now) s0 s1 0 n c0 c1 (lines_of seen))
 RunOver now seen r1 s0 s1 n c0 c1 (Some stream.OutOfMemory) = (seen ≡ []) × (s1 ≡ s0) × (n ≡ 0) × Keeps c0 c1

@@ -1,4 +1,4 @@
--- The shapes of the command lines, as clap reads them.
+-- The shapes of the command lines, as clap reads them (the words and options are those of rrdcreate, rrdupdate, rrdtune, rrdresize, rrdfetch and rrdlast; --journal, --resolution as a whole number and revert are own).
 use Rattle.std.specs.Prelude.{◌≡◌, ℕ, Some, true, false, codes}
 use Rattle.clap.specs.Words.{App, Rule, Text, app_of, new_app, new_rule}
 use Rattle.clap.specs.Words.{with_rule, with_subcommand}

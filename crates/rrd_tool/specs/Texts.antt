@@ -1,4 +1,4 @@
--- What a text stands for.
+-- What a text stands for (definitions: rrdcreate, "DS" and "RRA"; samples and templates: rrdupdate; the options of a tune: rrdtune).
 use Rattle.std.specs.Prelude.{ℕ, ℤ, ◌==◌, Bool, List, [], ◌∷◌, Option, Some, None, codes, if◌then◌else◌}
 use Rattle.std.specs.List.{list_any, before_first, after_first, slice_split}
 use Rattle.std.specs.Str.{bytes_eq}

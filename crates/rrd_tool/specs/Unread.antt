@@ -1,4 +1,4 @@
--- Reading that may stop at a part.
+-- Reading that may stop at a part (own).
 use Rattle.std.specs.Prelude.{◌≡◌, ◌+◌, ℕ, List, [], ◌∷◌, Option, Some, None, Result, Ok, Err}
 use Rattle.clap.specs.Words.{Text}
 use Rattle.rrd_tool.specs.declared.command.Part.{Part}

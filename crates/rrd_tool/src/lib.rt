@@ -16,9 +16,15 @@ mod tests_batch;
 #[cfg(test)]
 mod tests_changes;
 #[cfg(test)]
+mod tests_database;
+#[cfg(test)]
+mod tests_entries;
+#[cfg(test)]
 mod tests_faults;
 #[cfg(test)]
 mod tests_reading;
+#[cfg(test)]
+mod tests_slow;
 #[cfg(test)]
 mod tests_streams;
 mod texts;

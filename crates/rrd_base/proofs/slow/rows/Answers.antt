@@ -13,7 +13,7 @@ use Rattle.rrd_base.specs.Slow.{event_of, taken_of, IsGroup}
 use Rattle.rrd_base.specs.Validity.{IsRow}
 use Rattle.rrd_base.proofs.Created.{created_valid}
 use Rattle.rrd_base.proofs.SlowLemmas.{latest_later, latest_small}
-use Rattle.rrd_base.proofs.SlowRows.{seconds_are, each_second, seconds_end, steps_are, each_step, few_steps, archive_group, rows_are}
+use Rattle.rrd_base.proofs.SlowRows.{seconds_are, each_second, seconds_end, steps_are, each_step, few_steps, archive_group, are_newest, rows_are}
 use Rattle.rrd_base.proofs.slow.rows.Goals as goal
 
 -- where there is no such archive
@@ -86,8 +86,8 @@ finished-requires-2-clause-rows c =
     (subst (λ (ss : List DsDef). AllByRecursion (IsRow (length ss)) (steps_of (created spec) (map event_of readings))) (sym c.as_slice-sources.ensures)
     (each_step spec readings c.requires.accepted c.requires.in_order))
 
-pub returns : goal.returns
-returns c =
+pub returns-clause-all : goal.returns-clause-all
+returns-clause-all c =
     let spec = c.args.spec.now in
     let readings = c.args.readings.now in
     let es = map event_of readings in
@@ -98,4 +98,19 @@ returns c =
     = steps_are spec es S c.as_slice-2.result.now c.as_slice-4.result.now c.as_slice-sources.ensures list (c.as_slice-4.ensures ∙ c.in_ok-steps.ensures) in
     IfOk-weaker c.finished-2.result _ _
     (λ rows rows_is. rows_are spec es S c.as_slice-3.result.now c.args.archive no_def c.as_slice-4.result.now rows c.as_slice-sources.ensures c.as_slice-3.ensures steps rows_is)
+    c.finished-2.ensures
+
+pub returns-clause-newest : goal.returns-clause-newest
+returns-clause-newest c =
+    let spec = c.args.spec.now in
+    let readings = c.args.readings.now in
+    let es = map event_of readings in
+    let S = c.as_slice-sources.result.now in
+    let list : c.as_slice-2.result.now ≡ seconds_of (created spec) es
+    = seconds_are spec readings S c.as_slice.result.now c.last_time-end.result c.as_slice-2.result.now c.as_slice-sources.ensures (ap (map taken_of) c.as_slice.ensures ∙ c.in_ok-taken.ensures) c.last_time-end.ensures (c.as_slice-2.ensures ∙ c.in_ok-seconds.ensures) in
+    let steps : c.as_slice-4.result.now ≡ steps_of (created spec) es
+    = steps_are spec es S c.as_slice-2.result.now c.as_slice-4.result.now c.as_slice-sources.ensures list (c.as_slice-4.ensures ∙ c.in_ok-steps.ensures) in
+    IfOk-weaker c.finished-2.result _ _
+    (λ rows rows_is. are_newest spec readings c.args.archive no_def rows c.requires.accepted c.requires.in_order
+    (rows_are spec es S c.as_slice-3.result.now c.args.archive no_def c.as_slice-4.result.now rows c.as_slice-sources.ensures c.as_slice-3.ensures steps rows_is))
     c.finished-2.ensures

@@ -2,8 +2,7 @@ use Rattle.std.proofs.Common.{◌++◌, ◌∷◌, ◌+◌, ◌<◌, [], List, �
 use Rattle.std.proofs.lemmas.List.{take_more, take-append-drop}
 use Rattle.std.proofs.lemmas.Result.{err_from_is_err_and}
 use Rattle.rrd_tool.specs.Lines.{last_part, whole_lines}
-use Rattle.rrd_tool.specs.Moves.{MovesStopped}
-use Rattle.rrd_tool.proofs.MoveLemmas.{moves_front, moves_more}
+use Rattle.rrd_tool.proofs.MoveLemmas.{MovesStopped, moves_front, moves_more}
 use Rattle.rrd_tool.proofs.LineLemmas.{part_append}
 use Rattle.rrd_tool.proofs.batch.feed.Goals as goal
 

@@ -1,7 +1,7 @@
 use Rattle.std.proofs.Common.{List, ℕ, take, ◌≤◌, ◌+◌}
 use Rattle.rrd_tool.specs.Held.{Holds}
 use Rattle.rrd_tool.specs.Lines.{last_part, whole_lines}
-use Rattle.rrd_tool.specs.Moves.{MovesRan}
+use Rattle.rrd_tool.proofs.MoveLemmas.{MovesRan}
 use Rattle.rrd_tool.proofs.batch.feed.Given as goal
 
 abbrev pub invariant-loop-byte : goal.invariant-loop-byte

@@ -1,4 +1,4 @@
-use Rattle.std.proofs.Common.{◌≡◌, ◌∙◌, ◌++◌, [], take, sym, ap, false, true, arith}
+use Rattle.std.proofs.Common.{◌≡◌, ◌∙◌, ◌++◌, [], take, sym, ap, false, true, inl, inr, arith}
 use Rattle.rrd_tool.specs.Lines.{is_empty, last_part}
 use Rattle.rrd_tool.specs.Run.{turn}
 use Rattle.rrd_tool.proofs.BatchLemmas.{feed_fails, feed_goes, last_fails, last_goes, none_left}
@@ -30,7 +30,7 @@ returns-then-is_err g c h0 s =
     (g.R.Read.remaining c.args.reader.now) (g.R.Read.remaining c.reads.reader) (g.R.Read.remaining c.read_some.new.reader)
     (g.W.Write.contents c.args.out.now) (g.W.Write.contents c.reads.out) (g.W.Write.contents c.answer.new.out)
     seen more inv.1 c.in-Ok-read_some.ensures.ok inv.4 none some c.answer.result (sym c.if-is_err.ensures.value) told.2 in
-    (failed.0, failed.1, told.0, told.1, failed.2)
+    (seen, failed.0, told.0, told.1, inr (c.in-Ok-read_some.ensures.end c.if-count-eq0.true (omega arith), failed.1))
 
 pub returns-then-count-eq0 : goal.returns-then-count-eq0
 returns-then-count-eq0 g c h0 s =
@@ -57,7 +57,7 @@ returns-then-is_err-2 g c h0 s =
     (g.R.Read.remaining c.args.reader.now) (g.R.Read.remaining c.reads.reader) (g.R.Read.remaining c.read_some.new.reader)
     (g.W.Write.contents c.args.out.now) (g.W.Write.contents c.reads.out) (g.W.Write.contents c.feed.new.out)
     seen more inv.1 c.in-Ok-read_some.ensures.ok inv.4 c.feed.result (sym c.if-is_err-2.ensures.value) told.2 in
-    (failed.0, failed.1, told.0, told.1, failed.2)
+    (seen ++ more, failed.0, told.0, told.1, inl failed.1)
 
 pub reads-preserved : goal.reads-preserved
 reads-preserved g c = (

@@ -1,6 +1,6 @@
 //! Worked examples, by the slow program and by the database.
-use super::{Reading, is_computable, rows};
-use crate::{Chosen, CreateSpec, Database, DsDef, Given, List, RraDef, Sample, Update};
+use rrd_base::slow::{Reading, is_computable, rows};
+use rrd_base::{Chosen, CreateSpec, Database, DsDef, Given, List, RraDef, Sample, Update};
 use rrd_fixed::{Cell, Kind, Name, Number, Raw, admit};
 use rrd_fold::Function;
 use std::alloc::{AllocError, Global};

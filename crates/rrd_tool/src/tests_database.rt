@@ -1,7 +1,6 @@
-//! Small databases, each call on its happy path: the readers, updates of fewer, as many and more rows
-//! than an archive has and back, and databases as large as they may be. What batches print is tested in
-//! rrd_tool.
-use crate::{CreateSpec, Database, DsDef, Given, List, Refusal, RraDef, Sample, Update};
+//! Small databases, each call of rrd_base on its happy path: the readers, updates of fewer, as many and
+//! more rows than an archive has and back, and databases as large as they may be.
+use rrd_base::{CreateSpec, Database, DsDef, Given, List, Refusal, RraDef, Sample, Update};
 use rrd_fixed::{Cell, Kind, Name, Number, Raw};
 use rrd_fold::Function;
 use std::alloc::{AllocError, Global};

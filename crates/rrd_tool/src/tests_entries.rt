@@ -1,9 +1,9 @@
 //! Tunes and resizes, what the journal holds of a change, and what taking it back leaves.
-use crate::tests::{
+use crate::tests_database::{
     NONE, archive, assert_rows, cell, many_sources, name_of, of_four_rows, of_one, raw, source,
     spec, take, units, update_of,
 };
-use crate::{Change, Database, Entry, Refusal, SavedArchive, Tuning};
+use rrd_base::{Change, Database, Entry, Refusal, SavedArchive, Tuning};
 use rrd_fixed::{Cell, Kind, Raw};
 use rrd_fold::Function;
 use std::alloc::Global;
