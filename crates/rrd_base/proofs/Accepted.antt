@@ -39,7 +39,7 @@ readings_rise sources template now [] p = tt
 readings_rise sources template now (reading ∷ readings) p =
     (leb-false reading.time now.last p.1.0, readings_rise sources template (moment_after now (Sampled (sample_of sources template reading))) readings p.1.1.1.1)
 
-some_rows : (change : Change) (old rows : ℕ) → (is_bad_rows rows || grows_too_far change old rows) ≡ false → shrinks_too_far change old rows ≡ false → 0 < rows_changed change old rows
+pub some_rows : (change : Change) (old rows : ℕ) → (is_bad_rows rows || grows_too_far change old rows) ≡ false → shrinks_too_far change old rows ≡ false → 0 < rows_changed change old rows
 some_rows Grow old rows h k =
     let some = eqb-false rows 0 (or_parts (eqb rows 0) (ltb 1000000 rows) (or_parts (is_bad_rows rows) (grows_too_far Grow old rows) h).0).0 in
     omega (arith, some)

@@ -4,7 +4,7 @@ use Rattle.std.specs.Prelude.{int_lt, int_le, slice_get}
 use Rattle.std.specs.Int.{int_max, int_div_euclid}
 use Rattle.std.specs.List.{fold, enumerate_from, range_with_len, AllByRecursion}
 use Rattle.std.proofs.Math.Nat.{div-div-eq-div-mul}
-use Rattle.std.proofs.lemmas.Bool.{cases_lt, cases_Bool, cond_both, lt-ltb, le-ltb}
+use Rattle.std.proofs.lemmas.Bool.{cases_lt, cases_Bool, cond-false, cond-true, cond_both, lt-ltb, le-ltb}
 use Rattle.std.proofs.lemmas.Int.{ints, clamps, int_rem_euclid_is}
 use Rattle.std.proofs.lemmas.List.{length-map, get_or_append_left, get_or-append_right, ext_get_or}
 use Rattle.std.proofs.lemmas.List.FromFn.{length-map-range_with_len, get_or-map-range_with_len}
@@ -22,12 +22,6 @@ use Rattle.rrd_base.proofs.RowLemmas.{length-keep_last, length-filled_up, room_f
 use Rattle.rrd_base.proofs.ContentLemmas.{length-rows_of}
 
 -- ---- tests
-
-when : {B : Type 0} (b : Bool) (x y : B) → b ≡ true → cond b x y ≡ x
-when b x y e = ap (λ t. cond t x y) e
-
-unless : {B : Type 0} (b : Bool) (x y : B) → b ≡ false → cond b x y ≡ y
-unless b x y e = ap (λ t. cond t x y) e
 
 before : (a b : ℤ) → a <ℤ b → int_lt a b ≡ true
 before a b h = grind (arith, ints)
@@ -176,8 +170,8 @@ shown_by_age rows room age u all some fits =
     let count : length kept ≡ rows = length-filled_up rows u (keep_last room all) (omega (arith, length-keep_last room all some)) in
     ap (λ n. cond (ltb age n) (get_or kept (n - 1 - age) u) u) count
     ∙ ⊎_elim
-    (λ (young : age < rows). when (ltb age rows) (get_or kept (rows - 1 - age) u) u (lt-ltb age rows young) ∙ row_by_age rows room age u all young some fits)
-    (λ (old : rows ≤ age). unless (ltb age rows) (get_or kept (rows - 1 - age) u) u (le-ltb age rows old) ∙ sym (unless (ltb age room) (get_or all (length all - 1 - age) u) u (le-ltb age room (omega arith))))
+    (λ (young : age < rows). cond-true (ltb age rows) (get_or kept (rows - 1 - age) u) u (lt-ltb age rows young) ∙ row_by_age rows room age u all young some fits)
+    (λ (old : rows ≤ age). cond-false (ltb age rows) (get_or kept (rows - 1 - age) u) u (le-ltb age rows old) ∙ sym (cond-false (ltb age room) (get_or all (length all - 1 - age) u) u (le-ltb age room (omega arith))))
     (cases_lt age rows)
 
 finished_at : {A P B : Type 0} (rule : Rule A P B) (begun_at : ℕ) (begun : P) (items : List A) (i : ℕ) (d : B) → i < length (finished rule begun_at begun items) → get_or (finished rule begun_at begun items) i d ≡ rule.close (group_part rule begun_at begun items (begun_at / rule.size + i))
@@ -208,7 +202,7 @@ old_row base archive es u age n m first end time at first_is rises aged older se
     let ago : pos (base.last / size) -ℤ int_div_euclid time (pos size) ≡ pos back = omega (arith, ints, at.count_is) in
     get_or_append_left archive.rows (rows_of base archive es) u (length archive.rows + (end - first) - 1 - age) (omega arith)
     ∙ ap (λ i. get_or archive.rows i u) {x = length archive.rows + (end - first) - 1 - age} {y = length archive.rows - 1 - back} (omega arith)
-    ∙ sym (when (ltb back (length archive.rows)) (get_or archive.rows (length archive.rows - 1 - back) u) u (lt-ltb back (length archive.rows) (omega arith)))
+    ∙ sym (cond-true (ltb back (length archive.rows)) (get_or archive.rows (length archive.rows - 1 - back) u) u (lt-ltb back (length archive.rows) (omega arith)))
     ∙ sym (ap (row_of_age archive.rows u) ago)
 
 recent_row : (base : Content) (archive : Archive) (es : List Event) (u : List Cell) (age n m first end : ℕ) (time : ℤ) → let size = resolution base.step archive.def in 0 < size → IsAt size time n m → base.last / size ≡ first → base.last / base.step / archive.def.steps ≡ first → length (rows_of base archive es) ≡ end - first → age + n ≡ end + m → first + m < n → get_or (archive.rows ++ rows_of base archive es) (length archive.rows + (end - first) - 1 - age) u ≡ row_ending base archive es time
@@ -254,32 +248,32 @@ kept_by_time base index archive es time some_step is h multiple =
     ⊎_elim
     (λ (after_end : end + m < n).
     let ago : pos end -ℤ int_div_euclid time (pos size) ≡ negsuc (n - (end + m) - 1) = omega (arith, ints, at.count_is) in
-    let past : cond ahead u later ≡ u = when ahead u later (before (pos (newest size last)) time (ends_under size end n m time some at after_end)) in
+    let past : cond ahead u later ≡ u = cond-true ahead u later (before (pos (newest size last)) time (ends_under size end n m time some at after_end)) in
     ap (row_of_age kept u) ago ∙ sym (ap (cond hidden u) past ∙ either hidden u))
     (λ (in_time : n ≤ end + m).
     let age = end + m - n in
     let ago : pos end -ℤ int_div_euclid time (pos size) ≡ pos age = omega (arith, ints, at.count_is) in
     let aged : age + n ≡ end + m = omega arith in
     let shown = shown_by_age rows_end kept_room age u all (omega (arith, is.rows_are)) (omega arith) in
-    let not_ahead : cond ahead u later ≡ later = unless ahead u later (not_before (pos (newest size last)) time (ends_over size end n m time at in_time)) in
+    let not_ahead : cond ahead u later ≡ later = cond-false ahead u later (not_before (pos (newest size last)) time (ends_over size end n m time at in_time)) in
     ap (row_of_age kept u) ago ∙ shown
     ∙ ⊎_elim
     (λ (young : age < kept_room).
-    let rest : cond hidden u (cond ahead u later) ≡ later = unless hidden u (cond ahead u later) (in_sight base index archive es age n m time some h at aged young) ∙ not_ahead in
+    let rest : cond hidden u (cond ahead u later) ≡ later = cond-false hidden u (cond ahead u later) (in_sight base index archive es age n m time some h at aged young) ∙ not_ahead in
     let place_is : get_or all (length all - 1 - age) u ≡ get_or all (length archive.rows + (end - first) - 1 - age) u = ap (λ k. get_or all (k - 1 - age) u) {x = length all} {y = length archive.rows + (end - first)} (omega arith) in
-    when (ltb age kept_room) (get_or all (length all - 1 - age) u) u (lt-ltb age kept_room young)
+    cond-true (ltb age kept_room) (get_or all (length all - 1 - age) u) u (lt-ltb age kept_room young)
     ∙ place_is
     ∙ ⊎_elim
     (λ (newer : first + m < n).
     recent_row base archive es u age n m first end time some at refl (div-div-eq-div-mul base.last base.step archive.def.steps) (omega arith) aged newer
-    ∙ sym (rest ∙ unless old (row_at base archive time) (row_ending base archive es time) (after time (pos (newest size base.last)) (ends_under size first n m time some at newer))))
+    ∙ sym (rest ∙ cond-false old (row_at base archive time) (row_ending base archive es time) (after time (pos (newest size base.last)) (ends_under size first n m time some at newer))))
     (λ (older : n ≤ first + m).
     old_row base archive es u age n m first end time at refl (omega arith) aged older (omega (arith, is.rows_are))
-    ∙ sym (rest ∙ when old (row_at base archive time) (row_ending base archive es time) (at_or_before time (pos (newest size base.last)) (ends_over size first n m time at older))))
+    ∙ sym (rest ∙ cond-true old (row_at base archive time) (row_ending base archive es time) (at_or_before time (pos (newest size base.last)) (ends_over size first n m time at older))))
     (cases_lt (first + m) n))
     (λ (gone : kept_room ≤ age).
-    unless (ltb age kept_room) (get_or all (length all - 1 - age) u) u (le-ltb age kept_room gone)
-    ∙ sym (when hidden u (cond ahead u later) (out_of_sight base index archive es age n m time some h at aged gone)))
+    cond-false (ltb age kept_room) (get_or all (length all - 1 - age) u) u (le-ltb age kept_room gone)
+    ∙ sym (cond-true hidden u (cond ahead u later) (out_of_sight base index archive es age n m time some h at aged gone)))
     (cases_lt age kept_room))
     (cases_lt (end + m) n)
   where
@@ -348,7 +342,7 @@ rows_are_by_time base index archive es some_step is h =
     let here : place < rows = omega (arith, count, within) in
     let age = age_of size rows end place (time_of size rows last place) some here refl in
     let by_age : row_of_age kept u (pos (rows - 1 - place)) ≡ get_or kept place u
-    = when (ltb (rows - 1 - place) (length kept)) (get_or kept (length kept - 1 - (rows - 1 - place)) u) u (lt-ltb (rows - 1 - place) (length kept) (omega (arith, count, here)))
+    = cond-true (ltb (rows - 1 - place) (length kept)) (get_or kept (length kept - 1 - (rows - 1 - place)) u) u (lt-ltb (rows - 1 - place) (length kept) (omega (arith, count, here)))
     ∙ ap (λ k. get_or kept k u) {x = length kept - 1 - (rows - 1 - place)} {y = place} (omega (arith, count, here)) in
     sym by_age ∙ sym (ap (row_of_age kept u) age.1)
     ∙ kept_by_time base index archive es (time_of size rows last place) some_step is h age.0

@@ -4,7 +4,7 @@ use Rattle.std.specs.Prelude.{int_lt, int_le}
 use Rattle.std.specs.Int.{abs_diff}
 use Rattle.std.specs.List.{find, filter, list_any, enumerate_from}
 use Rattle.std.specs.Option.{option_or, option_map_or}
-use Rattle.std.proofs.lemmas.Bool.{cases_Bool, or_parts, or_from, both_ways, not-true, not-false, le-ltb, lt-ltb, ltb-true, ltb-false}
+use Rattle.std.proofs.lemmas.Bool.{cases_Bool, cond-false, cond-true, or_parts, or_from, both_ways, not-true, not-false, le-ltb, lt-ltb, ltb-true, ltb-false}
 use Rattle.std.proofs.lemmas.Bool.Decides.{nat_tests}
 use Rattle.std.proofs.lemmas.Int.{ints}
 use Rattle.std.proofs.lemmas.List.{map-append}
@@ -27,18 +27,12 @@ record IsOrder {A : Type 0} (lt : A → A → Bool) : Type 0 where
 abbrev unbeaten : {A : Type 0} → (A → A → Bool) → List A → A → Bool
 unbeaten lt items one = not (list_any (λ other. lt other one) items)
 
-when : {B : Type 0} (b : Bool) (x y : B) → b ≡ true → cond b x y ≡ x
-when b x y e = ap (λ t. cond t x y) e
-
-unless : {B : Type 0} (b : Bool) (x y : B) → b ≡ false → cond b x y ≡ y
-unless b x y e = ap (λ t. cond t x y) e
-
 found_passes : {A : Type 0} (p : A → Bool) (xs : List A) (b : A) → find p xs ≡ Some b → p b ≡ true
 found_passes p [] b h = absurd cc
 found_passes p (x ∷ xs) b h =
     ⊎_elim
-    (λ (yes : p x ≡ true). let this : Some x ≡ Some b = sym (when (p x) (Some x) (find p xs) yes) ∙ h in let same : x ≡ b = cc in sym (ap p same) ∙ yes)
-    (λ (no : p x ≡ false). found_passes p xs b (sym (unless (p x) (Some x) (find p xs) no) ∙ h))
+    (λ (yes : p x ≡ true). let this : Some x ≡ Some b = sym (cond-true (p x) (Some x) (find p xs) yes) ∙ h in let same : x ≡ b = cc in sym (ap p same) ∙ yes)
+    (λ (no : p x ≡ false). found_passes p xs b (sym (cond-false (p x) (Some x) (find p xs) no) ∙ h))
     (cases_Bool (p x))
 
 -- what is found among the items that pass a test passes it
@@ -47,12 +41,12 @@ found_among p q [] b h = absurd cc
 found_among p q (x ∷ xs) b h =
     ⊎_elim
     (λ (in_it : q x ≡ true).
-    let whole : find p (x ∷ filter q xs) ≡ Some b = sym (ap (find p) (when (q x) (x ∷ filter q xs) (filter q xs) in_it)) ∙ h in
+    let whole : find p (x ∷ filter q xs) ≡ Some b = sym (ap (find p) (cond-true (q x) (x ∷ filter q xs) (filter q xs) in_it)) ∙ h in
     ⊎_elim
-    (λ (yes : p x ≡ true). let this : Some x ≡ Some b = sym (when (p x) (Some x) (find p (filter q xs)) yes) ∙ whole in let same : x ≡ b = cc in sym (ap q same) ∙ in_it)
-    (λ (no : p x ≡ false). found_among p q xs b (sym (unless (p x) (Some x) (find p (filter q xs)) no) ∙ whole))
+    (λ (yes : p x ≡ true). let this : Some x ≡ Some b = sym (cond-true (p x) (Some x) (find p (filter q xs)) yes) ∙ whole in let same : x ≡ b = cc in sym (ap q same) ∙ in_it)
+    (λ (no : p x ≡ false). found_among p q xs b (sym (cond-false (p x) (Some x) (find p (filter q xs)) no) ∙ whole))
     (cases_Bool (p x)))
-    (λ (out : q x ≡ false). found_among p q xs b (sym (ap (find p) (unless (q x) (x ∷ filter q xs) (filter q xs) out)) ∙ h))
+    (λ (out : q x ≡ false). found_among p q xs b (sym (ap (find p) (cond-false (q x) (x ∷ filter q xs) (filter q xs) out)) ∙ h))
     (cases_Bool (q x))
 
 -- and where none passes it, neither does what is found
@@ -60,11 +54,11 @@ found_outside : {A : Type 0} (p q : A → Bool) (xs : List A) (b : A) → filter
 found_outside p q [] b e h = absurd cc
 found_outside p q (x ∷ xs) b e h =
     ⊎_elim
-    (λ (in_it : q x ≡ true). let some : x ∷ filter q xs ≡ [] = sym (when (q x) (x ∷ filter q xs) (filter q xs) in_it) ∙ e in absurd cc)
+    (λ (in_it : q x ≡ true). let some : x ∷ filter q xs ≡ [] = sym (cond-true (q x) (x ∷ filter q xs) (filter q xs) in_it) ∙ e in absurd cc)
     (λ (out : q x ≡ false).
     ⊎_elim
-    (λ (yes : p x ≡ true). let this : Some x ≡ Some b = sym (when (p x) (Some x) (find p xs) yes) ∙ h in let same : x ≡ b = cc in sym (ap q same) ∙ out)
-    (λ (no : p x ≡ false). found_outside p q xs b (sym (unless (q x) (x ∷ filter q xs) (filter q xs) out) ∙ e) (sym (unless (p x) (Some x) (find p xs) no) ∙ h))
+    (λ (yes : p x ≡ true). let this : Some x ≡ Some b = sym (cond-true (p x) (Some x) (find p xs) yes) ∙ h in let same : x ≡ b = cc in sym (ap q same) ∙ out)
+    (λ (no : p x ≡ false). found_outside p q xs b (sym (cond-false (q x) (x ∷ filter q xs) (filter q xs) out) ∙ e) (sym (cond-false (p x) (Some x) (find p xs) no) ∙ h))
     (cases_Bool (p x)))
     (cases_Bool (q x))
 
@@ -74,10 +68,10 @@ found_still p q [] b h e k = absurd cc
 found_still p q (x ∷ xs) b h e k =
     ⊎_elim
     (λ (yes : p x ≡ true).
-    let this : Some x ≡ Some b = sym (when (p x) (Some x) (find p xs) yes) ∙ e in
+    let this : Some x ≡ Some b = sym (cond-true (p x) (Some x) (find p xs) yes) ∙ e in
     let same : x ≡ b = cc in
-    when (q x) (Some x) (find q xs) (ap q same ∙ k) ∙ this)
-    (λ (no : p x ≡ false). unless (q x) (Some x) (find q xs) (h x no) ∙ found_still p q xs b h (sym (unless (p x) (Some x) (find p xs) no) ∙ e) k)
+    cond-true (q x) (Some x) (find q xs) (ap q same ∙ k) ∙ this)
+    (λ (no : p x ≡ false). cond-false (q x) (Some x) (find q xs) (h x no) ∙ found_still p q xs b h (sym (cond-false (p x) (Some x) (find p xs) no) ∙ e) k)
     (cases_Bool (p x))
 
 or_true : (b : Bool) → (b || true) ≡ true
@@ -101,7 +95,7 @@ all_beaten : {A : Type 0} (lt : A → A → Bool) → IsOrder lt → (items xs :
 all_beaten lt order items [] b c h k = refl
 all_beaten lt order items (x ∷ xs) b c h k =
     let parts = or_parts (lt x b) (list_any (λ other. lt other b) xs) h in
-    unless (unbeaten lt (items ++ c ∷ []) x) (Some x) (find (unbeaten lt (items ++ c ∷ [])) xs) (beaten_by_last lt items c x (order.between c b x k parts.0))
+    cond-false (unbeaten lt (items ++ c ∷ []) x) (Some x) (find (unbeaten lt (items ++ c ∷ [])) xs) (beaten_by_last lt items c x (order.between c b x k parts.0))
     ∙ all_beaten lt order items xs b c parts.1 k
 
 -- and is beaten by none
@@ -114,7 +108,7 @@ none_beats lt order (x ∷ xs) b c h k =
     (none_beats lt order xs b c parts.1 k)
 
 best_one : {A : Type 0} (lt : A → A → Bool) → IsOrder lt → (c : A) → best lt (c ∷ []) ≡ Some c
-best_one lt order c = when (unbeaten lt (c ∷ []) c) (Some c) None (ap (λ t. not (t || false)) (order.not_itself c))
+best_one lt order c = cond-true (unbeaten lt (c ∷ []) c) (Some c) None (ap (λ t. not (t || false)) (order.not_itself c))
 
 stricter : {A : Type 0} (lt : A → A → Bool) (items : List A) (c x : A) → unbeaten lt items x ≡ false → unbeaten lt (items ++ c ∷ []) x ≡ false
 stricter lt items c x h =
@@ -130,13 +124,13 @@ best_more lt order items b c h =
     let last : p c ≡ true = same_with_last lt items c c (order.not_itself c) ∙ ap not (none_beats lt order items b c none yes) in
     find-append p items (c ∷ [])
     ∙ ap (λ o. option_or o (cond (p c) (Some c) None)) (all_beaten lt order items items b c none yes)
-    ∙ when (p c) (Some c) None last
-    ∙ sym (ap Some (when (lt c b) c b yes)))
+    ∙ cond-true (p c) (Some c) None last
+    ∙ sym (ap Some (cond-true (lt c b) c b yes)))
     (λ (no : lt c b ≡ false).
     let still : find p items ≡ Some b = found_still (unbeaten lt items) p items b (stricter lt items c) h (same_with_last lt items c b no ∙ ok) in
     find-append p items (c ∷ [])
     ∙ ap (λ o. option_or o (cond (p c) (Some c) None)) still
-    ∙ sym (ap Some (unless (lt c b) c b no)))
+    ∙ sym (ap Some (cond-false (lt c b) c b no)))
     (cases_Bool (lt c b))
 
 -- some item is the best one
@@ -190,13 +184,13 @@ covering_more asked start list [] c e h = best_one (is_nearer asked) (nearer_ord
     none_covers None k = refl
     none_covers (Some t) k =
         let out = found_outside (unbeaten (is_farther asked) list) (covers start) list t e k in
-        sym (ap Some (when (is_preferred asked start c t) c t (when (covers start c) (cond (covers start t) (is_nearer asked c t) true) (cond (covers start t) false (is_farther asked c t)) h ∙ unless (covers start t) (is_nearer asked c t) true out)))
+        sym (ap Some (cond-true (is_preferred asked start c t) c t (cond-true (covers start c) (cond (covers start t) (is_nearer asked c t) true) (cond (covers start t) false (is_farther asked c t)) h ∙ cond-false (covers start t) (is_nearer asked c t) true out)))
 covering_more asked start list (first ∷ some) c e h =
     let found = best_some (is_nearer asked) (nearer_order asked) (first ∷ []) some first (best_one (is_nearer asked) (nearer_order asked) first) in
     let b = found.0 in
     let covers_b = found_among (unbeaten (is_nearer asked) (first ∷ some)) (covers start) list b (ap (find (unbeaten (is_nearer asked) (first ∷ some))) e ∙ found.1) in
     best_more (is_nearer asked) (nearer_order asked) (first ∷ some) b c found.1
-    ∙ sym (ap (λ t. Some (cond t c b)) (when (covers start c) (cond (covers start b) (is_nearer asked c b) true) (cond (covers start b) false (is_farther asked c b)) h ∙ when (covers start b) (is_nearer asked c b) true covers_b))
+    ∙ sym (ap (λ t. Some (cond t c b)) (cond-true (covers start c) (cond (covers start b) (is_nearer asked c b) true) (cond (covers start b) false (is_farther asked c b)) h ∙ cond-true (covers start b) (is_nearer asked c b) true covers_b))
     ∙ sym (ap (λ o. instead asked start (option_or o (best (is_farther asked) list)) c) found.1)
 
 -- it doesn't: it counts only where none does
@@ -207,14 +201,14 @@ other_more asked start (first ∷ list) [] c e h =
     let t = found.0 in
     let out = found_outside (unbeaten (is_farther asked) (first ∷ list)) (covers start) (first ∷ list) t e found.1 in
     best_more (is_farther asked) (farther_order asked) (first ∷ list) t c found.1
-    ∙ sym (ap (λ b. Some (cond b c t)) (unless (covers start c) (cond (covers start t) (is_nearer asked c t) true) (cond (covers start t) false (is_farther asked c t)) h ∙ unless (covers start t) false (is_farther asked c t) out))
+    ∙ sym (ap (λ b. Some (cond b c t)) (cond-false (covers start c) (cond (covers start t) (is_nearer asked c t) true) (cond (covers start t) false (is_farther asked c t)) h ∙ cond-false (covers start t) false (is_farther asked c t) out))
     ∙ sym (ap (λ o. instead asked start o c) found.1)
 other_more asked start list (first ∷ some) c e h =
     let found = best_some (is_nearer asked) (nearer_order asked) (first ∷ []) some first (best_one (is_nearer asked) (nearer_order asked) first) in
     let b = found.0 in
     let covers_b = found_among (unbeaten (is_nearer asked) (first ∷ some)) (covers start) list b (ap (find (unbeaten (is_nearer asked) (first ∷ some))) e ∙ found.1) in
     ap (λ o. option_or o (best (is_farther asked) (list ++ c ∷ []))) found.1
-    ∙ sym (ap (λ t. Some (cond t c b)) (unless (covers start c) (cond (covers start b) (is_nearer asked c b) true) (cond (covers start b) false (is_farther asked c b)) h ∙ when (covers start b) false (is_farther asked c b) covers_b))
+    ∙ sym (ap (λ t. Some (cond t c b)) (cond-false (covers start c) (cond (covers start b) (is_nearer asked c b) true) (cond (covers start b) false (is_farther asked c b)) h ∙ cond-true (covers start b) false (is_farther asked c b) covers_b))
     ∙ sym (ap (λ o. instead asked start (option_or o (best (is_farther asked) list)) c) found.1)
 
 pub taken_more : (asked start : ℕ) (list : List Candidate) (c : Candidate) → taken asked start (list ++ c ∷ []) ≡ instead asked start (taken asked start list) c
@@ -223,11 +217,11 @@ taken_more asked start list c =
     let all = filter-append (covers start) list (c ∷ []) in
     ⊎_elim
     (λ (yes : covers start c ≡ true).
-    let with_it : filter (covers start) (list ++ c ∷ []) ≡ some ++ c ∷ [] = all ∙ ap (λ zs. some ++ zs) (when (covers start c) (c ∷ []) [] yes) in
+    let with_it : filter (covers start) (list ++ c ∷ []) ≡ some ++ c ∷ [] = all ∙ ap (λ zs. some ++ zs) (cond-true (covers start c) (c ∷ []) [] yes) in
     let one = covering_more asked start list some c refl yes in
     ap (λ zs. option_or (best (is_nearer asked) zs) (best (is_farther asked) (list ++ c ∷ []))) with_it ∙ ap (λ o. option_or o (best (is_farther asked) (list ++ c ∷ []))) one)
     (λ (no : covers start c ≡ false).
-    let without : filter (covers start) (list ++ c ∷ []) ≡ some = all ∙ ap (λ zs. some ++ zs) (unless (covers start c) (c ∷ []) [] no) ∙ append-nil some in
+    let without : filter (covers start) (list ++ c ∷ []) ≡ some = all ∙ ap (λ zs. some ++ zs) (cond-false (covers start c) (c ∷ []) [] no) ∙ append-nil some in
     ap (λ zs. option_or (best (is_nearer asked) zs) (best (is_farther asked) (list ++ c ∷ []))) without ∙ other_more asked start list some c refl no)
     (cases_Bool (covers start c))
 
@@ -264,7 +258,7 @@ pub other_function : (old : Searched) (step last : ℕ) (request : Request) (def
 unfolding with_best
 other_function old step last request defs def is other =
     let no : same_function def.function request.function ≡ false = sym (ap (λ (s : Searched). same_function def.function s.request.function) is) ∙ other in
-    let all : candidates step last request.function (defs ++ def ∷ []) ≡ candidates step last request.function defs = candidates_more step last request.function defs def ∙ ap (λ zs. candidates step last request.function defs ++ zs) (unless (same_function def.function request.function) (candidate step last (length defs, def) ∷ []) [] no) ∙ append-nil (candidates step last request.function defs) in
+    let all : candidates step last request.function (defs ++ def ∷ []) ≡ candidates step last request.function defs = candidates_more step last request.function defs def ∙ ap (λ zs. candidates step last request.function defs ++ zs) (cond-false (same_function def.function request.function) (candidate step last (length defs, def) ∷ []) [] no) ∙ append-nil (candidates step last request.function defs) in
     is ∙ sym (ap (λ zs. with_best step last request (taken request.asked request.start zs)) all)
 
 pub one_compared : (old : Searched) (number step last : ℕ) (request : Request) (defs : List RraDef) (def : RraDef) → number ≡ length defs → old ≡ searched step last request defs → same_function def.function old.request.function ≡ true → compared old number def ≡ searched step last request (defs ++ def ∷ [])
@@ -272,7 +266,7 @@ unfolding with_best
 one_compared old number step last request defs def count is same =
     let yes : same_function def.function request.function ≡ true = sym (ap (λ (s : Searched). same_function def.function s.request.function) is) ∙ same in
     let next = candidate step last (length defs, def) in
-    let all : candidates step last request.function (defs ++ def ∷ []) ≡ candidates step last request.function defs ++ next ∷ [] = candidates_more step last request.function defs def ∙ ap (λ zs. candidates step last request.function defs ++ zs) (when (same_function def.function request.function) (next ∷ []) [] yes) in
+    let all : candidates step last request.function (defs ++ def ∷ []) ≡ candidates step last request.function defs ++ next ∷ [] = candidates_more step last request.function defs def ∙ ap (λ zs. candidates step last request.function defs ++ zs) (cond-true (same_function def.function request.function) (next ∷ []) [] yes) in
     ap (λ (s : Searched). compared s number def) is
     ∙ ap (λ n. compared (searched step last request defs) n def) count
     ∙ ap (with_best step last request) (sym (taken_more request.asked request.start (candidates step last request.function defs) next))
@@ -283,8 +277,8 @@ first_taken asked start found next c none e = ap Some e ∙ ap (λ o. instead as
 
 pub next_taken : (asked start : ℕ) (found : Option Candidate) (next c b : Candidate) → found ≡ Some b → next ≡ c → is_preferred asked start next b ≡ true → Some next ≡ instead asked start found c
 next_taken asked start found next c b some e better =
-    sym (ap Some (when (is_preferred asked start next b) next b better)) ∙ ap (instead asked start (Some b)) e ∙ ap (λ o. instead asked start o c) (sym some)
+    sym (ap Some (cond-true (is_preferred asked start next b) next b better)) ∙ ap (instead asked start (Some b)) e ∙ ap (λ o. instead asked start o c) (sym some)
 
 pub old_stays : (asked start : ℕ) (found : Option Candidate) (next c b : Candidate) → found ≡ Some b → next ≡ c → is_preferred asked start next b ≡ false → found ≡ instead asked start found c
 old_stays asked start found next c b some e worse =
-    some ∙ sym (ap Some (unless (is_preferred asked start next b) next b worse)) ∙ ap (instead asked start (Some b)) e ∙ ap (λ o. instead asked start o c) (sym some)
+    some ∙ sym (ap Some (cond-false (is_preferred asked start next b) next b worse)) ∙ ap (instead asked start (Some b)) e ∙ ap (λ o. instead asked start o c) (sym some)

@@ -21,7 +21,7 @@ use Rattle.rrd_base.proofs.StoreLemmas.{rows_wide}
 use Rattle.rrd_base.proofs.Runs.{runs_agree, is_none-true}
 use Rattle.rrd_base.proofs.Moving.{listed_sound, moved_is, moved_depth, settings_of-content}
 use Rattle.std.proofs.lemmas.List.FromFn.{length-enumerate_from}
-use Rattle.rrd_base.proofs.Named.{same_is, same_itself}
+use Rattle.rrd_base.proofs.NameLemmas.{same_is, same_itself}
 use Rattle.rrd_base.specs.Validity.{IsRow, IsValidArchive, IsValid, FitsArchive, FitEach, Rise, Fits, IsValidJournal, IsValidDatabase, DatabaseStays, RevertTakesBack, RunsStay}
 use Rattle.rrd_base.proofs.Staying.{length-accepted, sound, stays_valid}
 use Rattle.rrd_base.specs.declared.tune.Tuning.{Tuning}

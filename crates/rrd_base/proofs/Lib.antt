@@ -12,7 +12,7 @@ pub mod Kept
 pub mod Bounded
 pub mod Rates
 pub mod Held
-pub mod Named
+pub mod NameLemmas
 pub mod Staying
 pub mod Fitting
 pub mod AllLemmas

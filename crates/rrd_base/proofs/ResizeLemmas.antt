@@ -1,6 +1,6 @@
 -- An archive with another number of rows.
-use Rattle.std.proofs.Common.{◌≡◌, refl, sym, ◌∙◌, ap, ℕ, zero, suc, ◌+◌, ◌-◌, ◌*◌, ◌/◌, ◌<◌, ◌≤◌, min, cond, eqb, List, [], ◌∷◌, ◌++◌, length, drop, map, replicate, set, get_or, sum, arith, append-nil, eq-eqb, length-append, None}
-use Rattle.std.proofs.lemmas.Bool.{leb-false, ne_eqb}
+use Rattle.std.proofs.Common.{◌≡◌, refl, sym, ◌∙◌, ap, subst, ℕ, zero, suc, ◌+◌, ◌-◌, ◌*◌, ◌/◌, ◌<◌, ◌≤◌, min, cond, eqb, ltb, List, [], ◌∷◌, ◌++◌, length, drop, map, replicate, set, get_or, sum, arith, append-nil, eq-eqb, length-append, None}
+use Rattle.std.proofs.lemmas.Bool.{leb-false, ltb-false, ne_eqb, or_parts}
 use Rattle.std.proofs.lemmas.List.{length-drop, length-map, length-replicate}
 use Rattle.std.specs.List.{fold, enumerate_from, AllByRecursion}
 use Rattle.rrd_fixed.specs.declared.cell.Cell.{Cell}
@@ -12,9 +12,10 @@ use Rattle.rrd_base.specs.Commands.{Resizing, moved_listed, rows_changed, rows_o
 use Rattle.rrd_base.specs.Entries.{rows_at}
 use Rattle.rrd_base.specs.Resized.{HasFewRows}
 use Rattle.rrd_base.specs.Validity.{IsValid, IsValidArchive}
-use Rattle.rrd_base.specs.Verdict.{verdict}
-use Rattle.rrd_base.proofs.Accepted.{accepted_passes}
+use Rattle.rrd_base.specs.Verdict.{grows_too_far, is_bad_rows, verdict}
+use Rattle.rrd_base.proofs.Accepted.{accepted_passes, some_rows}
 use Rattle.rrd_base.proofs.AllLemmas.{All-at}
+use Rattle.rrd_base.proofs.Staying.{few_changed}
 use Rattle.rrd_base.proofs.StoreLemmas.{width_is}
 use Rattle.rrd_base.proofs.Passing.{base_of_valid}
 use Rattle.rrd_base.proofs.Quiet.{content_resized, made, rows_none, row_parts_same, resized_other, resized_elsewhere}
@@ -162,8 +163,21 @@ there_is now k change rows h =
     let low = leb-false (length (rows_of_archives now.archives)) k (accepted_passes now (Resizing k change rows) h).0 in
     omega (arith, low, length-map now.archives (λ (a : Archive). a.def.rows))
 
+-- how many rows are asked for, and how many the archive then has
+pub resize_fits : (now : Content) (k : ℕ) (change : Change) (rows : ℕ) (d : Archive) → IsValid now → verdict now (Resizing k change rows) ≡ None → let n = rows_changed change (get_or now.archives k d).def.rows rows in (rows ≤ 1000000) × (0 < n) × (n ≤ 1000000)
+resize_fits now k change rows d is h =
+    let passes = accepted_passes now (Resizing k change rows) h in
+    let old = get_or (rows_of_archives now.archives) k 0 in
+    let there = there_is now k change rows h in
+    let same : old ≡ (get_or now.archives k d).def.rows = rows_at_archive now.archives k d there in
+    let few_old : old ≤ 1000000 = omega (arith, same, few_at now.archives k d there (have_few (length now.sources) (now.last / now.step) now.archives is.archives_are)) in
+    let few_asked = ltb-false 1000000 rows (or_parts (eqb rows 0) (ltb 1000000 rows) (or_parts (is_bad_rows rows) (grows_too_far change old rows) passes.1.0).0).1 in
+    subst (λ m. (rows ≤ 1000000) × (0 < rows_changed change m rows) × (rows_changed change m rows ≤ 1000000)) same
+    (few_asked, some_rows change old rows passes.1.0 passes.1.1.0, few_changed change old rows few_old passes.1.0)
+
 -- the new rows are as many as asked
-pub resized_is : (now : Content) (k : ℕ) (change : Change) (rows n : ℕ) (new : List (List Cell)) (d : Archive) → k < length now.archives → n ≡ rows_changed change (get_or now.archives k d).def.rows rows → new ≡ newest_rows n (rows_at now.archives k) → (length new ≡ n) × (content_listed now (Resized k (length new) ∷ []) ≡ moved_listed now (Resizing k change rows))
-resized_is now k change rows n new d there e f =
-    let count : length new ≡ n = ap length f ∙ length-newest_rows n (rows_at now.archives k) in
-    (count, ap (λ m. content_listed now (Resized k m ∷ [])) (count ∙ e ∙ ap (λ m. rows_changed change m rows) (sym (rows_at_archive now.archives k d there))))
+pub resized_is : (now : Content) (k : ℕ) (change : Change) (rows : ℕ) (new : List (List Cell)) → new ≡ newest_rows (rows_changed change (get_or (rows_of_archives now.archives) k 0) rows) (rows_at now.archives k) → (new ≡ newest_rows (length new) (rows_at now.archives k)) × (content_listed now (Resized k (length new) ∷ []) ≡ moved_listed now (Resizing k change rows))
+resized_is now k change rows new e =
+    let n = rows_changed change (get_or (rows_of_archives now.archives) k 0) rows in
+    let count : length new ≡ n = ap length e ∙ length-newest_rows n (rows_at now.archives k) in
+    (e ∙ ap (λ m. newest_rows m (rows_at now.archives k)) (sym count), ap (λ m. content_listed now (Resized k m ∷ [])) count)

@@ -27,7 +27,7 @@ use Rattle.rrd_base.specs.Entries.{IsSound}
 use Rattle.rrd_base.specs.Validity.{IsSource, AreAccepted, AreParts, IsRow, IsValidArchive, IsValid, StaysValid}
 use Rattle.rrd_base.proofs.Rates.{seconds_rows}
 use Rattle.rrd_base.proofs.Held.{LeavesGoodRows, are_archives, parts_valid, archives_valid}
-use Rattle.rrd_base.proofs.Named.{names_differ, names_tuned}
+use Rattle.rrd_base.proofs.NameLemmas.{names_differ, names_tuned}
 use Rattle.rrd_fixed.specs.Rounding.{floor_of}
 use Rattle.rrd_base.specs.declared.update.Given.{Given}
 use Rattle.rrd_base.specs.declared.update.Sample.{Sample}
@@ -227,7 +227,7 @@ few_rows_at sources steps index [] is = omega arith
 few_rows_at sources steps zero (archive ∷ archives) is = is.0.few_rows
 few_rows_at sources steps (suc index) (archive ∷ archives) is = few_rows_at sources steps index archives is.1
 
-few_changed : (change : Change) (old rows : ℕ) → old ≤ 1000000 → (is_bad_rows rows || grows_too_far change old rows) ≡ false → rows_changed change old rows ≤ 1000000
+pub few_changed : (change : Change) (old rows : ℕ) → old ≤ 1000000 → (is_bad_rows rows || grows_too_far change old rows) ≡ false → rows_changed change old rows ≤ 1000000
 few_changed Grow old rows h k = ltb-false 1000000 (old + rows) (or_parts (is_bad_rows rows) (grows_too_far Grow old rows) k).1
 few_changed Shrink old rows h k = omega arith
 

@@ -1,8 +1,9 @@
 //! What a database holds, but for its journal: how seconds and samples move it.
-ghost use Rattle.std.specs.Prelude.{◌≡◌, ℕ, ◌+◌, ◌-◌, ◌*◌, ◌/◌, ◌^◌, ◌<◌, ◌≤◌, [], ◌∷◌, length, map, replicate, slice_index_or, IfOk, None, pos, ◌-ℤ◌};
+ghost use Rattle.std.specs.Prelude.{◌≡◌, ◌+◌, ◌-◌, ◌*◌, ◌/◌, ◌^◌, ◌<◌, ◌≤◌, [], ◌∷◌, length, map, replicate, slice_index_or, IfOk, None, pos, ◌-ℤ◌};
 ghost use Rattle.std.specs.Int.{int_div_euclid};
+ghost use Rattle.std.specs.Result.{result_err};
 ghost use Rattle.rrd_base.specs.Choice.{choice_of};
-ghost use Rattle.rrd_base.specs.Commands.{TuningBy, Updating, moved_listed};
+ghost use Rattle.rrd_base.specs.Commands.{Resizing, TuningBy, Updating, moved_listed, rows_changed, rows_of_archives};
 ghost use Rattle.rrd_base.specs.Creating.{create_verdict, created};
 ghost use Rattle.rrd_base.specs.Shown.{cell_at, definitions, prep_at};
 ghost use Rattle.rrd_fixed.specs.declared.raw.Raw.TheVariants.{Unknown};
@@ -22,10 +23,11 @@ use crate::choose::{Chosen, Request, Search};
 use crate::definition::DsDef;
 use crate::entry::{BeforeUpdate, Entry, SourceBefore};
 use crate::preparing::{add_all, close_all, rates_into};
+use crate::resize::{Change, check_resize, rows_changed};
 use crate::room::Room;
 use crate::store::{Store, new_all, put_back_all, save_all, take_all};
-use crate::tune::{hold, put_held_back, tune_all};
-use crate::update::raws_into;
+use crate::tune::{check_tune, hold, put_held_back, tune_all};
+use crate::update::{check_update, raws_into};
 use crate::{CreateSpec, Refusal, Tuning, Update};
 use arrayvec::ArrayVec;
 use rrd_fixed::{Cell, Meter, Raw};
@@ -77,6 +79,32 @@ impl Contents {
             preps,
             stores,
         })
+    }
+
+    /// Whether an update is accepted, or the first refusal.
+    pub(crate) fn check_update(&self, update: &Update) -> Result<(), Refusal>
+        ensures { result_err result ≡ verdict self.now (Updating update.now) }
+    {
+        check_update(&self.sources, self.last, update)
+    }
+
+    /// Whether a tune is accepted, or the first refusal.
+    pub(crate) fn check_tune(&self, tuning: &Tuning) -> Result<(), Refusal>
+        ensures { result_err result ≡ verdict self.now (TuningBy tuning.now) }
+    {
+        check_tune(&self.sources, tuning)
+    }
+
+    /// Whether a resize is accepted, or the first refusal.
+    pub(crate) fn check_resize(
+        &self,
+        archive: u64,
+        change: Change,
+        rows: u64,
+    ) -> Result<(), Refusal>
+        ensures { result_err result ≡ verdict self.now (Resizing archive change rows) }
+    {
+        check_resize(&self.sources, &self.stores, archive, change, rows)
     }
 
     /// Which archive a fetch reads, and which of its rows.
@@ -285,19 +313,19 @@ impl Contents {
         hold(&self.sources, &self.raws, tuning)
     }
 
-    /// The rows that an archive has when it is resized to so many (1 to 1,000,000).
+    /// The rows that an archive has after an accepted resize.
     pub(crate) fn resized(
         &self,
         alloc: Global,
         archive: usize,
+        change: Change,
         rows: u64,
     ) -> Result<Archive, AllocError>
-        requires there { archive < length self.now.archives }
-        requires some_rows { 0 < rows }
-        requires few_rows { rows ≤ 1000000 }
-        ensures { IfOk result (λ new. new ≡ newest_rows rows (rows_at self.now.archives archive)) }
+        requires { verdict self.now (Resizing archive change rows) ≡ None }
+        ensures { IfOk result (λ new. new ≡ newest_rows (rows_changed change (slice_index_or (rows_of_archives self.now.archives) archive 0) rows) (rows_at self.now.archives archive)) }
     {
-        self.stores[archive].resized(alloc, rows)
+        let store = &self.stores[archive];
+        store.resized(alloc, rows_changed(change, store.def().rows, rows))
     }
 
     /// Gives an archive its resized rows, and gives the ones that it had. It takes no memory.

@@ -1,14 +1,13 @@
 //! Making a database.
-ghost use Rattle.std.specs.Prelude.{◌≡◌, ◌-◌, ◌^◌, min, not, map, length, sum};
+ghost use Rattle.std.specs.Prelude.{◌≡◌, ◌-◌, ◌^◌, min, not, map, sum};
 ghost use Rattle.std.specs.List.{list_any};
 ghost use Rattle.std.specs.Result.{result_err};
-ghost use Rattle.rrd_fixed.specs.Names.{is_good, same_name};
-ghost use Rattle.rrd_base.specs.Commands.{names};
+ghost use Rattle.rrd_fixed.specs.Names.{is_good};
 ghost use Rattle.rrd_base.specs.Creating as creating;
 ghost use Rattle.rrd_base.specs.Verdict as verdict;
 
+use crate::named::is_double;
 use crate::{DsDef, List, Refusal, RraDef};
-use rrd_fixed::Name;
 
 /// The latest time of a sample, a start or a fetch.
 pub(crate) const LATEST_TIME: u64 = 9_999_999_999;
@@ -86,7 +85,7 @@ fn check_sources(sources: &[DsDef]) -> Result<(), Refusal>
     if any_bad_name(sources) {
         return Err(Refusal::BadName);
     }
-    if any_double_name(sources) {
+    if is_double(sources) {
         return Err(Refusal::DoubleName);
     }
     if any_bad_heartbeat(sources) {
@@ -143,24 +142,6 @@ fn any_bad_name(sources: &[DsDef]) -> bool
     ensures { result ≡ list_any (λ source. not (is_good source.name)) sources.now }
 {
     sources.iter().any(|source| !source.name.good())
-}
-
-// Whether a name stands twice.
-fn any_double_name(sources: &[DsDef]) -> bool
-    ensures { result ≡ verdict.is_double (names sources.now) }
-{
-    for i in 0..sources.len() {
-        if any_named(&sources[i + 1..], &sources[i].name) {
-            return true;
-        }
-    }
-    false
-}
-
-fn any_named(sources: &[DsDef], name: &Name) -> bool
-    ensures { result ≡ list_any (λ source. same_name name.now source.name) sources.now }
-{
-    sources.iter().any(|source| name.same(&source.name))
 }
 
 fn any_bad_heartbeat(sources: &[DsDef]) -> bool

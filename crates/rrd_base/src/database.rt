@@ -1,5 +1,5 @@
 //! The database.
-ghost use Rattle.std.specs.Prelude.{◌≡◌, ◌<◌, ◌≢◌, [], length, IfOk, OnErr, MatchResult, Err, Some, slice_get, slice_index_or};
+ghost use Rattle.std.specs.Prelude.{◌≡◌, ◌<◌, ◌≢◌, [], length, IfOk, OnErr, Err, Some, slice_get, slice_index_or};
 ghost use Rattle.std.specs.Result.{result_err};
 ghost use Rattle.rrd_base.specs.Answers.{IsAnswer};
 ghost use Rattle.rrd_fixed.specs.declared.raw.Raw.TheVariants.{Unknown};
@@ -19,10 +19,8 @@ use crate::choose::Request;
 use crate::contents::Contents;
 use crate::create::check;
 use crate::entry::{Entry, count_cells};
-use crate::resize::{Change, check_resize, rows_changed};
+use crate::resize::Change;
 use crate::room::Room;
-use crate::tune::check_tune;
-use crate::update::check_update;
 use crate::{Chosen, CreateSpec, DsDef, Receipt, Refusal, RraDef, Tuning, Update};
 use circular_buffer::HeapCircularBuffer;
 use rrd_fixed::{Cell, Meter, Raw};
@@ -80,9 +78,7 @@ impl Database {
         ensures err { OnErr result (self.new ≡ self.old) }
     {
         let contents = &self.contents;
-        if let Some(refusal) = check_update(&contents.sources, contents.last, update) {
-            return Err(refusal);
-        }
+        contents.check_update(update)?;
         let Ok(before) = contents.before(alloc, end_of(update)) else {
             return Err(Refusal::OutOfMemory);
         };
@@ -108,9 +104,7 @@ impl Database {
         ensures err { OnErr result (self.new ≡ self.old) }
     {
         let contents = &self.contents;
-        if let Some(refusal) = check_tune(&contents.sources, tuning) {
-            return Err(refusal);
-        }
+        contents.check_tune(tuning)?;
         let held = contents.hold(tuning);
         self.contents.tune(tuning);
         let _oldest = self.journal.push_back(Entry::Tune(held));
@@ -133,18 +127,9 @@ impl Database {
         ensures err { OnErr result (self.new ≡ self.old) }
     {
         let contents = &self.contents;
-        if let Some(refusal) = check_resize(
-            &contents.sources,
-            &contents.stores,
-            archive,
-            change,
-            rows,
-        ) {
-            return Err(refusal);
-        }
+        contents.check_resize(archive, change, rows)?;
         let place = archive as usize;
-        let rows = rows_changed(change, contents.stores[place].def().rows, rows);
-        let Ok(new) = contents.resized(alloc, place, rows) else {
+        let Ok(new) = contents.resized(alloc, place, change, rows) else {
             return Err(Refusal::OutOfMemory);
         };
         let old = self.contents.resize(place, new);

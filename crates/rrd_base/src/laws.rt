@@ -1,5 +1,5 @@
 //! Laws of the definitions alone. Each is the contract of a function that does nothing.
-ghost use Rattle.std.specs.Prelude.{◌≡◌, ℕ, List};
+ghost use Rattle.std.specs.Prelude.{ℕ, List};
 ghost use Rattle.rrd_fixed.specs.declared.cell.Cell.{Cell};
 ghost use Rattle.rrd_base.specs.History.{Archive, Content, Event, Reading};
 ghost use Rattle.rrd_base.specs.Passed.{PassesInPieces, SampledPasses, RowsComeBack, ShowsByAge};

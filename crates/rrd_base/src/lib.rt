@@ -9,6 +9,7 @@ mod definition;
 mod entry;
 pub mod laws;
 mod list;
+mod named;
 mod preparing;
 mod refusal;
 mod resize;

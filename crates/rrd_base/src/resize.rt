@@ -1,6 +1,7 @@
 //! Changes of an archive's number of rows: which are accepted.
 ghost use Rattle.std.specs.Prelude.{◌≡◌, ◌<◌, ◌≤◌, length, slice_index_or, sum};
 ghost use Rattle.std.specs.List.{AllByRecursion};
+ghost use Rattle.std.specs.Result.{result_err};
 ghost use Rattle.rrd_base.specs.Commands.{all_rows_after, rows_changed, rows_of_archives};
 ghost use Rattle.rrd_base.specs.History.{Resized};
 ghost use Rattle.rrd_base.specs.Resized.{HasFewRows, settings};
@@ -77,32 +78,32 @@ fn all_rows_then(stores: &[Store], index: usize, change: Change, rows: u64) -> u
     all_rows(stores) - old + rows_changed(change, old, rows)
 }
 
-/// The first thing wrong with a resize; none if it is accepted (rrdresize).
+/// Whether a resize is accepted, or the first refusal (rrdresize).
 pub(crate) fn check_resize(
     sources: &[DsDef],
     stores: &[Store],
     index: u64,
     change: Change,
     rows: u64,
-) -> Option<Refusal>
+) -> Result<(), Refusal>
     requires few_sources { length sources.now ≤ 64 }
     requires few_rows { AllByRecursion HasFewRows stores.now }
     requires few { length stores.now ≤ 64 }
-    ensures { result ≡ verdict.first_refusal (verdict.resize_checks (settings sources.now stores.now) index change rows) }
+    ensures { result_err result ≡ verdict.first_refusal (verdict.resize_checks (settings sources.now stores.now) index change rows) }
 {
     if index >= stores.len() as u64 {
-        return Some(Refusal::NoSuchArchive);
+        return Err(Refusal::NoSuchArchive);
     }
     let old = stores[index as usize].def().rows;
     if is_bad_rows(rows) || grows_too_far(change, old, rows) {
-        return Some(Refusal::BadRows);
+        return Err(Refusal::BadRows);
     }
     if shrinks_too_far(change, old, rows) {
-        return Some(Refusal::ShrinkTooFar);
+        return Err(Refusal::ShrinkTooFar);
     }
     let all = all_rows_then(stores, index as usize, change, rows);
     if sources.len() as u64 * all > MOST_CELLS {
-        return Some(Refusal::TooLarge);
+        return Err(Refusal::TooLarge);
     }
-    None
+    Ok(())
 }

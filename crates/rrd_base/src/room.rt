@@ -1,5 +1,5 @@
 //! Room for the values of one sample, taken before a database changes.
-ghost use Rattle.std.specs.Prelude.{◌≡◌, length, IfOk};
+ghost use Rattle.std.specs.Prelude.{IfOk};
 
 use rrd_fixed::{Cell, Raw};
 use std::alloc::{AllocError, Global};

@@ -2,7 +2,7 @@
 //! worked out second by second, as a reader of the definitions would by hand. Nothing is carried
 //! along from group to group, no gap is jumped over, and there is no ring. Tests compare it with the
 //! real database.
-ghost use Rattle.std.specs.Prelude.{◌≡◌, ◌-◌, ◌^◌, ◌<◌, ◌≤◌, length, map, replicate, IfOk, IsTrue, ◌↔◌, None, Some, slice_get};
+ghost use Rattle.std.specs.Prelude.{◌≡◌, ◌^◌, ◌<◌, ◌≤◌, length, map, replicate, IfOk, IsTrue, ◌↔◌, None, Some, slice_get};
 ghost use Rattle.std.specs.List.{AllByRecursion, fold};
 ghost use Rattle.rrd_fixed.specs.Rate.{IsAccepted, IsBounded};
 ghost use Rattle.rrd_fixed.specs.declared.raw.Raw.TheVariants.{Unknown};

@@ -1,15 +1,16 @@
 //! Changes of sources' settings: what a tune asks, which tunes are accepted, and what they make.
 ghost use Rattle.std.specs.Prelude.{◌≡◌, ◌≤◌, length, map};
 ghost use Rattle.std.specs.List.{list_any};
+ghost use Rattle.std.specs.Result.{result_err};
 ghost use Rattle.rrd_base.specs.Commands as commands;
 ghost use Rattle.rrd_base.specs.Entries as entries;
-ghost use Rattle.rrd_base.specs.History.{raws_under, same_kind};
+ghost use Rattle.rrd_base.specs.History.{raws_under};
 ghost use Rattle.rrd_base.specs.Tuned.{held_of, with_raws, with_sources};
 ghost use Rattle.rrd_base.specs.Verdict as verdict;
 
 use crate::create::{has_bad_bounds, is_bad_heartbeat};
 use crate::entry::SourceBefore;
-use crate::update::has_source;
+use crate::named::has_source;
 use crate::{DsDef, Refusal};
 use arrayvec::ArrayVec;
 use rrd_fixed::{Kind, Name, Raw};
@@ -102,29 +103,29 @@ fn has_bad_heartbeat(tuning: &Tuning) -> bool
     }
 }
 
-/// The first thing wrong with a tune; none if it is accepted (rrdtune).
-pub(crate) fn check_tune(sources: &[DsDef], tuning: &Tuning) -> Option<Refusal>
-    ensures { result ≡ verdict.first_refusal (verdict.tune_checks sources.now tuning.now) }
+/// Whether a tune is accepted, or the first refusal (rrdtune).
+pub(crate) fn check_tune(sources: &[DsDef], tuning: &Tuning) -> Result<(), Refusal>
+    ensures { result_err result ≡ verdict.first_refusal (verdict.tune_checks sources.now tuning.now) }
 {
     if asks_nothing(tuning) {
-        return Some(Refusal::NothingToTune);
+        return Err(Refusal::NothingToTune);
     }
     if any_names_no_source(sources, tuning) {
-        return Some(Refusal::NoSuchSource);
+        return Err(Refusal::NoSuchSource);
     }
     if has_bad_name(tuning) {
-        return Some(Refusal::BadName);
+        return Err(Refusal::BadName);
     }
     if doubles_name(sources, tuning) {
-        return Some(Refusal::DoubleName);
+        return Err(Refusal::DoubleName);
     }
     if has_bad_heartbeat(tuning) {
-        return Some(Refusal::BadHeartbeat);
+        return Err(Refusal::BadHeartbeat);
     }
     if any_bad_bounds(sources, tuning) {
-        return Some(Refusal::BadBounds);
+        return Err(Refusal::BadBounds);
     }
-    None
+    Ok(())
 }
 
 // ---- what a tune makes
@@ -173,23 +174,7 @@ fn tuned(tuning: &Tuning, source: &DsDef) -> DsDef
 fn raw_under(old: Kind, new: Kind, raw: Raw) -> Raw
     ensures { result ≡ commands.raw_under old new raw }
 {
-    if same_kind(old, new) {
-        raw
-    } else {
-        Raw::Unknown
-    }
-}
-
-fn same_kind(old: Kind, new: Kind) -> bool
-    ensures { result ≡ same_kind old new }
-{
-    match (old, new) {
-        (Kind::Gauge, Kind::Gauge) => true,
-        (Kind::Counter, Kind::Counter) => true,
-        (Kind::Derive, Kind::Derive) => true,
-        (Kind::Absolute, Kind::Absolute) => true,
-        _ => false,
-    }
+    if old == new { raw } else { Raw::Unknown }
 }
 
 /// Gives each source its new settings.

@@ -1,14 +1,15 @@
 //! Samples for a database: what an update asks, and which updates are accepted.
-ghost use Rattle.std.specs.Prelude.{◌≡◌, ◌<◌, ◌≤◌, ◌∷◌, [], length, map, not, unwrap_or, option_map};
+ghost use Rattle.std.specs.Prelude.{◌≡◌, ◌∷◌, [], length, map, not};
 ghost use Rattle.std.specs.List.{list_any, list_all};
+ghost use Rattle.std.specs.Result.{result_err};
 ghost use Rattle.rrd_base.specs.Commands.{names, raw_of, value_for};
-ghost use Rattle.rrd_base.specs.Verdict.{first_refusal, has_source, is_admitted, is_double, sample_checks, update_checks};
+ghost use Rattle.rrd_base.specs.Verdict.{first_refusal, has_source, is_admitted, sample_checks, update_checks};
 ghost use Rattle.rrd_base.specs.Updating.{template_checks, template_of};
 ghost use Rattle.rrd_fixed.specs.Rate.{IsAccepted};
-ghost use Rattle.rrd_fixed.specs.Names.{same_name};
 
 use crate::create::LATEST_TIME;
 use crate::definition::DsDef;
+use crate::named::{Named, has_source, is_double};
 use crate::{List, Refusal};
 use rrd_fixed::{Name, Number, Raw, admit};
 
@@ -45,50 +46,12 @@ pub struct Receipt {
     pub cells: u64,
 }
 
-// Whether a source has that name.
-pub(crate) fn has_source(sources: &[DsDef], name: &Name) -> bool
-    ensures { result ≡ has_source sources.now name.now }
+// The value in the place of a source's name; unknown if it isn't there.
+fn value_named<T: Named>(named: &[T], values: &[Given], source: &DsDef) -> Given
+    ensures { result ≡ value_for (map T.called named.now) values.now source.now }
 {
-    sources.iter().any(|source| source.name.same(name))
-}
-
-// Whether a name stands among others.
-fn is_among(name: &Name, names: &[Name]) -> bool
-    ensures { result ≡ list_any (same_name name.now) names.now }
-{
-    names.iter().any(|other| name.same(other))
-}
-
-// Whether a name stands twice.
-fn is_double(names: &[Name]) -> bool
-    ensures { result ≡ is_double names.now }
-{
-    for (place, name) in names.iter().enumerate() {
-        if is_among(name, &names[place + 1..]) {
-            return true;
-        }
-    }
-    false
-}
-
-// The value in the place of a source's name in the template; unknown if it isn't there.
-fn value_named(template: &[Name], values: &[Given], source: &DsDef) -> Given
-    ensures { result ≡ value_for template.now values.now source.now }
-{
-    for place in 0..template.len().min(values.len()) {
-        if template[place].same(&source.name) {
-            return values[place];
-        }
-    }
-    Given::Unknown
-}
-
-// The value in the place of a source's name among all sources.
-fn value_placed(sources: &[DsDef], values: &[Given], source: &DsDef) -> Given
-    ensures { result ≡ value_for (names sources.now) values.now source.now }
-{
-    for place in 0..sources.len().min(values.len()) {
-        if sources[place].name.same(&source.name) {
+    for place in 0..named.len().min(values.len()) {
+        if named[place].name().same(&source.name) {
             return values[place];
         }
     }
@@ -106,7 +69,7 @@ fn value_for(
 {
     match template {
         Some(names) => value_named(names.as_slice(), values, source),
-        None => value_placed(sources, values, source),
+        None => value_named(sources, values, source),
     }
 }
 
@@ -137,47 +100,45 @@ fn are_admitted(template: &Option<List<Name>>, sources: &[DsDef], values: &[Give
     sources.iter().all(|source| is_admitted(source, value_for(template, sources, values, source)))
 }
 
-// The first thing wrong with a sample after one at `last`.
+// Whether a sample after one at `last` is accepted, or the first refusal.
 fn check_sample(
     template: &Option<List<Name>>,
     sources: &[DsDef],
     last: u64,
     sample: &Sample,
-) -> Option<Refusal>
-    ensures { result ≡ first_refusal (sample_checks sources.now (template_of sources.now template.now) last (sample.now ∷ [])) }
+) -> Result<(), Refusal>
+    ensures { result_err result ≡ first_refusal (sample_checks sources.now (template_of sources.now template.now) last (sample.now ∷ [])) }
 {
     if sample.time > LATEST_TIME {
-        return Some(Refusal::BadTime);
+        return Err(Refusal::BadTime);
     }
     if sample.time <= last {
-        return Some(Refusal::NotLater { last });
+        return Err(Refusal::NotLater { last });
     }
     if sample.values.len() != width(template, sources) {
-        return Some(Refusal::WrongCount);
+        return Err(Refusal::WrongCount);
     }
     if !are_admitted(template, sources, sample.values.as_slice()) {
-        return Some(Refusal::BadValue);
+        return Err(Refusal::BadValue);
     }
-    None
+    Ok(())
 }
 
-// The first thing wrong with the samples.
+// Whether the samples are accepted, or the first refusal.
 fn check_samples(
     template: &Option<List<Name>>,
     sources: &[DsDef],
     last: u64,
     samples: &[Sample],
-) -> Option<Refusal>
-    ensures { result ≡ first_refusal (sample_checks sources.now (template_of sources.now template.now) last samples.now) }
+) -> Result<(), Refusal>
+    ensures { result_err result ≡ first_refusal (sample_checks sources.now (template_of sources.now template.now) last samples.now) }
 {
     let mut last = last;
     for sample in samples {
-        if let Some(refusal) = check_sample(template, sources, last, sample) {
-            return Some(refusal);
-        }
+        check_sample(template, sources, last, sample)?;
         last = sample.time;
     }
-    None
+    Ok(())
 }
 
 // Whether one of the names is no source's.
@@ -187,32 +148,30 @@ fn is_unknown(sources: &[DsDef], names: &[Name]) -> bool
     names.iter().any(|name| !has_source(sources, name))
 }
 
-// The first thing wrong with the template.
-fn check_template(template: &Option<List<Name>>, sources: &[DsDef]) -> Option<Refusal>
-    ensures { result ≡ first_refusal (template_checks sources.now template.now) }
+// Whether the template is accepted, or the first refusal.
+fn check_template(template: &Option<List<Name>>, sources: &[DsDef]) -> Result<(), Refusal>
+    ensures { result_err result ≡ first_refusal (template_checks sources.now template.now) }
 {
     let Some(names) = template else {
-        return None;
+        return Ok(());
     };
     if is_unknown(sources, names.as_slice()) {
-        return Some(Refusal::NoSuchSource);
+        return Err(Refusal::NoSuchSource);
     }
     if is_double(names.as_slice()) {
-        return Some(Refusal::DoubleName);
+        return Err(Refusal::DoubleName);
     }
-    None
+    Ok(())
 }
 
-/// The first thing wrong with an update; none if it is accepted (rrdupdate).
-pub(crate) fn check_update(sources: &[DsDef], last: u64, update: &Update) -> Option<Refusal>
-    ensures { result ≡ first_refusal (update_checks sources.now last update.now) }
+/// Whether an update is accepted, or the first refusal (rrdupdate).
+pub(crate) fn check_update(sources: &[DsDef], last: u64, update: &Update) -> Result<(), Refusal>
+    ensures { result_err result ≡ first_refusal (update_checks sources.now last update.now) }
 {
-    if let Some(refusal) = check_template(&update.template, sources) {
-        return Some(refusal);
-    }
+    check_template(&update.template, sources)?;
     let samples = update.samples.as_slice();
     if samples.is_empty() {
-        return Some(Refusal::NoSample);
+        return Err(Refusal::NoSample);
     }
     check_samples(&update.template, sources, last, samples)
 }

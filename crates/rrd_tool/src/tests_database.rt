@@ -12,11 +12,11 @@ pub(crate) const NONE: Cell = Cell::Unknown;
 // ---- what the tests are made of
 
 // So many whole units, written without a point.
-pub(crate) fn units(number: u32) -> Given {
-    Given::Number(Number {
+pub(crate) fn units(number: u32) -> Number {
+    Number {
         millionths: i128::from(number) * 1_000_000,
         point: false,
-    })
+    }
 }
 
 pub(crate) fn name_of(bytes: &[u8]) -> Result<Name, &'static str> {
@@ -82,19 +82,17 @@ pub(crate) fn of_four_rows(alloc: Global, depth: u64) -> Result<Database, Fail> 
     of_one(alloc, 10, depth, source(b"g", Kind::Gauge, 100)?, &defs)
 }
 
-fn sample(alloc: Global, time: u64, given: &[Given]) -> Result<Sample, AllocError> {
+fn sample(alloc: Global, time: u64, value: u32) -> Result<Sample, AllocError> {
     let mut values = List::new(alloc);
-    for value in given {
-        values.push(*value)?;
-    }
+    values.push(Given::Number(units(value)))?;
     Ok(Sample { time, values })
 }
 
-// An update without a template, of samples of one value each.
-pub(crate) fn update_of(alloc: Global, samples: &[(u64, Given)]) -> Result<Update, AllocError> {
+// An update without a template, of samples of one value each, in whole units.
+pub(crate) fn update_of(alloc: Global, samples: &[(u64, u32)]) -> Result<Update, AllocError> {
     let mut list = List::new(alloc);
-    for (time, given) in samples {
-        list.push(sample(alloc, *time, &[*given])?)?;
+    for (time, value) in samples {
+        list.push(sample(alloc, *time, *value)?)?;
     }
     Ok(Update {
         template: None,
@@ -102,13 +100,15 @@ pub(crate) fn update_of(alloc: Global, samples: &[(u64, Given)]) -> Result<Updat
     })
 }
 
+// Takes such an update, and tells how many cells its journal entry holds.
 pub(crate) fn take(
     alloc: Global,
     database: &mut Database,
-    samples: &[(u64, Given)],
-) -> Result<(), Fail> {
-    database.update(alloc, &update_of(alloc, samples)?)?;
-    Ok(())
+    samples: &[(u64, u32)],
+) -> Result<u64, Fail> {
+    let update = update_of(alloc, samples)?;
+    let receipt = database.update(alloc, &update)?;
+    Ok(receipt.cells)
 }
 
 // The cell of an archive's row at a time.
@@ -160,14 +160,11 @@ fn of_two_archives(alloc: Global) -> Result<Database, Fail> {
     ];
     let g = source(b"g", Kind::Gauge, 100)?;
     let mut database = of_one(alloc, 10, 7, g, &defs)?;
-    let samples = [(10, units(2)), (20, units(5)), (24, units(6))];
-    take(alloc, &mut database, &samples)?;
+    take(alloc, &mut database, &[(10, 2), (20, 5), (24, 6)])?;
     Ok(database)
 }
 
-#[test]
-fn settings(rt: HostRuntime) -> Result<(), Fail> {
-    let database = of_two_archives(rt.alloc())?;
+fn assert_settings(rt: &impl Abort, database: &Database) {
     assert_eq!(rt; (database.step(), database.depth()), (10, 7));
     assert_eq!(rt; (database.sources(), database.archives()), (1, 2));
     let source = database.source(0);
@@ -176,12 +173,9 @@ fn settings(rt: HostRuntime) -> Result<(), Fail> {
     let second = database.archive(1);
     assert_eq!(rt; (second.function, second.xff), (Function::Average, 500_000));
     assert_eq!(rt; (second.steps, second.rows), (3, 5));
-    Ok(())
 }
 
-#[test]
-fn what_is_unfinished(rt: HostRuntime) -> Result<(), Fail> {
-    let database = of_two_archives(rt.alloc())?;
+fn assert_unfinished(rt: &impl Abort, database: &Database) {
     assert_eq!(rt; (database.last(), database.undoable()), (24, 1));
     assert_eq!(rt; (database.sources(), database.archives()), (1, 2));
     assert_eq!(rt; database.last_raw(0), Raw::Known(6_000_000));
@@ -192,6 +186,13 @@ fn what_is_unfinished(rt: HostRuntime) -> Result<(), Fail> {
     assert_eq!(rt; row.function(), Function::Average);
     let fresh = database.row_prep(0, 0);
     assert_eq!(rt; (fresh.known(), fresh.value()), (0, 0));
+}
+
+#[test]
+fn settings_and_what_is_unfinished(rt: HostRuntime) -> Result<(), Fail> {
+    let database = of_two_archives(rt.alloc())?;
+    assert_settings(&rt, &database);
+    assert_unfinished(&rt, &database);
     Ok(())
 }
 
@@ -232,11 +233,10 @@ fn there_and_back(
     rt: &impl Abort,
     alloc: Global,
     database: &mut Database,
-    samples: &[(u64, Given)],
+    samples: &[(u64, u32)],
     first: i64,
     rows: &[i128],
 ) -> Result<(), Fail> {
-    assert_before(rt, database);
     take(alloc, database, samples)?;
     assert_rows(rt, database, first, 10, rows);
     database.revert()?;
@@ -244,37 +244,43 @@ fn there_and_back(
     Ok(())
 }
 
-// One update of several samples that together finish fewer rows than the archive has, as many, and
-// more; and one of one sample. The other half of the first step is at 5, so its row is 6.
+const BEFORE: &[(u64, u32)] = &[(10, 1), (20, 2), (30, 3), (40, 4), (45, 7)];
+
+// Updates, where their last four rows begin, and those rows. Of several samples that together finish
+// fewer rows than the archive has, as many, and more; and of one. The other half of the first step is
+// at 5, so its row is 6.
+const UPDATES: &[(&[(u64, u32)], i64, &[i128])] = &[
+    (
+        &[(50, 5), (60, 6)],
+        30,
+        &[3_000_000, 4_000_000, 6_000_000, 6_000_000],
+    ),
+    (
+        &[(50, 5), (60, 6), (80, 8)],
+        50,
+        &[6_000_000, 6_000_000, 8_000_000, 8_000_000],
+    ),
+    (
+        &[(50, 5), (60, 6), (80, 8), (90, 9), (100, 10)],
+        70,
+        &[8_000_000, 8_000_000, 9_000_000, 10_000_000],
+    ),
+    (
+        &[(145, 9)],
+        110,
+        &[9_000_000, 9_000_000, 9_000_000, 9_000_000],
+    ),
+];
+
 #[test]
 fn updates_are_taken_back(rt: HostRuntime) -> Result<(), Fail> {
     let alloc = rt.alloc();
     let mut database = of_four_rows(alloc, 16)?;
-    let before = [
-        (10, units(1)),
-        (20, units(2)),
-        (30, units(3)),
-        (40, units(4)),
-        (45, units(7)),
-    ];
-    take(alloc, &mut database, &before)?;
-    let fewer = [(50, units(5)), (60, units(6))];
-    let rows = [3_000_000, 4_000_000, 6_000_000, 6_000_000];
-    there_and_back(&rt, alloc, &mut database, &fewer, 30, &rows)?;
-    let as_many = [(50, units(5)), (60, units(6)), (80, units(8))];
-    let rows = [6_000_000, 6_000_000, 8_000_000, 8_000_000];
-    there_and_back(&rt, alloc, &mut database, &as_many, 50, &rows)?;
-    let more = [
-        (50, units(5)),
-        (60, units(6)),
-        (80, units(8)),
-        (90, units(9)),
-        (100, units(10)),
-    ];
-    let rows = [8_000_000, 8_000_000, 9_000_000, 10_000_000];
-    there_and_back(&rt, alloc, &mut database, &more, 70, &rows)?;
-    let rows = [9_000_000, 9_000_000, 9_000_000, 9_000_000];
-    there_and_back(&rt, alloc, &mut database, &[(145, units(9))], 110, &rows)?;
+    take(alloc, &mut database, BEFORE)?;
+    assert_before(&rt, &database);
+    for (samples, first, rows) in UPDATES {
+        there_and_back(&rt, alloc, &mut database, samples, *first, rows)?;
+    }
     Ok(())
 }
 

@@ -1,7 +1,7 @@
 //! Tunes and resizes, what the journal holds of a change, and what taking it back leaves.
 use crate::tests_database::{
-    NONE, archive, assert_rows, cell, many_sources, name_of, of_four_rows, of_one, raw, source,
-    spec, take, units, update_of,
+    NONE, archive, assert_rows, cell, many_sources, name_of, of_four_rows, of_one, source, spec,
+    take,
 };
 use rrd_base::{Change, Database, Entry, Refusal, SavedArchive, Tuning};
 use rrd_fixed::{Cell, Kind, Raw};
@@ -9,17 +9,6 @@ use rrd_fold::Function;
 use std::alloc::Global;
 use std::process::Abort;
 use std::test::Fail;
-
-// A tune that asks nothing.
-fn nothing() -> Tuning {
-    Tuning {
-        heartbeat: None,
-        minimum: None,
-        maximum: None,
-        kind: None,
-        rename: None,
-    }
-}
 
 // The newest entry.
 fn newest<'a>(rt: &impl Abort, database: &'a Database) -> &'a Entry {
@@ -53,16 +42,14 @@ fn updated_twice(rt: &impl Abort, alloc: Global) -> Result<Database, Fail> {
     ];
     let g = source(b"g", Kind::Gauge, 1_000)?;
     let mut database = of_one(alloc, 10, 16, g, &defs)?;
-    let first = database.update(alloc, &update_of(alloc, &[(15, units(2))])?)?;
-    let second = database.update(alloc, &update_of(alloc, &[(215, units(5))])?)?;
-    assert_eq!(rt; (first.cells, second.cells), (0, 12));
+    let first = take(alloc, &mut database, &[(15, 2)])?;
+    let second = take(alloc, &mut database, &[(215, 5)])?;
+    assert_eq!(rt; (first, second), (0, 12));
     Ok(database)
 }
 
-#[test]
-fn an_update_keeps_what_it_replaces(rt: HostRuntime) -> Result<(), Fail> {
-    let database = updated_twice(&rt, rt.alloc())?;
-    let Entry::Update(before) = newest(&rt, &database) else {
+fn assert_second_update_kept(rt: &impl Abort, database: &Database) {
+    let Entry::Update(before) = newest(rt, database) else {
         panic!(rt; "no update")
     };
     assert_eq!(rt; before.last, 15);
@@ -71,15 +58,13 @@ fn an_update_keeps_what_it_replaces(rt: HostRuntime) -> Result<(), Fail> {
     let step = &before.preps[0];
     assert_eq!(rt; (step.known(), step.sum()), (5, 10_000_000));
     assert_eq!(rt; before.archives.len(), 3);
-    assert_kept(&rt, &before.archives[0], Function::Average, 2);
-    assert_kept(&rt, &before.archives[1], Function::Min, 5);
-    assert_kept(&rt, &before.archives[2], Function::Max, 5);
-    Ok(())
+    assert_kept(rt, &before.archives[0], Function::Average, 2);
+    assert_kept(rt, &before.archives[1], Function::Min, 5);
+    assert_kept(rt, &before.archives[2], Function::Max, 5);
 }
 
-#[test]
-fn an_update_that_finishes_no_row_keeps_none(rt: HostRuntime) -> Result<(), Fail> {
-    let database = updated_twice(&rt, rt.alloc())?;
+// It finished no row.
+fn assert_first_update_kept(rt: &impl Abort, database: &Database) {
     assert!(rt; 1 < database.undoable());
     let Entry::Update(before) = database.entry(1) else {
         panic!(rt; "no update")
@@ -88,30 +73,29 @@ fn an_update_that_finishes_no_row_keeps_none(rt: HostRuntime) -> Result<(), Fail
     for kept in &before.archives {
         assert_eq!(rt; kept.rows().len(), 0);
     }
+}
+
+#[test]
+fn an_update_keeps_what_it_replaces(rt: HostRuntime) -> Result<(), Fail> {
+    let database = updated_twice(&rt, rt.alloc())?;
+    assert_second_update_kept(&rt, &database);
+    assert_first_update_kept(&rt, &database);
     Ok(())
 }
 
 // ---- tunes
 
-#[test]
-fn another_type_and_name(rt: HostRuntime) -> Result<(), Fail> {
-    let alloc = rt.alloc();
-    let defs = [archive(Function::Last, 1, 4)];
-    let counter = source(b"c", Kind::Counter, 100)?;
-    let mut database = of_one(alloc, 10, 16, counter, &defs)?;
-    take(alloc, &mut database, &[(10, units(7))])?;
-    assert_eq!(rt; raw(&rt, &database, 0), Raw::Known(7));
-    let tuning = Tuning {
-        kind: Some((name_of(b"c")?, Kind::Gauge)),
-        rename: Some((name_of(b"c")?, name_of(b"g")?)),
-        ..nothing()
-    };
-    database.tune(&tuning)?;
-    assert_eq!(rt; raw(&rt, &database, 0), Raw::Unknown);
+// The only source has this name, type and last raw value.
+fn assert_source(rt: &impl Abort, database: &Database, name: &str, kind: Kind, raw: Raw) {
     assert!(rt; database.sources() == 1);
-    let tuned = database.source(0);
-    assert_eq!(rt; (tuned.name.as_str(), tuned.kind), ("g", Kind::Gauge));
-    let Entry::Tune(sources) = newest(&rt, &database) else {
+    let source = database.source(0);
+    assert_eq!(rt; (source.name.as_str(), source.kind), (name, kind));
+    assert_eq!(rt; database.last_raw(0), raw);
+}
+
+// The newest entry is that of a tune of a counter.
+fn assert_counter_kept(rt: &impl Abort, database: &Database) {
+    let Entry::Tune(sources) = newest(rt, database) else {
         panic!(rt; "no tune")
     };
     assert_eq!(rt; sources.len(), 1);
@@ -121,44 +105,78 @@ fn another_type_and_name(rt: HostRuntime) -> Result<(), Fail> {
         (before.source.kind, before.raw),
         (Kind::Counter, Raw::Known(7))
     );
+}
+
+fn of_counter(alloc: Global) -> Result<Database, Fail> {
+    let defs = [archive(Function::Last, 1, 4)];
+    let counter = source(b"c", Kind::Counter, 100)?;
+    let mut database = of_one(alloc, 10, 16, counter, &defs)?;
+    take(alloc, &mut database, &[(10, 7)])?;
+    Ok(database)
+}
+
+fn gauge_named_g() -> Result<Tuning, &'static str> {
+    Ok(Tuning {
+        heartbeat: None,
+        minimum: None,
+        maximum: None,
+        kind: Some((name_of(b"c")?, Kind::Gauge)),
+        rename: Some((name_of(b"c")?, name_of(b"g")?)),
+    })
+}
+
+#[test]
+fn another_type_and_name(rt: HostRuntime) -> Result<(), Fail> {
+    let tuning = gauge_named_g()?;
+    let mut database = of_counter(rt.alloc())?;
+    assert_source(&rt, &database, "c", Kind::Counter, Raw::Known(7));
+    database.tune(&tuning)?;
+    assert_source(&rt, &database, "g", Kind::Gauge, Raw::Unknown);
+    assert_counter_kept(&rt, &database);
     database.revert()?;
-    assert_eq!(rt; raw(&rt, &database, 0), Raw::Known(7));
-    assert!(rt; database.sources() == 1);
-    let back = database.source(0);
-    assert_eq!(rt; (back.name.as_str(), back.kind), ("c", Kind::Counter));
+    assert_source(&rt, &database, "c", Kind::Counter, Raw::Known(7));
     Ok(())
+}
+
+fn counter_again() -> Result<Tuning, &'static str> {
+    Ok(Tuning {
+        heartbeat: None,
+        minimum: None,
+        maximum: None,
+        kind: Some((name_of(b"c")?, Kind::Counter)),
+        rename: None,
+    })
 }
 
 #[test]
 fn the_same_type_keeps_the_raw_value(rt: HostRuntime) -> Result<(), Fail> {
-    let alloc = rt.alloc();
-    let mut database = of_four_rows(alloc, 16)?;
-    take(alloc, &mut database, &[(10, units(7))])?;
-    let tuning = Tuning {
-        kind: Some((name_of(b"g")?, Kind::Gauge)),
-        ..nothing()
-    };
+    let tuning = counter_again()?;
+    let mut database = of_counter(rt.alloc())?;
     database.tune(&tuning)?;
-    assert_eq!(rt; raw(&rt, &database, 0), Raw::Known(7_000_000));
+    assert_source(&rt, &database, "c", Kind::Counter, Raw::Known(7));
     assert_eq!(rt; database.undoable(), 2);
     Ok(())
 }
 
 // ---- resizes
 
-#[test]
-fn a_resize_keeps_the_old_rows(rt: HostRuntime) -> Result<(), Fail> {
-    let alloc = rt.alloc();
-    let mut database = of_four_rows(alloc, 16)?;
-    take(alloc, &mut database, &[(20, units(1)), (40, units(2))])?;
-    database.resize(alloc, 0, Change::Shrink, 3)?;
-    let Entry::Resize { archive: 0, old } = newest(&rt, &database) else {
+fn assert_four_rows_kept(rt: &impl Abort, database: &Database) {
+    let Entry::Resize { archive: 0, old } = newest(rt, database) else {
         panic!(rt; "no resize")
     };
     assert_eq!(rt; old.rows(), 4);
     assert_eq!(rt; old.row(0), [Cell::Known(1_000_000)].as_slice());
     assert!(rt; database.archives() == 1);
     assert_eq!(rt; database.archive(0).rows, 1);
+}
+
+#[test]
+fn a_resize_keeps_the_old_rows(rt: HostRuntime) -> Result<(), Fail> {
+    let alloc = rt.alloc();
+    let mut database = of_four_rows(alloc, 16)?;
+    take(alloc, &mut database, &[(20, 1), (40, 2)])?;
+    database.resize(alloc, 0, Change::Shrink, 3)?;
+    assert_four_rows_kept(&rt, &database);
     assert_rows(&rt, &database, 40, 10, &[2_000_000]);
     database.revert()?;
     let rows = [1_000_000, 1_000_000, 2_000_000, 2_000_000];
@@ -166,13 +184,18 @@ fn a_resize_keeps_the_old_rows(rt: HostRuntime) -> Result<(), Fail> {
     Ok(())
 }
 
-// 64 sources with 62,500 rows have 4,000,000 cells; one row more is too much.
+// 64 sources with 62,499 rows have less than 4,000,000 cells.
+fn nearly_full(alloc: Global) -> Result<Database, Fail> {
+    let defs = [archive(Function::Last, 1, 62_499)];
+    let large = spec(alloc, 300, 1, many_sources(alloc, 64)?, &defs)?;
+    Ok(Database::create(alloc, large)?)
+}
+
+// One row more makes 4,000,000, and that is the limit.
 #[test]
 fn four_million_cells_by_resize(rt: HostRuntime) -> Result<(), Fail> {
     let alloc = rt.alloc();
-    let defs = [archive(Function::Last, 1, 62_499)];
-    let large = spec(alloc, 300, 1, many_sources(alloc, 64)?, &defs)?;
-    let mut database = Database::create(alloc, large)?;
+    let mut database = nearly_full(alloc)?;
     let refused = database.resize(alloc, 0, Change::Grow, 2);
     assert_eq!(rt; refused, Err(Refusal::TooLarge));
     database.resize(alloc, 0, Change::Grow, 1)?;

@@ -1,9 +1,10 @@
 //! Words and the commands that they are, as a table. The words of a line stand between single
 //! spaces, and now is 1000.
 use crate::{Command, LineFault, Words, read_command};
-use rrd_base::{CreateSpec, DsDef, Given, List, RraDef, Tuning, Update};
-use rrd_fixed::Name;
+use rrd_base::{CreateSpec, DsDef, Given, RraDef, Tuning, Update};
+use rrd_fixed::{Name, Number};
 use std::alloc::Global;
+use std::fmt::{self, Display, Formatter};
 use std::test::Fail;
 
 fn read(alloc: Global, line: &str, now: u64) -> Result<String, Fail> {
@@ -11,121 +12,124 @@ fn read(alloc: Global, line: &str, now: u64) -> Result<String, Fail> {
     for word in line.split(' ') {
         words.push(word)?;
     }
-    told(alloc, &read_command(alloc, &words, now))
+    let read = read_command(alloc, &words, now);
+    Ok(format!(in alloc; "{}", Told(&read))?)
 }
 
-fn told(alloc: Global, read: &Result<Command, LineFault>) -> Result<String, Fail> {
-    Ok(match read {
-        Ok(Command::Create(spec)) => told_create(alloc, spec)?,
-        Ok(Command::Update(update)) => told_update(alloc, update)?,
-        Ok(Command::Tune(tuning)) => told_tune(alloc, tuning)?,
-        Ok(
-            Command::Resize {
-                index,
-                change,
-                rows,
-            },
-        ) => format!(in alloc; "resize {index} {change:?} {rows}")?,
-        Ok(
-            Command::Fetch {
-                function,
-                asked,
-                start,
-                stop,
-            },
-        ) => format!(in alloc; "fetch {function:?} {asked} {start} {stop}")?,
-        Ok(Command::Last) => format!(in alloc; "last")?,
-        Ok(Command::Revert) => format!(in alloc; "revert")?,
-        Err(fault) => format!(in alloc; "{fault}")?,
-    })
+// What was read, with all that a command holds.
+#[derive(Clone, Copy)]
+struct Told<'a>(&'a Result<Command, LineFault>);
+
+impl Display for Told<'_> {
+    fn fmt<W: fmt::Write>(&self, f: &mut Formatter<W>) -> fmt::Result {
+        match self.0 {
+            Ok(command) => tell(f, command),
+            Err(fault) => write!(f, "{fault}"),
+        }
+    }
 }
 
-fn told_create(alloc: Global, spec: &CreateSpec) -> Result<String, Fail> {
-    let mut text = format!(in alloc; "create {} {} {}", spec.step, spec.start, spec.depth)?;
+fn tell<W: fmt::Write>(f: &mut Formatter<W>, command: &Command) -> fmt::Result {
+    match command {
+        Command::Create(spec) => tell_create(f, spec),
+        Command::Update(update) => tell_update(f, update),
+        Command::Tune(tuning) => tell_tune(f, tuning),
+        Command::Resize {
+            index,
+            change,
+            rows,
+        } => write!(f, "resize {index} {change:?} {rows}"),
+        Command::Fetch {
+            function,
+            asked,
+            start,
+            stop,
+        } => write!(f, "fetch {function:?} {asked} {start} {stop}"),
+        Command::Last => write!(f, "last"),
+        Command::Revert => write!(f, "revert"),
+    }
+}
+
+fn tell_create<W: fmt::Write>(f: &mut Formatter<W>, spec: &CreateSpec) -> fmt::Result {
+    write!(f, "create {} {} {}", spec.step, spec.start, spec.depth)?;
     for source in spec.sources.as_slice() {
-        text.push_str(told_source(alloc, source)?.as_str())?;
+        tell_source(f, source)?;
     }
     for archive in spec.archives.as_slice() {
-        text.push_str(told_archive(alloc, archive)?.as_str())?;
-    }
-    Ok(text)
-}
-
-fn told_source(alloc: Global, source: &DsDef) -> Result<String, Fail> {
-    let name = source.name.as_str();
-    let (kind, heartbeat) = (source.kind, source.heartbeat);
-    let (min, max) = (source.min, source.max);
-    Ok(format!(in alloc; " DS:{name}:{kind:?}:{heartbeat}:{min:?}:{max:?}")?)
-}
-
-fn told_archive(alloc: Global, archive: &RraDef) -> Result<String, Fail> {
-    let (function, xff) = (archive.function, archive.xff);
-    let (steps, rows) = (archive.steps, archive.rows);
-    Ok(format!(in alloc; " RRA:{function:?}:{xff}:{steps}:{rows}")?)
-}
-
-fn told_update(alloc: Global, update: &Update) -> Result<String, Fail> {
-    let mut text = format!(in alloc; "update")?;
-    if let Some(names) = &update.template {
-        text.push_str(" of")?;
-        push_names(&mut text, names)?;
-    }
-    for sample in update.samples.as_slice() {
-        let told = format!(in alloc; " {}", sample.time)?;
-        text.push_str(told.as_str())?;
-        push_values(alloc, &mut text, &sample.values)?;
-    }
-    Ok(text)
-}
-
-fn push_names(text: &mut String, names: &List<Name>) -> Result<(), Fail> {
-    for name in names.as_slice() {
-        text.push_str(" ")?;
-        text.push_str(name.as_str())?;
+        tell_archive(f, *archive)?;
     }
     Ok(())
 }
 
-fn push_values(alloc: Global, text: &mut String, values: &List<Given>) -> Result<(), Fail> {
-    for value in values.as_slice() {
+fn tell_source<W: fmt::Write>(f: &mut Formatter<W>, source: &DsDef) -> fmt::Result {
+    let (kind, heartbeat) = (source.kind, source.heartbeat);
+    let (min, max) = (source.min, source.max);
+    write!(
+        f,
+        " DS:{}:{kind:?}:{heartbeat}:{min:?}:{max:?}",
+        source.name.as_str()
+    )
+}
+
+fn tell_archive<W: fmt::Write>(f: &mut Formatter<W>, archive: RraDef) -> fmt::Result {
+    let (function, xff) = (archive.function, archive.xff);
+    let (steps, rows) = (archive.steps, archive.rows);
+    write!(f, " RRA:{function:?}:{xff}:{steps}:{rows}")
+}
+
+fn tell_update<W: fmt::Write>(f: &mut Formatter<W>, update: &Update) -> fmt::Result {
+    write!(f, "update")?;
+    if let Some(names) = &update.template {
+        write!(f, " of")?;
+        tell_names(f, names.as_slice())?;
+    }
+    for sample in update.samples.as_slice() {
+        write!(f, " {}", sample.time)?;
+        tell_values(f, sample.values.as_slice())?;
+    }
+    Ok(())
+}
+
+fn tell_names<W: fmt::Write>(f: &mut Formatter<W>, names: &[Name]) -> fmt::Result {
+    for name in names {
+        write!(f, " {}", name.as_str())?;
+    }
+    Ok(())
+}
+
+fn tell_values<W: fmt::Write>(f: &mut Formatter<W>, values: &[Given]) -> fmt::Result {
+    for value in values {
         match value {
-            Given::Unknown => text.push_str(":U")?,
-            Given::Number(number) => {
-                let told = format!(in alloc;
-                    ":{}{}",
-                    number.millionths,
-                    if number.point { "." } else { "" }
-                )?;
-                text.push_str(told.as_str())?;
-            }
+            Given::Unknown => write!(f, ":U")?,
+            Given::Number(number) => tell_number(f, *number)?,
         }
     }
     Ok(())
 }
 
-fn told_tune(alloc: Global, tuning: &Tuning) -> Result<String, Fail> {
-    let mut text = format!(in alloc; "tune")?;
+fn tell_number<W: fmt::Write>(f: &mut Formatter<W>, number: Number) -> fmt::Result {
+    let point = if number.point { "." } else { "" };
+    write!(f, ":{}{point}", number.millionths)
+}
+
+fn tell_tune<W: fmt::Write>(f: &mut Formatter<W>, tuning: &Tuning) -> fmt::Result {
+    write!(f, "tune")?;
     if let Some((name, heartbeat)) = &tuning.heartbeat {
-        let told = format!(in alloc; " heartbeat {} {heartbeat}", name.as_str())?;
-        text.push_str(told.as_str())?;
+        write!(f, " heartbeat {} {heartbeat}", name.as_str())?;
     }
     if let Some((name, bound)) = &tuning.minimum {
-        let told = format!(in alloc; " minimum {} {bound:?}", name.as_str())?;
-        text.push_str(told.as_str())?;
+        write!(f, " minimum {} {bound:?}", name.as_str())?;
     }
     if let Some((name, bound)) = &tuning.maximum {
-        let told = format!(in alloc; " maximum {} {bound:?}", name.as_str())?;
-        text.push_str(told.as_str())?;
+        write!(f, " maximum {} {bound:?}", name.as_str())?;
     }
     if let Some((name, kind)) = &tuning.kind {
-        let told = format!(in alloc; " type {} {kind:?}", name.as_str())?;
-        text.push_str(told.as_str())?;
+        write!(f, " type {} {kind:?}", name.as_str())?;
     }
     if let Some((name, renamed)) = &tuning.rename {
-        let told = format!(in alloc; " rename {} {}", name.as_str(), renamed.as_str())?;
-        text.push_str(told.as_str())?;
+        write!(f, " rename {} {}", name.as_str(), renamed.as_str())?;
     }
-    Ok(text)
+    Ok(())
 }
 
 // Words, and what they ask for.
@@ -280,11 +284,8 @@ fn what_clap_takes(rt: HostRuntime) -> Result<(), Fail> {
         let got = read(rt.alloc(), line, 1000)?;
         assert_eq!(rt; got.as_str(), *wanted);
     }
-    let none = told(
-        rt.alloc(),
-        &read_command(rt.alloc(), &Words::new(rt.alloc()), 1000),
-    )?;
-    assert_eq!(rt; none.as_str(), "usage");
+    let none = read_command(rt.alloc(), &Words::new(rt.alloc()), 1000);
+    assert!(rt; matches!(none, Err(LineFault::Usage)));
     Ok(())
 }
 

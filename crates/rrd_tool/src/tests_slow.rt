@@ -1,7 +1,8 @@
 //! Worked examples, by the slow program and by the database.
+use crate::tests_database::{source, spec, units, update_of};
 use rrd_base::slow::{Reading, is_computable, rows};
-use rrd_base::{Chosen, CreateSpec, Database, DsDef, Given, List, RraDef, Sample, Update};
-use rrd_fixed::{Cell, Kind, Name, Number, Raw, admit};
+use rrd_base::{Chosen, CreateSpec, Database, List, RraDef};
+use rrd_fixed::{Cell, Kind, Raw, admit};
 use rrd_fold::Function;
 use std::alloc::{AllocError, Global};
 use std::process::Abort;
@@ -31,34 +32,17 @@ fn one<T: Drop>(alloc: Global, item: T) -> Result<List<T>, AllocError> {
     Ok(list)
 }
 
-fn number(value: u32) -> Number {
-    Number {
-        millionths: i128::from(value) * 1_000_000,
-        point: false,
-    }
-}
-
-fn spec(alloc: Global, example: Example<'_>) -> Result<CreateSpec, Fail> {
-    let source = DsDef {
-        name: Name::fit(b"a").ok_or("no name")?,
-        kind: example.kind,
-        heartbeat: example.heartbeat,
-        min: None,
-        max: None,
-    };
-    Ok(CreateSpec {
-        step: example.step,
-        start: example.start,
-        depth: 16,
-        sources: one(alloc, source)?,
-        archives: one(alloc, example.def)?,
-    })
+fn spec_of(alloc: Global, example: Example<'_>) -> Result<CreateSpec, Fail> {
+    let sources = one(alloc, source(b"a", example.kind, example.heartbeat)?)?;
+    let mut spec = spec(alloc, example.step, 16, sources, &[example.def])?;
+    spec.start = example.start;
+    Ok(spec)
 }
 
 fn readings(alloc: Global, example: Example<'_>) -> Result<List<Reading>, Fail> {
     let mut readings = List::new(alloc);
     for (time, value) in example.samples {
-        let raw = admit(example.kind, number(*value)).ok_or("not admitted")?;
+        let raw = admit(example.kind, units(*value)).ok_or("not admitted")?;
         readings.push(Reading {
             time: *time,
             raws: one(alloc, Raw::Known(raw))?,
@@ -67,22 +51,8 @@ fn readings(alloc: Global, example: Example<'_>) -> Result<List<Reading>, Fail> 
     Ok(readings)
 }
 
-fn update(alloc: Global, example: Example<'_>) -> Result<Update, AllocError> {
-    let mut samples = List::new(alloc);
-    for (time, value) in example.samples {
-        samples.push(Sample {
-            time: *time,
-            values: one(alloc, Given::Number(number(*value)))?,
-        })?;
-    }
-    Ok(Update {
-        template: None,
-        samples,
-    })
-}
-
 fn shown_by_slow_program(rt: &impl Abort, alloc: Global, example: Example<'_>) -> Result<(), Fail> {
-    let spec = spec(alloc, example)?;
+    let spec = spec_of(alloc, example)?;
     let readings = readings(alloc, example)?;
     assert_eq!(rt; spec.archives.len(), 1);
     assert!(rt; is_computable(&spec, readings.as_slice()));
@@ -95,8 +65,8 @@ fn shown_by_slow_program(rt: &impl Abort, alloc: Global, example: Example<'_>) -
 }
 
 fn shown_by_database(rt: &impl Abort, alloc: Global, example: Example<'_>) -> Result<(), Fail> {
-    let mut database = Database::create(alloc, spec(alloc, example)?)?;
-    database.update(alloc, &update(alloc, example)?)?;
+    let mut database = Database::create(alloc, spec_of(alloc, example)?)?;
+    database.update(alloc, &update_of(alloc, example.samples)?)?;
     let fetched = database.choose(example.def.function, 1, example.start, database.last())?;
     assert_eq!(rt; fetched, example.fetched);
     assert_eq!(rt; database.archives(), 1);

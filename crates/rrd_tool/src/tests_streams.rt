@@ -4,7 +4,7 @@ ghost use Rattle.std.specs.Prelude.{Some};
 use crate::{Command, Fault, StreamFault, execute, run_batch};
 use rrd_base::Database;
 use rrd_fold::Function;
-use std::alloc::Global;
+use std::alloc::{AllocError, Global};
 use std::io::{self, Error, ErrorKind, Read, Write};
 use std::test::Fail;
 
@@ -86,6 +86,15 @@ impl<'a> Read for Source<'a> {
 const MADE: &[u8] =
     b"create --step 10 --start 0 DS:g:GAUGE:100:U:U RRA:LAST:0.5:1:4\nupdate 10:1\nlast\nupdate 20:2\n";
 
+// How a batch ended: what of its streams failed, how many fault lines were written whole, and the
+// database's last time.
+#[derive(Clone, Copy, Debug, PartialEq, Eq)]
+struct End {
+    stream: Option<StreamFault>,
+    refused: u64,
+    last: Option<u64>,
+}
+
 fn last_of(database: &Option<Database>) -> Option<u64> {
     match database {
         Some(database) => Some(database.last()),
@@ -93,19 +102,38 @@ fn last_of(database: &Option<Database>) -> Option<u64> {
     }
 }
 
+fn run<R: Read, W: Write>(alloc: Global, reader: &mut R, out: &mut W) -> End {
+    let end = run_batch(alloc, None, 0, reader, out);
+    End {
+        stream: end.stream,
+        refused: end.refused,
+        last: last_of(&end.database),
+    }
+}
+
+// A batch that ended so, no line of it refused.
+fn ended(stream: Option<StreamFault>, last: Option<u64>) -> End {
+    End {
+        stream,
+        refused: 0,
+        last,
+    }
+}
+
 #[test]
 fn little_at_a_time(rt: HostRuntime) -> Result<(), Fail> {
-    for (interrupts, stream) in [(1000u64, None), (1001, Some(StreamFault::Read))] {
+    for (interrupts, wanted) in [
+        (1000u64, ended(None, Some(20))),
+        (1001, ended(Some(StreamFault::Read), None)),
+    ] {
         let mut input = Source {
             rest: MADE,
             interrupts,
             calls_left: u64::MAX,
         };
         let mut out = Sink::new(rt.alloc());
-        let end = run_batch(rt.alloc(), None, 0, &mut input, &mut out);
-        assert_eq!(rt; end.stream, stream, "{interrupts}");
-        let wanted = if stream.is_none() { Some(20) } else { None };
-        assert_eq!(rt; last_of(&end.database), wanted, "{interrupts}");
+        let end = run(rt.alloc(), &mut input, &mut out);
+        assert_eq!(rt; end, wanted, "{interrupts}");
     }
     Ok(())
 }
@@ -119,9 +147,8 @@ fn a_failed_read_in_a_line(rt: HostRuntime) -> Result<(), Fail> {
         calls_left: 17,
     };
     let mut out = Sink::new(rt.alloc());
-    let end = run_batch(rt.alloc(), None, 0, &mut input, &mut out);
-    assert_eq!(rt; end.stream, Some(StreamFault::Read));
-    assert_eq!(rt; last_of(&end.database), Some(10));
+    let end = run(rt.alloc(), &mut input, &mut out);
+    assert_eq!(rt; end, ended(Some(StreamFault::Read), Some(10)));
     assert_eq!(rt; out.taken.as_slice(), b"10\n".as_slice());
     Ok(())
 }
@@ -129,10 +156,9 @@ fn a_failed_read_in_a_line(rt: HostRuntime) -> Result<(), Fail> {
 #[test]
 fn interrupted_writes(rt: HostRuntime) -> Result<(), Fail> {
     for (interrupts, stream) in [(1000u64, None), (1001, Some(StreamFault::Write))] {
-        let mut input = MADE;
         let mut out = Sink::new(rt.alloc());
         out.interrupts = interrupts;
-        let end = run_batch(rt.alloc(), None, 0, &mut input, &mut out);
+        let end = run(rt.alloc(), &mut &MADE[..], &mut out);
         assert_eq!(rt; end.stream, stream, "{interrupts}");
     }
     Ok(())
@@ -140,13 +166,10 @@ fn interrupted_writes(rt: HostRuntime) -> Result<(), Fail> {
 
 #[test]
 fn a_failed_write(rt: HostRuntime) -> Result<(), Fail> {
-    let mut input = MADE;
     let mut out = Sink::new(rt.alloc());
     out.calls_left = 0;
-    let end = run_batch(rt.alloc(), None, 0, &mut input, &mut out);
-    assert_eq!(rt; end.stream, Some(StreamFault::Write));
-    assert_eq!(rt; end.refused, 0);
-    assert_eq!(rt; last_of(&end.database), Some(10));
+    let end = run(rt.alloc(), &mut &MADE[..], &mut out);
+    assert_eq!(rt; end, ended(Some(StreamFault::Write), Some(10)));
     Ok(())
 }
 
@@ -156,11 +179,10 @@ fn a_fault_counts_once_its_line_is_whole(rt: HostRuntime) -> Result<(), Fail> {
         (2u64, 0u64, "ERROR: no data"),
         (3, 1, "ERROR: no database\n"),
     ] {
-        let mut input = "last\n".as_bytes();
         let mut out = Sink::new(rt.alloc());
         out.calls_left = calls_left;
         out.flushes_left = 0;
-        let end = run_batch(rt.alloc(), None, 0, &mut input, &mut out);
+        let end = run(rt.alloc(), &mut "last\n".as_bytes(), &mut out);
         assert_eq!(rt; end.stream, Some(StreamFault::Write));
         assert_eq!(rt; end.refused, refused, "{calls_left}");
         assert_eq!(rt; out.taken.as_slice(), text.as_bytes());
@@ -170,16 +192,13 @@ fn a_fault_counts_once_its_line_is_whole(rt: HostRuntime) -> Result<(), Fail> {
 
 #[test]
 fn handed_on_after_each_line_that_printed(rt: HostRuntime) -> Result<(), Fail> {
-    let mut input = MADE;
     let mut out = Sink::new(rt.alloc());
-    let end = run_batch(rt.alloc(), None, 0, &mut input, &mut out);
-    assert!(rt; end.stream.is_none());
+    let end = run(rt.alloc(), &mut &MADE[..], &mut out);
+    assert_eq!(rt; end, ended(None, Some(20)));
     assert_eq!(rt; out.flushed, 1);
-    let mut input = MADE;
     out.flushes_left = 0;
-    let end = run_batch(rt.alloc(), None, 0, &mut input, &mut out);
-    assert_eq!(rt; end.stream, Some(StreamFault::Write));
-    assert_eq!(rt; last_of(&end.database), Some(10));
+    let end = run(rt.alloc(), &mut &MADE[..], &mut out);
+    assert_eq!(rt; end, ended(Some(StreamFault::Write), Some(10)));
     Ok(())
 }
 
@@ -192,13 +211,20 @@ fn the_last_line(rt: HostRuntime) -> Result<(), Fail> {
         ("last\n\t ", "ERROR: no database\n"),
     ];
     for (lines, text) in cases {
-        let mut input = lines.as_bytes();
         let mut out = Vec::new(rt.alloc());
-        let end = run_batch(rt.alloc(), None, 0, &mut input, &mut out);
+        let end = run(rt.alloc(), &mut lines.as_bytes(), &mut out);
         assert!(rt; end.stream.is_none());
         assert_eq!(rt; out.as_slice(), text.as_bytes());
     }
     Ok(())
+}
+
+// `last`, and spaces up to a length.
+fn padded(alloc: Global, length: usize) -> Result<Vec<u8>, AllocError> {
+    let mut line = Vec::from_slice(alloc, b"last")?;
+    line.resize(length, b' ')?;
+    line.extend_from_slice(b"\r\nlast\n")?;
+    Ok(line)
 }
 
 #[test]
@@ -207,16 +233,9 @@ fn a_line_as_long_as_can_be(rt: HostRuntime) -> Result<(), Fail> {
         (65_536usize, "ERROR: no database\nERROR: no database\n"),
         (65_537, "ERROR: usage\nERROR: no database\n"),
     ] {
-        let mut line = vec![in rt.alloc(); b' '; length]?;
-        line.extend_from_slice(b"\r\nlast\n")?;
-        for (place, byte) in b"last".iter().enumerate() {
-            if place < line.len() {
-                line[place] = *byte;
-            }
-        }
-        let mut input = line.as_slice();
+        let line = padded(rt.alloc(), length)?;
         let mut out = Vec::new(rt.alloc());
-        let end = run_batch(rt.alloc(), None, 0, &mut input, &mut out);
+        let end = run(rt.alloc(), &mut line.as_slice(), &mut out);
         assert!(rt; end.stream.is_none());
         assert_eq!(rt; out.as_slice(), text.as_bytes());
     }
@@ -225,9 +244,8 @@ fn a_line_as_long_as_can_be(rt: HostRuntime) -> Result<(), Fail> {
 
 #[test]
 fn a_fetch_cut_short(rt: HostRuntime) -> Result<(), Fail> {
-    let mut input = MADE;
-    let mut out = Vec::new(rt.alloc());
-    let made = run_batch(rt.alloc(), None, 0, &mut input, &mut out);
+    let mut out = Sink::new(rt.alloc());
+    let made = run_batch(rt.alloc(), None, 0, &mut &MADE[..], &mut out);
     let mut out = Sink::new(rt.alloc());
     out.calls_left = 2;
     let fetch = Command::Fetch {

@@ -1,24 +1,13 @@
-use Rattle.std.proofs.Common.{◌≡◌, sym, ◌∙◌, ap, suc, ◌+◌, cond, drop, get_or, arith}
-use Rattle.rrd_fixed.specs.Names.{same_name}
+use Rattle.std.proofs.Common.{sym, ◌∙◌, true, false, arith}
 use Rattle.rrd_base.specs.declared.update.Given.TheVariants.{Unknown}
-use Rattle.rrd_base.specs.Commands.{value_for}
-use Rattle.rrd_base.proofs.UpdatingLemmas.{value_here, value_none}
+use Rattle.rrd_base.proofs.UpdatingLemmas.{value_at, value_at_end}
 use Rattle.rrd_base.proofs.update.value_named.Goals as goal
 
+pub returns-then-same : goal.returns-then-same
+returns-then-same g c = sym (value_at g.T.Named.called c.args.named.now c.args.values.now c.loop-place.place c.index-named-place.result c.name.result.now Unknown c.args.source.now true (omega (arith, c.min-place-end.ensures)) (omega (arith, c.min-place-end.ensures)) c.name.ensures c.index-named-place.is (sym c.same.ensures ∙ c.if-same.true)) ∙ c.loop-place.invariant
+
 pub loop-place-preserved : goal.loop-place-preserved
-loop-place-preserved c =
-    let i = c.loop-place.place in
-    let names = c.args.template.now in
-    let values = c.args.values.now in
-    let source = c.args.source.now in
-    let d = c.index-template-place.result in
-    let here = value_here names values i d Unknown source (omega (arith, c.min-place-end.ensures)) (omega (arith, c.min-place-end.ensures)) in
-    let other : cond (same_name (get_or names i d) source.name) (get_or values i Unknown) (value_for (drop (suc i) names) (drop (suc i) values) source) ≡ value_for (drop (suc i) names) (drop (suc i) values) source
-    = ap (λ n. cond (same_name n source.name) (get_or values i Unknown) (value_for (drop (suc i) names) (drop (suc i) values) source)) (sym c.index-template-place.is)
-    ∙ ap (λ b. cond b (get_or values i Unknown) (value_for (drop (suc i) names) (drop (suc i) values) source)) (sym c.same.ensures ∙ c.if-same.false) in
-    ap (λ n. value_for (drop n names) (drop n values) source) {x = i + 1} {y = suc i} (omega arith) ∙ sym (here ∙ other) ∙ c.loop-place.invariant
+loop-place-preserved g c = sym (value_at g.T.Named.called c.args.named.now c.args.values.now c.loop-place.place c.index-named-place.result c.name.result.now Unknown c.args.source.now false (omega (arith, c.min-place-end.ensures)) (omega (arith, c.min-place-end.ensures)) c.name.ensures c.index-named-place.is (sym c.same.ensures ∙ c.if-same.false)) ∙ c.loop-place.invariant
 
 pub returns : goal.returns
-returns c =
-    let e = value_none c.args.template.now c.args.values.now c.loop-place.place c.args.source.now (omega (arith, c.min-place-end.ensures)) in
-    sym e ∙ c.loop-place.invariant
+returns g c = sym (value_at_end g.T.Named.called c.args.named.now c.args.values.now c.loop-place.place c.args.source.now (omega (arith, c.min-place-end.ensures))) ∙ c.loop-place.invariant

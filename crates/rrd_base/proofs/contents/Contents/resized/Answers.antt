@@ -1,15 +1,61 @@
-use Rattle.std.proofs.Common.{◌≡◌, sym, ◌∙◌, ap, subst, ◌<◌, length, IfOk}
+use Rattle.std.proofs.Common.{◌≡◌, sym, ◌∙◌, ap, subst, ◌/◌, ◌<◌, ◌≤◌, length, IfOk, None, get_or, arith}
 use Rattle.rrd_base.specs.History.{Archive, Content}
+use Rattle.rrd_base.specs.declared.definition.RraDef.{RraDef}
+use Rattle.rrd_base.specs.Commands.{Resizing, rows_changed, rows_of_archives}
+use Rattle.rrd_base.specs.Contents.{content_of}
 use Rattle.rrd_base.specs.Entries.{rows_at}
+use Rattle.rrd_base.specs.Verdict.{verdict}
 use Rattle.rrd_ring.specs.Rows.{newest_rows}
-use Rattle.rrd_base.proofs.ResizeLemmas.{rows_of_place}
+use Rattle.rrd_base.proofs.ResizeLemmas.{few_at, have_few, resize_fits, rows_at_archive, rows_of_place, there_is}
 use Rattle.rrd_base.proofs.contents.Contents.resized.Goals as goal
+
+pub index-store-requires : goal.index-store-requires
+index-store-requires c =
+    let accepted = subst (λ (x : Content). verdict x (Resizing c.args.archive c.args.change c.args.rows) ≡ None) (sym c.self.view_is) c.requires in
+    omega (arith, there_is (content_of c.self.inside) c.args.archive c.args.change c.args.rows accepted, c.self.inside.stores.ok.0)
+
+pub rows_changed-requires-clause-small : goal.rows_changed-requires-clause-small
+rows_changed-requires-clause-small c =
+    let X = content_of c.self.inside in
+    let k = c.args.archive in
+    let accepted = subst (λ (x : Content). verdict x (Resizing k c.args.change c.args.rows) ≡ None) (sym c.self.view_is) c.requires in
+    let old : c.def.result.rows ≡ (get_or X.archives k c.index-store.result.now).def.rows = ap (λ (d : RraDef). d.rows) c.def.ensures ∙ ap (λ (a : Archive). a.def.rows) c.index-store.ensures in
+    omega (arith, old, few_at X.archives k c.index-store.result.now (there_is X k c.args.change c.args.rows accepted) (have_few (length X.sources) (X.last / X.step) X.archives c.self.invariant.archives_are))
+
+pub rows_changed-requires-clause-few : goal.rows_changed-requires-clause-few
+rows_changed-requires-clause-few c =
+    let X = content_of c.self.inside in
+    let accepted = subst (λ (x : Content). verdict x (Resizing c.args.archive c.args.change c.args.rows) ≡ None) (sym c.self.view_is) c.requires in
+    (resize_fits X c.args.archive c.args.change c.args.rows c.index-store.result.now c.self.invariant accepted).0
+
+pub resized-requires-clause-some_rows : goal.resized-requires-clause-some_rows
+resized-requires-clause-some_rows c =
+    let X = content_of c.self.inside in
+    let k = c.args.archive in
+    let accepted = subst (λ (x : Content). verdict x (Resizing k c.args.change c.args.rows) ≡ None) (sym c.self.view_is) c.requires in
+    let old : c.def.result.rows ≡ (get_or X.archives k c.index-store.result.now).def.rows = ap (λ (d : RraDef). d.rows) c.def.ensures ∙ ap (λ (a : Archive). a.def.rows) c.index-store.ensures in
+    let new = c.rows_changed.ensures ∙ ap (λ m. rows_changed c.args.change m c.args.rows) old in
+    subst (λ m. 0 < m) (sym new) (resize_fits X k c.args.change c.args.rows c.index-store.result.now c.self.invariant accepted).1
+
+pub resized-requires-clause-few_rows : goal.resized-requires-clause-few_rows
+resized-requires-clause-few_rows c =
+    let X = content_of c.self.inside in
+    let k = c.args.archive in
+    let accepted = subst (λ (x : Content). verdict x (Resizing k c.args.change c.args.rows) ≡ None) (sym c.self.view_is) c.requires in
+    let old : c.def.result.rows ≡ (get_or X.archives k c.index-store.result.now).def.rows = ap (λ (d : RraDef). d.rows) c.def.ensures ∙ ap (λ (a : Archive). a.def.rows) c.index-store.ensures in
+    let new = c.rows_changed.ensures ∙ ap (λ m. rows_changed c.args.change m c.args.rows) old in
+    subst (λ m. m ≤ 1000000) (sym new) (resize_fits X k c.args.change c.args.rows c.index-store.result.now c.self.invariant accepted).2
 
 pub returns : goal.returns
 returns c =
-    let d = c.self.inside in
+    let X = content_of c.self.inside in
     let k = c.args.archive in
-    let there : k < length d.stores.items = subst (λ (x : Content). k < length x.archives) (sym c.self.view_is) c.requires.there in
-    let place : c.index.result.now.rows ≡ rows_at c.args.self.now.archives k
-    = ap (λ (a : Archive). a.rows) c.index.ensures ∙ rows_of_place d.stores.items k c.index.result.now there ∙ ap (λ (x : Content). rows_at x.archives k) c.self.view_is in
-    subst (λ rs. IfOk c.resized.result (λ new. new ≡ newest_rows c.args.rows rs)) place c.resized.ensures
+    let accepted = subst (λ (x : Content). verdict x (Resizing k c.args.change c.args.rows) ≡ None) (sym c.self.view_is) c.requires in
+    let there = there_is X k c.args.change c.args.rows accepted in
+    let old : c.def.result.rows ≡ (get_or X.archives k c.index-store.result.now).def.rows = ap (λ (d : RraDef). d.rows) c.def.ensures ∙ ap (λ (a : Archive). a.def.rows) c.index-store.ensures in
+    let new : c.rows_changed.result ≡ rows_changed c.args.change (get_or (rows_of_archives X.archives) k 0) c.args.rows
+    = c.rows_changed.ensures ∙ ap (λ m. rows_changed c.args.change m c.args.rows) (old ∙ sym (rows_at_archive X.archives k c.index-store.result.now there)) in
+    let place : c.index-store.result.now.rows ≡ rows_at X.archives k = ap (λ (a : Archive). a.rows) c.index-store.ensures ∙ rows_of_place X.archives k c.index-store.result.now there in
+    subst (λ (x : Content). IfOk c.resized.result (λ new. new ≡ newest_rows (rows_changed c.args.change (get_or (rows_of_archives x.archives) k 0) c.args.rows) (rows_at x.archives k))) c.self.view_is
+    (subst (λ n. IfOk c.resized.result (λ new. new ≡ newest_rows n (rows_at X.archives k))) new
+    (subst (λ rs. IfOk c.resized.result (λ new. new ≡ newest_rows c.rows_changed.result rs)) place c.resized.ensures))

@@ -1,0 +1,12 @@
+use Rattle.std.proofs.Common.{◌∙◌, ap}
+use Rattle.rrd_base.specs.Commands.{TuningBy}
+use Rattle.rrd_base.specs.History.{Content}
+use Rattle.rrd_base.specs.Verdict.{first_refusal, tune_checks, verdict}
+use Rattle.rrd_base.proofs.contents.Contents.check_tune.Goals as goal
+
+pub returns : goal.returns
+unfolding verdict
+returns c =
+    let tuning = c.args.tuning.now in
+    c.check_tune.ensures ∙ ap (λ sources. first_refusal (tune_checks sources tuning)) c.deref.ensures.value
+    ∙ ap (λ (x : Content). verdict x (TuningBy tuning)) c.self.view_is

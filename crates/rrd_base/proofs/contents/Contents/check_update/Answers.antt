@@ -1,0 +1,12 @@
+use Rattle.std.proofs.Common.{◌∙◌, ap}
+use Rattle.rrd_base.specs.Commands.{Updating}
+use Rattle.rrd_base.specs.History.{Content}
+use Rattle.rrd_base.specs.Verdict.{first_refusal, update_checks, verdict}
+use Rattle.rrd_base.proofs.contents.Contents.check_update.Goals as goal
+
+pub returns : goal.returns
+unfolding verdict
+returns c =
+    let update = c.args.update.now in
+    c.check_update.ensures ∙ ap (λ sources. first_refusal (update_checks sources c.self.inside.last update)) c.deref.ensures.value
+    ∙ ap (λ (x : Content). verdict x (Updating update)) c.self.view_is
