@@ -9,6 +9,7 @@ use Rattle.rrd_base.specs.declared.definition.RraDef.{RraDef}
 use Rattle.rrd_base.specs.Rules.{rows_rule}
 use Rattle.rrd_base.specs.History.{Archive, Content, Event, moment_of, moment_at_end, seconds_of, steps_of, parts_of, rows_of, rows_after, archive_of, content_listed, IsHistory, IsBase}
 use Rattle.rrd_base.specs.Passed.{row_at}
+use Rattle.rrd_base.specs.Shown.{cell_at}
 
 -- ---- an archive's rows and their times
 
@@ -77,9 +78,9 @@ row_by_time base index archive events time =
     else (if int_le time (pos (newest size base.last)) then row_at base archive time
     else row_ending base archive events time))
 
--- a source's cell at a time
-abbrev pub cell_at : Content → ℕ → Archive → List Event → ℤ → ℕ → Cell
-cell_at base index archive events time source = slice_index_or (row_by_time base index archive events time) source Cell.Unknown
+-- a source's cell at a time (rrdfetch)
+abbrev pub cell : Content → ℕ → Archive → List Event → ℤ → ℕ → Cell
+cell base index archive events time source = slice_index_or (row_by_time base index archive events time) source Cell.Unknown
 
 -- ---- a content by the times of its rows
 
@@ -133,6 +134,13 @@ ShowsByTime base events =
     IsBase base → IsHistory (moment_of base) events →
     (index : ℕ) (archive shown : Archive) → slice_get base.archives index ≡ Some archive → slice_get (content_listed base events).archives index ≡ Some shown →
     (time : ℤ) → IsMultiple time (resolution base.step archive.def) → row_at (content_listed base events) shown time ≡ row_by_time base index archive events time
+
+-- so the content shows in each cell the one of that time
+abbrev pub ShowsCells : Content → List Event → Type 0
+ShowsCells base events =
+    IsBase base → IsHistory (moment_of base) events →
+    (index : ℕ) (archive : Archive) → slice_get base.archives index ≡ Some archive →
+    (time : ℤ) (source : ℕ) → IsMultiple time (resolution base.step archive.def) → cell_at (content base events) index time source ≡ cell base index archive events time source
 
 -- the steps and rows of a history, each by itself
 pub record ListsByNumber (base : Content) (archive : Archive) (events : List Event) : Type 0 where

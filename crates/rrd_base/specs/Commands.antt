@@ -74,7 +74,7 @@ settings_after settings event = record { sources = sources_after settings.source
 
 -- a sample with its raw values
 abbrev pub sample_of : List DsDef → List Name → Sample → Reading
-sample_of sources template reading = record { time = reading.time; raws = map (λ (source : DsDef). raw_of source.kind (value_for template reading.values source)) sources }
+sample_of sources template sample = record { time = sample.time; raws = map (λ (source : DsDef). raw_of source.kind (value_for template sample.values source)) sources }
 
 abbrev pub samples_of : List DsDef → Update → List Reading
 samples_of sources update = map (sample_of sources (unwrap_or update.template (names sources))) update.samples

@@ -71,16 +71,16 @@ is_admitted source (Given.Number number) = not (is_none (admit source.kind numbe
 -- the samples after the first ones, the newest of which came at `last`
 abbrev pub sample_checks : List DsDef → List Name → ℕ → List Sample → List Check
 sample_checks sources template last [] = []
-sample_checks sources template last (reading ∷ readings) =
-    ◌refuses◌ (nat_lt 9999999999 reading.time) BadTime
-    ∷ ◌refuses◌ (nat_le reading.time last) (NotLater last)
-    ∷ ◌refuses◌ (not (length reading.values == length template)) WrongCount
-    ∷ ◌refuses◌ (not (list_all (λ (source : DsDef). is_admitted source (value_for template reading.values source)) sources)) BadValue
-    ∷ sample_checks sources template reading.time readings
+sample_checks sources template last (sample ∷ samples) =
+    ◌refuses◌ (nat_lt 9999999999 sample.time) BadTime
+    ∷ ◌refuses◌ (nat_le sample.time last) (NotLater last)
+    ∷ ◌refuses◌ (not (length sample.values == length template)) WrongCount
+    ∷ ◌refuses◌ (not (list_all (λ (source : DsDef). is_admitted source (value_for template sample.values source)) sources)) BadValue
+    ∷ sample_checks sources template sample.time samples
 
 abbrev pub no_sample : List Sample → Bool
 no_sample [] = true
-no_sample (reading ∷ readings) = false
+no_sample (sample ∷ samples) = false
 
 -- the names that the values belong to: those given, or all in their order
 abbrev pub template_of : List DsDef → Option (List Name) → List Name

@@ -9,7 +9,7 @@ ghost use Rattle.rrd_base.specs.Survivors.{Action, Moves, RunsAgree};
 ghost use Rattle.rrd_base.specs.Validity.{StaysValid, DatabaseStays, RevertTakesBack, RunsStay};
 ghost use Rattle.rrd_base.specs.declared.create.CreateSpec.{CreateSpec};
 ghost use Rattle.rrd_base.specs.Creating.{CreatedIsValid};
-ghost use Rattle.rrd_base.specs.Cells.{GoesOnFromContent, IsListed, ListsByNumber, ShowsByTime, StaysBase};
+ghost use Rattle.rrd_base.specs.Cells.{GoesOnFromContent, IsListed, ListsByNumber, ShowsByTime, ShowsCells, StaysBase};
 ghost use Rattle.rrd_base.specs.Worked as worked;
 ghost use Rattle.rrd_base.specs.WorkedCommands as commands;
 ghost use Rattle.rrd_base.specs.WorkedTimes as times;
@@ -44,9 +44,10 @@ pub fn rows_by_age()
     ensures { (rows room : ℕ) (all : List (List Cell)) (unknown : List Cell) → ShowsByAge rows room all unknown }
 {}
 
-/// Each archive's rows, each by its time.
+/// Each archive's rows, each by its time, and what a database shows in each of their cells.
 pub fn cells_by_time()
-    ensures { (base : Content) (events : List Event) → ShowsByTime base events }
+    ensures rows { (base : Content) (events : List Event) → ShowsByTime base events }
+    ensures cells { (base : Content) (events : List Event) → ShowsCells base events }
 {}
 
 /// A content's rows, by list and by time, are the same.

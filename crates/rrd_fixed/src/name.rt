@@ -1,5 +1,5 @@
 //! Names of data sources.
-ghost use Rattle.std.specs.Prelude.{◌≡◌, ◌≤◌, [], length, IfSome, IsSome, ◌↔◌, option_map, Some, None, if◌then◌else◌};
+ghost use Rattle.std.specs.Prelude.{◌≡◌, ◌≤◌, [], length, Some, None, if◌then◌else◌};
 ghost use Rattle.std.specs.List.{list_all};
 ghost use Rattle.rrd_fixed.specs.Names.{fits, is_good, is_letter, same_name};
 

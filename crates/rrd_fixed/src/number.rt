@@ -1,5 +1,5 @@
 //! Numbers as they are written.
-ghost use Rattle.std.specs.Prelude.{◌≡◌, ◌*◌, ◌^◌, ◌<◌, ◌≤◌, length, IfSome, unsigned_abs, if◌then◌else◌, position};
+ghost use Rattle.std.specs.Prelude.{◌≡◌, ◌^◌, ◌<◌, ◌≤◌, length, IfSome, unsigned_abs, if◌then◌else◌, position};
 ghost use Rattle.rrd_fixed.specs.Admitted as spec;
 ghost use Rattle.rrd_fixed.specs.Rate.{IsAccepted};
 ghost use Rattle.rrd_fixed.specs.Reading.{are_digits, fraction_of, is_point, number_of, plain_of, pointed_of, unsigned_of, value_of, whole_of};

@@ -1,5 +1,5 @@
 //! Ways to consolidate cells: each keeps how many of them were known, and what those come to.
-ghost use Rattle.std.specs.Prelude.{◌≡◌, ◌+◌, ◌<◌, ◌≤◌, replicate};
+ghost use Rattle.std.specs.Prelude.{◌≡◌, ◌+◌, ◌≤◌, replicate};
 ghost use Rattle.std.specs.List.{fold};
 ghost use Rattle.rrd_fold.specs.Parts.{Part, with_cell, nothing};
 ghost use Rattle.rrd_fold.specs.declared.function.Function.{Function};

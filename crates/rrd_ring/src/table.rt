@@ -1,5 +1,5 @@
 //! Rows in vectors of their own.
-ghost use Rattle.std.specs.Prelude.{◌≡◌, ℕ, ◌+◌, ◌-◌, ◌<◌, ◌≤◌, ◌^◌, ◌++◌, length, map, take, vec_len, OnOk};
+ghost use Rattle.std.specs.Prelude.{◌≡◌, ◌+◌, ◌-◌, ◌<◌, ◌≤◌, ◌^◌, ◌++◌, length, map, take, OnOk};
 ghost use Rattle.rrd_ring.specs.Rows.{unknown_rows};
 
 use rrd_fixed::{Cell, Meter};

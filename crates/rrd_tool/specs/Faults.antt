@@ -1,8 +1,8 @@
 -- The texts of faults (own).
-use Rattle.std.specs.Prelude.{◌++◌, ℕ, List, [], codes, decimal, if◌then◌else◌}
+use Rattle.std.specs.Prelude.{◌++◌, ℕ, List, codes, decimal}
 use Rattle.rrd_base.specs.declared.refusal.Refusal.{Refusal}
 use Rattle.rrd_base.specs.declared.refusal.Refusal.TheVariants as refusal
-use Rattle.rrd_tool.specs.Named.{is_numbered, word_of}
+use Rattle.rrd_tool.specs.Named.{place_text}
 use Rattle.rrd_tool.specs.declared.command.LineFault.{LineFault}
 use Rattle.rrd_tool.specs.declared.command.LineFault.TheVariants as line
 use Rattle.rrd_tool.specs.declared.command.Part.{Part}
@@ -40,7 +40,7 @@ refusal_text refusal.BadTime = codes "bad time"
 
 -- the part that can't be read; of definitions and samples also which one
 abbrev pub unread_text : Part → ℕ → List ℕ
-unread_text part number = codes "unreadable " ++ word_of part ++ (if is_numbered part then codes " " ++ decimal number else [])
+unread_text part number = codes "unreadable " ++ place_text part number
 
 abbrev pub line_fault_text : LineFault → List ℕ
 line_fault_text line.Usage = codes "usage"

@@ -1,5 +1,5 @@
 //! Faults and their lines.
-ghost use Rattle.std.specs.Prelude.{◌≡◌, ◌≤◌, ◌++◌, ◌+◌, length, codes, decimal};
+ghost use Rattle.std.specs.Prelude.{◌≡◌, ◌≤◌, ◌++◌, ◌+◌, length, decimal};
 ghost use Rattle.rrd_fixed.specs.Written.{Writes};
 ghost use Rattle.rrd_tool.specs.Faults.{fault_text, fault_line, line_fault_text, refusal_text, unread_text};
 

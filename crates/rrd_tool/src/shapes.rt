@@ -1,5 +1,5 @@
 //! The shapes of the command lines.
-ghost use Rattle.std.specs.Prelude.{◌≡◌, IfOk, codes, Some, false};
+ghost use Rattle.std.specs.Prelude.{◌≡◌, IfOk, false};
 ghost use Rattle.clap.specs.Words.{App, app_of, new_app, rule_of};
 ghost use Rattle.rrd_tool.specs.Shapes.{HasApp, option_rule, letter_rule, required_rule, many_rule, create_app, update_app, fetch_app, tune_app, resize_app, with_options, rrdi_app};
 ghost use Rattle.rrd_tool.specs.Serves.{ServesOrRefuses, begins_with_minus, only};

@@ -398,6 +398,7 @@ last\n",
 #[test]
 fn what_is_printed(rt: HostRuntime) -> Result<(), Fail> {
     let cases = [
+        FIRST_PATH,
         ROAD_COUNTER,
         ROAD_COUNTER_COARSE,
         HEARTBEAT_EDGE,
@@ -421,7 +422,6 @@ fn what_is_refused(rt: HostRuntime) -> Result<(), Fail> {
         REFUSED_UPDATES,
         ARCHIVE_CHOICE,
         REFUSED_CREATES,
-        FIRST_PATH,
         FIRST_PATH_REFUSALS,
         NO_WORDS_AND_NO_DATABASE,
         STRANGE_BYTES,
