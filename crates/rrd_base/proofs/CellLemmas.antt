@@ -14,7 +14,7 @@ use Rattle.rrd_fold.specs.Groups.{Rule, group_part, finished}
 use Rattle.rrd_fold.proofs.GroupLemmas.{reached_before}
 use Rattle.rrd_fold.specs.Parts.{seconds_to_steps}
 use Rattle.rrd_base.specs.Rules.{rows_rule}
-use Rattle.rrd_base.specs.History.{Archive, Content, Event, Sampled, Tuned, Resized, Moment, moment_after, moment_of, moment_at_end, seconds_of, steps_of, rows_of, rows_after, room, keep_last, filled_up, kept_rows, archive_of, content_listed, IsHistory, IsArchive}
+use Rattle.rrd_base.specs.History.{Archive, Content, Event, Sampled, Tuned, Resized, Moment, moment_after, moment_of, moment_at_end, seconds_of, steps_of, rows_of, rows_after, room, keep_last, filled_up, kept_rows, archive_of, content_listed, IsHistory, IsArchive, IsBase}
 use Rattle.rrd_base.specs.Passed.{row_of_age, row_at}
 use Rattle.rrd_base.specs.Cells.{resolution, newest, reach, prefixes, greatest, reach_after, horizon, row, row_ending, row_by_time, time_of, rows_by_time, archive_by_time, content, IsMultiple, IsListed, ShowsByTime, ListsByNumber}
 use Rattle.rrd_base.proofs.HistoryLemmas.{last_rises, length-sources}
@@ -374,12 +374,18 @@ one_of [] index archive is h = absurd cc
 one_of (first ∷ archives) zero archive is h = let here : first ≡ archive = cc in subst IsArchive here is.0
 one_of (first ∷ archives) (suc index) archive is h = one_of archives index archive is.1 h
 
-pub shows_by_time : (base : Content) (es : List Event) → ShowsByTime base es
+shows_listed : (base : Content) (es : List Event) → IsBase base → IsHistory (moment_of base) es → (index : ℕ) (archive shown : Archive) → slice_get base.archives index ≡ Some archive → slice_get (content_listed base es).archives index ≡ Some shown → (time : ℤ) → IsMultiple time (resolution base.step archive.def) → row_at (content_listed base es) shown time ≡ row_by_time base index archive es time
 unfolding content_listed
-shows_by_time base es is h index archive shown there then time multiple =
+shows_listed base es is h index archive shown there then time multiple =
     let this = shown_is (archive_of base es) 0 base.archives index archive shown there then in
     let number : archive_of base es (index, archive) ≡ shown = ap (λ i. archive_of base es (i, archive)) {x = index} {y = 0 + index} (omega arith) ∙ this in
     sym (ap (λ a. row_at (content_listed base es) a time) number) ∙ row_shown base index archive es time is.some_step (one_of base.archives index archive is.archives_are there) h multiple
+
+pub shows_by_time : (base : Content) (es : List Event) → ShowsByTime base es
+shows_by_time base es is h = subst
+    (λ (x : Content). (index : ℕ) (archive shown : Archive) → slice_get base.archives index ≡ Some archive → slice_get x.archives index ≡ Some shown → (time : ℤ) → IsMultiple time (resolution base.step archive.def) → row_at x shown time ≡ row_by_time base index archive es time)
+    (is_listed base es is h)
+    (shows_listed base es is h)
 
 -- ---- steps and rows by themselves
 

@@ -269,12 +269,12 @@ journal_taken (suc n) now (old ∷ journal) h = (h.0, h.1, journal_taken n (undo
 
 pub database_stays : (now : Content) (journal : List Entry) (command : Command) → DatabaseStays now journal command
 database_stays now journal command is h =
-    let back = comes_back now command (sound now is.now_is) h in
+    let back = comes_back now command (sound now is.content_is) h in
     let P : Content → Type 0 = λ c. IsValid c in
     let J : Content → Type 0 = λ c. IsValidJournal c journal in
-    let whole : IsValidJournal (moved now command) (entry now command ∷ journal) = (fits now command is.now_is h, subst P (sym back) is.now_is, subst J (sym back) is.journal_is) in
+    let whole : IsValidJournal (moved now command) (entry now command ∷ journal) = (fits now command is.content_is h, subst P (sym back) is.content_is, subst J (sym back) is.journal_is) in
     record {
-      now_is = stays_valid now command is.now_is h;
+      content_is = stays_valid now command is.content_is h;
       journal_is = journal_taken now.depth (moved now command) (entry now command ∷ journal) whole;
       few = let same = moved_depth now command in omega (arith, length-take now.depth (entry now command ∷ journal));
     }
@@ -292,31 +292,31 @@ undo_all : (now : Content) (journal : List Entry) → IsValidJournal now journal
 undo_all now [] h = tt
 undo_all now (old ∷ journal) h = (sound (undone now old) h.1, undone_depth now old, undo_all (undone now old) journal h.2)
 
-pub revert_valid : (now : Content) (journal : List Entry) → IsValidDatabase now journal → let kept = reverted now journal in IsValidDatabase kept.now kept.journal
+pub revert_valid : (now : Content) (journal : List Entry) → IsValidDatabase now journal → let kept = reverted now journal in IsValidDatabase kept.content kept.journal
 revert_valid now [] h = h
-revert_valid now (old ∷ journal) h = record { now_is = h.journal_is.1; journal_is = h.journal_is.2; few = let same = undone_depth now old in omega (arith, h.few) }
+revert_valid now (old ∷ journal) h = record { content_is = h.journal_is.1; journal_is = h.journal_is.2; few = let same = undone_depth now old in omega (arith, h.few) }
 
 pub revert_takes_back : (now : Content) (journal : List Entry) (command : Command) → RevertTakesBack now journal command
-revert_takes_back now journal command is h = places now.depth is.now_is.some_depth where
-  places : (depth : ℕ) → 0 < depth → reverted (moved now command) (take depth (entry now command ∷ journal)) ≡ record { now = now; journal = take (depth - 1) journal }
+revert_takes_back now journal command is h = places now.depth is.content_is.some_depth where
+  places : (depth : ℕ) → 0 < depth → reverted (moved now command) (take depth (entry now command ∷ journal)) ≡ record { content = now; journal = take (depth - 1) journal }
   places zero some = absurd (omega arith)
   places (suc n) some =
-      ap (λ c. let k : Kept = record { now = c; journal = take n journal } in k) (comes_back now command (sound now is.now_is) h)
-      ∙ ap (λ m. let k : Kept = record { now = now; journal = take m journal } in k) {x = n} {y = suc n - 1} (omega arith)
+      ap (λ c. let k : Kept = record { content = c; journal = take n journal } in k) (comes_back now command (sound now is.content_is) h)
+      ∙ ap (λ m. let k : Kept = record { content = now; journal = take m journal } in k) {x = n} {y = suc n - 1} (omega arith)
 
-step_valid : (kept : Kept) (action : Action) → IsValidDatabase kept.now kept.journal → let next = step kept action in IsValidDatabase next.now next.journal
+step_valid : (kept : Kept) (action : Action) → IsValidDatabase kept.content kept.journal → let next = step kept action in IsValidDatabase next.content next.journal
 step_valid kept (Changed command) h =
-    cond_both (is_accepted kept.now command) (changed kept command) kept (λ (next : Kept). IsValidDatabase next.now next.journal)
-    (λ e. database_stays kept.now kept.journal command h (is_none-true (verdict kept.now command) e))
+    cond_both (is_accepted kept.content command) (changed kept command) kept (λ (next : Kept). IsValidDatabase next.content next.journal)
+    (λ e. database_stays kept.content kept.journal command h (is_none-true (verdict kept.content command) e))
     (λ e. h)
-step_valid kept Reverted h = revert_valid kept.now kept.journal h
+step_valid kept Reverted h = revert_valid kept.content kept.journal h
 
-run_valid : (actions : List Action) (kept : Kept) → IsValidDatabase kept.now kept.journal → let end = fold step kept actions in IsValidDatabase end.now end.journal
+run_valid : (actions : List Action) (kept : Kept) → IsValidDatabase kept.content kept.journal → let end = fold step kept actions in IsValidDatabase end.content end.journal
 run_valid [] kept h = h
 run_valid (action ∷ actions) kept h = run_valid actions (step kept action) (step_valid kept action h)
 
 pub runs_stay : (base : Content) (brought : List Entry) (actions : List Action) → RunsStay base brought actions
 runs_stay base brought actions is = record {
-  stands = runs_agree base brought actions (sound base is.now_is) (undo_all base brought is.journal_is) is.few;
-  valid = run_valid actions (record { now = base; journal = brought }) is;
+  stands = runs_agree base brought actions (sound base is.content_is) (undo_all base brought is.journal_is) is.few;
+  valid = run_valid actions (record { content = base; journal = brought }) is;
 }

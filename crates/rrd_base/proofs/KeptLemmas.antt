@@ -53,7 +53,7 @@ newest now items e is has h =
     let here : HasFunctions now.archives e = subst (HasFunctions now.archives) (item_at items (length items - 1) e h) (All-at (HasFunctions now.archives) items (length items - 1) e has within) in
     record {
       newest_is = pop;
-      can = can_undo now e is.now_is here whole.journal_is.0;
+      can = can_undo now e is.content_is here whole.journal_is.0;
       valid = whole.journal_is.1;
       after = revert_valid now (entry_of e ∷ journal_of rest) whole;
       functions_stay = has_functions now.archives (undone now (entry_of e)).archives rest (functions_undone now e) (All-take (HasFunctions now.archives) (length items - 1) items has);

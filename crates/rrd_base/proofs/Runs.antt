@@ -1,14 +1,14 @@
 -- The survivors of a run.
-use Rattle.std.proofs.Common.{◌≡◌, refl, sym, ◌∙◌, ap, subst, ℕ, zero, suc, ◌+◌, ◌-◌, ◌≤◌, ◌<◌, min, true, false, List, [], ◌∷◌, ◌++◌, length, take, arith, ⊎_elim, append-nil, Option, Some, None}
+use Rattle.std.proofs.Common.{◌≡◌, refl, sym, ◌∙◌, ap, subst, ℕ, zero, suc, ◌+◌, ◌-◌, ◌≤◌, ◌<◌, min, true, false, List, [], ◌∷◌, ◌++◌, length, take, arith, ⊎_elim, append-nil, reverse, Option, Some, None}
 use Rattle.std.specs.Prelude.{is_none}
 use Rattle.std.proofs.lemmas.Bool.{cases_Bool, cases_lt}
-use Rattle.std.proofs.lemmas.List.{length-take}
+use Rattle.std.proofs.lemmas.List.{length-take, reverse-append, reverse-reverse}
 use Rattle.std.specs.List.{fold}
 use Rattle.rrd_base.specs.History.{Content}
-use Rattle.rrd_base.specs.Commands.{Command, moved}
+use Rattle.rrd_base.specs.Commands.{Command, content_of, moved}
 use Rattle.rrd_base.specs.Verdict.{verdict}
 use Rattle.rrd_base.specs.Entries.{Entry, entry, undone, IsSound}
-use Rattle.rrd_base.specs.Survivors.{Action, Changed, Reverted, State, Kept, survived, is_accepted, entries, with_change, without_last, after, reverted, changed, step, AllAccepted, AllUndo, Stands, RunsAgree}
+use Rattle.rrd_base.specs.Survivors.{Action, Changed, Reverted, State, Kept, survived, is_accepted, entries, with_change, without_last, after, reverted, changed, step, AllAccepted, AllUndo, Stands, CommandsGoOn, RunsAgree}
 use Rattle.rrd_base.proofs.CellLemmas.{is_listed}
 use Rattle.rrd_base.proofs.Moving.{moves, moved_sound}
 use Rattle.rrd_base.proofs.Quiet.{content_nil}
@@ -36,6 +36,28 @@ survived_nil base sound = sym (is_listed base [] sound.is_base tt) ∙ content_n
 pub survived_sound : (base : Content) (commands : List Command) → IsSound base → AllAccepted base commands → IsSound (survived base commands)
 survived_sound base [] sound h = subst IsSound (sym (survived_nil base sound)) sound
 survived_sound base (command ∷ commands) sound h = subst IsSound (sym (moves base commands command sound h)) (moved_sound (survived base commands) command (survived_sound base commands sound h.1) h.0)
+
+-- commands on the content that earlier ones leave; all are accepted there too
+on_survived : (base : Content) (first second : List Command) → IsSound base → AllAccepted base (second ++ first) → AllAccepted base first × AllAccepted (survived base first) second × (survived base (second ++ first) ≡ survived (survived base first) second)
+on_survived base first [] sound h = (h, tt, sym (survived_nil (survived base first) (survived_sound base first sound h)))
+on_survived base first (command ∷ commands) sound h =
+    let before = on_survived base first commands sound h.1 in
+    let now = survived base first in
+    let accepted : AllAccepted now (command ∷ commands) = (subst (λ x. verdict x command ≡ None) before.2 h.0, before.1) in (
+      before.0,
+      accepted,
+      moves base (commands ++ first) command sound h
+          ∙ ap (λ x. moved x command) before.2
+          ∙ sym (moves now commands command (survived_sound base first sound before.0) accepted),
+    )
+
+pub commands_go_on : (base : Content) (first second : List Command) → CommandsGoOn base first second
+commands_go_on base first second sound h =
+    let on = on_survived base (reverse first) (reverse second) sound (subst (AllAccepted base) (reverse-append first second) h) in
+    ap (content_of base) (sym (reverse-reverse (first ++ second)) ∙ ap reverse (reverse-append first second))
+    ∙ on.2
+    ∙ ap (λ x. content_of x (reverse (reverse second))) (ap (content_of base) (reverse-reverse first))
+    ∙ ap (content_of (content_of base first)) (reverse-reverse second)
 
 survived_depth : (base : Content) (commands : List Command) → (survived base commands).depth ≡ base.depth
 survived_depth base commands = refl
@@ -81,13 +103,13 @@ undo_taken base (suc k) (old ∷ brought) h = (h.0, h.1, undo_taken (undone base
 
 -- ---- one action
 
-revert_stands : (base : Content) (brought : List Entry) (survivors : List Command) (n : ℕ) (kept : Kept) → Stands (record { base = base; brought = brought; survivors = survivors; revertible = n }) kept → Stands (without_last base brought survivors n) (reverted kept.now kept.journal)
+revert_stands : (base : Content) (brought : List Entry) (survivors : List Command) (n : ℕ) (kept : Kept) → Stands (record { base = base; brought = brought; survivors = survivors; revertible = n }) kept → Stands (without_last base brought survivors n) (reverted kept.content kept.journal)
 revert_stands base brought (command ∷ survivors) (suc n) kept h =
-    let P : List Entry → Type 0 = λ journal. Stands (record { base = base; brought = brought; survivors = survivors; revertible = n }) (reverted kept.now journal) in
+    let P : List Entry → Type 0 = λ journal. Stands (record { base = base; brought = brought; survivors = survivors; revertible = n }) (reverted kept.content journal) in
     let earlier = survived base survivors in
     let whole = h.whole in
     subst P (sym h.journal_is) (record {
-      now_is = ap (λ now. undone now (entry earlier command)) (h.now_is ∙ moves base survivors command h.sound h.all_accepted) ∙ comes_back earlier command (survived_sound base survivors h.sound h.all_accepted.1) h.all_accepted.0;
+      content_is = ap (λ now. undone now (entry earlier command)) (h.content_is ∙ moves base survivors command h.sound h.all_accepted) ∙ comes_back earlier command (survived_sound base survivors h.sound h.all_accepted.1) h.all_accepted.0;
       journal_is = refl;
       enough = omega (arith, h.enough);
       places = omega (arith, h.places);
@@ -99,11 +121,11 @@ revert_stands base brought (command ∷ survivors) (suc n) kept h =
 revert_stands base brought [] (suc n) kept h = absurd (omega (arith, h.enough))
 revert_stands base (old ∷ brought) (command ∷ survivors) zero kept h = absurd (omega (arith, h.whole (omega arith)))
 revert_stands base (old ∷ brought) [] zero kept h =
-    let P : List Entry → Type 0 = λ journal. Stands (record { base = undone base old; brought = brought; survivors = []; revertible = 0 }) (reverted kept.now journal) in
+    let P : List Entry → Type 0 = λ journal. Stands (record { base = undone base old; brought = brought; survivors = []; revertible = 0 }) (reverted kept.content journal) in
     let places = h.places in
     let depth = h.undo.1 in
     subst P (sym h.journal_is) (record {
-      now_is = ap (λ now. undone now old) (h.now_is ∙ survived_nil base h.sound) ∙ sym (survived_nil (undone base old) h.undo.0);
+      content_is = ap (λ now. undone now old) (h.content_is ∙ survived_nil base h.sound) ∙ sym (survived_nil (undone base old) h.undo.0);
       journal_is = refl;
       enough = omega arith;
       places = omega arith;
@@ -113,9 +135,9 @@ revert_stands base (old ∷ brought) [] zero kept h =
       undo = h.undo.2;
     })
 revert_stands base [] survivors zero kept h =
-    let P : List Entry → Type 0 = λ journal. Stands (record { base = base; brought = []; survivors = survivors; revertible = 0 }) (reverted kept.now journal) in
+    let P : List Entry → Type 0 = λ journal. Stands (record { base = base; brought = []; survivors = survivors; revertible = 0 }) (reverted kept.content journal) in
     subst P (sym h.journal_is) (record {
-      now_is = h.now_is;
+      content_is = h.content_is;
       journal_is = refl;
       enough = omega arith;
       places = omega arith;
@@ -130,13 +152,13 @@ change_stands state kept command passes h =
     let base = state.base in
     let earlier = survived base state.survivors in
     let accepted = is_none-true (verdict earlier command) passes in
-    let depth : kept.now.depth ≡ base.depth = ap (λ (now : Content). now.depth) h.now_is ∙ survived_depth base state.survivors in
+    let depth : kept.content.depth ≡ base.depth = ap (λ (now : Content). now.depth) h.content_is ∙ survived_depth base state.survivors in
     let whole = h.whole in
     let enough = h.enough in
     record {
-      now_is = ap (λ now. moved now command) h.now_is ∙ sym (moves base state.survivors command h.sound (accepted, h.all_accepted));
-      journal_is = ap (λ n. take n (entry kept.now command ∷ kept.journal)) depth
-          ∙ ap (λ now. take base.depth (entry now command ∷ kept.journal)) h.now_is
+      content_is = ap (λ now. moved now command) h.content_is ∙ sym (moves base state.survivors command h.sound (accepted, h.all_accepted));
+      journal_is = ap (λ n. take n (entry kept.content command ∷ kept.journal)) depth
+          ∙ ap (λ now. take base.depth (entry now command ∷ kept.journal)) h.content_is
           ∙ ap (λ journal. take base.depth (entry earlier command ∷ journal)) h.journal_is
           ∙ journal_more base state.brought state.survivors command state.revertible h.enough h.places;
       enough = omega arith;
@@ -149,7 +171,7 @@ change_stands state kept command passes h =
 
 pub step_stands : (state : State) (kept : Kept) (action : Action) → Stands state kept → Stands (after state action) (step kept action)
 step_stands state kept (Changed command) h =
-    let same : is_accepted kept.now command ≡ is_accepted (survived state.base state.survivors) command = ap (λ now. is_accepted now command) h.now_is in
+    let same : is_accepted kept.content command ≡ is_accepted (survived state.base state.survivors) command = ap (λ now. is_accepted now command) h.content_is in
     ⊎_elim
     (λ (passes : is_accepted (survived state.base state.survivors) command ≡ true). rw (same, passes) (change_stands state kept command passes h))
     (λ (fails : is_accepted (survived state.base state.survivors) command ≡ false). rw (same, fails) h)
@@ -161,8 +183,8 @@ runs_stand [] state kept h = h
 runs_stand (action ∷ actions) state kept h = runs_stand actions (after state action) (step kept action) (step_stands state kept action h)
 
 pub runs_agree : (base : Content) (brought : List Entry) (actions : List Action) → RunsAgree base brought actions
-runs_agree base brought actions sound undo fits = runs_stand actions (record { base = base; brought = brought; survivors = []; revertible = 0 }) (record { now = base; journal = brought }) (record {
-  now_is = sym (survived_nil base sound);
+runs_agree base brought actions sound undo fits = runs_stand actions (record { base = base; brought = brought; survivors = []; revertible = 0 }) (record { content = base; journal = brought }) (record {
+  content_is = sym (survived_nil base sound);
   journal_is = refl;
   enough = omega arith;
   places = omega arith;

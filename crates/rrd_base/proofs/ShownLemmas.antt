@@ -6,15 +6,15 @@ use Rattle.std.proofs.lemmas.List.FromFn.{length-enumerate_from}
 use Rattle.std.proofs.lemmas.Option.{slice_get_within, slice_get-get_or}
 use Rattle.rrd_fixed.specs.declared.cell.Cell.TheVariants.{Unknown}
 use Rattle.rrd_base.specs.declared.definition.RraDef.{RraDef}
-use Rattle.rrd_base.specs.Cells.{ShowsCells}
-use Rattle.rrd_base.specs.History.{Archive, Content, Event, archive_of, content_listed}
+use Rattle.rrd_base.specs.Cells.{ShowsCells, archive_by_time, content}
+use Rattle.rrd_base.specs.History.{Archive, Content, Event}
 use Rattle.rrd_base.specs.Creating.{new_archive}
 use Rattle.rrd_base.specs.Passed.{row_at}
 use Rattle.rrd_fold.specs.Bounds.{Consolidating}
 use Rattle.rrd_fold.specs.Parts.{nothing}
 use Rattle.rrd_base.specs.Shown.{cell_at, cell_in, prep_in}
 use Rattle.rrd_base.specs.Validity.{IsValidArchive}
-use Rattle.rrd_base.proofs.CellLemmas.{is_listed, shows_by_time}
+use Rattle.rrd_base.proofs.CellLemmas.{shows_by_time}
 
 pub cell_of_archive : (content : Content) (archives : List Archive) (k : ℕ) (d : Archive) (time : ℤ) (source : ℕ) → k < length archives → get_or (row_at content (get_or archives k d) time) source Unknown ≡ cell_in content archives k time source
 cell_of_archive content [] k d time source h = absurd (omega arith)
@@ -23,15 +23,13 @@ cell_of_archive content (a ∷ rest) (suc k) d time source h = cell_of_archive c
 
 -- each cell that the content of a history shows
 pub shows_cells : (base : Content) (es : List Event) → ShowsCells base es
-unfolding content_listed
 shows_cells base es is h index archive there time source multiple =
-    let listed = content_listed base es in
-    let shown = get_or listed.archives index archive in
-    let count = length-map (enumerate_from 0 base.archives) (archive_of base es) ∙ length-enumerate_from 0 base.archives in
-    let within : index < length listed.archives = omega (arith, count, slice_get_within base.archives index archive there) in
-    sym (ap (λ (x : Content). cell_at x index time source) (is_listed base es is h))
-    ∙ sym (cell_of_archive listed listed.archives index archive time source within)
-    ∙ ap (λ row. get_or row source Unknown) (shows_by_time base es is h index archive shown there (slice_get-get_or listed.archives index archive within) time multiple)
+    let now = content base es in
+    let shown = get_or now.archives index archive in
+    let count = length-map (enumerate_from 0 base.archives) (archive_by_time base es) ∙ length-enumerate_from 0 base.archives in
+    let within : index < length now.archives = omega (arith, count, slice_get_within base.archives index archive there) in
+    sym (cell_of_archive now now.archives index archive time source within)
+    ∙ ap (λ row. get_or row source Unknown) (shows_by_time base es is h index archive shown there (slice_get-get_or now.archives index archive within) time multiple)
 
 pub good_rows : (sources steps : ℕ) (defs : List RraDef) → AllByRecursion (IsValidArchive sources steps) (map (new_archive sources) defs) → AllByRecursion (λ (def : RraDef). (0 < def.rows) × (def.rows ≤ 1000000)) defs
 good_rows sources steps [] is = tt

@@ -132,8 +132,8 @@ IsMultiple time size = int_rem_euclid time (pos size) ≡ pos 0
 abbrev pub ShowsByTime : Content → List Event → Type 0
 ShowsByTime base events =
     IsBase base → IsHistory (moment_of base) events →
-    (index : ℕ) (archive shown : Archive) → slice_get base.archives index ≡ Some archive → slice_get (content_listed base events).archives index ≡ Some shown →
-    (time : ℤ) → IsMultiple time (resolution base.step archive.def) → row_at (content_listed base events) shown time ≡ row_by_time base index archive events time
+    (index : ℕ) (archive shown : Archive) → slice_get base.archives index ≡ Some archive → slice_get (content base events).archives index ≡ Some shown →
+    (time : ℤ) → IsMultiple time (resolution base.step archive.def) → row_at (content base events) shown time ≡ row_by_time base index archive events time
 
 -- so the content shows in each cell the one of that time
 abbrev pub ShowsCells : Content → List Event → Type 0

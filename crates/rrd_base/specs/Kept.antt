@@ -7,7 +7,7 @@ use Rattle.rrd_base.specs.Validity.{IsValidDatabase}
 use Rattle.rrd_base.specs.declared.database.Database.TheInside.{Inside}
 
 abbrev pub kept_of : Inside → Kept
-kept_of d = record { now = d.contents; journal = journal_of d.journal.items }
+kept_of d = record { content = d.contents; journal = journal_of d.journal.items }
 
 -- the database is valid with its journal, which has as many places as its depth says, and each entry's preparations are of the archives' functions
 pub record IsKept (d : Inside) : Type 0 where

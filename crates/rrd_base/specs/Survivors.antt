@@ -20,7 +20,7 @@ pub record State : Type 0 where
 
 -- a database as it is kept: the present content, and the journal, newest entry first
 pub record Kept : Type 0 where
-  pub now : Content
+  pub content : Content
   pub journal : List Entry
 
 -- what the survivors make of the base
@@ -64,15 +64,15 @@ after state Reverted = without_last state.base state.brought state.survivors sta
 -- ---- as a database of a content and a journal does it
 
 abbrev pub reverted : Content → List Entry → Kept
-reverted now [] = record { now = now; journal = [] }
-reverted now (entry ∷ journal) = record { now = undone now entry; journal = journal }
+reverted now [] = record { content = now; journal = [] }
+reverted now (entry ∷ journal) = record { content = undone now entry; journal = journal }
 
 abbrev pub changed : Kept → Command → Kept
-changed kept command = record { now = moved kept.now command; journal = take kept.now.depth (entry kept.now command ∷ kept.journal) }
+changed kept command = record { content = moved kept.content command; journal = take kept.content.depth (entry kept.content command ∷ kept.journal) }
 
 abbrev pub step : Kept → Action → Kept
-step kept (Changed command) = if is_accepted kept.now command then changed kept command else kept
-step kept Reverted = reverted kept.now kept.journal
+step kept (Changed command) = if is_accepted kept.content command then changed kept command else kept
+step kept Reverted = reverted kept.content kept.journal
 
 -- ---- that both agree
 
@@ -87,7 +87,7 @@ AllUndo base [] = Unit {0}
 AllUndo base (entry ∷ entries) = IsSound (undone base entry) × ((undone base entry).depth ≡ base.depth) × AllUndo (undone base entry) entries
 
 pub record Stands (state : State) (kept : Kept) : Type 0 where
-  pub now_is : kept.now ≡ survived state.base state.survivors
+  pub content_is : kept.content ≡ survived state.base state.survivors
   pub journal_is : kept.journal ≡ journal_of state
   pub enough : state.revertible ≤ length state.survivors
   pub places : state.revertible + length state.brought ≤ state.base.depth
@@ -100,6 +100,10 @@ pub record Stands (state : State) (kept : Kept) : Type 0 where
 abbrev pub Moves : Content → List Command → Command → Type 0
 Moves base commands command = IsSound base → AllAccepted base (command ∷ commands) → survived base (command ∷ commands) ≡ moved (survived base commands) command
 
+-- on the content that accepted commands leave, further commands make the content of all of them
+abbrev pub CommandsGoOn : Content → List Command → List Command → Type 0
+CommandsGoOn base first second = IsSound base → AllAccepted base (reverse (first ++ second)) → content_of base (first ++ second) ≡ content_of (content_of base first) second
+
 -- after any list of actions the database is what the survivors make, and its journal their entries
 abbrev pub RunsAgree : Content → List Entry → List Action → Type 0
-RunsAgree base brought actions = IsSound base → AllUndo base brought → length brought ≤ base.depth → Stands (fold after (record { base = base; brought = brought; survivors = []; revertible = 0 }) actions) (fold step (record { now = base; journal = brought }) actions)
+RunsAgree base brought actions = IsSound base → AllUndo base brought → length brought ≤ base.depth → Stands (fold after (record { base = base; brought = brought; survivors = []; revertible = 0 }) actions) (fold step (record { content = base; journal = brought }) actions)

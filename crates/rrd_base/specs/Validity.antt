@@ -121,7 +121,7 @@ IsValidJournal now [] = Unit {0}
 IsValidJournal now (entry ∷ journal) = Fits now entry × IsValid (undone now entry) × IsValidJournal (undone now entry) journal
 
 pub record IsValidDatabase (now : Content) (journal : List Entry) : Type 0 where
-  pub now_is : IsValid now
+  pub content_is : IsValid now
   pub journal_is : IsValidJournal now journal
   pub few : length journal ≤ now.depth
 
@@ -138,13 +138,13 @@ DatabaseStays now journal command = IsValidDatabase now journal → verdict now 
 -- a revert takes an accepted command back: the content and the journal are as before it, but for the oldest entry of a full journal
 abbrev pub RevertTakesBack : Content → List Entry → Command → Type 0
 RevertTakesBack now journal command =
-    let kept = changed (record { now = now; journal = journal }) command in
-    IsValidDatabase now journal → verdict now command ≡ None → reverted kept.now kept.journal ≡ record { now = now; journal = take (now.depth - 1) journal }
+    let kept = changed (record { content = now; journal = journal }) command in
+    IsValidDatabase now journal → verdict now command ≡ None → reverted kept.content kept.journal ≡ record { content = now; journal = take (now.depth - 1) journal }
 
 -- a run from a valid database keeps to the definition of the survivors, and stays valid
 pub record RunStays (base : Content) (brought : List Entry) (actions : List Action) : Type 0 where
-  pub stands : let kept = fold step (record { now = base; journal = brought }) actions in Stands (fold after (record { base = base; brought = brought; survivors = []; revertible = 0 }) actions) kept
-  pub valid : let kept = fold step (record { now = base; journal = brought }) actions in IsValidDatabase kept.now kept.journal
+  pub stands : let kept = fold step (record { content = base; journal = brought }) actions in Stands (fold after (record { base = base; brought = brought; survivors = []; revertible = 0 }) actions) kept
+  pub valid : let kept = fold step (record { content = base; journal = brought }) actions in IsValidDatabase kept.content kept.journal
 
 abbrev pub RunsStay : Content → List Entry → List Action → Type 0
 RunsStay base brought actions = IsValidDatabase base brought → RunStays base brought actions

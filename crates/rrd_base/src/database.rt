@@ -12,7 +12,7 @@ ghost use Rattle.rrd_base.specs.Stored.{HasFunctions, entry_of};
 ghost use Rattle.rrd_fold.specs.Parts.{nothing};
 ghost use Rattle.rrd_base.specs.Survivors.{changed, reverted};
 ghost use Rattle.rrd_base.specs.Updating.{end_of};
-ghost use Rattle.rrd_base.specs.Validity.{IsValid};
+ghost use Rattle.rrd_base.specs.Validity.{IsValid, IsValidDatabase};
 ghost use Rattle.rrd_base.specs.Verdict.{verdict};
 
 use crate::choose::Request;
@@ -55,7 +55,7 @@ impl Database {
     /// and last want of memory.
     pub fn create(alloc: Global, spec: CreateSpec) -> Result<Database, Refusal>
         ensures verdict { IsAnswer (create_verdict spec) result }
-        ensures ok { IfOk result (λ d. d ≡ record { now = created spec; journal = [] }) }
+        ensures ok { IfOk result (λ d. d ≡ record { content = created spec; journal = [] }) }
     {
         check(&spec)?;
         let Ok(contents) = Contents::new(alloc, spec) else {
@@ -72,9 +72,9 @@ impl Database {
     /// before, a wrong number of values and a bad value, and last want of memory. The journal gets an
     /// entry; a full one drops its oldest.
     pub fn update(&mut self, alloc: Global, update: &Update) -> Result<Receipt, Refusal>
-        ensures verdict { IsAnswer (verdict self.old.now (Updating update.now)) result }
+        ensures verdict { IsAnswer (verdict self.old.content (Updating update.now)) result }
         ensures ok { IfOk result (λ _. self.new ≡ changed self.old (Updating update.now)) }
-        ensures cells { IfOk result (λ receipt. receipt.cells ≡ cells_held (entry_for self.old.now (Updating update.now))) }
+        ensures cells { IfOk result (λ receipt. receipt.cells ≡ cells_held (entry_for self.old.content (Updating update.now))) }
         ensures err { OnErr result (self.new ≡ self.old) }
     {
         let contents = &self.contents;
@@ -99,7 +99,7 @@ impl Database {
     /// that names no source, a bad or a double name, a bad heartbeat and bad bounds. The journal gets
     /// an entry; a full one drops its oldest. It takes no memory.
     pub fn tune(&mut self, tuning: &Tuning) -> Result<(), Refusal>
-        ensures verdict { result_err result ≡ verdict self.old.now (TuningBy tuning.now) }
+        ensures verdict { result_err result ≡ verdict self.old.content (TuningBy tuning.now) }
         ensures ok { IfOk result (λ _. self.new ≡ changed self.old (TuningBy tuning.now)) }
         ensures err { OnErr result (self.new ≡ self.old) }
     {
@@ -112,9 +112,9 @@ impl Database {
     }
 
     /// Gives an archive more or fewer rows, its newest being kept (rrdresize). Refuses an archive that
-    /// isn't there, a number of rows that is 0 or leads above 1,000,000, a shrink that leaves no row,
-    /// more than 4,000,000 cells in all, and last want of memory. The journal gets an entry; a full
-    /// one drops its oldest.
+    /// isn't there, a number of rows that is not 1 to 1,000,000 or grows the archive above that, a
+    /// shrink that leaves no row, more than 4,000,000 cells in all, and last want of memory. The
+    /// journal gets an entry; a full one drops its oldest.
     pub fn resize(
         &mut self,
         alloc: Global,
@@ -122,7 +122,7 @@ impl Database {
         change: Change,
         rows: u64,
     ) -> Result<(), Refusal>
-        ensures verdict { IsAnswer (verdict self.old.now (Resizing archive change rows)) result }
+        ensures verdict { IsAnswer (verdict self.old.content (Resizing archive change rows)) result }
         ensures ok { IfOk result (λ _. self.new ≡ changed self.old (Resizing archive change rows)) }
         ensures err { OnErr result (self.new ≡ self.old) }
     {
@@ -140,7 +140,7 @@ impl Database {
     /// Takes back the newest change that the journal holds. It takes no memory. Refused exactly if
     /// the journal is empty.
     pub fn revert(&mut self) -> Result<(), Refusal>
-        ensures ok { IfOk result (λ _. (self.old.journal ≢ []) × (self.new ≡ reverted self.old.now self.old.journal)) }
+        ensures ok { IfOk result (λ _. (self.old.journal ≢ []) × (self.new ≡ reverted self.old.content self.old.journal)) }
         ensures err { OnErr result ((self.old.journal ≡ []) × (self.new ≡ self.old)) }
         ensures refusal { OnErr result (result ≡ Err Refusal.NothingToRevert) }
     {
@@ -153,28 +153,29 @@ impl Database {
 
     /// The time of the last sample, or the start, in seconds.
     pub fn last(&self) -> u64
-        ensures { result ≡ self.now.now.last }
+        ensures { result ≡ self.now.content.last }
     {
         self.contents.last
     }
 
     /// Seconds in a step.
     pub fn step(&self) -> u64
-        ensures { result ≡ self.now.now.step }
+        ensures { result ≡ self.now.content.step }
     {
         self.contents.step
     }
 
     /// How many changes can be kept in the journal.
     pub fn depth(&self) -> u64
-        ensures { result ≡ self.now.now.depth }
+        ensures { result ≡ self.now.content.depth }
     {
         self.contents.depth
     }
 
-    /// How many changes can be reverted.
+    /// How many changes can be reverted. That the database is valid, with its journal, can be told here.
     pub fn undoable(&self) -> u64
-        ensures { result ≡ length self.now.journal }
+        ensures count { result ≡ length self.now.journal }
+        ensures valid { IsValidDatabase self.now.content self.now.journal }
     {
         self.journal.len() as u64
     }
@@ -183,30 +184,30 @@ impl Database {
     pub fn entry(&self, number: u64) -> &Entry
         requires { number < length self.now.journal }
         ensures value { Some (entry_of result.now) ≡ slice_get self.now.journal number }
-        ensures functions { HasFunctions self.now.now.archives result.now }
+        ensures functions { HasFunctions self.now.content.archives result.now }
     {
         self.journal.nth_back(number as usize).unwrap()
     }
 
-    /// How many data sources there are. That the database is valid can be told here.
+    /// How many data sources there are. That the content is valid can be told here.
     pub fn sources(&self) -> u64
-        ensures count { result ≡ length self.now.now.sources }
-        ensures valid { IsValid self.now.now }
+        ensures count { result ≡ length self.now.content.sources }
+        ensures valid { IsValid self.now.content }
     {
         self.contents.sources.len() as u64
     }
 
     /// How many archives there are.
     pub fn archives(&self) -> u64
-        ensures count { result ≡ length self.now.now.archives }
+        ensures count { result ≡ length self.now.content.archives }
     {
         self.contents.stores.len() as u64
     }
 
     /// An archive's settings. Archives are numbered from 0, in the order of their definitions.
     pub fn archive(&self, number: u64) -> RraDef
-        requires { number < length self.now.now.archives }
-        ensures { Some result ≡ slice_get (definitions self.now.now.archives) number }
+        requires { number < length self.now.content.archives }
+        ensures { Some result ≡ slice_get (definitions self.now.content.archives) number }
     {
         self.contents.stores[number as usize].def()
     }
@@ -214,25 +215,25 @@ impl Database {
     /// A data source's last raw value: units for COUNTER and DERIVE, millionths for GAUGE and
     /// ABSOLUTE. Sources are numbered from 0, in the order of their definitions.
     pub fn last_raw(&self, source: u64) -> Raw
-        requires { source < length self.now.now.sources }
-        ensures { result ≡ slice_index_or self.now.now.raws source Unknown }
+        requires { source < length self.now.content.sources }
+        ensures { result ≡ slice_index_or self.now.content.raws source Unknown }
     {
         self.contents.raw(source as usize)
     }
 
     /// The preparation of a data source's unfinished step.
     pub fn step_prep(&self, source: u64) -> &StepPrep
-        requires { source < length self.now.now.sources }
-        ensures { result.now ≡ slice_index_or self.now.now.parts source nothing }
+        requires { source < length self.now.content.sources }
+        ensures { result.now ≡ slice_index_or self.now.content.parts source nothing }
     {
         self.contents.step_prep(source as usize)
     }
 
     /// The preparation of a data source's unfinished row in an archive.
     pub fn row_prep(&self, archive: u64, source: u64) -> RowPrep
-        requires archive_there { archive < length self.now.now.archives }
-        requires source_there { source < length self.now.now.sources }
-        ensures { result ≡ prep_at self.now.now archive source }
+        requires archive_there { archive < length self.now.content.archives }
+        requires source_there { source < length self.now.content.sources }
+        ensures { result ≡ prep_at self.now.content archive source }
     {
         self.contents.row_prep(archive as usize, source as usize)
     }
@@ -247,7 +248,7 @@ impl Database {
         start: u64,
         end: u64,
     ) -> Result<Chosen, Refusal>
-        ensures { result ≡ choice self.now.now function asked start end }
+        ensures { result ≡ choice self.now.content function asked start end }
     {
         self.contents.choose(Request {
             function,
@@ -260,17 +261,17 @@ impl Database {
     /// The cell, in millionths, of a source in an archive's row at a time in seconds since 1970, a
     /// multiple of the seconds in a row; unknown where the archive has no such row.
     pub fn cell(&self, archive: u64, time: i64, source: u64) -> Cell
-        requires archive_there { archive < length self.now.now.archives }
-        requires source_there { source < length self.now.now.sources }
-        ensures { result ≡ cell_at self.now.now archive time source }
+        requires archive_there { archive < length self.now.content.archives }
+        requires source_there { source < length self.now.content.sources }
+        ensures { result ≡ cell_at self.now.content archive time source }
     {
         self.contents.cell(archive as usize, time, source as usize)
     }
 
     /// A data source's settings.
     pub fn source(&self, number: u64) -> &DsDef
-        requires { number < length self.now.now.sources }
-        ensures { result.now ≡ slice_index_or self.now.now.sources number result.now }
+        requires { number < length self.now.content.sources }
+        ensures { result.now ≡ slice_index_or self.now.content.sources number result.now }
     {
         &self.contents.sources[number as usize]
     }

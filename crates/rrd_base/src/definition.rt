@@ -13,10 +13,11 @@ pub struct DsDef {
     pub kind: Kind,
     /// The longest interval, in seconds, after which a sample's rate is known: 1 to 9,999,999,999.
     pub heartbeat: u64,
-    /// The least rate that is taken, in millionths, at most 2^64 - 1 in size; `None` is no bound.
+    /// The least rate that is taken, in millionths, at most (2^64 - 1) * 10^6 in size; `None` is no
+    /// bound.
     pub min: Option<i128>,
-    /// The greatest rate that is taken, in millionths, at most 2^64 - 1 in size and not below the
-    /// least; `None` is no bound.
+    /// The greatest rate that is taken, in millionths, at most (2^64 - 1) * 10^6 in size and not below
+    /// the least; `None` is no bound.
     pub max: Option<i128>,
 }
 

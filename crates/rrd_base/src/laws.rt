@@ -5,7 +5,7 @@ ghost use Rattle.rrd_base.specs.History.{Archive, Content, Event, Reading};
 ghost use Rattle.rrd_base.specs.Passed.{PassesInPieces, SampledPasses, RowsComeBack, ShowsByAge};
 ghost use Rattle.rrd_base.specs.Commands.{Command};
 ghost use Rattle.rrd_base.specs.Entries.{Entry, ComesBack};
-ghost use Rattle.rrd_base.specs.Survivors.{Action, Moves, RunsAgree};
+ghost use Rattle.rrd_base.specs.Survivors.{Action, CommandsGoOn, Moves, RunsAgree};
 ghost use Rattle.rrd_base.specs.Validity.{StaysValid, DatabaseStays, RevertTakesBack, RunsStay};
 ghost use Rattle.rrd_base.specs.declared.create.CreateSpec.{CreateSpec};
 ghost use Rattle.rrd_base.specs.Creating.{CreatedIsValid};
@@ -63,6 +63,11 @@ pub fn steps_and_rows_by_number()
 /// One command more is one move more.
 pub fn one_more_moves()
     ensures { (base : Content) (commands : List Command) (command : Command) → Moves base commands command }
+{}
+
+/// A history of commands may be cut anywhere too.
+pub fn commands_go_on()
+    ensures { (base : Content) (first second : List Command) → CommandsGoOn base first second }
 {}
 
 /// An accepted command is undone by its entry.

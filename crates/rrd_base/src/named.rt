@@ -10,7 +10,7 @@ use rrd_fixed::Name;
 
 /// A name by itself, or a source, which has one.
 pub(crate) trait Named {
-    /// The name.
+    /// The name, as contracts see it.
     ghost called: { Self → Name };
 
     /// The name.

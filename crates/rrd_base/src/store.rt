@@ -61,6 +61,18 @@ impl Model for SavedArchive {
 }
 
 impl SavedArchive {
+    /// What is kept of an archive of this function. The preparations are of that function.
+    pub fn new(function: Function, preps: Vec<RowPrep>, rows: Dropped) -> SavedArchive
+        requires { AllOf function preps.items }
+        ensures { result ≡ record { function = function; before = record { parts = parts_in preps.items; rows = rows } } }
+    {
+        SavedArchive {
+            function,
+            preps,
+            rows,
+        }
+    }
+
     /// The archive's consolidation function.
     pub fn function(&self) -> Function
         ensures { result ≡ self.now.function }
@@ -168,11 +180,7 @@ impl Store {
     {
         let preps = Vec::from_slice(alloc, &self.preps)?;
         let rows = self.rows.oldest(alloc, n)?;
-        Ok(SavedArchive {
-            function: self.def.function,
-            preps,
-            rows,
-        })
+        Ok(SavedArchive::new(self.def.function, preps, rows))
     }
 
     // A copy of what an update from one time to another takes from the archive, steps of so many

@@ -20,9 +20,9 @@ use rrd_fixed::{Kind, Name, Raw};
 pub struct Tuning {
     /// Seconds, 1 to 9,999,999,999.
     pub heartbeat: Option<(Name, u64)>,
-    /// Millionths, at most 2^64 - 1 in size; `None` is no bound.
+    /// Millionths, at most (2^64 - 1) * 10^6 in size; `None` is no bound.
     pub minimum: Option<(Name, Option<i128>)>,
-    /// Millionths, at most 2^64 - 1 in size and not below the minimum; `None` is no bound.
+    /// Millionths, at most (2^64 - 1) * 10^6 in size and not below the minimum; `None` is no bound.
     pub maximum: Option<(Name, Option<i128>)>,
     /// The type. Another one makes the last raw value unknown.
     pub kind: Option<(Name, Kind)>,

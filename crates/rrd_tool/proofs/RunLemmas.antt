@@ -37,14 +37,14 @@ pub stands_kept : (kept : Option Kept) (state : Option State) → StandsFor kept
 stands_kept None None h = refl
 stands_kept None (Some state) h = absurd h
 stands_kept (Some kept) None h = absurd h
-stands_kept (Some kept) (Some state) h = ap₂ (λ now journal. let k : Kept = record { now = now; journal = journal } in Some k) h.now_is h.journal_is
+stands_kept (Some kept) (Some state) h = ap₂ (λ now journal. let k : Kept = record { content = now; journal = journal } in Some k) h.content_is h.journal_is
 
 no_refusal : (verdict : Option Refusal) → option_map Refused verdict ≡ None → verdict ≡ None
 no_refusal None h = refl
 no_refusal (Some r) h = absurd cc
 
-created_stands : (spec : CreateSpec) → create_verdict spec ≡ None → Stands (begun (created spec)) (record { now = created spec; journal = [] })
-created_stands spec h = (runs_stay (created spec) [] [] (record { now_is = created_valid spec h; journal_is = tt; few = omega arith })).stands
+created_stands : (spec : CreateSpec) → create_verdict spec ≡ None → Stands (begun (created spec)) (record { content = created spec; journal = [] })
+created_stands spec h = (runs_stay (created spec) [] [] (record { content_is = created_valid spec h; journal_is = tt; few = omega arith })).stands
 
 -- a command that is accepted keeps it so
 pub stands_next : (command : Command) (kept : Option Kept) (state : Option State) → verdict_on kept command ≡ None → StandsFor kept state → StandsFor (kept_next kept command) (next state command)
@@ -57,17 +57,17 @@ stands_next Last None state h s = absurd cc
 stands_next Revert None state h s = absurd cc
 stands_next (Update update) (Some kept) None h s = absurd s
 stands_next (Update update) (Some kept) (Some state) h s =
-    let accepted : verdict kept.now (Updating update) ≡ None = no_refusal (verdict kept.now (Updating update)) h in
+    let accepted : verdict kept.content (Updating update) ≡ None = no_refusal (verdict kept.content (Updating update)) h in
     let moved : Stands _ (step kept (Changed (Updating update))) = step_stands state kept (Changed (Updating update)) s in
     rw accepted at moved
 stands_next (Tune tuning) (Some kept) None h s = absurd s
 stands_next (Tune tuning) (Some kept) (Some state) h s =
-    let accepted : verdict kept.now (TuningBy tuning) ≡ None = no_refusal (verdict kept.now (TuningBy tuning)) h in
+    let accepted : verdict kept.content (TuningBy tuning) ≡ None = no_refusal (verdict kept.content (TuningBy tuning)) h in
     let moved : Stands _ (step kept (Changed (TuningBy tuning))) = step_stands state kept (Changed (TuningBy tuning)) s in
     rw accepted at moved
 stands_next (Resize index change rows) (Some kept) None h s = absurd s
 stands_next (Resize index change rows) (Some kept) (Some state) h s =
-    let accepted : verdict kept.now (Resizing index change rows) ≡ None = no_refusal (verdict kept.now (Resizing index change rows)) h in
+    let accepted : verdict kept.content (Resizing index change rows) ≡ None = no_refusal (verdict kept.content (Resizing index change rows)) h in
     let moved : Stands _ (step kept (Changed (Resizing index change rows))) = step_stands state kept (Changed (Resizing index change rows)) s in
     rw accepted at moved
 stands_next (Fetch function asked start stop) (Some kept) None h s = absurd s

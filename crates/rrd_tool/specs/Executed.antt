@@ -15,14 +15,14 @@ use Rattle.rrd_tool.specs.declared.execution.Outcome.{Outcome}
 
 -- the database after a command that is accepted
 abbrev pub kept_next : Option Kept → Command → Option Kept
-kept_next kept (Create spec) = Some (record { now = created spec; journal = [] })
+kept_next kept (Create spec) = Some (record { content = created spec; journal = [] })
 kept_next None command = None
 kept_next (Some kept) (Update update) = Some (changed kept (Updating update))
 kept_next (Some kept) (Tune tuning) = Some (changed kept (TuningBy tuning))
 kept_next (Some kept) (Resize index change rows) = Some (changed kept (Resizing index change rows))
 kept_next (Some kept) (Fetch function asked start stop) = Some kept
 kept_next (Some kept) Last = Some kept
-kept_next (Some kept) Revert = Some (reverted kept.now kept.journal)
+kept_next (Some kept) Revert = Some (reverted kept.content kept.journal)
 
 -- the verdict's fault; or memory was wanting for a command that is accepted
 abbrev pub IsFault : Option Fault → Command → Fault → Type 0

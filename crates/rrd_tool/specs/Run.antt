@@ -39,10 +39,10 @@ revert_verdict (entry ∷ journal) = None
 abbrev pub verdict_on : Option Kept → Command → Option Fault
 verdict_on kept (Create spec) = option_map Refused (create_verdict spec)
 verdict_on None command = Some NoDatabase
-verdict_on (Some kept) (Update update) = option_map Refused (verdict kept.now (Updating update))
-verdict_on (Some kept) (Tune tuning) = option_map Refused (verdict kept.now (TuningBy tuning))
-verdict_on (Some kept) (Resize index change rows) = option_map Refused (verdict kept.now (Resizing index change rows))
-verdict_on (Some kept) (Fetch function asked start stop) = option_map Refused (result_err (choice kept.now function asked start stop))
+verdict_on (Some kept) (Update update) = option_map Refused (verdict kept.content (Updating update))
+verdict_on (Some kept) (Tune tuning) = option_map Refused (verdict kept.content (TuningBy tuning))
+verdict_on (Some kept) (Resize index change rows) = option_map Refused (verdict kept.content (Resizing index change rows))
+verdict_on (Some kept) (Fetch function asked start stop) = option_map Refused (result_err (choice kept.content function asked start stop))
 verdict_on (Some kept) Last = None
 verdict_on (Some kept) Revert = option_map Refused (revert_verdict kept.journal)
 
@@ -75,7 +75,7 @@ takes_memory Revert = false
 
 -- the content and the journal that the survivors make
 abbrev pub kept_of : State → Kept
-kept_of state = record { now = survived state.base state.survivors; journal = journal_of state }
+kept_of state = record { content = survived state.base state.survivors; journal = journal_of state }
 
 -- a new base: nothing survives on it yet
 abbrev pub begun : Content → State

@@ -103,10 +103,8 @@ fn asked(setting: Setting, text: Option<&[u8]>) -> Result<Option<Command>, LineF
     if words.len() == 0 {
         return Ok(None);
     }
-    match read_command(setting.alloc, &words, setting.now) {
-        Ok(command) => Ok(Some(command)),
-        Err(fault) => Err(fault),
-    }
+    let command = read_command(setting.alloc, &words, setting.now)?;
+    Ok(Some(command))
 }
 
 // Runs a command. What it printed is handed on.

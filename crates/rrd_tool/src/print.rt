@@ -26,8 +26,8 @@ fn push_cell(line: &mut ArrayString<4096>, cell: Cell)
 
 // The line of a row.
 fn row_string(database: &Database, archive: u64, time: i64) -> ArrayString<4096>
-    requires { archive < length database.now.now.archives }
-    ensures { result.bytes ≡ row_text database.now.now archive time }
+    requires { archive < length database.now.content.archives }
+    ensures { result.bytes ≡ row_text database.now.content archive time }
 {
     let mut line = ArrayString::new();
     let mut buffer = Buffer::new();
@@ -52,8 +52,8 @@ fn push_name(line: &mut ArrayString<2048>, name: &Name)
 
 // The line of the sources' names.
 fn header_string(database: &Database) -> ArrayString<2048>
-    ensures text { result.bytes ≡ header_text database.now.now.sources }
-    ensures valid { IsValid database.now.now }
+    ensures text { result.bytes ≡ header_text database.now.content.sources }
+    ensures valid { IsValid database.now.content }
 {
     let mut line = ArrayString::new();
     line.push_str("time:");
@@ -66,8 +66,8 @@ fn header_string(database: &Database) -> ArrayString<2048>
 
 // Writes a line for each row: those at the multiples of the resolution after `lo`, up to `hi`.
 fn write_rows<W: Write>(out: &mut W, database: &Database, chosen: Chosen) -> Result<(), WriteFault>
-    requires { IsReadable database.now.now chosen }
-    ensures { Writes (W.contents out.old) (W.contents out.new) (rows_text database.now.now chosen) result }
+    requires { IsReadable database.now.content chosen }
+    ensures { Writes (W.contents out.old) (W.contents out.new) (rows_text database.now.content chosen) result }
 {
     let count = chosen.hi.saturating_sub(chosen.lo) / chosen.res;
     let mut time = chosen.lo;
@@ -86,8 +86,8 @@ pub(crate) fn write_fetch<W: Write>(
     chosen: Chosen,
 ) -> Result<(), WriteFault>
     requires { (function : Function) × (asked : ℕ) × (start : ℕ) × (end : ℕ)
-        × (choice database.now.now function asked start end ≡ Ok chosen) }
-    ensures { Writes (W.contents out.old) (W.contents out.new) (fetch_text database.now.now (Ok chosen)) result }
+        × (choice database.now.content function asked start end ≡ Ok chosen) }
+    ensures { Writes (W.contents out.old) (W.contents out.new) (fetch_text database.now.content (Ok chosen)) result }
 {
     write_bytes(out, header_string(database).as_str().as_bytes())?;
     write_rows(out, database, chosen)

@@ -159,6 +159,29 @@ time: g\n\
     0,
 );
 
+// A gap over more rows than an archive has, and over the rows of others.
+const CATCH_UP_OVER_ROWS: Case = (
+    "catch_up_over_rows",
+    "create --step 10 --start 0 DS:g:GAUGE:1000:U:U RRA:AVERAGE:0.5:4:2 RRA:MIN:0.5:4:10 RRA:MAX:0.5:4:5\n\
+update 15:2\n\
+update 215:5\n\
+fetch AVERAGE -s 120 -e 199\n\
+fetch MIN -s 0 -e 199\n\
+fetch MAX -s 0 -e 39\n",
+    "time: g\n\
+160: 5.000000\n\
+200: 5.000000\n\
+time: g\n\
+40: 2.000000\n\
+80: 5.000000\n\
+120: 5.000000\n\
+160: 5.000000\n\
+200: 5.000000\n\
+time: g\n\
+40: 5.000000\n",
+    0,
+);
+
 // Minus half a millionth is zero, and minus one and a half is minus one.
 const TIES_BELOW_ZERO_IN_ROWS: Case = (
     "ties_below_zero_in_rows",
@@ -183,17 +206,21 @@ fetch LAST -s 0 -e 9\n",
     0,
 );
 
-// A template names sources in an order of its own; one that it leaves out gets unknown, though it had
-// a value before.
+// A template names sources in an order of its own; one that it leaves out gets unknown, so that the
+// rate of the sample after it is unknown too.
 const A_SOURCE_LEFT_OUT: Case = (
     "a_source_left_out",
-    "create --step 10 --start 0 DS:a:GAUGE:100:U:U DS:b:GAUGE:100:U:U RRA:LAST:0.5:1:4\n\
-update --template b:a 10:5:6\n\
-update --template b 20:7\n\
-fetch LAST -s 0 -e 19\n",
+    "create --step 10 --start 0 DS:a:COUNTER:100:U:U DS:b:GAUGE:100:U:U RRA:LAST:0.5:1:6\n\
+update --template b:a 10:5:30 20:6:60\n\
+update --template b 30:7\n\
+update 40:100:8 50:150:9\n\
+fetch LAST -s 0 -e 49\n",
     "time: a b\n\
-10: 6.000000 5.000000\n\
-20: nan 7.000000\n",
+10: nan 5.000000\n\
+20: 3.000000 6.000000\n\
+30: nan 7.000000\n\
+40: nan 8.000000\n\
+50: 5.000000 9.000000\n",
     0,
 );
 
@@ -215,7 +242,7 @@ ERROR: bad value\n",
 
 const SHORT_JOURNAL: Case = (
     "short_journal",
-    "create --step 10 --start 0 DS:g:GAUGE:100:U:U RRA:LAST:0.5:1:4 --journal 2\n\
+    "create --journal 2 --step 10 --start 0 DS:g:GAUGE:100:U:U RRA:LAST:0.5:1:4\n\
 update 10:1\n\
 update 20:2\n\
 update 30:3\n\
@@ -273,6 +300,7 @@ ERROR: span too long\n",
     3,
 );
 
+// A line of 65,537 bytes comes behind it, and one more.
 const REFUSED_CREATES: Case = (
     "refused_creates",
     "create --step 0 DS:g:GAUGE:100:U:U RRA:LAST:0.5:1:4\n\
@@ -286,8 +314,28 @@ ERROR: unreadable step\n\
 ERROR: no data source\n\
 ERROR: unreadable definition 2\n\
 ERROR: bad xff\n\
-ERROR: too large\n",
-    6,
+ERROR: too large\n\
+ERROR: usage\n\
+ERROR: no database\n",
+    8,
+);
+
+const SPAN_TOO_LONG: Case = (
+    "span_too_long",
+    "create --step 10 --start 0 DS:g:GAUGE:100:U:U RRA:LAST:0.5:1:4\n\
+fetch LAST -s 0 -e 10000000\n",
+    "ERROR: span too long\n",
+    1,
+);
+
+const JOURNAL_DEPTHS: Case = (
+    "journal_depths",
+    "create --journal 1000 --step 10 --start 0 DS:g:GAUGE:100:U:U RRA:LAST:0.5:1:4\n\
+create --journal 1001 --step 10 --start 0 DS:g:GAUGE:100:U:U RRA:LAST:0.5:1:4\n\
+last\n",
+    "ERROR: bad journal depth\n\
+0\n",
+    1,
 );
 
 const FIRST_PATH: Case = (
@@ -314,14 +362,24 @@ const FIRST_PATH_REFUSALS: Case = (
     "create --step 10 --start 0 DS:g:GAUGE:100:U:U RRA:AVERAGE:0.5:1:4\n\
 update 10:1\n\
 update 20:2\n\
+fetch AVERAGE -s 0 -e 19\n\
 revert\n\
+fetch AVERAGE -s 0 -e 19\n\
+last\n\
 update 10:5\n\
 update 20:x\n\
 update 20:1:2\n\
 revert\n\
 revert\n\
 last\n",
-    "ERROR: not later than 10\n\
+    "time: g\n\
+10: 1.000000\n\
+20: 2.000000\n\
+time: g\n\
+10: 1.000000\n\
+20: nan\n\
+10\n\
+ERROR: not later than 10\n\
 ERROR: unreadable sample 1\n\
 ERROR: wrong number of values\n\
 ERROR: nothing to revert\n\
@@ -406,6 +464,7 @@ fn what_is_printed(rt: HostRuntime) -> Result<(), Fail> {
         HALF_UNKNOWN_ROW,
         FOUR_FUNCTIONS,
         CATCH_UP_AND_TIES,
+        CATCH_UP_OVER_ROWS,
         TIES_BELOW_ZERO_IN_ROWS,
         UNKNOWN_SAMPLE_IN_A_STEP,
         A_SOURCE_LEFT_OUT,
@@ -421,7 +480,8 @@ fn what_is_refused(rt: HostRuntime) -> Result<(), Fail> {
     let cases = [
         REFUSED_UPDATES,
         ARCHIVE_CHOICE,
-        REFUSED_CREATES,
+        SPAN_TOO_LONG,
+        JOURNAL_DEPTHS,
         FIRST_PATH_REFUSALS,
         NO_WORDS_AND_NO_DATABASE,
         STRANGE_BYTES,
@@ -462,24 +522,35 @@ fn joined(alloc: Global, parts: &[&[u8]]) -> Result<Vec<u8>, AllocError> {
     Ok(bytes)
 }
 
-// 64 sources with names of 19 letters, the values 1036 to 1099, and 64 archives of 136 to 199 rows.
+// 64 sources with names of 19 letters, the values 1036 to 1099, and 64 archives with rows of 36 to 99
+// steps, of which the first and the last are read.
 #[test]
 fn as_many_sources_and_archives_as_can_be(rt: HostRuntime) -> Result<(), Fail> {
     let alloc = rt.alloc();
-    let sources = sixty_four(alloc, " DS:abcdefghijklmnopq", ":GAUGE:100:U:U")?;
-    let archives = sixty_four(alloc, " RRA:LAST:0.5:1:1", "")?;
+    let sources = sixty_four(alloc, " DS:abcdefghijklmnopq", ":GAUGE:1000:U:U")?;
+    let archives = sixty_four(alloc, " RRA:LAST:0.5:", ":2")?;
     let values = sixty_four(alloc, ":10", "")?;
     let lines = [
         b"create --step 10 --start 0".as_slice(),
         &sources,
         &archives,
-        b"\nupdate 10",
+        b"\nupdate 990",
         &values,
-        b"\nfetch LAST -s 0 -e 9\nrevert\nlast\n",
+        b"\nfetch LAST -r 360 -s 360 -e 719\nfetch LAST -r 990 -s 0 -e 989\nrevert\nlast\n",
     ];
     let names = sixty_four(alloc, " abcdefghijklmnopq", "")?;
     let cells = sixty_four(alloc, " 10", ".000000")?;
-    let text = [b"time:".as_slice(), &names, b"\n10:", &cells, b"\n0\n"];
+    let text = [
+        b"time:".as_slice(),
+        &names,
+        b"\n720:",
+        &cells,
+        b"\ntime:",
+        &names,
+        b"\n990:",
+        &cells,
+        b"\n0\n",
+    ];
     let lines = joined(alloc, &lines)?;
     let text = joined(alloc, &text)?;
     let batch = Batch {
@@ -489,5 +560,44 @@ fn as_many_sources_and_archives_as_can_be(rt: HostRuntime) -> Result<(), Fail> {
         refused: 0,
     };
     assert_batch(&rt, alloc, "as_many_sources_and_archives_as_can_be", batch);
+    Ok(())
+}
+
+#[test]
+fn one_source_or_archive_more(rt: HostRuntime) -> Result<(), Fail> {
+    let alloc = rt.alloc();
+    let sources = sixty_four(alloc, " DS:a", ":GAUGE:100:U:U")?;
+    let archives = sixty_four(alloc, " RRA:LAST:0.5:1:", "")?;
+    let lines = [
+        b"create DS:a:GAUGE:100:U:U RRA:LAST:0.5:1:1".as_slice(),
+        &sources,
+        b"\ncreate DS:a:GAUGE:100:U:U RRA:LAST:0.5:1:1",
+        &archives,
+        b"\n",
+    ];
+    let lines = joined(alloc, &lines)?;
+    let batch = Batch {
+        now: 0,
+        lines: &lines,
+        text: b"ERROR: too large\nERROR: too large\n",
+        refused: 2,
+    };
+    assert_batch(&rt, alloc, "one_source_or_archive_more", batch);
+    Ok(())
+}
+
+#[test]
+fn refused_creates(rt: HostRuntime) -> Result<(), Fail> {
+    let alloc = rt.alloc();
+    let (name, lines, text, refused) = REFUSED_CREATES;
+    let long = vec![in alloc; b'x'; 65_537]?;
+    let lines = joined(alloc, &[lines.as_bytes(), &long, b"\nlast\n"])?;
+    let batch = Batch {
+        now: 0,
+        lines: &lines,
+        text: text.as_bytes(),
+        refused,
+    };
+    assert_batch(&rt, alloc, name, batch);
     Ok(())
 }

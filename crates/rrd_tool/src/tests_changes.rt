@@ -61,8 +61,8 @@ ERROR: bad bounds\n",
 
 // Another type forgets the last raw value, so that the first rate after it is unknown; a name given
 // away is free again after the revert.
-const TYPE_AND_RENAME: Case = (
-    "type_and_rename",
+const ANOTHER_TYPE_TAKEN_BACK: Case = (
+    "another_type_taken_back",
     "create --step 10 --start 0 DS:c:COUNTER:100:U:U RRA:LAST:0.5:1:4\n\
 update 10:10\n\
 tune --data-source-type c:DERIVE --data-source-rename c:d\n\
@@ -87,7 +87,7 @@ ERROR: no such data source\n",
 
 #[test]
 fn what_changes_print(rt: HostRuntime) -> Result<(), Fail> {
-    let cases = [SHRINK_AND_GROW, BOUNDS_IN_FORCE, TYPE_AND_RENAME];
+    let cases = [SHRINK_AND_GROW, BOUNDS_IN_FORCE, ANOTHER_TYPE_TAKEN_BACK];
     assert_prints(&rt, rt.alloc(), &cases);
     Ok(())
 }

@@ -132,9 +132,11 @@ fn another_type_and_name(rt: HostRuntime) -> Result<(), Fail> {
     assert_source(&rt, &database, "c", Kind::Counter, Raw::Known(7));
     database.tune(&tuning)?;
     assert_source(&rt, &database, "g", Kind::Gauge, Raw::Unknown);
+    assert_eq!(rt; database.last(), 10);
     assert_counter_kept(&rt, &database);
     database.revert()?;
     assert_source(&rt, &database, "c", Kind::Counter, Raw::Known(7));
+    assert_eq!(rt; database.last(), 10);
     Ok(())
 }
 

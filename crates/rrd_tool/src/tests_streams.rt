@@ -140,7 +140,7 @@ fn little_at_a_time(rt: HostRuntime) -> Result<(), Fail> {
 
 #[test]
 fn a_failed_read_in_a_line(rt: HostRuntime) -> Result<(), Fail> {
-    // After 16 reads 80 bytes are there, and the second update isn't whole.
+    // After 17 reads 85 bytes are there, and the second update isn't whole.
     let mut input = Source {
         rest: MADE,
         interrupts: 0,
@@ -219,21 +219,27 @@ fn the_last_line(rt: HostRuntime) -> Result<(), Fail> {
     Ok(())
 }
 
-// `last`, and spaces up to a length.
-fn padded(alloc: Global, length: usize) -> Result<Vec<u8>, AllocError> {
+// `last`, spaces up to a length, and what comes behind them.
+fn padded(alloc: Global, length: usize, behind: &str) -> Result<Vec<u8>, AllocError> {
     let mut line = Vec::from_slice(alloc, b"last")?;
     line.resize(length, b' ')?;
-    line.extend_from_slice(b"\r\nlast\n")?;
+    line.extend_from_slice(behind.as_bytes())?;
     Ok(line)
 }
 
 #[test]
 fn a_line_as_long_as_can_be(rt: HostRuntime) -> Result<(), Fail> {
-    for (length, text) in [
-        (65_536usize, "ERROR: no database\nERROR: no database\n"),
-        (65_537, "ERROR: usage\nERROR: no database\n"),
+    for (length, behind, text) in [
+        (
+            65_536usize,
+            "\r\nlast\n",
+            "ERROR: no database\nERROR: no database\n",
+        ),
+        (65_537, "\r\nlast\n", "ERROR: usage\nERROR: no database\n"),
+        (65_536, "", "ERROR: no database\n"),
+        (65_536, "\r", "ERROR: usage\n"),
     ] {
-        let line = padded(rt.alloc(), length)?;
+        let line = padded(rt.alloc(), length, behind)?;
         let mut out = Vec::new(rt.alloc());
         let end = run(rt.alloc(), &mut line.as_slice(), &mut out);
         assert!(rt; end.stream.is_none());

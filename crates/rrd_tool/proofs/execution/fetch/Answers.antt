@@ -14,10 +14,10 @@ returns-in-Ok g c =
     let kept = c.args.database in
     let command = Fetch c.args.function c.args.asked c.args.start c.args.stop in
     let outcome = c.printed.result in
-    let chosen : choice kept.now c.args.function c.args.asked c.args.start c.args.stop ≡ Ok c.in-Ok.chosen = sym c.in-Ok.ensures in
+    let chosen : choice kept.content c.args.function c.args.asked c.args.start c.args.stop ≡ Ok c.in-Ok.chosen = sym c.in-Ok.ensures in
     let old = g.W.Write.contents c.args.out.now in
     let new = g.W.Write.contents c.write_fetch-written.new.out in
-    let printed = c.printed.ensures old new (fetch_text kept.now (Ok c.in-Ok.chosen)) c.write_fetch-written.ensures in
+    let printed = c.printed.ensures old new (fetch_text kept.content (Ok c.in-Ok.chosen)) c.write_fetch-written.ensures in
     prints_comes (verdict_on (Some kept) command) (lines_on (Some kept) command) command (outcome.database ≡ kept_next (Some kept) command) (outcome.database ≡ Some kept) old new outcome.changed outcome.fault
     (ap (λ r. option_map Refused (result_err r)) chosen) printed.0 printed.1 (rw chosen printed.2)
 

@@ -12,6 +12,6 @@ returns g c =
     let outcome = c.printed.result in
     let old = g.W.Write.contents c.args.out.now in
     let new = g.W.Write.contents c.write_time_line-written.new.out in
-    let printed = c.printed.ensures old new (time_line (pos kept.now.last)) (rw c.last.ensures at c.write_time_line-written.ensures) in
+    let printed = c.printed.ensures old new (time_line (pos kept.content.last)) (rw c.last.ensures at c.write_time_line-written.ensures) in
     prints_comes (verdict_on (Some kept) Last) (lines_on (Some kept) Last) Last (outcome.database ≡ kept_next (Some kept) Last) (outcome.database ≡ Some kept) old new outcome.changed outcome.fault
     refl printed.0 printed.1 printed.2

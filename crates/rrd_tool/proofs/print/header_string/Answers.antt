@@ -4,7 +4,7 @@ use Rattle.rrd_tool.proofs.print.header_string.Goals as goal
 
 pub loop-source-preserved : goal.loop-source-preserved
 loop-source-preserved c =
-    let sources = c.args.database.now.now.sources in
+    let sources = c.args.database.now.content.sources in
     let i = c.loop-source.source in
     let source = c.source.result.now in
     let count = c.sources-source-end.ensures.count in

@@ -6,5 +6,5 @@ use Rattle.rrd_tool.proofs.print.row_string.Given as goal
 
 abbrev pub invariant-loop-source : goal.invariant-loop-source
 invariant-loop-source l =
-    (l.line.bytes ≡ time_text l.time ++ codes ":" ++ texts_below (λ source. codes " " ++ cell_text (cell_at l.database.now l.archive l.time source)) l.source)
+    (l.line.bytes ≡ time_text l.time ++ codes ":" ++ texts_below (λ source. codes " " ++ cell_text (cell_at l.database.content l.archive l.time source)) l.source)
     × (length l.line.bytes ≤ 41 + 49 * l.source)

@@ -16,14 +16,14 @@ returns-in_err-write_bytes g c =
     let new = g.W.Write.contents c.write_bytes.new.out in
     let k = c.loop.counter in
     let inside : k < (c.args.chosen.hi - c.args.chosen.lo) / c.args.chosen.res = rw c.saturating_sub.ensures at c.loop-test.true in
-    let row : ℕ → List ℕ = λ k. row_text c.args.database.now.now c.args.chosen.archive (pos (c.args.chosen.lo + (k + 1) * c.args.chosen.res)) in
+    let row : ℕ → List ℕ = λ k. row_text c.args.database.now.content c.args.chosen.archive (pos (c.args.chosen.lo + (k + 1) * c.args.chosen.res)) in
     let inv = c.loop.invariant in
     let time : c.loop.time + c.args.chosen.res ≡ c.args.chosen.lo + (k + 1) * c.args.chosen.res = omega (arith, inv.0) in
     let last : c.args.chosen.lo + (k + 1) * c.args.chosen.res ≤ c.args.chosen.hi = within k c.args.chosen.res c.args.chosen.lo c.args.chosen.hi c.requires.some inside in
     let small : c.loop.time + c.args.chosen.res < 2 ^ 63 = omega (arith, last, time, c.requires.small) in
     let signed : to_z w64 (c.loop.time + c.args.chosen.res) ≡ pos (c.args.chosen.lo + (k + 1) * c.args.chosen.res) = to_z_pos w64 (c.loop.time + c.args.chosen.res) small ∙ ap pos time in
     let line : c.as_bytes.result.now ≡ row k =
-    c.as_bytes.ensures.value ∙ (c.as_str.ensures.value ∙ (c.row_string-line.ensures ∙ ap (row_text c.args.database.now.now c.args.chosen.archive) signed)) in
+    c.as_bytes.ensures.value ∙ (c.as_str.ensures.value ∙ (c.row_string-line.ensures ∙ ap (row_text c.args.database.now.content c.args.chosen.archive) signed)) in
     let bad : AppendsFront mid new (row k) = rw line at c.in_err-write_bytes.ensures in
     let front : AppendsFront old new (texts_below row k ++ row k) = writes_then {T = Unit {0}} old mid new (texts_below row k) (row k) (Err c.in_err-write_bytes.field-0.0) inv.1 bad in
     let more : AppendsFront old new (texts_below row (k + 1)) = rw (below_more row k) front in
@@ -36,14 +36,14 @@ loop-preserved g c =
     let new = g.W.Write.contents c.write_bytes.new.out in
     let k = c.loop.counter in
     let inside : k < (c.args.chosen.hi - c.args.chosen.lo) / c.args.chosen.res = rw c.saturating_sub.ensures at c.loop-test.true in
-    let row : ℕ → List ℕ = λ k. row_text c.args.database.now.now c.args.chosen.archive (pos (c.args.chosen.lo + (k + 1) * c.args.chosen.res)) in
+    let row : ℕ → List ℕ = λ k. row_text c.args.database.now.content c.args.chosen.archive (pos (c.args.chosen.lo + (k + 1) * c.args.chosen.res)) in
     let inv = c.loop.invariant in
     let time : c.loop.time + c.args.chosen.res ≡ c.args.chosen.lo + (k + 1) * c.args.chosen.res = omega (arith, inv.0) in
     let last : c.args.chosen.lo + (k + 1) * c.args.chosen.res ≤ c.args.chosen.hi = within k c.args.chosen.res c.args.chosen.lo c.args.chosen.hi c.requires.some inside in
     let small : c.loop.time + c.args.chosen.res < 2 ^ 63 = omega (arith, last, time, c.requires.small) in
     let signed : to_z w64 (c.loop.time + c.args.chosen.res) ≡ pos (c.args.chosen.lo + (k + 1) * c.args.chosen.res) = to_z_pos w64 (c.loop.time + c.args.chosen.res) small ∙ ap pos time in
     let line : c.as_bytes.result.now ≡ row k =
-    c.as_bytes.ensures.value ∙ (c.as_str.ensures.value ∙ (c.row_string-line.ensures ∙ ap (row_text c.args.database.now.now c.args.chosen.archive) signed)) in
+    c.as_bytes.ensures.value ∙ (c.as_str.ensures.value ∙ (c.row_string-line.ensures ∙ ap (row_text c.args.database.now.content c.args.chosen.archive) signed)) in
     let good : Appends mid new (row k) = rw line at c.in_ok-write_bytes.ensures in
     let more : Appends old new (texts_below row k ++ row k) = writes_then {T = Unit {0}} old mid new (texts_below row k) (row k) (Ok (tt {0})) inv.1 good in
     (omega (arith, inv.0), rw (below_more row k) more)

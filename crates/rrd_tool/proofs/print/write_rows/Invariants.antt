@@ -6,4 +6,4 @@ use Rattle.rrd_tool.proofs.print.write_rows.Given as goal
 abbrev pub invariant-loop : goal.invariant-loop
 invariant-loop g l = (l.time ≡ l.chosen.lo + l.counter * l.chosen.res)
     × Appends (g.W.Write.contents l.fn.out) (g.W.Write.contents l.out)
-    (texts_below (λ k. row_text l.database.now l.chosen.archive (pos (l.chosen.lo + (k + 1) * l.chosen.res))) l.counter)
+    (texts_below (λ k. row_text l.database.content l.chosen.archive (pos (l.chosen.lo + (k + 1) * l.chosen.res))) l.counter)

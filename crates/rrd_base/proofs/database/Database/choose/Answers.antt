@@ -9,4 +9,4 @@ pub returns : goal.returns
 unfolding choice
 returns c =
     let request : Request = record { function = c.args.function; asked = c.args.asked; start = c.args.start; end = c.args.end } in
-    c.choose.ensures ∙ ap (λ (k : Kept). choice_of k.now.step k.now.last (definitions k.now.archives) request) c.self.view_is
+    c.choose.ensures ∙ ap (λ (k : Kept). choice_of k.content.step k.content.last (definitions k.content.archives) request) c.self.view_is

@@ -32,5 +32,5 @@ returns-clause-functions c =
     let within : k < length items = omega (arith, c.requires, ap length journal, length-reverse (map entry_of items), length-map items entry_of) in
     let here : Some e ≡ slice_get items at
     = sym (ap option_copied c.unwrap.ensures) ∙ c.nth_back.ensures ∙ ap (λ b. cond b (slice_get items at) None) (lt-ltb k (length items) within) in
-    subst (λ (d : Kept). HasFunctions d.now.archives e) c.self.view_is
+    subst (λ (d : Kept). HasFunctions d.content.archives e) c.self.view_is
     (subst (HasFunctions archives) (item_at items at e here) (All-at (HasFunctions archives) items at e c.self.invariant.functions_stay (slice_get_within items at e (sym here))))

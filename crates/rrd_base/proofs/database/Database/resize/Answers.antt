@@ -20,7 +20,7 @@ resize-old-requires-clause-valid c =
     let X = c.self.inside.contents in
     let command = Resizing c.args.archive c.args.change c.args.rows in
     let resized = resized_is X c.args.archive c.args.change c.args.rows c.in-Ok.new c.in-Ok.ensures in
-    subst IsValid (sym resized.1) (listed_valid X command c.self.invariant.valid.now_is (sym c.in_ok-check_resize.ensures))
+    subst IsValid (sym resized.1) (listed_valid X command c.self.invariant.valid.content_is (sym c.in_ok-check_resize.ensures))
 
 pub resize-old-requires-clause-resized : goal.resize-old-requires-clause-resized
 resize-old-requires-clause-resized c = (resized_is c.self.inside.contents c.args.archive c.args.change c.args.rows c.in-Ok.new c.in-Ok.ensures).0
@@ -33,7 +33,7 @@ invariant_of-self c =
     let resized = resized_is d.contents c.args.archive c.args.change c.args.rows c.in-Ok.new c.in-Ok.ensures in
     let this : entry_of (entry.Resize c.args.archive c.resize-old.result) ≡ entry_for d.contents command = ap (entries.WasResized c.args.archive) c.resize-old.ensures.old in
     let one = added d.contents d.journal.items command (entry.Resize c.args.archive c.resize-old.result) c.self.invariant.valid c.self.invariant.functions_stay accepted this tt in
-    let now : c.resize-old.new.self ≡ moved d.contents command = c.resize-old.ensures.contents ∙ resized.1 ∙ moved_is d.contents command (sound d.contents c.self.invariant.valid.now_is) accepted in
+    let now : c.resize-old.new.self ≡ moved d.contents command = c.resize-old.ensures.contents ∙ resized.1 ∙ moved_is d.contents command (sound d.contents c.self.invariant.valid.content_is) accepted in
     rw (now, c.push_back-oldest.ensures.items, c.self.invariant.places) (record {
       places = sym (moved_depth d.contents command);
       valid = one.after;
@@ -48,7 +48,7 @@ returns-clause-ok c =
     let resized = resized_is d.contents c.args.archive c.args.change c.args.rows c.in-Ok.new c.in-Ok.ensures in
     let this : entry_of (entry.Resize c.args.archive c.resize-old.result) ≡ entry_for d.contents command = ap (entries.WasResized c.args.archive) c.resize-old.ensures.old in
     let one = added d.contents d.journal.items command (entry.Resize c.args.archive c.resize-old.result) c.self.invariant.valid c.self.invariant.functions_stay accepted this tt in
-    let now : c.resize-old.new.self ≡ moved d.contents command = c.resize-old.ensures.contents ∙ resized.1 ∙ moved_is d.contents command (sound d.contents c.self.invariant.valid.now_is) accepted in
+    let now : c.resize-old.new.self ≡ moved d.contents command = c.resize-old.ensures.contents ∙ resized.1 ∙ moved_is d.contents command (sound d.contents c.self.invariant.valid.content_is) accepted in
     rw (now, c.push_back-oldest.ensures.items, c.self.invariant.places)
-    (ap (λ j. let k : Kept = record { now = moved d.contents command; journal = j } in k) one.journal_is
+    (ap (λ j. let k : Kept = record { content = moved d.contents command; journal = j } in k) one.journal_is
     ∙ ap (λ (k : Kept). changed k command) c.self.view_is)

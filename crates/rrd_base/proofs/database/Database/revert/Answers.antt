@@ -37,5 +37,5 @@ returns-clause-ok c =
     let one = newest d.contents d.journal.items e c.self.invariant.valid c.self.invariant.functions_stay c.in-Some.ensures.value in
     let journal : c.args.self.now.journal ≡ entry_of e ∷ journal_of (take (length d.journal.items - 1) d.journal.items) = sym (ap (λ (k : Kept). k.journal) c.self.view_is) ∙ one.newest_is in (
       some_entry (entry_of e) c.args.self.now.journal (journal_of (take (length d.journal.items - 1) d.journal.items)) journal,
-      rw (c.undo.ensures, c.pop_back.ensures.items) (sym (ap (reverted c.args.self.now.now) journal ∙ ap (λ (k : Kept). let r : Kept = record { now = undone k.now (entry_of e); journal = journal_of (take (length d.journal.items - 1) d.journal.items) } in r) (sym c.self.view_is))),
+      rw (c.undo.ensures, c.pop_back.ensures.items) (sym (ap (reverted c.args.self.now.content) journal ∙ ap (λ (k : Kept). let r : Kept = record { content = undone k.content (entry_of e); journal = journal_of (take (length d.journal.items - 1) d.journal.items) } in r) (sym c.self.view_is))),
     )

@@ -13,7 +13,7 @@ invariant_of-self c =
     let tuning = c.args.tuning.now in
     let accepted = sym c.in_ok-check_tune.ensures in
     let one = added d.contents d.journal.items (TuningBy tuning) (entry.Tune c.hold-held.result) c.self.invariant.valid c.self.invariant.functions_stay accepted c.hold-held.ensures tt in
-    let now : c.tune.new.self ≡ moved d.contents (TuningBy tuning) = c.tune.ensures ∙ moved_is d.contents (TuningBy tuning) (sound d.contents c.self.invariant.valid.now_is) accepted in
+    let now : c.tune.new.self ≡ moved d.contents (TuningBy tuning) = c.tune.ensures ∙ moved_is d.contents (TuningBy tuning) (sound d.contents c.self.invariant.valid.content_is) accepted in
     rw (now, c.push_back-oldest.ensures.items, c.self.invariant.places) (record {
       places = sym (moved_depth d.contents (TuningBy tuning));
       valid = one.after;
@@ -26,7 +26,7 @@ returns-clause-ok c =
     let tuning = c.args.tuning.now in
     let accepted = sym c.in_ok-check_tune.ensures in
     let one = added d.contents d.journal.items (TuningBy tuning) (entry.Tune c.hold-held.result) c.self.invariant.valid c.self.invariant.functions_stay accepted c.hold-held.ensures tt in
-    let now : c.tune.new.self ≡ moved d.contents (TuningBy tuning) = c.tune.ensures ∙ moved_is d.contents (TuningBy tuning) (sound d.contents c.self.invariant.valid.now_is) accepted in
+    let now : c.tune.new.self ≡ moved d.contents (TuningBy tuning) = c.tune.ensures ∙ moved_is d.contents (TuningBy tuning) (sound d.contents c.self.invariant.valid.content_is) accepted in
     rw (now, c.push_back-oldest.ensures.items, c.self.invariant.places)
-    (ap (λ j. let k : Kept = record { now = moved d.contents (TuningBy tuning); journal = j } in k) one.journal_is
+    (ap (λ j. let k : Kept = record { content = moved d.contents (TuningBy tuning); journal = j } in k) one.journal_is
     ∙ ap (λ (k : Kept). changed k (TuningBy tuning)) c.self.view_is)

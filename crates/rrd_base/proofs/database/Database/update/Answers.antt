@@ -27,7 +27,7 @@ invariant_of-self c =
     let saved = c.in-Ok.ensures in
     let this = update_entry d.contents update c.in-Ok.before some (saved.0 ∙ ap (before d.contents) c.end_of.ensures) in
     let one = added d.contents d.journal.items (Updating update) (entry.Update c.in-Ok.before) c.self.invariant.valid c.self.invariant.functions_stay accepted this saved.1 in
-    let now : c.take_samples.new.self ≡ moved d.contents (Updating update) = c.take_samples.ensures ∙ moved_is d.contents (Updating update) (sound d.contents c.self.invariant.valid.now_is) accepted in
+    let now : c.take_samples.new.self ≡ moved d.contents (Updating update) = c.take_samples.ensures ∙ moved_is d.contents (Updating update) (sound d.contents c.self.invariant.valid.content_is) accepted in
     rw (now, c.push_back-oldest.ensures.items, c.self.invariant.places) (record {
       places = sym (moved_depth d.contents (Updating update));
       valid = one.after;
@@ -43,15 +43,15 @@ returns-clause-ok c =
     let saved = c.in-Ok.ensures in
     let this = update_entry d.contents update c.in-Ok.before some (saved.0 ∙ ap (before d.contents) c.end_of.ensures) in
     let one = added d.contents d.journal.items (Updating update) (entry.Update c.in-Ok.before) c.self.invariant.valid c.self.invariant.functions_stay accepted this saved.1 in
-    let now : c.take_samples.new.self ≡ moved d.contents (Updating update) = c.take_samples.ensures ∙ moved_is d.contents (Updating update) (sound d.contents c.self.invariant.valid.now_is) accepted in
+    let now : c.take_samples.new.self ≡ moved d.contents (Updating update) = c.take_samples.ensures ∙ moved_is d.contents (Updating update) (sound d.contents c.self.invariant.valid.content_is) accepted in
     rw (now, c.push_back-oldest.ensures.items, c.self.invariant.places)
-    (ap (λ j. let k : Kept = record { now = moved d.contents (Updating update); journal = j } in k) one.journal_is
+    (ap (λ j. let k : Kept = record { content = moved d.contents (Updating update); journal = j } in k) one.journal_is
     ∙ ap (λ (k : Kept). changed k (Updating update)) c.self.view_is)
 
 pub count_cells-cells-requires-clause-one_each : goal.count_cells-cells-requires-clause-one_each
 count_cells-cells-requires-clause-one_each c =
     let X = c.self.inside.contents in
-    let is = c.self.invariant.valid.now_is in
+    let is = c.self.invariant.valid.content_is in
     let n = length X.sources in
     let kept = map (dropped X.step X.last c.end_of.result) X.archives in
     let count : c.len-2.result ≡ n = c.len-2.ensures ∙ c.contents.inside.sources.ok.0 ∙ ap (λ (x : Content). length x.sources) c.contents.view_is in
@@ -68,4 +68,4 @@ returns-clause-cells c =
     let some = some_samples X update accepted in
     let this = update_entry X update c.in-Ok.before some (c.in-Ok.ensures.0 ∙ ap (before X) c.end_of.ensures) in
     c.count_cells-cells.ensures ∙ ap (λ xs. cells_dropped (befores xs)) c.deref.ensures.value ∙ ap cells_held this
-    ∙ ap (λ (k : Kept). cells_held (entry_for k.now (Updating update))) c.self.view_is
+    ∙ ap (λ (k : Kept). cells_held (entry_for k.content (Updating update))) c.self.view_is
