@@ -586,12 +586,17 @@ fn one_source_or_archive_more(rt: HostRuntime) -> Result<(), Fail> {
     Ok(())
 }
 
+// The lines, one that is a byte too long, and `last`.
+fn and_a_long_line(alloc: Global, lines: &str) -> Result<Vec<u8>, AllocError> {
+    let long = vec![in alloc; b'x'; 65_537]?;
+    joined(alloc, &[lines.as_bytes(), &long, b"\nlast\n"])
+}
+
 #[test]
 fn refused_creates(rt: HostRuntime) -> Result<(), Fail> {
     let alloc = rt.alloc();
-    let (name, lines, text, refused) = REFUSED_CREATES;
-    let long = vec![in alloc; b'x'; 65_537]?;
-    let lines = joined(alloc, &[lines.as_bytes(), &long, b"\nlast\n"])?;
+    let lines = and_a_long_line(alloc, REFUSED_CREATES.1)?;
+    let (name, _, text, refused) = REFUSED_CREATES;
     let batch = Batch {
         now: 0,
         lines: &lines,

@@ -115,19 +115,21 @@ fn of_counter(alloc: Global) -> Result<Database, Fail> {
     Ok(database)
 }
 
-fn gauge_named_g() -> Result<Tuning, &'static str> {
+// A type for the source `c`, and nothing else.
+fn of_kind(kind: Kind) -> Result<Tuning, &'static str> {
     Ok(Tuning {
         heartbeat: None,
         minimum: None,
         maximum: None,
-        kind: Some((name_of(b"c")?, Kind::Gauge)),
-        rename: Some((name_of(b"c")?, name_of(b"g")?)),
+        kind: Some((name_of(b"c")?, kind)),
+        rename: None,
     })
 }
 
 #[test]
 fn another_type_and_name(rt: HostRuntime) -> Result<(), Fail> {
-    let tuning = gauge_named_g()?;
+    let mut tuning = of_kind(Kind::Gauge)?;
+    tuning.rename = Some((name_of(b"c")?, name_of(b"g")?));
     let mut database = of_counter(rt.alloc())?;
     assert_source(&rt, &database, "c", Kind::Counter, Raw::Known(7));
     database.tune(&tuning)?;
@@ -140,19 +142,9 @@ fn another_type_and_name(rt: HostRuntime) -> Result<(), Fail> {
     Ok(())
 }
 
-fn counter_again() -> Result<Tuning, &'static str> {
-    Ok(Tuning {
-        heartbeat: None,
-        minimum: None,
-        maximum: None,
-        kind: Some((name_of(b"c")?, Kind::Counter)),
-        rename: None,
-    })
-}
-
 #[test]
 fn the_same_type_keeps_the_raw_value(rt: HostRuntime) -> Result<(), Fail> {
-    let tuning = counter_again()?;
+    let tuning = of_kind(Kind::Counter)?;
     let mut database = of_counter(rt.alloc())?;
     database.tune(&tuning)?;
     assert_source(&rt, &database, "c", Kind::Counter, Raw::Known(7));
