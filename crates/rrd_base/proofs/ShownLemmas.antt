@@ -12,7 +12,7 @@ use Rattle.rrd_base.specs.Creating.{new_archive}
 use Rattle.rrd_base.specs.Passed.{row_at}
 use Rattle.rrd_fold.specs.Bounds.{Consolidating}
 use Rattle.rrd_fold.specs.Parts.{nothing}
-use Rattle.rrd_base.specs.Shown.{cell_at, cell_in, prep_in}
+use Rattle.rrd_base.specs.Shown.{cell_in, prep_in}
 use Rattle.rrd_base.specs.Validity.{IsValidArchive}
 use Rattle.rrd_base.proofs.CellLemmas.{shows_by_time}
 

@@ -172,7 +172,8 @@ impl Database {
         self.contents.depth
     }
 
-    /// How many changes can be reverted. That the database is valid, with its journal, can be told here.
+    /// How many changes can be reverted. That the database is valid, with its journal, can be told
+    /// here.
     pub fn undoable(&self) -> u64
         ensures count { result ≡ length self.now.journal }
         ensures valid { IsValidDatabase self.now.content self.now.journal }
