@@ -6,7 +6,9 @@ ghost use Rattle.rrd_fold.specs.declared.function.Function.{Function};
 ghost use Rattle.rrd_fold.specs.declared.function.Function.TheVariants as of;
 ghost use Rattle.rrd_fold.specs.Bounds.{IsBounded, counted, finished_cell};
 
-use rrd_fixed::{Cell, near};
+use crate::Function;
+use crate::summary::Summary;
+use rrd_fixed::Cell;
 use std::marker::Model;
 
 /// A way to consolidate cells. A value of it stands for the cells that were added to `empty()`, as
@@ -34,12 +36,7 @@ pub trait Consolidate {
         requires fits { (part self.old).known + counted n cell ≤ 1000000 }
         requires bounded { IsBounded cell }
         ensures added { part self.new ≡ fold (with_cell function) (part self.old) (replicate n cell) }
-        ensures grows { (part self.new).known ≤ (part self.old).known + counted n cell }
-    {
-        for _i in 0..n {
-            self.add(cell);
-        }
-    }
+        ensures grows { (part self.new).known ≤ (part self.old).known + counted n cell };
 
     /// What the known cells come to, in millionths; unknown if none is known.
     fn finish(&self) -> Cell
@@ -50,21 +47,21 @@ pub trait Consolidate {
 /// The average of the known cells, rounded to the nearest millionth, halves upwards.
 #[derive(Clone, Copy, Debug, PartialEq, Eq)]
 pub struct Average {
-    known: u64,
-    sum: i128,
+    summary: Summary,
 }
 
 impl Model for Average {
+    ghost use Rattle.std.specs.Prelude.{◌≡◌};
     ghost use Rattle.rrd_fold.specs.Parts.{Part};
-    ghost use Rattle.rrd_fold.specs.Bounds.{IsSum};
+    ghost use Rattle.rrd_fold.specs.declared.function.Function.TheVariants.{Average};
 
     ghost Value = { Part };
 
-    ghost view = { λ s. record { known = s.known; value = s.sum } };
+    ghost view = { λ s. s.summary.part };
 
-    ghost invariant = { λ s. IsSum s.known s.sum };
+    ghost invariant = { λ s. s.summary.function ≡ Average };
 
-    ghost inverse = { λ p. record { known = p.known; sum = p.value } };
+    ghost inverse = { λ p. record { summary = record { function = Average; part = p } } };
 }
 
 impl Consolidate for Average {
@@ -73,44 +70,42 @@ impl Consolidate for Average {
     ghost function = { of.Average };
 
     fn empty() -> Self {
-        Average { known: 0, sum: 0 }
+        Average {
+            summary: Summary::new(Function::Average),
+        }
     }
 
     fn add(&mut self, cell: Cell) {
-        if let Cell::Known(new) = cell {
-            self.known += 1;
-            self.sum += new;
-        }
+        self.summary.add(cell);
+    }
+
+    fn add_many(&mut self, cell: Cell, n: u64) {
+        self.summary.add_many(cell, n);
     }
 
     fn finish(&self) -> Cell {
-        if self.known == 0 {
-            Cell::Unknown
-        } else {
-            Cell::Known(near(self.sum, self.known as i128))
-        }
+        self.summary.finish()
     }
 }
 
 /// The least known cell.
 #[derive(Clone, Copy, Debug, PartialEq, Eq)]
 pub struct Least {
-    known: u64,
-    least: i128,
+    summary: Summary,
 }
 
 impl Model for Least {
+    ghost use Rattle.std.specs.Prelude.{◌≡◌};
     ghost use Rattle.rrd_fold.specs.Parts.{Part};
     ghost use Rattle.rrd_fold.specs.declared.function.Function.TheVariants.{Min};
-    ghost use Rattle.rrd_fold.specs.Bounds.{IsConsolidated};
 
     ghost Value = { Part };
 
-    ghost view = { λ s. record { known = s.known; value = s.least } };
+    ghost view = { λ s. s.summary.part };
 
-    ghost invariant = { λ s. IsConsolidated Min s.known s.least };
+    ghost invariant = { λ s. s.summary.function ≡ Min };
 
-    ghost inverse = { λ p. record { known = p.known; least = p.value } };
+    ghost inverse = { λ p. record { summary = record { function = Min; part = p } } };
 }
 
 impl Consolidate for Least {
@@ -119,48 +114,42 @@ impl Consolidate for Least {
     ghost function = { of.Min };
 
     fn empty() -> Self {
-        Least { known: 0, least: 0 }
+        Least {
+            summary: Summary::new(Function::Min),
+        }
     }
 
     fn add(&mut self, cell: Cell) {
-        if let Cell::Known(new) = cell {
-            self.least = if self.known == 0 {
-                new
-            } else {
-                self.least.min(new)
-            };
-            self.known += 1;
-        }
+        self.summary.add(cell);
+    }
+
+    fn add_many(&mut self, cell: Cell, n: u64) {
+        self.summary.add_many(cell, n);
     }
 
     fn finish(&self) -> Cell {
-        if self.known == 0 {
-            Cell::Unknown
-        } else {
-            Cell::Known(self.least)
-        }
+        self.summary.finish()
     }
 }
 
 /// The greatest known cell.
 #[derive(Clone, Copy, Debug, PartialEq, Eq)]
 pub struct Greatest {
-    known: u64,
-    greatest: i128,
+    summary: Summary,
 }
 
 impl Model for Greatest {
+    ghost use Rattle.std.specs.Prelude.{◌≡◌};
     ghost use Rattle.rrd_fold.specs.Parts.{Part};
     ghost use Rattle.rrd_fold.specs.declared.function.Function.TheVariants.{Max};
-    ghost use Rattle.rrd_fold.specs.Bounds.{IsConsolidated};
 
     ghost Value = { Part };
 
-    ghost view = { λ s. record { known = s.known; value = s.greatest } };
+    ghost view = { λ s. s.summary.part };
 
-    ghost invariant = { λ s. IsConsolidated Max s.known s.greatest };
+    ghost invariant = { λ s. s.summary.function ≡ Max };
 
-    ghost inverse = { λ p. record { known = p.known; greatest = p.value } };
+    ghost inverse = { λ p. record { summary = record { function = Max; part = p } } };
 }
 
 impl Consolidate for Greatest {
@@ -170,50 +159,41 @@ impl Consolidate for Greatest {
 
     fn empty() -> Self {
         Greatest {
-            known: 0,
-            greatest: 0,
+            summary: Summary::new(Function::Max),
         }
     }
 
     fn add(&mut self, cell: Cell) {
-        if let Cell::Known(new) = cell {
-            self.greatest = if self.known == 0 {
-                new
-            } else {
-                self.greatest.max(new)
-            };
-            self.known += 1;
-        }
+        self.summary.add(cell);
+    }
+
+    fn add_many(&mut self, cell: Cell, n: u64) {
+        self.summary.add_many(cell, n);
     }
 
     fn finish(&self) -> Cell {
-        if self.known == 0 {
-            Cell::Unknown
-        } else {
-            Cell::Known(self.greatest)
-        }
+        self.summary.finish()
     }
 }
 
 /// The last known cell.
 #[derive(Clone, Copy, Debug, PartialEq, Eq)]
 pub struct Latest {
-    known: u64,
-    latest: i128,
+    summary: Summary,
 }
 
 impl Model for Latest {
+    ghost use Rattle.std.specs.Prelude.{◌≡◌};
     ghost use Rattle.rrd_fold.specs.Parts.{Part};
     ghost use Rattle.rrd_fold.specs.declared.function.Function.TheVariants.{Last};
-    ghost use Rattle.rrd_fold.specs.Bounds.{IsConsolidated};
 
     ghost Value = { Part };
 
-    ghost view = { λ s. record { known = s.known; value = s.latest } };
+    ghost view = { λ s. s.summary.part };
 
-    ghost invariant = { λ s. IsConsolidated Last s.known s.latest };
+    ghost invariant = { λ s. s.summary.function ≡ Last };
 
-    ghost inverse = { λ p. record { known = p.known; latest = p.value } };
+    ghost inverse = { λ p. record { summary = record { function = Last; part = p } } };
 }
 
 impl Consolidate for Latest {
@@ -223,23 +203,19 @@ impl Consolidate for Latest {
 
     fn empty() -> Self {
         Latest {
-            known: 0,
-            latest: 0,
+            summary: Summary::new(Function::Last),
         }
     }
 
     fn add(&mut self, cell: Cell) {
-        if let Cell::Known(new) = cell {
-            self.latest = new;
-            self.known += 1;
-        }
+        self.summary.add(cell);
+    }
+
+    fn add_many(&mut self, cell: Cell, n: u64) {
+        self.summary.add_many(cell, n);
     }
 
     fn finish(&self) -> Cell {
-        if self.known == 0 {
-            Cell::Unknown
-        } else {
-            Cell::Known(self.latest)
-        }
+        self.summary.finish()
     }
 }

@@ -7,6 +7,7 @@ mod function;
 pub mod laws;
 mod row;
 mod step;
+mod summary;
 
 pub use consolidate::{Average, Consolidate, Greatest, Latest, Least};
 pub use function::Function;

@@ -6,7 +6,8 @@ ghost use Rattle.rrd_fold.specs.Parts.{with_cell, row_cell, nothing};
 ghost use Rattle.rrd_fold.specs.Bounds.{IsBounded, counted, weight};
 
 use crate::Function;
-use rrd_fixed::{Cell, Meter, near};
+use crate::summary::Summary;
+use rrd_fixed::{Cell, Meter};
 use std::marker::Model;
 
 /// The unfinished row of one source in an archive: how many known steps there were, at most
@@ -14,21 +15,17 @@ use std::marker::Model;
 /// added.
 #[derive(Clone, Copy, Debug, PartialEq, Eq)]
 pub struct RowPrep {
-    function: Function,
-    known: u64,
-    value: i128,
+    summary: Summary,
 }
 
 impl Model for RowPrep {
-    ghost use Rattle.rrd_fold.specs.Bounds.{Consolidating, IsConsolidated};
+    ghost use Rattle.rrd_fold.specs.Bounds.{Consolidating};
 
     ghost Value = { Consolidating };
 
-    ghost view = { λ r. record { function = r.function; part = record { known = r.known; value = r.value } } };
+    ghost view = { λ r. r.summary };
 
-    ghost invariant = { λ r. IsConsolidated r.function r.known r.value };
-
-    ghost inverse = { λ p. record { function = p.function; known = p.part.known; value = p.part.value } };
+    ghost inverse = { λ s. record { summary = s } };
 }
 
 impl RowPrep {
@@ -37,9 +34,7 @@ impl RowPrep {
         ensures { result ≡ record { function = function; part = nothing } }
     {
         RowPrep {
-            function,
-            known: 0,
-            value: 0,
+            summary: Summary::new(function),
         }
     }
 
@@ -54,7 +49,7 @@ impl RowPrep {
         ensures ticked { meter.new ≡ meter.old + 1 }
     {
         meter.tick();
-        self.take(cell);
+        self.summary.add(cell);
     }
 
     /// Adds a step's cell `n` times, which comes to the same as `n` calls of `add` and is one turn.
@@ -67,9 +62,7 @@ impl RowPrep {
         ensures ticked { meter.new ≡ meter.old + 1 }
     {
         meter.tick();
-        for _i in 0..n {
-            self.take(cell);
-        }
+        self.summary.add_many(cell, n);
     }
 
     /// The cell of a row of so many steps, 1 to 1,000,000: unknown if a larger share of them is than
@@ -88,16 +81,12 @@ impl RowPrep {
         ensures ticked { meter.new ≡ meter.old + 1 }
     {
         meter.tick();
-        let cell = if (steps - self.known) * 1_000_000 > xff * steps {
-            Cell::Unknown
-        } else if let Function::Average = self.function {
-            Cell::Known(near(self.value, self.known as i128))
-        } else {
-            Cell::Known(self.value)
-        };
-        self.known = 0;
-        self.value = 0;
-        cell
+        let row = self.summary;
+        self.summary = Summary::new(row.function);
+        if (steps - row.known) * 1_000_000 > xff * steps {
+            return Cell::Unknown;
+        }
+        row.finish()
     }
 
     /// How many known steps there were.
@@ -105,7 +94,7 @@ impl RowPrep {
         ensures value { result ≡ self.now.part.known }
         ensures limit { result ≤ 1000000 }
     {
-        self.known
+        self.summary.known
     }
 
     /// What the known steps come to, in millionths: their sum, least, greatest or last one; 0 if
@@ -114,31 +103,13 @@ impl RowPrep {
         ensures value { result ≡ self.now.part.value }
         ensures limit { unsigned_abs result ≤ weight self.now.function self.now.part.known * top }
     {
-        self.value
+        self.summary.value
     }
 
     /// Which function `new` took.
     pub fn function(&self) -> Function
         ensures { result ≡ self.now.function }
     {
-        self.function
-    }
-
-    // Adds a cell, without a turn.
-    fn take(&mut self, cell: Cell)
-        requires fits { self.old.part.known + counted 1 cell ≤ 1000000 }
-        requires bounded { IsBounded cell }
-        ensures added { self.new ≡ record { function = self.old.function; part = with_cell self.old.function self.old.part cell } }
-        ensures grows { self.new.part.known ≤ self.old.part.known + counted 1 cell }
-    {
-        if let Cell::Known(new) = cell {
-            self.value = match self.function {
-                Function::Average => self.value + new,
-                Function::Min if self.known > 0 => self.value.min(new),
-                Function::Max if self.known > 0 => self.value.max(new),
-                Function::Min | Function::Max | Function::Last => new,
-            };
-            self.known += 1;
-        }
+        self.summary.function
     }
 }

@@ -2,7 +2,7 @@ use Rattle.std.proofs.Common.{◌≡◌, ◌+◌, ◌≤◌, replicate}
 use Rattle.std.specs.List.{fold}
 use Rattle.rrd_fold.specs.Bounds.{counted}
 use Rattle.rrd_fold.specs.Parts.{with_cell}
-use Rattle.rrd_fold.proofs.row.RowPrep.add_many.Given as goal
+use Rattle.rrd_fold.proofs.summary.Summary.add_many.Given as goal
 
 abbrev pub invariant-loop-i : goal.invariant-loop-i
 invariant-loop-i l = record {
