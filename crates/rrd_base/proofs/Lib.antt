@@ -4,6 +4,10 @@ pub mod ContentLemmas
 pub mod SampleLemmas
 pub mod PassedLemmas
 pub mod Accepted
+pub mod ManySteps
+pub mod TurnLemmas
+pub mod Taking
+pub mod Catching
 pub mod Moving
 pub mod Quiet
 pub mod Undoing

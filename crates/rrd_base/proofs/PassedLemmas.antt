@@ -1,26 +1,26 @@
 -- Seconds that pass in pieces, and a sample's.
-use Rattle.std.proofs.Common.{◌≡◌, refl, sym, ◌∙◌, ap, ℕ, zero, suc, ◌+◌, ◌-◌, ◌*◌, ◌/◌, ◌<◌, ◌≤◌, min, List, [], ◌∷◌, ◌++◌, length, take, drop, map, replicate, arith, length-append, append_assoc, append-nil, ◌%◌}
+use Rattle.std.proofs.Common.{◌≡◌, refl, sym, ◌∙◌, ap, ℕ, zero, suc, ◌+◌, ◌-◌, ◌*◌, ◌/◌, ◌<◌, ◌≤◌, min, List, [], ◌∷◌, ◌++◌, length, take, map, replicate, arith, length-append, append_assoc, append-nil}
 use Rattle.std.proofs.lemmas.Bool.{le-leb}
 use Rattle.std.proofs.lemmas.List.{length-replicate}
 use Rattle.std.specs.List.{fold, range_with_len, enumerate_from, AllByRecursion}
 use Rattle.rrd_fixed.specs.declared.cell.Cell.{Cell}
 use Rattle.rrd_fold.specs.declared.function.Function.TheVariants.{Average}
 use Rattle.rrd_fold.specs.Groups.{finished, unfinished}
-use Rattle.rrd_fold.specs.Parts.{Part, nothing, with_each, step_cell, row_cell, seconds_to_steps}
+use Rattle.rrd_fold.specs.Parts.{Part, nothing, with_each, step_cell, seconds_to_steps}
 use Rattle.rrd_base.specs.Rules.{rows_rule}
 use Rattle.rrd_base.specs.History.{Archive, Content, Reading, Sampled, moment_of, rates, samples, second, seconds_of, steps_of, parts_of, rows_of, row_parts_of, keep_last, filled_up, kept_rows, archive_of, content_listed, IsArchive, IsBase}
 use Rattle.rrd_base.specs.Passed.{archive_passed, passed}
-use Rattle.rrd_fold.proofs.GroupLemmas.{finished_nil, unfinished_nil, finished_within, unfinished_within, finished_filling, unfinished_filling, next_divides, next_divides_not, next_ahead, goes_on, length-finished, reached_before}
+use Rattle.rrd_fold.proofs.GroupLemmas.{finished_nil, unfinished_nil, finished_within, unfinished_within, finished_filling, unfinished_filling, next_ahead, goes_on, length-finished, reached_before}
 use Rattle.rrd_base.proofs.RowLemmas.{filled_already, keep_last_past, keep_all, split_last, length-keep_last}
 
 -- to keep the last of a list twice is to keep them once
-keep_last-append : {A : Type 0} (n : ℕ) (xs ys : List A) → n ≤ length xs → keep_last n (xs ++ ys) ≡ keep_last n (keep_last n xs ++ ys)
+pub keep_last-append : {A : Type 0} (n : ℕ) (xs ys : List A) → n ≤ length xs → keep_last n (xs ++ ys) ≡ keep_last n (keep_last n xs ++ ys)
 keep_last-append n xs ys h =
     ap (λ zs. keep_last n (zs ++ ys)) (sym (split_last n xs))
     ∙ ap (keep_last n) (append_assoc (take (length xs - n) xs) (keep_last n xs) ys)
     ∙ keep_last_past n (take (length xs - n) xs) (keep_last n xs ++ ys) (omega (arith, length-append (keep_last n xs) ys, length-keep_last n xs h))
 
-archive_passed-append : (sources before middle : ℕ) (archive : Archive) (xs ys : List (List Cell)) → 0 < archive.def.steps → before + length xs ≡ middle → archive_passed sources before (xs ++ ys) archive ≡ archive_passed sources middle ys (archive_passed sources before xs archive)
+pub archive_passed-append : (sources before middle : ℕ) (archive : Archive) (xs ys : List (List Cell)) → 0 < archive.def.steps → before + length xs ≡ middle → archive_passed sources before (xs ++ ys) archive ≡ archive_passed sources middle ys (archive_passed sources before xs archive)
 unfolding archive_passed
 archive_passed-append sources before middle archive xs ys some at =
     let rule = rows_rule archive.def sources in
@@ -142,52 +142,3 @@ passed_within base ys is h =
     ap (λ p. with_passed base last p (map (archive_passed n (base.last / base.step) (finished rule base.last base.parts ys)) base.archives)) (unfinished_within rule base.last base.parts ys is.some_step h)
     ∙ ap (λ s. with_passed base last (fold rule.add base.parts ys) (map (archive_passed n (base.last / base.step) s) base.archives)) (finished_within rule base.last base.parts ys is.some_step h)
     ∙ ap (with_passed base last (fold rule.add base.parts ys)) (archives_passed-nil n (base.last / base.step) base.archives is.archives_are)
-
--- seconds that fill it
-pub passed_filling : (base : Content) (ys : List (List Cell)) → IsBase base → base.last + length ys ≡ (base.last / base.step + 1) * base.step → passed base ys ≡ record base {
-  last = base.last + length ys;
-  parts = replicate (length base.sources) nothing;
-  archives = map (archive_passed (length base.sources) (base.last / base.step) (map (step_cell base.step) (fold (with_each Average) base.parts ys) ∷ [])) base.archives;
-}
-unfolding passed with_passed
-passed_filling base ys is h =
-    let n = length base.sources in
-    let rule = seconds_to_steps base.step n in
-    let last = base.last + length ys in
-    ap (λ p. with_passed base last p (map (archive_passed n (base.last / base.step) (finished rule base.last base.parts ys)) base.archives)) (unfinished_filling rule base.last base.parts ys is.some_step h)
-    ∙ ap (λ s. with_passed base last (replicate n nothing) (map (archive_passed n (base.last / base.step) s) base.archives)) (finished_filling rule base.last base.parts ys is.some_step h)
-
--- a step that leaves its row unfinished, and one that fills it
-pub archive_step_within : (sources before : ℕ) (archive : Archive) (step : List Cell) → 0 < archive.def.steps → ((before + 1) % archive.def.steps ≡ 0 → ⊥) → archive_passed sources before (step ∷ []) archive ≡ record archive { parts = with_each archive.def.function archive.parts step }
-unfolding archive_passed
-archive_step_within sources before archive step some not =
-    let rule = rows_rule archive.def sources in
-    let h = next_divides_not before archive.def.steps some not in
-    let none = finished_within rule before archive.parts (step ∷ []) some h in
-    let part = unfinished_within rule before archive.parts (step ∷ []) some h in
-    let rows : keep_last (length archive.rows) (archive.rows ++ finished rule before archive.parts (step ∷ [])) ≡ archive.rows
-    = ap (λ zs. keep_last (length archive.rows) (archive.rows ++ zs)) none ∙ ap (keep_last (length archive.rows)) (append-nil archive.rows) ∙ keep_all (length archive.rows) archive.rows (omega arith) in
-    cc
-
-pub archive_step_filling : (sources before : ℕ) (archive : Archive) (step : List Cell) → 0 < archive.def.steps → (before + 1) % archive.def.steps ≡ 0 → archive_passed sources before (step ∷ []) archive ≡ record archive {
-  parts = replicate sources nothing;
-  rows = drop 1 (archive.rows ++ map (row_cell archive.def.function archive.def.xff archive.def.steps) (with_each archive.def.function archive.parts step) ∷ []);
-}
-unfolding archive_passed
-archive_step_filling sources before archive step some divides =
-    let rule = rows_rule archive.def sources in
-    let h = next_divides before archive.def.steps some divides in
-    let one = finished_filling rule before archive.parts (step ∷ []) some h in
-    let part = unfinished_filling rule before archive.parts (step ∷ []) some h in
-    let row = map (row_cell archive.def.function archive.def.xff archive.def.steps) (with_each archive.def.function archive.parts step) in
-    let rows : keep_last (length archive.rows) (archive.rows ++ finished rule before archive.parts (step ∷ [])) ≡ drop 1 (archive.rows ++ row ∷ [])
-    = ap (λ zs. keep_last (length archive.rows) (archive.rows ++ zs)) one ∙ ap (λ n. drop n (archive.rows ++ row ∷ [])) {x = length (archive.rows ++ row ∷ []) - length archive.rows} {y = 1} (omega (arith, length-append archive.rows (row ∷ []))) in
-    cc
-
--- no second
-pub passed-nil : (base : Content) → IsBase base → passed base [] ≡ base
-unfolding with_passed
-passed-nil base is =
-    let e : base.last + 0 ≡ base.last = omega arith in
-    let split = next_ahead base.last base.step is.some_step in
-    passed_within base [] is (omega arith) ∙ ap (λ n. with_passed base n base.parts base.archives) e

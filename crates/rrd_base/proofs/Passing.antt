@@ -14,7 +14,8 @@ use Rattle.rrd_base.specs.Commands.{rows_of_archives}
 use Rattle.rrd_base.specs.Validity.{IsPart, AreParts, IsRow, IsValid, IsValidArchive}
 use Rattle.rrd_base.proofs.Bounded.{more, no_parts}
 use Rattle.rrd_base.proofs.Held.{are_archives}
-use Rattle.rrd_base.proofs.PassedLemmas.{passed_within, passed_filling}
+use Rattle.rrd_base.proofs.ManySteps.{passed_ends}
+use Rattle.rrd_base.proofs.PassedLemmas.{passed_within}
 
 pub base_of_valid : (base : Content) → IsValid base → IsBase base
 base_of_valid base is = record { some_step = is.some_step; archives_are = are_archives (length base.sources) (base.last / base.step) base.archives is.archives_are }
@@ -36,24 +37,6 @@ room_left function k n limit [] h is = tt
 room_left function k n limit (part ∷ parts) h is = let few = is.0.few in (omega arith, room_left function k n limit parts h is.1)
 
 -- where a step ends
-pub not_full : (last n step : ℕ) → 0 < step → last + n ≤ (last / step + 1) * step → ((last + n) % step ≡ 0 → ⊥) → last + n < (last / step + 1) * step
-not_full last n step some h not =
-    ⊎_elim
-    (λ (below : last + n < (last / step + 1) * step). below)
-    (λ (at : (last / step + 1) * step ≤ last + n). absurd (not (ap (λ m. m % step) {x = last + n} {y = (last / step + 1) * step + 0} (omega arith) ∙ mod-mul-add (last / step + 1) step 0 some)))
-    (cases_lt (last + n) ((last / step + 1) * step))
-
-pub full : (last n step : ℕ) → 0 < step → 0 < n → last + n ≤ (last / step + 1) * step → (last + n) % step ≡ 0 → last + n ≡ (last / step + 1) * step
-full last n step some more h divides =
-    let split = div-add-mod' last step in
-    ⊎_elim
-    (λ (below : last + n < (last / step + 1) * step).
-    let r = last + n - last / step * step in
-    let e : (last + n) % step ≡ r = ap (λ m. m % step) {x = last + n} {y = last / step * step + r} (omega arith) ∙ mod-mul-add (last / step) step r (omega arith) in
-    absurd (omega arith))
-    (λ (at : (last / step + 1) * step ≤ last + n). omega arith)
-    (cases_lt (last + n) ((last / step + 1) * step))
-
 pub within_mod : (last n step : ℕ) → 0 < step → last + n < (last / step + 1) * step → (last + n) % step ≡ last % step + n
 within_mod last n step some h =
     let split = div-add-mod' last step in
@@ -63,12 +46,6 @@ pub within_div : (last n step : ℕ) → 0 < step → last + n < (last / step + 
 within_div last n step some h =
     let split = div-add-mod' last step in
     ap (λ m. m / step) {x = last + n} {y = last / step * step + (last % step + n)} (omega arith) ∙ div-mul-add (last / step) step (last % step + n) (omega arith)
-
-pub full_div : (last n step : ℕ) → 0 < step → last + n ≡ (last / step + 1) * step → (last + n) / step ≡ last / step + 1
-full_div last n step some h = ap (λ m. m / step) {x = last + n} {y = (last / step + 1) * step + 0} (omega arith) ∙ div-mul-add (last / step + 1) step 0 some
-
-pub full_mod : (last n step : ℕ) → 0 < step → last + n ≡ (last / step + 1) * step → (last + n) % step ≡ 0
-full_mod last n step some h = ap (λ m. m % step) {x = last + n} {y = (last / step + 1) * step + 0} (omega arith) ∙ mod-mul-add (last / step + 1) step 0 some
 
 -- the seconds up to the end of the step are no more than the step
 pub within_step : (last n step : ℕ) → 0 < step → last + n ≤ (last / step + 1) * step → last % step + n ≤ step
@@ -87,18 +64,15 @@ leaves base n row parts is h e =
 with_filled : Content → ℕ → List Part → List Archive → Content
 with_filled base last parts archives = record base { last = last; parts = parts; archives = archives }
 
-pub fills : (base : Content) (n : ℕ) (row cells : List Cell) (parts : List Part) (archives : List Archive) → IsValid base → base.last + n ≡ (base.last / base.step + 1) * base.step → cells ≡ map (step_cell base.step) (fold (with_each Average) base.parts (replicate n row)) → parts ≡ replicate (length base.sources) nothing → archives ≡ map (archive_passed (length base.sources) (base.last / base.step) (cells ∷ [])) base.archives → let now : Content = record base { last = base.last + n; parts = parts; archives = archives } in now ≡ passed base (replicate n row)
+pub ends : (base : Content) (n k : ℕ) (row cells : List Cell) (parts : List Part) (archives : List Archive) → IsValid base → IsRow (length base.sources) row → base.last + n ≡ (base.last / base.step + 1) * base.step → cells ≡ map (step_cell base.step) (fold (with_each Average) base.parts (replicate n row)) → parts ≡ replicate (length base.sources) nothing → archives ≡ map (archive_passed (length base.sources) (base.last / base.step) (cells ∷ replicate k row)) base.archives → let now : Content = record base { last = base.last + (n + k * base.step); parts = parts; archives = archives } in now ≡ passed base (replicate (n + k * base.step) row)
 unfolding with_filled
-fills base n row cells parts archives is h e p a =
-    let ys = replicate n row in
-    let k = length base.sources in
-    let count = length-replicate n row in
-    let closed = map (step_cell base.step) (fold (with_each Average) base.parts ys) in
-    ap (λ z. with_filled base (base.last + n) z archives) p
-    ∙ ap (with_filled base (base.last + n) (replicate k nothing)) a
-    ∙ ap (λ c. with_filled base (base.last + n) (replicate k nothing) (map (archive_passed k (base.last / base.step) (c ∷ [])) base.archives)) e
-    ∙ sym (passed_filling base ys (base_of_valid base is) (omega arith)
-    ∙ ap (λ m. with_filled base (base.last + m) (replicate k nothing) (map (archive_passed k (base.last / base.step) (closed ∷ [])) base.archives)) count)
+ends base n k row cells parts archives is row_is h e p a =
+    let last = base.last + (n + k * base.step) in
+    let c = length base.sources in
+    ap (λ z. with_filled base last z archives) p
+    ∙ ap (with_filled base last (replicate c nothing)) a
+    ∙ ap (λ zs. with_filled base last (replicate c nothing) (map (archive_passed c (base.last / base.step) (zs ∷ replicate k row)) base.archives)) e
+    ∙ sym (passed_ends base n k row (base_of_valid base is) h row_is.one_each)
 
 -- ---- that it is valid
 
@@ -126,11 +100,21 @@ unfolding archive_passed
 same_def sources before steps [] = refl
 same_def sources before steps (archive ∷ archives) = ap (λ rest. archive.def.rows ∷ rest) (same_def sources before steps archives)
 
-pub valid_filled : (base : Content) (n : ℕ) (cells : List Cell) (parts : List Part) (archives : List Archive) → IsValid base → base.last + n ≡ (base.last / base.step + 1) * base.step → base.last + n ≤ 9999999999 → parts ≡ replicate (length base.sources) nothing → archives ≡ map (archive_passed (length base.sources) (base.last / base.step) (cells ∷ [])) base.archives → AllByRecursion (IsValidArchive (length base.sources) (base.last / base.step + 1)) archives → IsValid (record base { last = base.last + n; parts = parts; archives = archives })
-valid_filled base n cells parts archives is h in_time p a good =
-    let k = length base.sources in
-    let count : length archives ≡ length base.archives = ap length a ∙ length-map base.archives (archive_passed k (base.last / base.step) (cells ∷ [])) in
-    let rows : rows_of_archives archives ≡ rows_of_archives base.archives = ap rows_of_archives a ∙ same_def k (base.last / base.step) (cells ∷ []) base.archives in
+ended_at : (last n k step : ℕ) → last + n ≡ (last / step + 1) * step → last + (n + k * step) ≡ (last / step + (1 + k)) * step + 0
+ended_at last n k step h = omega arith
+
+pub ended_div : (last n k step : ℕ) → 0 < step → last + n ≡ (last / step + 1) * step → (last + (n + k * step)) / step ≡ last / step + (1 + k)
+ended_div last n k step some h = ap (λ m. m / step) (ended_at last n k step h) ∙ div-mul-add (last / step + (1 + k)) step 0 some
+
+pub ended_mod : (last n k step : ℕ) → 0 < step → last + n ≡ (last / step + 1) * step → (last + (n + k * step)) % step ≡ 0
+ended_mod last n k step some h = ap (λ m. m % step) (ended_at last n k step h) ∙ mod-mul-add (last / step + (1 + k)) step 0 some
+
+pub valid_ended : (base : Content) (n k : ℕ) (steps : List (List Cell)) (parts : List Part) (archives : List Archive) → IsValid base → base.last + n ≡ (base.last / base.step + 1) * base.step → base.last + (n + k * base.step) ≤ 9999999999 → parts ≡ replicate (length base.sources) nothing → archives ≡ map (archive_passed (length base.sources) (base.last / base.step) steps) base.archives → AllByRecursion (IsValidArchive (length base.sources) (base.last / base.step + (1 + k))) archives → IsValid (record base { last = base.last + (n + k * base.step); parts = parts; archives = archives })
+valid_ended base n k steps parts archives is h in_time p a good =
+    let c = length base.sources in
+    let last = base.last + (n + k * base.step) in
+    let count : length archives ≡ length base.archives = ap length a ∙ length-map base.archives (archive_passed c (base.last / base.step) steps) in
+    let rows : rows_of_archives archives ≡ rows_of_archives base.archives = ap rows_of_archives a ∙ same_def c (base.last / base.step) steps base.archives in
     record {
       some_step = is.some_step;
       small_step = is.small_step;
@@ -141,10 +125,10 @@ valid_filled base n cells parts archives is h in_time p a good =
       few_sources = is.few_sources;
       some_archive = subst (λ m. 0 < m) (sym count) is.some_archive;
       few_archives = subst (λ m. m ≤ 64) (sym count) is.few_archives;
-      few_cells = subst (λ rs. k * sum rs ≤ 4000000) (sym rows) is.few_cells;
+      few_cells = subst (λ rs. c * sum rs ≤ 4000000) (sym rows) is.few_cells;
       sources_are = is.sources_are;
       names_differ = is.names_differ;
       raws_are = is.raws_are;
-      parts_are = subst (λ ps. AreParts Average k ((base.last + n) % base.step) ps) (sym p) (subst (λ m. AreParts Average k m (replicate k nothing)) (sym (full_mod base.last n base.step is.some_step h)) (no_parts Average k));
-      archives_are = subst (λ m. AllByRecursion (IsValidArchive k m) archives) (sym (full_div base.last n base.step is.some_step h)) good;
+      parts_are = subst (λ ps. AreParts Average c (last % base.step) ps) (sym p) (subst (λ m. AreParts Average c m (replicate c nothing)) (sym (ended_mod base.last n k base.step is.some_step h)) (no_parts Average c));
+      archives_are = subst (λ m. AllByRecursion (IsValidArchive c m) archives) (sym (ended_div base.last n k base.step is.some_step h)) good;
     }

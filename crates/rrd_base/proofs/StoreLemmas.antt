@@ -1,7 +1,7 @@
 -- A step, for the archive of many sources.
-use Rattle.std.proofs.Common.{◌≡◌, refl, sym, ◌∙◌, ap, subst, ℕ, zero, suc, ◌+◌, ◌-◌, ◌%◌, ◌<◌, ◌≤◌, ℤ, List, [], ◌∷◌, ◌++◌, length, drop, map, replicate, arith, length-append}
-use Rattle.std.proofs.lemmas.Nat.{mod_below}
-use Rattle.std.specs.List.{AllByRecursion}
+use Rattle.std.proofs.Common.{◌≡◌, refl, sym, ◌∙◌, ap, subst, ℕ, zero, suc, ◌+◌, ◌-◌, ◌<◌, ◌≤◌, ℤ, List, [], ◌∷◌, ◌++◌, length, drop, map, replicate, arith, length-append}
+use Rattle.std.proofs.lemmas.List.{length-replicate}
+use Rattle.std.specs.List.{AllByRecursion, fold}
 use Rattle.rrd_fixed.specs.declared.cell.Cell.{Cell}
 use Rattle.rrd_fixed.specs.declared.cell.Cell.TheVariants.{Unknown, Known}
 use Rattle.rrd_fold.specs.declared.function.Function.{Function}
@@ -14,71 +14,49 @@ use Rattle.rrd_base.specs.Rules.{rows_rule}
 use Rattle.rrd_base.specs.History.{Archive}
 use Rattle.rrd_base.specs.Passed.{archive_passed}
 use Rattle.rrd_base.specs.Validity.{AreParts, IsRow, IsValidArchive}
-use Rattle.rrd_base.specs.Each.{map_each, with_step, anew, row_of, parts_in, AllOf}
-use Rattle.rrd_base.proofs.PassedLemmas.{archive_step_within, archive_step_filling}
+use Rattle.rrd_base.specs.Each.{map_each, with_steps, anew, row_of, parts_in, AllOf}
 use Rattle.rrd_base.proofs.RowLemmas.{length-keep_last}
 use Rattle.rrd_base.proofs.Kept.{All-append, kept}
-use Rattle.rrd_base.proofs.Bounded.{rows_keep}
+use Rattle.rrd_base.proofs.Bounded.{rows_keep, All-replicate}
 use Rattle.rrd_base.proofs.AllLemmas.{All-drop, All-weaker}
-use Rattle.rrd_base.proofs.EachLemmas.{parts_in-with_step, parts_in-anew, AllOf-with_step}
+use Rattle.rrd_base.proofs.EachLemmas.{parts_in-with_steps, parts_in-anew, AllOf-with_steps}
 
 -- an archive of these preparations
 abbrev pub shown : RraDef → List Consolidating → List (List Cell) → Archive
 shown def preps rows = record { def = def; parts = parts_in preps; rows = rows }
 
 -- the cells of a row, off the preparations and off their parts
-row_of_parts : (function : Function) (xff : ℤ) (steps : ℕ) (preps : List Consolidating) → AllOf function preps → map (row_of xff steps) preps ≡ map (row_cell function xff steps) (parts_in preps)
+pub row_of_parts : (function : Function) (xff : ℤ) (steps : ℕ) (preps : List Consolidating) → AllOf function preps → map (row_of xff steps) preps ≡ map (row_cell function xff steps) (parts_in preps)
 row_of_parts function xff steps [] of = refl
 row_of_parts function xff steps (prep ∷ preps) of =
     let first : row_cell prep.function xff steps prep.part ≡ row_cell function xff steps prep.part = ap (λ f. row_cell f xff steps prep.part) of.0 in
     let rest = row_of_parts function xff steps preps of.1 in
     cc
 
--- a step that leaves the row unfinished
-pub takes : (def : RraDef) (sources : ℕ) (preps : List Consolidating) (rows : List (List Cell)) (step : List Cell) (number : ℕ) → AllOf def.function preps → 0 < def.steps → 0 < number → (number % def.steps ≡ 0 → ⊥) → shown def (map_each with_step preps step) rows ≡ archive_passed sources (number - 1) (step ∷ []) (shown def preps rows)
-takes def sources preps rows step number of some first not =
-    let apart : (number - 1 + 1) % def.steps ≡ 0 → ⊥ = λ z. not (ap (λ n. n % def.steps) {x = number} {y = number - 1 + 1} (omega arith) ∙ z) in
-    ap (λ ps. let a : Archive = record { def = def; parts = ps; rows = rows } in a) (parts_in-with_step def.function preps step of)
-    ∙ sym (archive_step_within sources (number - 1) (shown def preps rows) step some apart)
+-- steps that leave the row unfinished
+pub goes_on : (def : RraDef) (preps : List Consolidating) (rows : List (List Cell)) (step : List Cell) (count : ℕ) → AllOf def.function preps → shown def (map_each (with_steps count) preps step) rows ≡ record (shown def preps rows) { parts = fold (with_each def.function) (parts_in preps) (replicate count step) }
+goes_on def preps rows step count of = ap (λ ps. let a : Archive = record { def = def; parts = ps; rows = rows } in a) (parts_in-with_steps def.function count preps step of)
 
-length-map_each : {P A : Type 0} (f : P → A → P) (ps : List P) (xs : List A) → length (map_each f ps xs) ≡ length ps
+pub length-map_each : {P A : Type 0} (f : P → A → P) (ps : List P) (xs : List A) → length (map_each f ps xs) ≡ length ps
 length-map_each f [] xs = refl
 length-map_each f (p ∷ ps) [] = refl
 length-map_each f (p ∷ ps) (x ∷ xs) = ap suc (length-map_each f ps xs)
 
--- a step that fills it
-pub closes : (def : RraDef) (sources : ℕ) (preps : List Consolidating) (rows : List (List Cell)) (step : List Cell) (number : ℕ) → AllOf def.function preps → length preps ≡ sources → 0 < def.steps → 0 < number → number % def.steps ≡ 0 → shown def (map anew (map_each with_step preps step)) (drop 1 (rows ++ map (row_of def.xff def.steps) (map_each with_step preps step) ∷ [])) ≡ archive_passed sources (number - 1) (step ∷ []) (shown def preps rows)
-closes def sources preps rows step number of as_many some first divides =
-    let full : (number - 1 + 1) % def.steps ≡ 0 = ap (λ n. n % def.steps) {x = number - 1 + 1} {y = number} (omega arith) ∙ divides in
-    let more = map_each with_step preps step in
-    let parts : parts_in (map anew more) ≡ replicate sources nothing = parts_in-anew more ∙ ap (λ n. replicate n nothing) (length-map_each with_step preps step ∙ as_many) in
-    let cells : map (row_of def.xff def.steps) more ≡ map (row_cell def.function def.xff def.steps) (with_each def.function (parts_in preps) step)
-    = row_of_parts def.function def.xff def.steps more (AllOf-with_step def.function preps step of)
-    ∙ ap (map (row_cell def.function def.xff def.steps)) (parts_in-with_step def.function preps step of) in
-    ap (λ ps. let a : Archive = record { def = def; parts = ps; rows = drop 1 (rows ++ map (row_of def.xff def.steps) more ∷ []) } in a) parts
-    ∙ ap (λ cs. let a : Archive = record { def = def; parts = replicate sources nothing; rows = drop 1 (rows ++ cs ∷ []) } in a) cells
-    ∙ sym (archive_step_filling sources (number - 1) (shown def preps rows) step some full)
+-- the next row's, once the row is closed
+pub closes : (def : RraDef) (sources : ℕ) (preps : List Consolidating) (rows : List (List Cell)) → length preps ≡ sources → shown def (map anew preps) rows ≡ record (shown def preps rows) { parts = replicate sources nothing }
+closes def sources preps rows as_many =
+    ap (λ ps. let a : Archive = record { def = def; parts = ps; rows = rows } in a) (parts_in-anew preps ∙ ap (λ n. replicate n nothing) as_many)
 
 -- ---- what fits
 
--- fewer known steps than make a row
-pub known_below : (sources before : ℕ) (archive : Archive) → IsValidArchive sources before archive → AllByRecursion (λ (part : Part). part.known < archive.def.steps) archive.parts
-known_below sources before archive is =
-    let below = mod_below before archive.def.steps is.some_steps in
-    All-weaker _ _ archive.parts (λ part of. omega (arith, of.few, below)) is.parts_are.each
+-- known steps of preparations, and of their parts
+pub preps_fit : (count most limit : ℕ) (preps : List Consolidating) → most ≤ limit → AllByRecursion (λ (part : Part). part.known + count ≤ most) (parts_in preps) → AllByRecursion (λ (prep : Consolidating). prep.part.known + count ≤ limit) preps
+preps_fit count most limit [] h is = tt
+preps_fit count most limit (prep ∷ preps) h is = (omega (arith, is.0), preps_fit count most limit preps h is.1)
 
-pub preps_fit : (limit most : ℕ) (preps : List Consolidating) → limit ≤ most → AllByRecursion (λ (part : Part). part.known < limit) (parts_in preps) → AllByRecursion (λ (prep : Consolidating). prep.part.known < most) preps
-preps_fit limit most [] h is = tt
-preps_fit limit most (prep ∷ preps) h is = (omega (arith, is.0), preps_fit limit most preps h is.1)
-
-one_more : (limit : ℕ) (function : Function) (part : Part) (cell : Cell) → part.known < limit → (with_cell function part cell).known ≤ limit
-one_more limit function part Unknown h = omega arith
-one_more limit function part (Known value) h = omega arith
-
-pub preps_close : (limit : ℕ) (preps : List Consolidating) (step : List Cell) → AllByRecursion (λ (part : Part). part.known < limit) (parts_in preps) → AllByRecursion (λ (prep : Consolidating). prep.part.known ≤ limit) (map_each with_step preps step)
-preps_close limit [] step is = tt
-preps_close limit (prep ∷ preps) [] is = All-weaker _ _ (prep ∷ preps) (λ p h. omega (arith, h)) (preps_fit limit limit (prep ∷ preps) (omega arith) is)
-preps_close limit (prep ∷ preps) (cell ∷ step) is = (one_more limit prep.function prep.part cell is.0, preps_close limit preps step is.1)
+pub parts_fit : (limit : ℕ) (preps : List Consolidating) → AllByRecursion (λ (part : Part). part.known ≤ limit) (parts_in preps) → AllByRecursion (λ (prep : Consolidating). prep.part.known ≤ limit) preps
+parts_fit limit [] is = tt
+parts_fit limit (prep ∷ preps) is = (is.0, parts_fit limit preps is.1)
 
 -- rows are as wide as there are sources
 pub rows_wide : (sources : ℕ) (rows : List (List Cell)) → AllByRecursion (IsRow sources) rows → HasWidth sources rows
@@ -110,13 +88,14 @@ passed_valid sources before steps archive is rows =
       each_row = All-drop (IsRow sources) (length all - length archive.rows) all (All-append (IsRow sources) archive.rows new is.each_row keeps.given_are);
     }
 
--- after one step
-pub step_valid : (step : List Cell) (number : ℕ) (archive new : Archive) → IsValidArchive (length step) (number - 1) archive → IsRow (length step) step → 0 < number → new ≡ archive_passed (length step) (number - 1) (step ∷ []) archive → IsValidArchive (length step) number new
-step_valid step number archive new is row some e =
-    let n = length step in
-    subst (IsValidArchive n number) (sym e)
-    (subst (λ (k : ℕ). IsValidArchive n k (archive_passed n (number - 1) (step ∷ []) archive)) {x = number - 1 + length (step ∷ [])} {y = number} (omega arith)
-    (passed_valid n (number - 1) (step ∷ []) archive is (row, tt)))
+-- after a step and many of another
+pub taken_valid : (first then : List Cell) (before count : ℕ) (archive new : Archive) → IsValidArchive (length first) before archive → IsRow (length first) first → IsRow (length first) then → new ≡ archive_passed (length first) before (first ∷ replicate count then) archive → IsValidArchive (length first) (before + (1 + count)) new
+taken_valid first then before count archive new is one many e =
+    let n = length first in
+    let steps = first ∷ replicate count then in
+    subst (IsValidArchive n (before + (1 + count))) (sym e)
+    (subst (λ (k : ℕ). IsValidArchive n k (archive_passed n before steps archive)) {x = before + length steps} {y = before + (1 + count)} (omega (arith, length-replicate count then))
+    (passed_valid n before steps archive is (one, All-replicate (IsRow n) count then many)))
 
 -- ---- new preparations
 

@@ -1,5 +1,5 @@
 //! What a database holds, but for its journal: how seconds and samples move it.
-ghost use Rattle.std.specs.Prelude.{◌≡◌, ◌+◌, ◌-◌, ◌*◌, ◌/◌, ◌^◌, ◌<◌, ◌≤◌, [], ◌∷◌, length, map, replicate, slice_index_or, IfOk, None, pos, ◌-ℤ◌};
+ghost use Rattle.std.specs.Prelude.{◌≡◌, ◌+◌, ◌-◌, ◌*◌, ◌/◌, ◌%◌, ◌^◌, ◌<◌, ◌≤◌, [], ◌∷◌, length, map, replicate, slice_index_or, IfOk, None, pos, ◌-ℤ◌};
 ghost use Rattle.std.specs.Int.{int_div_euclid};
 ghost use Rattle.std.specs.Result.{result_err};
 ghost use Rattle.rrd_base.specs.Choice.{choice_of};
@@ -17,6 +17,7 @@ ghost use Rattle.rrd_base.specs.Verdict.{verdict};
 ghost use Rattle.rrd_base.specs.History.{Resized, Sampled, content_listed};
 ghost use Rattle.rrd_base.specs.Passed.{passed};
 ghost use Rattle.rrd_ring.specs.Rows.{newest_rows};
+ghost use Rattle.rrd_base.specs.Turns.{AreTurns, least_of_sample, least_of_steps, most_of_sample, most_of_steps};
 ghost use Rattle.rrd_base.specs.Validity.{AreAccepted, IsRow, IsValid};
 
 use crate::choose::{Chosen, Request, Search};
@@ -155,41 +156,86 @@ impl Contents {
         store.cell_of_age(age(self.last, resolution, time), source)
     }
 
-    /// Lets so many seconds of the step in progress pass. `step_room` and `row_room` have a place
-    /// for each source.
-    fn pass(
-        &mut self,
-        rates: &[Cell],
-        seconds: u64,
-        step_room: &mut [Cell],
-        row_room: &mut [Cell],
-        meter: &mut Meter,
-    )
-        requires within { self.old.last + seconds ≤ (self.old.last / self.old.step + 1) * self.old.step }
+    // Lets so many seconds pass that leave the step unfinished. It is a turn for each source.
+    fn begin(&mut self, rates: &[Cell], seconds: u64, meter: &mut Meter)
+        requires within { self.old.last + seconds < (self.old.last / self.old.step + 1) * self.old.step }
         requires rates_are { IsRow (length self.old.sources) rates.now }
-        requires some { 0 < seconds }
         requires in_time { self.old.last + seconds ≤ 9999999999 }
-        requires step_wide { length step_room.old ≡ length self.old.sources }
-        requires row_wide { length row_room.old ≡ length self.old.sources }
-        requires turns { meter.old + 13000 < 2 ^ 64 }
-        ensures turns { meter.new ≤ meter.old + 13000 }
-        ensures last { self.new.last ≡ self.old.last + seconds }
-        ensures step { self.new.step ≡ self.old.step }
-        ensures sources { self.new.sources ≡ self.old.sources }
-        ensures raws { self.new.raws ≡ self.old.raws }
+        requires turns { meter.old + 64 < 2 ^ 64 }
+        ensures ticked { meter.new ≡ meter.old + length self.old.sources }
         ensures value { self.new ≡ passed self.old (replicate seconds rates.now) }
     {
         add_all(&mut self.preps, rates, seconds, meter);
         self.last += seconds;
-        if self.last % self.step == 0 {
-            close_all(&mut self.preps, self.step, step_room, meter);
-            take_all(
-                &mut self.stores,
-                step_room,
-                self.last / self.step,
-                row_room,
-                meter,
-            );
+    }
+
+    // Lets the seconds pass that are left of the step in progress, and then `count` whole steps, all
+    // at once: their cells are the rates. The rooms have a place for each source.
+    fn end_steps(
+        &mut self,
+        rates: &[Cell],
+        seconds: u64,
+        count: u64,
+        step_room: &mut [Cell],
+        row_room: &mut [Cell],
+        meter: &mut Meter,
+    )
+        requires fills { self.old.last + seconds ≡ (self.old.last / self.old.step + 1) * self.old.step }
+        requires rates_are { IsRow (length self.old.sources) rates.now }
+        requires in_time { self.old.last + (seconds + count * self.old.step) ≤ 9999999999 }
+        requires step_wide { length step_room.old ≡ length self.old.sources }
+        requires row_wide { length row_room.old ≡ length self.old.sources }
+        requires turns { meter.old + 10000000 < 2 ^ 64 }
+        ensures value { self.new ≡ passed self.old (replicate (seconds + count * self.old.step) rates.now) }
+        ensures least { meter.old + length self.old.sources * least_of_steps (self.old.last / self.old.step) (1 + count) (definitions self.old.archives) ≤ meter.new }
+        ensures most { meter.new ≤ meter.old + length self.old.sources * (2 + most_of_steps (self.old.last / self.old.step) (1 + count) (definitions self.old.archives)) }
+    {
+        let step = self.step;
+        let before = self.last / step;
+        add_all(&mut self.preps, rates, seconds, meter);
+        close_all(&mut self.preps, step, step_room, meter);
+        self.last += seconds + count * step;
+        take_all(
+            &mut self.stores,
+            step_room,
+            rates,
+            count,
+            before,
+            row_room,
+            meter,
+        );
+    }
+
+    // Lets all seconds up to a time pass: the rest of the step in progress with all whole steps after
+    // it, and the begin of the next. The rooms have a place for each source.
+    fn catch_up(
+        &mut self,
+        rates: &[Cell],
+        time: u64,
+        step_room: &mut [Cell],
+        row_room: &mut [Cell],
+        meter: &mut Meter,
+    )
+        requires later { self.old.last < time }
+        requires in_time { time ≤ 9999999999 }
+        requires rates_are { IsRow (length self.old.sources) rates.now }
+        requires step_wide { length step_room.old ≡ length self.old.sources }
+        requires row_wide { length row_room.old ≡ length self.old.sources }
+        requires turns { meter.old + 20000000 < 2 ^ 64 }
+        ensures value { self.new ≡ passed self.old (replicate (time - self.old.last) rates.now) }
+        ensures least { meter.old + least_of_sample (length self.old.sources) self.old.step (definitions self.old.archives) self.old.last time ≤ meter.new }
+        ensures most { meter.new ≤ meter.old + most_of_sample (length self.old.sources) self.old.step (definitions self.old.archives) self.old.last time }
+        ensures few { meter.new ≤ meter.old + 6000000 }
+    {
+        let step = self.step;
+        let last = self.last;
+        let end = (last / step + 1) * step;
+        if time < end {
+            self.begin(rates, time - last, meter);
+        } else {
+            let more = time - end;
+            self.end_steps(rates, end - last, more / step, step_room, row_room, meter);
+            self.begin(rates, more % step, meter);
         }
     }
 
@@ -210,19 +256,15 @@ impl Contents {
         requires rates_wide { length rates.old ≡ length self.old.sources }
         requires step_wide { length step_room.old ≡ length self.old.sources }
         requires row_wide { length row_room.old ≡ length self.old.sources }
-        requires turns { meter.old + 13000 * (time - self.old.last) < 2 ^ 63 }
-        ensures turns { meter.new ≤ meter.old + 13000 * (time - self.old.last) }
+        requires turns { meter.old + 20000000 < 2 ^ 64 }
         ensures value { self.new ≡ content_listed self.old (Sampled (record { time = time; raws = raws.now }) ∷ []) }
         ensures valid { IsValid self.new }
+        ensures least { meter.old + least_of_sample (length self.old.sources) self.old.step (definitions self.old.archives) self.old.last time ≤ meter.new }
+        ensures most { meter.new ≤ meter.old + most_of_sample (length self.old.sources) self.old.step (definitions self.old.archives) self.old.last time }
+        ensures few { meter.new ≤ meter.old + 6000000 }
     {
         rates_into(&self.sources, time - self.last, &self.raws, raws, rates);
-        let step = self.step;
-        let mut at = self.last;
-        while at < time {
-            let seconds = ((at / step + 1) * step).min(time) - at;
-            self.pass(rates, seconds, step_room, row_room, meter);
-            at += seconds;
-        }
+        self.catch_up(rates, time, step_room, row_room, meter);
         self.raws.copy_from_slice(raws);
     }
 
@@ -232,7 +274,8 @@ impl Contents {
         requires accepted { verdict self.old (Updating update.now) ≡ None }
         requires places { HasPlaces room.old (length self.old.sources) }
         requires turns { meter.old ≡ 0 }
-        ensures { self.new ≡ moved_listed self.old (Updating update.now) }
+        ensures value { self.new ≡ moved_listed self.old (Updating update.now) }
+        ensures turns { AreTurns self.old update.now meter.new }
     {
         for sample in update.samples.as_slice() {
             let values = sample.values.as_slice();

@@ -1,14 +1,17 @@
 //! Archives: for each source the preparation of its unfinished row, and the rows.
-ghost use Rattle.std.specs.Prelude.{◌≡◌, ℕ, List, ◌+◌, ◌-◌, ◌*◌, ◌^◌, ◌<◌, ◌≤◌, [], ◌∷◌, length, map, replicate, slice_index_or, take as first, IfOk};
-ghost use Rattle.std.specs.List.{AllByRecursion};
+ghost use Rattle.std.specs.Prelude.{◌≡◌, ℕ, List, ◌+◌, ◌*◌, ◌^◌, ◌<◌, ◌≤◌, ◌∷◌, ◌++◌, length, map, min, replicate, slice_index_or, take as first, IfOk, pos, ◌≤ℤ◌};
+ghost use Rattle.std.specs.List.{AllByRecursion, fold};
 ghost use Rattle.rrd_fixed.specs.declared.cell.Cell.{Cell};
 ghost use Rattle.rrd_fixed.specs.declared.cell.Cell.TheVariants.{Unknown};
-ghost use Rattle.rrd_fold.specs.Parts.{nothing};
-ghost use Rattle.rrd_ring.specs.Rows.{newest_rows, row_at};
+ghost use Rattle.rrd_fold.specs.Parts.{Part, nothing, row_cell, with_each};
+ghost use Rattle.rrd_ring.specs.Rows.{HasWidth, newest_rows, row_at, width};
 ghost use Rattle.rrd_base.specs.Entries.{dropped, put_back as after_put_back, put_back_each};
 ghost use Rattle.rrd_base.specs.Creating.{new_archive};
 ghost use Rattle.rrd_base.specs.Each.{AllOf, parts_in};
+ghost use Rattle.rrd_base.specs.History.{keep_last};
 ghost use Rattle.rrd_base.specs.Passed.{archive_passed, row_of_age};
+ghost use Rattle.rrd_base.specs.Shown.{definitions};
+ghost use Rattle.rrd_base.specs.Turns.{least_of_steps, most_of_steps, rows_pushed};
 ghost use Rattle.rrd_base.specs.Store.{CanPutBack, CanPutBackEach, IsStepped, befores, functions, saved_functions};
 ghost use Rattle.rrd_base.specs.Validity.{IsRow, IsValidArchive};
 
@@ -153,23 +156,82 @@ impl Store {
         self.preps[source]
     }
 
-    /// Takes the step that ends as the step of this number. `row` is room for the cells of a row.
-    pub(crate) fn take(&mut self, step: &[Cell], number: u64, row: &mut [Cell], meter: &mut Meter)
-        requires valid { IsValidArchive (length step.now) (number - 1) self.old }
-        requires bounded { IsRow (length step.now) step.now }
-        requires numbered { 0 < number }
-        requires room { length row.old ≡ length step.now }
-        requires turns { meter.old + 3 * length step.now < 2 ^ 64 }
-        ensures value { self.new ≡ archive_passed (length step.now) (number - 1) (step.now ∷ []) self.old }
-        ensures valid { IsValidArchive (length step.now) number self.new }
-        ensures turns { meter.new ≤ meter.old + 3 * length step.now }
+    // Adds to each preparation its source's step, so many times. It is a turn for each.
+    fn go_on(&mut self, step: &[Cell], count: u64, meter: &mut Meter)
+        requires row { IsRow (length self.old.parts) step.now }
+        requires fits { AllByRecursion (λ (p : Part). p.known + count ≤ 1000000) self.old.parts }
+        requires turns { meter.old + length step.now < 2 ^ 64 }
+        ensures value { self.new ≡ record self.old { parts = fold (with_each self.old.def.function) self.old.parts (replicate count step.now) } }
+        ensures ticked { meter.new ≡ meter.old + length step.now }
+    {
+        add_each(&mut self.preps, step, count, meter);
+    }
+
+    // Writes the cells of the row that has all its steps, and starts each preparation anew. It is a
+    // turn for each.
+    fn close_row(&mut self, row: &mut [Cell], meter: &mut Meter)
+        requires room { length row.old ≡ length self.old.parts }
+        requires some_steps { 0 < self.old.def.steps }
+        requires few_steps { self.old.def.steps ≤ 1000000 }
+        requires xff_low { pos 0 ≤ℤ self.old.def.xff }
+        requires xff_high { self.old.def.xff ≤ℤ pos 999999 }
+        requires fits { AllByRecursion (λ (p : Part). p.known ≤ self.old.def.steps) self.old.parts }
+        requires turns { meter.old + length row.old < 2 ^ 64 }
+        ensures cells { row.new ≡ map (row_cell self.old.def.function self.old.def.xff self.old.def.steps) self.old.parts }
+        ensures value { self.new ≡ record self.old { parts = replicate (length row.old) nothing } }
+        ensures ticked { meter.new ≡ meter.old + length row.old }
+    {
+        let share = self.def.share();
+        close_each(&mut self.preps, self.def.steps, share, row, meter);
+    }
+
+    // Takes a row and then so many of another, those only that are still there in the end. It is a
+    // turn for each cell of these.
+    fn push(&mut self, row: &[Cell], then: &[Cell], times: u64, meter: &mut Meter)
+        requires wide { HasWidth (length row.now) self.old.rows }
+        requires same_width { length then.now ≡ length row.now }
+        requires turns { meter.old + length row.now * min (1 + times) (length self.old.rows) < 2 ^ 64 }
+        ensures value { self.new ≡ record self.old { rows = keep_last (length self.old.rows) (self.old.rows ++ row.now ∷ replicate times then.now) } }
+        ensures ticked { meter.new ≡ meter.old + length row.now * min (1 + times) (length self.old.rows) }
+    {
+        push_rows(&mut self.rows, row, then, times, meter);
+    }
+
+    /// Takes the cells of one step and then `count` times those of another, `before` steps having
+    /// ended. All whole rows of the other are taken at once: their cells are its cells, and only
+    /// rows that are still there in the end are written. `row` is room for the cells of a row.
+    pub(crate) fn take(
+        &mut self,
+        first: &[Cell],
+        then: &[Cell],
+        count: u64,
+        before: u64,
+        row: &mut [Cell],
+        meter: &mut Meter,
+    )
+        requires valid { IsValidArchive (length first.now) before self.old }
+        requires first_bounded { IsRow (length first.now) first.now }
+        requires then_bounded { IsRow (length first.now) then.now }
+        requires room { length row.old ≡ length first.now }
+        requires in_time { before + (1 + count) ≤ 9999999999 }
+        requires turns { meter.old + length first.now * (4 + rows_pushed before (1 + count) self.old.def) < 2 ^ 64 }
+        ensures value { self.new ≡ archive_passed (length first.now) before (first.now ∷ replicate count then.now) self.old }
+        ensures valid { IsValidArchive (length first.now) (before + (1 + count)) self.new }
+        ensures least { meter.old + length first.now * rows_pushed before (1 + count) self.old.def ≤ meter.new }
+        ensures most { meter.new ≤ meter.old + length first.now * (4 + rows_pushed before (1 + count) self.old.def) }
         ensures room { length row.new ≡ length row.old }
     {
-        add_each(&mut self.preps, step, meter);
-        let steps = self.def.steps;
-        if number % steps == 0 {
-            close_each(&mut self.preps, steps, self.def.share(), row, meter);
-            self.rows.push_row(row, meter);
+        let steps = self.def().steps;
+        let left = (before / steps + 1) * steps - (before + 1);
+        self.go_on(first, 1, meter);
+        if count < left {
+            self.go_on(then, count, meter);
+        } else {
+            let more = count - left;
+            self.go_on(then, left, meter);
+            self.close_row(row, meter);
+            self.push(row, then, more / steps, meter);
+            self.go_on(then, more % steps, meter);
         }
     }
 
@@ -233,28 +295,56 @@ impl Store {
     }
 }
 
-/// Each archive takes the step that ends as the step of this number. `row` is room for the cells of a
-/// row.
+/// Each archive takes the cells of one step and then `count` times those of another, `before` steps
+/// having ended. `row` is room for the cells of a row.
 pub(crate) fn take_all(
     stores: &mut [Store],
-    step: &[Cell],
-    number: u64,
+    first: &[Cell],
+    then: &[Cell],
+    count: u64,
+    before: u64,
     row: &mut [Cell],
     meter: &mut Meter,
 )
-    requires valid { AllByRecursion (IsValidArchive (length step.now) (number - 1)) stores.old }
-    requires bounded { IsRow (length step.now) step.now }
-    requires numbered { 0 < number }
-    requires room { length row.old ≡ length step.now }
-    requires few_stores { length stores.old ≤ 64 }
-    requires few_sources { length step.now ≤ 64 }
-    requires turns { meter.old + 3 * length step.now * length stores.old < 2 ^ 64 }
-    ensures value { stores.new ≡ map (archive_passed (length step.now) (number - 1) (step.now ∷ [])) stores.old }
-    ensures valid { AllByRecursion (IsValidArchive (length step.now) number) stores.new }
-    ensures turns { meter.new ≤ meter.old + 3 * length step.now * length stores.old }
+    requires valid { AllByRecursion (IsValidArchive (length first.now) before) stores.old }
+    requires first_bounded { IsRow (length first.now) first.now }
+    requires then_bounded { IsRow (length first.now) then.now }
+    requires room { length row.old ≡ length first.now }
+    requires in_time { before + (1 + count) ≤ 9999999999 }
+    requires turns { meter.old + length first.now * most_of_steps before (1 + count) (definitions stores.old) < 2 ^ 64 }
+    ensures value { stores.new ≡ map (archive_passed (length first.now) before (first.now ∷ replicate count then.now)) stores.old }
+    ensures valid { AllByRecursion (IsValidArchive (length first.now) (before + (1 + count))) stores.new }
+    ensures least { meter.old + length first.now * least_of_steps before (1 + count) (definitions stores.old) ≤ meter.new }
+    ensures most { meter.new ≤ meter.old + length first.now * most_of_steps before (1 + count) (definitions stores.old) }
 {
     for i in 0..stores.len() {
-        stores[i].take(step, number, row, meter);
+        stores[i].take(first, then, count, before, row, meter);
+    }
+}
+
+// Pushes a row and then so many of another, those only that are still there in the end.
+fn push_rows(rows: &mut Archive, row: &[Cell], then: &[Cell], times: u64, meter: &mut Meter)
+    requires wide { HasWidth (length row.now) rows.old }
+    requires same_width { length then.now ≡ length row.now }
+    requires turns { meter.old + length row.now * min (1 + times) (length rows.old) < 2 ^ 64 }
+    ensures rows { rows.new ≡ keep_last (length rows.old) (rows.old ++ row.now ∷ replicate times then.now) }
+    ensures turns { meter.new ≡ meter.old + length row.now * min (1 + times) (length rows.old) }
+{
+    if times < rows.rows() {
+        rows.push_row(row, meter);
+    }
+    push_times(rows, then, times, meter);
+}
+
+// Pushes a row so many times, those only that are still there in the end.
+fn push_times(rows: &mut Archive, row: &[Cell], times: u64, meter: &mut Meter)
+    requires wide { HasWidth (length row.now) rows.old }
+    requires turns { meter.old + length row.now * min times (length rows.old) < 2 ^ 64 }
+    ensures rows { rows.new ≡ keep_last (length rows.old) (rows.old ++ replicate times row.now) }
+    ensures turns { meter.new ≡ meter.old + length row.now * min times (length rows.old) }
+{
+    for _i in 0..times.min(rows.rows()) {
+        rows.push_row(row, meter);
     }
 }
 

@@ -213,31 +213,6 @@ unfinished_filling rule before begun ys pos h =
     let same : ((before + 0) / rule.size + 1) * rule.size ≡ (before / rule.size + 1) * rule.size = ap (λ q. (q + 1) * rule.size) (plus_zero before rule.size) in
     unfinished_fills rule before begun [] ys pos (omega arith)
 
--- the place in a group, from a remainder
-pub next_divides : (n size : ℕ) → 0 < size → (n + 1) % size ≡ 0 → n + 1 ≡ (n / size + 1) * size
-next_divides n size pos h =
-    let r = n % size in
-    let split = div-add-mod' n size in
-    let below = mod_below n size pos in
-    ⊎_elim
-    (λ (few : r + 1 < size).
-    let e : (n + 1) % size ≡ r + 1 = ap (λ m. m % size) {x = n + 1} {y = n / size * size + (r + 1)} (omega arith) ∙ mod-mul-add (n / size) size (r + 1) few in
-    absurd (omega arith))
-    (λ (full : size ≤ r + 1). omega arith)
-    (cases_lt (r + 1) size)
-
-pub next_divides_not : (n size : ℕ) → 0 < size → ((n + 1) % size ≡ 0 → ⊥) → n + 1 < (n / size + 1) * size
-next_divides_not n size pos h =
-    let r = n % size in
-    let split = div-add-mod' n size in
-    let below = mod_below n size pos in
-    ⊎_elim
-    (λ (few : r + 1 < size). omega arith)
-    (λ (full : size ≤ r + 1).
-    let e : (n + 1) % size ≡ 0 = ap (λ m. m % size) {x = n + 1} {y = (n / size + 1) * size + 0} (omega arith) ∙ mod-mul-add (n / size + 1) size 0 pos in
-    absurd (h e))
-    (cases_lt (r + 1) size)
-
 -- whole groups of one item
 pub finished-replicate : {A P B : Type 0} (rule : Rule A P B) (k first : ℕ) (x : A) → 0 < rule.size → finished rule (first * rule.size) rule.empty (replicate (k * rule.size) x) ≡ replicate k (rule.close (fold rule.add rule.empty (replicate rule.size x)))
 finished-replicate rule zero first x pos =
@@ -258,3 +233,22 @@ finished-replicate rule (suc k) first x pos =
     ∙ ap (λ p. rule.close (fold rule.add rule.empty one) ∷ finished rule (at + length one) p rest) (unfinished_filling rule at rule.empty one pos fills)
     ∙ ap (λ n. rule.close (fold rule.add rule.empty one) ∷ finished rule n rule.empty rest) {x = at + length one} {y = suc first * size} (omega arith)
     ∙ ap (λ zs. rule.close (fold rule.add rule.empty one) ∷ zs) (finished-replicate rule k (suc first) x pos)
+
+pub unfinished-replicate : {A P B : Type 0} (rule : Rule A P B) (k first : ℕ) (x : A) → 0 < rule.size → unfinished rule (first * rule.size) rule.empty (replicate (k * rule.size) x) ≡ rule.empty
+unfinished-replicate rule zero first x pos =
+    ap (λ n. unfinished rule (first * rule.size) rule.empty (replicate n x)) {x = zero * rule.size} {y = 0} (omega arith) ∙ unfinished_nil rule (first * rule.size) rule.empty pos
+unfinished-replicate rule (suc k) first x pos =
+    let size = rule.size in
+    let at = first * size in
+    let one = replicate size x in
+    let rest = replicate (k * size) x in
+    let count = length-replicate size x in
+    let start : at / size ≡ first = same_group at first size (omega arith) (omega arith) in
+    let fills : at + length one ≡ (at / size + 1) * size = omega (arith, ap (λ q. (q + 1) * size) start) in
+    let on = goes_on rule at rule.empty one rest pos in
+    ap (λ n. unfinished rule at rule.empty (replicate n x)) {x = suc k * size} {y = size + k * size} (omega arith)
+    ∙ ap (unfinished rule at rule.empty) (sym (replicate-append-replicate size (k * size) x))
+    ∙ on.unfinished_is
+    ∙ ap (λ p. unfinished rule (at + length one) p rest) (unfinished_filling rule at rule.empty one pos fills)
+    ∙ ap (λ n. unfinished rule n rule.empty rest) {x = at + length one} {y = suc first * size} (omega arith)
+    ∙ unfinished-replicate rule k (suc first) x pos

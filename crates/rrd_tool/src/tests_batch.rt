@@ -167,7 +167,10 @@ update 15:2\n\
 update 215:5\n\
 fetch AVERAGE -s 120 -e 199\n\
 fetch MIN -s 0 -e 199\n\
-fetch MAX -s 0 -e 39\n",
+fetch MAX -s 0 -e 39\n\
+revert\n\
+fetch MIN -s 0 -e 39\n\
+last\n",
     "time: g\n\
 160: 5.000000\n\
 200: 5.000000\n\
@@ -178,7 +181,29 @@ time: g\n\
 160: 5.000000\n\
 200: 5.000000\n\
 time: g\n\
-40: 5.000000\n",
+40: 5.000000\n\
+time: g\n\
+40: nan\n\
+15\n",
+    0,
+);
+
+// Ten years in steps of one second, and back.
+const LONG_GAP: Case = (
+    "long_gap",
+    "create --step 1 --start 1000000000 DS:g:GAUGE:9999999999:U:U RRA:AVERAGE:0.5:1:24 RRA:MAX:0.5:3600:24\n\
+update 1315360000:3\n\
+fetch AVERAGE -s 1315359998 -e 1315359999\n\
+revert\n\
+last\n\
+fetch AVERAGE -s 999999998 -e 999999999\n",
+    "time: g\n\
+1315359999: 3.000000\n\
+1315360000: 3.000000\n\
+1000000000\n\
+time: g\n\
+999999999: nan\n\
+1000000000: nan\n",
     0,
 );
 
@@ -465,6 +490,7 @@ fn what_is_printed(rt: HostRuntime) -> Result<(), Fail> {
         FOUR_FUNCTIONS,
         CATCH_UP_AND_TIES,
         CATCH_UP_OVER_ROWS,
+        LONG_GAP,
         TIES_BELOW_ZERO_IN_ROWS,
         UNKNOWN_SAMPLE_IN_A_STEP,
         A_SOURCE_LEFT_OUT,

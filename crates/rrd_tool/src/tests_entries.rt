@@ -1,9 +1,9 @@
 //! Tunes and resizes, what the journal holds of a change, and what taking it back leaves.
 use crate::tests_database::{
-    NONE, archive, assert_rows, cell, many_sources, name_of, of_four_rows, of_one, source, spec,
-    take,
+    NONE, archive, assert_rows, cell, many_sources, name_of, of_four_rows, of_one, receipt_of,
+    source, spec, take,
 };
-use rrd_base::{Change, Database, Entry, Refusal, SavedArchive, Tuning};
+use rrd_base::{Change, Database, Entry, List, Refusal, SavedArchive, Tuning};
 use rrd_fixed::{Cell, Kind, Raw};
 use rrd_fold::Function;
 use std::alloc::Global;
@@ -80,6 +80,47 @@ fn an_update_keeps_what_it_replaces(rt: HostRuntime) -> Result<(), Fail> {
     let database = updated_twice(&rt, rt.alloc())?;
     assert_second_update_kept(&rt, &database);
     assert_first_update_kept(&rt, &database);
+    Ok(())
+}
+
+// Half a step and then 20 steps take few turns, however many rows end.
+#[test]
+fn turns_of_steps_at_once(rt: HostRuntime) -> Result<(), Fail> {
+    let defs = [
+        archive(Function::Average, 4, 2),
+        archive(Function::Min, 4, 10),
+        archive(Function::Max, 4, 5),
+    ];
+    let alloc = rt.alloc();
+    let g = source(b"g", Kind::Gauge, 1_000)?;
+    let mut database = of_one(alloc, 10, 16, g, &defs)?;
+    let first = receipt_of(alloc, &mut database, &[(15, 2)])?;
+    assert_eq!(rt; first.cells, 0);
+    assert!(rt; first.turns <= 27, "{}", first.turns);
+    let second = receipt_of(alloc, &mut database, &[(215, 5)])?;
+    assert_eq!(rt; second.cells, 12);
+    assert!(rt; second.turns >= 12, "{}", second.turns);
+    assert!(rt; second.turns <= 39, "{}", second.turns);
+    Ok(())
+}
+
+// So does a gap of ten years in steps of one second.
+#[test]
+fn turns_of_ten_years(rt: HostRuntime) -> Result<(), Fail> {
+    let defs = [
+        archive(Function::Average, 1, 24),
+        archive(Function::Max, 3_600, 24),
+    ];
+    let alloc = rt.alloc();
+    let mut sources = List::new(alloc);
+    sources.push(source(b"g", Kind::Gauge, 9_999_999_999)?)?;
+    let mut asked = spec(alloc, 1, 16, sources, &defs)?;
+    asked.start = 1_000_000_000;
+    let mut database = Database::create(alloc, asked)?;
+    let receipt = receipt_of(alloc, &mut database, &[(1_315_360_000, 3)])?;
+    assert_eq!(rt; receipt.cells, 48);
+    assert!(rt; receipt.turns >= 48, "{}", receipt.turns);
+    assert!(rt; receipt.turns <= 67, "{}", receipt.turns);
     Ok(())
 }
 

@@ -1,25 +1,34 @@
-use Rattle.std.proofs.Common.{◌≡◌, ◌-◌, ◌*◌, ◌≤◌, length, map, drop}
+use Rattle.std.proofs.Common.{◌≡◌, ◌+◌, ◌-◌, ◌*◌, ◌≤◌, length, map, drop}
 use Rattle.std.specs.List.{AllByRecursion}
 use Rattle.rrd_base.specs.History.{Sampled, content_listed}
 use Rattle.rrd_base.specs.Commands.{Updating, moved_listed, sample_of}
 use Rattle.rrd_base.specs.Room.{HasPlaces}
+use Rattle.rrd_base.specs.Shown.{definitions}
+use Rattle.rrd_base.specs.Turns.{in_all, least_of_sample, most_of_sample}
 use Rattle.rrd_base.specs.Updating.{template_of}
 use Rattle.rrd_base.specs.Verdict.{sample_checks}
 use Rattle.rrd_base.specs.Validity.{IsValid}
 use Rattle.rrd_base.proofs.Accepted.{Passes}
+use Rattle.rrd_base.proofs.Catching.{SameShape}
 use Rattle.rrd_base.proofs.contents.Contents.take_samples.Given as goal
 
 abbrev pub invariant-loop-sample : goal.invariant-loop-sample
 invariant-loop-sample l =
-    let sources = l.fn.self.sources in
+    let base = l.fn.self in
+    let sources = base.sources in
     let template = template_of sources l.update.template in
     let left = drop l.sample-index l.update.samples in
+    let least = least_of_sample (length sources) base.step (definitions base.archives) in
+    let most = most_of_sample (length sources) base.step (definitions base.archives) in
     record {
-      comes_to : content_listed l.self (map Sampled (map (sample_of sources template) left)) ≡ moved_listed l.fn.self (Updating l.update);
+      comes_to : content_listed l.self (map Sampled (map (sample_of sources template) left)) ≡ moved_listed base (Updating l.update);
       pass : AllByRecursion Passes (sample_checks sources template l.self.last left);
-      same_sources : l.self.sources ≡ l.fn.self.sources;
+      same_sources : l.self.sources ≡ sources;
+      same_shape : SameShape base l.self;
       valid : IsValid l.self;
-      from : l.fn.self.last ≤ l.self.last;
+      from : base.last ≤ l.self.last;
       places : HasPlaces l.room (length sources);
-      turns : l.meter ≤ 13000 * (l.self.last - l.fn.self.last);
+      least : in_all least base.last l.update.samples ≤ l.meter + in_all least l.self.last left;
+      most : l.meter + in_all most l.self.last left ≤ in_all most base.last l.update.samples;
+      few : l.meter ≤ 6000000 * (l.self.last - base.last);
     }

@@ -1,85 +1,228 @@
-use Rattle.std.proofs.Common.{◌≡◌, sym, ◌∙◌, ap, subst, ◌-◌, ◌≤◌, ◌<◌, [], ◌∷◌, ◌++◌, List, length, drop, map, pos, FitsSigned, arith}
-use Rattle.std.proofs.lemmas.Int.{ints}
-use Rattle.std.proofs.lemmas.List.{with_items_is, length-map}
-use Rattle.std.specs.Int.{w128}
-use Rattle.std.specs.List.{AllByRecursion}
-use Rattle.std.specs.Vec.{with_items}
-use Rattle.rrd_fold.specs.Bounds.{Consolidating}
+use Rattle.std.proofs.Common.{◌≡◌, sym, ◌∙◌, ap, subst, ◌+◌, ◌-◌, ◌*◌, ◌/◌, ◌%◌, ◌≤◌, ◌<◌, ◌^◌, ◌∷◌, ◌++◌, ℕ, List, min, map, length, replicate, arith}
+use Rattle.std.proofs.lemmas.Nat.{div-add-mod', mod_below}
+use Rattle.std.specs.List.{AllByRecursion, fold}
+use Rattle.rrd_fixed.specs.declared.cell.Cell.{Cell}
+use Rattle.rrd_fold.specs.Parts.{Part, nothing, row_cell, with_each}
+use Rattle.rrd_ring.specs.Rows.{HasWidth}
+use Rattle.rrd_base.specs.declared.definition.RraDef.{RraDef}
+use Rattle.rrd_base.specs.History.{Archive, keep_last}
 use Rattle.rrd_base.specs.Passed.{archive_passed}
-use Rattle.rrd_base.specs.Validity.{IsValidArchive}
-use Rattle.rrd_base.specs.Each.{map_each, with_step, anew, row_of, AllOf}
-use Rattle.rrd_base.proofs.EachLemmas.{AllOf-with_step, AllOf-anew}
-use Rattle.rrd_base.proofs.StoreLemmas.{shown, takes, closes, known_below, preps_fit, preps_close, step_valid}
+use Rattle.rrd_base.specs.Turns.{rows_pushed}
+use Rattle.rrd_base.specs.Validity.{IsRow, IsValidArchive}
+use Rattle.rrd_base.proofs.ManySteps.{ended_none, ended_some, filled, row_fits, taken_over, taken_within}
+use Rattle.rrd_base.proofs.Passing.{room_left}
+use Rattle.rrd_base.proofs.Bounded.{no_parts}
+use Rattle.rrd_base.proofs.StoreLemmas.{rows_wide, taken_valid}
+use Rattle.rrd_base.proofs.Taking.{begun, full, left_of}
 use Rattle.rrd_base.proofs.store.Store.take.Goals as goal
 
-pub add_each-requires-clause-fits : goal.add_each-requires-clause-fits
-add_each-requires-clause-fits c =
-    let a = c.self.inside in
-    let n = length c.args.step.now in
-    let is = subst (IsValidArchive n (c.args.number - 1)) (sym c.self.view_is) c.requires.valid in
-    subst (λ (preps : List Consolidating). AllByRecursion (λ (prep : Consolidating). prep.part.known < 1000000) preps) (sym c.deref_mut.ensures.value)
-    (preps_fit a.def.steps 1000000 a.preps.items is.few_steps (known_below n (c.args.number - 1) (shown a.def a.preps.items a.rows) is))
+-- ---- the row stays unfinished
 
-pub close_each-requires-clause-fits : goal.close_each-requires-clause-fits
-close_each-requires-clause-fits c =
-    let a = c.self.inside in
-    let n = length c.args.step.now in
-    let is = subst (IsValidArchive n (c.args.number - 1)) (sym c.self.view_is) c.requires.valid in
-    let here = c.deref_mut-then-number-steps-eq0.ensures.value ∙ with_items_is a.preps c.add_each.new.preps (omega arith)
-    ∙ c.add_each.ensures.added ∙ ap (λ preps. map_each with_step preps c.args.step.now) c.deref_mut.ensures.value in
-    subst (λ (preps : List Consolidating). AllByRecursion (λ (prep : Consolidating). prep.part.known ≤ a.def.steps) preps) (sym here)
-    (preps_close a.def.steps a.preps.items c.args.step.now (known_below n (c.args.number - 1) (shown a.def a.preps.items a.rows) is))
+pub go_on-requires-then-count-left-clause-row : goal.go_on-requires-then-count-left-clause-row
+go_on-requires-then-count-left-clause-row c =
+    let begin = begun c.args.before c.args.self.now c.go_on.new.self c.args.first.now c.args.then.now c.requires.valid c.requires.first_bounded c.requires.then_bounded c.go_on.ensures.value in
+    begin.row
 
-pub invariant_of-self-else-number-steps-eq0 : goal.invariant_of-self-else-number-steps-eq0
-invariant_of-self-else-number-steps-eq0 c =
-    let a = c.self.inside in
-    let now = with_items_is a.preps c.add_each.new.preps (omega arith) ∙ c.add_each.ensures.added ∙ ap (λ preps. map_each with_step preps c.args.step.now) c.deref_mut.ensures.value in
-    subst (AllOf a.def.function) (sym now) (AllOf-with_step a.def.function a.preps.items c.args.step.now c.self.invariant)
+pub go_on-requires-then-count-left-clause-fits : goal.go_on-requires-then-count-left-clause-fits
+go_on-requires-then-count-left-clause-fits c =
+    let A = c.args.self.now in
+    let before : ℕ = c.args.before in
+    let count : ℕ = c.args.count in
+    let begin = begun before A c.go_on.new.self c.args.first.now c.args.then.now c.requires.valid c.requires.first_bounded c.requires.then_bounded c.go_on.ensures.value in
+    let short = subst (λ (d : RraDef). count < left_of before d) c.def-steps.ensures c.if-count-left.true in
+    begin.fits count (omega (arith, row_fits before A.def.steps c.requires.valid.some_steps))
 
-pub invariant_of-self : goal.invariant_of-self
-invariant_of-self c =
-    let a = c.self.inside in
-    let added = with_items_is a.preps c.add_each.new.preps (omega arith) ∙ c.add_each.ensures.added ∙ ap (λ preps. map_each with_step preps c.args.step.now) c.deref_mut.ensures.value in
-    let now = with_items_is (with_items a.preps c.add_each.new.preps) c.close_each.new.preps (omega arith) ∙ c.close_each.ensures.anew
-    ∙ ap (map anew) (c.deref_mut-then-number-steps-eq0.ensures.value ∙ added) in
-    subst (AllOf a.def.function) (sym now) (AllOf-anew a.def.function (map_each with_step a.preps.items c.args.step.now) (AllOf-with_step a.def.function a.preps.items c.args.step.now c.self.invariant))
+pub returns-then-count-left-clause-value : goal.returns-then-count-left-clause-value
+returns-then-count-left-clause-value c =
+    let A = c.args.self.now in
+    let before : ℕ = c.args.before in
+    let count : ℕ = c.args.count in
+    let then = c.args.then.now in
+    let short = subst (λ (d : RraDef). count < left_of before d) c.def-steps.ensures c.if-count-left.true in
+    c.go_on-then-count-left.ensures.value
+    ∙ ap (λ (x : Archive). let y : Archive = record x { parts = fold (with_each x.def.function) x.parts (replicate count then) } in y) c.go_on.ensures.value
+    ∙ taken_within (length c.args.first.now) before count A c.args.first.now then c.requires.valid.some_steps short
 
-pub returns-else-number-steps-eq0-clause-value : goal.returns-else-number-steps-eq0-clause-value
-returns-else-number-steps-eq0-clause-value c =
-    let a = c.self.inside in
-    let n = length c.args.step.now in
-    let is = subst (IsValidArchive n (c.args.number - 1)) (sym c.self.view_is) c.requires.valid in
-    let now = with_items_is a.preps c.add_each.new.preps (omega arith) ∙ c.add_each.ensures.added ∙ ap (λ preps. map_each with_step preps c.args.step.now) c.deref_mut.ensures.value in
-    ap (λ preps. shown a.def preps a.rows) now
-    ∙ takes a.def n a.preps.items a.rows c.args.step.now c.args.number c.self.invariant is.some_steps c.requires.numbered c.if-number-steps-eq0.false
-    ∙ ap (archive_passed n (c.args.number - 1) (c.args.step.now ∷ [])) c.self.view_is
+pub returns-then-count-left-clause-valid : goal.returns-then-count-left-clause-valid
+returns-then-count-left-clause-valid c =
+    taken_valid c.args.first.now c.args.then.now c.args.before c.args.count c.args.self.now _ c.requires.valid c.requires.first_bounded c.requires.then_bounded (returns-then-count-left-clause-value c)
 
-pub returns-then-number-steps-eq0-clause-value : goal.returns-then-number-steps-eq0-clause-value
-returns-then-number-steps-eq0-clause-value c =
-    let a = c.self.inside in
-    let step = c.args.step.now in
-    let n = length step in
-    let is = subst (IsValidArchive n (c.args.number - 1)) (sym c.self.view_is) c.requires.valid in
-    let added = with_items_is a.preps c.add_each.new.preps (omega arith) ∙ c.add_each.ensures.added ∙ ap (λ preps. map_each with_step preps step) c.deref_mut.ensures.value in
-    let before = c.deref_mut-then-number-steps-eq0.ensures.value ∙ added in
-    let now = with_items_is (with_items a.preps c.add_each.new.preps) c.close_each.new.preps (omega arith) ∙ c.close_each.ensures.anew ∙ ap (map anew) before in
-    let low = is.xff_low in
-    let high = is.xff_high in
-    let fits : FitsSigned w128 a.def.xff = omega (arith, ints) in
-    let share : pos c.share.result ≡ a.def.xff = c.share.ensures in
-    let row : c.close_each.new.row ≡ map (row_of a.def.xff a.def.steps) (map_each with_step a.preps.items step)
-    = c.close_each.ensures.cells ∙ ap (map (row_of (pos c.share.result) a.def.steps)) before ∙ ap (λ xff. map (row_of xff a.def.steps) (map_each with_step a.preps.items step)) share in
-    let rows = c.push_row.ensures.rows ∙ ap (λ cells. drop 1 (a.rows ++ cells ∷ [])) row in
-    let as_many = sym (length-map a.preps.items (λ (prep : Consolidating). prep.part)) ∙ is.parts_are.one_each in
-    ap (λ preps. shown a.def preps c.push_row.new.self) now
-    ∙ ap (shown a.def (map anew (map_each with_step a.preps.items step))) rows
-    ∙ closes a.def n a.preps.items a.rows step c.args.number c.self.invariant as_many is.some_steps c.requires.numbered c.if-number-steps-eq0.true
-    ∙ ap (archive_passed n (c.args.number - 1) (step ∷ [])) c.self.view_is
+pub returns-then-count-left-clause-least : goal.returns-then-count-left-clause-least
+returns-then-count-left-clause-least c =
+    let A = c.args.self.now in
+    let before : ℕ = c.args.before in
+    let count : ℕ = c.args.count in
+    let n = length c.args.first.now in
+    let short = subst (λ (d : RraDef). count < left_of before d) c.def-steps.ensures c.if-count-left.true in
+    let none = ended_none before count A.def.steps c.requires.valid.some_steps short in
+    subst (λ k. c.args.meter.now + n * min k A.def.rows ≤ c.go_on-then-count-left.new.meter) (sym none)
+    (subst (λ k. c.args.meter.now + n * k ≤ c.go_on-then-count-left.new.meter) {x = 0} {y = min 0 A.def.rows} (omega arith) (omega (arith, c.go_on.ensures.ticked, c.go_on-then-count-left.ensures.ticked)))
 
-pub returns-else-number-steps-eq0-clause-valid : goal.returns-else-number-steps-eq0-clause-valid
-returns-else-number-steps-eq0-clause-valid c =
-    step_valid c.args.step.now c.args.number c.args.self.now _ c.requires.valid c.requires.bounded c.requires.numbered (returns-else-number-steps-eq0-clause-value c)
+-- ---- it ends
 
-pub returns-then-number-steps-eq0-clause-valid : goal.returns-then-number-steps-eq0-clause-valid
-returns-then-number-steps-eq0-clause-valid c =
-    step_valid c.args.step.now c.args.number c.args.self.now _ c.requires.valid c.requires.bounded c.requires.numbered (returns-then-number-steps-eq0-clause-value c)
+pub go_on-requires-else-count-left-clause-row : goal.go_on-requires-else-count-left-clause-row
+go_on-requires-else-count-left-clause-row c =
+    let begin = begun c.args.before c.args.self.now c.go_on.new.self c.args.first.now c.args.then.now c.requires.valid c.requires.first_bounded c.requires.then_bounded c.go_on.ensures.value in
+    begin.row
+
+pub go_on-requires-else-count-left-clause-fits : goal.go_on-requires-else-count-left-clause-fits
+go_on-requires-else-count-left-clause-fits c =
+    let A = c.args.self.now in
+    let before : ℕ = c.args.before in
+    let begin = begun before A c.go_on.new.self c.args.first.now c.args.then.now c.requires.valid c.requires.first_bounded c.requires.then_bounded c.go_on.ensures.value in
+    let fit = row_fits before A.def.steps c.requires.valid.some_steps in
+    subst (λ (d : RraDef). AllByRecursion (λ (p : Part). p.known + left_of before d ≤ 1000000) c.go_on.new.self.parts) (sym c.def-steps.ensures)
+    (begin.fits (left_of before A.def) (omega (arith, fit)))
+
+pub close_row-requires-clause-room : goal.close_row-requires-clause-room
+close_row-requires-clause-room c =
+    let A = c.args.self.now in
+    let one = c.go_on.new.self in
+    let two = c.go_on-else-count-left.new.self in
+    let then = c.args.then.now in
+    let v = subst (λ (d : RraDef). two ≡ record one { parts = fold (with_each one.def.function) one.parts (replicate (left_of c.args.before d) then) }) c.def-steps.ensures c.go_on-else-count-left.ensures.value in
+    let whole = full c.args.before A one two c.args.first.now then c.requires.valid c.requires.first_bounded c.requires.then_bounded c.go_on.ensures.value v in
+    c.requires.room ∙ sym whole.wide
+
+pub close_row-requires-clause-fits : goal.close_row-requires-clause-fits
+close_row-requires-clause-fits c =
+    let A = c.args.self.now in
+    let one = c.go_on.new.self in
+    let two = c.go_on-else-count-left.new.self in
+    let then = c.args.then.now in
+    let v = subst (λ (d : RraDef). two ≡ record one { parts = fold (with_each one.def.function) one.parts (replicate (left_of c.args.before d) then) }) c.def-steps.ensures c.go_on-else-count-left.ensures.value in
+    let whole = full c.args.before A one two c.args.first.now then c.requires.valid c.requires.first_bounded c.requires.then_bounded c.go_on.ensures.value v in
+    whole.known
+
+pub push-requires-clause-wide : goal.push-requires-clause-wide
+push-requires-clause-wide c =
+    let A = c.args.self.now in
+    let n = length c.args.first.now in
+    let rows : c.close_row.new.self.rows ≡ A.rows = ap (λ (x : Archive). x.rows) (c.close_row.ensures.value) ∙ ap (λ (x : Archive). x.rows) c.go_on-else-count-left.ensures.value ∙ ap (λ (x : Archive). x.rows) c.go_on.ensures.value in
+    let room : length c.close_row.new.row ≡ n = omega (arith, c.requires.room) in
+    subst (λ (rs : List (List Cell)). HasWidth (length c.close_row.new.row) rs) (sym rows)
+    (subst (λ k. HasWidth k A.rows) (sym room) (rows_wide n A.rows c.requires.valid.each_row))
+
+pub push-requires-clause-turns : goal.push-requires-clause-turns
+push-requires-clause-turns c =
+    let A = c.args.self.now in
+    let before : ℕ = c.args.before in
+    let count : ℕ = c.args.count in
+    let n = length c.args.first.now in
+    let long = subst (λ (d : RraDef). left_of before d ≤ count) c.def-steps.ensures c.if-count-left.false in
+    let k = 1 + (count - left_of before A.def) / A.def.steps in
+    let ended : (before + (1 + count)) / A.def.steps - before / A.def.steps ≡ k = ended_some before count A.def.steps c.requires.valid.some_steps long in
+    let turns = subst (λ x. c.args.meter.now + n * (4 + min x A.def.rows) < 2 ^ 64) ended c.requires.turns in
+    let rows : length c.close_row.new.self.rows ≡ A.def.rows = ap (λ (x : Archive). length x.rows) (c.close_row.ensures.value) ∙ ap (λ (x : Archive). length x.rows) c.go_on-else-count-left.ensures.value ∙ ap (λ (x : Archive). length x.rows) c.go_on.ensures.value ∙ c.requires.valid.rows_are in
+    let room : length c.close_row.new.row ≡ n = omega (arith, c.requires.room) in
+    subst (λ (d : RraDef). c.close_row.new.meter + length c.close_row.new.row * min (1 + (count - left_of before d) / d.steps) (length c.close_row.new.self.rows) < 2 ^ 64) (sym c.def-steps.ensures)
+    (subst (λ w. c.close_row.new.meter + w * min k (length c.close_row.new.self.rows) < 2 ^ 64) (sym room)
+    (subst (λ r. c.close_row.new.meter + n * min k r < 2 ^ 64) (sym rows)
+    (omega (arith, turns, c.requires.room, c.go_on.ensures.ticked, c.go_on-else-count-left.ensures.ticked, c.close_row.ensures.ticked))))
+
+pub go_on-requires-else-count-left-2-clause-fits : goal.go_on-requires-else-count-left-2-clause-fits
+go_on-requires-else-count-left-2-clause-fits c =
+    let A = c.args.self.now in
+    let before : ℕ = c.args.before in
+    let count : ℕ = c.args.count in
+    let m = length c.args.row.now in
+    let f = A.def.function in
+    let parts : c.push.new.self.parts ≡ replicate m nothing = ap (λ (x : Archive). x.parts) c.push.ensures.value ∙ ap (λ (x : Archive). x.parts) c.close_row.ensures.value in
+    subst (λ (d : RraDef). AllByRecursion (λ (p : Part). p.known + (count - left_of before d) % d.steps ≤ 1000000) c.push.new.self.parts) (sym c.def-steps.ensures)
+    (subst (λ ps. AllByRecursion (λ (p : Part). p.known + (count - left_of before A.def) % A.def.steps ≤ 1000000) ps) (sym parts)
+    (room_left f 0 ((count - left_of before A.def) % A.def.steps) 1000000 (replicate m nothing) (omega (arith, mod_below (count - left_of before A.def) A.def.steps c.requires.valid.some_steps, c.requires.valid.few_steps)) (let empty = no_parts f m in empty.each)))
+
+pub go_on-requires-else-count-left-2-clause-turns : goal.go_on-requires-else-count-left-2-clause-turns
+go_on-requires-else-count-left-2-clause-turns c =
+    let A = c.args.self.now in
+    let before : ℕ = c.args.before in
+    let count : ℕ = c.args.count in
+    let n = length c.args.first.now in
+    let long = subst (λ (d : RraDef). left_of before d ≤ count) c.def-steps.ensures c.if-count-left.false in
+    let k = 1 + (count - left_of before A.def) / A.def.steps in
+    let ended : (before + (1 + count)) / A.def.steps - before / A.def.steps ≡ k = ended_some before count A.def.steps c.requires.valid.some_steps long in
+    let turns = subst (λ x. c.args.meter.now + n * (4 + min x A.def.rows) < 2 ^ 64) ended c.requires.turns in
+    let rows : length c.close_row.new.self.rows ≡ A.def.rows = ap (λ (x : Archive). length x.rows) (c.close_row.ensures.value) ∙ ap (λ (x : Archive). length x.rows) c.go_on-else-count-left.ensures.value ∙ ap (λ (x : Archive). length x.rows) c.go_on.ensures.value ∙ c.requires.valid.rows_are in
+    let room : length c.close_row.new.row ≡ n = omega (arith, c.requires.room) in
+    let pushed : c.push.new.meter ≡ c.close_row.new.meter + n * min k A.def.rows
+    = c.push.ensures.ticked
+    ∙ ap (λ (d : RraDef). c.close_row.new.meter + length c.close_row.new.row * min (1 + (count - left_of before d) / d.steps) (length c.close_row.new.self.rows)) c.def-steps.ensures
+    ∙ ap (λ w. c.close_row.new.meter + w * min k (length c.close_row.new.self.rows)) room
+    ∙ ap (λ r. c.close_row.new.meter + n * min k r) rows in
+    omega (arith, turns, c.requires.room, c.requires.then_bounded.one_each, pushed, c.go_on.ensures.ticked, c.go_on-else-count-left.ensures.ticked, c.close_row.ensures.ticked)
+
+pub returns-else-count-left-clause-value : goal.returns-else-count-left-clause-value
+returns-else-count-left-clause-value c =
+    let A = c.args.self.now in
+    let before : ℕ = c.args.before in
+    let count : ℕ = c.args.count in
+    let first = c.args.first.now in
+    let then = c.args.then.now in
+    let n = length first in
+    let one = c.go_on.new.self in
+    let two = c.go_on-else-count-left.new.self in
+    let three = c.close_row.new.self in
+    let four = c.push.new.self in
+    let is = c.requires.valid in
+    let m = A.def.steps in
+    let left = left_of before A.def in
+    let k = (count - left) / m in
+    let rest = (count - left) % m in
+    let long = subst (λ (d : RraDef). left_of before d ≤ count) c.def-steps.ensures c.if-count-left.false in
+    let v2 = subst (λ (d : RraDef). two ≡ record one { parts = fold (with_each one.def.function) one.parts (replicate (left_of before d) then) }) c.def-steps.ensures c.go_on-else-count-left.ensures.value in
+    let whole = full before A one two first then is c.requires.first_bounded c.requires.then_bounded c.go_on.ensures.value v2 in
+    let cells : c.close_row.new.row ≡ map (row_cell A.def.function A.def.xff m) (filled A first then left)
+    = c.close_row.ensures.cells ∙ ap (λ (x : Archive). map (row_cell x.def.function x.def.xff x.def.steps) x.parts) whole.is in
+    let v3 : three ≡ record A { parts = replicate n nothing }
+    = c.close_row.ensures.value ∙ ap (λ (x : Archive). let y : Archive = record x { parts = replicate (length c.args.row.now) nothing } in y) whole.is ∙ ap (λ w. let y : Archive = record A { parts = replicate w nothing } in y) c.requires.room in
+    let v4 : four ≡ record A { parts = replicate n nothing; rows = keep_last (length A.rows) (A.rows ++ map (row_cell A.def.function A.def.xff m) (filled A first then left) ∷ replicate k then) }
+    = c.push.ensures.value
+    ∙ ap (λ (d : RraDef). let y : Archive = record three { rows = keep_last (length three.rows) (three.rows ++ c.close_row.new.row ∷ replicate ((count - left_of before d) / d.steps) then) } in y) c.def-steps.ensures
+    ∙ ap (λ (x : Archive). let y : Archive = record x { rows = keep_last (length x.rows) (x.rows ++ c.close_row.new.row ∷ replicate k then) } in y) v3
+    ∙ ap (λ (row : List Cell). let y : Archive = record A { parts = replicate n nothing; rows = keep_last (length A.rows) (A.rows ++ row ∷ replicate k then) } in y) cells in
+    c.go_on-else-count-left-2.ensures.value
+    ∙ ap (λ (d : RraDef). let y : Archive = record four { parts = fold (with_each four.def.function) four.parts (replicate ((count - left_of before d) % d.steps) then) } in y) c.def-steps.ensures
+    ∙ ap (λ (x : Archive). let y : Archive = record x { parts = fold (with_each x.def.function) x.parts (replicate rest then) } in y) v4
+    ∙ taken_over n before count A first then is.some_steps is.xff_low is.xff_high c.requires.then_bounded.one_each long
+
+pub returns-else-count-left-clause-valid : goal.returns-else-count-left-clause-valid
+returns-else-count-left-clause-valid c =
+    taken_valid c.args.first.now c.args.then.now c.args.before c.args.count c.args.self.now _ c.requires.valid c.requires.first_bounded c.requires.then_bounded (returns-else-count-left-clause-value c)
+
+pub returns-else-count-left-clause-least : goal.returns-else-count-left-clause-least
+returns-else-count-left-clause-least c =
+    let A = c.args.self.now in
+    let before : ℕ = c.args.before in
+    let count : ℕ = c.args.count in
+    let n = length c.args.first.now in
+    let long = subst (λ (d : RraDef). left_of before d ≤ count) c.def-steps.ensures c.if-count-left.false in
+    let k = 1 + (count - left_of before A.def) / A.def.steps in
+    let ended : (before + (1 + count)) / A.def.steps - before / A.def.steps ≡ k = ended_some before count A.def.steps c.requires.valid.some_steps long in
+    let rows : length c.close_row.new.self.rows ≡ A.def.rows = ap (λ (x : Archive). length x.rows) (c.close_row.ensures.value) ∙ ap (λ (x : Archive). length x.rows) c.go_on-else-count-left.ensures.value ∙ ap (λ (x : Archive). length x.rows) c.go_on.ensures.value ∙ c.requires.valid.rows_are in
+    let room : length c.close_row.new.row ≡ n = omega (arith, c.requires.room) in
+    let pushed : c.push.new.meter ≡ c.close_row.new.meter + n * min k A.def.rows
+    = c.push.ensures.ticked
+    ∙ ap (λ (d : RraDef). c.close_row.new.meter + length c.close_row.new.row * min (1 + (count - left_of before d) / d.steps) (length c.close_row.new.self.rows)) c.def-steps.ensures
+    ∙ ap (λ w. c.close_row.new.meter + w * min k (length c.close_row.new.self.rows)) room
+    ∙ ap (λ r. c.close_row.new.meter + n * min k r) rows in
+    subst (λ x. c.args.meter.now + n * min x A.def.rows ≤ c.go_on-else-count-left-2.new.meter) (sym ended)
+    (omega (arith, pushed, c.go_on.ensures.ticked, c.go_on-else-count-left.ensures.ticked, c.close_row.ensures.ticked, c.go_on-else-count-left-2.ensures.ticked))
+
+pub returns-else-count-left-clause-most : goal.returns-else-count-left-clause-most
+returns-else-count-left-clause-most c =
+    let A = c.args.self.now in
+    let before : ℕ = c.args.before in
+    let count : ℕ = c.args.count in
+    let n = length c.args.first.now in
+    let long = subst (λ (d : RraDef). left_of before d ≤ count) c.def-steps.ensures c.if-count-left.false in
+    let k = 1 + (count - left_of before A.def) / A.def.steps in
+    let ended : (before + (1 + count)) / A.def.steps - before / A.def.steps ≡ k = ended_some before count A.def.steps c.requires.valid.some_steps long in
+    let rows : length c.close_row.new.self.rows ≡ A.def.rows = ap (λ (x : Archive). length x.rows) (c.close_row.ensures.value) ∙ ap (λ (x : Archive). length x.rows) c.go_on-else-count-left.ensures.value ∙ ap (λ (x : Archive). length x.rows) c.go_on.ensures.value ∙ c.requires.valid.rows_are in
+    let room : length c.close_row.new.row ≡ n = omega (arith, c.requires.room) in
+    let pushed : c.push.new.meter ≡ c.close_row.new.meter + n * min k A.def.rows
+    = c.push.ensures.ticked
+    ∙ ap (λ (d : RraDef). c.close_row.new.meter + length c.close_row.new.row * min (1 + (count - left_of before d) / d.steps) (length c.close_row.new.self.rows)) c.def-steps.ensures
+    ∙ ap (λ w. c.close_row.new.meter + w * min k (length c.close_row.new.self.rows)) room
+    ∙ ap (λ r. c.close_row.new.meter + n * min k r) rows in
+    subst (λ x. c.go_on-else-count-left-2.new.meter ≤ c.args.meter.now + n * (4 + min x A.def.rows)) (sym ended)
+    (omega (arith, pushed, c.requires.room, c.requires.then_bounded.one_each, c.go_on.ensures.ticked, c.go_on-else-count-left.ensures.ticked, c.close_row.ensures.ticked, c.go_on-else-count-left-2.ensures.ticked))

@@ -1,0 +1,170 @@
+-- Seconds up to a time: the rest of a step, whole steps, and the begin of the next.
+use Rattle.std.proofs.Common.{◌≡◌, sym, ◌∙◌, ap, subst, ℕ, ◌+◌, ◌-◌, ◌*◌, ◌/◌, ◌%◌, ◌<◌, ◌≤◌, List, [], ◌∷◌, length, replicate, sum, map, arith}
+use Rattle.std.proofs.lemmas.List.{replicate-append-replicate}
+use Rattle.std.proofs.lemmas.Nat.{div-add-mod', div-mul-add, mod_below, mul-le}
+use Rattle.rrd_fixed.specs.declared.cell.Cell.{Cell}
+use Rattle.rrd_base.specs.declared.definition.RraDef.{RraDef}
+use Rattle.rrd_fixed.specs.declared.raw.Raw.{Raw}
+use Rattle.rrd_base.specs.declared.update.Sample.{Sample}
+use Rattle.rrd_base.specs.History.{Content, Reading, Sampled, IsBase, content_listed, rates}
+use Rattle.rrd_base.specs.Passed.{passed}
+use Rattle.rrd_base.specs.Shown.{definitions}
+use Rattle.rrd_base.specs.Turns.{rows_shown, in_all, least_of_sample, most_of_sample, least_of_steps, most_of_steps}
+use Rattle.rrd_base.specs.Validity.{AreAccepted, IsRow, IsValid}
+use Rattle.rrd_fold.proofs.GroupLemmas.{next_ahead}
+use Rattle.rrd_base.proofs.PassedLemmas.{passed-append, content_of_sample}
+use Rattle.rrd_base.proofs.Passing.{base_of_valid, ended_div, within_div}
+use Rattle.rrd_base.proofs.TurnLemmas.{Leaves, leaves_of, passed_leaves, least_by_steps, most_by_steps, least_of_none, few_turns}
+
+end_ahead : (last step : ℕ) → 0 < step → last + ((last / step + 1) * step - last) ≡ (last / step + 1) * step
+end_ahead last step some = omega (arith, next_ahead last step some)
+
+-- the end of the step in progress
+abbrev pub end_of_step : Content → ℕ
+end_of_step base = (base.last / base.step + 1) * base.step
+
+-- how many whole steps pass after it, up to a time
+abbrev pub steps_after : Content → ℕ → ℕ
+steps_after base time = (time - end_of_step base) / base.step
+
+-- all seconds up to the end of the last whole step
+abbrev pub seconds_to_steps : Content → ℕ → ℕ
+seconds_to_steps base time = end_of_step base - base.last + steps_after base time * base.step
+
+-- a content after them
+pub record AtLast (base now : Content) (time : ℕ) (row : List Cell) : Type 0 where
+  pub within : now.last + (time - end_of_step base) % base.step < (now.last / now.step + 1) * now.step
+  pub in_time : now.last + (time - end_of_step base) % base.step ≤ time
+  pub row_is : IsRow (length now.sources) row
+  pub same : Leaves base now (seconds_to_steps base time)
+
+pub at_last : (base now : Content) (time : ℕ) (row : List Cell) → IsValid base → IsRow (length base.sources) row → end_of_step base ≤ time → now ≡ passed base (replicate (seconds_to_steps base time) row) → AtLast base now time row
+at_last base now time row is row_is h e =
+    let s = base.step in
+    let f = end_of_step base - base.last in
+    let k = steps_after base time in
+    let left = (time - end_of_step base) % s in
+    let same = leaves_of base now (seconds_to_steps base time) row e in
+    let fills = end_ahead base.last s is.some_step in
+    let split = div-add-mod' (time - end_of_step base) s in
+    let below = mod_below (time - end_of_step base) s is.some_step in
+    let number : now.last / now.step ≡ base.last / s + (1 + k) = ap (λ n. n / now.step) same.last ∙ ap (λ m. (base.last + (f + k * s)) / m) same.step ∙ ended_div base.last f k s is.some_step fills in
+    record {
+      within = subst (λ q. now.last + left < (q + 1) * now.step) (sym number) (subst (λ m. now.last + left < (base.last / s + (1 + k) + 1) * m) (sym same.step) (subst (λ n. n + left < (base.last / s + (1 + k) + 1) * s) (sym same.last) (omega arith)));
+      in_time = subst (λ n. n + left ≤ time) (sym same.last) (omega arith);
+      row_is = subst (λ ss. IsRow (length ss) row) (sym same.sources) row_is;
+      same = same;
+    }
+
+-- what both pieces come to
+pub caught_up : (base late now : Content) (time : ℕ) (row : List Cell) → IsValid base → end_of_step base ≤ time → late ≡ passed base (replicate (seconds_to_steps base time) row) → now ≡ passed late (replicate ((time - end_of_step base) % base.step) row) → now ≡ passed base (replicate (time - base.last) row)
+caught_up base late now time row is h e g =
+    let s = base.step in
+    let left = (time - end_of_step base) % s in
+    let n = seconds_to_steps base time in
+    let fills = end_ahead base.last s is.some_step in
+    let split = div-add-mod' (time - end_of_step base) s in
+    g
+    ∙ ap (λ x. passed x (replicate left row)) e
+    ∙ sym (passed-append base (replicate n row) (replicate left row) (base_of_valid base is))
+    ∙ ap (passed base) (replicate-append-replicate n left row)
+    ∙ ap (λ m. passed base (replicate m row)) {x = n + left} {y = time - base.last} (omega arith)
+
+-- ---- their turns
+
+number_at : (last step time : ℕ) → 0 < step → (last / step + 1) * step ≤ time → time / step ≡ last / step + (1 + (time - (last / step + 1) * step) / step)
+number_at last step time some h =
+    let more = time - (last / step + 1) * step in
+    let split = div-add-mod' more step in
+    ap (λ n. n / step) {x = time} {y = (last / step + (1 + more / step)) * step + more % step} (omega arith) ∙ div-mul-add (last / step + (1 + more / step)) step (more % step) (mod_below more step some)
+
+pub least_caught : (base : Content) (time : ℕ) → IsValid base → end_of_step base ≤ time → least_of_sample (length base.sources) base.step (definitions base.archives) base.last time ≡ length base.sources * least_of_steps (base.last / base.step) (1 + steps_after base time) (definitions base.archives)
+least_caught base time is h =
+    ap (λ n. length base.sources * n) (least_by_steps base.step base.last time (1 + steps_after base time) base.archives (number_at base.last base.step time is.some_step h))
+
+pub most_caught : (base : Content) (time : ℕ) → IsValid base → end_of_step base ≤ time → let n = length base.sources in n * (2 + most_of_steps (base.last / base.step) (1 + steps_after base time) (definitions base.archives)) + n ≤ most_of_sample n base.step (definitions base.archives) base.last time
+most_caught base time is h =
+    let n = length base.sources in
+    let defs = definitions base.archives in
+    let a = most_of_steps (base.last / base.step) (1 + steps_after base time) defs in
+    let y = sum (map (λ (def : RraDef). 8 + rows_shown base.step base.last time def) defs) in
+    let m = mul-le n a n y (omega arith) (most_by_steps base.step base.last time (1 + steps_after base time) base.archives (number_at base.last base.step time is.some_step h)) in
+    omega arith
+
+-- few of them
+pub few_caught : (base : Content) (count : ℕ) → IsValid base → let n = length base.sources in n * (2 + most_of_steps (base.last / base.step) count (definitions base.archives)) + n ≤ 6000000
+few_caught base count is =
+    let n = length base.sources in
+    let a = most_of_steps (base.last / base.step) count (definitions base.archives) in
+    let few = few_turns base (base.last / base.step) count is in
+    let sources = is.few_sources in
+    let split : n * (2 + a) ≡ 2 * n + n * a = omega arith in
+    omega arith
+
+-- none of the rows ends within the step
+pub least_within : (base : Content) (time : ℕ) → IsValid base → base.last < time → time < end_of_step base → least_of_sample (length base.sources) base.step (definitions base.archives) base.last time ≡ 0
+least_within base time is later h =
+    let n = length base.sources in
+    let e : time / base.step ≡ base.last / base.step + 0 = ap (λ m. m / base.step) {x = time} {y = base.last + (time - base.last)} (omega arith) ∙ within_div base.last (time - base.last) base.step is.some_step (omega arith) ∙ omega arith in
+    ap (λ x. n * x) (least_by_steps base.step base.last time 0 base.archives e ∙ least_of_none (base.last / base.step) base.archives) ∙ omega arith
+
+pub most_within : (base : Content) (time : ℕ) → length base.sources ≤ most_of_sample (length base.sources) base.step (definitions base.archives) base.last time
+most_within base time =
+    let n = length base.sources in
+    let y = sum (map (λ (def : RraDef). 8 + rows_shown base.step base.last time def) (definitions base.archives)) in
+    let m = mul-le n 1 n (3 + y) (omega arith) (omega arith) in
+    omega arith
+
+-- ---- a sample, and the samples of an update
+
+-- other raw values, which the sources accept
+pub with_raws : (base : Content) (raws : List Raw) → IsValid base → AreAccepted base.sources raws → IsValid (record base { raws = raws })
+with_raws base raws is accepted = record {
+  some_step = is.some_step;
+  small_step = is.small_step;
+  good_time = is.good_time;
+  some_depth = is.some_depth;
+  small_depth = is.small_depth;
+  some_source = is.some_source;
+  few_sources = is.few_sources;
+  some_archive = is.some_archive;
+  few_archives = is.few_archives;
+  few_cells = is.few_cells;
+  sources_are = is.sources_are;
+  names_differ = is.names_differ;
+  raws_are = accepted;
+  parts_are = is.parts_are;
+  archives_are = is.archives_are;
+}
+
+-- a sample leaves the steps and the archives' settings
+pub record SameShape (base now : Content) : Type 0 where
+  pub step : now.step ≡ base.step
+  pub defs : definitions now.archives ≡ definitions base.archives
+
+pub sample_leaves : (base now : Content) (reading : Reading) → IsBase base → base.last < reading.time → now ≡ content_listed base (Sampled reading ∷ []) → SameShape base now
+sample_leaves base now reading is later e =
+    let n = reading.time - base.last in
+    let row = rates base.sources n base.raws reading.raws in
+    let left = passed_leaves base n row in
+    let whole = e ∙ content_of_sample base reading is later in
+    record {
+      step = ap (λ (x : Content). x.step) whole ∙ left.step;
+      defs = ap (λ (x : Content). definitions x.archives) whole ∙ left.defs;
+    }
+
+-- turns of the next sample, and of those after it
+pub turns_next : (turns : ℕ → ℕ → ℕ) (last next : ℕ) (left rest : List Sample) (sample : Sample) → left ≡ sample ∷ rest → next ≡ sample.time → in_all turns last left ≡ turns last sample.time + in_all turns next rest
+turns_next turns last next left rest sample h e = ap (in_all turns last) h ∙ ap (λ m. turns last sample.time + in_all turns m rest) (sym e)
+
+pub same_least : (base now : Content) (from to : ℕ) → now.sources ≡ base.sources → SameShape base now → least_of_sample (length now.sources) now.step (definitions now.archives) from to ≡ least_of_sample (length base.sources) base.step (definitions base.archives) from to
+same_least base now from to s is =
+    ap (λ ss. least_of_sample (length ss) now.step (definitions now.archives) from to) s
+    ∙ ap (λ m. least_of_sample (length base.sources) m (definitions now.archives) from to) is.step
+    ∙ ap (λ defs. least_of_sample (length base.sources) base.step defs from to) is.defs
+
+pub same_most : (base now : Content) (from to : ℕ) → now.sources ≡ base.sources → SameShape base now → most_of_sample (length now.sources) now.step (definitions now.archives) from to ≡ most_of_sample (length base.sources) base.step (definitions base.archives) from to
+same_most base now from to s is =
+    ap (λ ss. most_of_sample (length ss) now.step (definitions now.archives) from to) s
+    ∙ ap (λ m. most_of_sample (length base.sources) m (definitions now.archives) from to) is.step
+    ∙ ap (λ defs. most_of_sample (length base.sources) base.step defs from to) is.defs

@@ -1,0 +1,55 @@
+-- An archive that takes a step and many of another: what holds between the calls.
+use Rattle.std.proofs.Common.{◌≡◌, refl, sym, ◌∙◌, ap, subst, ℕ, ◌+◌, ◌-◌, ◌*◌, ◌/◌, ◌%◌, ◌<◌, ◌≤◌, List, length, replicate, arith}
+use Rattle.std.proofs.lemmas.Nat.{div-add-mod'}
+use Rattle.std.specs.List.{fold, AllByRecursion}
+use Rattle.rrd_fixed.specs.declared.cell.Cell.{Cell}
+use Rattle.rrd_fold.specs.Parts.{Part, nothing, with_each, row_cell}
+use Rattle.rrd_base.specs.declared.definition.RraDef.{RraDef}
+use Rattle.rrd_base.specs.History.{Archive, keep_last}
+use Rattle.rrd_base.specs.Validity.{AreParts, IsRow, IsValidArchive}
+use Rattle.rrd_base.proofs.ManySteps.{filled, row_fits}
+use Rattle.rrd_base.proofs.Passing.{few_known, parts_more, room_left}
+
+-- how many steps of the row are missing after the next one
+abbrev pub left_of : ℕ → RraDef → ℕ
+left_of before def = (before / def.steps + 1) * def.steps - (before + 1)
+
+-- after the first step
+pub record Begun (before : ℕ) (now : Archive) (def : RraDef) (then : List Cell) : Type 0 where
+  pub row : IsRow (length now.parts) then
+  pub fits : (k : ℕ) → before % def.steps + 1 + k ≤ def.steps → AllByRecursion (λ (p : Part). p.known + k ≤ 1000000) now.parts
+
+pub begun : (before : ℕ) (archive now : Archive) (first then : List Cell) → IsValidArchive (length first) before archive → IsRow (length first) first → IsRow (length first) then → now ≡ record archive { parts = fold (with_each archive.def.function) archive.parts (replicate 1 first) } → Begun before now archive.def then
+begun before archive now first then is one many e =
+    let n = length first in
+    let f = archive.def.function in
+    let j = before % archive.def.steps in
+    let parts = parts_more f n j 1 archive.parts first is.parts_are one in
+    let few = is.few_steps in
+    subst (λ (x : Archive). Begun before x archive.def then) (sym e)
+    (record {
+      row = subst (λ k. IsRow k then) (sym parts.one_each) many;
+      fits = λ k h. room_left f (j + 1) k 1000000 (fold (with_each f) archive.parts (replicate 1 first)) (omega arith) parts.each;
+    })
+
+-- once the row has all its steps
+pub record Full (archive now : Archive) (first then : List Cell) (left : ℕ) : Type 0 where
+  pub is : now ≡ record archive { parts = filled archive first then left }
+  pub wide : length now.parts ≡ length first
+  pub known : AllByRecursion (λ (p : Part). p.known ≤ now.def.steps) now.parts
+
+pub full : (before : ℕ) (archive one now : Archive) (first then : List Cell) → IsValidArchive (length first) before archive → IsRow (length first) first → IsRow (length first) then → one ≡ record archive { parts = fold (with_each archive.def.function) archive.parts (replicate 1 first) } → now ≡ record one { parts = fold (with_each one.def.function) one.parts (replicate (left_of before archive.def) then) } → Full archive now first then (left_of before archive.def)
+full before archive one now first then is alone many e g =
+    let n = length first in
+    let f = archive.def.function in
+    let j = before % archive.def.steps in
+    let left = left_of before archive.def in
+    let begin = parts_more f n j 1 archive.parts first is.parts_are alone in
+    let parts = parts_more f n (j + 1) left (fold (with_each f) archive.parts (replicate 1 first)) then begin many in
+    let whole = g ∙ ap (λ (x : Archive). let y : Archive = record x { parts = fold (with_each x.def.function) x.parts (replicate left then) } in y) e in
+    subst (λ (x : Archive). Full archive x first then left) (sym whole)
+    (record {
+      is = refl;
+      wide = parts.one_each;
+      known = few_known f (j + 1 + left) archive.def.steps (filled archive first then left) (omega (arith, row_fits before archive.def.steps is.some_steps)) parts.each;
+    })

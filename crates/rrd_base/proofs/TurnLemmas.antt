@@ -1,0 +1,124 @@
+-- How many turns there are.
+use Rattle.std.proofs.Common.{◌≡◌, refl, sym, ◌∙◌, ap, subst, ℕ, zero, suc, ◌+◌, ◌-◌, ◌*◌, ◌/◌, ◌<◌, ◌≤◌, min, List, [], ◌∷◌, length, take, map, replicate, get_or, sum, arith}
+use Rattle.std.proofs.Math.Nat.{div-div-eq-div-mul}
+use Rattle.std.proofs.lemmas.List.{length-replicate}
+use Rattle.std.proofs.lemmas.Nat.{mul-le}
+use Rattle.std.specs.List.{fold}
+use Rattle.rrd_fixed.specs.declared.cell.Cell.{Cell}
+use Rattle.rrd_base.specs.declared.definition.RraDef.{RraDef}
+use Rattle.rrd_base.specs.History.{Archive, Content}
+use Rattle.rrd_base.specs.Commands.{rows_of_archives}
+use Rattle.rrd_base.specs.Validity.{IsValid}
+use Rattle.rrd_base.specs.Passed.{archive_passed, passed}
+use Rattle.rrd_base.specs.Shown.{definitions}
+use Rattle.rrd_base.specs.Turns.{rows_shown, rows_ended, rows_pushed, least_of_steps, most_of_steps}
+
+-- ---- archive by archive
+
+from_any : (a : ℕ) (xs : List ℕ) → fold ◌+◌ a xs ≡ a + sum xs
+from_any a [] = omega arith
+from_any a (x ∷ xs) = from_any (a + x) xs ∙ omega (arith, from_any x xs, from_any (0 + x) xs)
+
+pub sum_first : (n : ℕ) (ns : List ℕ) → sum (n ∷ ns) ≡ n + sum ns
+sum_first n ns = from_any (0 + n) ns ∙ omega arith
+
+sum_next : (f : RraDef → ℕ) (archives : List Archive) (i : ℕ) (d : Archive) → i < length archives → sum (map f (definitions (take (suc i) archives))) ≡ sum (map f (definitions (take i archives))) + f (get_or archives i d).def
+sum_next f [] i d h = absurd (omega arith)
+sum_next f (a ∷ rest) zero d h = let one = sum_first (f a.def) [] in omega arith
+sum_next f (a ∷ rest) (suc i) d h =
+    let far : sum (map f (definitions (take (suc (suc i)) (a ∷ rest)))) ≡ f a.def + sum (map f (definitions (take (suc i) rest))) = sum_first (f a.def) (map f (definitions (take (suc i) rest))) in
+    let near : sum (map f (definitions (take (suc i) (a ∷ rest)))) ≡ f a.def + sum (map f (definitions (take i rest))) = sum_first (f a.def) (map f (definitions (take i rest))) in
+    let same : (get_or (a ∷ rest) (suc i) d).def ≡ (get_or rest i d).def = refl in
+    far ∙ ap (λ n. f a.def + n) (sum_next f rest i d (omega arith)) ∙ omega (arith, near)
+
+pub sum_more : (f : RraDef → ℕ) (archives : List Archive) (i : ℕ) (d : Archive) → i < length archives → sum (map f (definitions (take (i + 1) archives))) ≡ sum (map f (definitions (take i archives))) + f (get_or archives i d).def
+sum_more f archives i d h = ap (λ k. sum (map f (definitions (take k archives)))) {x = i + 1} {y = suc i} (omega arith) ∙ sum_next f archives i d h
+
+pub sum_within : (f : RraDef → ℕ) (archives : List Archive) (i : ℕ) → sum (map f (definitions (take i archives))) ≤ sum (map f (definitions archives))
+sum_within f archives zero = omega arith
+sum_within f [] (suc i) = omega arith
+sum_within f (a ∷ rest) (suc i) =
+    let part : sum (map f (definitions (take (suc i) (a ∷ rest)))) ≡ f a.def + sum (map f (definitions (take i rest))) = sum_first (f a.def) (map f (definitions (take i rest))) in
+    let whole : sum (map f (definitions (a ∷ rest))) ≡ f a.def + sum (map f (definitions rest)) = sum_first (f a.def) (map f (definitions rest)) in
+    omega (arith, sum_within f rest i)
+
+-- ---- no more than a valid database allows
+
+most_in_all : (before count : ℕ) (archives : List Archive) → most_of_steps before count (definitions archives) ≤ 4 * length archives + sum (rows_of_archives archives)
+most_in_all before count [] = omega arith
+most_in_all before count (a ∷ rest) =
+    let turns = sum_first (4 + rows_pushed before count a.def) (map (λ (def : RraDef). 4 + rows_pushed before count def) (definitions rest)) in
+    let rows = sum_first a.def.rows (rows_of_archives rest) in
+    omega (arith, most_in_all before count rest)
+
+pub few_turns : (base : Content) (before count : ℕ) → IsValid base → length base.sources * most_of_steps before count (definitions base.archives) ≤ 5000000
+few_turns base before count is =
+    let n = length base.sources in
+    let m = length base.archives in
+    let r = sum (rows_of_archives base.archives) in
+    let all = mul-le n (most_of_steps before count (definitions base.archives)) n (4 * m + r) (omega arith) (most_in_all before count base.archives) in
+    let places = mul-le n m 64 64 is.few_sources is.few_archives in
+    let cells : n * r ≤ 4000000 = is.few_cells in
+    let split : n * (4 * m + r) ≡ 4 * (n * m) + n * r = omega arith in
+    omega arith
+
+-- ---- a sample, by the steps that end in its interval
+
+rows_by_steps : (step last time k : ℕ) (def : RraDef) → time / step ≡ last / step + k → rows_shown step last time def ≡ rows_pushed (last / step) k def
+rows_by_steps step last time k def at =
+    ap (λ n. min n def.rows) (ap (λ n. n - last / (step * def.steps)) (sym (div-div-eq-div-mul time step def.steps))
+    ∙ ap (λ n. time / step / def.steps - n) (sym (div-div-eq-div-mul last step def.steps))
+    ∙ ap (λ n. n / def.steps - last / step / def.steps) at)
+
+pub least_by_steps : (step last time k : ℕ) (archives : List Archive) → time / step ≡ last / step + k → sum (map (rows_shown step last time) (definitions archives)) ≡ least_of_steps (last / step) k (definitions archives)
+least_by_steps step last time k [] at = refl
+least_by_steps step last time k (a ∷ rest) at =
+    let defs = definitions rest in
+    let one = sum_first (rows_shown step last time a.def) (map (rows_shown step last time) defs) in
+    let two = sum_first (rows_pushed (last / step) k a.def) (map (rows_pushed (last / step) k) defs) in
+    let here = rows_by_steps step last time k a.def at in
+    omega (arith, least_by_steps step last time k rest at)
+
+pub most_by_steps : (step last time k : ℕ) (archives : List Archive) → time / step ≡ last / step + k → most_of_steps (last / step) k (definitions archives) ≤ sum (map (λ (def : RraDef). 8 + rows_shown step last time def) (definitions archives))
+most_by_steps step last time k [] at = omega arith
+most_by_steps step last time k (a ∷ rest) at =
+    let defs = definitions rest in
+    let one = sum_first (8 + rows_shown step last time a.def) (map (λ (def : RraDef). 8 + rows_shown step last time def) defs) in
+    let two = sum_first (4 + rows_pushed (last / step) k a.def) (map (λ (def : RraDef). 4 + rows_pushed (last / step) k def) defs) in
+    let here = rows_by_steps step last time k a.def at in
+    omega (arith, most_by_steps step last time k rest at)
+
+-- none of the rows ends where no step does
+pub least_of_none : (before : ℕ) (archives : List Archive) → least_of_steps before 0 (definitions archives) ≡ 0
+least_of_none before [] = refl
+least_of_none before (a ∷ rest) =
+    let one = sum_first (rows_pushed before 0 a.def) (map (rows_pushed before 0) (definitions rest)) in
+    let here : rows_ended before 0 a.def ≡ 0 = ap (λ n. n / a.def.steps - before / a.def.steps) {x = before + 0} {y = before} (omega arith) ∙ omega arith in
+    omega (arith, least_of_none before rest)
+
+-- ---- what seconds leave as it is
+
+defs_stay : (sources before : ℕ) (steps : List (List Cell)) (archives : List Archive) → definitions (map (archive_passed sources before steps) archives) ≡ definitions archives
+unfolding archive_passed
+defs_stay sources before steps [] = refl
+defs_stay sources before steps (a ∷ rest) = ap (λ defs. a.def ∷ defs) (defs_stay sources before steps rest)
+
+pub record Leaves (base now : Content) (n : ℕ) : Type 0 where
+  pub last : now.last ≡ base.last + n
+  pub step : now.step ≡ base.step
+  pub sources : now.sources ≡ base.sources
+  pub raws : now.raws ≡ base.raws
+  pub defs : definitions now.archives ≡ definitions base.archives
+
+pub passed_leaves : (base : Content) (n : ℕ) (row : List Cell) → Leaves base (passed base (replicate n row)) n
+unfolding passed
+passed_leaves base n row = record {
+  last = ap (λ k. base.last + k) (length-replicate n row);
+  step = refl;
+  sources = refl;
+  raws = refl;
+  defs = defs_stay (length base.sources) (base.last / base.step) _ base.archives;
+}
+
+pub leaves_of : (base now : Content) (n : ℕ) (row : List Cell) → now ≡ passed base (replicate n row) → Leaves base now n
+leaves_of base now n row e = subst (λ x. Leaves base x n) (sym e) (passed_leaves base n row)
