@@ -1,5 +1,9 @@
 -- What is shown of an archive, and what makes a new one good.
-use Rattle.std.proofs.Common.{◌≡◌, refl, sym, ◌∙◌, ap, ℕ, zero, suc, ◌<◌, ◌≤◌, ℤ, List, [], ◌∷◌, length, map, get_or, arith}
+use Rattle.std.proofs.Common.{◌≡◌, refl, sym, ◌∙◌, ap, ℕ, zero, suc, ◌-◌, ◌<◌, ◌≤◌, ℤ, pos, negsuc, nat_lt, List, [], ◌∷◌, Option, Some, None, length, map, get_or, arith}
+use Rattle.std.proofs.lemmas.Bool.{cond_both, ltb-true}
+use Rattle.std.specs.Option.{IfNone}
+use Rattle.rrd_fixed.specs.declared.cell.Cell.{Cell}
+use Rattle.rrd_base.proofs.AllLemmas.{All-at}
 use Rattle.std.specs.List.{AllByRecursion, enumerate_from}
 use Rattle.std.proofs.lemmas.List.{length-map}
 use Rattle.std.proofs.lemmas.List.FromFn.{length-enumerate_from}
@@ -9,11 +13,11 @@ use Rattle.rrd_base.specs.declared.definition.RraDef.{RraDef}
 use Rattle.rrd_base.specs.Cells.{ShowsCells, archive_by_time, content}
 use Rattle.rrd_base.specs.History.{Archive, Content, Event}
 use Rattle.rrd_base.specs.Creating.{new_archive}
-use Rattle.rrd_base.specs.Passed.{row_at}
+use Rattle.rrd_base.specs.Passed.{row_at, row_of_age}
 use Rattle.rrd_fold.specs.Bounds.{Consolidating}
 use Rattle.rrd_fold.specs.Parts.{nothing}
 use Rattle.rrd_base.specs.Shown.{cell_in, prep_in}
-use Rattle.rrd_base.specs.Validity.{IsValidArchive}
+use Rattle.rrd_base.specs.Validity.{IsRow, IsValidArchive}
 use Rattle.rrd_base.proofs.CellLemmas.{shows_by_time}
 
 pub cell_of_archive : (content : Content) (archives : List Archive) (k : ℕ) (d : Archive) (time : ℤ) (source : ℕ) → k < length archives → get_or (row_at content (get_or archives k d) time) source Unknown ≡ cell_in content archives k time source
@@ -44,3 +48,16 @@ pub parts_there : (sources steps : ℕ) (archives : List Archive) (k : ℕ) (d :
 parts_there sources steps [] k d h is = absurd (omega arith)
 parts_there sources steps (a ∷ rest) zero d h is = is.0.parts_are.one_each
 parts_there sources steps (a ∷ rest) (suc k) d h is = parts_there sources steps rest k d (omega arith) is.1
+
+-- rows of one width, and an unknown one as wide
+pub row_of_age_wide : (n : ℕ) (rows : List (List Cell)) (unknown : List Cell) (age : ℤ) → AllByRecursion (IsRow n) rows → length unknown ≡ n → length (row_of_age rows unknown age) ≡ n
+row_of_age_wide n rows unknown (negsuc ahead) wide e = e
+row_of_age_wide n rows unknown (pos age) wide e =
+    cond_both (nat_lt age (length rows)) (get_or rows (length rows - 1 - age) unknown) unknown (λ row. length row ≡ n)
+    (λ less. let here = All-at (IsRow n) rows (length rows - 1 - age) unknown wide (omega (arith, ltb-true age (length rows) less)) in here.one_each)
+    (λ more. e)
+
+-- what follows where there is no value
+pub none_then : {A : Type 0} (o : Option A) {P Q : Type 0} → IfNone o P → (P → Q) → IfNone o Q
+none_then None h f = f h
+none_then (Some x) h f = tt

@@ -1,11 +1,12 @@
 //! What a database holds, but for its journal: how seconds and samples move it.
-ghost use Rattle.std.specs.Prelude.{◌≡◌, ◌+◌, ◌-◌, ◌*◌, ◌/◌, ◌%◌, ◌^◌, ◌<◌, ◌≤◌, [], ◌∷◌, length, map, replicate, slice_index_or, IfOk, None, pos, ◌-ℤ◌};
+ghost use Rattle.std.specs.Prelude.{◌≡◌, ℕ, ◌+◌, ◌-◌, ◌*◌, ◌/◌, ◌%◌, ◌^◌, ◌<◌, ◌≤◌, [], ◌∷◌, length, map, replicate, slice_index_or, IfOk, IfNone, IfSome, None, pos, ◌-ℤ◌};
 ghost use Rattle.std.specs.Int.{int_div_euclid};
 ghost use Rattle.std.specs.Result.{result_err};
 ghost use Rattle.rrd_base.specs.Choice.{choice_of};
 ghost use Rattle.rrd_base.specs.Commands.{Resizing, TuningBy, Updating, moved_listed, rows_changed, rows_of_archives};
 ghost use Rattle.rrd_base.specs.Creating.{create_verdict, created};
 ghost use Rattle.rrd_base.specs.Shown.{cell_at, definitions, prep_at};
+ghost use Rattle.rrd_fixed.specs.declared.cell.Cell.TheVariants.{Unknown as CellUnknown};
 ghost use Rattle.rrd_fixed.specs.declared.raw.Raw.TheVariants.{Unknown};
 ghost use Rattle.rrd_fold.specs.Parts.{nothing};
 ghost use Rattle.rrd_base.specs.Room.{HasPlaces};
@@ -144,16 +145,17 @@ impl Contents {
         self.stores[archive].prep(source)
     }
 
-    /// The cell of a source in an archive's row at a time, a multiple of the seconds in a row;
-    /// unknown where the archive has no such row.
-    pub(crate) fn cell(&self, archive: usize, time: i64, source: usize) -> Cell
-        requires archive_there { archive < length self.now.archives }
-        requires source_there { source < length self.now.sources }
-        ensures { result ≡ cell_at self.now archive time source }
+    /// The cells of an archive's row at a time, a multiple of the seconds in a row; none where the
+    /// archive has no such row.
+    pub(crate) fn row(&self, archive: usize, time: i64) -> Option<&[Cell]>
+        requires { archive < length self.now.archives }
+        ensures wide { IfSome result (λ row. length row.now ≡ length self.now.sources) }
+        ensures cells { IfSome result (λ row. (source : ℕ) → slice_index_or row.now source CellUnknown ≡ cell_at self.now archive time source) }
+        ensures none { IfNone result ((source : ℕ) → source < length self.now.sources → cell_at self.now archive time source ≡ CellUnknown) }
     {
         let store = &self.stores[archive];
         let resolution = self.step * store.def().steps;
-        store.cell_of_age(age(self.last, resolution, time), source)
+        store.row_of_age(age(self.last, resolution, time))
     }
 
     // Lets so many seconds pass that leave the step unfinished. It is a turn for each source.

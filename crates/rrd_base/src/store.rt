@@ -1,5 +1,5 @@
 //! Archives: for each source the preparation of its unfinished row, and the rows.
-ghost use Rattle.std.specs.Prelude.{◌≡◌, ℕ, List, ◌+◌, ◌*◌, ◌^◌, ◌<◌, ◌≤◌, ◌∷◌, ◌++◌, length, map, min, replicate, slice_index_or, take as first, IfOk, pos, ◌≤ℤ◌};
+ghost use Rattle.std.specs.Prelude.{◌≡◌, ℕ, List, ◌+◌, ◌*◌, ◌^◌, ◌<◌, ◌≤◌, ◌∷◌, ◌++◌, length, map, min, replicate, slice_index_or, take as first, IfNone, IfOk, IfSome, pos, ◌≤ℤ◌};
 ghost use Rattle.std.specs.List.{AllByRecursion, fold};
 ghost use Rattle.rrd_fixed.specs.declared.cell.Cell.{Cell};
 ghost use Rattle.rrd_fixed.specs.declared.cell.Cell.TheVariants.{Unknown};
@@ -127,25 +127,16 @@ impl Store {
         self.rows.rows()
     }
 
-    /// The cell of a source in a row, counted from the oldest.
-    pub(crate) fn cell(&self, row: u64, source: usize) -> Cell
-        requires there { row < length self.now.rows }
-        requires within { source < length (row_at self.now.rows row) }
-        ensures { result ≡ slice_index_or (row_at self.now.rows row) source Unknown }
-    {
-        self.rows.row(row)[source]
-    }
-
-    /// The cell of a source in a row of an age, 0 for the newest; unknown where there is no such row.
-    pub(crate) fn cell_of_age(&self, age: i128, source: usize) -> Cell
-        requires { (k : ℕ) → k < length self.now.rows → source < length (row_at self.now.rows k) }
-        ensures { (unknown : List Cell) → slice_index_or unknown source Unknown ≡ Unknown → result ≡ slice_index_or (row_of_age self.now.rows unknown age) source Unknown }
+    /// The cells of the row of an age, 0 for the newest; none where there is no such row.
+    pub(crate) fn row_of_age(&self, age: i128) -> Option<&[Cell]>
+        ensures some { IfSome result (λ row. (unknown : List Cell) → row_of_age self.now.rows unknown age ≡ row.now) }
+        ensures none { IfNone result ((unknown : List Cell) → row_of_age self.now.rows unknown age ≡ unknown) }
     {
         let rows = self.rows();
         if age < 0 || age >= i128::from(rows) {
-            return Cell::Unknown;
+            return None;
         }
-        self.cell(rows - 1 - age as u64, source)
+        Some(self.rows.row(rows - 1 - age as u64))
     }
 
     /// The preparation of a source's unfinished row.

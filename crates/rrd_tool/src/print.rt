@@ -1,5 +1,7 @@
-//! What commands print. Each line is built without memory, and then written at once.
-ghost use Rattle.std.specs.Prelude.{◌≡◌, ◌<◌, ◌≤◌, ◌+◌, ◌++◌, ℕ, pos, length, codes, Ok};
+//! What commands print. Each line is built without memory, and then written at once; those of a fetch in
+//! one place, since it is large.
+ghost use Rattle.std.specs.Prelude.{◌≡◌, ◌<◌, ◌≤◌, ◌+◌, ◌++◌, ℕ, pos, length, codes, slice_index_or, IfNone, IfSome, Ok};
+ghost use Rattle.rrd_fixed.specs.declared.cell.Cell.TheVariants.{Unknown};
 ghost use Rattle.rrd_fixed.specs.Text.{cell_text};
 ghost use Rattle.rrd_fixed.specs.Written.{Writes};
 ghost use Rattle.rrd_fold.specs.declared.function.Function.{Function};
@@ -24,20 +26,32 @@ fn push_cell(line: &mut ArrayString<4096>, cell: Cell)
     line.push_str(cell_string(cell).as_str());
 }
 
-// The line of a row.
-fn row_string(database: &Database, archive: u64, time: i64) -> ArrayString<4096>
-    requires { archive < length database.now.content.archives }
-    ensures { result.bytes ≡ row_text database.now.content archive time }
+// A source's cell in a row; unknown where there is no such row.
+fn cell_in(row: Option<&[Cell]>, source: usize) -> Cell
+    requires { IfSome row (λ cells. source < length cells.now) }
+    ensures some { IfSome row.entry (λ cells. result ≡ slice_index_or cells.now source Unknown) }
+    ensures none { IfNone row.entry (result ≡ Unknown) }
 {
-    let mut line = ArrayString::new();
+    match row {
+        Some(cells) => cells[source],
+        None => Cell::Unknown,
+    }
+}
+
+// Makes the line that of a row.
+fn set_row(line: &mut ArrayString<4096>, database: &Database, archive: u64, time: i64)
+    requires { archive < length database.now.content.archives }
+    ensures { line.new.bytes ≡ row_text database.now.content archive time }
+{
+    line.clear();
     let mut buffer = Buffer::new();
     line.push_str(buffer.format(time));
     line.push_str(":");
+    let row = database.row(archive, time);
     for source in 0..database.sources() {
-        push_cell(&mut line, database.cell(archive, time, source));
+        push_cell(line, cell_in(row, source as usize));
     }
     line.push_str("\n");
-    line
 }
 
 // A space, and a name.
@@ -71,9 +85,10 @@ fn write_rows<W: Write>(out: &mut W, database: &Database, chosen: Chosen) -> Res
 {
     let count = chosen.hi.saturating_sub(chosen.lo) / chosen.res;
     let mut time = chosen.lo;
+    let mut line = ArrayString::new();
     for _ in 0..count {
         time += chosen.res;
-        let line = row_string(database, chosen.archive, time as i64);
+        set_row(&mut line, database, chosen.archive, time as i64);
         write_bytes(out, line.as_str().as_bytes())?;
     }
     Ok(())

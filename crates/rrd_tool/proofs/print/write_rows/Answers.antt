@@ -23,7 +23,7 @@ returns-in_err-write_bytes g c =
     let small : c.loop.time + c.args.chosen.res < 2 ^ 63 = omega (arith, last, time, c.requires.small) in
     let signed : to_z w64 (c.loop.time + c.args.chosen.res) ≡ pos (c.args.chosen.lo + (k + 1) * c.args.chosen.res) = to_z_pos w64 (c.loop.time + c.args.chosen.res) small ∙ ap pos time in
     let line : c.as_bytes.result.now ≡ row k =
-    c.as_bytes.ensures.value ∙ (c.as_str.ensures.value ∙ (c.row_string-line.ensures ∙ ap (row_text c.args.database.now.content c.args.chosen.archive) signed)) in
+    c.as_bytes.ensures.value ∙ (c.as_str.ensures.value ∙ (c.set_row.ensures ∙ ap (row_text c.args.database.now.content c.args.chosen.archive) signed)) in
     let bad : AppendsFront mid new (row k) = rw line at c.in_err-write_bytes.ensures in
     let front : AppendsFront old new (texts_below row k ++ row k) = writes_then {T = Unit {0}} old mid new (texts_below row k) (row k) (Err c.in_err-write_bytes.field-0.0) inv.1 bad in
     let more : AppendsFront old new (texts_below row (k + 1)) = rw (below_more row k) front in
@@ -43,7 +43,7 @@ loop-preserved g c =
     let small : c.loop.time + c.args.chosen.res < 2 ^ 63 = omega (arith, last, time, c.requires.small) in
     let signed : to_z w64 (c.loop.time + c.args.chosen.res) ≡ pos (c.args.chosen.lo + (k + 1) * c.args.chosen.res) = to_z_pos w64 (c.loop.time + c.args.chosen.res) small ∙ ap pos time in
     let line : c.as_bytes.result.now ≡ row k =
-    c.as_bytes.ensures.value ∙ (c.as_str.ensures.value ∙ (c.row_string-line.ensures ∙ ap (row_text c.args.database.now.content c.args.chosen.archive) signed)) in
+    c.as_bytes.ensures.value ∙ (c.as_str.ensures.value ∙ (c.set_row.ensures ∙ ap (row_text c.args.database.now.content c.args.chosen.archive) signed)) in
     let good : Appends mid new (row k) = rw line at c.in_ok-write_bytes.ensures in
     let more : Appends old new (texts_below row k ++ row k) = writes_then {T = Unit {0}} old mid new (texts_below row k) (row k) (Ok (tt {0})) inv.1 good in
     (omega (arith, inv.0), rw (below_more row k) more)

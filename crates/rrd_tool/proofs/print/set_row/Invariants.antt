@@ -2,7 +2,7 @@ use Rattle.std.proofs.Common.{◌≡◌, ◌≤◌, ◌+◌, ◌*◌, ◌++◌, 
 use Rattle.rrd_base.specs.Shown.{cell_at}
 use Rattle.rrd_fixed.specs.Text.{cell_text, time_text}
 use Rattle.rrd_tool.specs.Printed.{texts_below}
-use Rattle.rrd_tool.proofs.print.row_string.Given as goal
+use Rattle.rrd_tool.proofs.print.set_row.Given as goal
 
 abbrev pub invariant-loop-source : goal.invariant-loop-source
 invariant-loop-source l =
