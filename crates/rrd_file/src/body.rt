@@ -21,10 +21,8 @@ pub(crate) fn write_header<W: Write>(
     block: &mut Block,
     database: &Database,
 ) -> Result<(), WriteFault>
-    ensures {
-        Gathers (W.contents out.old) block.old (W.contents out.new) block.new
-            (spelled (Mark ∷ OfVersion One ∷ OfHeader (header_of One database.now) ∷ [])) result
-    }
+    ensures { Gathers (W.contents out.old) block.old (W.contents out.new) block.new
+        (spelled (Mark ∷ OfVersion One ∷ OfHeader (header_of One database.now) ∷ [])) result }
 {
     let entries = database.undoable();
     block.make_room(out)?;
@@ -48,10 +46,8 @@ fn write_source<W: Write>(
     number: u64,
 ) -> Result<(), WriteFault>
     requires { number < length database.now.content.sources }
-    ensures {
-        (s : Source) → slice_get (filed One database.now).sources number ≡ Some s
-        → Gathers (W.contents out.old) block.old (W.contents out.new) block.new (spell (OfSource s)) result
-    }
+    ensures { (s : Source) → slice_get (filed One database.now).sources number ≡ Some s
+        → Gathers (W.contents out.old) block.old (W.contents out.new) block.new (spell (OfSource s)) result }
 {
     let prep = database.step_prep(number);
     block.make_room(out)?;
@@ -67,10 +63,8 @@ fn write_sources<W: Write>(
     block: &mut Block,
     database: &Database,
 ) -> Result<(), WriteFault>
-    ensures {
-        Gathers (W.contents out.old) block.old (W.contents out.new) block.new
-            (spelled (map OfSource (filed One database.now).sources)) result
-    }
+    ensures { Gathers (W.contents out.old) block.old (W.contents out.new) block.new
+        (spelled (map OfSource (filed One database.now).sources)) result }
 {
     for number in 0..database.sources() {
         write_source(out, block, database, number)?;
@@ -87,10 +81,8 @@ fn write_settings<W: Write>(
     archive: u64,
 ) -> Result<(), WriteFault>
     requires { archive < length database.now.content.archives }
-    ensures {
-        (a : Archive) → slice_get database.now.content.archives archive ≡ Some a
-        → Gathers (W.contents out.old) block.old (W.contents out.new) block.new (spell (OfArchive a.def)) result
-    }
+    ensures { (a : Archive) → slice_get database.now.content.archives archive ≡ Some a
+        → Gathers (W.contents out.old) block.old (W.contents out.new) block.new (spell (OfArchive a.def)) result }
 {
     // Its clause says that the settings are valid, so that they fit their bytes.
     let _entries = database.undoable();
@@ -108,10 +100,8 @@ fn write_archive_preps<W: Write>(
     archive: u64,
 ) -> Result<(), WriteFault>
     requires { archive < length database.now.content.archives }
-    ensures {
-        (a : Archive) → slice_get database.now.content.archives archive ≡ Some a
-        → Gathers (W.contents out.old) block.old (W.contents out.new) block.new (spelled (map OfPrep a.parts)) result
-    }
+    ensures { (a : Archive) → slice_get database.now.content.archives archive ≡ Some a
+        → Gathers (W.contents out.old) block.old (W.contents out.new) block.new (spelled (map OfPrep a.parts)) result }
 {
     for source in 0..database.sources() {
         write_prep(out, block, database.row_prep(archive, source))?;
@@ -127,10 +117,8 @@ fn write_head<W: Write>(
     archive: u64,
 ) -> Result<(), WriteFault>
     requires { archive < length database.now.content.archives }
-    ensures {
-        (a : Archive) → slice_get database.now.content.archives archive ≡ Some a
-        → Gathers (W.contents out.old) block.old (W.contents out.new) block.new (spelled (head_pieces (head_of a))) result
-    }
+    ensures { (a : Archive) → slice_get database.now.content.archives archive ≡ Some a
+        → Gathers (W.contents out.old) block.old (W.contents out.new) block.new (spelled (head_pieces (head_of a))) result }
 {
     write_settings(out, block, database, archive)?;
     write_archive_preps(out, block, database, archive)
@@ -142,10 +130,8 @@ fn write_heads<W: Write>(
     block: &mut Block,
     database: &Database,
 ) -> Result<(), WriteFault>
-    ensures {
-        Gathers (W.contents out.old) block.old (W.contents out.new) block.new
-            (spelled (flat_map head_pieces (filed One database.now).heads)) result
-    }
+    ensures { Gathers (W.contents out.old) block.old (W.contents out.new) block.new
+        (spelled (flat_map head_pieces (filed One database.now).heads)) result }
 {
     for archive in 0..database.archives() {
         write_head(out, block, database, archive)?;
@@ -159,10 +145,8 @@ pub(crate) fn write_body<W: Write>(
     block: &mut Block,
     database: &Database,
 ) -> Result<(), WriteFault>
-    ensures {
-        Gathers (W.contents out.old) block.old (W.contents out.new) block.new
-            (spelled (body_pieces (filed One database.now))) result
-    }
+    ensures { Gathers (W.contents out.old) block.old (W.contents out.new) block.new
+        (spelled (body_pieces (filed One database.now))) result }
 {
     write_sources(out, block, database)?;
     write_heads(out, block, database)?;

@@ -40,12 +40,10 @@ fn write_row_at<W: Write>(
     time: i64,
 ) -> Result<(), WriteFault>
     requires { archive < length database.now.content.archives }
-    ensures {
-        (a : Archive) (place : ℕ) → slice_get database.now.content.archives archive ≡ Some a → place < length a.rows
+    ensures { (a : Archive) (place : ℕ) → slice_get database.now.content.archives archive ≡ Some a → place < length a.rows
         → time ≡ time_of (resolution_of database.now.content.step a.def) (length a.rows) database.now.content.last place
         → Gathers (W.contents out.old) block.old (W.contents out.new) block.new
-            (spelled (map OfCell (slice_index_or a.rows place []))) result
-    }
+        (spelled (map OfCell (slice_index_or a.rows place []))) result }
 {
     for source in 0..database.sources() {
         write_cell(out, block, database.cell(archive, time, source))?;
@@ -61,11 +59,9 @@ fn write_slots<W: Write>(
     archive: u64,
 ) -> Result<(), WriteFault>
     requires { archive < length database.now.content.archives }
-    ensures {
-        (a : Archive) → slice_get database.now.content.archives archive ≡ Some a
+    ensures { (a : Archive) → slice_get database.now.content.archives archive ≡ Some a
         → Gathers (W.contents out.old) block.old (W.contents out.new) block.new
-            (spelled (map OfCell (cells_by_slot database.now.content.step database.now.content.last a))) result
-    }
+        (spelled (map OfCell (cells_by_slot database.now.content.step database.now.content.last a))) result }
 {
     // Its clause says that the content is valid, so that times and numbers of rows are small.
     let _sources = database.sources();
@@ -85,10 +81,8 @@ pub(crate) fn write_cells<W: Write>(
     block: &mut Block,
     database: &Database,
 ) -> Result<(), WriteFault>
-    ensures {
-        Gathers (W.contents out.old) block.old (W.contents out.new) block.new
-            (spelled (map OfCell (all_cells database.now.content))) result
-    }
+    ensures { Gathers (W.contents out.old) block.old (W.contents out.new) block.new
+        (spelled (map OfCell (all_cells database.now.content))) result }
 {
     for archive in 0..database.archives() {
         write_slots(out, block, database, archive)?;

@@ -23,10 +23,8 @@ use std::io::Write;
 // Writes the tag of an update, and the last time before it.
 #[tactic(auto, unfolding(crate::specs::Pieces::spell))]
 fn write_time<W: Write>(out: &mut W, block: &mut Block, last: u64) -> Result<(), WriteFault>
-    ensures {
-        Gathers (W.contents out.old) block.old (W.contents out.new) block.new
-            (spelled (OfTag AnUpdate ∷ OfTime last ∷ [])) result
-    }
+    ensures { Gathers (W.contents out.old) block.old (W.contents out.new) block.new
+        (spelled (OfTag AnUpdate ∷ OfTime last ∷ [])) result }
 {
     block.make_room(out)?;
     block.byte(1);
@@ -42,9 +40,7 @@ fn write_source_before<W: Write>(
     raw: Raw,
     prep: &StepPrep,
 ) -> Result<(), WriteFault>
-    ensures {
-        Gathers (W.contents out.old) block.old (W.contents out.new) block.new (spell (OfSourceBefore raw prep.now)) result
-    }
+    ensures { Gathers (W.contents out.old) block.old (W.contents out.new) block.new (spell (OfSourceBefore raw prep.now)) result }
 {
     block.make_room(out)?;
     block.raw(raw);
@@ -60,10 +56,8 @@ fn write_sources_before<W: Write>(
     preps: &[StepPrep],
 ) -> Result<(), WriteFault>
     requires { length raws.now ≡ length preps.now }
-    ensures {
-        Gathers (W.contents out.old) block.old (W.contents out.new) block.new
-            (spelled (sources_before raws.now preps.now)) result
-    }
+    ensures { Gathers (W.contents out.old) block.old (W.contents out.new) block.new
+        (spelled (sources_before raws.now preps.now)) result }
 {
     for i in 0..raws.len() {
         write_source_before(out, block, raws[i], &preps[i])?;
@@ -83,11 +77,7 @@ fn write_row_count<W: Write>(out: &mut W, block: &mut Block, rows: u64) -> Resul
 }
 
 // Writes the rows that an update dropped, oldest first.
-fn write_dropped<W: Write>(
-    out: &mut W,
-    block: &mut Block,
-    rows: &Dropped,
-) -> Result<(), WriteFault>
+fn write_dropped<W: Write>(out: &mut W, block: &mut Block, rows: &Dropped) -> Result<(), WriteFault>
     ensures { Gathers (W.contents out.old) block.old (W.contents out.new) block.new (spelled (row_pieces rows.now)) result }
 {
     for i in 0..rows.len() {
@@ -102,10 +92,8 @@ fn write_saved<W: Write>(
     block: &mut Block,
     saved: &SavedArchive,
 ) -> Result<(), WriteFault>
-    ensures {
-        Gathers (W.contents out.old) block.old (W.contents out.new) block.new
-            (spelled (dropped_pieces saved.now.before)) result
-    }
+    ensures { Gathers (W.contents out.old) block.old (W.contents out.new) block.new
+        (spelled (dropped_pieces saved.now.before)) result }
 {
     write_preps(out, block, saved.preps())?;
     write_row_count(out, block, saved.rows().len())?;
@@ -118,10 +106,8 @@ fn write_all_saved<W: Write>(
     block: &mut Block,
     saved: &[SavedArchive],
 ) -> Result<(), WriteFault>
-    ensures {
-        Gathers (W.contents out.old) block.old (W.contents out.new) block.new
-            (spelled (flat_map dropped_pieces (befores saved.now))) result
-    }
+    ensures { Gathers (W.contents out.old) block.old (W.contents out.new) block.new
+        (spelled (flat_map dropped_pieces (befores saved.now))) result }
 {
     for i in 0..saved.len() {
         write_saved(out, block, &saved[i])?;
@@ -136,10 +122,8 @@ fn write_update<W: Write>(
     before: &BeforeUpdate,
 ) -> Result<(), WriteFault>
     requires { length before.now.raws.items ≡ length before.now.preps.items }
-    ensures {
-        Gathers (W.contents out.old) block.old (W.contents out.new) block.new
-            (spelled (entry_pieces (Updated (update_of before.now)))) result
-    }
+    ensures { Gathers (W.contents out.old) block.old (W.contents out.new) block.new
+        (spelled (entry_pieces (Updated (update_of before.now)))) result }
 {
     write_time(out, block, before.last)?;
     write_sources_before(out, block, &before.raws, &before.preps)?;
@@ -152,10 +136,8 @@ fn write_update<W: Write>(
 #[tactic(auto, unfolding(crate::specs::Pieces::spell))]
 fn write_tuned<W: Write>(out: &mut W, block: &mut Block, count: usize) -> Result<(), WriteFault>
     requires { count ≤ 5 }
-    ensures {
-        Gathers (W.contents out.old) block.old (W.contents out.new) block.new
-            (spelled (OfTag ATune ∷ OfCount count ∷ [])) result
-    }
+    ensures { Gathers (W.contents out.old) block.old (W.contents out.new) block.new
+        (spelled (OfTag ATune ∷ OfCount count ∷ [])) result }
 {
     block.make_room(out)?;
     block.byte(2);
@@ -171,9 +153,7 @@ fn write_held<W: Write>(
     held: &SourceBefore,
 ) -> Result<(), WriteFault>
     requires { held.now.number < 2 ^ 16 }
-    ensures {
-        Gathers (W.contents out.old) block.old (W.contents out.new) block.new (spell (OfHeld (held_of held.now))) result
-    }
+    ensures { Gathers (W.contents out.old) block.old (W.contents out.new) block.new (spell (OfHeld (held_of held.now))) result }
 {
     block.make_room(out)?;
     block.two(held.number);
@@ -189,10 +169,8 @@ fn write_all_held<W: Write>(
     held: &[SourceBefore],
 ) -> Result<(), WriteFault>
     requires { AllByRecursion HasSmallNumber (map held_of held.now) }
-    ensures {
-        Gathers (W.contents out.old) block.old (W.contents out.new) block.new
-            (spelled (map OfHeld (map held_of held.now))) result
-    }
+    ensures { Gathers (W.contents out.old) block.old (W.contents out.new) block.new
+        (spelled (map OfHeld (map held_of held.now))) result }
 {
     for i in 0..held.len() {
         write_held(out, block, &held[i])?;
@@ -208,10 +186,8 @@ fn write_tune<W: Write>(
 ) -> Result<(), WriteFault>
     requires few { length held.now ≤ 5 }
     requires numbers { AllByRecursion HasSmallNumber (map held_of held.now) }
-    ensures {
-        Gathers (W.contents out.old) block.old (W.contents out.new) block.new
-            (spelled (entry_pieces (WasTuned (map held_of held.now)))) result
-    }
+    ensures { Gathers (W.contents out.old) block.old (W.contents out.new) block.new
+        (spelled (entry_pieces (WasTuned (map held_of held.now)))) result }
 {
     write_tuned(out, block, held.len())?;
     write_all_held(out, block, held)
@@ -229,10 +205,8 @@ fn write_resized<W: Write>(
 ) -> Result<(), WriteFault>
     requires archive_fits { archive < 2 ^ 16 }
     requires rows_fit { rows ≤ 1000000 }
-    ensures {
-        Gathers (W.contents out.old) block.old (W.contents out.new) block.new
-            (spelled (OfTag AResize ∷ OfNumber archive ∷ OfRows rows ∷ [])) result
-    }
+    ensures { Gathers (W.contents out.old) block.old (W.contents out.new) block.new
+        (spelled (OfTag AResize ∷ OfNumber archive ∷ OfRows rows ∷ [])) result }
 {
     block.make_room(out)?;
     block.byte(3);
@@ -259,10 +233,8 @@ fn write_resize<W: Write>(
     old: &Archive,
 ) -> Result<(), WriteFault>
     requires { archive < 2 ^ 16 }
-    ensures {
-        Gathers (W.contents out.old) block.old (W.contents out.new) block.new
-            (spelled (entry_pieces (WasResized archive old.now))) result
-    }
+    ensures { Gathers (W.contents out.old) block.old (W.contents out.new) block.new
+        (spelled (entry_pieces (WasResized archive old.now))) result }
 {
     write_resized(out, block, archive, old.rows())?;
     write_rows(out, block, old)
@@ -271,16 +243,10 @@ fn write_resize<W: Write>(
 // ---- the journal
 
 // Writes an entry.
-fn write_entry<W: Write>(
-    out: &mut W,
-    block: &mut Block,
-    entry: &Entry,
-) -> Result<(), WriteFault>
+fn write_entry<W: Write>(out: &mut W, block: &mut Block, entry: &Entry) -> Result<(), WriteFault>
     requires { IsEntryOfSome (entry_of entry.now) }
-    ensures {
-        Gathers (W.contents out.old) block.old (W.contents out.new) block.new
-            (spelled (entry_pieces (entry_of entry.now))) result
-    }
+    ensures { Gathers (W.contents out.old) block.old (W.contents out.new) block.new
+        (spelled (entry_pieces (entry_of entry.now))) result }
 {
     match entry {
         Entry::Update(before) => write_update(out, block, before),
@@ -295,10 +261,8 @@ pub(crate) fn write_entries<W: Write>(
     block: &mut Block,
     database: &Database,
 ) -> Result<(), WriteFault>
-    ensures {
-        Gathers (W.contents out.old) block.old (W.contents out.new) block.new
-            (spelled (flat_map entry_pieces database.now.journal)) result
-    }
+    ensures { Gathers (W.contents out.old) block.old (W.contents out.new) block.new
+        (spelled (flat_map entry_pieces database.now.journal)) result }
 {
     for number in 0..database.undoable() {
         write_entry(out, block, database.entry(number))?;

@@ -58,9 +58,7 @@ pub(crate) fn write_preps<W: Write>(
     block: &mut Block,
     preps: &[RowPrep],
 ) -> Result<(), WriteFault>
-    ensures {
-        Gathers (W.contents out.old) block.old (W.contents out.new) block.new (spelled (map OfPrep (parts_in preps.now))) result
-    }
+    ensures { Gathers (W.contents out.old) block.old (W.contents out.new) block.new (spelled (map OfPrep (parts_in preps.now))) result }
 {
     for i in 0..preps.len() {
         write_prep(out, block, preps[i])?;
