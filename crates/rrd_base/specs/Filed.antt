@@ -59,7 +59,8 @@ header_of version d = record {
 }
 
 abbrev pub sources_of : List DsDef → List Raw → List Part → List Source
-sources_of (def ∷ defs) (raw ∷ raws) (part ∷ parts) = record { def = def; raw = raw; part = part } ∷ sources_of defs raws parts
+sources_of (def ∷ defs) (raw ∷ raws) (part ∷ parts) =
+    record { def = def; raw = raw; part = part } ∷ sources_of defs raws parts
 sources_of _ _ _ = []
 
 abbrev pub head_of : Archive → Head

@@ -1,4 +1,5 @@
--- In which order a file has an archive's rows: each stands in a slot that its time alone decides, so that a row keeps its slot while others come and go (own).
+-- In which order a file has an archive's rows (own). Each stands in a slot that its time alone decides, so it keeps its
+-- slot while others come and go.
 use Rattle.std.specs.Prelude.{ℕ, ◌+◌, ◌-◌, ◌/◌, ◌%◌, ℤ, pos, unsigned_abs, ◌==◌, Bool, List, [], length}
 use Rattle.std.specs.List.{find, flat_map, enumerate_from, range_with_len}
 use Rattle.std.specs.Option.{option_map_or}
@@ -7,7 +8,8 @@ use Rattle.rrd_fixed.specs.declared.cell.Cell.{Cell}
 use Rattle.rrd_base.specs.Cells.{resolution, time_of}
 use Rattle.rrd_base.specs.History.{Archive, Content}
 
--- the slot of the row that ends at a time, among so many: the number of the row since 1970, which is negative before it, modulo the number of rows
+-- the slot of the row that ends at a time, among so many rows: the number of the row since 1970, which may be negative,
+-- modulo the number of rows
 abbrev pub slot_of : ℕ → ℕ → ℤ → ℕ
 slot_of resolution rows time = unsigned_abs (int_rem_euclid (int_div_euclid time (pos resolution)) (pos rows))
 
@@ -20,7 +22,8 @@ abbrev pub row_in : ℕ → ℕ → List (List Cell) → ℕ → List Cell
 row_in resolution last rows slot =
     option_map_or (λ found. found.1) (find (stands_in resolution (length rows) last slot) (enumerate_from 0 rows)) []
 
--- the cells slot by slot, source by source, of rows of so many seconds of which the newest is the last to end by the last time
+-- the cells slot by slot, source by source; rows have so many seconds, and the newest is the last to end by the last
+-- time
 abbrev pub by_slot : ℕ → ℕ → List (List Cell) → List Cell
 by_slot resolution last rows = flat_map (row_in resolution last rows) (range_with_len 0 (length rows))
 

@@ -18,21 +18,13 @@ use Rattle.rrd_base.specs.Validity.{IsRow, IsValid, IsValidArchive}
 use Rattle.rrd_base.proofs.ShownLemmas.{cell_of_archive}
 use Rattle.std.proofs.lemmas.List.FromFn.{get_or-range_with_len, length-range_with_len}
 use Rattle.rrd_base.specs.Slots.{place_in, row_in}
+use Rattle.rrd_file.proofs.Told.{all_of, archive_at, some_is}
 use Rattle.rrd_file.proofs.Slotted.{age_is, is_place, row_in_is}
 use Rattle.rrd_file.specs.Layout.{spelled}
 use Rattle.rrd_file.specs.Pieces.{OfCell, spell}
 
--- what holds of all holds of each
-pub all_of : {A : Type 0} (P : A → Type 0) (xs : List A) (i : ℕ) (x : A) → AllByRecursion P xs → slice_get xs i ≡ Some x → P x
-all_of P [] i x all e = absurd cc
-all_of P (y ∷ xs) zero x all e = let same : y ≡ x = cc in subst P same all.0
-all_of P (y ∷ xs) (suc i) x all e = all_of P xs i x all.1 e
-
 product : (a b : ℕ) → 0 < a → 0 < b → 0 < a * b
 product a b p q = omega (arith, mul-le 1 1 a b (omega (arith, p)) (omega (arith, q)))
-
-pub archive_at : (d : Content) (n : ℕ) (a : Archive) → IsValid d → slice_get d.archives n ≡ Some a → IsValidArchive (length d.sources) (d.last / d.step) a
-archive_at d n a v e = all_of (IsValidArchive (length d.sources) (d.last / d.step)) d.archives n a v.archives_are e
 
 pub some_size : (d : Content) (n : ℕ) (a : Archive) → IsValid d → slice_get d.archives n ≡ Some a → 0 < resolution d.step a.def
 some_size d n a v e = product d.step a.def.steps v.some_step (archive_at d n a v e).some_steps
@@ -52,8 +44,8 @@ row_at_place d a place time some inside is =
     ∙ rw (lt-ltb (length a.rows - 1 - place) (length a.rows) (omega (arith, inside))) (ap (λ k. slice_index_or a.rows k unknown) back
     ∙ get_or_from_slice_get a.rows place (get_or a.rows place []) unknown (slice_get-get_or a.rows place [] inside))
 
-row_length : (d : Content) (n : ℕ) (a : Archive) (place : ℕ) → IsValid d → slice_get d.archives n ≡ Some a → place < length a.rows → length (get_or a.rows place []) ≡ length d.sources
-row_length d n a place v e inside =
+pub row_width : (d : Content) (n : ℕ) (a : Archive) (place : ℕ) → IsValid d → slice_get d.archives n ≡ Some a → place < length a.rows → length (get_or a.rows place []) ≡ length d.sources
+row_width d n a place v e inside =
     (all_of (IsRow (length d.sources)) a.rows place (get_or a.rows place []) (archive_at d n a v e).each_row (slice_get-get_or a.rows place [] inside)).one_each
 
 -- the cell of a source in the row of a place
@@ -61,16 +53,13 @@ pub cell_is : (d : Content) (n : ℕ) (a : Archive) (place source : ℕ) (time :
     → slice_get (slice_index_or a.rows place []) source ≡ Some (cell_at d n time source)
 cell_is d n a place source time v e inside within is =
     let row = get_or a.rows place [] in
-    let wide : source < length row = omega (arith, within, row_length d n a place v e inside) in
+    let wide : source < length row = omega (arith, within, row_width d n a place v e inside) in
     let there : n < length d.archives = slice_get_within d.archives n a e in
     let mine : get_or d.archives n a ≡ a = get_or_from_slice_get d.archives n a a e in
     let shown : get_or row source Cell.Unknown ≡ cell_at d n time source =
     ap (λ r. get_or r source Cell.Unknown) (sym (row_at_place d a place time (some_size d n a v e) inside is))
     ∙ (ap (λ (x : Archive). get_or (row_at d x time) source Cell.Unknown) (sym mine) ∙ cell_of_archive d d.archives n a time source there) in
     slice_get-get_or row source Cell.Unknown wide ∙ ap (λ c. Some c) shown
-
-pub row_width : (d : Content) (n : ℕ) (a : Archive) (place : ℕ) → IsValid d → slice_get d.archives n ≡ Some a → place < length a.rows → length (slice_index_or a.rows place []) ≡ length d.sources
-row_width = row_length
 
 -- ---- cells, list by list
 
@@ -90,9 +79,6 @@ pub record IsDefOf (d : Content) (n : ℕ) (def : RraDef) : Type 0 where
   pub there : slice_get d.archives n ≡ Some archive
   pub def_is : archive.def ≡ def
 
-some_archive : (x y : Archive) → Some x ≡ Some y → x ≡ y
-some_archive x y e = cc
-
 found_def : (archives : List Archive) (n : ℕ) (def : RraDef) → Some def ≡ slice_get (map (λ (archive : Archive). archive.def) archives) n → (a : Archive) × (slice_get archives n ≡ Some a) × (a.def ≡ def)
 found_def [] n def e = absurd cc
 found_def (a ∷ archives) zero def e = (a, refl, let same : def ≡ a.def = cc in sym same)
@@ -102,7 +88,7 @@ pub def_of : (d : Content) (n : ℕ) (def : RraDef) → Some def ≡ slice_get (
 def_of d n def e = let f = found_def d.archives n def e in record { archive = f.0; there = f.1; def_is = f.2 }
 
 pub same_def : (d : Content) (n : ℕ) (def : RraDef) (a : Archive) → IsDefOf d n def → slice_get d.archives n ≡ Some a → a.def ≡ def
-same_def d n def a f e = let same : a ≡ f.archive = some_archive a f.archive (sym e ∙ f.there) in ap (λ (x : Archive). x.def) same ∙ f.def_is
+same_def d n def a f e = let same : a ≡ f.archive = some_is a f.archive (sym e ∙ f.there) in ap (λ (x : Archive). x.def) same ∙ f.def_is
 
 -- the settings are small
 pub record IsSmallDef (step : ℕ) (def : RraDef) : Type 0 where

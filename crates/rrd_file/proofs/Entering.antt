@@ -7,6 +7,7 @@ use Rattle.rrd_base.specs.History.{Content}
 use Rattle.rrd_base.specs.Entries.{Entry, Held, undone}
 use Rattle.rrd_base.specs.Tuned.{held_of}
 use Rattle.rrd_base.specs.Validity.{IsValid, IsValidJournal, IsValidDatabase, Fits, Rise}
+use Rattle.rrd_file.proofs.Told.{some_is}
 use Rattle.rrd_file.specs.Entered.{HasSmallNumber, IsEntryOfSome}
 
 small_in : (held : List SourceBefore) (i : ℕ) (x : SourceBefore) → AllByRecursion HasSmallNumber (map held_of held) → i < length held → (get_or held i x).number < 2 ^ 16
@@ -16,9 +17,6 @@ small_in (y ∷ held) (suc i) x all h = small_in held i x all.1 (omega arith)
 
 pub small_at : (held : List SourceBefore) (i : ℕ) (x : SourceBefore) → AllByRecursion HasSmallNumber (map held_of held) → i < length held → x ≡ get_or held i x → x.number < 2 ^ 16
 small_at held i x all h is = omega (arith, small_in held i x all h, ap (λ (y : SourceBefore). y.number) is)
-
-some_is : (x y : Entry) → Some x ≡ Some y → x ≡ y
-some_is x y e = cc
 
 some_entry : (now : Content) (journal : List Entry) (i : ℕ) (e : Entry) → IsValid now → IsValidJournal now journal → slice_get journal i ≡ Some e → IsEntryOfSome e
 some_entry now [] i e v j is = absurd cc

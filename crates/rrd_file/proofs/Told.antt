@@ -1,5 +1,5 @@
 -- What a database's readers tell, as items of its lists.
-use Rattle.std.proofs.Common.{◌≡◌, ◌∙◌, ◌<◌, ◌^◌, ℕ, zero, suc, List, [], ◌∷◌, Some, sym, ap, refl, length, get_or, arith, map, ◌/◌}
+use Rattle.std.proofs.Common.{◌≡◌, ◌∙◌, ◌<◌, ◌^◌, ℕ, zero, suc, List, [], ◌∷◌, Some, sym, ap, refl, subst, length, get_or, arith, map, ◌/◌}
 use Rattle.std.specs.Prelude.{slice_get, slice_index_or, unsigned_abs}
 use Rattle.std.specs.List.{AllByRecursion}
 use Rattle.std.proofs.lemmas.Int.{ints}
@@ -18,6 +18,15 @@ use Rattle.rrd_file.specs.Pieces.{OfSource, OfSourceBefore}
 
 pub some_is : {A : Type 0} (x y : A) → Some x ≡ Some y → x ≡ y
 some_is x y e = cc
+
+-- what holds of all holds of each
+pub all_of : {A : Type 0} (P : A → Type 0) (xs : List A) (i : ℕ) (x : A) → AllByRecursion P xs → slice_get xs i ≡ Some x → P x
+all_of P [] i x all e = absurd cc
+all_of P (y ∷ xs) zero x all e = subst P (some_is y x e) all.0
+all_of P (y ∷ xs) (suc i) x all e = all_of P xs i x all.1 e
+
+pub archive_at : (d : Content) (n : ℕ) (a : Archive) → IsValid d → slice_get d.archives n ≡ Some a → IsValidArchive (length d.sources) (d.last / d.step) a
+archive_at d n a v e = all_of (IsValidArchive (length d.sources) (d.last / d.step)) d.archives n a v.archives_are e
 
 -- a source by its place
 pub source_at : (defs : List DsDef) (raws : List Raw) (parts : List Part) (i : ℕ) (s : Source) (d : DsDef) → slice_get (sources_of defs raws parts) i ≡ Some s
@@ -99,10 +108,5 @@ prep_is (b ∷ archives) zero source a e =
     ap (λ (x : Archive). let made : Consolidating = record { function = x.def.function; part = slice_index_or x.parts source nothing } in made) same
 prep_is (b ∷ archives) (suc number) source a e = prep_is archives number source a e
 
-parts_in_each : (sources passed : ℕ) (archives : List Archive) (number : ℕ) (a : Archive) → AllByRecursion (IsValidArchive sources passed) archives → slice_get archives number ≡ Some a → length a.parts ≡ sources
-parts_in_each sources passed [] number a all e = absurd cc
-parts_in_each sources passed (b ∷ archives) zero a all e = ap (λ (x : Archive). length x.parts) (sym (some_is b a e)) ∙ all.0.parts_are.one_each
-parts_in_each sources passed (b ∷ archives) (suc number) a all e = parts_in_each sources passed archives number a all.1 e
-
 pub parts_length : (d : Content) (number : ℕ) (a : Archive) → IsValid d → slice_get d.archives number ≡ Some a → length a.parts ≡ length d.sources
-parts_length d number a v e = parts_in_each (length d.sources) (d.last / d.step) d.archives number a v.archives_are e
+parts_length d number a v e = (archive_at d number a v e).parts_are.one_each

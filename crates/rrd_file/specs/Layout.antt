@@ -34,7 +34,8 @@ abbrev pub dropped_pieces : Dropped → List Piece
 dropped_pieces old = map OfPrep old.parts ++ OfRows (length old.rows) ∷ row_pieces old.rows
 
 abbrev pub entry_pieces : Entry → List Piece
-entry_pieces (Updated old) = OfTag AnUpdate ∷ OfTime old.last ∷ sources_before old.raws old.parts ++ flat_map dropped_pieces old.archives
+entry_pieces (Updated old) =
+    OfTag AnUpdate ∷ OfTime old.last ∷ sources_before old.raws old.parts ++ flat_map dropped_pieces old.archives
 entry_pieces (WasTuned olds) = OfTag ATune ∷ OfCount (length olds) ∷ map OfHeld olds
 entry_pieces (WasResized archive rows) = OfTag AResize ∷ OfNumber archive ∷ OfRows (length rows) ∷ row_pieces rows
 
@@ -45,7 +46,8 @@ abbrev pub spelled : List Piece → List ℕ
 spelled pieces = flat_map spell pieces
 
 abbrev pub pieces_filed : Filed → List Piece
-pieces_filed f = Mark ∷ OfVersion f.header.version ∷ OfHeader f.header ∷ body_pieces f ++ flat_map entry_pieces f.entries
+pieces_filed f =
+    Mark ∷ OfVersion f.header.version ∷ OfHeader f.header ∷ body_pieces f ++ flat_map entry_pieces f.entries
 
 -- the layout in a version
 abbrev pub layout_in : Version → Kept → List ℕ

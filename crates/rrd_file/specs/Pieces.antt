@@ -23,8 +23,9 @@ pub data Piece : Type 0 where
   OfArchive : RraDef → Piece
   OfPrep : Part → Piece
   OfCell : Cell → Piece
-  -- of an entry, which also has preparations and cells: its tag; an update's last time before, a source before it, and a number of rows
+  -- of an entry, which also has preparations and cells: its tag
   OfTag : Tag → Piece
+  -- the last time before an update, a source's raw value and part before it, and a number of rows
   OfTime : ℕ → Piece
   OfSourceBefore : Raw → Part → Piece
   OfRows : ℕ → Piece
@@ -44,7 +45,9 @@ tag_byte AResize = 3
 
 -- step (4), last time (8), and in version 1 depth, sources, archives and entries (2 each)
 abbrev pub header_bytes : Version → Header → List ℕ
-header_bytes One h = four_bytes h.step ++ eight_bytes h.last ++ two_bytes h.depth ++ two_bytes h.sources ++ two_bytes h.archives ++ two_bytes h.entries
+header_bytes One h =
+    four_bytes h.step ++ eight_bytes h.last
+    ++ two_bytes h.depth ++ two_bytes h.sources ++ two_bytes h.archives ++ two_bytes h.entries
 
 -- the bytes of a piece
 unfoldable pub spell : Piece → List ℕ

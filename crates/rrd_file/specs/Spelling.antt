@@ -75,11 +75,13 @@ function_byte Last = 3
 
 -- name (20), type (1), heartbeat (8), least rate (16), greatest rate (16)
 abbrev pub source_bytes : DsDef → List ℕ
-source_bytes def = name_bytes def.name ++ kind_byte def.kind ∷ eight_bytes def.heartbeat ++ bound_bytes def.min ++ bound_bytes def.max
+source_bytes def =
+    name_bytes def.name ++ kind_byte def.kind ∷ eight_bytes def.heartbeat ++ bound_bytes def.min ++ bound_bytes def.max
 
 -- function (1), steps (4), xff in millionths, which is not negative (4), rows (4)
 abbrev pub archive_bytes : RraDef → List ℕ
-archive_bytes def = function_byte def.function ∷ four_bytes def.steps ++ four_bytes (unsigned_abs def.xff) ++ four_bytes def.rows
+archive_bytes def =
+    function_byte def.function ∷ four_bytes def.steps ++ four_bytes (unsigned_abs def.xff) ++ four_bytes def.rows
 
 -- how many are known (4), what they come to (16)
 abbrev pub part_bytes : Part → List ℕ

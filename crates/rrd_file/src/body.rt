@@ -118,7 +118,8 @@ fn write_head<W: Write>(
 ) -> Result<(), WriteFault>
     requires { archive < length database.now.content.archives }
     ensures { (a : Archive) → slice_get database.now.content.archives archive ≡ Some a
-        → Gathers (W.contents out.old) block.old (W.contents out.new) block.new (spelled (head_pieces (head_of a))) result }
+        → Gathers (W.contents out.old) block.old (W.contents out.new) block.new
+        (spelled (head_pieces (head_of a))) result }
 {
     write_settings(out, block, database, archive)?;
     write_archive_preps(out, block, database, archive)

@@ -40,7 +40,8 @@ fn write_source_before<W: Write>(
     raw: Raw,
     prep: &StepPrep,
 ) -> Result<(), WriteFault>
-    ensures { Gathers (W.contents out.old) block.old (W.contents out.new) block.new (spell (OfSourceBefore raw prep.now)) result }
+    ensures { Gathers (W.contents out.old) block.old (W.contents out.new) block.new
+        (spell (OfSourceBefore raw prep.now)) result }
 {
     block.make_room(out)?;
     block.raw(raw);
@@ -78,7 +79,8 @@ fn write_row_count<W: Write>(out: &mut W, block: &mut Block, rows: u64) -> Resul
 
 // Writes the rows that an update dropped, oldest first.
 fn write_dropped<W: Write>(out: &mut W, block: &mut Block, rows: &Dropped) -> Result<(), WriteFault>
-    ensures { Gathers (W.contents out.old) block.old (W.contents out.new) block.new (spelled (row_pieces rows.now)) result }
+    ensures { Gathers (W.contents out.old) block.old (W.contents out.new) block.new
+        (spelled (row_pieces rows.now)) result }
 {
     for i in 0..rows.len() {
         write_row(out, block, rows.row(i))?;
@@ -153,7 +155,8 @@ fn write_held<W: Write>(
     held: &SourceBefore,
 ) -> Result<(), WriteFault>
     requires { held.now.number < 2 ^ 16 }
-    ensures { Gathers (W.contents out.old) block.old (W.contents out.new) block.new (spell (OfHeld (held_of held.now))) result }
+    ensures { Gathers (W.contents out.old) block.old (W.contents out.new) block.new
+        (spell (OfHeld (held_of held.now))) result }
 {
     block.make_room(out)?;
     block.two(held.number);
@@ -217,7 +220,8 @@ fn write_resized<W: Write>(
 
 // Writes the rows of an archive before a resize, oldest first.
 fn write_rows<W: Write>(out: &mut W, block: &mut Block, rows: &Archive) -> Result<(), WriteFault>
-    ensures { Gathers (W.contents out.old) block.old (W.contents out.new) block.new (spelled (row_pieces rows.now)) result }
+    ensures { Gathers (W.contents out.old) block.old (W.contents out.new) block.new
+        (spelled (row_pieces rows.now)) result }
 {
     for i in 0..rows.rows() {
         write_row(out, block, rows.row(i))?;

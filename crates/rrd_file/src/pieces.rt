@@ -30,7 +30,8 @@ pub(crate) fn write_row<W: Write>(
     block: &mut Block,
     row: &[Cell],
 ) -> Result<(), WriteFault>
-    ensures { Gathers (W.contents out.old) block.old (W.contents out.new) block.new (spelled (map OfCell row.now)) result }
+    ensures { Gathers (W.contents out.old) block.old (W.contents out.new) block.new
+        (spelled (map OfCell row.now)) result }
 {
     for i in 0..row.len() {
         write_cell(out, block, row[i])?;
@@ -58,7 +59,8 @@ pub(crate) fn write_preps<W: Write>(
     block: &mut Block,
     preps: &[RowPrep],
 ) -> Result<(), WriteFault>
-    ensures { Gathers (W.contents out.old) block.old (W.contents out.new) block.new (spelled (map OfPrep (parts_in preps.now))) result }
+    ensures { Gathers (W.contents out.old) block.old (W.contents out.new) block.new
+        (spelled (map OfPrep (parts_in preps.now))) result }
 {
     for i in 0..preps.len() {
         write_prep(out, block, preps[i])?;
