@@ -1,7 +1,7 @@
 -- Cells in the order of a file, as a database shows them.
 use Rattle.std.proofs.Common.{◌≡◌, ◌∙◌, ◌+◌, ◌-◌, ◌*◌, ◌/◌, ◌<◌, ◌≤◌, ◌^◌, ◌++◌, ℕ, zero, suc, ℤ, List, [], ◌∷◌, Some, sym, ap, subst, arith, length, get_or, map, pos, ◌-ℤ◌, replicate, refl}
 use Rattle.std.specs.Prelude.{slice_get, slice_index_or}
-use Rattle.std.specs.List.{AllByRecursion, flat_map, range_with_len}
+use Rattle.std.specs.List.{flat_map, range_with_len}
 use Rattle.std.specs.Int.{int_div_euclid}
 use Rattle.std.proofs.lemmas.Bool.{lt-ltb}
 use Rattle.std.proofs.lemmas.Grind.{flat_map-append}
@@ -14,7 +14,7 @@ use Rattle.rrd_base.specs.Cells.{resolution, time_of}
 use Rattle.rrd_base.specs.History.{Archive, Content}
 use Rattle.rrd_base.specs.Passed.{row_at, row_of_age}
 use Rattle.rrd_base.specs.Shown.{cell_at}
-use Rattle.rrd_base.specs.Validity.{IsRow, IsValid, IsValidArchive}
+use Rattle.rrd_base.specs.Validity.{IsRow, IsValid}
 use Rattle.rrd_base.proofs.ShownLemmas.{cell_of_archive}
 use Rattle.std.proofs.lemmas.List.FromFn.{get_or-range_with_len, length-range_with_len}
 use Rattle.rrd_base.specs.Slots.{place_in, row_in}

@@ -1,4 +1,4 @@
-use Rattle.std.proofs.Common.{sym, subst, map, refl}
+use Rattle.std.proofs.Common.{sym, subst, map}
 use Rattle.rrd_file.specs.Layout.{spelled}
 use Rattle.rrd_file.specs.Pieces.{OfPrep}
 use Rattle.rrd_file.proofs.Joined.{joined_head}

@@ -1,4 +1,4 @@
-use Rattle.std.proofs.Common.{◌≡◌, ◌∙◌, ◌++◌, [], ◌∷◌, ap}
+use Rattle.std.proofs.Common.{◌≡◌, ◌∙◌, ◌++◌, [], ◌∷◌}
 use Rattle.rrd_base.specs.Filed.{One, header_of}
 use Rattle.rrd_file.specs.Pieces.{Mark, OfVersion, OfHeader, header_bytes, spell}
 use Rattle.rrd_file.specs.Layout.{spelled}

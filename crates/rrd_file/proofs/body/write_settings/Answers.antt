@@ -1,4 +1,4 @@
-use Rattle.std.proofs.Common.{◌≡◌, ◌∙◌, ◌++◌, Some, ap, arith}
+use Rattle.std.proofs.Common.{◌≡◌, ◌∙◌, ◌++◌, ap, arith}
 use Rattle.rrd_base.specs.declared.definition.RraDef.{RraDef}
 use Rattle.rrd_base.specs.History.{Archive}
 use Rattle.rrd_file.specs.Pieces.{OfArchive, spell}

@@ -1,4 +1,4 @@
-use Rattle.std.proofs.Common.{◌≡◌, ◌∙◌, ◌++◌, sym, subst, ap, length}
+use Rattle.std.proofs.Common.{◌∙◌, ◌++◌, sym, subst, ap, length}
 use Rattle.rrd_file.specs.Layout.{row_pieces, spelled}
 use Rattle.rrd_file.specs.Pieces.{OfRows, spell}
 use Rattle.rrd_file.proofs.Joined.{joined_dropped}
