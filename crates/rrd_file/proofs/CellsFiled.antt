@@ -1,0 +1,114 @@
+-- Cells in the order of a file, as a database shows them.
+use Rattle.std.proofs.Common.{◌≡◌, ◌∙◌, ◌+◌, ◌-◌, ◌*◌, ◌/◌, ◌<◌, ◌≤◌, ◌^◌, ◌++◌, ℕ, zero, suc, ℤ, List, [], ◌∷◌, Some, sym, ap, subst, arith, length, get_or, map, pos, ◌-ℤ◌, replicate, refl}
+use Rattle.std.specs.Prelude.{slice_get, slice_index_or}
+use Rattle.std.specs.List.{flat_map, range_with_len}
+use Rattle.std.specs.Int.{int_div_euclid}
+use Rattle.std.proofs.lemmas.Bool.{lt-ltb}
+use Rattle.std.proofs.lemmas.Grind.{flat_map-append}
+use Rattle.std.proofs.lemmas.List.Concat.{flat_map-cons}
+use Rattle.std.proofs.lemmas.Nat.{mul-le}
+use Rattle.std.proofs.lemmas.Option.{get_or_from_slice_get, slice_get_within, slice_get-get_or}
+use Rattle.rrd_fixed.specs.declared.cell.Cell.{Cell}
+use Rattle.rrd_base.specs.declared.definition.RraDef.{RraDef}
+use Rattle.rrd_base.specs.Cells.{resolution, time_of}
+use Rattle.rrd_base.specs.History.{Archive, Content}
+use Rattle.rrd_base.specs.Passed.{row_at, row_of_age}
+use Rattle.rrd_base.specs.Shown.{cell_at}
+use Rattle.rrd_base.specs.Validity.{IsRow, IsValid}
+use Rattle.rrd_base.proofs.ShownLemmas.{cell_of_archive}
+use Rattle.std.proofs.lemmas.List.FromFn.{get_or-range_with_len, length-range_with_len}
+use Rattle.rrd_base.specs.Slots.{place_in, row_in}
+use Rattle.rrd_file.proofs.Told.{all_of, archive_at, some_is}
+use Rattle.rrd_file.proofs.Slotted.{age_is, is_place, row_in_is}
+use Rattle.rrd_file.specs.Layout.{spelled}
+use Rattle.rrd_file.specs.Pieces.{OfCell, spell}
+
+product : (a b : ℕ) → 0 < a → 0 < b → 0 < a * b
+product a b p q = omega (arith, mul-le 1 1 a b (omega (arith, p)) (omega (arith, q)))
+
+pub some_size : (d : Content) (n : ℕ) (a : Archive) → IsValid d → slice_get d.archives n ≡ Some a → 0 < resolution d.step a.def
+some_size d n a v e = product d.step a.def.steps v.some_step (archive_at d n a v e).some_steps
+
+pub small_size : (d : Content) (n : ℕ) (a : Archive) → IsValid d → slice_get d.archives n ≡ Some a → resolution d.step a.def ≤ 10 ^ 12
+small_size d n a v e = omega (arith, mul-le d.step a.def.steps 1000000 1000000 v.small_step (archive_at d n a v e).few_steps)
+
+-- the row at the time of a place
+row_at_place : (d : Content) (a : Archive) (place : ℕ) (time : ℤ) → 0 < resolution d.step a.def → place < length a.rows → time ≡ time_of (resolution d.step a.def) (length a.rows) d.last place → row_at d a time ≡ get_or a.rows place []
+row_at_place d a place time some inside is =
+    let size = resolution d.step a.def in
+    let unknown = replicate (length d.sources) Cell.Unknown in
+    let age : pos (d.last / size) -ℤ int_div_euclid time (pos size) ≡ pos (length a.rows - 1 - place) =
+    ap (λ t. pos (d.last / size) -ℤ int_div_euclid t (pos size)) is ∙ age_is size (length a.rows) d.last place some inside in
+    let back : length a.rows - 1 - (length a.rows - 1 - place) ≡ place = omega (arith, inside) in
+    ap (row_of_age a.rows unknown) age
+    ∙ rw (lt-ltb (length a.rows - 1 - place) (length a.rows) (omega (arith, inside))) (ap (λ k. slice_index_or a.rows k unknown) back
+    ∙ get_or_from_slice_get a.rows place (get_or a.rows place []) unknown (slice_get-get_or a.rows place [] inside))
+
+pub row_width : (d : Content) (n : ℕ) (a : Archive) (place : ℕ) → IsValid d → slice_get d.archives n ≡ Some a → place < length a.rows → length (get_or a.rows place []) ≡ length d.sources
+row_width d n a place v e inside =
+    (all_of (IsRow (length d.sources)) a.rows place (get_or a.rows place []) (archive_at d n a v e).each_row (slice_get-get_or a.rows place [] inside)).one_each
+
+-- the cell of a source in the row of a place
+pub cell_is : (d : Content) (n : ℕ) (a : Archive) (place source : ℕ) (time : ℤ) → IsValid d → slice_get d.archives n ≡ Some a → place < length a.rows → source < length d.sources → time ≡ time_of (resolution d.step a.def) (length a.rows) d.last place
+    → slice_get (slice_index_or a.rows place []) source ≡ Some (cell_at d n time source)
+cell_is d n a place source time v e inside within is =
+    let row = get_or a.rows place [] in
+    let wide : source < length row = omega (arith, within, row_width d n a place v e inside) in
+    let there : n < length d.archives = slice_get_within d.archives n a e in
+    let mine : get_or d.archives n a ≡ a = get_or_from_slice_get d.archives n a a e in
+    let shown : get_or row source Cell.Unknown ≡ cell_at d n time source =
+    ap (λ r. get_or r source Cell.Unknown) (sym (row_at_place d a place time (some_size d n a v e) inside is))
+    ∙ (ap (λ (x : Archive). get_or (row_at d x time) source Cell.Unknown) (sym mine) ∙ cell_of_archive d d.archives n a time source there) in
+    slice_get-get_or row source Cell.Unknown wide ∙ ap (λ c. Some c) shown
+
+-- ---- cells, list by list
+
+map_append : (xs ys : List Cell) → map OfCell (xs ++ ys) ≡ map OfCell xs ++ map OfCell ys
+map_append [] ys = refl
+map_append (x ∷ xs) ys = ap (λ l. OfCell x ∷ l) (map_append xs ys)
+
+pub cells_spelled : {A : Type 0} (f : A → List Cell) (xs : List A) → spelled (map OfCell (flat_map f xs)) ≡ flat_map (λ x. spelled (map OfCell (f x))) xs
+cells_spelled f [] = refl
+cells_spelled f (x ∷ xs) =
+    ap (λ l. spelled (map OfCell l)) (flat_map-cons f x xs) ∙ (ap spelled (map_append (f x) (flat_map f xs)) ∙ (flat_map-append spell (map OfCell (f x)) (map OfCell (flat_map f xs))
+    ∙ (ap (λ l. spelled (map OfCell (f x)) ++ l) (cells_spelled f xs) ∙ sym (flat_map-cons (λ y. spelled (map OfCell (f y))) x xs))))
+
+-- the archive whose settings these are
+pub record IsDefOf (d : Content) (n : ℕ) (def : RraDef) : Type 0 where
+  pub archive : Archive
+  pub there : slice_get d.archives n ≡ Some archive
+  pub def_is : archive.def ≡ def
+
+found_def : (archives : List Archive) (n : ℕ) (def : RraDef) → Some def ≡ slice_get (map (λ (archive : Archive). archive.def) archives) n → (a : Archive) × (slice_get archives n ≡ Some a) × (a.def ≡ def)
+found_def [] n def e = absurd cc
+found_def (a ∷ archives) zero def e = (a, refl, let same : def ≡ a.def = cc in sym same)
+found_def (a ∷ archives) (suc n) def e = found_def archives n def e
+
+pub def_of : (d : Content) (n : ℕ) (def : RraDef) → Some def ≡ slice_get (map (λ (archive : Archive). archive.def) d.archives) n → IsDefOf d n def
+def_of d n def e = let f = found_def d.archives n def e in record { archive = f.0; there = f.1; def_is = f.2 }
+
+pub same_def : (d : Content) (n : ℕ) (def : RraDef) (a : Archive) → IsDefOf d n def → slice_get d.archives n ≡ Some a → a.def ≡ def
+same_def d n def a f e = let same : a ≡ f.archive = some_is a f.archive (sym e ∙ f.there) in ap (λ (x : Archive). x.def) same ∙ f.def_is
+
+-- the settings are small
+pub record IsSmallDef (step : ℕ) (def : RraDef) : Type 0 where
+  pub some_size : 0 < step * def.steps
+  pub small_size : step * def.steps ≤ 10 ^ 12
+  pub few_rows : def.rows ≤ 1000000
+
+pub small_def : (d : Content) (n : ℕ) (def : RraDef) → IsValid d → IsDefOf d n def → IsSmallDef d.step def
+small_def d n def v f = subst (IsSmallDef d.step) f.def_is (record { some_size = some_size d n f.archive v f.there; small_size = small_size d n f.archive v f.there; few_rows = (archive_at d n f.archive v f.there).few_rows })
+
+pub rows_are : (d : Content) (n : ℕ) (def : RraDef) (a : Archive) → IsValid d → IsDefOf d n def → slice_get d.archives n ≡ Some a → length a.rows ≡ def.rows
+rows_are d n def a v f e = (archive_at d n a v e).rows_are ∙ ap (λ (x : RraDef). x.rows) (same_def d n def a f e)
+
+pub number_there : (n i : ℕ) → i < n → slice_get (range_with_len 0 n) i ≡ Some i
+number_there n i h = slice_get-get_or (range_with_len 0 n) i 0 (omega (arith, length-range_with_len 0 n, h)) ∙ ap (λ k. Some k) (get_or-range_with_len 0 n i 0 h ∙ omega arith)
+
+-- the row in a slot, by the time that it has
+pub slot_row : (d : Content) (n : ℕ) (a : Archive) (slot : ℕ) → IsValid d → slice_get d.archives n ≡ Some a → slot < length a.rows
+    → row_in (resolution d.step a.def) d.last a.rows slot ≡ slice_index_or a.rows (place_in (resolution d.step a.def) d.last (length a.rows) slot) []
+slot_row d n a slot v e h = row_in_is (resolution d.step a.def) d.last slot a.rows (some_size d n a v e) h
+
+pub slot_place : (d : Content) (a : Archive) (slot : ℕ) → slot < length a.rows → place_in (resolution d.step a.def) d.last (length a.rows) slot < length a.rows
+slot_place d a slot h = (is_place (d.last / resolution d.step a.def + 1) (length a.rows) slot h).inside

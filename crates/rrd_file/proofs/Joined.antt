@@ -1,0 +1,51 @@
+-- Runs of bytes and of pieces, one behind another.
+use Rattle.std.proofs.Common.{◌≡◌, ◌∙◌, ◌++◌, ◌∷◌, [], List, ℕ, sym, ap, append_assoc, append-nil, map, refl, length}
+use Rattle.std.specs.List.{flat_map}
+use Rattle.std.proofs.lemmas.Grind.{flat_map-append}
+use Rattle.rrd_base.specs.Entries.{Dropped}
+use Rattle.rrd_base.specs.Filed.{Filed, One, filed, head_of, header_of}
+use Rattle.rrd_base.specs.History.{Archive}
+use Rattle.rrd_base.specs.Survivors.{Kept}
+use Rattle.rrd_file.specs.Layout.{body_pieces, dropped_pieces, entry_pieces, head_pieces, layout, row_pieces, spelled}
+use Rattle.rrd_file.specs.Pieces.{Piece, Mark, OfVersion, OfHeader, OfSource, OfArchive, OfPrep, OfRows, OfCell, spell}
+
+-- ---- bytes added in turn
+
+pub two_parts : (a b old x y : List ℕ) → x ≡ old ++ a → y ≡ x ++ b → y ≡ old ++ (a ++ b)
+two_parts a b old x y p q = q ∙ (ap (λ l. l ++ b) p ∙ append_assoc old a b)
+
+pub three_parts : (a b c old x y z : List ℕ) → x ≡ old ++ a → y ≡ x ++ b → z ≡ y ++ c → z ≡ old ++ (a ++ (b ++ c))
+three_parts a b c old x y z p q r = two_parts a (b ++ c) old x z p (two_parts b c x y z q r)
+
+pub four_parts : (a b c d old w x y z : List ℕ) → w ≡ old ++ a → x ≡ w ++ b → y ≡ x ++ c → z ≡ y ++ d → z ≡ old ++ (a ++ (b ++ (c ++ d)))
+four_parts a b c d old w x y z o p q r = two_parts a (b ++ (c ++ d)) old w z o (three_parts b c d w x y z p q r)
+
+pub five_parts : (a b c d e old v w x y z : List ℕ) → v ≡ old ++ a → w ≡ v ++ b → x ≡ w ++ c → y ≡ x ++ d → z ≡ y ++ e → z ≡ old ++ (a ++ (b ++ (c ++ (d ++ e))))
+five_parts a b c d e old v w x y z n o p q r = two_parts a (b ++ (c ++ (d ++ e))) old v z n (four_parts b c d e v w x y z o p q r)
+
+pub six_parts : (a b c d e f old u v w x y z : List ℕ) → u ≡ old ++ a → v ≡ u ++ b → w ≡ v ++ c → x ≡ w ++ d → y ≡ x ++ e → z ≡ y ++ f → z ≡ old ++ (a ++ (b ++ (c ++ (d ++ (e ++ f)))))
+six_parts a b c d e f old u v w x y z m n o p q r = two_parts a (b ++ (c ++ (d ++ (e ++ f)))) old u z m (five_parts b c d e f u v w x y z n o p q r)
+
+-- the mark, the version, and what follows
+pub head_parts : (m v h old a b c : List ℕ) → a ≡ old ++ m → b ≡ a ++ v → c ≡ b ++ h → c ≡ old ++ (m ++ (v ++ (h ++ [])))
+head_parts m v h old a b c p q r = three_parts m v h old a b c p q r ∙ ap (λ l. old ++ (m ++ (v ++ l))) (sym (append-nil h))
+
+-- ---- runs of pieces
+
+pub joined_two : (xs ys : List Piece) → spelled (xs ++ ys) ≡ spelled xs ++ spelled ys
+joined_two xs ys = flat_map-append spell xs ys
+
+pub joined_three : (xs ys zs : List Piece) → spelled (xs ++ (ys ++ zs)) ≡ spelled xs ++ (spelled ys ++ spelled zs)
+joined_three xs ys zs = joined_two xs (ys ++ zs) ∙ ap (λ l. spelled xs ++ l) (joined_two ys zs)
+
+pub joined_head : (a : Archive) → spelled (head_pieces (head_of a)) ≡ spell (OfArchive a.def) ++ spelled (map OfPrep a.parts)
+joined_head a = refl
+
+pub joined_dropped : (old : Dropped) → spelled (dropped_pieces old) ≡ spelled (map OfPrep old.parts) ++ (spell (OfRows (length old.rows)) ++ spelled (row_pieces old.rows))
+joined_dropped old = flat_map-append spell (map OfPrep old.parts) (OfRows (length old.rows) ∷ row_pieces old.rows)
+
+pub joined_body : (f : Filed) → spelled (body_pieces f) ≡ spelled (map OfSource f.sources) ++ (spelled (flat_map head_pieces f.heads) ++ spelled (map OfCell f.cells))
+joined_body f = ap spelled (append_assoc (map OfSource f.sources) (flat_map head_pieces f.heads) (map OfCell f.cells)) ∙ joined_three (map OfSource f.sources) (flat_map head_pieces f.heads) (map OfCell f.cells)
+
+pub joined_whole : (d : Kept) → layout d ≡ spelled (Mark ∷ OfVersion One ∷ OfHeader (header_of One d) ∷ []) ++ (spelled (body_pieces (filed One d)) ++ spelled (flat_map entry_pieces d.journal))
+joined_whole d = joined_three (Mark ∷ OfVersion One ∷ OfHeader (header_of One d) ∷ []) (body_pieces (filed One d)) (flat_map entry_pieces d.journal)

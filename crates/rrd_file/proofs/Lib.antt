@@ -1,0 +1,6 @@
+pub mod Joined
+pub mod Gathering
+pub mod Told
+pub mod Entering
+pub mod Slotted
+pub mod CellsFiled

@@ -1,0 +1,20 @@
+use Rattle.std.proofs.Common.{◌++◌}
+use Rattle.rrd_base.specs.Tuned.{held_of}
+use Rattle.rrd_file.specs.Spelling.{raw_bytes, source_bytes, two_bytes}
+use Rattle.rrd_file.proofs.Joined.{two_parts}
+use Rattle.rrd_file.specs.Pieces.{OfHeld, spell}
+use Rattle.std.proofs.lemmas.Result.{err_from_is_err_and}
+use Rattle.rrd_file.proofs.Gathering.{no_room, piece_added}
+use Rattle.rrd_file.proofs.entries.write_held.Goals as goal
+
+pub returns-in_err-make_room : goal.returns-in_err-make_room
+returns-in_err-make_room g c =
+    let p = err_from_is_err_and c.from_residual.result c.from_residual.ensures.1 in
+    rw p.1 (no_room (spell (OfHeld (held_of c.args.held.now))) c.in_err-make_room.ensures.added)
+
+pub returns : goal.returns
+unfolding spell
+returns g c =
+    let held = c.args.held.now in
+    piece_added (spell (OfHeld (held_of c.args.held.now))) c.in_ok-make_room.ensures.added
+    (two_parts (two_bytes held.number ++ source_bytes held.source) (raw_bytes held.raw) _ _ _ (two_parts (two_bytes held.number) (source_bytes held.source) _ _ _ c.two.ensures c.source.ensures.bytes) c.raw.ensures.bytes)

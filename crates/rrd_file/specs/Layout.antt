@@ -1,0 +1,58 @@
+-- The layout of a database with its journal: its pieces, one after another.
+use Rattle.std.specs.Prelude.{ℕ, List, [], ◌∷◌, ◌++◌, length, map}
+use Rattle.std.specs.List.{flat_map}
+use Rattle.rrd_fixed.specs.declared.cell.Cell.{Cell}
+use Rattle.rrd_fixed.specs.declared.raw.Raw.{Raw}
+use Rattle.rrd_fold.specs.Parts.{Part}
+use Rattle.rrd_base.specs.Entries.{Dropped, Entry, Updated, WasTuned, WasResized}
+use Rattle.rrd_base.specs.Filed.{Filed, Head, Version, One, filed}
+use Rattle.rrd_base.specs.Survivors.{Kept}
+use Rattle.rrd_file.specs.Pieces.{Piece, Mark, OfVersion, OfHeader, OfSource, OfArchive, OfPrep, OfCell, OfTag, OfTime, OfSourceBefore, OfRows, OfCount, OfHeld, OfNumber, AnUpdate, ATune, AResize, spell}
+
+-- ---- the body
+
+-- an archive's head: its settings, and a preparation for each source
+abbrev pub head_pieces : Head → List Piece
+head_pieces head = OfArchive head.def ∷ map OfPrep head.parts
+
+-- all heads come before the first cell
+abbrev pub body_pieces : Filed → List Piece
+body_pieces f = map OfSource f.sources ++ flat_map head_pieces f.heads ++ map OfCell f.cells
+
+-- ---- entries
+
+-- rows, oldest first, source by source
+abbrev pub row_pieces : List (List Cell) → List Piece
+row_pieces rows = flat_map (λ (row : List Cell). map OfCell row) rows
+
+abbrev pub sources_before : List Raw → List Part → List Piece
+sources_before (raw ∷ raws) (part ∷ parts) = OfSourceBefore raw part ∷ sources_before raws parts
+sources_before _ _ = []
+
+-- what an update replaced of an archive: preparations, the number of rows, and those rows
+abbrev pub dropped_pieces : Dropped → List Piece
+dropped_pieces old = map OfPrep old.parts ++ OfRows (length old.rows) ∷ row_pieces old.rows
+
+abbrev pub entry_pieces : Entry → List Piece
+entry_pieces (Updated old) =
+    OfTag AnUpdate ∷ OfTime old.last ∷ sources_before old.raws old.parts ++ flat_map dropped_pieces old.archives
+entry_pieces (WasTuned olds) = OfTag ATune ∷ OfCount (length olds) ∷ map OfHeld olds
+entry_pieces (WasResized archive rows) = OfTag AResize ∷ OfNumber archive ∷ OfRows (length rows) ∷ row_pieces rows
+
+-- ---- the whole
+
+-- the bytes of pieces
+abbrev pub spelled : List Piece → List ℕ
+spelled pieces = flat_map spell pieces
+
+abbrev pub pieces_filed : Filed → List Piece
+pieces_filed f =
+    Mark ∷ OfVersion f.header.version ∷ OfHeader f.header ∷ body_pieces f ++ flat_map entry_pieces f.entries
+
+-- the layout in a version
+abbrev pub layout_in : Version → Kept → List ℕ
+layout_in version d = spelled (pieces_filed (filed version d))
+
+-- the layout that is written
+abbrev pub layout : Kept → List ℕ
+layout d = layout_in One d
