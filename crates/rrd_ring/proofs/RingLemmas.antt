@@ -73,14 +73,14 @@ pub from_place-rows : (rows w place more : ℕ) (xs : List Cell) → length xs �
 from_place-rows rows w place more xs e h k =
     let sum = add-mul place more w in
     ⊎_elim (λ (below : place + more < rows).
-      rw (mod-eq_of_lt below)
-      (from_place-further xs (place * w) (more * w) ((place + more) * w) (sym sum) (omega (arith, cells_le (place + more) rows w (omega arith)))))
+    rw (mod-eq_of_lt below)
+    (from_place-further xs (place * w) (more * w) ((place + more) * w) (sym sum) (omega (arith, cells_le (place + more) rows w (omega arith)))))
     (λ (past : rows ≤ place + more).
-      let left = place + more - rows in
-      let all : place + more ≡ left + rows = omega arith in
-      let again = ap (λ (n : ℕ). n * w) all ∙ add-mul left rows w in
-      rw (mod_wrapped (place + more) rows past (omega arith))
-      (from_place-around xs (place * w) (more * w) (left * w) (omega (arith, sum, again)) (cells_le left place w (omega arith)) (omega (arith, cells_le place rows w (omega arith)))))
+    let left = place + more - rows in
+    let all : place + more ≡ left + rows = omega arith in
+    let again = ap (λ (n : ℕ). n * w) all ∙ add-mul left rows w in
+    rw (mod_wrapped (place + more) rows past (omega arith))
+    (from_place-around xs (place * w) (more * w) (left * w) (omega (arith, sum, again)) (cells_le left place w (omega arith)) (omega (arith, cells_le place rows w (omega arith)))))
     (cases_lt (place + more) rows)
 
 pub length-from_place : (start : ℕ) (xs : List Cell) → start ≤ length xs → length (from_place start xs) ≡ length xs
@@ -112,7 +112,7 @@ pub HasWidth-rows_of : (rows w : ℕ) (xs : List Cell) → length xs ≡ rows * 
 HasWidth-rows_of rows w xs e =
     HasWidth_by w (rows_of rows w xs)
     (λ i h. let k : i < rows = omega (arith, length-rows_of rows w xs) in
-     ap length (row_at-rows_of rows w xs i k) ∙ length-row_of w xs i (omega (arith, row_fits i w rows w k (omega arith))))
+    ap length (row_at-rows_of rows w xs i k) ∙ length-row_of w xs i (omega (arith, row_fits i w rows w k (omega arith))))
 
 from_later : (m k w : ℕ) (xs ys : List Cell) → length xs ≡ m * w → m ≤ k → drop (k * w) (xs ++ ys) ≡ drop ((k - m) * w) ys
 from_later m k w xs ys e h =
@@ -130,14 +130,14 @@ rows_of-append m n w xs ys e =
     let lb = length-rows_of n w ys in
     sym (fill_by_all (λ i. row_of w (xs ++ ys) i) (front ++ back) (m + n) [] (omega (arith, length-append front back, lf, lb))
     (λ k h. ⊎_elim (λ (below : k < m).
-      let fits : k * w + w ≤ m * w = row_fits k w m w below (omega arith) in
-      get_or_append_left front back [] k (omega (arith, lf))
-      ∙ row_at-rows_of m w xs k below
-      ∙ sym (ap (take w) (drop-append-le (k * w) xs ys (omega arith)) ∙ take-append-le w (drop (k * w) xs) ys (omega (arith, length-drop (k * w) xs))))
+    let fits : k * w + w ≤ m * w = row_fits k w m w below (omega arith) in
+    get_or_append_left front back [] k (omega (arith, lf))
+    ∙ row_at-rows_of m w xs k below
+    ∙ sym (ap (take w) (drop-append-le (k * w) xs ys (omega arith)) ∙ take-append-le w (drop (k * w) xs) ys (omega (arith, length-drop (k * w) xs))))
     (λ (past : m ≤ k).
-      get_or-append_right front back m k [] lf past
-      ∙ row_at-rows_of n w ys (k - m) (omega arith)
-      ∙ ap (take w) (sym (from_later m k w xs ys e past)))
+    get_or-append_right front back m k [] lf past
+    ∙ row_at-rows_of n w ys (k - m) (omega arith)
+    ∙ ap (take w) (sym (from_later m k w xs ys e past)))
     (cases_lt k m)))
 
 split_rows : (k n w : ℕ) (xs : List Cell) → k ≤ n → length xs ≡ n * w → rows_of n w xs ≡ rows_of k w (take (k * w) xs) ++ rows_of (n - k) w (drop (k * w) xs)
@@ -167,7 +167,7 @@ rows_of_unknown rows w =
     let all = replicate (rows * w) Unknown in
     sym (fill_by_all (λ i. row_of w all i) (unknown_rows rows w) rows [] (length-replicate rows (replicate w Unknown))
     (λ k h. get_or-replicate rows k (replicate w Unknown) [] h
-      ∙ sym (ap (take w) (drop-replicate (k * w) (rows * w) Unknown) ∙ take-replicate w (rows * w - k * w) Unknown (omega (arith, row_fits k w rows w h (omega arith))))))
+    ∙ sym (ap (take w) (drop-replicate (k * w) (rows * w) Unknown) ∙ take-replicate w (rows * w - k * w) Unknown (omega (arith, row_fits k w rows w h (omega arith))))))
 
 -- ---- the rows of a ring
 
@@ -181,12 +181,12 @@ ring_rows-from_place rows w place xs h e =
     let lt : length turned ≡ rows * w = length-from_place (place * w) xs (omega (arith, cells_le place rows w (omega arith))) ∙ e in
     fill_by_all (λ i. row_of w turned i) (ring_rows rows w place xs) rows [] (length-ring_rows rows w place xs)
     (λ k below.
-      let at = (place + k) % rows in
-      let at_below : at < rows = mod_below (place + k) rows (omega arith) in
-      row_at-ring_rows rows w place xs k below
-      ∙ sym (row_first w xs at (omega (arith, row_fits at w rows w at_below (omega arith))))
-      ∙ ap (take w) (sym (from_place-rows rows w place k xs e h (omega arith)))
-      ∙ row_first w turned k (omega (arith, row_fits k w rows w below (omega arith))))
+    let at = (place + k) % rows in
+    let at_below : at < rows = mod_below (place + k) rows (omega arith) in
+    row_at-ring_rows rows w place xs k below
+    ∙ sym (row_first w xs at (omega (arith, row_fits at w rows w at_below (omega arith))))
+    ∙ ap (take w) (sym (from_place-rows rows w place k xs e h (omega arith)))
+    ∙ row_first w turned k (omega (arith, row_fits k w rows w below (omega arith))))
 
 -- what is known of a ring's cells
 pub length-turned : (rows w place : ℕ) (xs : List Cell) → IsRing rows w place xs → length (from_place (place * w) xs) ≡ rows * w
@@ -250,10 +250,10 @@ ring_push rows w place xs row is e =
     let all_rows : rows ≡ rows - 1 + 1 = omega arith in
     let others : rest ++ front ≡ drop (1 * w) turned = sym (ap (λ (n : ℕ). drop n turned) one ∙ drop-append-le w (drop (place * w) xs) front (omega (arith, length-drop (place * w) xs))) in
     let same : from_place (next * w) ys ≡ drop (1 * w) turned ++ row =
-      sym (from_place-rows rows w place 1 ys long within (omega arith))
-      ∙ ap (from_place (1 * w)) (from_place_at front (row ++ rest) (place * w) lf ∙ append_assoc row rest front)
-      ∙ from_place_at row (rest ++ front) (1 * w) (e ∙ sym one)
-      ∙ ap (λ (zs : List Cell). zs ++ row) others in
+    sym (from_place-rows rows w place 1 ys long within (omega arith))
+    ∙ ap (from_place (1 * w)) (from_place_at front (row ++ rest) (place * w) lf ∙ append_assoc row rest front)
+    ∙ from_place_at row (rest ++ front) (1 * w) (e ∙ sym one)
+    ∙ ap (λ (zs : List Cell). zs ++ row) others in
     let lt = length-turned rows w place xs is in
     let count : rows * w ≡ (rows - 1) * w + 1 * w = ap (λ (n : ℕ). n * w) all_rows ∙ add-mul (rows - 1) 1 w in
     ring_rows-from_place rows w next ys (mod_below (place + 1) rows some) long
@@ -301,7 +301,7 @@ ring_put_back n rows w place xs new ds h is l ld e =
     let count : rows * w ≡ n * w + kept * w = ap (λ (k : ℕ). k * w) all_rows ∙ add-mul n kept w in
     let ending : length (drop (kept * w) turned) ≡ length ds = omega (arith, length-drop (kept * w) turned) in
     let others : drop (length ds) (from_place (back * w) xs) ≡ take (kept * w) turned =
-      ap (drop (length ds)) (sym (from_place-rows rows w place kept xs is.whole is.place_within (omega arith))) ∙ drop_at (drop (kept * w) turned) (take (kept * w) turned) (length ds) ending in
+    ap (drop (length ds)) (sym (from_place-rows rows w place kept xs is.whole is.place_within (omega arith))) ∙ drop_at (drop (kept * w) turned) (take (kept * w) turned) (length ds) ending in
     ring_rows-from_place rows w back new (mod_below (place + kept) rows some) (l ∙ is.whole)
     ∙ ap (rows_of rows w) (e ∙ ap (λ (zs : List Cell). ds ++ zs) others)
     ∙ ap (λ (k : ℕ). rows_of k w (ds ++ take (kept * w) turned)) all_rows
@@ -326,21 +326,20 @@ ring_newest kept rows w place xs h is =
 
 -- ---- two pieces of a vector
 
-
 -- the cells before the end, and those that are left from the front
 pub copied_from : (xs : List Cell) (s f g : ℕ) → s ≤ length xs → f ≤ length xs - s → g ≤ s → (g ≡ 0) ⊎ (length xs - s ≤ f) → take f (drop s xs) ++ take g xs ≡ take (f + g) (from_place s xs)
 copied_from xs s f g hs hf hg which =
     let lb = length-drop s xs in
     ⊎_elim (λ (none : g ≡ 0).
-      let all : f + g ≡ f = omega arith in
-      ap (λ (k : ℕ). take f (drop s xs) ++ take k xs) none
-      ∙ append-nil (take f (drop s xs))
-      ∙ sym (ap (λ (k : ℕ). take k (from_place s xs)) all ∙ take-append-le f (drop s xs) (take s xs) (omega arith)))
+    let all : f + g ≡ f = omega arith in
+    ap (λ (k : ℕ). take f (drop s xs) ++ take k xs) none
+    ∙ append-nil (take f (drop s xs))
+    ∙ sym (ap (λ (k : ℕ). take k (from_place s xs)) all ∙ take-append-le f (drop s xs) (take s xs) (omega arith)))
     (λ (full : length xs - s ≤ f).
-      let end : f + g ≡ length (drop s xs) + g = omega arith in
-      ap (λ (zs : List Cell). zs ++ take g xs) (take_all f (drop s xs) (omega arith))
-      ∙ ap (λ (zs : List Cell). drop s xs ++ zs) (sym (take-take g s xs hg))
-      ∙ sym (ap (λ (k : ℕ). take k (from_place s xs)) end ∙ take-append-add (drop s xs) (take s xs) g))
+    let end : f + g ≡ length (drop s xs) + g = omega arith in
+    ap (λ (zs : List Cell). zs ++ take g xs) (take_all f (drop s xs) (omega arith))
+    ∙ ap (λ (zs : List Cell). drop s xs ++ zs) (sym (take-take g s xs hg))
+    ∙ sym (ap (λ (k : ℕ). take k (from_place s xs)) end ∙ take-append-add (drop s xs) (take s xs) g))
     which
 
 pub written_from : (xs ds : List Cell) (s f g : ℕ) → s ≤ length xs → f + g ≡ length ds → f ≤ length xs - s → g ≤ s → (g ≡ 0) ⊎ (length xs - s ≤ f)
@@ -357,18 +356,18 @@ written_from xs ds s f g hs sum hf hg which =
     ∙ ap (from_place s) (sym (append_assoc (drop f ds) (drop g front) first))
     ∙ from_place_at second first s ls
     ∙ ⊎_elim (λ (none : g ≡ 0).
-      let all : length ds ≡ f = omega arith in
-      ap (λ (zs : List Cell). (zs ++ drop f back) ++ second) (take_all f ds (omega arith))
-      ∙ ap (λ (zs : List Cell). (ds ++ drop f back) ++ (zs ++ drop g front)) (drop_all f ds (omega arith))
-      ∙ ap (λ (k : ℕ). (ds ++ drop f back) ++ drop k front) none
-      ∙ append_assoc ds (drop f back) front
-      ∙ ap (λ (zs : List Cell). ds ++ zs) (sym (ap (λ (k : ℕ). drop k (back ++ front)) all ∙ drop-append-le f back front (omega arith))))
+    let all : length ds ≡ f = omega arith in
+    ap (λ (zs : List Cell). (zs ++ drop f back) ++ second) (take_all f ds (omega arith))
+    ∙ ap (λ (zs : List Cell). (ds ++ drop f back) ++ (zs ++ drop g front)) (drop_all f ds (omega arith))
+    ∙ ap (λ (k : ℕ). (ds ++ drop f back) ++ drop k front) none
+    ∙ append_assoc ds (drop f back) front
+    ∙ ap (λ (zs : List Cell). ds ++ zs) (sym (ap (λ (k : ℕ). drop k (back ++ front)) all ∙ drop-append-le f back front (omega arith))))
     (λ (full : length xs - s ≤ f).
-      ap (λ (zs : List Cell). (take f ds ++ zs) ++ second) (drop_all f back (omega arith))
-      ∙ ap (λ (zs : List Cell). zs ++ second) (append-nil (take f ds))
-      ∙ sym (append_assoc (take f ds) (drop f ds) (drop g front))
-      ∙ ap (λ (zs : List Cell). zs ++ drop g front) (take-append-drop f ds)
-      ∙ ap (λ (zs : List Cell). ds ++ zs) (sym (ap (λ (k : ℕ). drop k (back ++ front)) (sym sum) ∙ sym (drop-drop g f (back ++ front)) ∙ ap (drop g) (drop_at back front f (omega arith)))))
+    ap (λ (zs : List Cell). (take f ds ++ zs) ++ second) (drop_all f back (omega arith))
+    ∙ ap (λ (zs : List Cell). zs ++ second) (append-nil (take f ds))
+    ∙ sym (append_assoc (take f ds) (drop f ds) (drop g front))
+    ∙ ap (λ (zs : List Cell). zs ++ drop g front) (take-append-drop f ds)
+    ∙ ap (λ (zs : List Cell). ds ++ zs) (sym (ap (λ (k : ℕ). drop k (back ++ front)) (sym sum) ∙ sym (drop-drop g f (back ++ front)) ∙ ap (drop g) (drop_at back front f (omega arith)))))
     which
 
 -- ---- rows that are made
@@ -468,14 +467,14 @@ row_of-others w k j xs row fits e other =
     let was : length (front ++ mid) ≡ (k + 1) * w = omega (arith, length-append front mid) in
     let whole : front ++ (mid ++ rest) ≡ xs = sym (three_parts xs (k * w) w) in
     ⊎_elim (λ (less : j < k).
-      let within : j * w + w ≤ length front = omega (arith, row_fits j w k w less (omega arith)) in
-      row_before w j front (row ++ rest) within ∙ sym (row_before w j front (mid ++ rest) within) ∙ ap (λ (zs : List Cell). row_of w zs j) whole)
+    let within : j * w + w ≤ length front = omega (arith, row_fits j w k w less (omega arith)) in
+    row_before w j front (row ++ rest) within ∙ sym (row_before w j front (mid ++ rest) within) ∙ ap (λ (zs : List Cell). row_of w zs j) whole)
     (λ (least : k ≤ j).
-      let past : k + 1 ≤ j = ⊎_elim (λ (greater : k < j). omega arith) (λ (most : j ≤ k). let same : j ≡ k = omega arith in absurd (other same)) (cases_lt k j) in
-      ap (λ (zs : List Cell). row_of w zs j) (sym (append_assoc front row rest))
-      ∙ row_after w (k + 1) j (front ++ row) rest before past
-      ∙ sym (row_after w (k + 1) j (front ++ mid) rest was past)
-      ∙ ap (λ (zs : List Cell). row_of w zs j) (append_assoc front mid rest ∙ whole))
+    let past : k + 1 ≤ j = ⊎_elim (λ (greater : k < j). omega arith) (λ (most : j ≤ k). let same : j ≡ k = omega arith in absurd (other same)) (cases_lt k j) in
+    ap (λ (zs : List Cell). row_of w zs j) (sym (append_assoc front row rest))
+    ∙ row_after w (k + 1) j (front ++ row) rest before past
+    ∙ sym (row_after w (k + 1) j (front ++ mid) rest was past)
+    ∙ ap (λ (zs : List Cell). row_of w zs j) (append_assoc front mid rest ∙ whole))
     (cases_lt j k)
 
 same_or_not : (j i : ℕ) → (j ≡ i) ⊎ (j ≡ i → ⊥)
@@ -491,27 +490,27 @@ rows_written rows w i xs row are h e =
     let count = length-rows_of rows w xs in
     sym (fill_by_all (λ j. row_of w (with_cells w i xs row) j) (set was i row) rows [] (length-set was i row ∙ count)
     (λ j k. ⊎_elim (λ (same : j ≡ i).
-      ap (λ (n : ℕ). get_or (set was i row) n []) same
-      ∙ get_or-set_same was i row [] (omega arith)
-      ∙ sym (row_of-written w i xs row fits e)
-      ∙ ap (λ (n : ℕ). row_of w (with_cells w i xs row) n) (sym same))
+    ap (λ (n : ℕ). get_or (set was i row) n []) same
+    ∙ get_or-set_same was i row [] (omega arith)
+    ∙ sym (row_of-written w i xs row fits e)
+    ∙ ap (λ (n : ℕ). row_of w (with_cells w i xs row) n) (sym same))
     (λ (other : j ≡ i → ⊥).
-      get_or-set_other was i j row [] other ∙ row_at-rows_of rows w xs j k ∙ sym (row_of-others w i j xs row fits e other))
+    get_or-set_other was i j row [] other ∙ row_at-rows_of rows w xs j k ∙ sym (row_of-others w i j xs row fits e other))
     (same_or_not j i)))
 
 -- two rows at one place are one
 wrapped_same : (rows place i j : ℕ) → place < rows → i < rows → j < rows → (place + j) % rows ≡ (place + i) % rows → j ≡ i
 wrapped_same rows place i j h hi hj e =
     ⊎_elim (λ (i_below : place + i < rows).
-      let ei : (place + i) % rows ≡ place + i = mod-eq_of_lt i_below in
-      ⊎_elim (λ (j_below : place + j < rows). let ej : (place + j) % rows ≡ place + j = mod-eq_of_lt j_below in omega arith)
-      (λ (j_past : rows ≤ place + j). let ej = mod_wrapped (place + j) rows j_past (omega arith) in omega arith)
-      (cases_lt (place + j) rows))
+    let ei : (place + i) % rows ≡ place + i = mod-eq_of_lt i_below in
+    ⊎_elim (λ (j_below : place + j < rows). let ej : (place + j) % rows ≡ place + j = mod-eq_of_lt j_below in omega arith)
+    (λ (j_past : rows ≤ place + j). let ej = mod_wrapped (place + j) rows j_past (omega arith) in omega arith)
+    (cases_lt (place + j) rows))
     (λ (i_past : rows ≤ place + i).
-      let ei = mod_wrapped (place + i) rows i_past (omega arith) in
-      ⊎_elim (λ (j_below : place + j < rows). let ej : (place + j) % rows ≡ place + j = mod-eq_of_lt j_below in omega arith)
-      (λ (j_past : rows ≤ place + j). let ej = mod_wrapped (place + j) rows j_past (omega arith) in omega arith)
-      (cases_lt (place + j) rows))
+    let ei = mod_wrapped (place + i) rows i_past (omega arith) in
+    ⊎_elim (λ (j_below : place + j < rows). let ej : (place + j) % rows ≡ place + j = mod-eq_of_lt j_below in omega arith)
+    (λ (j_past : rows ≤ place + j). let ej = mod_wrapped (place + j) rows j_past (omega arith) in omega arith)
+    (cases_lt (place + j) rows))
     (cases_lt (place + i) rows)
 
 pub ring_written : (rows w place i : ℕ) (xs row : List Cell) → IsRing rows w place xs → i < rows → length row ≡ w → ring_rows rows w place (with_cells w ((place + i) % rows) xs row) ≡ set (ring_rows rows w place xs) i row
@@ -523,14 +522,14 @@ ring_written rows w place i xs row is h e =
     let count = length-ring_rows rows w place xs in
     sym (fill_by_all (λ j. row_of w (with_cells w at xs row) ((place + j) % rows)) (set was i row) rows [] (length-set was i row ∙ count)
     (λ j k. ⊎_elim (λ (same : j ≡ i).
-      ap (λ (n : ℕ). get_or (set was i row) n []) same
-      ∙ get_or-set_same was i row [] (omega arith)
-      ∙ sym (row_of-written w at xs row fits e)
-      ∙ ap (λ (n : ℕ). row_of w (with_cells w at xs row) ((place + n) % rows)) (sym same))
+    ap (λ (n : ℕ). get_or (set was i row) n []) same
+    ∙ get_or-set_same was i row [] (omega arith)
+    ∙ sym (row_of-written w at xs row fits e)
+    ∙ ap (λ (n : ℕ). row_of w (with_cells w at xs row) ((place + n) % rows)) (sym same))
     (λ (other : j ≡ i → ⊥).
-      get_or-set_other was i j row [] other
-      ∙ row_at-ring_rows rows w place xs j k
-      ∙ sym (row_of-others w at ((place + j) % rows) xs row fits e (λ same. other (wrapped_same rows place i j is.place_within h k same))))
+    get_or-set_other was i j row [] other
+    ∙ row_at-ring_rows rows w place xs j k
+    ∙ sym (row_of-others w at ((place + j) % rows) xs row fits e (λ same. other (wrapped_same rows place i j is.place_within h k same))))
     (same_or_not j i)))
 
 -- what a vector ends as, once a row that was lent has come back with as many cells
@@ -538,5 +537,5 @@ pub vec_written : (v : Vec Cell Global) (w k start : ℕ) (row : List Cell) → 
 vec_written v w k start row at fits e =
     let xs = v.items in
     let same : take start xs ++ (row ++ drop (length row) (drop start xs)) ≡ with_cells w k xs row =
-      ap (λ (n : ℕ). take n xs ++ (row ++ drop (length row) (drop n xs))) at ∙ ap (λ (n : ℕ). take (k * w) xs ++ (row ++ drop n (drop (k * w) xs))) e in
+    ap (λ (n : ℕ). take n xs ++ (row ++ drop (length row) (drop n xs))) at ∙ ap (λ (n : ℕ). take (k * w) xs ++ (row ++ drop n (drop (k * w) xs))) e in
     with_items_is v (take start xs ++ (row ++ drop (length row) (drop start xs))) (ap length same ∙ length-with_cells w k xs row fits e ∙ sym v.ok.0) ∙ same

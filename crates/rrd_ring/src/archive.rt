@@ -109,11 +109,7 @@ impl Archive {
         ensures turns { meter.new ≡ meter.old + length cells.now }
     {
         let start = cells_of(self.oldest, self.sources);
-        write_row(
-            &mut self.cells[start..start + self.sources],
-            cells,
-            meter,
-        );
+        write_row(&mut self.cells[start..start + self.sources], cells, meter);
         self.oldest = wrapped(self.oldest + 1, self.rows);
     }
 

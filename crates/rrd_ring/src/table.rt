@@ -69,8 +69,8 @@ pub(crate) fn write_from(ring: &mut [Cell], start: usize, cells: &[Cell])
     ring[..cells.len() - first].copy_from_slice(&cells[first..]);
 }
 
-// Writes a row's cells. A turn is counted where each cell is written, so that a row's cost is its
-// width whatever else the archive does.
+// Writes a row's cells. The meter counts the cells that are written into an archive: it ticks where
+// each of them is written.
 pub(crate) fn write_row(row: &mut [Cell], cells: &[Cell], meter: &mut Meter)
     requires one_each { length cells.now ≡ length row.old }
     requires turns { meter.old + length cells.now < 2 ^ 64 }
@@ -93,7 +93,7 @@ fn part_mut(cells: &mut Vec<Cell>, start: usize, end: usize) -> &mut [Cell]
     cells.slice_mut(start..end)
 }
 
-// The same. However they are written there are as many of them afterwards.
+// The same, where as many cells come back as were lent: a caller may then rely on the other rows.
 pub(crate) fn row_mut(cells: &mut Vec<Cell>, start: usize, end: usize) -> &mut [Cell]
     requires start_le_end { start ≤ end }
     requires in_bounds { end ≤ vec_len cells.old }

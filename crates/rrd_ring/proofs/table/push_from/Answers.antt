@@ -16,8 +16,8 @@ returns c =
     let long : start + first - start ≡ first = omega arith in
     let sum : first + (count - first) ≡ count = omega arith in
     let which : (count - first ≡ 0) ⊎ (length xs - start ≤ first) =
-      ⊎_elim (λ (more : length xs - start < count). inr (omega arith)) (λ (enough : count ≤ length xs - start). inl (omega arith)) (cases_lt (length xs - start) count) in
+    ⊎_elim (λ (more : length xs - start < count). inr (omega arith)) (λ (enough : count ≤ length xs - start). inl (omega arith)) (cases_lt (length xs - start) count) in
     rw (c.in_ok-extend_from_slice-2.ensures.items, c.in_ok-extend_from_slice.ensures.items, long)
     (append_assoc old (take first (drop start xs)) (take (count - first) xs)
-      ∙ ap (λ zs. old ++ zs) (copied_from xs start first (count - first) c.requires.within (omega arith) (omega arith) which)
-      ∙ ap (λ k. old ++ take k (from_place start xs)) sum)
+    ∙ ap (λ zs. old ++ zs) (copied_from xs start first (count - first) c.requires.within (omega arith) (omega arith) which)
+    ∙ ap (λ k. old ++ take k (from_place start xs)) sum)

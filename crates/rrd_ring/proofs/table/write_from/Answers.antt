@@ -13,6 +13,6 @@ returns c =
     let least = c.min-first.ensures in
     let long : start + first - start ≡ first = omega arith in
     let which : (length ds - first ≡ 0) ⊎ (length xs - start ≤ first) =
-      ⊎_elim (λ (more : length xs - start < length ds). inr (omega arith)) (λ (enough : length ds ≤ length xs - start). inl (omega arith)) (cases_lt (length xs - start) (length ds)) in
+    ⊎_elim (λ (more : length xs - start < length ds). inr (omega arith)) (λ (enough : length ds ≤ length xs - start). inl (omega arith)) (cases_lt (length xs - start) (length ds)) in
     rw (c.copy_from_slice-2.ensures.after, c.copy_from_slice.ensures.after, long, take_rest ds first)
     (written_from xs ds start first (length ds - first) c.requires.within (omega arith) (omega arith) (omega arith) which)

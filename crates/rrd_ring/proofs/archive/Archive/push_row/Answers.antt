@@ -11,8 +11,8 @@ write_row-requires-clause-one_each c =
     let wide = ring_width a.rows a.sources a.oldest a.cells.items c.args.self.now c.self.invariant c.self.view_is in
     rw (long, c.deref_mut.ensures.value, c.cells_of-start.ensures.count)
     (c.requires.one_each
-      ∙ wide
-      ∙ sym (length-row_of a.sources a.cells.items a.oldest (ring_fits a.rows a.sources a.oldest a.oldest a.cells.items c.self.invariant c.self.invariant.place_within)))
+    ∙ wide
+    ∙ sym (length-row_of a.sources a.cells.items a.oldest (ring_fits a.rows a.sources a.oldest a.oldest a.cells.items c.self.invariant c.self.invariant.place_within)))
 
 pub returns-clause-rows : goal.returns-clause-rows
 returns-clause-rows c =
@@ -25,5 +25,5 @@ returns-clause-rows c =
     let whole = row_written a.rows a.sources a.oldest xs cells c.self.invariant wide in
     rw (long, c.deref_mut.ensures.value, c.cells_of-start.ensures.count, c.write_row.ensures.written, c.wrapped-self-inside.ensures)
     (rw (with_items_is a.cells _ (whole ∙ sym a.cells.ok.0))
-      (ring_push a.rows a.sources a.oldest xs cells c.self.invariant wide
-        ∙ ap (λ all. drop 1 (all ++ cells ∷ [])) c.self.view_is))
+    (ring_push a.rows a.sources a.oldest xs cells c.self.invariant wide
+    ∙ ap (λ all. drop 1 (all ++ cells ∷ [])) c.self.view_is))

@@ -41,6 +41,6 @@ returns c =
     let written = rw (c.deref.ensures.value, c.deref_mut.ensures.value, c.cells_of-start.ensures.count, c.wrapped-self-inside.ensures) at c.write_from.ensures in
     rw (with_items_is a.cells new (as_long ∙ sym a.cells.ok.0), c.wrapped-self-inside.ensures)
     (ring_put_back d.rows a.rows a.sources a.oldest xs new ds fewer c.self.invariant as_long cells written
-      ∙ ap (λ all. all ++ take (a.rows - d.rows) (ring_rows a.rows a.sources a.oldest xs)) (sym rows ∙ c.dropped.view_is)
-      ∙ ap (λ all. c.args.dropped ++ take (a.rows - d.rows) all) c.self.view_is
-      ∙ ap (λ k. c.args.dropped ++ take k c.args.self.now) kept)
+    ∙ ap (λ all. all ++ take (a.rows - d.rows) (ring_rows a.rows a.sources a.oldest xs)) (sym rows ∙ c.dropped.view_is)
+    ∙ ap (λ all. c.args.dropped ++ take (a.rows - d.rows) all) c.self.view_is
+    ∙ ap (λ k. c.args.dropped ++ take k c.args.self.now) kept)

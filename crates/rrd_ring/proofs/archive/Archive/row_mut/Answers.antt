@@ -31,14 +31,17 @@ returns c =
     let begins : start ≡ at * a.sources = c.cells_of-start.ensures.count ∙ ap (λ (k : ℕ). k * a.sources) c.wrapped-place.ensures in
     let long : start + a.sources - start ≡ a.sources = omega arith in
     let read : row ≡ row_of a.sources xs at =
-      ap (λ (n : ℕ). take n (drop start xs)) long ∙ ap (λ (k : ℕ). take a.sources (drop k xs)) begins in
+    ap (λ (n : ℕ). take n (drop start xs)) long ∙ ap (λ (k : ℕ). take a.sources (drop k xs)) begins in
     let value : row ≡ row_at c.args.self.now i = read ∙ sym (row_at-ring_rows a.rows a.sources a.oldest xs i within) ∙ ap (λ all. row_at all i) c.self.view_is in
     let wide : length row ≡ a.sources = ap length read ∙ length-row_of a.sources xs at fits in (
-      (refl, λ w. let new = refill (length row) row w in
-        let as_wide : length new ≡ a.sources = sym (length_refill (length row) row w refl) ∙ wide in
-        ap (λ (ys : List Cell). ring_rows a.rows a.sources a.oldest ys) (vec_written a.cells a.sources at start new begins fits as_wide)
-        ∙ ring_written a.rows a.sources a.oldest i xs new c.self.invariant within as_wide
-        ∙ ap (λ all. set all i new) c.self.view_is
-        ∙ ap (λ (cells : List Cell). set c.args.self.now i (refill (length cells) cells w)) value),
+      (
+        refl,
+        λ w. let new = refill (length row) row w in
+            let as_wide : length new ≡ a.sources = sym (length_refill (length row) row w refl) ∙ wide in
+            ap (λ (ys : List Cell). ring_rows a.rows a.sources a.oldest ys) (vec_written a.cells a.sources at start new begins fits as_wide)
+            ∙ ring_written a.rows a.sources a.oldest i xs new c.self.invariant within as_wide
+            ∙ ap (λ all. set all i new) c.self.view_is
+            ∙ ap (λ (cells : List Cell). set c.args.self.now i (refill (length cells) cells w)) value,
+      ),
       record { writes_back = tt; value = c.row_mut.ensures.value ∙ value; same_width = with_row-same_width c.args.self.now i },
     )
