@@ -1,12 +1,11 @@
 -- Rows of cells in one vector, and rings of them.
-use Rattle.std.proofs.Common.{Vec, Global, ◌≡◌, ◌⊎◌, inl, inr, min, set, refl, sym, ◌∙◌, ap, subst, ℕ, zero, suc, ◌+◌, ◌-◌, ◌*◌, ◌%◌, ◌<◌, ◌≤◌, List, [], ◌∷◌, ◌++◌, length, get_or, take, drop, map, replicate, ⊎_elim, arith, length-append, length-drop}
+use Rattle.std.proofs.Common.{Vec, Global, ◌≡◌, ◌⊎◌, inl, inr, min, set, refl, sym, ◌∙◌, ap, subst, ℕ, zero, suc, ◌+◌, ◌-◌, ◌*◌, ◌%◌, ◌<◌, ◌≤◌, List, [], ◌∷◌, ◌++◌, length, get_or, take, drop, replicate, ⊎_elim, arith, length-append, length-drop}
 use Rattle.std.proofs.Math.Seq.{take-append-add}
 use Rattle.std.proofs.Math.Nat.{add-mul, mod-eq_of_lt, mod-eq-sub-mod}
 use Rattle.std.proofs.lemmas.Bool.{cases_lt}
 use Rattle.std.proofs.lemmas.Nat.{row_fits, mul-le, mod_below}
 use Rattle.std.proofs.lemmas.List.{append_assoc, append-nil, length-take-le, length-replicate, take-append-drop, take-append-le, take-take, drop-append-le, drop-drop, take_at, drop_at, take_all, drop_all, get_or_append_left, get_or-append_right, get_or-replicate, get_or-set_same, get_or-set_other, length-set, with_items_is, take-replicate, drop-replicate}
 use Rattle.std.proofs.lemmas.List.FromFn.{length-map-range_with_len, get_or-map-range_with_len, fill_by_all}
-use Rattle.std.specs.List.{range_with_len}
 use Rattle.std.specs.Vec.{with_items_from}
 use Rattle.rrd_fixed.specs.declared.cell.Cell.{Cell}
 use Rattle.rrd_fixed.specs.declared.cell.Cell.TheVariants.{Unknown}
@@ -226,15 +225,17 @@ AreDropped-rows_of rows w xs are =
 
 -- ---- a row is pushed
 
--- so many cells, all of them written at a row's place
-pub row_written : (rows w place : ℕ) (xs row : List Cell) → IsRing rows w place xs → length row ≡ w → length (take (place * w) xs ++ (row ++ drop w (drop (place * w) xs))) ≡ length xs
-row_written rows w place xs row is e =
-    let fits = ring_fits rows w place place xs is is.place_within in
-    let rest = drop w (drop (place * w) xs) in
-    omega (arith, length-append (take (place * w) xs) (row ++ rest), length-append row rest, length-take-le (place * w) xs (omega arith), length-drop w (drop (place * w) xs), length-drop (place * w) xs)
+-- the cells with other ones in the place of row k
+abbrev pub with_cells : ℕ → ℕ → List Cell → List Cell → List Cell
+with_cells w k xs row = take (k * w) xs ++ (row ++ drop w (drop (k * w) xs))
+
+pub length-with_cells : (w k : ℕ) (xs row : List Cell) → k * w + w ≤ length xs → length row ≡ w → length (with_cells w k xs row) ≡ length xs
+length-with_cells w k xs row fits e =
+    let rest = drop w (drop (k * w) xs) in
+    omega (arith, length-append (take (k * w) xs) (row ++ rest), length-append row rest, length-take-le (k * w) xs (omega arith), length-drop w (drop (k * w) xs), length-drop (k * w) xs)
 
 pub ring_push : (rows w place : ℕ) (xs row : List Cell) → IsRing rows w place xs → length row ≡ w
-    → ring_rows rows w ((place + 1) % rows) (take (place * w) xs ++ (row ++ drop w (drop (place * w) xs))) ≡ drop 1 (ring_rows rows w place xs ++ row ∷ [])
+    → ring_rows rows w ((place + 1) % rows) (with_cells w place xs row) ≡ drop 1 (ring_rows rows w place xs ++ row ∷ [])
 ring_push rows w place xs row is e =
     let some : 0 < rows = is.some_rows in
     let within : place < rows = is.place_within in
@@ -244,7 +245,7 @@ ring_push rows w place xs row is e =
     let ys = front ++ (row ++ rest) in
     let turned = from_place (place * w) xs in
     let next = (place + 1) % rows in
-    let long : length ys ≡ rows * w = row_written rows w place xs row is e ∙ is.whole in
+    let long : length ys ≡ rows * w = length-with_cells w place xs row fits e ∙ is.whole in
     let lf : length front ≡ place * w = length-take-le (place * w) xs (omega arith) in
     let one : 1 * w ≡ w = omega arith in
     let all_rows : rows ≡ rows - 1 + 1 = omega arith in
@@ -434,14 +435,6 @@ ring_resized n kept rows w place xs all some least is e =
     ∙ ap (λ (k : ℕ). unknown_rows (n - length all) (width all) ++ drop k all) gone
 
 -- ---- a row is written over
-
-abbrev pub with_cells : ℕ → ℕ → List Cell → List Cell → List Cell
-with_cells w k xs row = take (k * w) xs ++ (row ++ drop w (drop (k * w) xs))
-
-pub length-with_cells : (w k : ℕ) (xs row : List Cell) → k * w + w ≤ length xs → length row ≡ w → length (with_cells w k xs row) ≡ length xs
-length-with_cells w k xs row fits e =
-    let rest = drop w (drop (k * w) xs) in
-    omega (arith, length-append (take (k * w) xs) (row ++ rest), length-append row rest, length-take-le (k * w) xs (omega arith), length-drop w (drop (k * w) xs), length-drop (k * w) xs)
 
 row_before : (w j : ℕ) (a zs : List Cell) → j * w + w ≤ length a → row_of w (a ++ zs) j ≡ row_of w a j
 row_before w j a zs h =

@@ -1,6 +1,6 @@
 -- Lists of rows: their width, and what an archive holds after each change.
-use Rattle.std.proofs.Common.{Vec, Global, ◌≡◌, refl, sym, ◌∙◌, ap, subst, ℕ, zero, suc, ◌+◌, ◌-◌, ◌<◌, ◌≤◌, List, [], ◌∷◌, ◌++◌, length, get_or, set, take, drop, map, replicate, arith, length-append, length-drop}
-use Rattle.std.proofs.lemmas.List.{append_assoc, map_push, map-append, map-set, get_or-map, length-set, set_at, length-take, length-take-le, length-map, length-replicate, take-map, take_all, drop_all, append-nil, drop-map, take_more, drop_more}
+use Rattle.std.proofs.Common.{◌≡◌, refl, sym, ◌∙◌, ap, subst, ℕ, zero, suc, ◌+◌, ◌-◌, ◌<◌, ◌≤◌, List, [], ◌∷◌, ◌++◌, length, get_or, set, take, drop, replicate, arith, length-append, length-drop}
+use Rattle.std.proofs.lemmas.List.{append_assoc, length-set, set_at, length-take, length-take-le, length-replicate, take_all, drop_all, append-nil, take_more, drop_more}
 use Rattle.std.specs.List.{refill, length_refill}
 use Rattle.rrd_fixed.specs.declared.cell.Cell.{Cell}
 use Rattle.rrd_fixed.specs.declared.cell.Cell.TheVariants.{Unknown}

@@ -19,7 +19,7 @@ pub struct Archive {
     cells: Vec<Cell>,
     rows: usize,
     sources: usize,
-    // The place of the oldest row among the vector's. The rows go on from the vector's last to its first.
+    // The place of the oldest row among the vector's rows, which go on from the last to the first.
     oldest: usize,
 }
 

@@ -41,7 +41,8 @@ pub(crate) fn unknown_cells(
     Ok(cells)
 }
 
-// Adds copies of `count` cells of a ring, from the one at `start` on: at most two pieces of its vector.
+// Adds copies of `count` cells of a ring, from the one at `start` on: at most two pieces of its
+// vector.
 pub(crate) fn push_from(
     copies: &mut Vec<Cell>,
     ring: &[Cell],

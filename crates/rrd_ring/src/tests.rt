@@ -104,8 +104,8 @@ fn rows_are_written_and_swapped(rt: HostRuntime) -> Result<(), Fail> {
     Ok(())
 }
 
-// An archive of three rows after the pushes of 1 to 10: it went round three times, and the oldest row
-// lies between the two others.
+// An archive of three rows after the pushes of 1 to 10: it went round three times, and its oldest
+// row lies between the two others.
 fn pushed_to_ten(rt: &impl Abort, alloc: Global) -> Result<Archive, AllocError>
     ensures { IfOk result (λ archive. (length archive ≡ 3) × (width archive ≡ 1)) }
 {

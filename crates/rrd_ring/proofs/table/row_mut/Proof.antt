@@ -1,6 +1,6 @@
 -- `row_mut` lends a part of a vector on, and as many cells come back as were lent. The borrow checker shows that the
 -- vector ends with what was written, and not that there is as much of it, so this proof walks the code by hand.
-use Rattle.std.proofs.Common.{◌≡◌, ℕ, ◌+◌, List, [], ◌∷◌, refl, sym, ap, ◌∙◌, length, MutBor}
+use Rattle.std.proofs.Common.{◌≡◌, ℕ, List, [], ◌∷◌, refl, sym, ap, ◌∙◌, length, MutBor}
 use Rattle.std.proofs.raw_atomic.Walks.{proved}
 use seplogic.Ra.Ura.{Ura}
 use mir.Syntax.{Lifetime, named, w64}

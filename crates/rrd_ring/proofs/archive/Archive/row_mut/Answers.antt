@@ -1,8 +1,8 @@
-use Rattle.std.proofs.Common.{◌≡◌, ℕ, ◌+◌, ◌-◌, ◌*◌, ◌%◌, ◌<◌, ◌≤◌, ◌∙◌, refl, sym, ap, List, length, set, take, drop, slice_range, arith}
+use Rattle.std.proofs.Common.{◌≡◌, ℕ, ◌+◌, ◌-◌, ◌*◌, ◌%◌, ◌<◌, ◌∙◌, refl, sym, ap, List, length, set, take, drop, slice_range, arith}
 use Rattle.std.proofs.lemmas.Nat.{mod_below}
 use Rattle.std.specs.List.{refill, length_refill}
 use Rattle.rrd_fixed.specs.declared.cell.Cell.{Cell}
-use Rattle.rrd_ring.specs.Rows.{row_at, with_row}
+use Rattle.rrd_ring.specs.Rows.{row_at}
 use Rattle.rrd_ring.specs.Ring.{row_of, ring_rows}
 use Rattle.rrd_ring.proofs.RowLemmas.{with_row-same_width}
 use Rattle.rrd_ring.proofs.RingLemmas.{ring_len, ring_fits, ring_written, vec_written, row_at-ring_rows, length-row_of}

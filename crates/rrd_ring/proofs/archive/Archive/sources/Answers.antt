@@ -1,4 +1,4 @@
-use Rattle.std.proofs.Common.{sym, subst, List}
+use Rattle.std.proofs.Common.{subst, List}
 use Rattle.rrd_fixed.specs.declared.cell.Cell.{Cell}
 use Rattle.rrd_ring.specs.Rows.{HasWidth}
 use Rattle.rrd_ring.proofs.RingLemmas.{HasWidth-ring_rows}

@@ -1,7 +1,7 @@
-use Rattle.std.proofs.Common.{◌≡◌, ℕ, ◌+◌, ◌-◌, ◌*◌, ◌%◌, ◌<◌, ◌≤◌, ◌∙◌, refl, sym, ap, List, length, set, take, drop, slice_range, arith}
+use Rattle.std.proofs.Common.{◌≡◌, ℕ, ◌+◌, ◌-◌, ◌*◌, ◌<◌, ◌∙◌, refl, sym, ap, List, length, set, take, drop, slice_range, arith}
 use Rattle.std.specs.List.{refill, length_refill}
 use Rattle.rrd_fixed.specs.declared.cell.Cell.{Cell}
-use Rattle.rrd_ring.specs.Rows.{row_at, with_row}
+use Rattle.rrd_ring.specs.Rows.{row_at}
 use Rattle.rrd_ring.specs.Ring.{row_of, rows_of}
 use Rattle.rrd_ring.proofs.RowLemmas.{with_row-same_width}
 use Rattle.rrd_ring.proofs.RingLemmas.{rows_len, rows_fit, rows_written, vec_written, row_at-rows_of, length-row_of}
