@@ -1,7 +1,6 @@
 -- Lists of rows: their width, and what an archive holds after each change.
-use Rattle.std.proofs.Common.{Vec, Global, ◌≡◌, refl, sym, ◌∙◌, ap, subst, ℕ, zero, suc, ◌+◌, ◌-◌, ◌<◌, ◌≤◌, List, [], ◌∷◌, ◌++◌, length, get_or, set, take, drop, map, replicate, arith, length-append, length-drop}
-use Rattle.std.proofs.lemmas.List.{append_assoc, map_push, map-append, map-set, get_or-map, length-set, set_at, length-take, length-take-le, length-map, length-replicate, take-map, take_all, drop_all, append-nil, drop-map, take_more, drop_more}
-use Rattle.std.specs.Vec.{with_items}
+use Rattle.std.proofs.Common.{◌≡◌, refl, sym, ◌∙◌, ap, subst, ℕ, zero, suc, ◌+◌, ◌-◌, ◌<◌, ◌≤◌, List, [], ◌∷◌, ◌++◌, length, get_or, set, take, drop, replicate, arith, length-append, length-drop}
+use Rattle.std.proofs.lemmas.List.{append_assoc, length-set, set_at, length-take, length-take-le, length-replicate, take_all, drop_all, append-nil, take_more, drop_more}
 use Rattle.std.specs.List.{refill, length_refill}
 use Rattle.rrd_fixed.specs.declared.cell.Cell.{Cell}
 use Rattle.rrd_fixed.specs.declared.cell.Cell.TheVariants.{Unknown}
@@ -128,37 +127,6 @@ pub AreDropped-take : (n : ℕ) (xs : List (List Cell)) → IsArchive xs → Are
 AreDropped-take n xs is =
     let few : length xs ≤ 1000000 = is.few_rows in
     AreDropped-from_width (width xs) (take n xs) (HasWidth-take (width xs) n xs is.one_width) (omega (arith, length-take n xs))
-
--- ---- rows in vectors
-
--- the first of some rows goes last, and is written over
-pub turned_map : {A B : Type 0} (f : A → B) (xs : List A) (new : A) (b : B) → 0 < length xs → f new ≡ b → map f (set (drop 1 xs ++ take 1 xs) (length xs - 1) new) ≡ drop 1 (map f xs ++ b ∷ [])
-turned_map f [] new b h e = absurd (omega arith)
-turned_map f (x ∷ xs) new b h e =
-    ap (map f) (set_at xs x [] new (length (x ∷ xs) - 1) (omega arith)) ∙ map_push f xs new ∙ ap (λ c. map f xs ++ c ∷ []) e
-
--- rows before the first of others
-pub first_map : {A B : Type 0} (f : A → B) (old xs : List A) → map f (old ++ take (length xs - length old) xs) ≡ map f old ++ take (length (map f xs) - length (map f old)) (map f xs)
-first_map f old xs =
-    rw (length-map xs f, length-map old f, take-map f (length xs - length old) xs) (map-append f old (take (length xs - length old) xs))
-
--- a row that was read, and what its vector ends as
-pub row_read : (rows : List (Vec Cell Global)) (i : ℕ) (row : Vec Cell Global) → row ≡ get_or rows i row → i < length rows → row.items ≡ row_at (map (λ row. row.items) rows) i
-row_read rows i row e h = ap (λ (v : Vec Cell Global). v.items) e ∙ sym (get_or-map (λ (v : Vec Cell Global). v.items) rows i row [] h)
-
-pub width_read : (rows : List (Vec Cell Global)) (row : Vec Cell Global) → row ≡ get_or rows 0 row → 0 < length rows → width (map (λ row. row.items) rows) ≡ row.len
-width_read [] row e h = absurd (omega arith)
-width_read (v ∷ vs) row e h = ap (λ (v : Vec Cell Global). length v.items) (sym e) ∙ sym row.ok.0
-
--- the newest rows are those in the newest vectors, after unknown ones
-pub newest_map : (n : ℕ) (rows : List (Vec Cell Global)) → newest_rows n (map (λ row. row.items) rows) ≡ unknown_rows (n - length rows) (width (map (λ row. row.items) rows)) ++ map (λ row. row.items) (drop (length rows - n) rows)
-newest_map n rows = rw (length-map rows (λ (v : Vec Cell Global). v.items), drop-map (λ (v : Vec Cell Global). v.items) (length rows - n) rows)
-
-pub row_written : (rows : List (Vec Cell Global)) (i : ℕ) (row : Vec Cell Global) (cells : List Cell) → row ≡ get_or rows i row → i < length rows → map (λ row. row.items) (set rows i (with_items row cells)) ≡ with_row (map (λ row. row.items) rows) i cells
-row_written rows i row cells e h =
-    map-set (λ (v : Vec Cell Global). v.items) rows i (with_items row cells)
-    ∙ ap (λ n. set (map (λ (v : Vec Cell Global). v.items) rows) i (refill n row.items cells)) row.ok.0
-    ∙ ap (λ items. set (map (λ (v : Vec Cell Global). v.items) rows) i (refill (length items) items cells)) (row_read rows i row e h)
 
 -- ---- a row written cell by cell
 

@@ -5,7 +5,7 @@ ghost use Rattle.rrd_fixed.specs.declared.cell.Cell.{Cell};
 ghost use Rattle.rrd_ring.specs.Rows.{row_at, width, HasWidth, with_row, unknown_rows, newest_rows};
 
 use crate::dropped::Dropped;
-use crate::table::{push_copies, push_unknown, put_first, write_row};
+use crate::table::{cells_of, push_from, row_mut, unknown_cells, wrapped, write_from, write_row};
 use rrd_fixed::{Cell, Meter};
 use std::alloc::{AllocError, Global};
 use std::marker::Model;
@@ -15,19 +15,24 @@ use std::mem;
 /// unknown), one for each data source. Contracts see the list of the rows, oldest first.
 #[derive(Debug, Drop)]
 pub struct Archive {
-    rows: Vec<Vec<Cell>>,
+    // The cells of the rows, one row after another.
+    cells: Vec<Cell>,
+    rows: usize,
+    sources: usize,
+    // The place of the oldest row among the vector's rows, which go on from the last to the first.
+    oldest: usize,
 }
 
 impl Model for Archive {
-    ghost use Rattle.std.specs.Prelude.{List, map};
+    ghost use Rattle.std.specs.Prelude.{List};
     ghost use Rattle.rrd_fixed.specs.declared.cell.Cell.{Cell};
-    ghost use Rattle.rrd_ring.specs.Rows.{IsArchive};
+    ghost use Rattle.rrd_ring.specs.Ring.{ring_rows, IsRing};
 
     ghost Value = { List (List Cell) };
 
-    ghost view = { λ a. map (λ row. row.items) a.rows.items };
+    ghost view = { λ a. ring_rows a.rows a.sources a.oldest a.cells.items };
 
-    ghost invariant = { λ a. IsArchive (map (λ row. row.items) a.rows.items) };
+    ghost invariant = { λ a. IsRing a.rows a.sources a.oldest a.cells.items };
 }
 
 impl Archive {
@@ -42,9 +47,15 @@ impl Archive {
         requires few_sources { sources ≤ 64 }
         ensures { IfOk result (λ archive. archive ≡ unknown_rows rows sources) }
     {
-        let mut table = Vec::with_capacity(alloc, rows as usize)?;
-        push_unknown(alloc, &mut table, rows as usize, sources as usize)?;
-        Ok(Archive { rows: table })
+        let (rows, sources) = (rows as usize, sources as usize);
+        let count = cells_of(rows, sources);
+        let cells = unknown_cells(alloc, count, count)?;
+        Ok(Archive {
+            cells,
+            rows,
+            sources,
+            oldest: 0,
+        })
     }
 
     /// The number of rows, 1 to 1,000,000.
@@ -53,7 +64,7 @@ impl Archive {
         ensures some { 0 < result }
         ensures few { result ≤ 1000000 }
     {
-        self.rows.len() as u64
+        self.rows as u64
     }
 
     /// The number of cells in each row, one for each data source: 1 to 64.
@@ -63,7 +74,7 @@ impl Archive {
         ensures some { 0 < result }
         ensures few { result ≤ 64 }
     {
-        self.rows[0].len() as u64
+        self.sources as u64
     }
 
     /// The cells of row `i`, counted from the oldest.
@@ -71,7 +82,9 @@ impl Archive {
         requires { i < length self.now }
         ensures { result.now ≡ row_at self.now i }
     {
-        &self.rows[i as usize]
+        let place = wrapped(self.oldest + i as usize, self.rows);
+        let start = cells_of(place, self.sources);
+        &self.cells[start..start + self.sources]
     }
 
     /// The cells of row `i`, counted from the oldest, to be written. The archive ends with what was
@@ -82,7 +95,9 @@ impl Archive {
         ensures value { result.now ≡ row_at self.old i }
         ensures same_width { (cells : List Cell) → length cells ≡ length (row_at self.old i) → with_row self.old i cells ≡ slice_set self.old i cells }
     {
-        &mut self.rows[i as usize]
+        let place = wrapped(self.oldest + i as usize, self.rows);
+        let start = cells_of(place, self.sources);
+        row_mut(&mut self.cells, start, start + self.sources)
     }
 
     /// Drops the oldest row, and takes `cells`, one for each data source, as the newest. Adds a turn
@@ -93,9 +108,9 @@ impl Archive {
         ensures rows { self.new ≡ drop 1 (self.old ++ cells.now ∷ []) }
         ensures turns { meter.new ≡ meter.old + length cells.now }
     {
-        let newest = self.rows.len() - 1;
-        self.rows.rotate_left(1);
-        write_row(&mut self.rows[newest], cells, meter);
+        let start = cells_of(self.oldest, self.sources);
+        write_row(&mut self.cells[start..start + self.sources], cells, meter);
+        self.oldest = wrapped(self.oldest + 1, self.rows);
     }
 
     /// A copy of the `n` oldest rows, at most all of them. Answers `AllocError` only for want of
@@ -104,17 +119,28 @@ impl Archive {
         requires { n ≤ length self.now }
         ensures { IfOk result (λ dropped. dropped ≡ take n self.now) }
     {
-        Dropped::of(alloc, &self.rows[..n as usize])
+        let rows = n as usize;
+        let start = cells_of(self.oldest, self.sources);
+        let count = cells_of(rows, self.sources);
+        let mut cells = Vec::with_capacity(alloc, count)?;
+        push_from(&mut cells, &self.cells, start, count)?;
+        Ok(Dropped {
+            cells,
+            rows,
+            sources: self.sources,
+        })
     }
 
     /// Puts rows back that were the oldest, before those that are still there; as many of the newest
     /// fall out. They are at most as many as the archive has, with as many cells. It takes no memory.
-    pub fn put_back(&mut self, mut dropped: Dropped)
+    pub fn put_back(&mut self, dropped: Dropped)
         requires fits { length dropped ≤ length self.old }
         requires one_width { HasWidth (width self.old) dropped }
         ensures { self.new ≡ dropped ++ take (length self.old - length dropped) self.old }
     {
-        put_first(&mut self.rows, &mut dropped.rows);
+        self.oldest = wrapped(self.oldest + (self.rows - dropped.rows), self.rows);
+        let start = cells_of(self.oldest, self.sources);
+        write_from(&mut self.cells, start, &dropped.cells);
     }
 
     /// The same archive with `rows` rows (1 to 1,000,000): the newest of them, or all of them after
@@ -125,13 +151,19 @@ impl Archive {
         ensures { IfOk result (λ archive. archive ≡ newest_rows rows self.now) }
     {
         let wanted = rows as usize;
-        let sources = self.rows[0].len();
-        let added = wanted.saturating_sub(self.rows.len());
-        let removed = self.rows.len().saturating_sub(wanted);
-        let mut table = Vec::with_capacity(alloc, wanted)?;
-        push_unknown(alloc, &mut table, added, sources)?;
-        push_copies(alloc, &mut table, &self.rows[removed..])?;
-        Ok(Archive { rows: table })
+        let kept = wanted.min(self.rows);
+        let first = wrapped(self.oldest + (self.rows - kept), self.rows);
+        let start = cells_of(first, self.sources);
+        let count = cells_of(kept, self.sources);
+        let room = cells_of(wanted, self.sources);
+        let mut cells = unknown_cells(alloc, room, room - count)?;
+        push_from(&mut cells, &self.cells, start, count)?;
+        Ok(Archive {
+            cells,
+            rows: wanted,
+            sources: self.sources,
+            oldest: 0,
+        })
     }
 
     /// Puts each in the other's place. It takes no memory.

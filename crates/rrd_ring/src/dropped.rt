@@ -1,10 +1,10 @@
 //! Rows that an archive dropped.
-ghost use Rattle.std.specs.Prelude.{◌≡◌, ◌<◌, ◌≤◌, List, length, map, slice_set, IfOk};
+ghost use Rattle.std.specs.Prelude.{◌≡◌, ◌<◌, ◌≤◌, List, length, slice_set, IfOk};
 ghost use Rattle.std.specs.Borrow.{sem};
 ghost use Rattle.rrd_fixed.specs.declared.cell.Cell.{Cell};
-ghost use Rattle.rrd_ring.specs.Rows.{row_at, width, HasWidth, with_row, unknown_rows, AreDropped};
+ghost use Rattle.rrd_ring.specs.Rows.{row_at, width, HasWidth, with_row, unknown_rows};
 
-use crate::table::{push_copies, push_unknown};
+use crate::table::{cells_of, row_mut, unknown_cells};
 use rrd_fixed::Cell;
 use std::alloc::{AllocError, Global};
 use std::marker::Model;
@@ -13,19 +13,22 @@ use std::marker::Model;
 /// unknown). Contracts see the list of the rows, oldest first.
 #[derive(Debug, Drop)]
 pub struct Dropped {
-    pub(crate) rows: Vec<Vec<Cell>>,
+    // The cells of the rows, one row after another.
+    pub(crate) cells: Vec<Cell>,
+    pub(crate) rows: usize,
+    pub(crate) sources: usize,
 }
 
 impl Model for Dropped {
-    ghost use Rattle.std.specs.Prelude.{List, map};
+    ghost use Rattle.std.specs.Prelude.{List};
     ghost use Rattle.rrd_fixed.specs.declared.cell.Cell.{Cell};
-    ghost use Rattle.rrd_ring.specs.Rows.{AreDropped};
+    ghost use Rattle.rrd_ring.specs.Ring.{rows_of, AreRows};
 
     ghost Value = { List (List Cell) };
 
-    ghost view = { λ a. map (λ row. row.items) a.rows.items };
+    ghost view = { λ a. rows_of a.rows a.sources a.cells.items };
 
-    ghost invariant = { λ a. AreDropped (map (λ row. row.items) a.rows.items) };
+    ghost invariant = { λ a. AreRows a.rows a.sources a.cells.items };
 }
 
 impl Dropped {
@@ -39,19 +42,14 @@ impl Dropped {
         requires few_sources { sources ≤ 64 }
         ensures { IfOk result (λ dropped. dropped ≡ unknown_rows rows sources) }
     {
-        let mut table = Vec::with_capacity(alloc, rows as usize)?;
-        push_unknown(alloc, &mut table, rows as usize, sources as usize)?;
-        Ok(Dropped { rows: table })
-    }
-
-    // A copy of these rows.
-    pub(crate) fn of(alloc: Global, rows: &[Vec<Cell>]) -> Result<Dropped, AllocError>
-        requires { AreDropped (map (λ row. row.items) rows.now) }
-        ensures { IfOk result (λ dropped. dropped ≡ map (λ row. row.items) rows.now) }
-    {
-        let mut table = Vec::with_capacity(alloc, rows.len())?;
-        push_copies(alloc, &mut table, rows)?;
-        Ok(Dropped { rows: table })
+        let (rows, sources) = (rows as usize, sources as usize);
+        let count = cells_of(rows, sources);
+        let cells = unknown_cells(alloc, count, count)?;
+        Ok(Dropped {
+            cells,
+            rows,
+            sources,
+        })
     }
 
     /// The number of rows, at most 1,000,000.
@@ -60,7 +58,7 @@ impl Dropped {
         ensures each_row { HasWidth (width self.now) self.now }
         ensures few { result ≤ 1000000 }
     {
-        self.rows.len() as u64
+        self.rows as u64
     }
 
     /// The cells of row `i`, counted from the oldest.
@@ -68,7 +66,8 @@ impl Dropped {
         requires { i < length self.now }
         ensures { result.now ≡ row_at self.now i }
     {
-        &self.rows[i as usize]
+        let start = cells_of(i as usize, self.sources);
+        &self.cells[start..start + self.sources]
     }
 
     /// The cells of row `i`, counted from the oldest, to be written. The list ends with what was
@@ -79,6 +78,7 @@ impl Dropped {
         ensures value { result.now ≡ row_at self.old i }
         ensures same_width { (cells : List Cell) → length cells ≡ length (row_at self.old i) → with_row self.old i cells ≡ slice_set self.old i cells }
     {
-        &mut self.rows[i as usize]
+        let start = cells_of(i as usize, self.sources);
+        row_mut(&mut self.cells, start, start + self.sources)
     }
 }

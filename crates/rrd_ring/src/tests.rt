@@ -1,11 +1,11 @@
 //! An archive of 3 rows and 1 source, each call of it once, and each call that takes memory also
 //! where a growth is refused: a run under `rt try --test --fail-alloc N` refuses the Nth one.
-ghost use Rattle.std.specs.Prelude.{◌≡◌, length};
+ghost use Rattle.std.specs.Prelude.{◌≡◌, length, IfOk};
 ghost use Rattle.rrd_ring.specs.Rows.{width, HasWidth};
 
 use crate::{Archive, Dropped};
 use rrd_fixed::{Cell, Meter};
-use std::alloc::AllocError;
+use std::alloc::{AllocError, Global};
 use std::process::Abort;
 use std::test::Fail;
 
@@ -22,6 +22,14 @@ const FOUR: Cell = Cell::Known(4);
 const FIVE: Cell = Cell::Known(5);
 
 const SIX: Cell = Cell::Known(6);
+
+const SEVEN: Cell = Cell::Known(7);
+
+const EIGHT: Cell = Cell::Known(8);
+
+const NINE: Cell = Cell::Known(9);
+
+const TEN: Cell = Cell::Known(10);
 
 // The archive has these rows, of one cell each.
 fn assert_rows(rt: &impl Abort, archive: &Archive, cells: &[Cell])
@@ -93,6 +101,68 @@ fn rows_are_written_and_swapped(rt: HostRuntime) -> Result<(), Fail> {
     let mut dropped = Dropped::new(alloc, 2, 1)?;
     dropped.row_mut(0).copy_from_slice(&[TWO]);
     assert_dropped(&rt, &dropped, &[TWO, UNKNOWN]);
+    Ok(())
+}
+
+// An archive of three rows after the pushes of 1 to 10: it went round three times, and its oldest
+// row lies between the two others.
+fn pushed_to_ten(rt: &impl Abort, alloc: Global) -> Result<Archive, AllocError>
+    ensures { IfOk result (λ archive. (length archive ≡ 3) × (width archive ≡ 1)) }
+{
+    let mut archive = Archive::new(alloc, 3, 1)?;
+    for cell in [ONE, TWO, THREE, FOUR, FIVE, SIX, SEVEN, EIGHT, NINE, TEN] {
+        push(rt, &mut archive, cell);
+    }
+    assert_rows(rt, &archive, &[EIGHT, NINE, TEN]);
+    Ok(archive)
+}
+
+#[test]
+fn all_rows_come_back(rt: HostRuntime) -> Result<(), Fail> {
+    let alloc = rt.alloc();
+    let mut archive = pushed_to_ten(&rt, alloc)?;
+    let mut dropped = Dropped::new(alloc, 3, 1)?;
+    dropped.row_mut(0).copy_from_slice(&[FIVE]);
+    dropped.row_mut(1).copy_from_slice(&[SIX]);
+    dropped.row_mut(2).copy_from_slice(&[SEVEN]);
+    assert_dropped(&rt, &dropped, &[FIVE, SIX, SEVEN]);
+    archive.put_back(dropped);
+    assert_rows(&rt, &archive, &[FIVE, SIX, SEVEN]);
+    Ok(())
+}
+
+// Copies that begin before the end of the vector and go on from its front.
+#[test]
+fn copies_go_round_the_end(rt: HostRuntime) -> Result<(), Fail> {
+    let alloc = rt.alloc();
+    let archive = pushed_to_ten(&rt, alloc)?;
+    assert_dropped(&rt, &archive.oldest(alloc, 3)?, &[EIGHT, NINE, TEN]);
+    assert_rows(&rt, &archive.resized(alloc, 1)?, &[TEN]);
+    assert_rows(&rt, &archive.resized(alloc, 2)?, &[NINE, TEN]);
+    assert_rows(&rt, &archive.resized(alloc, 3)?, &[EIGHT, NINE, TEN]);
+    assert_rows(
+        &rt,
+        &archive.resized(alloc, 4)?,
+        &[UNKNOWN, EIGHT, NINE, TEN],
+    );
+    Ok(())
+}
+
+// Two rows come back, of which one lies at the end of the vector and one at its front.
+#[test]
+fn rows_come_back_round_the_end(rt: HostRuntime) -> Result<(), Fail> {
+    let alloc = rt.alloc();
+    let mut archive = pushed_to_ten(&rt, alloc)?;
+    assert_rows(&rt, &archive, &[EIGHT, NINE, TEN]);
+    let dropped = archive.oldest(alloc, 2)?;
+    assert_dropped(&rt, &dropped, &[EIGHT, NINE]);
+    push(&rt, &mut archive, ONE);
+    push(&rt, &mut archive, TWO);
+    assert_rows(&rt, &archive, &[TEN, ONE, TWO]);
+    archive.put_back(dropped);
+    assert_rows(&rt, &archive, &[EIGHT, NINE, TEN]);
+    archive.row_mut(2).copy_from_slice(&[THREE]);
+    assert_rows(&rt, &archive, &[EIGHT, NINE, THREE]);
     Ok(())
 }
 

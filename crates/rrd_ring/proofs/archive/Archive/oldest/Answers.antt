@@ -1,16 +1,28 @@
-use Rattle.std.proofs.Common.{◌∙◌, sym, ap, map, take}
-use Rattle.std.proofs.lemmas.List.{take-map}
-use Rattle.std.proofs.lemmas.Result.{IfOk-weaker}
-use Rattle.rrd_ring.proofs.RowLemmas.{AreDropped-take}
+use Rattle.std.proofs.Common.{◌≤◌, ◌∙◌, ap, take, arith}
+use Rattle.rrd_ring.proofs.RingLemmas.{ring_len, ring_take, cells_le, AreRows-take}
 use Rattle.rrd_ring.proofs.archive.Archive.oldest.Goals as goal
 
-pub of-requires : goal.of-requires
-of-requires c =
-    rw (c.deref.ensures.value, ← take-map (λ row. row.items) c.args.n c.self.inside.rows.items)
-    (AreDropped-take c.args.n (map (λ row. row.items) c.self.inside.rows.items) c.self.invariant)
+pub cells_of-count-requires-clause-few_rows : goal.cells_of-count-requires-clause-few_rows
+cells_of-count-requires-clause-few_rows c =
+    let a = c.self.inside in
+    omega (arith, c.requires, c.self.invariant.few_rows, ring_len a.rows a.sources a.oldest a.cells.items c.args.self.now c.self.view_is)
+
+pub push_from-requires-clause-few : goal.push_from-requires-clause-few
+push_from-requires-clause-few c =
+    let a = c.self.inside in
+    let fewer : c.args.n ≤ a.rows = omega (arith, c.requires, ring_len a.rows a.sources a.oldest a.cells.items c.args.self.now c.self.view_is) in
+    rw c.deref.ensures.value (omega (arith, c.cells_of-count.ensures.count, c.self.invariant.whole, cells_le c.args.n a.rows a.sources fewer))
+
+pub invariant_of-result : goal.invariant_of-result
+invariant_of-result c =
+    let a = c.self.inside in
+    let fewer : c.args.n ≤ a.rows = omega (arith, c.requires, ring_len a.rows a.sources a.oldest a.cells.items c.args.self.now c.self.view_is) in
+    rw (c.in_ok-push_from.ensures, c.in_ok-cells.ensures.items, c.deref.ensures.value, c.cells_of-start.ensures.count, c.cells_of-count.ensures.count)
+    (AreRows-take c.args.n a.rows a.sources a.oldest a.cells.items fewer c.self.invariant)
 
 pub returns : goal.returns
 returns c =
-    IfOk-weaker c.of.result _ _
-    (λ dropped e. e ∙ ap (λ rows. map (λ row. row.items) (take c.args.n rows)) c.deref.ensures.value ∙ sym (take-map (λ row. row.items) c.args.n c.self.inside.rows.items) ∙ ap (take c.args.n) c.self.view_is)
-    c.of.ensures
+    let a = c.self.inside in
+    let fewer : c.args.n ≤ a.rows = omega (arith, c.requires, ring_len a.rows a.sources a.oldest a.cells.items c.args.self.now c.self.view_is) in
+    rw (c.in_ok-push_from.ensures, c.in_ok-cells.ensures.items, c.deref.ensures.value, c.cells_of-start.ensures.count, c.cells_of-count.ensures.count)
+    (ring_take c.args.n a.rows a.sources a.oldest a.cells.items fewer c.self.invariant ∙ ap (take c.args.n) c.self.view_is)

@@ -1,22 +1,46 @@
-use Rattle.std.proofs.Common.{subst, arith}
+use Rattle.std.proofs.Common.{◌≡◌, ◌-◌, ◌≤◌, ◌*◌, ◌++◌, ◌∙◌, sym, ap, subst, length, take, arith}
 use Rattle.std.proofs.lemmas.List.{with_items_is}
-use Rattle.rrd_ring.specs.Rows.{IsArchive}
-use Rattle.rrd_ring.proofs.RowLemmas.{first_map, IsArchive-put_back}
+use Rattle.rrd_ring.specs.Rows.{HasWidth}
+use Rattle.rrd_ring.specs.Ring.{rows_of, ring_rows}
+use Rattle.rrd_ring.proofs.RingLemmas.{ring_len, rows_len, ring_width, ring_put_back, same_cells, same_rows, cells_le}
 use Rattle.rrd_ring.proofs.archive.Archive.put_back.Goals as goal
 
-pub invariant_of-self : goal.invariant_of-self
-invariant_of-self c =
-    let rows = c.self.inside.rows in
-    let old = c.dropped.inside.rows in
-    let written = with_items_is rows c.put_first.new.rows (omega (arith, c.put_first.auto.rows, c.deref_mut.ensures.len)) in
-    let first = simp (c.deref_mut.ensures.value, c.deref_mut-2.ensures.value) at c.put_first.ensures in
-    rw (written, first, first_map (λ row. row.items) old.items rows.items, c.self.view_is, c.dropped.view_is)
-    (IsArchive-put_back c.args.dropped c.args.self.now (subst IsArchive c.self.view_is c.self.invariant) c.requires.fits c.requires.one_width)
+pub overflow_sub-self-inside : goal.overflow_sub-self-inside
+overflow_sub-self-inside c =
+    let a = c.self.inside in
+    let d = c.dropped.inside in
+    omega (arith, c.requires.fits, ring_len a.rows a.sources a.oldest a.cells.items c.args.self.now c.self.view_is, rows_len d.rows d.sources d.cells.items c.args.dropped c.dropped.view_is)
+
+pub write_from-requires-clause-few : goal.write_from-requires-clause-few
+write_from-requires-clause-few c =
+    let a = c.self.inside in
+    let d = c.dropped.inside in
+    let ds = d.cells.items in
+    let same = ring_width a.rows a.sources a.oldest a.cells.items c.args.self.now c.self.invariant c.self.view_is in
+    let wide : HasWidth a.sources (rows_of d.rows d.sources ds) = subst (λ all. HasWidth a.sources all) (sym c.dropped.view_is) (subst (λ w. HasWidth w c.args.dropped) same c.requires.one_width) in
+    let fewer : d.rows ≤ a.rows = omega (arith, c.requires.fits, ring_len a.rows a.sources a.oldest a.cells.items c.args.self.now c.self.view_is, rows_len d.rows d.sources ds c.args.dropped c.dropped.view_is) in
+    rw (c.deref.ensures.value, c.deref_mut.ensures.value)
+    (omega (arith, same_cells d.rows d.sources a.sources ds c.dropped.invariant.whole wide, c.self.invariant.whole, cells_le d.rows a.rows a.sources fewer))
 
 pub returns : goal.returns
 returns c =
-    let rows = c.self.inside.rows in
-    let old = c.dropped.inside.rows in
-    let written = with_items_is rows c.put_first.new.rows (omega (arith, c.put_first.auto.rows, c.deref_mut.ensures.len)) in
-    let first = simp (c.deref_mut.ensures.value, c.deref_mut-2.ensures.value) at c.put_first.ensures in
-    rw (written, first, first_map (λ row. row.items) old.items rows.items, c.self.view_is, c.dropped.view_is)
+    let a = c.self.inside in
+    let d = c.dropped.inside in
+    let xs = a.cells.items in
+    let ds = d.cells.items in
+    let new = c.write_from.new.ring in
+    let long = ring_len a.rows a.sources a.oldest xs c.args.self.now c.self.view_is in
+    let count = rows_len d.rows d.sources ds c.args.dropped c.dropped.view_is in
+    let same = ring_width a.rows a.sources a.oldest xs c.args.self.now c.self.invariant c.self.view_is in
+    let wide : HasWidth a.sources (rows_of d.rows d.sources ds) = subst (λ all. HasWidth a.sources all) (sym c.dropped.view_is) (subst (λ w. HasWidth w c.args.dropped) same c.requires.one_width) in
+    let fewer : d.rows ≤ a.rows = omega (arith, c.requires.fits) in
+    let cells : length ds ≡ d.rows * a.sources = same_cells d.rows d.sources a.sources ds c.dropped.invariant.whole wide in
+    let rows : rows_of d.rows d.sources ds ≡ rows_of d.rows a.sources ds = same_rows d.rows d.sources a.sources ds c.dropped.invariant.whole wide in
+    let kept : a.rows - d.rows ≡ length c.args.self.now - length c.args.dropped = omega arith in
+    let as_long : length new ≡ length xs = c.write_from.auto.ring ∙ ap length c.deref_mut.ensures.value in
+    let written = rw (c.deref.ensures.value, c.deref_mut.ensures.value, c.cells_of-start.ensures.count, c.wrapped-self-inside.ensures) at c.write_from.ensures in
+    rw (with_items_is a.cells new (as_long ∙ sym a.cells.ok.0), c.wrapped-self-inside.ensures)
+    (ring_put_back d.rows a.rows a.sources a.oldest xs new ds fewer c.self.invariant as_long cells written
+    ∙ ap (λ all. all ++ take (a.rows - d.rows) (ring_rows a.rows a.sources a.oldest xs)) (sym rows ∙ c.dropped.view_is)
+    ∙ ap (λ all. c.args.dropped ++ take (a.rows - d.rows) all) c.self.view_is
+    ∙ ap (λ k. c.args.dropped ++ take k c.args.self.now) kept)

@@ -1,0 +1,534 @@
+-- Rows of cells in one vector, and rings of them.
+use Rattle.std.proofs.Common.{Vec, Global, ◌≡◌, ◌⊎◌, inl, inr, min, set, refl, sym, ◌∙◌, ap, subst, ℕ, zero, suc, ◌+◌, ◌-◌, ◌*◌, ◌%◌, ◌<◌, ◌≤◌, List, [], ◌∷◌, ◌++◌, length, get_or, take, drop, replicate, ⊎_elim, arith, length-append, length-drop}
+use Rattle.std.proofs.Math.Seq.{take-append-add}
+use Rattle.std.proofs.Math.Nat.{add-mul, mod-eq_of_lt, mod-eq-sub-mod}
+use Rattle.std.proofs.lemmas.Bool.{cases_lt}
+use Rattle.std.proofs.lemmas.Nat.{row_fits, mul-le, mod_below}
+use Rattle.std.proofs.lemmas.List.{append_assoc, append-nil, length-take-le, length-replicate, take-append-drop, take-append-le, take-take, drop-append-le, drop-drop, take_at, drop_at, take_all, drop_all, get_or_append_left, get_or-append_right, get_or-replicate, get_or-set_same, get_or-set_other, length-set, with_items_is, take-replicate, drop-replicate}
+use Rattle.std.proofs.lemmas.List.FromFn.{length-map-range_with_len, get_or-map-range_with_len, fill_by_all}
+use Rattle.std.specs.Vec.{with_items_from}
+use Rattle.rrd_fixed.specs.declared.cell.Cell.{Cell}
+use Rattle.rrd_fixed.specs.declared.cell.Cell.TheVariants.{Unknown}
+use Rattle.rrd_ring.specs.Rows.{row_at, width, HasWidth, unknown_rows, newest_rows, IsArchive, AreDropped}
+use Rattle.rrd_ring.specs.Ring.{row_of, rows_of, ring_rows, from_place, IsRing, AreRows}
+use Rattle.rrd_ring.proofs.RowLemmas.{width_is, IsArchive-from_width, AreDropped-from_width}
+
+-- ---- places
+
+-- a place past the last row goes on from the first
+pub mod_wrapped : (place rows : ℕ) → rows ≤ place → place < 2 * rows → place % rows ≡ place - rows
+mod_wrapped place rows h k = let below : place - rows < rows = omega arith in mod-eq-sub-mod h ∙ mod-eq_of_lt below
+
+-- so many rows have no more cells than more rows
+pub cells_le : (a b w : ℕ) → a ≤ b → a * w ≤ b * w
+cells_le a b w h = mul-le a w b w h (omega arith)
+
+-- ---- the cells of a ring from a place on
+
+from_place_at : (a b : List Cell) (n : ℕ) → length a ≡ n → from_place n (a ++ b) ≡ b ++ a
+from_place_at a b n e = rw (drop_at a b n e, take_at a b n e)
+
+three_parts : (xs : List Cell) (m n : ℕ) → xs ≡ take m xs ++ (take n (drop m xs) ++ drop n (drop m xs))
+three_parts xs m n = sym (ap (λ (ys : List Cell). take m xs ++ ys) (take-append-drop n (drop m xs)) ∙ take-append-drop m xs)
+
+further : (a b c : List Cell) (q s r : ℕ) → length a ≡ q → length b ≡ s → q + s ≡ r → from_place s (from_place q (a ++ (b ++ c))) ≡ from_place r (a ++ (b ++ c))
+further a b c q s r la lb e =
+    let lab : length (a ++ b) ≡ r = omega (arith, length-append a b) in
+    ap (from_place s) (from_place_at a (b ++ c) q la ∙ append_assoc b c a)
+    ∙ from_place_at b (c ++ a) s lb
+    ∙ append_assoc c a b
+    ∙ sym (from_place_at (a ++ b) c r lab)
+    ∙ ap (from_place r) (append_assoc a b c)
+
+around : (a b c : List Cell) (q s r : ℕ) → length a ≡ r → length (a ++ b) ≡ q → length c + r ≡ s → from_place s (from_place q (a ++ (b ++ c))) ≡ from_place r (a ++ (b ++ c))
+around a b c q s r la lab e =
+    let lca : length (c ++ a) ≡ s = omega (arith, length-append c a) in
+    ap (from_place s) (ap (from_place q) (sym (append_assoc a b c)) ∙ from_place_at (a ++ b) c q lab ∙ sym (append_assoc c a b))
+    ∙ from_place_at (c ++ a) b s lca
+    ∙ sym (append_assoc b c a)
+    ∙ sym (from_place_at a (b ++ c) r la)
+
+from_place-further : (xs : List Cell) (q s r : ℕ) → q + s ≡ r → r ≤ length xs → from_place s (from_place q xs) ≡ from_place r xs
+from_place-further xs q s r e h =
+    let a = take q xs in
+    let b = take s (drop q xs) in
+    let la : length a ≡ q = length-take-le q xs (omega arith) in
+    let lb : length b ≡ s = length-take-le s (drop q xs) (omega (arith, length-drop q xs)) in
+    subst (λ (ys : List Cell). from_place s (from_place q ys) ≡ from_place r ys) (sym (three_parts xs q s)) (further a b (drop s (drop q xs)) q s r la lb e)
+
+from_place-around : (xs : List Cell) (q s r : ℕ) → q + s ≡ r + length xs → r ≤ q → q ≤ length xs → from_place s (from_place q xs) ≡ from_place r xs
+from_place-around xs q s r e h k =
+    let a = take r xs in
+    let b = take (q - r) (drop r xs) in
+    let c = drop (q - r) (drop r xs) in
+    let la : length a ≡ r = length-take-le r xs (omega arith) in
+    let lb : length b ≡ q - r = length-take-le (q - r) (drop r xs) (omega (arith, length-drop r xs)) in
+    let lab : length (a ++ b) ≡ q = omega (arith, length-append a b, la, lb) in
+    let lca : length c + r ≡ s = omega (arith, length-drop (q - r) (drop r xs), length-drop r xs) in
+    subst (λ (ys : List Cell). from_place s (from_place q ys) ≡ from_place r ys) (sym (three_parts xs r (q - r))) (around a b c q s r la lab lca)
+
+-- so many rows after the oldest one
+pub from_place-rows : (rows w place more : ℕ) (xs : List Cell) → length xs ≡ rows * w → place < rows → more ≤ rows → from_place (more * w) (from_place (place * w) xs) ≡ from_place (((place + more) % rows) * w) xs
+from_place-rows rows w place more xs e h k =
+    let sum = add-mul place more w in
+    ⊎_elim (λ (below : place + more < rows).
+    rw (mod-eq_of_lt below)
+    (from_place-further xs (place * w) (more * w) ((place + more) * w) (sym sum) (omega (arith, cells_le (place + more) rows w (omega arith)))))
+    (λ (past : rows ≤ place + more).
+    let left = place + more - rows in
+    let all : place + more ≡ left + rows = omega arith in
+    let again = ap (λ (n : ℕ). n * w) all ∙ add-mul left rows w in
+    rw (mod_wrapped (place + more) rows past (omega arith))
+    (from_place-around xs (place * w) (more * w) (left * w) (omega (arith, sum, again)) (cells_le left place w (omega arith)) (omega (arith, cells_le place rows w (omega arith)))))
+    (cases_lt (place + more) rows)
+
+pub length-from_place : (start : ℕ) (xs : List Cell) → start ≤ length xs → length (from_place start xs) ≡ length xs
+length-from_place start xs h = omega (arith, length-append (drop start xs) (take start xs), length-drop start xs, length-take-le start xs h)
+
+-- ---- the rows of a vector
+
+pub length-rows_of : (rows w : ℕ) (xs : List Cell) → length (rows_of rows w xs) ≡ rows
+length-rows_of rows w xs = length-map-range_with_len (λ i. row_of w xs i) 0 rows
+
+pub row_at-rows_of : (rows w : ℕ) (xs : List Cell) (i : ℕ) → i < rows → row_at (rows_of rows w xs) i ≡ row_of w xs i
+row_at-rows_of rows w xs i h = get_or-map-range_with_len (λ i. row_of w xs i) 0 rows i i [] h (omega arith)
+
+pub length-ring_rows : (rows w place : ℕ) (xs : List Cell) → length (ring_rows rows w place xs) ≡ rows
+length-ring_rows rows w place xs = length-map-range_with_len (λ i. row_of w xs ((place + i) % rows)) 0 rows
+
+pub row_at-ring_rows : (rows w place : ℕ) (xs : List Cell) (i : ℕ) → i < rows → row_at (ring_rows rows w place xs) i ≡ row_of w xs ((place + i) % rows)
+row_at-ring_rows rows w place xs i h =
+    get_or-map-range_with_len (λ i. row_of w xs ((place + i) % rows)) 0 rows i i [] h (omega arith)
+
+pub length-row_of : (w : ℕ) (xs : List Cell) (i : ℕ) → i * w + w ≤ length xs → length (row_of w xs i) ≡ w
+length-row_of w xs i h = length-take-le w (drop (i * w) xs) (omega (arith, length-drop (i * w) xs))
+
+HasWidth_by : (w : ℕ) (xs : List (List Cell)) → ((i : ℕ) → i < length xs → length (get_or xs i []) ≡ w) → HasWidth w xs
+HasWidth_by w [] h = tt
+HasWidth_by w (x ∷ xs) h = (h 0 (omega arith), HasWidth_by w xs (λ i k. h (suc i) (omega arith)))
+
+pub HasWidth-rows_of : (rows w : ℕ) (xs : List Cell) → length xs ≡ rows * w → HasWidth w (rows_of rows w xs)
+HasWidth-rows_of rows w xs e =
+    HasWidth_by w (rows_of rows w xs)
+    (λ i h. let k : i < rows = omega (arith, length-rows_of rows w xs) in
+    ap length (row_at-rows_of rows w xs i k) ∙ length-row_of w xs i (omega (arith, row_fits i w rows w k (omega arith))))
+
+from_later : (m k w : ℕ) (xs ys : List Cell) → length xs ≡ m * w → m ≤ k → drop (k * w) (xs ++ ys) ≡ drop ((k - m) * w) ys
+from_later m k w xs ys e h =
+    let sum : k ≡ m + (k - m) = omega arith in
+    ap (λ (n : ℕ). drop n (xs ++ ys)) (ap (λ (n : ℕ). n * w) sum ∙ add-mul m (k - m) w)
+    ∙ sym (drop-drop ((k - m) * w) (m * w) (xs ++ ys))
+    ∙ ap (drop ((k - m) * w)) (drop_at xs ys (m * w) e)
+
+-- rows after others
+pub rows_of-append : (m n w : ℕ) (xs ys : List Cell) → length xs ≡ m * w → rows_of (m + n) w (xs ++ ys) ≡ rows_of m w xs ++ rows_of n w ys
+rows_of-append m n w xs ys e =
+    let front = rows_of m w xs in
+    let back = rows_of n w ys in
+    let lf = length-rows_of m w xs in
+    let lb = length-rows_of n w ys in
+    sym (fill_by_all (λ i. row_of w (xs ++ ys) i) (front ++ back) (m + n) [] (omega (arith, length-append front back, lf, lb))
+    (λ k h. ⊎_elim (λ (below : k < m).
+    let fits : k * w + w ≤ m * w = row_fits k w m w below (omega arith) in
+    get_or_append_left front back [] k (omega (arith, lf))
+    ∙ row_at-rows_of m w xs k below
+    ∙ sym (ap (take w) (drop-append-le (k * w) xs ys (omega arith)) ∙ take-append-le w (drop (k * w) xs) ys (omega (arith, length-drop (k * w) xs))))
+    (λ (past : m ≤ k).
+    get_or-append_right front back m k [] lf past
+    ∙ row_at-rows_of n w ys (k - m) (omega arith)
+    ∙ ap (take w) (sym (from_later m k w xs ys e past)))
+    (cases_lt k m)))
+
+split_rows : (k n w : ℕ) (xs : List Cell) → k ≤ n → length xs ≡ n * w → rows_of n w xs ≡ rows_of k w (take (k * w) xs) ++ rows_of (n - k) w (drop (k * w) xs)
+split_rows k n w xs h e =
+    let sum : n ≡ k + (n - k) = omega arith in
+    ap (λ (m : ℕ). rows_of m w xs) sum
+    ∙ ap (rows_of (k + (n - k)) w) (sym (take-append-drop (k * w) xs))
+    ∙ rows_of-append k (n - k) w (take (k * w) xs) (drop (k * w) xs) (length-take-le (k * w) xs (omega (arith, cells_le k n w h)))
+
+pub rows_of-take : (k n w : ℕ) (xs : List Cell) → k ≤ n → length xs ≡ n * w → rows_of k w (take (k * w) xs) ≡ take k (rows_of n w xs)
+rows_of-take k n w xs h e =
+    let front = rows_of k w (take (k * w) xs) in
+    sym (ap (take k) (split_rows k n w xs h e) ∙ take_at front (rows_of (n - k) w (drop (k * w) xs)) k (length-rows_of k w (take (k * w) xs)))
+
+pub rows_of-drop : (k n w : ℕ) (xs : List Cell) → k ≤ n → length xs ≡ n * w → rows_of (n - k) w (drop (k * w) xs) ≡ drop k (rows_of n w xs)
+rows_of-drop k n w xs h e =
+    let front = rows_of k w (take (k * w) xs) in
+    sym (ap (drop k) (split_rows k n w xs h e) ∙ drop_at front (rows_of (n - k) w (drop (k * w) xs)) k (length-rows_of k w (take (k * w) xs)))
+
+pub rows_of_one : (w : ℕ) (row : List Cell) → length row ≡ w → rows_of 1 w row ≡ row ∷ []
+rows_of_one w row e =
+    let none : 0 * w ≡ 0 = omega arith in
+    ap (λ (n : ℕ). take w (drop n row) ∷ []) none ∙ ap (λ (r : List Cell). r ∷ []) (take_all w row (omega arith))
+
+pub rows_of_unknown : (rows w : ℕ) → rows_of rows w (replicate (rows * w) Unknown) ≡ unknown_rows rows w
+rows_of_unknown rows w =
+    let all = replicate (rows * w) Unknown in
+    sym (fill_by_all (λ i. row_of w all i) (unknown_rows rows w) rows [] (length-replicate rows (replicate w Unknown))
+    (λ k h. get_or-replicate rows k (replicate w Unknown) [] h
+    ∙ sym (ap (take w) (drop-replicate (k * w) (rows * w) Unknown) ∙ take-replicate w (rows * w - k * w) Unknown (omega (arith, row_fits k w rows w h (omega arith))))))
+
+-- ---- the rows of a ring
+
+row_first : (w : ℕ) (xs : List Cell) (i : ℕ) → i * w + w ≤ length xs → take w (from_place (i * w) xs) ≡ row_of w xs i
+row_first w xs i h = take-append-le w (drop (i * w) xs) (take (i * w) xs) (omega (arith, length-drop (i * w) xs))
+
+-- they are the rows of its cells from the oldest row on
+pub ring_rows-from_place : (rows w place : ℕ) (xs : List Cell) → place < rows → length xs ≡ rows * w → ring_rows rows w place xs ≡ rows_of rows w (from_place (place * w) xs)
+ring_rows-from_place rows w place xs h e =
+    let turned = from_place (place * w) xs in
+    let lt : length turned ≡ rows * w = length-from_place (place * w) xs (omega (arith, cells_le place rows w (omega arith))) ∙ e in
+    fill_by_all (λ i. row_of w turned i) (ring_rows rows w place xs) rows [] (length-ring_rows rows w place xs)
+    (λ k below.
+    let at = (place + k) % rows in
+    let at_below : at < rows = mod_below (place + k) rows (omega arith) in
+    row_at-ring_rows rows w place xs k below
+    ∙ sym (row_first w xs at (omega (arith, row_fits at w rows w at_below (omega arith))))
+    ∙ ap (take w) (sym (from_place-rows rows w place k xs e h (omega arith)))
+    ∙ row_first w turned k (omega (arith, row_fits k w rows w below (omega arith))))
+
+-- what is known of a ring's cells
+pub length-turned : (rows w place : ℕ) (xs : List Cell) → IsRing rows w place xs → length (from_place (place * w) xs) ≡ rows * w
+length-turned rows w place xs is =
+    let within : place < rows = is.place_within in
+    length-from_place (place * w) xs (omega (arith, is.whole, cells_le place rows w (omega arith))) ∙ is.whole
+
+pub HasWidth-ring_rows : (rows w place : ℕ) (xs : List Cell) → IsRing rows w place xs → HasWidth w (ring_rows rows w place xs)
+HasWidth-ring_rows rows w place xs is =
+    subst (λ (all : List (List Cell)). HasWidth w all) (sym (ring_rows-from_place rows w place xs is.place_within is.whole))
+    (HasWidth-rows_of rows w (from_place (place * w) xs) (length-turned rows w place xs is))
+
+pub IsArchive-ring_rows : (rows w place : ℕ) (xs : List Cell) → IsRing rows w place xs → IsArchive (ring_rows rows w place xs)
+IsArchive-ring_rows rows w place xs is =
+    let count = length-ring_rows rows w place xs in
+    let some : 0 < rows = is.some_rows in
+    let few : rows ≤ 1000000 = is.few_rows in
+    IsArchive-from_width w (ring_rows rows w place xs) (HasWidth-ring_rows rows w place xs is) (omega arith) (omega arith) is.some_sources is.few_sources
+
+pub ring_len : (rows w place : ℕ) (xs : List Cell) (all : List (List Cell)) → ring_rows rows w place xs ≡ all → length all ≡ rows
+ring_len rows w place xs all e = ap length (sym e) ∙ length-ring_rows rows w place xs
+
+pub ring_width : (rows w place : ℕ) (xs : List Cell) (all : List (List Cell)) → IsRing rows w place xs → ring_rows rows w place xs ≡ all → width all ≡ w
+ring_width rows w place xs all is e =
+    let count = length-ring_rows rows w place xs in
+    let some : 0 < rows = is.some_rows in
+    ap width (sym e) ∙ width_is w (ring_rows rows w place xs) (HasWidth-ring_rows rows w place xs is) (omega arith)
+
+pub ring_fits : (rows w place k : ℕ) (xs : List Cell) → IsRing rows w place xs → k < rows → k * w + w ≤ length xs
+ring_fits rows w place k xs is h = omega (arith, is.whole, row_fits k w rows w h (omega arith))
+
+pub AreDropped-rows_of : (rows w : ℕ) (xs : List Cell) → AreRows rows w xs → AreDropped (rows_of rows w xs)
+AreDropped-rows_of rows w xs are =
+    let count = length-rows_of rows w xs in
+    let few : rows ≤ 1000000 = are.few_rows in
+    AreDropped-from_width w (rows_of rows w xs) (HasWidth-rows_of rows w xs are.whole) (omega arith)
+
+-- ---- a row is pushed
+
+-- the cells with other ones in the place of row k
+abbrev pub with_cells : ℕ → ℕ → List Cell → List Cell → List Cell
+with_cells w k xs row = take (k * w) xs ++ (row ++ drop w (drop (k * w) xs))
+
+pub length-with_cells : (w k : ℕ) (xs row : List Cell) → k * w + w ≤ length xs → length row ≡ w → length (with_cells w k xs row) ≡ length xs
+length-with_cells w k xs row fits e =
+    let rest = drop w (drop (k * w) xs) in
+    omega (arith, length-append (take (k * w) xs) (row ++ rest), length-append row rest, length-take-le (k * w) xs (omega arith), length-drop w (drop (k * w) xs), length-drop (k * w) xs)
+
+pub ring_push : (rows w place : ℕ) (xs row : List Cell) → IsRing rows w place xs → length row ≡ w
+    → ring_rows rows w ((place + 1) % rows) (with_cells w place xs row) ≡ drop 1 (ring_rows rows w place xs ++ row ∷ [])
+ring_push rows w place xs row is e =
+    let some : 0 < rows = is.some_rows in
+    let within : place < rows = is.place_within in
+    let fits : place * w + w ≤ length xs = ring_fits rows w place place xs is within in
+    let front = take (place * w) xs in
+    let rest = drop w (drop (place * w) xs) in
+    let ys = front ++ (row ++ rest) in
+    let turned = from_place (place * w) xs in
+    let next = (place + 1) % rows in
+    let long : length ys ≡ rows * w = length-with_cells w place xs row fits e ∙ is.whole in
+    let lf : length front ≡ place * w = length-take-le (place * w) xs (omega arith) in
+    let one : 1 * w ≡ w = omega arith in
+    let all_rows : rows ≡ rows - 1 + 1 = omega arith in
+    let others : rest ++ front ≡ drop (1 * w) turned = sym (ap (λ (n : ℕ). drop n turned) one ∙ drop-append-le w (drop (place * w) xs) front (omega (arith, length-drop (place * w) xs))) in
+    let same : from_place (next * w) ys ≡ drop (1 * w) turned ++ row =
+    sym (from_place-rows rows w place 1 ys long within (omega arith))
+    ∙ ap (from_place (1 * w)) (from_place_at front (row ++ rest) (place * w) lf ∙ append_assoc row rest front)
+    ∙ from_place_at row (rest ++ front) (1 * w) (e ∙ sym one)
+    ∙ ap (λ (zs : List Cell). zs ++ row) others in
+    let lt = length-turned rows w place xs is in
+    let count : rows * w ≡ (rows - 1) * w + 1 * w = ap (λ (n : ℕ). n * w) all_rows ∙ add-mul (rows - 1) 1 w in
+    ring_rows-from_place rows w next ys (mod_below (place + 1) rows some) long
+    ∙ ap (rows_of rows w) same
+    ∙ ap (λ (n : ℕ). rows_of n w (drop (1 * w) turned ++ row)) all_rows
+    ∙ rows_of-append (rows - 1) 1 w (drop (1 * w) turned) row (omega (arith, length-drop (1 * w) turned))
+    ∙ ap (λ (zs : List (List Cell)). zs ++ rows_of 1 w row) (rows_of-drop 1 rows w turned (omega arith) lt ∙ ap (drop 1) (sym (ring_rows-from_place rows w place xs within is.whole)))
+    ∙ ap (λ (zs : List (List Cell)). drop 1 (ring_rows rows w place xs) ++ zs) (rows_of_one w row e)
+    ∙ sym (drop-append-le 1 (ring_rows rows w place xs) (row ∷ []) (omega (arith, length-ring_rows rows w place xs)))
+
+-- ---- rows come back, and the oldest and the newest are copied
+
+-- rows of one width have as many cells as their numbers say
+same_width : (n v w : ℕ) (ys : List Cell) → 0 < n → length ys ≡ n * v → HasWidth w (rows_of n v ys) → v ≡ w
+same_width n v w ys some e h =
+    let count = length-rows_of n v ys in
+    sym (width_is v (rows_of n v ys) (HasWidth-rows_of n v ys e) (omega arith)) ∙ width_is w (rows_of n v ys) h (omega arith)
+
+pub same_cells : (n v w : ℕ) (ys : List Cell) → length ys ≡ n * v → HasWidth w (rows_of n v ys) → length ys ≡ n * w
+same_cells zero v w ys e h = let none : zero * v ≡ zero * w = omega arith in e ∙ none
+same_cells (suc n) v w ys e h = e ∙ ap (λ (k : ℕ). suc n * k) (same_width (suc n) v w ys (omega arith) e h)
+
+pub same_rows : (n v w : ℕ) (ys : List Cell) → length ys ≡ n * v → HasWidth w (rows_of n v ys) → rows_of n v ys ≡ rows_of n w ys
+same_rows zero v w ys e h = refl
+same_rows (suc n) v w ys e h = ap (λ (k : ℕ). rows_of (suc n) k ys) (same_width (suc n) v w ys (omega arith) e h)
+
+pub ring_take : (n rows w place : ℕ) (xs : List Cell) → n ≤ rows → IsRing rows w place xs → rows_of n w (take (n * w) (from_place (place * w) xs)) ≡ take n (ring_rows rows w place xs)
+ring_take n rows w place xs h is =
+    rows_of-take n rows w (from_place (place * w) xs) h (length-turned rows w place xs is) ∙ ap (take n) (sym (ring_rows-from_place rows w place xs is.place_within is.whole))
+
+pub ring_drop : (n rows w place : ℕ) (xs : List Cell) → n ≤ rows → IsRing rows w place xs → rows_of (rows - n) w (drop (n * w) (from_place (place * w) xs)) ≡ drop n (ring_rows rows w place xs)
+ring_drop n rows w place xs h is =
+    rows_of-drop n rows w (from_place (place * w) xs) h (length-turned rows w place xs is) ∙ ap (drop n) (sym (ring_rows-from_place rows w place xs is.place_within is.whole))
+
+pub ring_put_back : (n rows w place : ℕ) (xs new ds : List Cell) → n ≤ rows → IsRing rows w place xs → length new ≡ length xs → length ds ≡ n * w
+    → from_place (((place + (rows - n)) % rows) * w) new ≡ ds ++ drop (length ds) (from_place (((place + (rows - n)) % rows) * w) xs)
+    → ring_rows rows w ((place + (rows - n)) % rows) new ≡ rows_of n w ds ++ take (rows - n) (ring_rows rows w place xs)
+ring_put_back n rows w place xs new ds h is l ld e =
+    let some : 0 < rows = is.some_rows in
+    let kept = rows - n in
+    let back = (place + kept) % rows in
+    let turned = from_place (place * w) xs in
+    let lt = length-turned rows w place xs is in
+    let all_rows : rows ≡ n + kept = omega arith in
+    let count : rows * w ≡ n * w + kept * w = ap (λ (k : ℕ). k * w) all_rows ∙ add-mul n kept w in
+    let ending : length (drop (kept * w) turned) ≡ length ds = omega (arith, length-drop (kept * w) turned) in
+    let others : drop (length ds) (from_place (back * w) xs) ≡ take (kept * w) turned =
+    ap (drop (length ds)) (sym (from_place-rows rows w place kept xs is.whole is.place_within (omega arith))) ∙ drop_at (drop (kept * w) turned) (take (kept * w) turned) (length ds) ending in
+    ring_rows-from_place rows w back new (mod_below (place + kept) rows some) (l ∙ is.whole)
+    ∙ ap (rows_of rows w) (e ∙ ap (λ (zs : List Cell). ds ++ zs) others)
+    ∙ ap (λ (k : ℕ). rows_of k w (ds ++ take (kept * w) turned)) all_rows
+    ∙ rows_of-append n kept w ds (take (kept * w) turned) ld
+    ∙ ap (λ (zs : List (List Cell)). rows_of n w ds ++ zs) (ring_take kept rows w place xs (omega arith) is)
+
+-- the newest rows, in as many cells as they have
+pub ring_newest : (kept rows w place : ℕ) (xs : List Cell) → kept ≤ rows → IsRing rows w place xs
+    → rows_of kept w (take (kept * w) (from_place (((place + (rows - kept)) % rows) * w) xs)) ≡ drop (rows - kept) (ring_rows rows w place xs)
+ring_newest kept rows w place xs h is =
+    let gone = rows - kept in
+    let turned = from_place (place * w) xs in
+    let lt = length-turned rows w place xs is in
+    let all_rows : rows ≡ gone + kept = omega arith in
+    let left : rows - gone ≡ kept = omega arith in
+    let count : rows * w ≡ gone * w + kept * w = ap (λ (k : ℕ). k * w) all_rows ∙ add-mul gone kept w in
+    let ending : length (drop (gone * w) turned) ≡ kept * w = omega (arith, length-drop (gone * w) turned) in
+    ap (λ (zs : List Cell). rows_of kept w (take (kept * w) zs)) (sym (from_place-rows rows w place gone xs is.whole is.place_within (omega arith)))
+    ∙ ap (rows_of kept w) (take_at (drop (gone * w) turned) (take (gone * w) turned) (kept * w) ending)
+    ∙ ap (λ (k : ℕ). rows_of k w (drop (gone * w) turned)) (sym left)
+    ∙ ring_drop gone rows w place xs (omega arith) is
+
+-- ---- two pieces of a vector
+
+-- the cells before the end, and those that are left from the front
+pub copied_from : (xs : List Cell) (s f g : ℕ) → s ≤ length xs → f ≤ length xs - s → g ≤ s → (g ≡ 0) ⊎ (length xs - s ≤ f) → take f (drop s xs) ++ take g xs ≡ take (f + g) (from_place s xs)
+copied_from xs s f g hs hf hg which =
+    let lb = length-drop s xs in
+    ⊎_elim (λ (none : g ≡ 0).
+    let all : f + g ≡ f = omega arith in
+    ap (λ (k : ℕ). take f (drop s xs) ++ take k xs) none
+    ∙ append-nil (take f (drop s xs))
+    ∙ sym (ap (λ (k : ℕ). take k (from_place s xs)) all ∙ take-append-le f (drop s xs) (take s xs) (omega arith)))
+    (λ (full : length xs - s ≤ f).
+    let end : f + g ≡ length (drop s xs) + g = omega arith in
+    ap (λ (zs : List Cell). zs ++ take g xs) (take_all f (drop s xs) (omega arith))
+    ∙ ap (λ (zs : List Cell). drop s xs ++ zs) (sym (take-take g s xs hg))
+    ∙ sym (ap (λ (k : ℕ). take k (from_place s xs)) end ∙ take-append-add (drop s xs) (take s xs) g))
+    which
+
+pub written_from : (xs ds : List Cell) (s f g : ℕ) → s ≤ length xs → f + g ≡ length ds → f ≤ length xs - s → g ≤ s → (g ≡ 0) ⊎ (length xs - s ≤ f)
+    → from_place s (drop f ds ++ drop g (take s xs ++ (take f ds ++ drop f (drop s xs)))) ≡ ds ++ drop (length ds) (from_place s xs)
+written_from xs ds s f g hs sum hf hg which =
+    let front = take s xs in
+    let back = drop s xs in
+    let lf : length front ≡ s = length-take-le s xs hs in
+    let lb : length back ≡ length xs - s = length-drop s xs in
+    let first = take f ds ++ drop f back in
+    let second = drop f ds ++ drop g front in
+    let ls : length second ≡ s = omega (arith, length-append (drop f ds) (drop g front), length-drop f ds, length-drop g front) in
+    ap (λ (zs : List Cell). from_place s (drop f ds ++ zs)) (drop-append-le g front first (omega arith))
+    ∙ ap (from_place s) (sym (append_assoc (drop f ds) (drop g front) first))
+    ∙ from_place_at second first s ls
+    ∙ ⊎_elim (λ (none : g ≡ 0).
+    let all : length ds ≡ f = omega arith in
+    ap (λ (zs : List Cell). (zs ++ drop f back) ++ second) (take_all f ds (omega arith))
+    ∙ ap (λ (zs : List Cell). (ds ++ drop f back) ++ (zs ++ drop g front)) (drop_all f ds (omega arith))
+    ∙ ap (λ (k : ℕ). (ds ++ drop f back) ++ drop k front) none
+    ∙ append_assoc ds (drop f back) front
+    ∙ ap (λ (zs : List Cell). ds ++ zs) (sym (ap (λ (k : ℕ). drop k (back ++ front)) all ∙ drop-append-le f back front (omega arith))))
+    (λ (full : length xs - s ≤ f).
+    ap (λ (zs : List Cell). (take f ds ++ zs) ++ second) (drop_all f back (omega arith))
+    ∙ ap (λ (zs : List Cell). zs ++ second) (append-nil (take f ds))
+    ∙ sym (append_assoc (take f ds) (drop f ds) (drop g front))
+    ∙ ap (λ (zs : List Cell). zs ++ drop g front) (take-append-drop f ds)
+    ∙ ap (λ (zs : List Cell). ds ++ zs) (sym (ap (λ (k : ℕ). drop k (back ++ front)) (sym sum) ∙ sym (drop-drop g f (back ++ front)) ∙ ap (drop g) (drop_at back front f (omega arith)))))
+    which
+
+-- ---- rows that are made
+
+pub rows_len : (rows w : ℕ) (xs : List Cell) (all : List (List Cell)) → rows_of rows w xs ≡ all → length all ≡ rows
+rows_len rows w xs all e = ap length (sym e) ∙ length-rows_of rows w xs
+
+pub rows_fit : (rows w k : ℕ) (xs : List Cell) → AreRows rows w xs → k < rows → k * w + w ≤ length xs
+rows_fit rows w k xs are h = omega (arith, are.whole, row_fits k w rows w h (omega arith))
+
+-- where the vector's first row is the oldest
+pub ring_at_front : (rows w : ℕ) (xs : List Cell) → 0 < rows → length xs ≡ rows * w → ring_rows rows w 0 xs ≡ rows_of rows w xs
+ring_at_front rows w xs some e =
+    let none : 0 * w ≡ 0 = omega arith in
+    ring_rows-from_place rows w 0 xs some e
+    ∙ ap (λ (k : ℕ). rows_of rows w (from_place k xs)) none
+    ∙ ap (rows_of rows w) (append-nil xs)
+
+pub ring_unknown : (rows w : ℕ) → 0 < rows → ring_rows rows w 0 (replicate (rows * w) Unknown) ≡ unknown_rows rows w
+ring_unknown rows w some =
+    ring_at_front rows w (replicate (rows * w) Unknown) some (length-replicate (rows * w) Unknown) ∙ rows_of_unknown rows w
+
+pub AreRows-take : (n rows w place : ℕ) (xs : List Cell) → n ≤ rows → IsRing rows w place xs → AreRows n w (take (n * w) (from_place (place * w) xs))
+AreRows-take n rows w place xs h is =
+    let few : rows ≤ 1000000 = is.few_rows in
+    record {
+      few_rows = omega arith;
+      few_sources = is.few_sources;
+      whole = length-take-le (n * w) (from_place (place * w) xs) (omega (arith, length-turned rows w place xs is, cells_le n rows w h));
+    }
+
+-- the cells of the newest rows, after unknown ones
+pub length-resized : (n kept rows w place : ℕ) (xs : List Cell) → kept ≤ n → kept ≤ rows → IsRing rows w place xs
+    → length (replicate ((n - kept) * w) Unknown ++ take (kept * w) (from_place (((place + (rows - kept)) % rows) * w) xs)) ≡ n * w
+length-resized n kept rows w place xs h k is =
+    let some : 0 < rows = is.some_rows in
+    let start = ((place + (rows - kept)) % rows) * w in
+    let below : (place + (rows - kept)) % rows < rows = mod_below (place + (rows - kept)) rows some in
+    let within : start ≤ length xs = omega (arith, is.whole, cells_le ((place + (rows - kept)) % rows) rows w (omega arith)) in
+    let part : length (take (kept * w) (from_place start xs)) ≡ kept * w = length-take-le (kept * w) (from_place start xs) (omega (arith, length-from_place start xs within, is.whole, cells_le kept rows w k)) in
+    let all_rows : n ≡ n - kept + kept = omega arith in
+    let count : n * w ≡ (n - kept) * w + kept * w = ap (λ (m : ℕ). m * w) all_rows ∙ add-mul (n - kept) kept w in
+    omega (arith, length-append (replicate ((n - kept) * w) Unknown) (take (kept * w) (from_place start xs)), length-replicate ((n - kept) * w) Unknown, part, count)
+
+pub ring_resized : (n kept rows w place : ℕ) (xs : List Cell) (all : List (List Cell)) → 0 < n → kept ≡ min n rows → IsRing rows w place xs → ring_rows rows w place xs ≡ all
+    → ring_rows n w 0 (replicate ((n - kept) * w) Unknown ++ take (kept * w) (from_place (((place + (rows - kept)) % rows) * w) xs)) ≡ newest_rows n all
+ring_resized n kept rows w place xs all some least is e =
+    let fewer : kept ≤ n = omega arith in
+    let within : kept ≤ rows = omega arith in
+    let unknown = replicate ((n - kept) * w) Unknown in
+    let part = take (kept * w) (from_place (((place + (rows - kept)) % rows) * w) xs) in
+    let all_rows : n ≡ n - kept + kept = omega arith in
+    let long = ring_len rows w place xs all e in
+    let wide = ring_width rows w place xs all is e in
+    let added : n - kept ≡ n - length all = omega arith in
+    let gone : rows - kept ≡ length all - n = omega arith in
+    ring_at_front n w (unknown ++ part) some (length-resized n kept rows w place xs fewer within is)
+    ∙ ap (λ (k : ℕ). rows_of k w (unknown ++ part)) all_rows
+    ∙ rows_of-append (n - kept) kept w unknown part (length-replicate ((n - kept) * w) Unknown)
+    ∙ ap (λ (zs : List (List Cell)). zs ++ rows_of kept w part) (rows_of_unknown (n - kept) w)
+    ∙ ap (λ (zs : List (List Cell)). unknown_rows (n - kept) w ++ zs) (ring_newest kept rows w place xs within is ∙ ap (drop (rows - kept)) e)
+    ∙ ap (λ (k : ℕ). unknown_rows k w ++ drop (rows - kept) all) added
+    ∙ ap (λ (k : ℕ). unknown_rows (n - length all) k ++ drop (rows - kept) all) (sym wide)
+    ∙ ap (λ (k : ℕ). unknown_rows (n - length all) (width all) ++ drop k all) gone
+
+-- ---- a row is written over
+
+row_before : (w j : ℕ) (a zs : List Cell) → j * w + w ≤ length a → row_of w (a ++ zs) j ≡ row_of w a j
+row_before w j a zs h =
+    ap (take w) (drop-append-le (j * w) a zs (omega arith)) ∙ take-append-le w (drop (j * w) a) zs (omega (arith, length-drop (j * w) a))
+
+row_after : (w m j : ℕ) (a zs : List Cell) → length a ≡ m * w → m ≤ j → row_of w (a ++ zs) j ≡ row_of w zs (j - m)
+row_after w m j a zs e h = ap (take w) (from_later m j w a zs e h)
+
+row_of-written : (w k : ℕ) (xs row : List Cell) → k * w + w ≤ length xs → length row ≡ w → row_of w (with_cells w k xs row) k ≡ row
+row_of-written w k xs row fits e =
+    ap (take w) (drop_at (take (k * w) xs) (row ++ drop w (drop (k * w) xs)) (k * w) (length-take-le (k * w) xs (omega arith)))
+    ∙ take_at row (drop w (drop (k * w) xs)) w e
+
+row_of-others : (w k j : ℕ) (xs row : List Cell) → k * w + w ≤ length xs → length row ≡ w → (j ≡ k → ⊥) → row_of w (with_cells w k xs row) j ≡ row_of w xs j
+row_of-others w k j xs row fits e other =
+    let front = take (k * w) xs in
+    let mid = take w (drop (k * w) xs) in
+    let rest = drop w (drop (k * w) xs) in
+    let lf : length front ≡ k * w = length-take-le (k * w) xs (omega arith) in
+    let lm : length mid ≡ w = length-take-le w (drop (k * w) xs) (omega (arith, length-drop (k * w) xs)) in
+    let more : (k + 1) * w ≡ k * w + w = add-mul k 1 w ∙ (let one : k * w + 1 * w ≡ k * w + w = omega arith in one) in
+    let before : length (front ++ row) ≡ (k + 1) * w = omega (arith, length-append front row) in
+    let was : length (front ++ mid) ≡ (k + 1) * w = omega (arith, length-append front mid) in
+    let whole : front ++ (mid ++ rest) ≡ xs = sym (three_parts xs (k * w) w) in
+    ⊎_elim (λ (less : j < k).
+    let within : j * w + w ≤ length front = omega (arith, row_fits j w k w less (omega arith)) in
+    row_before w j front (row ++ rest) within ∙ sym (row_before w j front (mid ++ rest) within) ∙ ap (λ (zs : List Cell). row_of w zs j) whole)
+    (λ (least : k ≤ j).
+    let past : k + 1 ≤ j = ⊎_elim (λ (greater : k < j). omega arith) (λ (most : j ≤ k). let same : j ≡ k = omega arith in absurd (other same)) (cases_lt k j) in
+    ap (λ (zs : List Cell). row_of w zs j) (sym (append_assoc front row rest))
+    ∙ row_after w (k + 1) j (front ++ row) rest before past
+    ∙ sym (row_after w (k + 1) j (front ++ mid) rest was past)
+    ∙ ap (λ (zs : List Cell). row_of w zs j) (append_assoc front mid rest ∙ whole))
+    (cases_lt j k)
+
+same_or_not : (j i : ℕ) → (j ≡ i) ⊎ (j ≡ i → ⊥)
+same_or_not j i =
+    ⊎_elim (λ (less : j < i). inr (λ e. absurd (omega arith)))
+    (λ (least : i ≤ j). ⊎_elim (λ (greater : i < j). inr (λ e. absurd (omega arith))) (λ (most : j ≤ i). inl (omega arith)) (cases_lt i j))
+    (cases_lt j i)
+
+pub rows_written : (rows w i : ℕ) (xs row : List Cell) → AreRows rows w xs → i < rows → length row ≡ w → rows_of rows w (with_cells w i xs row) ≡ set (rows_of rows w xs) i row
+rows_written rows w i xs row are h e =
+    let fits = rows_fit rows w i xs are h in
+    let was = rows_of rows w xs in
+    let count = length-rows_of rows w xs in
+    sym (fill_by_all (λ j. row_of w (with_cells w i xs row) j) (set was i row) rows [] (length-set was i row ∙ count)
+    (λ j k. ⊎_elim (λ (same : j ≡ i).
+    ap (λ (n : ℕ). get_or (set was i row) n []) same
+    ∙ get_or-set_same was i row [] (omega arith)
+    ∙ sym (row_of-written w i xs row fits e)
+    ∙ ap (λ (n : ℕ). row_of w (with_cells w i xs row) n) (sym same))
+    (λ (other : j ≡ i → ⊥).
+    get_or-set_other was i j row [] other ∙ row_at-rows_of rows w xs j k ∙ sym (row_of-others w i j xs row fits e other))
+    (same_or_not j i)))
+
+-- two rows at one place are one
+wrapped_same : (rows place i j : ℕ) → place < rows → i < rows → j < rows → (place + j) % rows ≡ (place + i) % rows → j ≡ i
+wrapped_same rows place i j h hi hj e =
+    ⊎_elim (λ (i_below : place + i < rows).
+    let ei : (place + i) % rows ≡ place + i = mod-eq_of_lt i_below in
+    ⊎_elim (λ (j_below : place + j < rows). let ej : (place + j) % rows ≡ place + j = mod-eq_of_lt j_below in omega arith)
+    (λ (j_past : rows ≤ place + j). let ej = mod_wrapped (place + j) rows j_past (omega arith) in omega arith)
+    (cases_lt (place + j) rows))
+    (λ (i_past : rows ≤ place + i).
+    let ei = mod_wrapped (place + i) rows i_past (omega arith) in
+    ⊎_elim (λ (j_below : place + j < rows). let ej : (place + j) % rows ≡ place + j = mod-eq_of_lt j_below in omega arith)
+    (λ (j_past : rows ≤ place + j). let ej = mod_wrapped (place + j) rows j_past (omega arith) in omega arith)
+    (cases_lt (place + j) rows))
+    (cases_lt (place + i) rows)
+
+pub ring_written : (rows w place i : ℕ) (xs row : List Cell) → IsRing rows w place xs → i < rows → length row ≡ w → ring_rows rows w place (with_cells w ((place + i) % rows) xs row) ≡ set (ring_rows rows w place xs) i row
+ring_written rows w place i xs row is h e =
+    let some : 0 < rows = is.some_rows in
+    let at = (place + i) % rows in
+    let fits = ring_fits rows w place at xs is (mod_below (place + i) rows some) in
+    let was = ring_rows rows w place xs in
+    let count = length-ring_rows rows w place xs in
+    sym (fill_by_all (λ j. row_of w (with_cells w at xs row) ((place + j) % rows)) (set was i row) rows [] (length-set was i row ∙ count)
+    (λ j k. ⊎_elim (λ (same : j ≡ i).
+    ap (λ (n : ℕ). get_or (set was i row) n []) same
+    ∙ get_or-set_same was i row [] (omega arith)
+    ∙ sym (row_of-written w at xs row fits e)
+    ∙ ap (λ (n : ℕ). row_of w (with_cells w at xs row) ((place + n) % rows)) (sym same))
+    (λ (other : j ≡ i → ⊥).
+    get_or-set_other was i j row [] other
+    ∙ row_at-ring_rows rows w place xs j k
+    ∙ sym (row_of-others w at ((place + j) % rows) xs row fits e (λ same. other (wrapped_same rows place i j is.place_within h k same))))
+    (same_or_not j i)))
+
+-- what a vector ends as, once a row that was lent has come back with as many cells
+pub vec_written : (v : Vec Cell Global) (w k start : ℕ) (row : List Cell) → start ≡ k * w → k * w + w ≤ length v.items → length row ≡ w → (with_items_from v start row).items ≡ with_cells w k v.items row
+vec_written v w k start row at fits e =
+    let xs = v.items in
+    let same : take start xs ++ (row ++ drop (length row) (drop start xs)) ≡ with_cells w k xs row =
+    ap (λ (n : ℕ). take n xs ++ (row ++ drop (length row) (drop n xs))) at ∙ ap (λ (n : ℕ). take (k * w) xs ++ (row ++ drop n (drop (k * w) xs))) e in
+    with_items_is v (take start xs ++ (row ++ drop (length row) (drop start xs))) (ap length same ∙ length-with_cells w k xs row fits e ∙ sym v.ok.0) ∙ same

@@ -1,5 +1,0 @@
-use Rattle.std.proofs.Common.{◌≡◌, ◌++◌, map, take}
-use Rattle.rrd_ring.proofs.table.push_copies.Given as goal
-
-abbrev pub invariant-loop-row : goal.invariant-loop-row
-invariant-loop-row l = map (λ row. row.items) l.rows.items ≡ map (λ row. row.items) l.fn.rows.items ++ map (λ row. row.items) (take l.row-index l.copied)

@@ -1,0 +1,25 @@
+-- What a vector of cells ends as, once a `&mut` to a part of it has ended.
+use Rattle.std.specs.Prelude.{ℕ, List, Vec, length, slice_range}
+use Rattle.std.specs.Global.{Global}
+use Rattle.std.specs.Borrow.{Fml, RattleType, MutBor, Array, Lends}
+use Rattle.std.specs.List.{refill}
+use Rattle.std.specs.Vec.{with_items_from}
+use Rattle.std.specs.contracts.alloc.Global.{the_row as heap_row}
+use Rattle.std.specs.contracts.impls.GlobalAllocator.TheImpl.{ghosts}
+use Rattle.std.specs.contracts.vec.Vec.{the_row as vec_row}
+use Rattle.rrd_fixed.specs.declared.cell.Cell.{Cell}
+use Rattle.rrd_fixed.specs.contracts.cell.Cell.{the_row as cell_row}
+
+-- a vector of cells, as the logic names its type
+abbrev pub cells_row : RattleType
+cells_row = vec_row cell_row heap_row ghosts
+
+-- the vector ends with what was last written through the loan, from place start on
+abbrev pub LendsPart : MutBor (Vec Cell Global) → ℕ → MutBor (List Cell) → Fml
+LendsPart cells start part = Lends cells_row (Array cell_row 0) cells part (with_items_from cells.now start)
+
+-- the same, where as many cells come back as were lent
+abbrev pub LendsAsMany : MutBor (Vec Cell Global) → ℕ → ℕ → MutBor (List Cell) → Fml
+LendsAsMany cells start end part =
+    Lends cells_row (Array cell_row 0) cells part
+    (λ written. with_items_from cells.now start (refill (length (slice_range cells.now.items start end)) (slice_range cells.now.items start end) written))

@@ -1,0 +1,35 @@
+-- Rows of cells in one vector, one row after another, and rings of such rows.
+use Rattle.std.specs.Prelude.{◌≡◌, ℕ, ◌+◌, ◌*◌, ◌%◌, ◌<◌, ◌≤◌, List, ◌++◌, length, take, drop, map}
+use Rattle.std.specs.List.{range_with_len}
+use Rattle.rrd_fixed.specs.declared.cell.Cell.{Cell}
+
+-- row k of a vector whose rows have so many cells each
+abbrev pub row_of : ℕ → List Cell → ℕ → List Cell
+row_of sources cells k = take sources (drop (k * sources) cells)
+
+-- the rows of a vector, row i of them being the vector's row i
+abbrev pub rows_of : ℕ → ℕ → List Cell → List (List Cell)
+rows_of rows sources cells = map (λ i. row_of sources cells i) (range_with_len 0 rows)
+
+-- the rows of a ring, row i of them being the vector's row (place + i) mod rows: the vector's row at the place is the oldest
+abbrev pub ring_rows : ℕ → ℕ → ℕ → List Cell → List (List Cell)
+ring_rows rows sources place cells = map (λ i. row_of sources cells ((place + i) % rows)) (range_with_len 0 rows)
+
+-- the cells of a ring's vector from one of them on, and then those before it
+abbrev pub from_place : ℕ → List Cell → List Cell
+from_place start cells = drop start cells ++ take start cells
+
+-- a ring of 1 to 1,000,000 rows of 1 to 64 cells each, in one vector, and the place of its oldest row
+pub record IsRing (rows sources place : ℕ) (cells : List Cell) : Type 0 where
+  pub some_rows : 0 < rows
+  pub few_rows : rows ≤ 1000000
+  pub some_sources : 0 < sources
+  pub few_sources : sources ≤ 64
+  pub whole : length cells ≡ rows * sources
+  pub place_within : place < rows
+
+-- at most 1,000,000 rows of at most 64 cells each, in one vector
+pub record AreRows (rows sources : ℕ) (cells : List Cell) : Type 0 where
+  pub few_rows : rows ≤ 1000000
+  pub few_sources : sources ≤ 64
+  pub whole : length cells ≡ rows * sources
