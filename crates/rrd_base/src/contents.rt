@@ -158,14 +158,15 @@ impl Contents {
         store.row_of_age(age(self.last, resolution, time))
     }
 
-    // Lets so many seconds pass that leave the step unfinished. It is a turn for each source.
+    // Lets so many seconds pass that leave the step unfinished. It is at most a turn for each source.
     fn begin(&mut self, rates: &[Cell], seconds: u64, meter: &mut Meter)
         requires within { self.old.last + seconds < (self.old.last / self.old.step + 1) * self.old.step }
         requires rates_are { IsRow (length self.old.sources) rates.now }
         requires in_time { self.old.last + seconds ≤ 9999999999 }
         requires turns { meter.old + 64 < 2 ^ 64 }
-        ensures ticked { meter.new ≡ meter.old + length self.old.sources }
         ensures value { self.new ≡ passed self.old (replicate seconds rates.now) }
+        ensures least { meter.old ≤ meter.new }
+        ensures most { meter.new ≤ meter.old + length self.old.sources }
     {
         add_all(&mut self.preps, rates, seconds, meter);
         self.last += seconds;

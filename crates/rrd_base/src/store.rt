@@ -147,14 +147,18 @@ impl Store {
         self.preps[source]
     }
 
-    // Adds to each preparation its source's step, so many times. It is a turn for each.
+    // Adds to each preparation its source's step, so many times. It is at most a turn for each.
     fn go_on(&mut self, step: &[Cell], count: u64, meter: &mut Meter)
         requires row { IsRow (length self.old.parts) step.now }
         requires fits { AllByRecursion (λ (p : Part). p.known + count ≤ 1000000) self.old.parts }
         requires turns { meter.old + length step.now < 2 ^ 64 }
         ensures value { self.new ≡ record self.old { parts = fold (with_each self.old.def.function) self.old.parts (replicate count step.now) } }
-        ensures ticked { meter.new ≡ meter.old + length step.now }
+        ensures least { meter.old ≤ meter.new }
+        ensures most { meter.new ≤ meter.old + length step.now }
     {
+        if count == 0 {
+            return;
+        }
         add_each(&mut self.preps, step, count, meter);
     }
 

@@ -86,7 +86,7 @@ returns-then-time-end-clause-least c =
     let later = subst (λ (z : Content). z.last < time) (sym c.self.view_is) c.requires.later in
     let none = least_within V time is later c.if-time-end.true in
     subst (λ (z : Content). c.args.meter.now + least_of_sample (length z.sources) z.step (definitions z.archives) z.last time ≤ c.begin.new.meter) c.self.view_is
-    (omega (arith, none, c.begin.ensures.ticked))
+    (omega (arith, none, c.begin.ensures.least))
 
 pub returns-then-time-end-clause-most : goal.returns-then-time-end-clause-most
 returns-then-time-end-clause-most c =
@@ -96,7 +96,7 @@ returns-then-time-end-clause-most c =
     let X = c.args.self.now in
     let rates = c.args.rates.now in
     let time : ℕ = c.args.time in
-    let ticked = c.begin.ensures.ticked ∙ ap (λ (x : Content). c.args.meter.now + length x.sources) (sym c.self.view_is) in
+    let ticked = subst (λ (x : Content). c.begin.new.meter ≤ c.args.meter.now + length x.sources) (sym c.self.view_is) c.begin.ensures.most in
     subst (λ (z : Content). c.begin.new.meter ≤ c.args.meter.now + most_of_sample (length z.sources) z.step (definitions z.archives) z.last time) c.self.view_is
     (omega (arith, ticked, most_within V time))
 
@@ -127,7 +127,7 @@ returns-else-time-end-clause-least c =
     let low = subst (λ (z : Content). c.args.meter.now + length z.sources * least_of_steps (z.last / z.step) (1 + steps_after V time) (definitions z.archives) ≤ c.end_steps.new.meter) (sym c.self.view_is) c.end_steps.ensures.least in
     let all = least_caught V time is c.if-time-end.false in
     subst (λ (z : Content). c.args.meter.now + least_of_sample (length z.sources) z.step (definitions z.archives) z.last time ≤ c.begin-else-time-end.new.meter) c.self.view_is
-    (omega (arith, all, low, c.begin-else-time-end.ensures.ticked))
+    (omega (arith, all, low, c.begin-else-time-end.ensures.least))
 
 pub returns-else-time-end-clause-most : goal.returns-else-time-end-clause-most
 returns-else-time-end-clause-most c =
@@ -143,7 +143,7 @@ returns-else-time-end-clause-most c =
     let steps : late ≡ passed V (replicate (seconds_to_steps V time) rates) = c.end_steps.ensures.value ∙ ap (λ (x : Content). passed x (replicate (end_of_step V - d.last + steps_after V time * x.step) rates)) (sym c.self.view_is) in
     let last = at_last V late time rates is row h steps in
     let high = subst (λ (z : Content). c.end_steps.new.meter ≤ c.args.meter.now + length z.sources * (2 + most_of_steps (z.last / z.step) (1 + steps_after V time) (definitions z.archives))) (sym c.self.view_is) c.end_steps.ensures.most in
-    let ticked : c.begin-else-time-end.new.meter ≡ c.end_steps.new.meter + length d.sources.items = c.begin-else-time-end.ensures.ticked ∙ ap (λ ss. c.end_steps.new.meter + length ss) last.same.sources in
+    let ticked = subst (λ ss. c.begin-else-time-end.new.meter ≤ c.end_steps.new.meter + length ss) last.same.sources c.begin-else-time-end.ensures.most in
     let all = most_caught V time is h in
     subst (λ (z : Content). c.begin-else-time-end.new.meter ≤ c.args.meter.now + most_of_sample (length z.sources) z.step (definitions z.archives) z.last time) c.self.view_is
     (omega (arith, all, high, ticked))
@@ -162,6 +162,6 @@ returns-else-time-end-clause-few c =
     let steps : late ≡ passed V (replicate (seconds_to_steps V time) rates) = c.end_steps.ensures.value ∙ ap (λ (x : Content). passed x (replicate (end_of_step V - d.last + steps_after V time * x.step) rates)) (sym c.self.view_is) in
     let last = at_last V late time rates is row h steps in
     let high = subst (λ (z : Content). c.end_steps.new.meter ≤ c.args.meter.now + length z.sources * (2 + most_of_steps (z.last / z.step) (1 + steps_after V time) (definitions z.archives))) (sym c.self.view_is) c.end_steps.ensures.most in
-    let ticked : c.begin-else-time-end.new.meter ≡ c.end_steps.new.meter + length d.sources.items = c.begin-else-time-end.ensures.ticked ∙ ap (λ ss. c.end_steps.new.meter + length ss) last.same.sources in
+    let ticked = subst (λ ss. c.begin-else-time-end.new.meter ≤ c.end_steps.new.meter + length ss) last.same.sources c.begin-else-time-end.ensures.most in
     let few = few_caught V (1 + steps_after V time) is in
     omega (arith, high, few, ticked)

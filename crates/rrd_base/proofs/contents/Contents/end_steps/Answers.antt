@@ -49,7 +49,7 @@ take_all-requires-clause-turns c =
     let few = few_turns (content_of d) (d.last / d.step) (1 + m) is in
     let sources = is.few_sources in
     subst (λ xs. c.close_all.new.meter + length c.close_all.new.cells * most_of_steps (d.last / d.step) (1 + m) (definitions xs) < 2 ^ 64) (sym c.deref_mut-3.ensures.value)
-    (subst (λ w. c.close_all.new.meter + w * most_of_steps (d.last / d.step) (1 + m) (definitions d.stores.items) < 2 ^ 64) (sym wide) (omega (arith, c.requires.turns, c.add_all.ensures.ticked, c.close_all.ensures.ticked)))
+    (subst (λ w. c.close_all.new.meter + w * most_of_steps (d.last / d.step) (1 + m) (definitions d.stores.items) < 2 ^ 64) (sym wide) (omega (arith, c.requires.turns, c.add_all.ensures.least, c.add_all.ensures.most, c.close_all.ensures.ticked)))
 
 pub invariant_of-self : goal.invariant_of-self
 invariant_of-self c =
@@ -119,7 +119,7 @@ returns-clause-least c =
     let low = subst (λ w. c.close_all.new.meter + w * least_of_steps (d.last / d.step) (1 + m) (definitions d.stores.items) ≤ c.take_all.new.meter) wide
     (subst (λ xs. c.close_all.new.meter + length c.close_all.new.cells * least_of_steps (d.last / d.step) (1 + m) (definitions xs) ≤ c.take_all.new.meter) c.deref_mut-3.ensures.value c.take_all.ensures.least) in
     subst (λ (x : Content). c.args.meter.now + length x.sources * least_of_steps (x.last / x.step) (1 + m) (definitions x.archives) ≤ c.take_all.new.meter) c.self.view_is
-    (omega (arith, low, c.add_all.ensures.ticked, c.close_all.ensures.ticked))
+    (omega (arith, low, c.add_all.ensures.least, c.add_all.ensures.most, c.close_all.ensures.ticked))
 
 pub returns-clause-most : goal.returns-clause-most
 returns-clause-most c =
@@ -139,4 +139,4 @@ returns-clause-most c =
     let high = subst (λ w. c.take_all.new.meter ≤ c.close_all.new.meter + w * most_of_steps (d.last / d.step) (1 + m) (definitions d.stores.items)) wide
     (subst (λ xs. c.take_all.new.meter ≤ c.close_all.new.meter + length c.close_all.new.cells * most_of_steps (d.last / d.step) (1 + m) (definitions xs)) c.deref_mut-3.ensures.value c.take_all.ensures.most) in
     subst (λ (x : Content). c.take_all.new.meter ≤ c.args.meter.now + length x.sources * (2 + most_of_steps (x.last / x.step) (1 + m) (definitions x.archives))) c.self.view_is
-    (omega (arith, high, c.add_all.ensures.ticked, c.close_all.ensures.ticked))
+    (omega (arith, high, c.add_all.ensures.least, c.add_all.ensures.most, c.close_all.ensures.ticked))

@@ -56,7 +56,7 @@ returns-then-count-left-clause-least c =
     let short = subst (λ (d : RraDef). count < left_of before d) c.def-steps.ensures c.if-count-left.true in
     let none = ended_none before count A.def.steps c.requires.valid.some_steps short in
     subst (λ k. c.args.meter.now + n * min k A.def.rows ≤ c.go_on-then-count-left.new.meter) (sym none)
-    (subst (λ k. c.args.meter.now + n * k ≤ c.go_on-then-count-left.new.meter) {x = 0} {y = min 0 A.def.rows} (omega arith) (omega (arith, c.go_on.ensures.ticked, c.go_on-then-count-left.ensures.ticked)))
+    (subst (λ k. c.args.meter.now + n * k ≤ c.go_on-then-count-left.new.meter) {x = 0} {y = min 0 A.def.rows} (omega arith) (omega (arith, c.go_on.ensures.least, c.go_on.ensures.most, c.go_on-then-count-left.ensures.least, c.go_on-then-count-left.ensures.most)))
 
 -- ---- it ends
 
@@ -118,7 +118,7 @@ push-requires-clause-turns c =
     subst (λ (d : RraDef). c.close_row.new.meter + length c.close_row.new.row * min (1 + (count - left_of before d) / d.steps) (length c.close_row.new.self.rows) < 2 ^ 64) (sym c.def-steps.ensures)
     (subst (λ w. c.close_row.new.meter + w * min k (length c.close_row.new.self.rows) < 2 ^ 64) (sym room)
     (subst (λ r. c.close_row.new.meter + n * min k r < 2 ^ 64) (sym rows)
-    (omega (arith, turns, c.requires.room, c.go_on.ensures.ticked, c.go_on-else-count-left.ensures.ticked, c.close_row.ensures.ticked))))
+    (omega (arith, turns, c.requires.room, c.go_on.ensures.least, c.go_on.ensures.most, c.go_on-else-count-left.ensures.least, c.go_on-else-count-left.ensures.most, c.close_row.ensures.ticked))))
 
 pub go_on-requires-else-count-left-2-clause-fits : goal.go_on-requires-else-count-left-2-clause-fits
 go_on-requires-else-count-left-2-clause-fits c =
@@ -149,7 +149,7 @@ go_on-requires-else-count-left-2-clause-turns c =
     ∙ ap (λ (d : RraDef). c.close_row.new.meter + length c.close_row.new.row * min (1 + (count - left_of before d) / d.steps) (length c.close_row.new.self.rows)) c.def-steps.ensures
     ∙ ap (λ w. c.close_row.new.meter + w * min k (length c.close_row.new.self.rows)) room
     ∙ ap (λ r. c.close_row.new.meter + n * min k r) rows in
-    omega (arith, turns, c.requires.room, c.requires.then_bounded.one_each, pushed, c.go_on.ensures.ticked, c.go_on-else-count-left.ensures.ticked, c.close_row.ensures.ticked)
+    omega (arith, turns, c.requires.room, c.requires.then_bounded.one_each, pushed, c.go_on.ensures.least, c.go_on.ensures.most, c.go_on-else-count-left.ensures.least, c.go_on-else-count-left.ensures.most, c.close_row.ensures.ticked)
 
 pub returns-else-count-left-clause-value : goal.returns-else-count-left-clause-value
 returns-else-count-left-clause-value c =
@@ -206,7 +206,7 @@ returns-else-count-left-clause-least c =
     ∙ ap (λ w. c.close_row.new.meter + w * min k (length c.close_row.new.self.rows)) room
     ∙ ap (λ r. c.close_row.new.meter + n * min k r) rows in
     subst (λ x. c.args.meter.now + n * min x A.def.rows ≤ c.go_on-else-count-left-2.new.meter) (sym ended)
-    (omega (arith, pushed, c.go_on.ensures.ticked, c.go_on-else-count-left.ensures.ticked, c.close_row.ensures.ticked, c.go_on-else-count-left-2.ensures.ticked))
+    (omega (arith, pushed, c.go_on.ensures.least, c.go_on.ensures.most, c.go_on-else-count-left.ensures.least, c.go_on-else-count-left.ensures.most, c.close_row.ensures.ticked, c.go_on-else-count-left-2.ensures.least, c.go_on-else-count-left-2.ensures.most))
 
 pub returns-else-count-left-clause-most : goal.returns-else-count-left-clause-most
 returns-else-count-left-clause-most c =
@@ -225,4 +225,4 @@ returns-else-count-left-clause-most c =
     ∙ ap (λ w. c.close_row.new.meter + w * min k (length c.close_row.new.self.rows)) room
     ∙ ap (λ r. c.close_row.new.meter + n * min k r) rows in
     subst (λ x. c.go_on-else-count-left-2.new.meter ≤ c.args.meter.now + n * (4 + min x A.def.rows)) (sym ended)
-    (omega (arith, pushed, c.requires.room, c.requires.then_bounded.one_each, c.go_on.ensures.ticked, c.go_on-else-count-left.ensures.ticked, c.close_row.ensures.ticked, c.go_on-else-count-left-2.ensures.ticked))
+    (omega (arith, pushed, c.requires.room, c.requires.then_bounded.one_each, c.go_on.ensures.least, c.go_on.ensures.most, c.go_on-else-count-left.ensures.least, c.go_on-else-count-left.ensures.most, c.close_row.ensures.ticked, c.go_on-else-count-left-2.ensures.least, c.go_on-else-count-left-2.ensures.most))
