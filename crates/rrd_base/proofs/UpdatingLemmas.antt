@@ -1,12 +1,16 @@
 -- An update's values, name by name.
-use Rattle.std.proofs.Common.{◌≡◌, refl, sym, ◌∙◌, ap, ℕ, zero, suc, ◌+◌, ◌<◌, ◌≤◌, min, Bool, cond, List, [], ◌∷◌, map, length, drop, get_or, arith}
+use Rattle.std.proofs.Common.{◌≡◌, refl, sym, ◌∙◌, ap, ℕ, zero, suc, ◌+◌, ◌<◌, ◌≤◌, min, Bool, false, true, cond, List, [], ◌∷◌, map, length, drop, get_or, arith}
 use Rattle.std.proofs.Math.ListN.{get_or-map}
 use Rattle.std.proofs.lemmas.List.{length-map}
+use Rattle.std.proofs.lemmas.Bool.{or_parts}
+use Rattle.std.specs.List.{list_any}
 use Rattle.rrd_fixed.specs.declared.name.Name.{Name}
 use Rattle.rrd_fixed.specs.Names.{same_name}
 use Rattle.rrd_base.specs.declared.definition.DsDef.{DsDef}
 use Rattle.rrd_base.specs.declared.update.Given.{Given}
-use Rattle.rrd_base.specs.Commands.{value_for}
+use Rattle.rrd_base.specs.Commands.{names, value_for}
+use Rattle.rrd_base.specs.Verdict.{is_double}
+use Rattle.rrd_base.proofs.NameLemmas.{same_itself}
 
 -- the value at the first place that is left, or one further on
 value_here : (names : List Name) (values : List Given) (i : ℕ) (d : Name) (e : Given) (source : DsDef) → i < length names → i < length values → value_for (drop i names) (drop i values) source ≡ cond (same_name (get_or names i d) source.name) (get_or values i e) (value_for (drop (suc i) names) (drop (suc i) values) source)
@@ -42,3 +46,20 @@ pub value_at_end : {A : Type 0} (called : A → Name) (named : List A) (values :
 value_at_end called named values i source h =
     let count = length-map named called in
     value_none (map called named) values i source (omega (arith, count, h))
+
+-- ---- without a template
+
+another : (name : Name) (sources : List DsDef) (i : ℕ) (d : DsDef) → list_any (same_name name) (names sources) ≡ false → i < length sources → same_name name (get_or sources i d).name ≡ false
+another name [] i d none h = absurd (omega arith)
+another name (s ∷ ss) zero d none h = (or_parts (same_name name s.name) (list_any (same_name name) (names ss)) none).0
+another name (s ∷ ss) (suc i) d none h = another name ss i d (or_parts (same_name name s.name) (list_any (same_name name) (names ss)) none).1 (omega arith)
+
+-- where names differ, the value for a source is that in its place
+pub own_value : (sources : List DsDef) (values : List Given) (i : ℕ) (d : DsDef) → is_double (names sources) ≡ false → i < length sources → get_or values i Given.Unknown ≡ value_for (names sources) values (get_or sources i d)
+own_value [] values i d differ h = absurd (omega arith)
+own_value (s ∷ ss) [] i d differ h = refl
+own_value (s ∷ ss) (v ∷ vs) zero d differ h = sym (ap (λ b. cond b v (value_for (names ss) vs s)) (same_itself s.name s.name refl))
+own_value (s ∷ ss) (v ∷ vs) (suc i) d differ h =
+    let parts = or_parts (list_any (same_name s.name) (names ss)) (is_double (names ss)) differ in
+    own_value ss vs i d parts.1 (omega arith)
+    ∙ sym (ap (λ b. cond b v (value_for (names ss) vs (get_or ss i d))) (another s.name ss i d parts.0 (omega arith)))

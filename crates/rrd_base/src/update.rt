@@ -1,9 +1,11 @@
 //! Samples for a database: what an update asks, and which updates are accepted.
-ghost use Rattle.std.specs.Prelude.{◌≡◌, ◌∷◌, [], length, map, not};
+ghost use Rattle.std.specs.Prelude.{◌≡◌, ◌<◌, ◌∷◌, [], false, length, map, not, slice_index_or};
+ghost use Rattle.rrd_base.specs.declared.definition.DsDef.{DsDef};
+ghost use Rattle.rrd_base.specs.declared.update.Given.TheVariants.{Unknown};
 ghost use Rattle.std.specs.List.{list_any, list_all};
 ghost use Rattle.std.specs.Result.{result_err};
 ghost use Rattle.rrd_base.specs.Commands.{names, raw_of, value_for};
-ghost use Rattle.rrd_base.specs.Verdict.{first_refusal, has_source, is_admitted, sample_checks, update_checks};
+ghost use Rattle.rrd_base.specs.Verdict.{first_refusal, has_source, is_admitted, is_double, sample_checks, update_checks};
 ghost use Rattle.rrd_base.specs.Updating.{template_checks, template_of};
 ghost use Rattle.rrd_fixed.specs.Rate.{IsAccepted};
 
@@ -58,19 +60,29 @@ fn value_named<T: Named>(named: &[T], values: &[Given], source: &DsDef) -> Given
     Given::Unknown
 }
 
-// What is given for a source: by the template, or without one in the sources' order.
+// What is given for the source in a place: by the template, or without one in the sources' order. As
+// their names differ, that is the value in the same place.
 fn value_for(
     template: &Option<List<Name>>,
     sources: &[DsDef],
     values: &[Given],
-    source: &DsDef,
+    place: usize,
 ) -> Given
-    ensures { result ≡ value_for (template_of sources.now template.now) values.now source.now }
+    requires there { place < length sources.now }
+    requires names_differ { is_double (names sources.now) ≡ false }
+    ensures { (d : DsDef) → result ≡ value_for (template_of sources.now template.now) values.now (slice_index_or sources.now place d) }
 {
     match template {
-        Some(names) => value_named(names.as_slice(), values, source),
-        None => value_named(sources, values, source),
+        Some(names) => value_named(names.as_slice(), values, &sources[place]),
+        None => value_at(values, place),
     }
+}
+
+// The value in a place; unknown if there are fewer.
+fn value_at(values: &[Given], place: usize) -> Given
+    ensures { result ≡ slice_index_or values.now place Unknown }
+{
+    if place < values.len() { values[place] } else { Given::Unknown }
 }
 
 // How many values a sample has to have.
@@ -95,9 +107,15 @@ fn is_admitted(source: &DsDef, given: Given) -> bool
 
 // Whether each source accepts its value.
 fn are_admitted(template: &Option<List<Name>>, sources: &[DsDef], values: &[Given]) -> bool
+    requires { is_double (names sources.now) ≡ false }
     ensures { result ≡ list_all (λ source. is_admitted source (value_for (template_of sources.now template.now) values.now source)) sources.now }
 {
-    sources.iter().all(|source| is_admitted(source, value_for(template, sources, values, source)))
+    for place in 0..sources.len() {
+        if !is_admitted(&sources[place], value_for(template, sources, values, place)) {
+            return false;
+        }
+    }
+    true
 }
 
 // Whether a sample after one at `last` is accepted, or the first refusal.
@@ -107,6 +125,7 @@ fn check_sample(
     last: u64,
     sample: &Sample,
 ) -> Result<(), Refusal>
+    requires { is_double (names sources.now) ≡ false }
     ensures { result_err result ≡ first_refusal (sample_checks sources.now (template_of sources.now template.now) last (sample.now ∷ [])) }
 {
     if sample.time > LATEST_TIME {
@@ -131,6 +150,7 @@ fn check_samples(
     last: u64,
     samples: &[Sample],
 ) -> Result<(), Refusal>
+    requires { is_double (names sources.now) ≡ false }
     ensures { result_err result ≡ first_refusal (sample_checks sources.now (template_of sources.now template.now) last samples.now) }
 {
     let mut last = last;
@@ -166,6 +186,7 @@ fn check_template(template: &Option<List<Name>>, sources: &[DsDef]) -> Result<()
 
 /// Whether an update is accepted, or the first refusal (rrdupdate).
 pub(crate) fn check_update(sources: &[DsDef], last: u64, update: &Update) -> Result<(), Refusal>
+    requires { is_double (names sources.now) ≡ false }
     ensures { result_err result ≡ first_refusal (update_checks sources.now last update.now) }
 {
     check_template(&update.template, sources)?;
@@ -197,11 +218,12 @@ pub(crate) fn raws_into(
     values: &[Given],
     room: &mut [Raw],
 )
-    requires { length room.old ≡ length sources.now }
+    requires room { length room.old ≡ length sources.now }
+    requires names_differ { is_double (names sources.now) ≡ false }
     ensures value { room.new ≡ map (λ source. raw_of source.kind (value_for (template_of sources.now template.now) values.now source)) sources.now }
 {
     for place in 0..sources.len() {
-        let source = &sources[place];
-        room[place] = raw_of(source, value_for(template, sources, values, source));
+        let given = value_for(template, sources, values, place);
+        room[place] = raw_of(&sources[place], given);
     }
 }

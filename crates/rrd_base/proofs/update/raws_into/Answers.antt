@@ -1,4 +1,4 @@
-use Rattle.std.proofs.Common.{◌∙◌, ap, suc, ◌+◌, ◌++◌, map, take, drop, set, length, ◌<◌, arith}
+use Rattle.std.proofs.Common.{sym, ◌∙◌, ap, suc, ◌+◌, ◌++◌, map, take, drop, set, length, ◌<◌, arith}
 use Rattle.rrd_base.specs.declared.definition.DsDef.{DsDef}
 use Rattle.rrd_base.specs.Commands.{raw_of, value_for}
 use Rattle.rrd_base.specs.Updating.{template_of}
@@ -13,5 +13,5 @@ loop-place-preserved c =
     let within : i < length sources = omega arith in
     let within_room : i < length c.args.room.now = omega (arith, c.requires) in
     ap (λ rs. set rs i c.raw_of.result) c.loop-place.invariant
-    ∙ map_more f sources c.args.room.now i c.index-sources-place.result c.raw_of.result within within_room (c.raw_of.ensures.value ∙ ap (raw_of c.index-sources-place.result.kind) c.value_for.ensures ∙ ap f c.index-sources-place.is)
+    ∙ map_more f sources c.args.room.now i c.index-sources-place.result c.raw_of.result within within_room (c.raw_of.ensures.value ∙ ap (raw_of c.index-sources-place.result.kind) (c.value_for-given.ensures c.index-sources-place.result ∙ ap (λ source. value_for (template_of sources c.args.template.now) c.args.values.now source) (sym c.index-sources-place.is)) ∙ ap f c.index-sources-place.is)
     ∙ ap (λ k. map f (take k sources) ++ drop k c.args.room.now) {x = suc i} {y = i + 1} (omega arith)
