@@ -35,7 +35,7 @@ use Rattle.rrd_base.specs.declared.update.Update.{Update}
 use Rattle.rrd_base.specs.declared.tune.Tuning.{Tuning}
 use Rattle.rrd_base.specs.declared.resize.Change.{Change}
 use Rattle.rrd_base.specs.declared.resize.Change.TheVariants.{Grow, Shrink}
-use Rattle.rrd_fixed.specs.Admitted.{in_range}
+use Rattle.rrd_fixed.specs.Admitted.{in_range, is_whole}
 use Rattle.rrd_fixed.specs.Names.{same_name, is_good}
 
 -- ---- raw values
@@ -55,12 +55,12 @@ raw_accepted Gauge (Given.Number number) = cond_both (ltb (unsigned_abs number.m
 raw_accepted Absolute (Given.Number number) = cond_both (ltb (unsigned_abs number.millionths) (10 ^ 24)) (Some number.millionths) None (λ o. IsAccepted Absolute (option_map_or Raw.Known o Raw.Unknown)) (λ e. ltb-true _ _ e) (λ e. tt)
 raw_accepted Counter (Given.Number number) =
     let value = floor_of number.millionths (pos (10 ^ 6)) in
-    cond_both number.point None (in_range (pos 0) (pos (2 ^ 64 - 1)) value) (λ o. IsAccepted Counter (option_map_or Raw.Known o Raw.Unknown)) (λ e. tt)
-    (λ e. admitted_range Counter (pos 0) (pos (2 ^ 64 - 1)) value (λ z a b. (a, omega (arith, ints))))
+    cond_both (not number.point && is_whole number.millionths) (in_range (pos 0) (pos (2 ^ 64 - 1)) value) None (λ o. IsAccepted Counter (option_map_or Raw.Known o Raw.Unknown))
+    (λ e. admitted_range Counter (pos 0) (pos (2 ^ 64 - 1)) value (λ z a b. (a, omega (arith, ints)))) (λ e. tt)
 raw_accepted Derive (Given.Number number) =
     let value = floor_of number.millionths (pos (10 ^ 6)) in
-    cond_both number.point None (in_range (neg_ℤ (pos (2 ^ 63))) (pos (2 ^ 63 - 1)) value) (λ o. IsAccepted Derive (option_map_or Raw.Known o Raw.Unknown)) (λ e. tt)
-    (λ e. admitted_range Derive (neg_ℤ (pos (2 ^ 63))) (pos (2 ^ 63 - 1)) value (λ z a b. (a, omega (arith, ints))))
+    cond_both (not number.point && is_whole number.millionths) (in_range (neg_ℤ (pos (2 ^ 63))) (pos (2 ^ 63 - 1)) value) None (λ o. IsAccepted Derive (option_map_or Raw.Known o Raw.Unknown))
+    (λ e. admitted_range Derive (neg_ℤ (pos (2 ^ 63))) (pos (2 ^ 63 - 1)) value (λ z a b. (a, omega (arith, ints)))) (λ e. tt)
 
 pub raws_accepted : (f : DsDef → Given) (sources : List DsDef) → AreAccepted sources (map (λ (source : DsDef). raw_of source.kind (f source)) sources)
 raws_accepted f [] = tt

@@ -1,5 +1,7 @@
 -- Which values a source accepts, and what is kept of them (rrdcreate, "DS"; the ranges are this project's).
-use Rattle.std.specs.Prelude.{◌-◌, ◌^◌, ℤ, pos, neg_ℤ, int_le, unsigned_abs, nat_lt, if◌then◌else◌, Option, Some, None}
+use Rattle.std.specs.Prelude.{◌-◌, ◌^◌, ◌&&◌, ℤ, pos, neg_ℤ, int_le, unsigned_abs, nat_lt, not, Bool, if◌then◌else◌, Option, Some, None}
+use Rattle.std.specs.Int.{int_rem_euclid}
+use Rattle.std.specs.Ordering.{int_eq}
 use Rattle.rrd_fixed.specs.declared.kind.Kind.{Kind}
 use Rattle.rrd_fixed.specs.declared.kind.Kind.TheVariants.{Gauge, Counter, Derive, Absolute}
 use Rattle.rrd_fixed.specs.declared.number.Number.{Number}
@@ -13,9 +15,16 @@ in_range low high value = if int_le low value then (if int_le value high then So
 abbrev pub measured : ℤ → Option ℤ
 measured millionths = if nat_lt (unsigned_abs millionths) (10 ^ 24) then Some millionths else None
 
--- a whole number without a point, kept in units
+-- whether so many millionths are a whole number of units
+abbrev pub is_whole : ℤ → Bool
+is_whole millionths = int_eq (int_rem_euclid millionths (pos (10 ^ 6))) (pos 0)
+
+-- a number without a point that is a whole number of units, kept in units
 abbrev pub counted : ℤ → ℤ → Number → Option ℤ
-counted low high number = if number.point then None else in_range low high (floor_of number.millionths (pos (10 ^ 6)))
+counted low high number =
+    if not number.point && is_whole number.millionths
+    then in_range low high (floor_of number.millionths (pos (10 ^ 6)))
+    else None
 
 -- the raw value of a number; none if a source of this kind doesn't accept it
 abbrev pub admit : Kind → Number → Option ℤ

@@ -124,21 +124,26 @@ fn measured(millionths: i128) -> Option<i128>
     }
 }
 
-// A whole number from `low` to `high` without a point, kept in units.
+// A number without a point that is a whole number of units from `low` to `high`, kept in units.
+// One that was read without a point is always whole; a caller may make others.
 fn counted(low: i128, high: i128, number: Number) -> Option<i128>
     ensures { result ≡ spec.counted low high number }
 {
+    let whole = number.millionths.rem_euclid(1_000_000) == 0;
+    if number.point || !whole {
+        return None;
+    }
     let units = number.millionths.div_euclid(1_000_000);
-    if number.point || units < low || high < units {
+    if units < low || high < units {
         return None;
     }
     Some(units)
 }
 
 /// What a source of this kind keeps of a number, in units for COUNTER and DERIVE and in millionths
-/// for GAUGE and ABSOLUTE; none if it doesn't accept it. COUNTER accepts whole numbers without a
-/// point from 0 to 2^64 - 1, DERIVE such from -2^63 to 2^63 - 1, GAUGE and ABSOLUTE those below
-/// 10^18 in size.
+/// for GAUGE and ABSOLUTE; none if it doesn't accept it. COUNTER accepts a number without a point
+/// that is a whole number of units from 0 to 2^64 - 1, DERIVE such a one from -2^63 to 2^63 - 1,
+/// GAUGE and ABSOLUTE a number below 10^18 in size.
 pub fn admit(kind: Kind, number: Number) -> Option<i128>
     ensures value { result ≡ spec.admit kind number }
     ensures accepted { IfSome result (λ raw. IsAccepted kind (Raw.Known raw)) }

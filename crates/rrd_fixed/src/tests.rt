@@ -155,6 +155,31 @@ fn accepted_values(rt: HostRuntime) {
     }
 }
 
+// A kind, millionths without a point, and what a source of the kind keeps of them.
+const WITHOUT_A_POINT: &[(Kind, i128, Option<i128>)] = &[
+    (Kind::Counter, 1_500_000, None),
+    (Kind::Counter, 2_000_000, Some(2)),
+    (Kind::Counter, 2_000_001, None),
+    (Kind::Counter, 1_999_999, None),
+    (Kind::Derive, 1_500_000, None),
+    (Kind::Derive, -1_500_000, None),
+    (Kind::Derive, 2_000_000, Some(2)),
+    (Kind::Derive, -2_000_000, Some(-2)),
+    (Kind::Gauge, 1_500_000, Some(1_500_000)),
+    (Kind::Absolute, -1_500_000, Some(-1_500_000)),
+];
+
+#[test]
+fn numbers_that_no_text_makes(rt: HostRuntime) {
+    for (kind, millionths, wanted) in WITHOUT_A_POINT {
+        let number = Number {
+            millionths: *millionths,
+            point: false,
+        };
+        assert_eq!(rt; admit(*kind, number), *wanted, "{kind:?} {millionths}");
+    }
+}
+
 // A text, and its value.
 const WHOLE_NUMBERS: &[(&str, Option<u64>)] = &[
     ("0", Some(0)),

@@ -26,11 +26,11 @@ returns-clause-cells c =
     = (simp to_z-of_z at c.age.ensures) ∙ ap (λ (def : RraDef). pos (d.last / (d.step * def.steps)) -ℤ int_div_euclid c.args.time (pos (d.step * def.steps))) c.def.ensures in
     let fits_age : FitsSigned w128 c.age.result = search rules in
     IfSome_then c.row_of_age.result c.row_of_age.ensures.some (λ row e source.
-      let same : row.now ≡ row_of_age store.rows unknown c.age.result = sym (simp to_z-of_z at (e unknown)) in
-      ap (λ cells. get_or cells source Unknown) (same ∙ ap (row_of_age store.rows unknown) age)
-      ∙ ap (λ a. get_or (row_at X a c.args.time) source Unknown) c.index-store.ensures
-      ∙ cell_of_archive X d.stores.items c.args.archive store c.args.time source there
-      ∙ ap (λ (x : Content). cell_at x c.args.archive c.args.time source) c.self.view_is)
+    let same : row.now ≡ row_of_age store.rows unknown c.age.result = sym (simp to_z-of_z at (e unknown)) in
+    ap (λ cells. get_or cells source Unknown) (same ∙ ap (row_of_age store.rows unknown) age)
+    ∙ ap (λ a. get_or (row_at X a c.args.time) source Unknown) c.index-store.ensures
+    ∙ cell_of_archive X d.stores.items c.args.archive store c.args.time source there
+    ∙ ap (λ (x : Content). cell_at x c.args.archive c.args.time source) c.self.view_is)
 
 pub returns-clause-wide : goal.returns-clause-wide
 returns-clause-wide c =
@@ -41,7 +41,7 @@ returns-clause-wide c =
     let there : c.args.archive < length d.stores.items = subst (λ (x : Content). c.args.archive < length x.archives) (sym c.self.view_is) c.requires in
     let valid = subst (IsValidArchive n (d.last / d.step)) (sym c.index-store.ensures) (All-at (IsValidArchive n (d.last / d.step)) d.stores.items c.args.archive store c.self.invariant.archives_are there) in
     IfSome_then c.row_of_age.result c.row_of_age.ensures.some (λ row e.
-      ap length (sym (e unknown)) ∙ row_of_age_wide n store.rows unknown _ valid.each_row (length-replicate n Unknown) ∙ ap (λ (x : Content). length x.sources) c.self.view_is)
+    ap length (sym (e unknown)) ∙ row_of_age_wide n store.rows unknown _ valid.each_row (length-replicate n Unknown) ∙ ap (λ (x : Content). length x.sources) c.self.view_is)
 
 pub returns-clause-none : goal.returns-clause-none
 returns-clause-none c =
@@ -55,10 +55,10 @@ returns-clause-none c =
     = (simp to_z-of_z at c.age.ensures) ∙ ap (λ (def : RraDef). pos (d.last / (d.step * def.steps)) -ℤ int_div_euclid c.args.time (pos (d.step * def.steps))) c.def.ensures in
     let fits_age : FitsSigned w128 c.age.result = search rules in
     none_then c.row_of_age.result c.row_of_age.ensures.none (λ e source within.
-      let same : row_of_age store.rows unknown c.age.result ≡ unknown = simp to_z-of_z at (e unknown) in
-      let inside : source < length d.sources.items = subst (λ (x : Content). source < length x.sources) (sym c.self.view_is) within in
-      ap (λ (x : Content). cell_at x c.args.archive c.args.time source) (sym c.self.view_is)
-      ∙ sym (cell_of_archive X d.stores.items c.args.archive store c.args.time source there)
-      ∙ ap (λ a. get_or (row_at X a c.args.time) source Unknown) (sym c.index-store.ensures)
-      ∙ ap (λ cells. get_or cells source Unknown) (ap (row_of_age store.rows unknown) (sym age) ∙ same)
-      ∙ get_or-replicate (length d.sources.items) source Unknown Unknown inside)
+    let same : row_of_age store.rows unknown c.age.result ≡ unknown = simp to_z-of_z at (e unknown) in
+    let inside : source < length d.sources.items = subst (λ (x : Content). source < length x.sources) (sym c.self.view_is) within in
+    ap (λ (x : Content). cell_at x c.args.archive c.args.time source) (sym c.self.view_is)
+    ∙ sym (cell_of_archive X d.stores.items c.args.archive store c.args.time source there)
+    ∙ ap (λ a. get_or (row_at X a c.args.time) source Unknown) (sym c.index-store.ensures)
+    ∙ ap (λ cells. get_or cells source Unknown) (ap (row_of_age store.rows unknown) (sym age) ∙ same)
+    ∙ get_or-replicate (length d.sources.items) source Unknown Unknown inside)
