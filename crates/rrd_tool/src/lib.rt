@@ -24,6 +24,8 @@ mod tests_faults;
 #[cfg(test)]
 mod tests_reading;
 #[cfg(test)]
+mod tests_retries;
+#[cfg(test)]
 mod tests_slow;
 #[cfg(test)]
 mod tests_streams;

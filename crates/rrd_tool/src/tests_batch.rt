@@ -478,6 +478,36 @@ last\n",
     1,
 );
 
+const SEVENTEEN_SAMPLES: Case = (
+    "seventeen_samples",
+    "create --step 10 --start 0 DS:g:GAUGE:100:U:U RRA:LAST:0.5:1:17\n\
+update 10:1 20:2 30:3 40:4 50:5 60:6 70:7 80:8 90:9 \
+100:10 110:11 120:12 130:13 140:14 150:15 160:16 170:17\n\
+fetch LAST -s 0 -e 169\n\
+revert\n\
+last\n",
+    "time: g\n\
+10: 1.000000\n\
+20: 2.000000\n\
+30: 3.000000\n\
+40: 4.000000\n\
+50: 5.000000\n\
+60: 6.000000\n\
+70: 7.000000\n\
+80: 8.000000\n\
+90: 9.000000\n\
+100: 10.000000\n\
+110: 11.000000\n\
+120: 12.000000\n\
+130: 13.000000\n\
+140: 14.000000\n\
+150: 15.000000\n\
+160: 16.000000\n\
+170: 17.000000\n\
+0\n",
+    0,
+);
+
 #[test]
 fn what_is_printed(rt: HostRuntime) -> Result<(), Fail> {
     let cases = [
@@ -496,6 +526,7 @@ fn what_is_printed(rt: HostRuntime) -> Result<(), Fail> {
         A_SOURCE_LEFT_OUT,
         COUNTER_REVERT,
         SHORT_JOURNAL,
+        SEVENTEEN_SAMPLES,
     ];
     assert_prints(&rt, rt.alloc(), &cases);
     Ok(())

@@ -89,10 +89,10 @@ const MADE: &[u8] =
 // How a batch ended: what of its streams failed, how many fault lines were written whole, and the
 // database's last time.
 #[derive(Clone, Copy, Debug, PartialEq, Eq)]
-struct End {
-    stream: Option<StreamFault>,
-    refused: u64,
-    last: Option<u64>,
+pub(crate) struct End {
+    pub(crate) stream: Option<StreamFault>,
+    pub(crate) refused: u64,
+    pub(crate) last: Option<u64>,
 }
 
 fn last_of(database: &Option<Database>) -> Option<u64> {
@@ -102,7 +102,7 @@ fn last_of(database: &Option<Database>) -> Option<u64> {
     }
 }
 
-fn run<R: Read, W: Write>(alloc: Global, reader: &mut R, out: &mut W) -> End {
+pub(crate) fn run<R: Read, W: Write>(alloc: Global, reader: &mut R, out: &mut W) -> End {
     let end = run_batch(alloc, None, 0, reader, out);
     End {
         stream: end.stream,
@@ -220,7 +220,7 @@ fn the_last_line(rt: HostRuntime) -> Result<(), Fail> {
 }
 
 // `last`, spaces up to a length, and what comes behind them.
-fn padded(alloc: Global, length: usize, behind: &str) -> Result<Vec<u8>, AllocError> {
+pub(crate) fn padded(alloc: Global, length: usize, behind: &str) -> Result<Vec<u8>, AllocError> {
     let mut line = Vec::from_slice(alloc, b"last")?;
     line.resize(length, b' ')?;
     line.extend_from_slice(behind.as_bytes())?;
