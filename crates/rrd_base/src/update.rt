@@ -82,7 +82,11 @@ fn value_for(
 fn value_at(values: &[Given], place: usize) -> Given
     ensures { result ≡ slice_index_or values.now place Unknown }
 {
-    if place < values.len() { values[place] } else { Given::Unknown }
+    if place < values.len() {
+        values[place]
+    } else {
+        Given::Unknown
+    }
 }
 
 // How many values a sample has to have.
