@@ -6,11 +6,11 @@ use Rattle.std.specs.List.{fold, range_with_len, enumerate_from, AllByRecursion}
 use Rattle.rrd_fixed.specs.declared.cell.Cell.{Cell}
 use Rattle.rrd_fold.specs.declared.function.Function.TheVariants.{Average}
 use Rattle.rrd_fold.specs.Groups.{finished, unfinished}
-use Rattle.rrd_fold.specs.Parts.{Part, nothing, with_each, step_cell, seconds_to_steps}
+use Rattle.rrd_fold.specs.Parts.{Part, with_each, seconds_to_steps}
 use Rattle.rrd_base.specs.Rules.{rows_rule}
 use Rattle.rrd_base.specs.History.{Archive, Content, Reading, Sampled, moment_of, rates, samples, second, seconds_of, steps_of, parts_of, rows_of, row_parts_of, keep_last, filled_up, kept_rows, archive_of, content_listed, IsArchive, IsBase}
 use Rattle.rrd_base.specs.Passed.{archive_passed, passed}
-use Rattle.rrd_fold.proofs.GroupLemmas.{finished_nil, unfinished_nil, finished_within, unfinished_within, finished_filling, unfinished_filling, next_ahead, goes_on, length-finished, reached_before}
+use Rattle.rrd_fold.proofs.GroupLemmas.{finished_nil, unfinished_nil, finished_within, unfinished_within, goes_on, length-finished, reached_before}
 use Rattle.rrd_base.proofs.RowLemmas.{filled_already, keep_last_past, keep_all, split_last, length-keep_last}
 
 -- to keep the last of a list twice is to keep them once

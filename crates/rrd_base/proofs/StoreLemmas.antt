@@ -1,12 +1,11 @@
 -- A step, for the archive of many sources.
-use Rattle.std.proofs.Common.{◌≡◌, refl, sym, ◌∙◌, ap, subst, ℕ, zero, suc, ◌+◌, ◌-◌, ◌<◌, ◌≤◌, ℤ, List, [], ◌∷◌, ◌++◌, length, drop, map, replicate, arith, length-append}
+use Rattle.std.proofs.Common.{◌≡◌, refl, sym, ◌∙◌, ap, subst, ℕ, zero, suc, ◌+◌, ◌-◌, ◌<◌, ◌≤◌, ℤ, List, [], ◌∷◌, ◌++◌, length, map, replicate, arith, length-append}
 use Rattle.std.proofs.lemmas.List.{length-replicate}
 use Rattle.std.specs.List.{AllByRecursion, fold}
 use Rattle.rrd_fixed.specs.declared.cell.Cell.{Cell}
-use Rattle.rrd_fixed.specs.declared.cell.Cell.TheVariants.{Unknown, Known}
 use Rattle.rrd_fold.specs.declared.function.Function.{Function}
 use Rattle.rrd_fold.specs.Groups.{finished}
-use Rattle.rrd_fold.specs.Parts.{Part, nothing, with_cell, with_each, row_cell}
+use Rattle.rrd_fold.specs.Parts.{Part, nothing, with_each, row_cell}
 use Rattle.rrd_fold.specs.Bounds.{Consolidating}
 use Rattle.rrd_ring.specs.Rows.{HasWidth, width}
 use Rattle.rrd_base.specs.declared.definition.RraDef.{RraDef}
@@ -19,7 +18,7 @@ use Rattle.rrd_base.proofs.RowLemmas.{length-keep_last}
 use Rattle.rrd_base.proofs.Kept.{All-append, kept}
 use Rattle.rrd_base.proofs.Bounded.{rows_keep, All-replicate}
 use Rattle.rrd_base.proofs.AllLemmas.{All-drop, All-weaker}
-use Rattle.rrd_base.proofs.EachLemmas.{parts_in-with_steps, parts_in-anew, AllOf-with_steps}
+use Rattle.rrd_base.proofs.EachLemmas.{parts_in-with_steps, parts_in-anew}
 
 -- an archive of these preparations
 abbrev pub shown : RraDef → List Consolidating → List (List Cell) → Archive

@@ -1,12 +1,11 @@
 -- An archive that takes a step and many of another: what holds between the calls.
-use Rattle.std.proofs.Common.{◌≡◌, refl, sym, ◌∙◌, ap, subst, ℕ, ◌+◌, ◌-◌, ◌*◌, ◌/◌, ◌%◌, ◌<◌, ◌≤◌, List, length, replicate, arith}
-use Rattle.std.proofs.lemmas.Nat.{div-add-mod'}
+use Rattle.std.proofs.Common.{◌≡◌, refl, sym, ◌∙◌, ap, subst, ℕ, ◌+◌, ◌-◌, ◌*◌, ◌/◌, ◌%◌, ◌≤◌, List, length, replicate, arith}
 use Rattle.std.specs.List.{fold, AllByRecursion}
 use Rattle.rrd_fixed.specs.declared.cell.Cell.{Cell}
-use Rattle.rrd_fold.specs.Parts.{Part, nothing, with_each, row_cell}
+use Rattle.rrd_fold.specs.Parts.{Part, with_each}
 use Rattle.rrd_base.specs.declared.definition.RraDef.{RraDef}
-use Rattle.rrd_base.specs.History.{Archive, keep_last}
-use Rattle.rrd_base.specs.Validity.{AreParts, IsRow, IsValidArchive}
+use Rattle.rrd_base.specs.History.{Archive}
+use Rattle.rrd_base.specs.Validity.{IsRow, IsValidArchive}
 use Rattle.rrd_base.proofs.ManySteps.{filled, row_fits}
 use Rattle.rrd_base.proofs.Passing.{few_known, parts_more, room_left}
 

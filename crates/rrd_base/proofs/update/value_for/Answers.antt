@@ -1,4 +1,4 @@
-use Rattle.std.proofs.Common.{◌≡◌, sym, ◌∙◌, ap, get_or}
+use Rattle.std.proofs.Common.{sym, ◌∙◌, ap, get_or}
 use Rattle.rrd_base.specs.Commands.{value_for}
 use Rattle.rrd_base.specs.Updating.{template_of}
 use Rattle.rrd_base.proofs.UpdatingLemmas.{own_value}

@@ -1,4 +1,4 @@
-use Rattle.std.proofs.Common.{◌≡◌, sym, ◌∙◌, ap, subst, ◌≤◌, ℕ, List, length, map, replicate, pos, ◌≤ℤ◌, FitsSigned, arith}
+use Rattle.std.proofs.Common.{◌≡◌, sym, ◌∙◌, ap, subst, ◌≤◌, List, length, map, replicate, pos, ◌≤ℤ◌, FitsSigned, arith}
 use Rattle.std.proofs.lemmas.Int.{ints}
 use Rattle.std.proofs.lemmas.List.{with_items_is, length-map}
 use Rattle.std.specs.Int.{w128}

@@ -1,14 +1,11 @@
 use Rattle.std.proofs.Common.{◌≡◌, sym, ◌∙◌, ap, subst, ◌+◌, ◌-◌, ◌*◌, ◌/◌, ◌%◌, ◌≤◌, ◌<◌, ◌^◌, ◌∷◌, ◌++◌, ℕ, List, min, map, length, replicate, arith}
-use Rattle.std.proofs.lemmas.Nat.{div-add-mod', mod_below}
+use Rattle.std.proofs.lemmas.Nat.{mod_below}
 use Rattle.std.specs.List.{AllByRecursion, fold}
 use Rattle.rrd_fixed.specs.declared.cell.Cell.{Cell}
 use Rattle.rrd_fold.specs.Parts.{Part, nothing, row_cell, with_each}
 use Rattle.rrd_ring.specs.Rows.{HasWidth}
 use Rattle.rrd_base.specs.declared.definition.RraDef.{RraDef}
 use Rattle.rrd_base.specs.History.{Archive, keep_last}
-use Rattle.rrd_base.specs.Passed.{archive_passed}
-use Rattle.rrd_base.specs.Turns.{rows_pushed}
-use Rattle.rrd_base.specs.Validity.{IsRow, IsValidArchive}
 use Rattle.rrd_base.proofs.ManySteps.{ended_none, ended_some, filled, row_fits, taken_over, taken_within}
 use Rattle.rrd_base.proofs.Passing.{room_left}
 use Rattle.rrd_base.proofs.Bounded.{no_parts}
