@@ -3,17 +3,18 @@ use Rattle.std.proofs.Common.{◌≡◌, sym, ◌∙◌, ap, subst, ℕ, ◌+◌
 use Rattle.std.proofs.lemmas.List.{replicate-append-replicate}
 use Rattle.std.proofs.lemmas.Nat.{div-add-mod', div-mul-add, mod_below, mul-le}
 use Rattle.rrd_fixed.specs.declared.cell.Cell.{Cell}
-use Rattle.rrd_base.specs.declared.definition.RraDef.{RraDef}
+use Rattle.rrd_spec.specs.declared.settings.RraDef.{RraDef}
 use Rattle.rrd_fixed.specs.declared.raw.Raw.{Raw}
-use Rattle.rrd_base.specs.declared.update.Sample.{Sample}
-use Rattle.rrd_base.specs.History.{Content, Reading, Sampled, IsBase, content_listed, rates}
-use Rattle.rrd_base.specs.Passed.{passed}
-use Rattle.rrd_base.specs.Shown.{definitions}
-use Rattle.rrd_base.specs.Turns.{rows_shown, in_all, least_of_sample, most_of_sample, least_of_steps, most_of_steps}
-use Rattle.rrd_base.specs.Validity.{AreAccepted, IsRow, IsValid}
+use Rattle.rrd_spec.specs.declared.update.Sample.{Sample}
+use Rattle.rrd_spec.specs.History.{Content, Reading, Sampled, IsBase, content_listed, rates}
+use Rattle.rrd_spec.specs.Passed.{passed}
+use Rattle.rrd_spec.specs.Shown.{definitions}
+use Rattle.rrd_spec.specs.Turns.{rows_shown, in_all, least_of_sample, most_of_sample, least_of_steps, most_of_steps}
+use Rattle.rrd_spec.specs.Validity.{AreAccepted, IsRow, IsValid}
 use Rattle.rrd_fold.proofs.GroupLemmas.{next_ahead}
-use Rattle.rrd_base.proofs.PassedLemmas.{passed-append, content_of_sample}
-use Rattle.rrd_base.proofs.Passing.{base_of_valid, ended_div, within_div}
+use Rattle.rrd_spec.proofs.PassedLemmas.{passed-append, content_of_sample}
+use Rattle.rrd_base.proofs.Passing.{ended_div, within_div}
+use Rattle.rrd_spec.proofs.Held.{base_of_valid}
 use Rattle.rrd_base.proofs.TurnLemmas.{Leaves, leaves_of, passed_leaves, least_by_steps, most_by_steps, least_of_none, few_turns}
 
 end_ahead : (last step : ℕ) → 0 < step → last + ((last / step + 1) * step - last) ≡ (last / step + 1) * step

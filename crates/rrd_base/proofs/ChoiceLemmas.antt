@@ -11,10 +11,10 @@ use Rattle.std.proofs.lemmas.List.{map-append}
 use Rattle.std.proofs.lemmas.List.Elements.{filter-append}
 use Rattle.std.proofs.lemmas.List.Folds.{find-append, list_any-append}
 use Rattle.rrd_fold.specs.declared.function.Function.{Function}
-use Rattle.rrd_base.specs.declared.definition.RraDef.{RraDef}
-use Rattle.rrd_base.specs.declared.choose.Candidate.{Candidate}
-use Rattle.rrd_base.specs.declared.choose.Request.{Request}
-use Rattle.rrd_base.specs.Choice.{Searched, searched, same_function, candidate, candidates, best, covers, is_nearer, is_farther, taken, is_preferred}
+use Rattle.rrd_spec.specs.declared.settings.RraDef.{RraDef}
+use Rattle.rrd_spec.specs.declared.fetch.Candidate.{Candidate}
+use Rattle.rrd_spec.specs.declared.fetch.Request.{Request}
+use Rattle.rrd_spec.specs.Choice.{Searched, searched, same_function, candidate, candidates, best, covers, is_nearer, is_farther, taken, is_preferred}
 
 -- ---- the best of a list
 

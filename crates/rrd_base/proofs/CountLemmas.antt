@@ -3,12 +3,12 @@ use Rattle.std.proofs.Common.{◌≡◌, ◌∙◌, ap, ℕ, zero, suc, ◌+◌,
 use Rattle.std.specs.List.{AllByRecursion}
 use Rattle.rrd_fixed.specs.declared.cell.Cell.{Cell}
 use Rattle.rrd_ring.specs.Rows.{HasWidth}
-use Rattle.rrd_base.specs.History.{Archive}
-use Rattle.rrd_base.specs.Entries.{Dropped, cells_in, cells_dropped, dropped, rows_between}
+use Rattle.rrd_spec.specs.History.{Archive}
+use Rattle.rrd_spec.specs.Entries.{Dropped, cells_in, cells_dropped, dropped, rows_between}
 use Rattle.rrd_base.specs.Store.{Saved, befores}
-use Rattle.rrd_base.specs.Validity.{IsValidArchive}
-use Rattle.rrd_base.proofs.AllLemmas.{All-take}
-use Rattle.rrd_base.proofs.StoreLemmas.{rows_wide}
+use Rattle.rrd_spec.specs.Validity.{IsValidArchive}
+use Rattle.rrd_spec.proofs.AllLemmas.{All-take}
+use Rattle.rrd_spec.proofs.AllLemmas.{rows_wide}
 
 -- rows of as many cells each
 pub cells_wide : (sources : ℕ) (rows : List (List Cell)) → HasWidth sources rows → cells_in rows ≡ length rows * sources

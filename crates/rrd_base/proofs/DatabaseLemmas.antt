@@ -2,21 +2,21 @@
 use Rattle.std.proofs.Common.{◌≡◌, refl, sym, ◌∙◌, ap, ℕ, zero, suc, ◌+◌, ◌-◌, ◌<◌, List, [], ◌∷◌, length, map, get_or, arith, None, false}
 use Rattle.std.specs.List.{fold, enumerate_from, AllByRecursion}
 use Rattle.rrd_fixed.specs.declared.cell.Cell.{Cell}
-use Rattle.rrd_base.specs.declared.update.Sample.{Sample}
-use Rattle.rrd_base.specs.declared.update.Update.{Update}
-use Rattle.rrd_base.specs.declared.definition.DsDef.{DsDef}
+use Rattle.rrd_spec.specs.declared.update.Sample.{Sample}
+use Rattle.rrd_spec.specs.declared.update.Update.{Update}
+use Rattle.rrd_spec.specs.declared.settings.DsDef.{DsDef}
 use Rattle.rrd_base.specs.declared.entry.Entry.{Entry}
 use Rattle.rrd_base.specs.declared.entry.Entry.TheVariants as entry
 use Rattle.rrd_fixed.specs.declared.name.Name.{Name}
-use Rattle.rrd_base.specs.History.{Archive, Content, Event, Sampled, Moment, moment_of, moment_after}
-use Rattle.rrd_base.specs.Commands.{Updating, sample_of, moved}
-use Rattle.rrd_base.specs.Cells.{archive_by_time, content}
-use Rattle.rrd_base.specs.Entries.{Dropped, Held, put_back_each, with_held, with_rows_at}
+use Rattle.rrd_spec.specs.History.{Archive, Content, Event, Sampled, Moment, moment_of, moment_after}
+use Rattle.rrd_spec.specs.Commands.{Updating, sample_of, moved}
+use Rattle.rrd_spec.specs.Cells.{archive_by_time, content}
+use Rattle.rrd_spec.specs.Entries.{Dropped, Held, put_back_each, with_held, with_rows_at}
 use Rattle.rrd_base.specs.Store.{functions}
 use Rattle.rrd_base.specs.Stored.{HasFunctions}
-use Rattle.rrd_base.specs.Updating.{last_time, template_of}
-use Rattle.rrd_base.specs.Verdict.{verdict, no_sample}
-use Rattle.rrd_base.proofs.Accepted.{accepted_passes}
+use Rattle.rrd_spec.specs.Updating.{last_time, template_of}
+use Rattle.rrd_spec.specs.Verdict.{verdict, no_sample}
+use Rattle.rrd_spec.proofs.Accepted.{accepted_passes}
 
 -- ---- the last time
 

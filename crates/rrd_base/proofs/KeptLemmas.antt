@@ -7,23 +7,23 @@ use Rattle.circular_buffer.specs.Buffer.{keep_last}
 use Rattle.rrd_base.specs.declared.entry.Entry.{Entry}
 use Rattle.rrd_base.specs.declared.entry.Entry.TheVariants as entry
 use Rattle.rrd_base.specs.declared.entry.BeforeUpdate.{BeforeUpdate}
-use Rattle.rrd_base.specs.declared.update.Update.{Update}
-use Rattle.rrd_base.specs.History.{Content}
-use Rattle.rrd_base.specs.Commands.{Command, Updating, events, settings_of, moved}
-use Rattle.rrd_base.specs.Entries as entries
-use Rattle.rrd_base.specs.Entries.{undone, entry as entry_for}
+use Rattle.rrd_spec.specs.declared.update.Update.{Update}
+use Rattle.rrd_spec.specs.History.{Content}
+use Rattle.rrd_spec.specs.Commands.{Command, Updating, events, settings_of, moved}
+use Rattle.rrd_spec.specs.Entries as entries
+use Rattle.rrd_spec.specs.Entries.{undone, entry as entry_for}
 use Rattle.rrd_base.specs.Store.{befores, functions}
 use Rattle.rrd_base.specs.Stored.{before, update_of, entry_of, HasFunctions, CanUndo, journal_of}
 use Rattle.rrd_base.specs.Tuned.{held_of}
-use Rattle.rrd_base.specs.Updating.{last_time}
-use Rattle.rrd_base.specs.Validity.{IsValid, Fits, IsValidDatabase}
-use Rattle.rrd_base.specs.Verdict.{verdict}
+use Rattle.rrd_spec.specs.Updating.{last_time}
+use Rattle.rrd_spec.specs.Validity.{IsValid, Fits, IsValidDatabase}
+use Rattle.rrd_spec.specs.Verdict.{verdict}
 use Rattle.rrd_base.proofs.DatabaseLemmas.{moved_last, functions_moved, functions_put_back, functions_resized, functions_tuned, has_functions}
-use Rattle.rrd_base.proofs.AllLemmas.{All-take, All-drop, All-at}
+use Rattle.rrd_spec.proofs.AllLemmas.{All-take, All-drop, All-at}
 use Rattle.rrd_base.proofs.PutBack.{can_put_back_each}
-use Rattle.rrd_base.proofs.Fitting.{database_stays, revert_valid}
+use Rattle.rrd_spec.proofs.Fitting.{database_stays, revert_valid}
 use Rattle.rrd_base.proofs.JournalLemmas.{item_at, journal_push, journal_pop}
-use Rattle.rrd_base.proofs.Kept.{All-append}
+use Rattle.rrd_spec.proofs.Kept.{All-append}
 
 -- ---- the newest entry is taken
 

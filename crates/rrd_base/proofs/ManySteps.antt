@@ -11,13 +11,13 @@ use Rattle.rrd_fold.specs.Groups.{finished, unfinished}
 use Rattle.rrd_fold.specs.Parts.{Part, nothing, with_cell, with_each, step_cell, row_cell, seconds_to_steps}
 use Rattle.rrd_fold.proofs.GroupLemmas.{goes_on, finished_within, unfinished_within, finished_filling, unfinished_filling, finished-replicate, unfinished-replicate, next_ahead}
 use Rattle.rrd_fold.proofs.Wholes.{whole_step, whole_row}
-use Rattle.rrd_base.specs.Each.{map_each}
-use Rattle.rrd_base.specs.Rules.{rows_rule}
-use Rattle.rrd_base.specs.History.{Archive, Content, keep_last, IsBase}
-use Rattle.rrd_base.specs.Passed.{archive_passed, passed}
-use Rattle.rrd_base.proofs.EachLemmas.{fold-with_each}
-use Rattle.rrd_base.proofs.PassedLemmas.{archive_passed-append, keep_last-append}
-use Rattle.rrd_base.proofs.RowLemmas.{keep_last_past, keep_all, length-keep_last}
+use Rattle.rrd_spec.specs.Each.{map_each}
+use Rattle.rrd_spec.specs.Rules.{rows_rule}
+use Rattle.rrd_spec.specs.History.{Archive, Content, keep_last, IsBase}
+use Rattle.rrd_spec.specs.Passed.{archive_passed, passed}
+use Rattle.rrd_spec.proofs.EachLemmas.{fold-with_each}
+use Rattle.rrd_spec.proofs.PassedLemmas.{archive_passed-append, keep_last-append}
+use Rattle.rrd_spec.proofs.RowLemmas.{keep_last_past, keep_all, length-keep_last}
 
 -- ---- a full group of one row of cells
 

@@ -7,17 +7,15 @@ use Rattle.rrd_fixed.specs.declared.cell.Cell.{Cell}
 use Rattle.rrd_fold.specs.declared.function.Function.{Function}
 use Rattle.rrd_fold.specs.declared.function.Function.TheVariants.{Average}
 use Rattle.rrd_fold.specs.Parts.{Part, nothing, with_each, step_cell}
-use Rattle.rrd_base.specs.History.{Content, Archive, IsBase}
-use Rattle.rrd_base.specs.Passed.{archive_passed, passed}
-use Rattle.rrd_base.specs.Commands.{rows_of_archives}
-use Rattle.rrd_base.specs.Validity.{IsPart, AreParts, IsRow, IsValid, IsValidArchive}
-use Rattle.rrd_base.proofs.Bounded.{more, no_parts}
-use Rattle.rrd_base.proofs.Held.{are_archives}
+use Rattle.rrd_spec.specs.History.{Content, Archive, IsBase}
+use Rattle.rrd_spec.specs.Passed.{archive_passed, passed}
+use Rattle.rrd_spec.specs.Commands.{rows_of_archives}
+use Rattle.rrd_spec.specs.Validity.{IsPart, AreParts, IsRow, IsValid, IsValidArchive}
+use Rattle.rrd_spec.proofs.Bounded.{more, no_parts}
+use Rattle.rrd_spec.proofs.Held.{are_archives}
 use Rattle.rrd_base.proofs.ManySteps.{passed_ends}
-use Rattle.rrd_base.proofs.PassedLemmas.{passed_within}
-
-pub base_of_valid : (base : Content) → IsValid base → IsBase base
-base_of_valid base is = record { some_step = is.some_step; archives_are = are_archives (length base.sources) (base.last / base.step) base.archives is.archives_are }
+use Rattle.rrd_spec.proofs.PassedLemmas.{passed_within}
+use Rattle.rrd_spec.proofs.Held.{base_of_valid}
 
 -- parts with so many seconds more
 pub parts_more : (function : Function) (sources k n : ℕ) (parts : List Part) (row : List Cell) → AreParts function sources k parts → IsRow sources row → AreParts function sources (k + n) (fold (with_each function) parts (replicate n row))

@@ -3,9 +3,9 @@ use Rattle.std.proofs.Common.{◌≡◌, refl, ◌∙◌, ap, ℕ, zero, suc, �
 use Rattle.std.proofs.lemmas.List.{length-take}
 use Rattle.std.specs.List.{AllByRecursion}
 use Rattle.rrd_ring.specs.Rows.{width}
-use Rattle.rrd_base.specs.History.{Archive}
-use Rattle.rrd_base.specs.Entries.{Dropped, put_back, put_back_each}
-use Rattle.rrd_base.specs.Validity.{IsValidArchive, FitsArchive, FitEach}
+use Rattle.rrd_spec.specs.History.{Archive}
+use Rattle.rrd_spec.specs.Entries.{Dropped, put_back, put_back_each}
+use Rattle.rrd_spec.specs.Validity.{IsValidArchive, FitsArchive, FitEach}
 use Rattle.rrd_base.specs.Store.{Saved, CanPutBack, CanPutBackEach, befores, functions, saved_functions, IsStepped}
 use Rattle.rrd_base.proofs.StoreLemmas.{width_is}
 

@@ -5,20 +5,20 @@ use Rattle.std.proofs.lemmas.List.{length-drop, length-map, length-replicate}
 use Rattle.std.specs.List.{fold, enumerate_from, AllByRecursion}
 use Rattle.rrd_fixed.specs.declared.cell.Cell.{Cell}
 use Rattle.rrd_ring.specs.Rows.{newest_rows, width}
-use Rattle.rrd_base.specs.History.{Archive, Content, Resized, moment_of, rows_after, rows_of, row_parts_of, room, keep_last, filled_up, kept_rows, archive_of, content_listed, IsArchive}
-use Rattle.rrd_base.specs.declared.resize.Change.{Change}
-use Rattle.rrd_base.specs.declared.resize.Change.TheVariants.{Grow, Shrink}
-use Rattle.rrd_base.specs.Commands.{Resizing, moved_listed, rows_changed, rows_of_archives}
-use Rattle.rrd_base.specs.Entries.{rows_at}
+use Rattle.rrd_spec.specs.History.{Archive, Content, Resized, moment_of, rows_after, rows_of, row_parts_of, room, keep_last, filled_up, kept_rows, archive_of, content_listed, IsArchive}
+use Rattle.rrd_spec.specs.declared.resize.Change.{Change}
+use Rattle.rrd_spec.specs.declared.resize.Change.TheVariants.{Grow, Shrink}
+use Rattle.rrd_spec.specs.Commands.{Resizing, moved_listed, rows_changed, rows_of_archives}
+use Rattle.rrd_spec.specs.Entries.{rows_at}
 use Rattle.rrd_base.specs.Resized.{HasFewRows}
-use Rattle.rrd_base.specs.Validity.{IsValid, IsValidArchive}
-use Rattle.rrd_base.specs.Verdict.{grows_too_far, is_bad_rows, verdict}
-use Rattle.rrd_base.proofs.Accepted.{accepted_passes, some_rows}
-use Rattle.rrd_base.proofs.AllLemmas.{All-at}
-use Rattle.rrd_base.proofs.Staying.{few_changed}
+use Rattle.rrd_spec.specs.Validity.{IsValid, IsValidArchive}
+use Rattle.rrd_spec.specs.Verdict.{grows_too_far, is_bad_rows, verdict}
+use Rattle.rrd_spec.proofs.Accepted.{accepted_passes, some_rows}
+use Rattle.rrd_spec.proofs.AllLemmas.{All-at}
+use Rattle.rrd_spec.proofs.Staying.{few_changed}
 use Rattle.rrd_base.proofs.StoreLemmas.{width_is}
-use Rattle.rrd_base.proofs.Passing.{base_of_valid}
-use Rattle.rrd_base.proofs.Quiet.{content_resized, made, rows_none, row_parts_same, resized_other, resized_elsewhere}
+use Rattle.rrd_spec.proofs.Held.{base_of_valid}
+use Rattle.rrd_spec.proofs.Quiet.{content_resized, made, rows_none, row_parts_same, resized_other, resized_elsewhere}
 
 -- ---- the number of all rows
 

@@ -5,22 +5,18 @@ use Rattle.std.proofs.lemmas.Bool.Decides.{nat_tests}
 use Rattle.std.specs.List.{AllByRecursion}
 use Rattle.rrd_fixed.specs.declared.raw.Raw.{Raw}
 use Rattle.rrd_fixed.specs.declared.name.Name.{Name}
-use Rattle.rrd_base.specs.declared.definition.DsDef.{DsDef}
-use Rattle.rrd_base.specs.declared.update.Sample.{Sample}
-use Rattle.rrd_base.specs.declared.update.Given.{Given}
-use Rattle.rrd_base.specs.History.{Content, Moment, Sampled, moment_of, moment_at_end, content_listed}
-use Rattle.rrd_base.specs.Commands.{raw_of, value_for, sample_of}
-use Rattle.rrd_base.specs.Verdict.{sample_checks}
-use Rattle.rrd_base.specs.Validity.{IsValid, AreAccepted}
-use Rattle.rrd_base.proofs.Accepted.{Passes, readings_rise}
-use Rattle.rrd_base.proofs.ContentLemmas.{listed-append}
-use Rattle.rrd_base.proofs.HistoryLemmas.{moment_of-content}
-use Rattle.rrd_base.proofs.Passing.{base_of_valid}
-use Rattle.rrd_base.proofs.Staying.{raws_accepted}
-
--- the item at a place, and those after it
-pub drop_here : {A : Type 0} (xs : List A) (i : ℕ) (x : A) → i < length xs → x ≡ get_or xs i x → drop i xs ≡ x ∷ drop (i + 1) xs
-drop_here xs i x h e = drop-cons xs i x h ∙ ap (λ y. y ∷ drop (suc i) xs) (sym e) ∙ ap (λ n. x ∷ drop n xs) {x = suc i} {y = i + 1} (omega arith)
+use Rattle.rrd_spec.specs.declared.settings.DsDef.{DsDef}
+use Rattle.rrd_spec.specs.declared.update.Sample.{Sample}
+use Rattle.rrd_spec.specs.declared.update.Given.{Given}
+use Rattle.rrd_spec.specs.History.{Content, Moment, Sampled, moment_of, moment_at_end, content_listed}
+use Rattle.rrd_spec.specs.Commands.{raw_of, value_for, sample_of}
+use Rattle.rrd_spec.specs.Verdict.{sample_checks}
+use Rattle.rrd_spec.specs.Validity.{IsValid, AreAccepted}
+use Rattle.rrd_spec.proofs.Accepted.{Passes, readings_rise}
+use Rattle.rrd_spec.proofs.ContentLemmas.{listed-append}
+use Rattle.rrd_spec.proofs.HistoryLemmas.{moment_of-content}
+use Rattle.rrd_spec.proofs.Held.{base_of_valid}
+use Rattle.rrd_spec.proofs.Staying.{raws_accepted}
 
 -- the content after a sample, and those that are left
 pub record Taken (now next : Content) (sources : List DsDef) (template : List Name) (sample : Sample) (rest : List Sample) : Type 0 where

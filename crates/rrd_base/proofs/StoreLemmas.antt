@@ -8,17 +8,17 @@ use Rattle.rrd_fold.specs.Groups.{finished}
 use Rattle.rrd_fold.specs.Parts.{Part, nothing, with_each, row_cell}
 use Rattle.rrd_fold.specs.Bounds.{Consolidating}
 use Rattle.rrd_ring.specs.Rows.{HasWidth, width}
-use Rattle.rrd_base.specs.declared.definition.RraDef.{RraDef}
-use Rattle.rrd_base.specs.Rules.{rows_rule}
-use Rattle.rrd_base.specs.History.{Archive}
-use Rattle.rrd_base.specs.Passed.{archive_passed}
-use Rattle.rrd_base.specs.Validity.{AreParts, IsRow, IsValidArchive}
-use Rattle.rrd_base.specs.Each.{map_each, with_steps, anew, row_of, parts_in, AllOf}
-use Rattle.rrd_base.proofs.RowLemmas.{length-keep_last}
-use Rattle.rrd_base.proofs.Kept.{All-append, kept}
-use Rattle.rrd_base.proofs.Bounded.{rows_keep, All-replicate}
-use Rattle.rrd_base.proofs.AllLemmas.{All-drop, All-weaker}
-use Rattle.rrd_base.proofs.EachLemmas.{parts_in-with_steps, parts_in-anew}
+use Rattle.rrd_spec.specs.declared.settings.RraDef.{RraDef}
+use Rattle.rrd_spec.specs.Rules.{rows_rule}
+use Rattle.rrd_spec.specs.History.{Archive}
+use Rattle.rrd_spec.specs.Passed.{archive_passed}
+use Rattle.rrd_spec.specs.Validity.{AreParts, IsRow, IsValidArchive}
+use Rattle.rrd_spec.specs.Each.{map_each, with_steps, anew, row_of, parts_in, AllOf}
+use Rattle.rrd_spec.proofs.RowLemmas.{length-keep_last}
+use Rattle.rrd_spec.proofs.Kept.{All-append, kept}
+use Rattle.rrd_spec.proofs.Bounded.{rows_keep, All-replicate}
+use Rattle.rrd_spec.proofs.AllLemmas.{All-drop, All-weaker}
+use Rattle.rrd_spec.proofs.EachLemmas.{parts_in-with_steps, parts_in-anew}
 
 -- an archive of these preparations
 abbrev pub shown : RraDef → List Consolidating → List (List Cell) → Archive
@@ -56,10 +56,6 @@ preps_fit count most limit (prep ∷ preps) h is = (omega (arith, is.0), preps_f
 pub parts_fit : (limit : ℕ) (preps : List Consolidating) → AllByRecursion (λ (part : Part). part.known ≤ limit) (parts_in preps) → AllByRecursion (λ (prep : Consolidating). prep.part.known ≤ limit) preps
 parts_fit limit [] is = tt
 parts_fit limit (prep ∷ preps) is = (is.0, parts_fit limit preps is.1)
-
--- rows are as wide as there are sources
-pub rows_wide : (sources : ℕ) (rows : List (List Cell)) → AllByRecursion (IsRow sources) rows → HasWidth sources rows
-rows_wide sources rows is = All-weaker _ _ rows (λ row of. of.one_each) is
 
 pub width_is : (sources : ℕ) (rows : List (List Cell)) → 0 < length rows → AllByRecursion (IsRow sources) rows → width rows ≡ sources
 width_is sources [] some is = absurd (omega arith)

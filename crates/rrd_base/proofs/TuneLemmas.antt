@@ -2,12 +2,12 @@
 use Rattle.std.proofs.Common.{◌≡◌, refl, ◌∙◌, ap, ℕ, zero, suc, ◌+◌, ◌<◌, ◌≤◌, Bool, true, false, cond, List, [], ◌∷◌, ◌++◌, length, take, map, set, get_or, arith}
 use Rattle.std.specs.List.{fold}
 use Rattle.rrd_fixed.specs.declared.raw.Raw.{Raw}
-use Rattle.rrd_base.specs.declared.definition.DsDef.{DsDef}
-use Rattle.rrd_base.specs.declared.tune.Tuning.{Tuning}
+use Rattle.rrd_spec.specs.declared.settings.DsDef.{DsDef}
+use Rattle.rrd_spec.specs.declared.tune.Tuning.{Tuning}
 use Rattle.rrd_fixed.specs.declared.cell.Cell.{Cell}
-use Rattle.rrd_base.specs.History.{Archive, Content, raws_under}
-use Rattle.rrd_base.specs.Commands.{raw_under}
-use Rattle.rrd_base.specs.Entries.{Held, held, is_named, with_held, with_rows_at}
+use Rattle.rrd_spec.specs.History.{Archive, Content, raws_under}
+use Rattle.rrd_spec.specs.Commands.{raw_under}
+use Rattle.rrd_spec.specs.Entries.{Held, held, is_named, with_held, with_rows_at}
 use Rattle.rrd_base.specs.Tuned.{with_raws, with_sources}
 
 -- one raw value more

@@ -5,13 +5,13 @@ use Rattle.std.proofs.lemmas.List.{length-replicate}
 use Rattle.std.proofs.lemmas.Nat.{mul-le}
 use Rattle.std.specs.List.{fold}
 use Rattle.rrd_fixed.specs.declared.cell.Cell.{Cell}
-use Rattle.rrd_base.specs.declared.definition.RraDef.{RraDef}
-use Rattle.rrd_base.specs.History.{Archive, Content}
-use Rattle.rrd_base.specs.Commands.{rows_of_archives}
-use Rattle.rrd_base.specs.Validity.{IsValid}
-use Rattle.rrd_base.specs.Passed.{archive_passed, passed}
-use Rattle.rrd_base.specs.Shown.{definitions}
-use Rattle.rrd_base.specs.Turns.{rows_shown, rows_ended, rows_pushed, least_of_steps, most_of_steps}
+use Rattle.rrd_spec.specs.declared.settings.RraDef.{RraDef}
+use Rattle.rrd_spec.specs.History.{Archive, Content}
+use Rattle.rrd_spec.specs.Commands.{rows_of_archives}
+use Rattle.rrd_spec.specs.Validity.{IsValid}
+use Rattle.rrd_spec.specs.Passed.{archive_passed, passed}
+use Rattle.rrd_spec.specs.Shown.{definitions}
+use Rattle.rrd_spec.specs.Turns.{rows_shown, rows_ended, rows_pushed, least_of_steps, most_of_steps}
 
 -- ---- archive by archive
 

@@ -6,11 +6,11 @@ use Rattle.std.proofs.lemmas.Bool.{or_parts}
 use Rattle.std.specs.List.{list_any}
 use Rattle.rrd_fixed.specs.declared.name.Name.{Name}
 use Rattle.rrd_fixed.specs.Names.{same_name}
-use Rattle.rrd_base.specs.declared.definition.DsDef.{DsDef}
-use Rattle.rrd_base.specs.declared.update.Given.{Given}
-use Rattle.rrd_base.specs.Commands.{names, value_for}
-use Rattle.rrd_base.specs.Verdict.{is_double}
-use Rattle.rrd_base.proofs.NameLemmas.{same_itself}
+use Rattle.rrd_spec.specs.declared.settings.DsDef.{DsDef}
+use Rattle.rrd_spec.specs.declared.update.Given.{Given}
+use Rattle.rrd_spec.specs.Commands.{names, value_for}
+use Rattle.rrd_spec.specs.Verdict.{is_double}
+use Rattle.rrd_spec.proofs.NameLemmas.{same_itself}
 
 -- the value at the first place that is left, or one further on
 value_here : (names : List Name) (values : List Given) (i : ℕ) (d : Name) (e : Given) (source : DsDef) → i < length names → i < length values → value_for (drop i names) (drop i values) source ≡ cond (same_name (get_or names i d) source.name) (get_or values i e) (value_for (drop (suc i) names) (drop (suc i) values) source)

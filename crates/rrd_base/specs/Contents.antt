@@ -1,6 +1,6 @@
 -- The content that a database's fields hold.
-use Rattle.rrd_base.specs.History.{Content}
-use Rattle.rrd_base.specs.Validity.{IsValid}
+use Rattle.rrd_spec.specs.History.{Content}
+use Rattle.rrd_spec.specs.Validity.{IsValid}
 use Rattle.rrd_base.specs.declared.contents.Contents.TheInside.{Inside}
 
 abbrev pub content_of : Inside → Content

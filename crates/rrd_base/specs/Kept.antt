@@ -1,9 +1,9 @@
 -- A database with its journal, as its fields hold them.
 use Rattle.std.specs.Prelude.{◌≡◌}
 use Rattle.std.specs.List.{AllByRecursion}
-use Rattle.rrd_base.specs.Survivors.{Kept}
+use Rattle.rrd_spec.specs.Survivors.{Kept}
 use Rattle.rrd_base.specs.Stored.{HasFunctions, journal_of}
-use Rattle.rrd_base.specs.Validity.{IsValidDatabase}
+use Rattle.rrd_spec.specs.Validity.{IsValidDatabase}
 use Rattle.rrd_base.specs.declared.database.Database.TheInside.{Inside}
 
 abbrev pub kept_of : Inside → Kept

@@ -1,8 +1,8 @@
 -- An archive's number of rows, and those of all.
 use Rattle.std.specs.Prelude.{◌≤◌, List}
-use Rattle.rrd_base.specs.declared.definition.DsDef.{DsDef}
-use Rattle.rrd_base.specs.History.{Archive}
-use Rattle.rrd_base.specs.Commands.{Settings, rows_of_archives}
+use Rattle.rrd_spec.specs.declared.settings.DsDef.{DsDef}
+use Rattle.rrd_spec.specs.History.{Archive}
+use Rattle.rrd_spec.specs.Commands.{Settings, rows_of_archives}
 
 -- the settings that these sources and archives have
 abbrev pub settings : List DsDef → List Archive → Settings

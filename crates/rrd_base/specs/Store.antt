@@ -2,8 +2,8 @@
 use Rattle.std.specs.Prelude.{◌<◌, ◌≤◌, List, [], ◌∷◌, map, length}
 use Rattle.rrd_fold.specs.declared.function.Function.{Function}
 use Rattle.rrd_ring.specs.Rows.{HasWidth, width}
-use Rattle.rrd_base.specs.History.{Archive}
-use Rattle.rrd_base.specs.Entries.{Dropped}
+use Rattle.rrd_spec.specs.History.{Archive}
+use Rattle.rrd_spec.specs.Entries.{Dropped}
 
 -- an archive's function, and its preparations and its oldest rows as they were
 pub record Saved : Type 0 where

@@ -1,8 +1,8 @@
 -- The journal that a database's fields hold.
 use Rattle.std.specs.Prelude.{◌≡◌, ◌<◌, List, length, map, reverse}
-use Rattle.rrd_base.specs.History.{Archive}
-use Rattle.rrd_base.specs.Entries as entries
-pub use Rattle.rrd_base.specs.Entries.{before}
+use Rattle.rrd_spec.specs.History.{Archive}
+use Rattle.rrd_spec.specs.Entries as entries
+pub use Rattle.rrd_spec.specs.Entries.{before}
 use Rattle.rrd_base.specs.Store.{CanPutBackEach, befores, functions, saved_functions}
 use Rattle.rrd_base.specs.declared.entry.Entry.{Entry}
 use Rattle.rrd_base.specs.declared.entry.Entry.TheVariants as entry

@@ -2,9 +2,9 @@
 use Rattle.std.specs.Prelude.{List, slice_set}
 use Rattle.std.specs.List.{fold}
 use Rattle.rrd_fixed.specs.declared.raw.Raw.{Raw}
-use Rattle.rrd_base.specs.declared.definition.DsDef.{DsDef}
+use Rattle.rrd_spec.specs.declared.settings.DsDef.{DsDef}
 use Rattle.rrd_base.specs.declared.entry.SourceBefore.{SourceBefore}
-use Rattle.rrd_base.specs.Entries as entries
+use Rattle.rrd_spec.specs.Entries as entries
 
 -- a source as an entry holds it
 abbrev pub held_of : SourceBefore → entries.Held

@@ -2,39 +2,39 @@
 ghost use Rattle.std.specs.Prelude.{◌≡◌, ℕ, ◌+◌, ◌-◌, ◌*◌, ◌/◌, ◌%◌, ◌^◌, ◌<◌, ◌≤◌, [], ◌∷◌, length, map, replicate, slice_index_or, IfOk, IfNone, IfSome, None, pos, ◌-ℤ◌};
 ghost use Rattle.std.specs.Int.{int_div_euclid};
 ghost use Rattle.std.specs.Result.{result_err};
-ghost use Rattle.rrd_base.specs.Choice.{choice_of};
-ghost use Rattle.rrd_base.specs.Commands.{Resizing, TuningBy, Updating, moved_listed, rows_changed, rows_of_archives};
-ghost use Rattle.rrd_base.specs.Creating.{create_verdict, created};
-ghost use Rattle.rrd_base.specs.Shown.{cell_at, definitions, prep_at};
+ghost use Rattle.rrd_spec.specs.Choice.{choice_of};
+ghost use Rattle.rrd_spec.specs.Commands.{Resizing, TuningBy, Updating, moved_listed, rows_changed, rows_of_archives};
+ghost use Rattle.rrd_spec.specs.Creating.{create_verdict, created};
+ghost use Rattle.rrd_spec.specs.Shown.{cell_at, definitions, prep_at};
 ghost use Rattle.rrd_fixed.specs.declared.cell.Cell.TheVariants.{Unknown as CellUnknown};
 ghost use Rattle.rrd_fixed.specs.declared.raw.Raw.TheVariants.{Unknown};
 ghost use Rattle.rrd_fold.specs.Parts.{nothing};
 ghost use Rattle.rrd_base.specs.Room.{HasPlaces};
 ghost use Rattle.rrd_base.specs.Stored.{CanUndo, before, entry_of, update_of};
-ghost use Rattle.rrd_base.specs.Entries.{Updated, WasResized, WasTuned, entry as entry_for, rows_at, undone};
+ghost use Rattle.rrd_spec.specs.Entries.{Updated, WasResized, WasTuned, entry as entry_for, rows_at, undone};
 ghost use Rattle.rrd_base.specs.Store.{CanPutBackEach, befores, functions, saved_functions};
 ghost use Rattle.rrd_base.specs.Tuned.{held_of};
-ghost use Rattle.rrd_base.specs.Verdict.{verdict};
-ghost use Rattle.rrd_base.specs.History.{Resized, Sampled, content_listed};
-ghost use Rattle.rrd_base.specs.Passed.{passed};
+ghost use Rattle.rrd_spec.specs.Verdict.{verdict};
+ghost use Rattle.rrd_spec.specs.History.{Resized, Sampled, content_listed};
+ghost use Rattle.rrd_spec.specs.Passed.{passed};
 ghost use Rattle.rrd_ring.specs.Rows.{newest_rows};
-ghost use Rattle.rrd_base.specs.Turns.{AreTurns, least_of_sample, least_of_steps, most_of_sample, most_of_steps};
-ghost use Rattle.rrd_base.specs.Validity.{AreAccepted, IsRow, IsValid};
+ghost use Rattle.rrd_spec.specs.Turns.{AreTurns, least_of_sample, least_of_steps, most_of_sample, most_of_steps};
+ghost use Rattle.rrd_spec.specs.Validity.{AreAccepted, IsRow, IsValid};
 
-use crate::choose::{Chosen, Request, Search};
-use crate::definition::DsDef;
 use crate::entry::{BeforeUpdate, Entry, SourceBefore};
+use crate::fetch::Search;
 use crate::preparing::{add_all, close_all, rates_into};
-use crate::resize::{Change, check_resize, rows_changed};
+use crate::resize::{check_resize, rows_changed};
 use crate::room::Room;
 use crate::store::{Store, new_all, put_back_all, save_all, take_all};
 use crate::tune::{check_tune, hold, put_held_back, tune_all};
 use crate::update::{check_update, raws_into};
-use crate::{CreateSpec, Refusal, Tuning, Update};
+use crate::{Change, Chosen, CreateSpec, DsDef, Refusal, Tuning, Update};
 use arrayvec::ArrayVec;
 use rrd_fixed::{Cell, Meter, Raw};
 use rrd_fold::{RowPrep, StepPrep};
 use rrd_ring::Archive;
+use rrd_spec::Request;
 use std::alloc::{AllocError, Global};
 use std::marker::Model;
 
@@ -51,7 +51,7 @@ pub(crate) struct Contents {
 }
 
 impl Model for Contents {
-    ghost use Rattle.rrd_base.specs.History.{Content};
+    ghost use Rattle.rrd_spec.specs.History.{Content};
 
     ghost Value = { Content };
 

@@ -3,11 +3,11 @@ ghost use Rattle.std.specs.Prelude.{◌≡◌, ◌-◌, ◌^◌, min, not, map, 
 ghost use Rattle.std.specs.List.{list_any};
 ghost use Rattle.std.specs.Result.{result_err};
 ghost use Rattle.rrd_fixed.specs.Names.{is_good};
-ghost use Rattle.rrd_base.specs.Creating as creating;
-ghost use Rattle.rrd_base.specs.Verdict as verdict;
+ghost use Rattle.rrd_spec.specs.Creating as creating;
+ghost use Rattle.rrd_spec.specs.Verdict as verdict;
 
 use crate::named::is_double;
-use crate::{DsDef, List, Refusal, RraDef};
+use crate::{CreateSpec, DsDef, Refusal, RraDef};
 
 /// The latest time of a sample, a start or a fetch.
 pub(crate) const LATEST_TIME: u64 = 9_999_999_999;
@@ -37,22 +37,9 @@ pub(crate) const MOST_CELLS: u64 = 4_000_000;
 
 const DEEPEST_JOURNAL: u64 = 1_000;
 
-/// What a new database is to be (rrdcreate).
-#[derive(Drop)]
-pub struct CreateSpec {
-    /// Seconds in a step: 1 to 1,000,000.
-    pub step: u64,
-    /// The time before the first second that is taken: 0 to 9,999,999,999.
-    pub start: u64,
-    /// How many changes can be reverted: 1 to 1,000.
-    pub depth: u64,
-    pub sources: List<DsDef>,
-    pub archives: List<RraDef>,
-}
-
 /// Whether a database can be made, or the first refusal: each number is judged over all sources or
 /// archives before the next one.
-pub(crate) fn check(spec: &CreateSpec) -> Result<(), Refusal>
+pub fn check_create(spec: &CreateSpec) -> Result<(), Refusal>
     ensures { result_err result ≡ creating.create_verdict spec.now }
 {
     check_first(spec)?;

@@ -4,7 +4,7 @@ ghost use Rattle.std.specs.List.{AllByRecursion};
 ghost use Rattle.rrd_fixed.specs.declared.kind.Kind.TheVariants.{Gauge};
 ghost use Rattle.rrd_fixed.specs.declared.raw.Raw.TheVariants.{Unknown};
 ghost use Rattle.rrd_ring.specs.Rows.{HasWidth};
-ghost use Rattle.rrd_base.specs.Entries.{Dropped, cells_dropped};
+ghost use Rattle.rrd_spec.specs.Entries.{Dropped, cells_dropped};
 ghost use Rattle.rrd_base.specs.Store.{befores};
 
 use crate::DsDef;

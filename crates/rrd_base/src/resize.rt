@@ -2,21 +2,14 @@
 ghost use Rattle.std.specs.Prelude.{◌≡◌, ◌<◌, ◌≤◌, length, slice_index_or, sum};
 ghost use Rattle.std.specs.List.{AllByRecursion};
 ghost use Rattle.std.specs.Result.{result_err};
-ghost use Rattle.rrd_base.specs.Commands.{all_rows_after, rows_changed, rows_of_archives};
-ghost use Rattle.rrd_base.specs.History.{Resized};
+ghost use Rattle.rrd_spec.specs.Commands.{all_rows_after, rows_changed, rows_of_archives};
+ghost use Rattle.rrd_spec.specs.History.{Resized};
 ghost use Rattle.rrd_base.specs.Resized.{HasFewRows, settings};
-ghost use Rattle.rrd_base.specs.Verdict as verdict;
+ghost use Rattle.rrd_spec.specs.Verdict as verdict;
 
 use crate::create::{MOST_CELLS, MOST_ROWS, is_bad_rows};
 use crate::store::Store;
-use crate::{DsDef, Refusal};
-
-/// Whether an archive grows or shrinks (rrdresize).
-#[derive(Clone, Copy, Debug, PartialEq, Eq)]
-pub enum Change {
-    Grow,
-    Shrink,
-}
+use crate::{Change, DsDef, Refusal};
 
 // Whether the archive would have too many rows.
 fn grows_too_far(change: Change, old: u64, rows: u64) -> bool

@@ -5,15 +5,15 @@ ghost use Rattle.rrd_fixed.specs.declared.cell.Cell.{Cell};
 ghost use Rattle.rrd_fixed.specs.declared.cell.Cell.TheVariants.{Unknown};
 ghost use Rattle.rrd_fold.specs.Parts.{Part, nothing, row_cell, with_each};
 ghost use Rattle.rrd_ring.specs.Rows.{HasWidth, newest_rows, row_at, width};
-ghost use Rattle.rrd_base.specs.Entries.{dropped, put_back as after_put_back, put_back_each};
-ghost use Rattle.rrd_base.specs.Creating.{new_archive};
-ghost use Rattle.rrd_base.specs.Each.{AllOf, parts_in};
-ghost use Rattle.rrd_base.specs.History.{keep_last};
-ghost use Rattle.rrd_base.specs.Passed.{archive_passed, row_of_age};
-ghost use Rattle.rrd_base.specs.Shown.{definitions};
-ghost use Rattle.rrd_base.specs.Turns.{least_of_steps, most_of_steps, rows_pushed};
+ghost use Rattle.rrd_spec.specs.Entries.{dropped, put_back as after_put_back, put_back_each};
+ghost use Rattle.rrd_spec.specs.Creating.{new_archive};
+ghost use Rattle.rrd_spec.specs.Each.{AllOf, parts_in};
+ghost use Rattle.rrd_spec.specs.History.{keep_last};
+ghost use Rattle.rrd_spec.specs.Passed.{archive_passed, row_of_age};
+ghost use Rattle.rrd_spec.specs.Shown.{definitions};
+ghost use Rattle.rrd_spec.specs.Turns.{least_of_steps, most_of_steps, rows_pushed};
 ghost use Rattle.rrd_base.specs.Store.{CanPutBack, CanPutBackEach, IsStepped, befores, functions, saved_functions};
-ghost use Rattle.rrd_base.specs.Validity.{IsRow, IsValidArchive};
+ghost use Rattle.rrd_spec.specs.Validity.{IsRow, IsValidArchive};
 
 use crate::RraDef;
 use crate::preparing::{add_each, close_each};
@@ -33,8 +33,8 @@ pub(crate) struct Store {
 }
 
 impl Model for Store {
-    ghost use Rattle.rrd_base.specs.Each.{AllOf, parts_in};
-    ghost use Rattle.rrd_base.specs.History.{Archive};
+    ghost use Rattle.rrd_spec.specs.Each.{AllOf, parts_in};
+    ghost use Rattle.rrd_spec.specs.History.{Archive};
 
     ghost Value = { Archive };
 
@@ -53,7 +53,7 @@ pub struct SavedArchive {
 }
 
 impl Model for SavedArchive {
-    ghost use Rattle.rrd_base.specs.Each.{AllOf, parts_in};
+    ghost use Rattle.rrd_spec.specs.Each.{AllOf, parts_in};
     ghost use Rattle.rrd_base.specs.Store.{Saved};
 
     ghost Value = { Saved };

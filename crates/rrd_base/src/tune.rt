@@ -2,33 +2,18 @@
 ghost use Rattle.std.specs.Prelude.{◌≡◌, ◌≤◌, length, map};
 ghost use Rattle.std.specs.List.{list_any};
 ghost use Rattle.std.specs.Result.{result_err};
-ghost use Rattle.rrd_base.specs.Commands as commands;
-ghost use Rattle.rrd_base.specs.Entries as entries;
-ghost use Rattle.rrd_base.specs.History.{raws_under};
+ghost use Rattle.rrd_spec.specs.Commands as commands;
+ghost use Rattle.rrd_spec.specs.Entries as entries;
+ghost use Rattle.rrd_spec.specs.History.{raws_under};
 ghost use Rattle.rrd_base.specs.Tuned.{held_of, with_raws, with_sources};
-ghost use Rattle.rrd_base.specs.Verdict as verdict;
+ghost use Rattle.rrd_spec.specs.Verdict as verdict;
 
 use crate::create::{has_bad_bounds, is_bad_heartbeat};
 use crate::entry::SourceBefore;
 use crate::named::has_source;
-use crate::{DsDef, Refusal};
+use crate::{DsDef, Refusal, Tuning};
 use arrayvec::ArrayVec;
 use rrd_fixed::{Kind, Name, Raw};
-
-/// New settings, each for the source of a name (rrdtune). All names are those before the command.
-#[derive(Drop)]
-pub struct Tuning {
-    /// Seconds, 1 to 9,999,999,999.
-    pub heartbeat: Option<(Name, u64)>,
-    /// Millionths, at most (2^64 - 1) * 10^6 in size; `None` is no bound.
-    pub minimum: Option<(Name, Option<i128>)>,
-    /// Millionths, at most (2^64 - 1) * 10^6 in size and not below the minimum; `None` is no bound.
-    pub maximum: Option<(Name, Option<i128>)>,
-    /// The type. Another one makes the last raw value unknown.
-    pub kind: Option<(Name, Kind)>,
-    /// The new name: 1 to 19 letters, digits or `_`, no other source's.
-    pub rename: Option<(Name, Name)>,
-}
 
 // ---- which tunes are accepted
 

@@ -1,52 +1,18 @@
 //! Samples for a database: what an update asks, and which updates are accepted.
 ghost use Rattle.std.specs.Prelude.{◌≡◌, ◌<◌, ◌∷◌, [], false, length, map, not, slice_index_or};
-ghost use Rattle.rrd_base.specs.declared.definition.DsDef.{DsDef};
-ghost use Rattle.rrd_base.specs.declared.update.Given.TheVariants.{Unknown};
+ghost use Rattle.rrd_spec.specs.declared.settings.DsDef.{DsDef};
+ghost use Rattle.rrd_spec.specs.declared.update.Given.TheVariants.{Unknown};
 ghost use Rattle.std.specs.List.{list_any, list_all};
 ghost use Rattle.std.specs.Result.{result_err};
-ghost use Rattle.rrd_base.specs.Commands.{names, raw_of, value_for};
-ghost use Rattle.rrd_base.specs.Verdict.{first_refusal, has_source, is_admitted, is_double, sample_checks, update_checks};
-ghost use Rattle.rrd_base.specs.Updating.{template_checks, template_of};
+ghost use Rattle.rrd_spec.specs.Commands.{names, raw_of, value_for};
+ghost use Rattle.rrd_spec.specs.Verdict.{first_refusal, has_source, is_admitted, is_double, sample_checks, update_checks};
+ghost use Rattle.rrd_spec.specs.Updating.{template_checks, template_of};
 ghost use Rattle.rrd_fixed.specs.Rate.{IsAccepted};
 
 use crate::create::LATEST_TIME;
-use crate::definition::DsDef;
 use crate::named::{Named, has_source, is_double};
-use crate::{List, Refusal};
-use rrd_fixed::{Name, Number, Raw, admit};
-
-/// A value as it is given: `U`, or a number.
-#[derive(Clone, Copy, Debug, PartialEq, Eq)]
-pub enum Given {
-    Unknown,
-    Number(Number),
-}
-
-/// The values at a time (rrdupdate).
-#[derive(Drop)]
-pub struct Sample {
-    /// Seconds since 1970: 0 to 9,999,999,999.
-    pub time: u64,
-    /// A value for each source, in the template's order.
-    pub values: List<Given>,
-}
-
-/// Samples in the order of their times (rrdupdate).
-#[derive(Drop)]
-pub struct Update {
-    /// The names of the sources that get the values; without it all sources in their order.
-    pub template: Option<List<Name>>,
-    pub samples: List<Sample>,
-}
-
-/// What an accepted update took.
-#[derive(Clone, Copy, Debug, PartialEq, Eq)]
-pub struct Receipt {
-    /// How many turns the preparations and the archives took.
-    pub turns: u64,
-    /// How many cells its journal entry holds.
-    pub cells: u64,
-}
+use crate::{DsDef, Given, List, Refusal, Sample, Update};
+use rrd_fixed::{Name, Raw, admit};
 
 // The value in the place of a source's name; unknown if it isn't there.
 fn value_named<T: Named>(named: &[T], values: &[Given], source: &DsDef) -> Given

@@ -9,15 +9,15 @@ use Rattle.std.proofs.lemmas.List.Concat.{flat_map-cons}
 use Rattle.std.proofs.lemmas.Nat.{mul-le}
 use Rattle.std.proofs.lemmas.Option.{get_or_from_slice_get, slice_get_within, slice_get-get_or}
 use Rattle.rrd_fixed.specs.declared.cell.Cell.{Cell}
-use Rattle.rrd_base.specs.declared.definition.RraDef.{RraDef}
-use Rattle.rrd_base.specs.Cells.{resolution, time_of}
-use Rattle.rrd_base.specs.History.{Archive, Content}
-use Rattle.rrd_base.specs.Passed.{row_at, row_of_age}
-use Rattle.rrd_base.specs.Shown.{cell_at}
-use Rattle.rrd_base.specs.Validity.{IsRow, IsValid}
-use Rattle.rrd_base.proofs.ShownLemmas.{cell_of_archive}
+use Rattle.rrd_spec.specs.declared.settings.RraDef.{RraDef}
+use Rattle.rrd_spec.specs.Cells.{resolution, time_of}
+use Rattle.rrd_spec.specs.History.{Archive, Content}
+use Rattle.rrd_spec.specs.Passed.{row_at, row_of_age}
+use Rattle.rrd_spec.specs.Shown.{cell_at}
+use Rattle.rrd_spec.specs.Validity.{IsRow, IsValid}
+use Rattle.rrd_spec.proofs.ShownLemmas.{cell_of_archive}
 use Rattle.std.proofs.lemmas.List.FromFn.{get_or-range_with_len, length-range_with_len}
-use Rattle.rrd_base.specs.Slots.{place_in, row_in}
+use Rattle.rrd_spec.specs.Slots.{place_in, row_in}
 use Rattle.rrd_file.proofs.Told.{all_of, archive_at, some_is}
 use Rattle.rrd_file.proofs.Slotted.{age_is, is_place, row_in_is}
 use Rattle.rrd_file.specs.Layout.{spelled}

@@ -3,10 +3,10 @@ use Rattle.std.proofs.Common.{◌≡◌, ◌<◌, ◌≤◌, ◌^◌, ◌+◌, �
 use Rattle.std.specs.Prelude.{slice_get}
 use Rattle.std.specs.List.{AllByRecursion}
 use Rattle.rrd_base.specs.declared.entry.SourceBefore.{SourceBefore}
-use Rattle.rrd_base.specs.History.{Content}
-use Rattle.rrd_base.specs.Entries.{Entry, Held, undone}
+use Rattle.rrd_spec.specs.History.{Content}
+use Rattle.rrd_spec.specs.Entries.{Entry, Held, undone}
 use Rattle.rrd_base.specs.Tuned.{held_of}
-use Rattle.rrd_base.specs.Validity.{IsValid, IsValidJournal, IsValidDatabase, Fits, Rise}
+use Rattle.rrd_spec.specs.Validity.{IsValid, IsValidJournal, IsValidDatabase, Fits, Rise}
 use Rattle.rrd_file.proofs.Told.{some_is}
 use Rattle.rrd_file.specs.Entered.{HasSmallNumber, IsEntryOfSome}
 

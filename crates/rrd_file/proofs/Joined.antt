@@ -2,10 +2,10 @@
 use Rattle.std.proofs.Common.{◌≡◌, ◌∙◌, ◌++◌, ◌∷◌, [], List, ℕ, sym, ap, append_assoc, append-nil, map, refl, length}
 use Rattle.std.specs.List.{flat_map}
 use Rattle.std.proofs.lemmas.Grind.{flat_map-append}
-use Rattle.rrd_base.specs.Entries.{Dropped}
-use Rattle.rrd_base.specs.Filed.{Filed, One, filed, head_of, header_of}
-use Rattle.rrd_base.specs.History.{Archive}
-use Rattle.rrd_base.specs.Survivors.{Kept}
+use Rattle.rrd_spec.specs.Entries.{Dropped}
+use Rattle.rrd_spec.specs.Filed.{Filed, One, filed, head_of, header_of}
+use Rattle.rrd_spec.specs.History.{Archive}
+use Rattle.rrd_spec.specs.Survivors.{Kept}
 use Rattle.rrd_file.specs.Layout.{body_pieces, dropped_pieces, entry_pieces, head_pieces, layout, row_pieces, spelled}
 use Rattle.rrd_file.specs.Pieces.{Piece, Mark, OfVersion, OfHeader, OfSource, OfArchive, OfPrep, OfRows, OfCell, spell}
 

@@ -7,8 +7,8 @@ use Rattle.std.specs.List.{find, enumerate_from}
 use Rattle.std.specs.Option.{option_map_or}
 use Rattle.std.specs.Int.{int_rem_euclid, int_div_euclid}
 use Rattle.rrd_fixed.specs.declared.cell.Cell.{Cell}
-use Rattle.rrd_base.specs.Cells.{time_of}
-use Rattle.rrd_base.specs.Slots.{slot_of, stands_in, row_in, place_in}
+use Rattle.rrd_spec.specs.Cells.{time_of}
+use Rattle.rrd_spec.specs.Slots.{slot_of, stands_in, row_in, place_in}
 use Rattle.std.proofs.Math.Nat.{add-mul-mod_self_right, mod-add-div'}
 use native.Mathlib.Nat as nat
 

@@ -5,14 +5,14 @@ use Rattle.std.specs.List.{AllByRecursion}
 use Rattle.std.proofs.lemmas.Int.{ints}
 use Rattle.rrd_fixed.specs.declared.raw.Raw.{Raw}
 use Rattle.rrd_fold.specs.Parts.{Part, nothing}
-use Rattle.rrd_base.specs.declared.definition.DsDef.{DsDef}
-use Rattle.rrd_base.specs.declared.definition.RraDef.{RraDef}
-use Rattle.rrd_base.specs.Filed.{Source, sources_of}
-use Rattle.rrd_base.specs.History.{Archive, Content}
+use Rattle.rrd_spec.specs.declared.settings.DsDef.{DsDef}
+use Rattle.rrd_spec.specs.declared.settings.RraDef.{RraDef}
+use Rattle.rrd_spec.specs.Filed.{Source, sources_of}
+use Rattle.rrd_spec.specs.History.{Archive, Content}
 use Rattle.std.proofs.lemmas.List.{length-map}
 use Rattle.rrd_fold.specs.Bounds.{Consolidating}
-use Rattle.rrd_base.specs.Shown.{prep_in}
-use Rattle.rrd_base.specs.Validity.{AreAccepted, IsValid, IsValidArchive}
+use Rattle.rrd_spec.specs.Shown.{prep_in}
+use Rattle.rrd_spec.specs.Validity.{AreAccepted, IsValid, IsValidArchive}
 use Rattle.rrd_file.specs.Layout.{sources_before}
 use Rattle.rrd_file.specs.Pieces.{OfSource, OfSourceBefore}
 

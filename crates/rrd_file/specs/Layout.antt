@@ -4,9 +4,9 @@ use Rattle.std.specs.List.{flat_map}
 use Rattle.rrd_fixed.specs.declared.cell.Cell.{Cell}
 use Rattle.rrd_fixed.specs.declared.raw.Raw.{Raw}
 use Rattle.rrd_fold.specs.Parts.{Part}
-use Rattle.rrd_base.specs.Entries.{Dropped, Entry, Updated, WasTuned, WasResized}
-use Rattle.rrd_base.specs.Filed.{Filed, Head, Version, One, filed}
-use Rattle.rrd_base.specs.Survivors.{Kept}
+use Rattle.rrd_spec.specs.Entries.{Dropped, Entry, Updated, WasTuned, WasResized}
+use Rattle.rrd_spec.specs.Filed.{Filed, Head, Version, One, filed}
+use Rattle.rrd_spec.specs.Survivors.{Kept}
 use Rattle.rrd_file.specs.Pieces.{Piece, Mark, OfVersion, OfHeader, OfSource, OfArchive, OfPrep, OfCell, OfTag, OfTime, OfSourceBefore, OfRows, OfCount, OfHeld, OfNumber, AnUpdate, ATune, AResize, spell}
 
 -- ---- the body

@@ -3,9 +3,9 @@ use Rattle.std.specs.Prelude.{ℕ, List, [], ◌∷◌, ◌++◌}
 use Rattle.rrd_fixed.specs.declared.cell.Cell.{Cell}
 use Rattle.rrd_fixed.specs.declared.raw.Raw.{Raw}
 use Rattle.rrd_fold.specs.Parts.{Part}
-use Rattle.rrd_base.specs.declared.definition.RraDef.{RraDef}
-use Rattle.rrd_base.specs.Entries.{Held}
-use Rattle.rrd_base.specs.Filed.{Header, Source, Version, One}
+use Rattle.rrd_spec.specs.declared.settings.RraDef.{RraDef}
+use Rattle.rrd_spec.specs.Entries.{Held}
+use Rattle.rrd_spec.specs.Filed.{Header, Source, Version, One}
 use Rattle.rrd_file.specs.Spelling.{archive_bytes, cell_bytes, eight_bytes, four_bytes, part_bytes, raw_bytes, source_bytes, two_bytes}
 
 -- what an entry undoes

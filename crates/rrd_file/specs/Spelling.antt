@@ -9,8 +9,8 @@ use Rattle.rrd_fixed.specs.declared.name.Name.{Name}
 use Rattle.rrd_fold.specs.declared.function.Function.{Function}
 use Rattle.rrd_fold.specs.declared.function.Function.TheVariants.{Average, Min, Max, Last}
 use Rattle.rrd_fold.specs.Parts.{Part}
-use Rattle.rrd_base.specs.declared.definition.DsDef.{DsDef}
-use Rattle.rrd_base.specs.declared.definition.RraDef.{RraDef}
+use Rattle.rrd_spec.specs.declared.settings.DsDef.{DsDef}
+use Rattle.rrd_spec.specs.declared.settings.RraDef.{RraDef}
 
 -- ---- numbers
 

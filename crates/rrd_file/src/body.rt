@@ -1,8 +1,8 @@
 //! The body of a file: header, data sources, and archives without their cells.
 ghost use Rattle.std.specs.Prelude.{◌≡◌, ◌<◌, ◌∷◌, [], length, map, slice_get, Some};
 ghost use Rattle.std.specs.List.{flat_map};
-ghost use Rattle.rrd_base.specs.Filed.{One, Source, filed, head_of, header_of};
-ghost use Rattle.rrd_base.specs.History.{Archive};
+ghost use Rattle.rrd_spec.specs.Filed.{One, Source, filed, head_of, header_of};
+ghost use Rattle.rrd_spec.specs.History.{Archive};
 ghost use Rattle.rrd_file.specs.Gathered.{Gathers};
 ghost use Rattle.rrd_file.specs.Layout.{body_pieces, head_pieces, spelled};
 ghost use Rattle.rrd_file.specs.Pieces.{Mark, OfArchive, OfHeader, OfPrep, OfSource, OfVersion, spell};

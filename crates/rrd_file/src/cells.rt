@@ -1,8 +1,8 @@
 //! The cells of all archives, slot by slot.
 ghost use Rattle.std.specs.Prelude.{ℕ, ◌≡◌, ◌<◌, ◌≤◌, ◌^◌, [], length, map, slice_get, slice_index_or, Some};
-ghost use Rattle.rrd_base.specs.Cells.{resolution as resolution_of, time_of};
-ghost use Rattle.rrd_base.specs.History.{Archive};
-ghost use Rattle.rrd_base.specs.Slots.{all_cells, cells_by_slot, place_in};
+ghost use Rattle.rrd_spec.specs.Cells.{resolution as resolution_of, time_of};
+ghost use Rattle.rrd_spec.specs.History.{Archive};
+ghost use Rattle.rrd_spec.specs.Slots.{all_cells, cells_by_slot, place_in};
 ghost use Rattle.rrd_file.specs.Gathered.{Gathers};
 ghost use Rattle.rrd_file.specs.Layout.{spelled};
 ghost use Rattle.rrd_file.specs.Pieces.{OfCell};

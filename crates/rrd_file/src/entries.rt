@@ -1,7 +1,7 @@
 //! The journal's entries, newest first.
 ghost use Rattle.std.specs.Prelude.{◌≡◌, ◌<◌, ◌≤◌, ◌^◌, ◌∷◌, [], length, map};
 ghost use Rattle.std.specs.List.{AllByRecursion, flat_map};
-ghost use Rattle.rrd_base.specs.Entries.{Updated, WasResized, WasTuned};
+ghost use Rattle.rrd_spec.specs.Entries.{Updated, WasResized, WasTuned};
 ghost use Rattle.rrd_base.specs.Store.{befores};
 ghost use Rattle.rrd_base.specs.Stored.{entry_of, update_of};
 ghost use Rattle.rrd_base.specs.Tuned.{held_of};

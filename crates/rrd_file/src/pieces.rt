@@ -1,6 +1,6 @@
 //! The pieces that both the body and the entries have: preparations, and cells row by row.
 ghost use Rattle.std.specs.Prelude.{map};
-ghost use Rattle.rrd_base.specs.Each.{parts_in};
+ghost use Rattle.rrd_spec.specs.Each.{parts_in};
 ghost use Rattle.rrd_file.specs.Gathered.{Gathers};
 ghost use Rattle.rrd_file.specs.Layout.{spelled};
 ghost use Rattle.rrd_file.specs.Pieces.{OfCell, OfPrep, spell};

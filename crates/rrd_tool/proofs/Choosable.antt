@@ -6,16 +6,16 @@ use Rattle.std.proofs.lemmas.Bool.{cases_Bool}
 use Rattle.std.proofs.lemmas.Bool.Decides.{nat_tests}
 use Rattle.std.proofs.Math.Nat.{mul-le-mul_left}
 use Rattle.rrd_fold.specs.declared.function.Function.{Function}
-use Rattle.rrd_base.specs.declared.definition.RraDef.{RraDef}
-use Rattle.rrd_base.specs.declared.choose.Candidate.{Candidate}
-use Rattle.rrd_base.specs.declared.choose.Chosen.{Chosen}
-use Rattle.rrd_base.specs.declared.choose.Request.{Request}
-use Rattle.rrd_base.specs.declared.refusal.Refusal.{Refusal}
-use Rattle.rrd_base.specs.declared.refusal.Refusal.TheVariants.{BadTime, BadSpan}
-use Rattle.rrd_base.specs.History.{Archive, Content}
-use Rattle.rrd_base.specs.Choice.{best, candidate, candidates, choice, covers, is_farther, is_nearer, same_function, span, span_of, span_rows, taken, unless_refused}
-use Rattle.rrd_base.specs.Validity.{IsValid, IsValidArchive}
-use Rattle.rrd_base.specs.Verdict.{◌refuses◌, first_refusal}
+use Rattle.rrd_spec.specs.declared.settings.RraDef.{RraDef}
+use Rattle.rrd_spec.specs.declared.fetch.Candidate.{Candidate}
+use Rattle.rrd_spec.specs.declared.fetch.Chosen.{Chosen}
+use Rattle.rrd_spec.specs.declared.fetch.Request.{Request}
+use Rattle.rrd_spec.specs.declared.refusal.Refusal.{Refusal}
+use Rattle.rrd_spec.specs.declared.refusal.Refusal.TheVariants.{BadTime, BadSpan}
+use Rattle.rrd_spec.specs.History.{Archive, Content}
+use Rattle.rrd_spec.specs.Choice.{best, candidate, candidates, choice, covers, is_farther, is_nearer, same_function, span, span_of, span_rows, taken, unless_refused}
+use Rattle.rrd_spec.specs.Validity.{IsValid, IsValidArchive}
+use Rattle.rrd_spec.specs.Verdict.{◌refuses◌, first_refusal}
 use Rattle.rrd_tool.specs.Chosen.{IsReadable}
 
 -- ---- lists

@@ -1,8 +1,8 @@
 -- The sources and the archives among the definitions that are read.
 use Rattle.std.proofs.Common.{◌≡◌, ◌∙◌, ◌+◌, ◌<◌, ◌++◌, ◌∷◌, ℕ, List, [], Result, Ok, Err, ap, refl, sym, length, drop, get_or}
 use Rattle.clap.specs.Words.{Text}
-use Rattle.rrd_base.specs.declared.definition.DsDef.{DsDef}
-use Rattle.rrd_base.specs.declared.definition.RraDef.{RraDef}
+use Rattle.rrd_spec.specs.declared.settings.DsDef.{DsDef}
+use Rattle.rrd_spec.specs.declared.settings.RraDef.{RraDef}
 use Rattle.rrd_tool.specs.Reading.{definitions_of}
 use Rattle.rrd_tool.specs.Texts.{archives_in, definition_of, sources_in}
 use Rattle.rrd_tool.specs.Unread.{Meets, each_of, or_fault}

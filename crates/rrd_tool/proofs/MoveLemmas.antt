@@ -1,7 +1,7 @@
 -- What the database stands for after more lines.
 use Rattle.std.proofs.Common.{◌++◌, List, ℕ, Option, Result}
 use Rattle.rrd_fixed.specs.declared.writing.WriteFault.{WriteFault}
-use Rattle.rrd_base.specs.Survivors.{State, Kept}
+use Rattle.rrd_spec.specs.Survivors.{State, Kept}
 use Rattle.rrd_tool.specs.Lines.{last_part, whole_lines}
 use Rattle.rrd_tool.specs.Moves.{Moves}
 use Rattle.rrd_tool.specs.Batch.{Ran, Stopped}

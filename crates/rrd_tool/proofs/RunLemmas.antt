@@ -2,16 +2,16 @@
 use Rattle.std.proofs.Common.{◌≡◌, ◌≢◌, ◌∙◌, ◌∷◌, [], ℕ, Bool, true, false, List, Option, Some, None, Result, Ok, Err, inl, inr, ap, ap₂, sym, refl, subst, append-nil, arith, length, option_map}
 use Rattle.std.specs.Io.KnownBytes.{Appends, Keeps}
 use Rattle.rrd_fixed.specs.declared.writing.WriteFault.{WriteFault}
-use Rattle.rrd_base.specs.declared.create.CreateSpec.{CreateSpec}
-use Rattle.rrd_base.specs.declared.refusal.Refusal.{Refusal}
-use Rattle.rrd_base.specs.Commands.{Resizing, TuningBy, Updating}
-use Rattle.rrd_base.specs.Creating.{create_verdict, created}
-use Rattle.rrd_base.specs.Entries.{Entry}
-use Rattle.rrd_base.specs.Survivors.{State, Kept, Changed, Reverted, Stands, step}
-use Rattle.rrd_base.specs.Verdict.{verdict}
-use Rattle.rrd_base.proofs.Created.{created_valid}
-use Rattle.rrd_base.proofs.Fitting.{runs_stay}
-use Rattle.rrd_base.proofs.Runs.{step_stands}
+use Rattle.rrd_spec.specs.declared.create.CreateSpec.{CreateSpec}
+use Rattle.rrd_spec.specs.declared.refusal.Refusal.{Refusal}
+use Rattle.rrd_spec.specs.Commands.{Resizing, TuningBy, Updating}
+use Rattle.rrd_spec.specs.Creating.{create_verdict, created}
+use Rattle.rrd_spec.specs.Entries.{Entry}
+use Rattle.rrd_spec.specs.Survivors.{State, Kept, Changed, Reverted, Stands, step}
+use Rattle.rrd_spec.specs.Verdict.{verdict}
+use Rattle.rrd_spec.proofs.Created.{created_valid}
+use Rattle.rrd_spec.proofs.Fitting.{runs_stay}
+use Rattle.rrd_spec.proofs.Runs.{step_stands}
 use Rattle.clap.specs.Words.{fault_of}
 use Rattle.rrd_fixed.proofs.Writings.{Appends-kept}
 use Rattle.rrd_tool.specs.Batch.{Performs, Turn}

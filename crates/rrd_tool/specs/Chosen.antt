@@ -1,7 +1,7 @@
 -- What a fetch may read.
 use Rattle.std.specs.Prelude.{◌<◌, ◌≤◌, length}
-use Rattle.rrd_base.specs.declared.choose.Chosen.{Chosen}
-use Rattle.rrd_base.specs.History.{Content}
+use Rattle.rrd_spec.specs.declared.fetch.Chosen.{Chosen}
+use Rattle.rrd_spec.specs.History.{Content}
 
 -- an archive that is there, its resolution, and times that stay small
 pub record IsReadable (content : Content) (chosen : Chosen) : Type 0 where

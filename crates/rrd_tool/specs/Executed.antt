@@ -2,10 +2,10 @@
 use Rattle.std.specs.Prelude.{◌≡◌, ◌⊎◌, [], ℕ, Bool, List, Option, Some, None, true, false, option_map}
 use Rattle.std.specs.Io.KnownBytes.{Appends, Keeps}
 use Rattle.rrd_fixed.specs.Written.{AppendsFront}
-use Rattle.rrd_base.specs.declared.refusal.Refusal.TheVariants as refusal
-use Rattle.rrd_base.specs.Commands.{Resizing, TuningBy, Updating}
-use Rattle.rrd_base.specs.Creating.{created}
-use Rattle.rrd_base.specs.Survivors.{State, Kept, changed, reverted}
+use Rattle.rrd_spec.specs.declared.refusal.Refusal.TheVariants as refusal
+use Rattle.rrd_spec.specs.Commands.{Resizing, TuningBy, Updating}
+use Rattle.rrd_spec.specs.Creating.{created}
+use Rattle.rrd_spec.specs.Survivors.{State, Kept, changed, reverted}
 use Rattle.rrd_tool.specs.Run.{StandsFor, is_change, kept_of, lines_on, next, takes_memory, verdict_on}
 use Rattle.rrd_tool.specs.declared.command.Command.{Command}
 use Rattle.rrd_tool.specs.declared.command.Command.TheVariants.{Create, Update, Tune, Resize, Fetch, Last, Revert}

@@ -1,7 +1,7 @@
 -- The texts of faults (own).
 use Rattle.std.specs.Prelude.{◌++◌, ℕ, List, codes, decimal}
-use Rattle.rrd_base.specs.declared.refusal.Refusal.{Refusal}
-use Rattle.rrd_base.specs.declared.refusal.Refusal.TheVariants as refusal
+use Rattle.rrd_spec.specs.declared.refusal.Refusal.{Refusal}
+use Rattle.rrd_spec.specs.declared.refusal.Refusal.TheVariants as refusal
 use Rattle.rrd_tool.specs.Named.{place_text}
 use Rattle.rrd_tool.specs.declared.command.LineFault.{LineFault}
 use Rattle.rrd_tool.specs.declared.command.LineFault.TheVariants as line

@@ -1,7 +1,7 @@
 -- What the functions of a batch say of the state, which no value holds.
 use Rattle.std.specs.Prelude.{◌≡◌, [], ℕ, Bool, List, Option, Some, None, Result, Ok, Err}
 use Rattle.rrd_fixed.specs.declared.writing.WriteFault.{WriteFault}
-use Rattle.rrd_base.specs.Survivors.{State, Kept}
+use Rattle.rrd_spec.specs.Survivors.{State, Kept}
 use Rattle.rrd_tool.specs.Batch.{Answers, Performs, Turn}
 use Rattle.rrd_tool.specs.Faults.{fault_line}
 use Rattle.rrd_tool.specs.Run.{StandsFor, command_turn, refused, turn, unless_short}

@@ -1,13 +1,13 @@
 -- What the commands print (own; the lines of a fetch are those of rrdfetch, "Output format", with cells in plain digits; rrdlast).
 use Rattle.std.specs.Prelude.{◌+◌, ◌-◌, ◌*◌, ◌/◌, ◌++◌, ◌∷◌, [], ℕ, ℤ, List, zero, suc, codes, pos, length, Result, Ok, Err}
 use Rattle.rrd_fixed.specs.Text.{cell_text, time_text}
-use Rattle.rrd_base.specs.declared.choose.Chosen.{Chosen}
-use Rattle.rrd_base.specs.declared.definition.DsDef.{DsDef}
-use Rattle.rrd_base.specs.declared.refusal.Refusal.{Refusal}
-use Rattle.rrd_base.specs.History.{Content}
-use Rattle.rrd_base.specs.Shown.{cell_at}
-use Rattle.rrd_base.specs.Choice.{choice}
-use Rattle.rrd_base.specs.Survivors.{Kept}
+use Rattle.rrd_spec.specs.declared.fetch.Chosen.{Chosen}
+use Rattle.rrd_spec.specs.declared.settings.DsDef.{DsDef}
+use Rattle.rrd_spec.specs.declared.refusal.Refusal.{Refusal}
+use Rattle.rrd_spec.specs.History.{Content}
+use Rattle.rrd_spec.specs.Shown.{cell_at}
+use Rattle.rrd_spec.specs.Choice.{choice}
+use Rattle.rrd_spec.specs.Survivors.{Kept}
 use Rattle.rrd_tool.specs.declared.command.Command.{Command}
 use Rattle.rrd_tool.specs.declared.command.Command.TheVariants.{Create, Update, Tune, Resize, Fetch, Last, Revert}
 

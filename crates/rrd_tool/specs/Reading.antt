@@ -3,8 +3,8 @@ use Rattle.std.specs.Prelude.{◌≡◌, ◌-◌, ℕ, List, [], Option, Some, R
 use Rattle.std.specs.Str.{bytes_eq}
 use Rattle.clap.specs.Words.{Row, Text, all_of, first_of}
 use Rattle.rrd_fixed.specs.Reading.{whole_of}
-use Rattle.rrd_base.specs.declared.definition.DsDef.{DsDef}
-use Rattle.rrd_base.specs.declared.definition.RraDef.{RraDef}
+use Rattle.rrd_spec.specs.declared.settings.DsDef.{DsDef}
+use Rattle.rrd_spec.specs.declared.settings.RraDef.{RraDef}
 use Rattle.rrd_tool.specs.Parsed.{IsTaken, entered_of}
 use Rattle.rrd_tool.specs.Unread.{Unread, ◌>>=◌, required, optional, given, each_of}
 use Rattle.rrd_tool.specs.Texts.{name_of, kind_of, function_of, change_of, bound_of, definition_of, sources_in, archives_in, template_of, sample_of, setting_of}

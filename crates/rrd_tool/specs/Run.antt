@@ -2,15 +2,15 @@
 use Rattle.std.specs.Prelude.{◌≡◌, ◌⊎◌, ◌∷◌, [], ℕ, Bool, List, Option, Some, None, Result, Ok, Err, true, false, option_map, if◌then◌else◌}
 use Rattle.std.specs.Result.{result_err}
 use Rattle.std.specs.Io.KnownBytes.{IsAtEnd, Keeps}
-use Rattle.rrd_base.specs.declared.refusal.Refusal.{Refusal}
-use Rattle.rrd_base.specs.declared.refusal.Refusal.TheVariants.{NothingToRevert}
-use Rattle.rrd_base.specs.History.{Content}
-use Rattle.rrd_base.specs.Commands.{Resizing, TuningBy, Updating}
-use Rattle.rrd_base.specs.Verdict.{verdict}
-use Rattle.rrd_base.specs.Entries.{Entry}
-use Rattle.rrd_base.specs.Survivors.{State, Kept, Changed, Reverted, survived, journal_of, after, Stands}
-use Rattle.rrd_base.specs.Creating.{create_verdict, created}
-use Rattle.rrd_base.specs.Choice.{choice}
+use Rattle.rrd_spec.specs.declared.refusal.Refusal.{Refusal}
+use Rattle.rrd_spec.specs.declared.refusal.Refusal.TheVariants.{NothingToRevert}
+use Rattle.rrd_spec.specs.History.{Content}
+use Rattle.rrd_spec.specs.Commands.{Resizing, TuningBy, Updating}
+use Rattle.rrd_spec.specs.Verdict.{verdict}
+use Rattle.rrd_spec.specs.Entries.{Entry}
+use Rattle.rrd_spec.specs.Survivors.{State, Kept, Changed, Reverted, survived, journal_of, after, Stands}
+use Rattle.rrd_spec.specs.Creating.{create_verdict, created}
+use Rattle.rrd_spec.specs.Choice.{choice}
 use Rattle.rrd_tool.specs.Lines.{is_empty, lines_of, text_in, whole_lines, words_of}
 use Rattle.clap.specs.Words.{fault_of}
 use Rattle.rrd_tool.specs.Shapes.{rrdi_app}

@@ -8,11 +8,11 @@ use Rattle.rrd_fixed.specs.Reading.{whole_of, number_of}
 use Rattle.rrd_fixed.specs.declared.kind.Kind.{Kind}
 use Rattle.rrd_fixed.specs.declared.name.Name.{Name}
 use Rattle.rrd_fold.specs.declared.function.Function.{Function}
-use Rattle.rrd_base.specs.declared.definition.DsDef.{DsDef}
-use Rattle.rrd_base.specs.declared.definition.RraDef.{RraDef}
-use Rattle.rrd_base.specs.declared.resize.Change.{Change}
-use Rattle.rrd_base.specs.declared.update.Given.{Given}
-use Rattle.rrd_base.specs.declared.update.Sample.{Sample}
+use Rattle.rrd_spec.specs.declared.settings.DsDef.{DsDef}
+use Rattle.rrd_spec.specs.declared.settings.RraDef.{RraDef}
+use Rattle.rrd_spec.specs.declared.resize.Change.{Change}
+use Rattle.rrd_spec.specs.declared.update.Given.{Given}
+use Rattle.rrd_spec.specs.declared.update.Sample.{Sample}
 use Rattle.rrd_tool.specs.declared.texts.Definition.{Definition}
 
 -- what is read next, unless something before it can't be read

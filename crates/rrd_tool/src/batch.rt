@@ -3,7 +3,7 @@ ghost use Rattle.std.specs.Prelude.{◌≡◌, ◌<◌, ◌≤◌, ◌+◌, ◌^
 ghost use Rattle.std.specs.List.{list_all};
 ghost use Rattle.std.specs.Result.{result_err};
 ghost use Rattle.std.specs.Io.KnownBytes.{Consumes, Keeps};
-ghost use Rattle.rrd_base.specs.Survivors.{State};
+ghost use Rattle.rrd_spec.specs.Survivors.{State};
 ghost use Rattle.rrd_tool.specs.Held.{Holds};
 ghost use Rattle.rrd_tool.specs.Lines.{is_plain, last_part, text_in, whole_lines};
 ghost use Rattle.rrd_tool.specs.Moves.{Asks, Moves, MovesByCommand, MovesByLine};

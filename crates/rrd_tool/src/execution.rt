@@ -1,6 +1,6 @@
 //! Running a command.
 ghost use Rattle.std.specs.Prelude.{◌≡◌, ℕ, List, Option, Some, None, true, false};
-ghost use Rattle.rrd_base.specs.Survivors.{State};
+ghost use Rattle.rrd_spec.specs.Survivors.{State};
 ghost use Rattle.rrd_fixed.specs.Written.{Writes};
 ghost use Rattle.rrd_tool.specs.Executed.{Executes, Prints, RunsOn};
 ghost use Rattle.rrd_tool.specs.Run.{StandsFor};

@@ -5,8 +5,8 @@ ghost use Rattle.rrd_fixed.specs.declared.cell.Cell.TheVariants.{Unknown};
 ghost use Rattle.rrd_fixed.specs.Text.{cell_text};
 ghost use Rattle.rrd_fixed.specs.Written.{Writes};
 ghost use Rattle.rrd_fold.specs.declared.function.Function.{Function};
-ghost use Rattle.rrd_base.specs.Choice.{choice};
-ghost use Rattle.rrd_base.specs.Validity.{IsValid};
+ghost use Rattle.rrd_spec.specs.Choice.{choice};
+ghost use Rattle.rrd_spec.specs.Validity.{IsValid};
 ghost use Rattle.rrd_tool.specs.Chosen.{IsReadable};
 ghost use Rattle.rrd_tool.specs.Printed.{fetch_text, header_text, row_text, rows_text, time_line};
 

@@ -1,9 +1,9 @@
 //! Worked examples, by the slow program and by the database.
 use crate::tests_database::{source, spec, units, update_of};
-use rrd_base::slow::{Reading, is_computable, rows};
-use rrd_base::{Chosen, CreateSpec, Database, List, RraDef};
+use rrd_base::{Chosen, CreateSpec, Database, List, RraDef, check_create};
 use rrd_fixed::{Cell, Kind, Raw, admit};
 use rrd_fold::Function;
+use rrd_spec::slow::{Reading, are_in_order, rows};
 use std::alloc::{AllocError, Global};
 use std::process::Abort;
 use std::test::Fail;
@@ -55,7 +55,8 @@ fn shown_by_slow_program(rt: &impl Abort, alloc: Global, example: Example<'_>) -
     let spec = spec_of(alloc, example)?;
     let readings = readings(alloc, example)?;
     assert_eq!(rt; spec.archives.len(), 1);
-    assert!(rt; is_computable(&spec, readings.as_slice()));
+    assert!(rt; check_create(&spec).is_ok());
+    assert!(rt; are_in_order(spec.sources.as_slice(), spec.start, readings.as_slice()));
     let rows = rows(alloc, &spec, 0, readings.as_slice())?;
     assert_eq!(rt; rows.len(), example.rows.len());
     for (place, row) in example.rows.iter().enumerate() {

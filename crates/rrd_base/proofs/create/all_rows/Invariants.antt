@@ -1,5 +1,5 @@
 use Rattle.std.proofs.Common.{◌≡◌, ◌-◌, ◌^◌, min, map, sum, take}
-use Rattle.rrd_base.specs.declared.definition.RraDef.{RraDef}
+use Rattle.rrd_spec.specs.declared.settings.RraDef.{RraDef}
 use Rattle.rrd_base.proofs.create.all_rows.Given as goal
 
 abbrev pub invariant-loop-archive : goal.invariant-loop-archive

@@ -1,5 +1,5 @@
 use Rattle.std.proofs.Common.{◌≡◌, ◌*◌, ◌≤◌, take}
-use Rattle.rrd_base.specs.Entries.{cells_dropped}
+use Rattle.rrd_spec.specs.Entries.{cells_dropped}
 use Rattle.rrd_base.specs.Store.{befores}
 use Rattle.rrd_base.proofs.entry.count_cells.Given as goal
 

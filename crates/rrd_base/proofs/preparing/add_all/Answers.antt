@@ -4,8 +4,8 @@ use Rattle.rrd_fixed.specs.declared.cell.Cell.{Cell}
 use Rattle.rrd_fixed.specs.declared.cell.Cell.TheVariants.{Unknown}
 use Rattle.rrd_fold.specs.Parts.{Part, with_cell}
 use Rattle.rrd_fold.specs.declared.function.Function.TheVariants.{Average}
-use Rattle.rrd_base.specs.Each.{map_each}
-use Rattle.rrd_base.proofs.EachLemmas.{fold-with_each, map_each_more, map_each_next, map_each_all}
+use Rattle.rrd_spec.specs.Each.{map_each}
+use Rattle.rrd_spec.proofs.EachLemmas.{fold-with_each, map_each_more, map_each_next, map_each_all}
 use Rattle.rrd_base.proofs.preparing.add_all.Goals as goal
 
 pub loop-i-preserved : goal.loop-i-preserved

@@ -1,5 +1,5 @@
 use Rattle.std.proofs.Common.{◌≡◌, ◌+◌, ◌++◌, take, drop, map, pos}
-use Rattle.rrd_base.specs.Each.{anew, row_of}
+use Rattle.rrd_spec.specs.Each.{anew, row_of}
 use Rattle.rrd_base.proofs.preparing.close_each.Given as goal
 
 abbrev pub invariant-loop-i : goal.invariant-loop-i

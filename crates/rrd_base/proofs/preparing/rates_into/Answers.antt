@@ -2,10 +2,10 @@ use Rattle.std.proofs.Common.{ℕ, sym, ◌∙◌, ap, subst, suc, ◌+◌, ◌+
 use Rattle.std.specs.List.{AllByRecursion}
 use Rattle.rrd_fixed.specs.declared.raw.Raw.TheVariants.{Unknown}
 use Rattle.rrd_fixed.specs.Rate.{IsAccepted, IsBounded}
-use Rattle.rrd_base.specs.declared.definition.DsDef.{DsDef}
-use Rattle.rrd_base.specs.History.{rates}
-use Rattle.rrd_base.proofs.AllLemmas.{All-take-set}
-use Rattle.rrd_base.proofs.EachLemmas.{accepted_at, rate_of, rates_more}
+use Rattle.rrd_spec.specs.declared.settings.DsDef.{DsDef}
+use Rattle.rrd_spec.specs.History.{rates}
+use Rattle.rrd_spec.proofs.AllLemmas.{All-take-set}
+use Rattle.rrd_spec.proofs.EachLemmas.{accepted_at, rate_of, rates_more}
 use Rattle.rrd_base.proofs.preparing.rates_into.Goals as goal
 
 pub rate-requires-clause-old_accepted : goal.rate-requires-clause-old_accepted

@@ -1,7 +1,7 @@
 use Rattle.std.proofs.Common.{◌≡◌, ◌++◌, take, drop}
 use Rattle.std.specs.List.{AllByRecursion}
 use Rattle.rrd_fixed.specs.Rate.{IsBounded}
-use Rattle.rrd_base.specs.History.{rates}
+use Rattle.rrd_spec.specs.History.{rates}
 use Rattle.rrd_base.proofs.preparing.rates_into.Given as goal
 
 abbrev pub invariant-loop-i : goal.invariant-loop-i

@@ -1,8 +1,8 @@
 use Rattle.std.proofs.Common.{◌≡◌, sym, ◌∙◌, ap, sum, ◌+◌, arith, get_or}
-use Rattle.rrd_base.specs.Commands as commands
-use Rattle.rrd_base.specs.Commands.{all_rows_after, rows_of_archives}
-use Rattle.rrd_base.specs.History.{Archive, Resized}
-use Rattle.rrd_base.specs.declared.definition.RraDef.{RraDef}
+use Rattle.rrd_spec.specs.Commands as commands
+use Rattle.rrd_spec.specs.Commands.{all_rows_after, rows_of_archives}
+use Rattle.rrd_spec.specs.History.{Archive, Resized}
+use Rattle.rrd_spec.specs.declared.settings.RraDef.{RraDef}
 use Rattle.std.proofs.lemmas.List.{length-map}
 use Rattle.rrd_base.proofs.ResizeLemmas.{changed_few, few_sum, some_of_all, sum_set, rows_at_archive}
 use Rattle.rrd_base.proofs.resize.all_rows_then.Goals as goal

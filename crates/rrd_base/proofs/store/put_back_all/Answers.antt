@@ -1,6 +1,6 @@
 use Rattle.std.proofs.Common.{◌≡◌, ℕ, sym, ◌∙◌, ap, subst, suc, ◌-◌, ◌+◌, ◌++◌, ◌<◌, take, drop, length, set, get_or, vec_len, arith}
-use Rattle.rrd_base.specs.History.{Archive}
-use Rattle.rrd_base.specs.Entries.{put_back, put_back_each}
+use Rattle.rrd_spec.specs.History.{Archive}
+use Rattle.rrd_spec.specs.Entries.{put_back, put_back_each}
 use Rattle.rrd_base.specs.Store.{Saved, CanPutBack, befores}
 use Rattle.rrd_base.proofs.PutBack.{front_short, front_of, popped, put_back_next, put_back_more, as_many, can_at, function_at}
 use Rattle.rrd_base.proofs.store.put_back_all.Goals as goal

@@ -1,5 +1,5 @@
 use Rattle.std.proofs.Common.{◌≡◌, take, map}
-use Rattle.rrd_base.specs.Entries.{dropped}
+use Rattle.rrd_spec.specs.Entries.{dropped}
 use Rattle.rrd_base.specs.Store.{befores, functions, saved_functions}
 use Rattle.rrd_base.proofs.store.save_all.Given as goal
 

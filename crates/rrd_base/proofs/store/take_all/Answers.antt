@@ -1,14 +1,14 @@
 use Rattle.std.proofs.Common.{◌≡◌, ℕ, sym, ◌∙◌, ap, subst, suc, ◌+◌, ◌*◌, ◌^◌, ◌∷◌, ◌++◌, ◌<◌, take, drop, map, length, set, get_or, replicate, arith}
 use Rattle.std.proofs.lemmas.Nat.{mul-le}
 use Rattle.std.specs.List.{AllByRecursion}
-use Rattle.rrd_base.specs.History.{Archive}
-use Rattle.rrd_base.specs.Passed.{archive_passed}
-use Rattle.rrd_base.specs.Shown.{definitions}
-use Rattle.rrd_base.specs.declared.definition.RraDef.{RraDef}
-use Rattle.rrd_base.specs.Turns.{rows_pushed, least_of_steps, most_of_steps}
-use Rattle.rrd_base.specs.Validity.{IsValidArchive}
-use Rattle.rrd_base.proofs.AllLemmas.{All-take-set}
-use Rattle.rrd_base.proofs.EachLemmas.{map_more, map_next}
+use Rattle.rrd_spec.specs.History.{Archive}
+use Rattle.rrd_spec.specs.Passed.{archive_passed}
+use Rattle.rrd_spec.specs.Shown.{definitions}
+use Rattle.rrd_spec.specs.declared.settings.RraDef.{RraDef}
+use Rattle.rrd_spec.specs.Turns.{rows_pushed, least_of_steps, most_of_steps}
+use Rattle.rrd_spec.specs.Validity.{IsValidArchive}
+use Rattle.rrd_spec.proofs.AllLemmas.{All-take-set}
+use Rattle.rrd_spec.proofs.EachLemmas.{map_more, map_next}
 use Rattle.rrd_base.proofs.TurnLemmas.{sum_more, sum_within}
 use Rattle.rrd_base.proofs.store.take_all.Goals as goal
 

@@ -1,9 +1,9 @@
 use Rattle.std.proofs.Common.{◌≡◌, ◌+◌, ◌*◌, ◌≤◌, ◌∷◌, ◌++◌, take, drop, length, map, replicate}
 use Rattle.std.specs.List.{AllByRecursion}
-use Rattle.rrd_base.specs.Passed.{archive_passed}
-use Rattle.rrd_base.specs.Shown.{definitions}
-use Rattle.rrd_base.specs.Turns.{least_of_steps, most_of_steps}
-use Rattle.rrd_base.specs.Validity.{IsValidArchive}
+use Rattle.rrd_spec.specs.Passed.{archive_passed}
+use Rattle.rrd_spec.specs.Shown.{definitions}
+use Rattle.rrd_spec.specs.Turns.{least_of_steps, most_of_steps}
+use Rattle.rrd_spec.specs.Validity.{IsValidArchive}
 use Rattle.rrd_base.proofs.store.take_all.Given as goal
 
 abbrev pub invariant-loop-i : goal.invariant-loop-i

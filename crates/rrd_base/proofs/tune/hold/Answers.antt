@@ -1,8 +1,8 @@
 use Rattle.std.proofs.Common.{◌≡◌, refl, sym, ◌∙◌, ap, suc, ◌+◌, ◌<◌, ◌≤◌, true, false, cond, [], ◌∷◌, ◌++◌, map, take, get_or, length, length-append, append-nil, arith, lit<}
 use Rattle.std.proofs.lemmas.List.{map_push, length-map}
 use Rattle.rrd_fixed.specs.declared.raw.Raw.TheVariants.{Unknown}
-use Rattle.rrd_base.specs.declared.definition.DsDef.{DsDef}
-use Rattle.rrd_base.specs.Entries as entries
+use Rattle.rrd_spec.specs.declared.settings.DsDef.{DsDef}
+use Rattle.rrd_spec.specs.Entries as entries
 use Rattle.rrd_base.specs.Tuned.{held_of}
 use Rattle.rrd_base.proofs.TuneLemmas.{held_more, held_few}
 use Rattle.rrd_base.proofs.tune.hold.Goals as goal

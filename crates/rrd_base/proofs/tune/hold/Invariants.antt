@@ -1,5 +1,5 @@
 use Rattle.std.proofs.Common.{◌≡◌, map, take}
-use Rattle.rrd_base.specs.Entries as entries
+use Rattle.rrd_spec.specs.Entries as entries
 use Rattle.rrd_base.specs.Tuned.{held_of}
 use Rattle.rrd_base.proofs.tune.hold.Given as goal
 

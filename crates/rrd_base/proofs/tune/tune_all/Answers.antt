@@ -1,10 +1,10 @@
 use Rattle.std.proofs.Common.{◌≡◌, ◌∙◌, ap, suc, ◌+◌, ◌++◌, ◌<◌, map, take, drop, set, get_or, length, arith}
 use Rattle.rrd_fixed.specs.declared.raw.Raw.TheVariants.{Unknown}
-use Rattle.rrd_base.specs.declared.definition.DsDef.{DsDef}
-use Rattle.rrd_base.specs.Commands as commands
-use Rattle.rrd_base.specs.History.{raws_under}
+use Rattle.rrd_spec.specs.declared.settings.DsDef.{DsDef}
+use Rattle.rrd_spec.specs.Commands as commands
+use Rattle.rrd_spec.specs.History.{raws_under}
 use Rattle.std.proofs.lemmas.List.{get_or_default}
-use Rattle.rrd_base.proofs.EachLemmas.{map_more, map_next}
+use Rattle.rrd_spec.proofs.EachLemmas.{map_more, map_next}
 use Rattle.rrd_base.proofs.TuneLemmas.{raws_more, raws_next}
 use Rattle.rrd_base.proofs.tune.tune_all.Goals as goal
 

@@ -1,8 +1,8 @@
 use Rattle.std.proofs.Common.{sym, ◌∙◌, ap, suc, ◌+◌, ◌++◌, map, take, drop, set, length, ◌<◌, arith}
-use Rattle.rrd_base.specs.declared.definition.DsDef.{DsDef}
-use Rattle.rrd_base.specs.Commands.{raw_of, value_for}
-use Rattle.rrd_base.specs.Updating.{template_of}
-use Rattle.rrd_base.proofs.EachLemmas.{map_more}
+use Rattle.rrd_spec.specs.declared.settings.DsDef.{DsDef}
+use Rattle.rrd_spec.specs.Commands.{raw_of, value_for}
+use Rattle.rrd_spec.specs.Updating.{template_of}
+use Rattle.rrd_spec.proofs.EachLemmas.{map_more}
 use Rattle.rrd_base.proofs.update.raws_into.Goals as goal
 
 pub loop-place-preserved : goal.loop-place-preserved

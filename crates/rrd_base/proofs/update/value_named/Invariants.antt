@@ -1,5 +1,5 @@
 use Rattle.std.proofs.Common.{◌≡◌, drop, map}
-use Rattle.rrd_base.specs.Commands.{value_for}
+use Rattle.rrd_spec.specs.Commands.{value_for}
 use Rattle.rrd_base.proofs.update.value_named.Given as goal
 
 abbrev pub invariant-loop-place : goal.invariant-loop-place

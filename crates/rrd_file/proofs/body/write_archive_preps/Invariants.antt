@@ -1,7 +1,7 @@
 use Rattle.std.proofs.Common.{◌≡◌, Some, map, take}
 use Rattle.std.specs.Prelude.{slice_get}
 use Rattle.std.specs.List.{flat_map}
-use Rattle.rrd_base.specs.History.{Archive}
+use Rattle.rrd_spec.specs.History.{Archive}
 use Rattle.rrd_file.specs.Pieces.{OfPrep, spell}
 use Rattle.rrd_file.specs.Gathered.{Adds}
 use Rattle.rrd_file.proofs.body.write_archive_preps.Given as goal

@@ -1,6 +1,6 @@
 use Rattle.std.proofs.Common.{◌++◌, sym, subst, map}
 use Rattle.std.specs.List.{flat_map}
-use Rattle.rrd_base.specs.Filed.{One, filed}
+use Rattle.rrd_spec.specs.Filed.{One, filed}
 use Rattle.rrd_file.specs.Layout.{head_pieces, spelled}
 use Rattle.rrd_file.specs.Pieces.{OfCell}
 use Rattle.rrd_file.proofs.Joined.{joined_body}

@@ -1,5 +1,5 @@
 use Rattle.std.proofs.Common.{◌≡◌, ◌∙◌, ◌++◌, [], ◌∷◌}
-use Rattle.rrd_base.specs.Filed.{One, header_of}
+use Rattle.rrd_spec.specs.Filed.{One, header_of}
 use Rattle.rrd_file.specs.Pieces.{Mark, OfVersion, OfHeader, header_bytes, spell}
 use Rattle.rrd_file.specs.Layout.{spelled}
 use Rattle.rrd_file.specs.Spelling.{eight_bytes, four_bytes, two_bytes}

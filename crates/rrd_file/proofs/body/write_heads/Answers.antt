@@ -1,6 +1,6 @@
 use Rattle.std.proofs.Common.{sym, subst, map, arith}
 use Rattle.std.proofs.lemmas.List.{length-map}
-use Rattle.rrd_base.specs.Filed.{Head, head_of}
+use Rattle.rrd_spec.specs.Filed.{Head, head_of}
 use Rattle.rrd_file.specs.Layout.{head_pieces, spelled}
 use Rattle.rrd_file.specs.Pieces.{spell}
 use Rattle.rrd_file.specs.Gathered.{Adds}

@@ -1,6 +1,6 @@
 use Rattle.std.proofs.Common.{map, take}
 use Rattle.std.specs.List.{flat_map}
-use Rattle.rrd_base.specs.Filed.{Head, head_of}
+use Rattle.rrd_spec.specs.Filed.{Head, head_of}
 use Rattle.rrd_file.specs.Layout.{head_pieces, spelled}
 use Rattle.rrd_file.specs.Gathered.{Adds}
 use Rattle.rrd_file.proofs.body.write_heads.Given as goal

@@ -1,6 +1,6 @@
 use Rattle.std.proofs.Common.{◌≡◌, ◌∙◌, ◌++◌, ap, arith}
-use Rattle.rrd_base.specs.declared.definition.RraDef.{RraDef}
-use Rattle.rrd_base.specs.History.{Archive}
+use Rattle.rrd_spec.specs.declared.settings.RraDef.{RraDef}
+use Rattle.rrd_spec.specs.History.{Archive}
 use Rattle.rrd_file.specs.Pieces.{OfArchive, spell}
 use Rattle.rrd_file.specs.Spelling.{archive_bytes}
 use Rattle.std.proofs.lemmas.Result.{err_from_is_err_and}

@@ -4,7 +4,7 @@ use Rattle.std.proofs.lemmas.Int.{ints}
 use mir.Facts.{to_z-of_z}
 use mir.Val.{SFits, of_z, to_z}
 use Rattle.rrd_fold.specs.Parts.{Part}
-use Rattle.rrd_base.specs.Filed.{Source}
+use Rattle.rrd_spec.specs.Filed.{Source}
 use Rattle.rrd_file.specs.Pieces.{OfSource, spell}
 use Rattle.rrd_file.specs.Spelling.{part_bytes, raw_bytes, source_bytes}
 use Rattle.std.proofs.lemmas.Result.{err_from_is_err_and}

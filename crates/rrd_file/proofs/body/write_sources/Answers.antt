@@ -1,5 +1,5 @@
 use Rattle.std.proofs.Common.{map, arith}
-use Rattle.rrd_base.specs.Filed.{sources_of}
+use Rattle.rrd_spec.specs.Filed.{sources_of}
 use Rattle.rrd_file.specs.Pieces.{OfSource, spell}
 use Rattle.rrd_file.proofs.Told.{source_there, length_sources, lengths}
 use Rattle.std.proofs.lemmas.Result.{err_from_is_err_and}

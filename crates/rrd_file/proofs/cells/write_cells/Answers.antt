@@ -1,6 +1,6 @@
 use Rattle.std.proofs.Common.{sym, subst, map, arith}
-use Rattle.rrd_base.specs.History.{Archive}
-use Rattle.rrd_base.specs.Slots.{cells_by_slot}
+use Rattle.rrd_spec.specs.History.{Archive}
+use Rattle.rrd_spec.specs.Slots.{cells_by_slot}
 use Rattle.rrd_file.specs.Layout.{spelled}
 use Rattle.rrd_file.specs.Pieces.{OfCell}
 use Rattle.rrd_file.specs.Gathered.{Adds}

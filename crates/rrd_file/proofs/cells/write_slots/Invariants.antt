@@ -1,9 +1,9 @@
 use Rattle.std.proofs.Common.{◌≡◌, ℕ, Some, length, map, take}
 use Rattle.std.specs.Prelude.{slice_get}
 use Rattle.std.specs.List.{flat_map, range_with_len}
-use Rattle.rrd_base.specs.Cells.{resolution}
-use Rattle.rrd_base.specs.History.{Archive}
-use Rattle.rrd_base.specs.Slots.{row_in}
+use Rattle.rrd_spec.specs.Cells.{resolution}
+use Rattle.rrd_spec.specs.History.{Archive}
+use Rattle.rrd_spec.specs.Slots.{row_in}
 use Rattle.rrd_file.specs.Layout.{spelled}
 use Rattle.rrd_file.specs.Pieces.{OfCell}
 use Rattle.rrd_file.specs.Gathered.{Adds}

@@ -1,6 +1,6 @@
 use Rattle.std.proofs.Common.{◌++◌, sym, subst}
 use Rattle.std.specs.List.{flat_map}
-use Rattle.rrd_base.specs.Filed.{One, filed}
+use Rattle.rrd_spec.specs.Filed.{One, filed}
 use Rattle.rrd_file.specs.Layout.{body_pieces, entry_pieces, spelled}
 use Rattle.rrd_file.proofs.Joined.{joined_whole}
 use Rattle.std.proofs.lemmas.Result.{err_from_is_err_and}

@@ -1,6 +1,6 @@
 use Rattle.std.proofs.Common.{◌∙◌, Some, ap, sym, subst, arith}
 use Rattle.std.proofs.lemmas.List.{length-map}
-use Rattle.rrd_base.specs.Entries.{Dropped}
+use Rattle.rrd_spec.specs.Entries.{Dropped}
 use Rattle.rrd_base.specs.Store.{Saved, befores}
 use Rattle.rrd_file.specs.Layout.{dropped_pieces, spelled}
 use Rattle.rrd_file.specs.Pieces.{spell}

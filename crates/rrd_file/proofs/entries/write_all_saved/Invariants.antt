@@ -1,6 +1,6 @@
 use Rattle.std.proofs.Common.{take}
 use Rattle.std.specs.List.{flat_map}
-use Rattle.rrd_base.specs.Entries.{Dropped}
+use Rattle.rrd_spec.specs.Entries.{Dropped}
 use Rattle.rrd_base.specs.Store.{befores}
 use Rattle.rrd_file.specs.Layout.{dropped_pieces, spelled}
 use Rattle.rrd_file.specs.Gathered.{Adds}

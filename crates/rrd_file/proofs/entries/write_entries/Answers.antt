@@ -1,5 +1,5 @@
 use Rattle.std.proofs.Common.{sym, subst, arith}
-use Rattle.rrd_base.specs.Entries.{Entry}
+use Rattle.rrd_spec.specs.Entries.{Entry}
 use Rattle.rrd_file.specs.Layout.{entry_pieces, spelled}
 use Rattle.rrd_file.specs.Pieces.{spell}
 use Rattle.rrd_file.specs.Gathered.{Adds}

@@ -1,6 +1,6 @@
 use Rattle.std.proofs.Common.{take}
 use Rattle.std.specs.List.{flat_map}
-use Rattle.rrd_base.specs.Entries.{Entry}
+use Rattle.rrd_spec.specs.Entries.{Entry}
 use Rattle.rrd_file.specs.Layout.{entry_pieces, spelled}
 use Rattle.rrd_file.specs.Gathered.{Adds}
 use Rattle.rrd_file.proofs.entries.write_entries.Given as goal

@@ -1,6 +1,6 @@
 use Rattle.std.proofs.Common.{◌∙◌, Some, ap, sym, map}
 use Rattle.rrd_fold.specs.Bounds.{Consolidating}
-use Rattle.rrd_base.specs.Each.{parts_in}
+use Rattle.rrd_spec.specs.Each.{parts_in}
 use Rattle.rrd_file.specs.Pieces.{OfPrep, spell}
 use Rattle.std.proofs.lemmas.Result.{err_from_is_err_and}
 use Rattle.rrd_file.proofs.Gathering.{item_added, item_at, item_broken, mapped_at}

@@ -1,6 +1,6 @@
 use Rattle.std.proofs.Common.{map, take}
 use Rattle.std.specs.List.{flat_map}
-use Rattle.rrd_base.specs.Each.{parts_in}
+use Rattle.rrd_spec.specs.Each.{parts_in}
 use Rattle.rrd_file.specs.Pieces.{OfPrep, spell}
 use Rattle.rrd_file.specs.Gathered.{Adds}
 use Rattle.rrd_file.proofs.pieces.write_preps.Given as goal

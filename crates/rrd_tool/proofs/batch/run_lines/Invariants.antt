@@ -1,6 +1,6 @@
 use Rattle.std.proofs.Common.{List, ℕ, Option, [], ◌≤◌, ◌*◌}
 use Rattle.std.specs.Io.KnownBytes.{Consumes}
-use Rattle.rrd_base.specs.Survivors.{State}
+use Rattle.rrd_spec.specs.Survivors.{State}
 use Rattle.rrd_tool.specs.Held.{Holds}
 use Rattle.rrd_tool.specs.Lines.{last_part, whole_lines}
 use Rattle.rrd_tool.specs.Batch.{Ran}

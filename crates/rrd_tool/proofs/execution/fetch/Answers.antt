@@ -1,6 +1,6 @@
 use Rattle.std.proofs.Common.{◌≡◌, Ok, Some, ap, sym, option_map}
 use Rattle.std.specs.Result.{result_err}
-use Rattle.rrd_base.specs.Choice.{choice}
+use Rattle.rrd_spec.specs.Choice.{choice}
 use Rattle.rrd_tool.specs.Executed.{kept_next}
 use Rattle.rrd_tool.specs.Printed.{fetch_text}
 use Rattle.rrd_tool.specs.Run.{lines_on, verdict_on}

@@ -1,9 +1,9 @@
 use Rattle.std.proofs.Common.{◌≡◌, sym, ◌∙◌, ap, subst, ℕ, ◌+◌, ◌-◌, ◌*◌, ◌/◌, ◌<◌, ◌≤◌, replicate, length, arith}
-use Rattle.rrd_base.specs.History.{Content}
-use Rattle.rrd_base.specs.Passed.{passed}
-use Rattle.rrd_base.specs.Shown.{definitions}
-use Rattle.rrd_base.specs.Turns.{least_of_sample, most_of_sample, least_of_steps, most_of_steps}
-use Rattle.rrd_base.specs.Validity.{IsRow}
+use Rattle.rrd_spec.specs.History.{Content}
+use Rattle.rrd_spec.specs.Passed.{passed}
+use Rattle.rrd_spec.specs.Shown.{definitions}
+use Rattle.rrd_spec.specs.Turns.{least_of_sample, most_of_sample, least_of_steps, most_of_steps}
+use Rattle.rrd_spec.specs.Validity.{IsRow}
 use Rattle.rrd_base.specs.Contents.{content_of}
 use Rattle.rrd_base.proofs.Catching.{at_last, caught_up, end_of_step, few_caught, least_caught, least_within, most_caught, most_within, seconds_to_steps, steps_after}
 use Rattle.rrd_base.proofs.contents.Contents.catch_up.Goals as goal

@@ -1,8 +1,8 @@
 use Rattle.std.proofs.Common.{◌∙◌, ap}
-use Rattle.rrd_base.specs.Commands.{Resizing}
-use Rattle.rrd_base.specs.History.{Content}
+use Rattle.rrd_spec.specs.Commands.{Resizing}
+use Rattle.rrd_spec.specs.History.{Content}
 use Rattle.rrd_base.specs.Resized.{settings}
-use Rattle.rrd_base.specs.Verdict.{first_refusal, resize_checks, verdict}
+use Rattle.rrd_spec.specs.Verdict.{first_refusal, resize_checks, verdict}
 use Rattle.rrd_base.proofs.contents.Contents.check_resize.Goals as goal
 
 pub returns : goal.returns

@@ -1,7 +1,7 @@
 use Rattle.std.proofs.Common.{◌∙◌, ap}
-use Rattle.rrd_base.specs.Commands.{TuningBy}
-use Rattle.rrd_base.specs.History.{Content}
-use Rattle.rrd_base.specs.Verdict.{first_refusal, tune_checks, verdict}
+use Rattle.rrd_spec.specs.Commands.{TuningBy}
+use Rattle.rrd_spec.specs.History.{Content}
+use Rattle.rrd_spec.specs.Verdict.{first_refusal, tune_checks, verdict}
 use Rattle.rrd_base.proofs.contents.Contents.check_tune.Goals as goal
 
 pub returns : goal.returns

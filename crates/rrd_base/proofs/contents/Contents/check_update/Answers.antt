@@ -1,7 +1,7 @@
 use Rattle.std.proofs.Common.{◌∙◌, ap}
-use Rattle.rrd_base.specs.Commands.{Updating}
-use Rattle.rrd_base.specs.History.{Content}
-use Rattle.rrd_base.specs.Verdict.{first_refusal, update_checks, verdict}
+use Rattle.rrd_spec.specs.Commands.{Updating}
+use Rattle.rrd_spec.specs.History.{Content}
+use Rattle.rrd_spec.specs.Verdict.{first_refusal, update_checks, verdict}
 use Rattle.rrd_base.proofs.contents.Contents.check_update.Goals as goal
 
 pub returns : goal.returns

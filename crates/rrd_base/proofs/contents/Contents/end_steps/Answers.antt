@@ -4,11 +4,11 @@ use Rattle.std.specs.Vec.{with_items}
 use Rattle.std.proofs.lemmas.List.{with_items_is}
 use Rattle.rrd_fold.specs.declared.function.Function.TheVariants.{Average}
 use Rattle.rrd_fold.specs.Parts.{Part, nothing, with_each, step_cell}
-use Rattle.rrd_base.specs.History.{Content}
-use Rattle.rrd_base.specs.Passed.{passed, archive_passed}
-use Rattle.rrd_base.specs.Shown.{definitions}
-use Rattle.rrd_base.specs.Turns.{least_of_steps, most_of_steps}
-use Rattle.rrd_base.specs.Validity.{IsRow, IsValidArchive}
+use Rattle.rrd_spec.specs.History.{Content}
+use Rattle.rrd_spec.specs.Passed.{passed, archive_passed}
+use Rattle.rrd_spec.specs.Shown.{definitions}
+use Rattle.rrd_spec.specs.Turns.{least_of_steps, most_of_steps}
+use Rattle.rrd_spec.specs.Validity.{IsRow, IsValidArchive}
 use Rattle.rrd_base.specs.Contents.{content_of}
 use Rattle.rrd_base.proofs.TurnLemmas.{few_turns}
 use Rattle.rrd_base.proofs.Passing.{parts_more, few_known, within_step, ends, valid_ended}

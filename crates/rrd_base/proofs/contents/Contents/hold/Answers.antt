@@ -1,11 +1,11 @@
 use Rattle.std.proofs.Common.{◌≡◌, sym, ◌∙◌, ap, subst, length, ◌≤◌, None}
-use Rattle.rrd_base.proofs.Staying.{length-accepted}
-use Rattle.rrd_base.specs.History.{Content}
-use Rattle.rrd_base.specs.Commands.{TuningBy}
+use Rattle.rrd_spec.proofs.Staying.{length-accepted}
+use Rattle.rrd_spec.specs.History.{Content}
+use Rattle.rrd_spec.specs.Commands.{TuningBy}
 use Rattle.rrd_base.specs.Contents.{content_of}
-use Rattle.rrd_base.specs.Entries.{held}
-use Rattle.rrd_base.specs.Verdict.{verdict}
-use Rattle.rrd_base.proofs.Fitting.{tune_fits}
+use Rattle.rrd_spec.specs.Entries.{held}
+use Rattle.rrd_spec.specs.Verdict.{verdict}
+use Rattle.rrd_spec.proofs.Fitting.{tune_fits}
 use Rattle.rrd_base.proofs.contents.Contents.hold.Goals as goal
 
 pub hold-requires-clause-one_each : goal.hold-requires-clause-one_each

@@ -1,13 +1,13 @@
 use Rattle.std.proofs.Common.{rules, map, ◌≡◌, sym, ◌∙◌, ap, subst, length, replicate, ◌<◌, ◌≤◌, ◌/◌}
 use Rattle.std.specs.List.{AllByRecursion}
-use Rattle.rrd_base.specs.declared.definition.RraDef.{RraDef}
+use Rattle.rrd_spec.specs.declared.settings.RraDef.{RraDef}
 use Rattle.rrd_fixed.specs.declared.raw.Raw.TheVariants as Raw
 use Rattle.rrd_fold.specs.Parts.{nothing}
-use Rattle.rrd_base.specs.Creating.{created, new_archive}
-use Rattle.rrd_base.specs.Validity.{IsValid}
-use Rattle.rrd_base.specs.History.{Content}
-use Rattle.rrd_base.proofs.Created.{created_valid}
-use Rattle.rrd_base.proofs.ShownLemmas.{good_rows}
+use Rattle.rrd_spec.specs.Creating.{created, new_archive}
+use Rattle.rrd_spec.specs.Validity.{IsValid}
+use Rattle.rrd_spec.specs.History.{Content}
+use Rattle.rrd_spec.proofs.Created.{created_valid}
+use Rattle.rrd_spec.proofs.ShownLemmas.{good_rows}
 use Rattle.rrd_base.proofs.contents.Contents.new.Goals as goal
 
 pub new_all-requires-clause-rows : goal.new_all-requires-clause-rows

@@ -1,8 +1,8 @@
 use Rattle.std.proofs.Common.{sym, ◌∙◌, ap, subst, ◌<◌, length, get_or, arith}
 use Rattle.std.proofs.lemmas.List.{get_or_default}
 use Rattle.rrd_fixed.specs.declared.raw.Raw.TheVariants.{Unknown}
-use Rattle.rrd_base.proofs.Staying.{length-accepted}
-use Rattle.rrd_base.specs.History.{Content}
+use Rattle.rrd_spec.proofs.Staying.{length-accepted}
+use Rattle.rrd_spec.specs.History.{Content}
 use Rattle.rrd_base.proofs.contents.Contents.raw.Goals as goal
 
 pub index-requires : goal.index-requires

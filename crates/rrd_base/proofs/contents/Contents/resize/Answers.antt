@@ -1,9 +1,9 @@
 use Rattle.std.proofs.Common.{◌≡◌, sym, ◌∙◌, ap, subst, ◌<◌, [], ◌∷◌, length, set, get_or}
 use Rattle.rrd_ring.specs.Rows.{newest_rows}
-use Rattle.rrd_base.specs.History.{Archive, Content, Resized, content_listed}
-use Rattle.rrd_base.specs.Entries.{rows_at}
+use Rattle.rrd_spec.specs.History.{Archive, Content, Resized, content_listed}
+use Rattle.rrd_spec.specs.Entries.{rows_at}
 use Rattle.rrd_base.specs.Contents.{content_of}
-use Rattle.rrd_base.specs.Validity.{IsValid}
+use Rattle.rrd_spec.specs.Validity.{IsValid}
 use Rattle.rrd_base.proofs.ResizeLemmas.{contents_resized, rows_of_place, with_rows}
 use Rattle.rrd_base.proofs.contents.Contents.resize.Goals as goal
 

@@ -1,10 +1,10 @@
 use Rattle.std.proofs.Common.{◌≡◌, sym, ◌∙◌, ap, subst, ◌/◌, ◌<◌, ◌≤◌, length, IfOk, None, get_or, arith}
-use Rattle.rrd_base.specs.History.{Archive, Content}
-use Rattle.rrd_base.specs.declared.definition.RraDef.{RraDef}
-use Rattle.rrd_base.specs.Commands.{Resizing, rows_changed, rows_of_archives}
+use Rattle.rrd_spec.specs.History.{Archive, Content}
+use Rattle.rrd_spec.specs.declared.settings.RraDef.{RraDef}
+use Rattle.rrd_spec.specs.Commands.{Resizing, rows_changed, rows_of_archives}
 use Rattle.rrd_base.specs.Contents.{content_of}
-use Rattle.rrd_base.specs.Entries.{rows_at}
-use Rattle.rrd_base.specs.Verdict.{verdict}
+use Rattle.rrd_spec.specs.Entries.{rows_at}
+use Rattle.rrd_spec.specs.Verdict.{verdict}
 use Rattle.rrd_ring.specs.Rows.{newest_rows}
 use Rattle.rrd_base.proofs.ResizeLemmas.{few_at, have_few, resize_fits, rows_at_archive, rows_of_place, there_is}
 use Rattle.rrd_base.proofs.contents.Contents.resized.Goals as goal

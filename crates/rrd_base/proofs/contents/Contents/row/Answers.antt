@@ -4,14 +4,14 @@ use Rattle.std.proofs.lemmas.Option.{IfSome_then}
 use Rattle.std.specs.Int.{int_div_euclid, w64, w128}
 use Rattle.std.proofs.lemmas.Int.{to_z-of_z}
 use Rattle.rrd_fixed.specs.declared.cell.Cell.TheVariants.{Unknown}
-use Rattle.rrd_base.specs.declared.definition.RraDef.{RraDef}
-use Rattle.rrd_base.specs.History.{Content}
+use Rattle.rrd_spec.specs.declared.settings.RraDef.{RraDef}
+use Rattle.rrd_spec.specs.History.{Content}
 use Rattle.rrd_base.specs.Contents.{content_of}
-use Rattle.rrd_base.specs.Passed.{row_at, row_of_age}
-use Rattle.rrd_base.specs.Shown.{cell_at}
-use Rattle.rrd_base.specs.Validity.{IsValidArchive}
-use Rattle.rrd_base.proofs.AllLemmas.{All-at}
-use Rattle.rrd_base.proofs.ShownLemmas.{cell_of_archive, none_then, row_of_age_wide}
+use Rattle.rrd_spec.specs.Passed.{row_at, row_of_age}
+use Rattle.rrd_spec.specs.Shown.{cell_at}
+use Rattle.rrd_spec.specs.Validity.{IsValidArchive}
+use Rattle.rrd_spec.proofs.AllLemmas.{All-at}
+use Rattle.rrd_spec.proofs.ShownLemmas.{cell_of_archive, none_then, row_of_age_wide}
 use Rattle.rrd_base.proofs.contents.Contents.row.Goals as goal
 
 pub returns-clause-cells : goal.returns-clause-cells

@@ -1,14 +1,14 @@
 use Rattle.std.proofs.Common.{◌≡◌, ◌+◌, ◌-◌, ◌*◌, ◌≤◌, length, map, drop}
 use Rattle.std.specs.List.{AllByRecursion}
-use Rattle.rrd_base.specs.History.{Sampled, content_listed}
-use Rattle.rrd_base.specs.Commands.{Updating, moved_listed, sample_of}
+use Rattle.rrd_spec.specs.History.{Sampled, content_listed}
+use Rattle.rrd_spec.specs.Commands.{Updating, moved_listed, sample_of}
 use Rattle.rrd_base.specs.Room.{HasPlaces}
-use Rattle.rrd_base.specs.Shown.{definitions}
-use Rattle.rrd_base.specs.Turns.{in_all, least_of_sample, most_of_sample}
-use Rattle.rrd_base.specs.Updating.{template_of}
-use Rattle.rrd_base.specs.Verdict.{sample_checks}
-use Rattle.rrd_base.specs.Validity.{IsValid}
-use Rattle.rrd_base.proofs.Accepted.{Passes}
+use Rattle.rrd_spec.specs.Shown.{definitions}
+use Rattle.rrd_spec.specs.Turns.{in_all, least_of_sample, most_of_sample}
+use Rattle.rrd_spec.specs.Updating.{template_of}
+use Rattle.rrd_spec.specs.Verdict.{sample_checks}
+use Rattle.rrd_spec.specs.Validity.{IsValid}
+use Rattle.rrd_spec.proofs.Accepted.{Passes}
 use Rattle.rrd_base.proofs.Catching.{SameShape}
 use Rattle.rrd_base.proofs.contents.Contents.take_samples.Given as goal
 

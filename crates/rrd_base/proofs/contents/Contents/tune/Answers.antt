@@ -1,14 +1,14 @@
 use Rattle.std.proofs.Common.{◌≡◌, sym, ◌∙◌, ap, subst, map, length, arith, None}
 use Rattle.std.specs.Vec.{with_items}
 use Rattle.std.proofs.lemmas.List.{with_items_is}
-use Rattle.rrd_base.specs.History.{Content, raws_under}
-use Rattle.rrd_base.specs.Commands.{TuningBy, moved_listed, tuned}
+use Rattle.rrd_spec.specs.History.{Content, raws_under}
+use Rattle.rrd_spec.specs.Commands.{TuningBy, moved_listed, tuned}
 use Rattle.rrd_base.specs.Contents.{content_of}
-use Rattle.rrd_base.specs.Validity.{IsValid}
-use Rattle.rrd_base.specs.Verdict.{verdict}
-use Rattle.rrd_base.proofs.Passing.{base_of_valid}
-use Rattle.rrd_base.proofs.Quiet.{content_tuned}
-use Rattle.rrd_base.proofs.Staying.{length-accepted, listed_valid}
+use Rattle.rrd_spec.specs.Validity.{IsValid}
+use Rattle.rrd_spec.specs.Verdict.{verdict}
+use Rattle.rrd_spec.proofs.Held.{base_of_valid}
+use Rattle.rrd_spec.proofs.Quiet.{content_tuned}
+use Rattle.rrd_spec.proofs.Staying.{length-accepted, listed_valid}
 use Rattle.rrd_base.proofs.TuneLemmas.{settings_are}
 use Rattle.rrd_base.proofs.contents.Contents.tune.Goals as goal
 

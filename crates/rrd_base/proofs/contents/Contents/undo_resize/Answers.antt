@@ -1,8 +1,8 @@
 use Rattle.std.proofs.Common.{◌≡◌, sym, ◌∙◌, ap, subst, ◌<◌, length, set}
-use Rattle.rrd_base.specs.History.{Archive, Content}
-use Rattle.rrd_base.specs.Entries.{WasResized, undone, with_rows_at}
+use Rattle.rrd_spec.specs.History.{Archive, Content}
+use Rattle.rrd_spec.specs.Entries.{WasResized, undone, with_rows_at}
 use Rattle.rrd_base.specs.Contents.{content_of}
-use Rattle.rrd_base.specs.Validity.{IsValid}
+use Rattle.rrd_spec.specs.Validity.{IsValid}
 use Rattle.rrd_base.proofs.TuneLemmas.{rows_set}
 use Rattle.rrd_base.proofs.contents.Contents.undo_resize.Goals as goal
 

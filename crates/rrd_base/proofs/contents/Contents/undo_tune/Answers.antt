@@ -1,11 +1,11 @@
 use Rattle.std.proofs.Common.{◌≡◌, sym, ◌∙◌, ap, subst, map, arith}
 use Rattle.std.specs.Vec.{with_items}
 use Rattle.std.proofs.lemmas.List.{with_items_is}
-use Rattle.rrd_base.specs.History.{Content}
-use Rattle.rrd_base.specs.Entries.{WasTuned, undone}
+use Rattle.rrd_spec.specs.History.{Content}
+use Rattle.rrd_spec.specs.Entries.{WasTuned, undone}
 use Rattle.rrd_base.specs.Contents.{content_of}
 use Rattle.rrd_base.specs.Tuned.{held_of, with_raws, with_sources}
-use Rattle.rrd_base.specs.Validity.{IsValid}
+use Rattle.rrd_spec.specs.Validity.{IsValid}
 use Rattle.rrd_base.proofs.TuneLemmas.{held_put_back, settings_are}
 use Rattle.rrd_base.proofs.contents.Contents.undo_tune.Goals as goal
 

@@ -1,8 +1,8 @@
 use Rattle.std.proofs.Common.{◌∙◌, ap}
-use Rattle.rrd_base.specs.declared.choose.Request.{Request}
-use Rattle.rrd_base.specs.Choice.{choice, choice_of}
-use Rattle.rrd_base.specs.Shown.{definitions}
-use Rattle.rrd_base.specs.Survivors.{Kept}
+use Rattle.rrd_spec.specs.declared.fetch.Request.{Request}
+use Rattle.rrd_spec.specs.Choice.{choice, choice_of}
+use Rattle.rrd_spec.specs.Shown.{definitions}
+use Rattle.rrd_spec.specs.Survivors.{Kept}
 use Rattle.rrd_base.proofs.database.Database.choose.Goals as goal
 
 pub returns : goal.returns

@@ -1,15 +1,15 @@
 use Rattle.std.proofs.Common.{◌≡◌, sym, ◌∙◌, ap, subst}
 use Rattle.rrd_base.specs.declared.entry.Entry.TheVariants as entry
-use Rattle.rrd_base.specs.Commands.{Resizing, moved}
-use Rattle.rrd_base.specs.Entries as entries
-use Rattle.rrd_base.specs.Entries.{rows_at, entry as entry_for}
+use Rattle.rrd_spec.specs.Commands.{Resizing, moved}
+use Rattle.rrd_spec.specs.Entries as entries
+use Rattle.rrd_spec.specs.Entries.{rows_at, entry as entry_for}
 use Rattle.rrd_base.specs.Stored.{entry_of}
-use Rattle.rrd_base.specs.Survivors.{Kept, changed}
-use Rattle.rrd_base.specs.Validity.{IsValid}
+use Rattle.rrd_spec.specs.Survivors.{Kept, changed}
+use Rattle.rrd_spec.specs.Validity.{IsValid}
 use Rattle.rrd_base.proofs.KeptLemmas.{added}
-use Rattle.rrd_base.proofs.Moving.{moved_depth, moved_is}
+use Rattle.rrd_spec.proofs.Moving.{moved_depth, moved_is}
 use Rattle.rrd_base.proofs.ResizeLemmas.{resized_is, there_is}
-use Rattle.rrd_base.proofs.Staying.{listed_valid, sound}
+use Rattle.rrd_spec.proofs.Staying.{listed_valid, sound}
 use Rattle.rrd_base.proofs.database.Database.resize.Goals as goal
 
 pub resize-old-requires-clause-there : goal.resize-old-requires-clause-there

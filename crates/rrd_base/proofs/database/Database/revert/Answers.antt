@@ -1,7 +1,7 @@
 use Rattle.std.proofs.Common.{◌≡◌, sym, ◌∙◌, ap, ◌-◌, List, [], ◌∷◌, length, take}
-use Rattle.rrd_base.specs.Entries.{Entry, undone}
-use Rattle.rrd_base.proofs.Fitting.{undone_depth}
-use Rattle.rrd_base.specs.Survivors.{Kept, reverted}
+use Rattle.rrd_spec.specs.Entries.{Entry, undone}
+use Rattle.rrd_spec.proofs.Fitting.{undone_depth}
+use Rattle.rrd_spec.specs.Survivors.{Kept, reverted}
 use Rattle.rrd_base.specs.Stored.{entry_of, journal_of}
 use Rattle.rrd_base.proofs.KeptLemmas.{newest}
 use Rattle.rrd_base.proofs.database.Database.revert.Goals as goal

@@ -1,10 +1,10 @@
 use Rattle.std.proofs.Common.{◌≡◌, sym, ◌∙◌, ap}
 use Rattle.rrd_base.specs.declared.entry.Entry.TheVariants as entry
-use Rattle.rrd_base.specs.Commands.{TuningBy, moved}
-use Rattle.rrd_base.specs.Survivors.{Kept, changed}
+use Rattle.rrd_spec.specs.Commands.{TuningBy, moved}
+use Rattle.rrd_spec.specs.Survivors.{Kept, changed}
 use Rattle.rrd_base.proofs.KeptLemmas.{added}
-use Rattle.rrd_base.proofs.Moving.{moved_depth, moved_is}
-use Rattle.rrd_base.proofs.Staying.{sound}
+use Rattle.rrd_spec.proofs.Moving.{moved_depth, moved_is}
+use Rattle.rrd_spec.proofs.Staying.{sound}
 use Rattle.rrd_base.proofs.database.Database.tune.Goals as goal
 
 pub invariant_of-self : goal.invariant_of-self

@@ -5,9 +5,9 @@ use Rattle.std.specs.Int.{w128}
 use Rattle.std.specs.List.{AllByRecursion}
 use Rattle.rrd_fold.specs.Bounds.{Consolidating}
 use Rattle.rrd_fold.specs.Parts.{Part, nothing, row_cell}
-use Rattle.rrd_base.specs.History.{Archive}
-use Rattle.rrd_base.specs.Each.{anew, row_of, AllOf}
-use Rattle.rrd_base.proofs.EachLemmas.{AllOf-anew}
+use Rattle.rrd_spec.specs.History.{Archive}
+use Rattle.rrd_spec.specs.Each.{anew, row_of, AllOf}
+use Rattle.rrd_spec.proofs.EachLemmas.{AllOf-anew}
 use Rattle.rrd_base.proofs.StoreLemmas.{shown, closes, parts_fit, row_of_parts}
 use Rattle.rrd_base.proofs.store.Store.close_row.Goals as goal
 

@@ -4,12 +4,13 @@ use Rattle.std.specs.List.{AllByRecursion, fold}
 use Rattle.rrd_fixed.specs.declared.cell.Cell.{Cell}
 use Rattle.rrd_fold.specs.Parts.{Part, nothing, row_cell, with_each}
 use Rattle.rrd_ring.specs.Rows.{HasWidth}
-use Rattle.rrd_base.specs.declared.definition.RraDef.{RraDef}
-use Rattle.rrd_base.specs.History.{Archive, keep_last}
+use Rattle.rrd_spec.specs.declared.settings.RraDef.{RraDef}
+use Rattle.rrd_spec.specs.History.{Archive, keep_last}
 use Rattle.rrd_base.proofs.ManySteps.{ended_none, ended_some, filled, row_fits, taken_over, taken_within}
 use Rattle.rrd_base.proofs.Passing.{room_left}
-use Rattle.rrd_base.proofs.Bounded.{no_parts}
-use Rattle.rrd_base.proofs.StoreLemmas.{rows_wide, taken_valid}
+use Rattle.rrd_spec.proofs.Bounded.{no_parts}
+use Rattle.rrd_base.proofs.StoreLemmas.{taken_valid}
+use Rattle.rrd_spec.proofs.AllLemmas.{rows_wide}
 use Rattle.rrd_base.proofs.Taking.{begun, full, left_of}
 use Rattle.rrd_base.proofs.store.Store.take.Goals as goal
 

@@ -1,9 +1,0 @@
-use Rattle.rrd_base.proofs.CellLemmas.{shows_by_time}
-use Rattle.rrd_base.proofs.ShownLemmas.{shows_cells}
-use Rattle.rrd_base.proofs.laws.cells_by_time.Goals as goal
-
-pub returns-clause-rows : goal.returns-clause-rows
-returns-clause-rows c = shows_by_time
-
-pub returns-clause-cells : goal.returns-clause-cells
-returns-clause-cells c = shows_cells

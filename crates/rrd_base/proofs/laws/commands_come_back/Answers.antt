@@ -1,5 +1,0 @@
-use Rattle.rrd_base.proofs.Undoing.{comes_back}
-use Rattle.rrd_base.proofs.laws.commands_come_back.Goals as goal
-
-pub returns : goal.returns
-returns c = comes_back

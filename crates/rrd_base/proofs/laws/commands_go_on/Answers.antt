@@ -1,5 +1,0 @@
-use Rattle.rrd_base.proofs.Runs.{commands_go_on}
-use Rattle.rrd_base.proofs.laws.commands_go_on.Goals as goal
-
-pub returns : goal.returns
-returns c = commands_go_on

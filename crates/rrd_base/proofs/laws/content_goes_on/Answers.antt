@@ -1,5 +1,0 @@
-use Rattle.rrd_base.proofs.Moving.{goes_on}
-use Rattle.rrd_base.proofs.laws.content_goes_on.Goals as goal
-
-pub returns : goal.returns
-returns c = goes_on

@@ -1,5 +1,0 @@
-use Rattle.rrd_base.proofs.CellLemmas.{is_listed}
-use Rattle.rrd_base.proofs.laws.content_is_listed.Goals as goal
-
-pub returns : goal.returns
-returns c = is_listed

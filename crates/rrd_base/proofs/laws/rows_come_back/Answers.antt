@@ -1,5 +1,0 @@
-use Rattle.rrd_base.proofs.SampleLemmas.{update_undone}
-use Rattle.rrd_base.proofs.laws.rows_come_back.Goals as goal
-
-pub returns : goal.returns
-returns c = λ base index archive samples is. update_undone base index archive samples is

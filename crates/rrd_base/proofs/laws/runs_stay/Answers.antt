@@ -1,5 +1,0 @@
-use Rattle.rrd_base.proofs.Fitting.{runs_stay}
-use Rattle.rrd_base.proofs.laws.runs_stay.Goals as goal
-
-pub returns : goal.returns
-returns c = runs_stay

@@ -1,5 +1,0 @@
-use Rattle.rrd_base.proofs.PassedLemmas.{passed-append}
-use Rattle.rrd_base.proofs.laws.seconds_pass_in_pieces.Goals as goal
-
-pub returns : goal.returns
-returns c = passed-append

@@ -1,5 +1,0 @@
-use Rattle.rrd_base.proofs.CellLemmas.{lists_by_number}
-use Rattle.rrd_base.proofs.laws.steps_and_rows_by_number.Goals as goal
-
-pub returns : goal.returns
-returns c = lists_by_number

@@ -1,6 +1,0 @@
-use Rattle.std.proofs.Common.{◌≡◌, map, take}
-use Rattle.rrd_base.specs.Slow.{cell_of}
-use Rattle.rrd_base.proofs.slow.closed.Given as goal
-
-abbrev pub invariant-loop-part : goal.invariant-loop-part
-invariant-loop-part l = l.cells ≡ map (cell_of l.group) (take l.part-index l.part-items)

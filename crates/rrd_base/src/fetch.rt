@@ -1,0 +1,192 @@
+//! Which archive a fetch reads, and which span of it (rrdfetch; the order of the archives is this
+//! project's).
+ghost use Rattle.std.specs.Prelude.{◌≡◌, ◌^◌, ◌<◌, ◌≤◌, ℕ, List, [], ◌∷◌, ◌++◌, length, MatchResult, Err};
+ghost use Rattle.std.specs.Result.{result_err};
+ghost use Rattle.rrd_fold.specs.declared.function.Function.{Function};
+ghost use Rattle.rrd_spec.specs.declared.fetch.Request.{Request};
+ghost use Rattle.rrd_spec.specs.declared.settings.RraDef.{RraDef};
+ghost use Rattle.rrd_spec.specs.Choice as choice;
+ghost use Rattle.rrd_spec.specs.Verdict.{first_refusal};
+
+use crate::create::LATEST_TIME;
+use crate::{Chosen, Refusal, RraDef};
+use rrd_fold::Function;
+use rrd_spec::{Candidate, Request};
+use std::marker::Model;
+
+// The most rows of one fetch.
+const LONGEST_SPAN: u64 = 1_000_000;
+
+/// The search for the archive that a fetch reads. All archives are offered to it, in order.
+/// Contracts see what is asked for, and the one that is taken of those so far.
+#[derive(Drop)]
+pub struct Search {
+    step: u64,
+    last: u64,
+    request: Request,
+    best: Option<Candidate>,
+}
+
+impl Model for Search {
+    ghost use Rattle.rrd_spec.specs.Choice.{Searched, IsSearch};
+
+    ghost Value = { Searched };
+
+    ghost view = { λ s. record { step = s.step; last = s.last; request = s.request; best = s.best } };
+
+    ghost invariant = { λ s. IsSearch s.step s.last s.request s.best };
+}
+
+impl Search {
+    /// Begins with no archive, or refuses what can't be fetched of any database.
+    pub(crate) fn begin(step: u64, last: u64, request: Request) -> Result<Search, Refusal>
+        requires some_step { 0 < step }
+        requires small_step { step ≤ 1000000 }
+        requires good_last { last ≤ 9999999999 }
+        ensures { MatchResult result
+            (λ search. search ≡ choice.searched step last request [])
+            (λ refusal. (defs : List RraDef) → choice.choice_of step last defs request ≡ Err refusal) }
+    {
+        check_span(request)?;
+        Ok(Search {
+            step,
+            last,
+            request,
+            best: None,
+        })
+    }
+
+    /// Offers the next archive.
+    pub(crate) fn offer(&mut self, number: u64, def: &RraDef)
+        requires some_steps { 0 < def.now.steps }
+        requires few_steps { def.now.steps ≤ 1000000 }
+        requires few_rows { def.now.rows ≤ 1000000 }
+        ensures { (step last : ℕ) (request : Request) (defs : List RraDef) →
+            number ≡ length defs →
+            self.old ≡ choice.searched step last request defs →
+            self.new ≡ choice.searched step last request (defs ++ def.now ∷ []) }
+    {
+        if !is_same_function(def.function, self.request.function) {
+            return;
+        }
+        let next = judged(self.step, self.last, number, def);
+        let is_taken = match &self.best {
+            Some(best) => is_preferred(self.request, &next, best),
+            None => true,
+        };
+        if is_taken {
+            self.best = Some(next);
+        }
+    }
+
+    /// What the fetch reads, all archives having been offered.
+    pub(crate) fn finish(&self) -> Result<Chosen, Refusal>
+        ensures { (step last : ℕ) (request : Request) (defs : List RraDef) →
+            self.now ≡ choice.searched step last request defs →
+            result ≡ choice.choice_of step last defs request }
+    {
+        let Some(best) = self.best else {
+            return Err(Refusal::NoArchiveForFunction);
+        };
+        let chosen = span(self.request, &best);
+        if (chosen.hi - chosen.lo) / chosen.res > LONGEST_SPAN {
+            return Err(Refusal::SpanTooLong);
+        }
+        Ok(chosen)
+    }
+}
+
+// Whether a span can't be fetched of any database.
+fn check_span(request: Request) -> Result<(), Refusal>
+    ensures { result_err result ≡ first_refusal (choice.span_checks request) }
+{
+    if request.start > LATEST_TIME {
+        return Err(Refusal::BadTime);
+    }
+    if request.end > LATEST_TIME {
+        return Err(Refusal::BadTime);
+    }
+    if request.start > request.end {
+        return Err(Refusal::BadSpan);
+    }
+    Ok(())
+}
+
+fn is_same_function(one: Function, other: Function) -> bool
+    ensures { result ≡ choice.same_function one other }
+{
+    one == other
+}
+
+// An archive as it is judged.
+fn judged(step: u64, last: u64, number: u64, def: &RraDef) -> Candidate
+    requires some_step { 0 < step }
+    requires small_step { step ≤ 1000000 }
+    requires good_last { last ≤ 9999999999 }
+    requires some_steps { 0 < def.now.steps }
+    requires few_steps { def.now.steps ≤ 1000000 }
+    requires few_rows { def.now.rows ≤ 1000000 }
+    ensures value { result ≡ choice.candidate step last (number, def.now) }
+    ensures some_resolution { 0 < result.resolution }
+    ensures small_resolution { result.resolution ≤ 10 ^ 12 }
+{
+    let resolution = step * def.steps;
+    let newest = last / resolution * resolution;
+    let reach = newest as i64 - (def.rows * resolution) as i64;
+    Candidate {
+        number,
+        resolution,
+        reach,
+    }
+}
+
+// Whether an archive is taken rather than one with a lower number.
+fn is_preferred(request: Request, one: &Candidate, other: &Candidate) -> bool
+    ensures { result ≡ choice.is_preferred request.asked request.start one.now other.now }
+{
+    match (covers(request.start, one), covers(request.start, other)) {
+        (true, true) => is_nearer(request.asked, one, other),
+        (true, false) => true,
+        (false, true) => false,
+        (false, false) => is_farther(request.asked, one, other),
+    }
+}
+
+// Whether all rows from the start on are there.
+fn covers(start: u64, one: &Candidate) -> bool
+    ensures { result ≡ choice.covers start one.now }
+{
+    one.reach as i128 <= start as i128
+}
+
+fn is_nearer(asked: u64, one: &Candidate, other: &Candidate) -> bool
+    ensures { result ≡ choice.is_nearer asked one.now other.now }
+{
+    one.resolution.abs_diff(asked) < other.resolution.abs_diff(asked)
+}
+
+// Whether an archive reaches back farther, or as far and is nearer.
+fn is_farther(asked: u64, one: &Candidate, other: &Candidate) -> bool
+    ensures { result ≡ choice.is_farther asked one.now other.now }
+{
+    one.reach < other.reach || (one.reach <= other.reach && is_nearer(asked, one, other))
+}
+
+// The span of an archive.
+fn span(request: Request, one: &Candidate) -> Chosen
+    requires some_resolution { 0 < one.now.resolution }
+    requires small_resolution { one.now.resolution ≤ 10 ^ 12 }
+    requires in_order { request.start ≤ request.end }
+    requires good_end { request.end ≤ 9999999999 }
+    ensures value { result ≡ choice.span request one.now }
+    ensures some { 0 < result.res }
+    ensures in_order { result.lo ≤ result.hi }
+{
+    let res = one.resolution;
+    Chosen {
+        archive: one.number,
+        res,
+        lo: request.start / res * res,
+        hi: (request.end / res + 1) * res,
+    }
+}

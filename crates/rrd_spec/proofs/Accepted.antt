@@ -1,0 +1,72 @@
+-- What an accepted command is known to be.
+use Rattle.std.proofs.Common.{◌≡◌, refl, sym, ◌∙◌, ap, ℕ, suc, ◌<◌, Bool, true, false, cond, ltb, eqb, ◌||◌, List, [], ◌∷◌, length, map, Option, Some, None, arith, get_or}
+use Rattle.std.proofs.lemmas.Bool.{leb-false, eqb-false, or_parts}
+use Rattle.std.proofs.lemmas.List.{length-map}
+use Rattle.std.specs.List.{fold, AllByRecursion}
+use Rattle.std.specs.Option.{unwrap_or}
+use Rattle.rrd_fixed.specs.declared.raw.Raw.{Raw}
+use Rattle.rrd_fixed.specs.declared.name.Name.{Name}
+use Rattle.rrd_spec.specs.declared.settings.DsDef.{DsDef}
+use Rattle.rrd_spec.specs.History.{Content, Sampled, Moment, moment_after, moment_of, moment_at_end, raws_under, IsHistory}
+use Rattle.rrd_spec.specs.Commands.{Command, Updating, TuningBy, Resizing, settings_of, sample_of, tuned, names, rows_changed, events}
+use Rattle.rrd_spec.specs.Verdict.{Check, first_refusal, is_bad_rows, grows_too_far, shrinks_too_far, sample_checks, checks, verdict}
+use Rattle.rrd_spec.specs.declared.update.Sample.{Sample}
+use Rattle.rrd_spec.specs.declared.resize.Change.{Change}
+use Rattle.rrd_spec.specs.declared.resize.Change.TheVariants.{Grow, Shrink}
+use Rattle.rrd_spec.specs.declared.refusal.Refusal.{Refusal}
+
+-- ---- every check passes
+
+abbrev pub Passes : Check → Type 0
+Passes check = check.wrong ≡ false
+
+by_case : (b : Bool) (refusal : Refusal) (later : Option Refusal) → cond b (Some refusal) later ≡ None → (b ≡ false) × (later ≡ None)
+by_case true refusal later h = absurd cc
+by_case false refusal later h = (refl, h)
+
+pub all_pass : (list : List Check) → first_refusal list ≡ None → AllByRecursion Passes list
+all_pass [] h = tt
+all_pass (check ∷ list) h = let this = by_case check.wrong check.refusal (first_refusal list) h in (this.0, all_pass list this.1)
+
+pub accepted_passes : (base : Content) (command : Command) → verdict base command ≡ None → AllByRecursion Passes (checks base command)
+unfolding verdict
+accepted_passes base command h = all_pass (checks base command) h
+
+-- ---- its events are a history
+
+pub readings_rise : (sources : List DsDef) (template : List Name) (now : Moment) (readings : List Sample) → AllByRecursion Passes (sample_checks sources template now.last readings) → IsHistory now (map Sampled (map (sample_of sources template) readings))
+readings_rise sources template now [] p = tt
+readings_rise sources template now (reading ∷ readings) p =
+    (leb-false reading.time now.last p.1.0, readings_rise sources template (moment_after now (Sampled (sample_of sources template reading))) readings p.1.1.1.1)
+
+pub some_rows : (change : Change) (old rows : ℕ) → (is_bad_rows rows || grows_too_far change old rows) ≡ false → shrinks_too_far change old rows ≡ false → 0 < rows_changed change old rows
+some_rows Grow old rows h k =
+    let some = eqb-false rows 0 (or_parts (eqb rows 0) (ltb 1000000 rows) (or_parts (is_bad_rows rows) (grows_too_far Grow old rows) h).0).0 in
+    omega (arith, some)
+some_rows Shrink old rows h k = omega (arith, leb-false old rows k)
+
+pub accepted_history : (base : Content) (command : Command) → verdict base command ≡ None → IsHistory (moment_of base) (events (settings_of base) command)
+accepted_history base (Updating update) h =
+    readings_rise base.sources (unwrap_or update.template (names base.sources)) (moment_of base) update.samples (accepted_passes base (Updating update) h).1.1.1
+accepted_history base (TuningBy tuning) h = (length-map base.sources (tuned tuning), tt)
+accepted_history base (Resizing archive change rows) h =
+    let p = accepted_passes base (Resizing archive change rows) h in
+    (some_rows change (get_or (settings_of base).rows archive 0) rows p.1.0 p.1.1.0, tt)
+
+-- ---- a raw value for each source stays
+
+length-raws_under : (olds news : List DsDef) (raws : List Raw) → length (raws_under olds news raws) ≡ length raws
+length-raws_under [] news raws = refl
+length-raws_under (old ∷ olds) [] raws = refl
+length-raws_under (old ∷ olds) (new ∷ news) [] = refl
+length-raws_under (old ∷ olds) (new ∷ news) (raw ∷ raws) = ap suc (length-raws_under olds news raws)
+
+readings_raws : (sources : List DsDef) (template : List Name) (now : Moment) (readings : List Sample) → now.sources ≡ sources → length now.raws ≡ length sources → let end = fold moment_after now (map Sampled (map (sample_of sources template) readings)) in length end.raws ≡ length end.sources
+readings_raws sources template now [] same each = each ∙ ap length (sym same)
+readings_raws sources template now (reading ∷ readings) same each =
+    readings_raws sources template (moment_after now (Sampled (sample_of sources template reading))) readings same (length-map sources _)
+
+pub command_raws : (base : Content) (command : Command) → length base.raws ≡ length base.sources → let end = moment_at_end base (events (settings_of base) command) in length end.raws ≡ length end.sources
+command_raws base (Updating update) each = readings_raws base.sources (unwrap_or update.template (names base.sources)) (moment_of base) update.samples refl each
+command_raws base (TuningBy tuning) each = length-raws_under base.sources (map (tuned tuning) base.sources) base.raws ∙ each ∙ sym (length-map base.sources (tuned tuning))
+command_raws base (Resizing archive change rows) each = each

@@ -1,0 +1,404 @@
+-- What an archive shows at each time.
+use Rattle.std.proofs.Common.{◌≡◌, refl, sym, ◌∙◌, ap, subst, ℕ, zero, suc, ◌+◌, ◌-◌, ◌*◌, ◌/◌, ◌%◌, ◌<◌, ◌≤◌, Bool, true, false, cond, ltb, List, [], ◌∷◌, ◌++◌, length, map, replicate, get_or, arith, length-append, Some, ⊎_elim, ℤ, pos, negsuc, ◌+ℤ◌, ◌-ℤ◌, ◌<ℤ◌, ◌≤ℤ◌, unsigned_abs}
+use Rattle.std.specs.Prelude.{int_lt, int_le, slice_get}
+use Rattle.std.specs.Int.{int_max, int_div_euclid}
+use Rattle.std.specs.List.{fold, enumerate_from, range_with_len, AllByRecursion}
+use Rattle.std.proofs.Math.Nat.{div-div-eq-div-mul}
+use Rattle.std.proofs.lemmas.Bool.{cases_lt, cases_Bool, cond-false, cond-true, cond_both, lt-ltb, le-ltb}
+use Rattle.std.proofs.lemmas.Int.{ints, clamps, int_rem_euclid_is}
+use Rattle.std.proofs.lemmas.List.{length-map, get_or_append_left, get_or-append_right, ext_get_or}
+use Rattle.std.proofs.lemmas.List.FromFn.{length-map-range_with_len, get_or-map-range_with_len}
+use Rattle.std.proofs.lemmas.Nat.{mul-le, mul-lt, div-mul-add, mod-mul-add}
+use Rattle.rrd_fixed.specs.declared.cell.Cell.{Cell}
+use Rattle.rrd_fold.specs.Groups.{Rule, group_part, finished}
+use Rattle.rrd_fold.proofs.GroupLemmas.{reached_before}
+use Rattle.rrd_fold.specs.Parts.{seconds_to_steps}
+use Rattle.rrd_spec.specs.Rules.{rows_rule}
+use Rattle.rrd_spec.specs.History.{Archive, Content, Event, Sampled, Tuned, Resized, Moment, moment_after, moment_of, moment_at_end, seconds_of, steps_of, rows_of, rows_after, room, keep_last, filled_up, kept_rows, archive_of, content_listed, IsHistory, IsArchive, IsBase}
+use Rattle.rrd_spec.specs.Passed.{row_of_age, row_at}
+use Rattle.rrd_spec.specs.Cells.{resolution, newest, reach, prefixes, greatest, reach_after, horizon, row, row_ending, row_by_time, time_of, rows_by_time, archive_by_time, content, IsMultiple, IsListed, ShowsByTime, ListsByNumber}
+use Rattle.rrd_spec.proofs.HistoryLemmas.{last_rises, length-sources}
+use Rattle.rrd_spec.proofs.RowLemmas.{length-keep_last, length-filled_up, room_first, room_last, row_by_age}
+use Rattle.rrd_spec.proofs.ContentLemmas.{length-rows_of}
+
+-- ---- tests
+
+before : (a b : ℤ) → a <ℤ b → int_lt a b ≡ true
+before a b h = grind (arith, ints)
+
+not_before : (a b : ℤ) → b ≤ℤ a → int_lt a b ≡ false
+not_before a b h = grind (arith, ints)
+
+at_or_before : (a b : ℤ) → a ≤ℤ b → int_le a b ≡ true
+at_or_before a b h = grind (arith, ints)
+
+after : (a b : ℤ) → b <ℤ a → int_le a b ≡ false
+after a b h = grind (arith, ints)
+
+-- ---- a multiple of a resolution, as a difference of two counts
+
+-- the time is n rows after 1970 less m rows
+record IsAt (size : ℕ) (time : ℤ) (n m : ℕ) : Type 0 where
+  pub time_is : time ≡ pos (n * size) -ℤ pos (m * size)
+  pub count_is : int_div_euclid time (pos size) ≡ pos n -ℤ pos m
+
+multiple_at : (size : ℕ) (time : ℤ) → 0 < size → IsMultiple time size → (n : ℕ) × (m : ℕ) × IsAt size time n m
+multiple_at size (pos t) some h =
+    let none : t % size ≡ 0 = omega (arith, ints, h) in
+    (t / size, 0, record { time_is = omega (arith, ints); count_is = omega (arith, ints) })
+multiple_at size (negsuc t) some h =
+    let last : t % size + 1 ≡ size = omega (arith, ints, h) in
+    (0, t / size + 1, record { time_is = omega (arith, ints); count_is = omega (arith, ints) })
+
+less_rows : (a b size : ℕ) → 0 < size → a < b → a * size < b * size
+less_rows a b size some h = omega (arith, mul-le (a + 1) size b size (omega arith) (omega arith))
+
+most_rows : (a b size : ℕ) → a ≤ b → a * size ≤ b * size
+most_rows a b size h = mul-le a size b size h (omega arith)
+
+-- so many rows, the newest being row e, lie after the time, or don't
+reach_under : (size e r n m : ℕ) (time : ℤ) → 0 < size → IsAt size time n m → e + m < n + r → (pos (e * size) -ℤ pos (r * size)) <ℤ time
+reach_under size e r n m time some at h = omega (arith, ints, less_rows (e + m) (n + r) size some h, at.time_is)
+
+reach_over : (size e r n m : ℕ) (time : ℤ) → IsAt size time n m → n + r ≤ e + m → time ≤ℤ (pos (e * size) -ℤ pos (r * size))
+reach_over size e r n m time at h = omega (arith, ints, most_rows (n + r) (e + m) size h, at.time_is)
+
+ends_under : (size e n m : ℕ) (time : ℤ) → 0 < size → IsAt size time n m → e + m < n → pos (e * size) <ℤ time
+ends_under size e n m time some at h = omega (arith, ints, less_rows (e + m) n size some h, at.time_is)
+
+ends_over : (size e n m : ℕ) (time : ℤ) → IsAt size time n m → n ≤ e + m → time ≤ℤ pos (e * size)
+ends_over size e n m time at h = omega (arith, ints, most_rows n (e + m) size h, at.time_is)
+
+-- ---- the greatest of a list
+
+max_under : (t a : ℤ) (xs : List ℤ) → a <ℤ t → AllByRecursion (λ x. x <ℤ t) xs → fold int_max a xs <ℤ t
+max_under t a [] h k = h
+max_under t a (x ∷ xs) h k = max_under t (int_max a x) xs (cond_both (int_lt x a) a x (λ z. z <ℤ t) (λ e. h) (λ e. k.0)) k.1
+
+all_under : (t a : ℤ) (xs : List ℤ) → fold int_max a xs <ℤ t → (a <ℤ t) × AllByRecursion (λ x. x <ℤ t) xs
+all_under t a [] h = (h, tt)
+all_under t a (x ∷ xs) h =
+    let rest = all_under t (int_max a x) xs h in
+    (omega (arith, ints, clamps, rest.0), (omega (arith, ints, clamps, rest.0), rest.1))
+
+-- ---- the room, and the horizon
+
+div_rises : (m n size : ℕ) → 0 < size → m ≤ n → m / size ≤ n / size
+div_rises m n size some h = omega (arith, reached_before m (n - m) size some, ap (λ k. k / size) {x = m + (n - m)} {y = n} (omega arith))
+
+rest_of_history : (now : Moment) (e : Event) (es : List Event) → IsHistory now (e ∷ es) → IsHistory (moment_after now e) es
+rest_of_history now (Sampled sample) es h = h.1
+rest_of_history now (Tuned sources) es h = h.1
+rest_of_history now (Resized archive rows) es h = h.1
+
+abbrev reach_from : ℕ → ℕ → ℕ → Moment → List Event → ℤ
+reach_from size index rows now events = reach size (fold (rows_after index) rows events) (fold moment_after now events).last
+
+-- what holds after one event more
+all_later : (P : ℤ → Type 0) (size index rows : ℕ) (now : Moment) (e : Event) (ps : List (List Event)) → AllByRecursion P (map (reach_from size index (rows_after index rows e) (moment_after now e)) ps) → AllByRecursion P (map (reach_from size index rows now) (map (λ p. e ∷ p) ps))
+all_later P size index rows now e [] h = tt
+all_later P size index rows now e (p ∷ ps) h = (h.0, all_later P size index rows now e ps h.1)
+
+all_sooner : (P : ℤ → Type 0) (size index rows : ℕ) (now : Moment) (e : Event) (ps : List (List Event)) → AllByRecursion P (map (reach_from size index rows now) (map (λ p. e ∷ p) ps)) → AllByRecursion P (map (reach_from size index (rows_after index rows e) (moment_after now e)) ps)
+all_sooner P size index rows now e [] h = tt
+all_sooner P size index rows now e (p ∷ ps) h = (h.0, all_sooner P size index rows now e ps h.1)
+
+-- a row that has always had a place is after what was reached at every moment
+room_under : (size index end age n m : ℕ) (time : ℤ) → 0 < size → IsAt size time n m → age + n ≡ end / size + m → (rows : ℕ) (now : Moment) (es : List Event) → IsHistory now es → (fold moment_after now es).last ≡ end → age < room index (λ t. end / size - t / size) rows now es → AllByRecursion (λ x. x <ℤ time) (map (reach_from size index rows now) (prefixes es))
+room_under size index end age n m time some at aged rows now [] h e k =
+    let below = div_rises now.last end size some (omega arith) in
+    (reach_under size (now.last / size) rows n m time some at (omega arith), tt)
+room_under size index end age n m time some at aged rows now (event ∷ es) h e k =
+    let low = last_rises now (event ∷ es) h in
+    let below = div_rises now.last end size some (omega arith) in (
+      reach_under size (now.last / size) rows n m time some at (omega arith),
+      all_later (λ x. x <ℤ time) size index rows now event (prefixes es)
+          (room_under size index end age n m time some at aged (rows_after index rows event) (moment_after now event) es (rest_of_history now event es h) e (omega arith)),
+    )
+
+under_room : (size index end age n m : ℕ) (time : ℤ) → 0 < size → IsAt size time n m → age + n ≡ end / size + m → (rows : ℕ) (now : Moment) (es : List Event) → IsHistory now es → (fold moment_after now es).last ≡ end → AllByRecursion (λ x. x <ℤ time) (map (reach_from size index rows now) (prefixes es)) → age < room index (λ t. end / size - t / size) rows now es
+under_room size index end age n m time some at aged rows now [] h e k =
+    let below = div_rises now.last end size some (omega arith) in
+    ⊎_elim
+    (λ (in_it : now.last / size + m < n + rows). omega arith)
+    (λ (out : n + rows ≤ now.last / size + m). absurd (omega (arith, ints, k.0, reach_over size (now.last / size) rows n m time at out)))
+    (cases_lt (now.last / size + m) (n + rows))
+under_room size index end age n m time some at aged rows now (event ∷ es) h e k =
+    let low = last_rises now (event ∷ es) h in
+    let below = div_rises now.last end size some (omega arith) in
+    let rest = under_room size index end age n m time some at aged (rows_after index rows event) (moment_after now event) es (rest_of_history now event es h) e (all_sooner (λ x. x <ℤ time) size index rows now event (prefixes es) k.1) in
+    ⊎_elim
+    (λ (in_it : now.last / size + m < n + rows). omega arith)
+    (λ (out : n + rows ≤ now.last / size + m). absurd (omega (arith, ints, k.0, reach_over size (now.last / size) rows n m time at out)))
+    (cases_lt (now.last / size + m) (n + rows))
+
+greatest_under : (t : ℤ) (xs : List ℤ) → 0 < length xs → AllByRecursion (λ x. x <ℤ t) xs → greatest xs <ℤ t
+greatest_under t [] some h = absurd (omega arith)
+greatest_under t (x ∷ xs) some h = max_under t x xs h.0 h.1
+
+under_greatest : (t : ℤ) (xs : List ℤ) → greatest xs <ℤ t → AllByRecursion (λ x. x <ℤ t) xs
+under_greatest t [] h = tt
+under_greatest t (x ∷ xs) h = let all = all_under t x xs h in (all.0, all.1)
+
+some_prefix : {A : Type 0} (xs : List A) → 0 < length (prefixes xs)
+some_prefix [] = omega arith
+some_prefix (x ∷ xs) = omega arith
+
+in_sight : (base : Content) (index : ℕ) (archive : Archive) (es : List Event) (age n m : ℕ) (time : ℤ) → let size = resolution base.step archive.def in let end = (moment_at_end base es).last in 0 < size → IsHistory (moment_of base) es → IsAt size time n m → age + n ≡ end / size + m → age < room index (λ t. end / size - t / size) archive.def.rows (moment_of base) es → int_le time (horizon base index archive es) ≡ false
+in_sight base index archive es age n m time some h at aged k =
+    let size = resolution base.step archive.def in
+    after time (horizon base index archive es)
+    (greatest_under time (map (reach_after base index archive) (prefixes es)) (omega (arith, some_prefix es, length-map (prefixes es) (reach_after base index archive)))
+    (room_under size index (moment_at_end base es).last age n m time some at aged archive.def.rows (moment_of base) es h refl k))
+
+out_of_sight : (base : Content) (index : ℕ) (archive : Archive) (es : List Event) (age n m : ℕ) (time : ℤ) → let size = resolution base.step archive.def in let end = (moment_at_end base es).last in 0 < size → IsHistory (moment_of base) es → IsAt size time n m → age + n ≡ end / size + m → room index (λ t. end / size - t / size) archive.def.rows (moment_of base) es ≤ age → int_le time (horizon base index archive es) ≡ true
+out_of_sight base index archive es age n m time some h at aged k =
+    let size = resolution base.step archive.def in
+    let reached = horizon base index archive es in
+    ⊎_elim
+    (λ (hidden : int_le time reached ≡ true). hidden)
+    (λ (seen : int_le time reached ≡ false).
+    let later : reached <ℤ time = grind (arith, ints) in
+    absurd (omega (arith, under_room size index (moment_at_end base es).last age n m time some at aged archive.def.rows (moment_of base) es h refl (under_greatest time (map (reach_after base index archive) (prefixes es)) later))))
+    (cases_Bool (int_le time reached))
+
+-- ---- the rows that an archive has, by their ages
+
+shown_by_age : (rows room age : ℕ) (u : List Cell) (all : List (List Cell)) → room ≤ length all → room ≤ rows → row_of_age (filled_up rows u (keep_last room all)) u (pos age) ≡ cond (ltb age room) (get_or all (length all - 1 - age) u) u
+shown_by_age rows room age u all some fits =
+    let kept = filled_up rows u (keep_last room all) in
+    let count : length kept ≡ rows = length-filled_up rows u (keep_last room all) (omega (arith, length-keep_last room all some)) in
+    ap (λ n. cond (ltb age n) (get_or kept (n - 1 - age) u) u) count
+    ∙ ⊎_elim
+    (λ (young : age < rows). cond-true (ltb age rows) (get_or kept (rows - 1 - age) u) u (lt-ltb age rows young) ∙ row_by_age rows room age u all young some fits)
+    (λ (old : rows ≤ age). cond-false (ltb age rows) (get_or kept (rows - 1 - age) u) u (le-ltb age rows old) ∙ sym (cond-false (ltb age room) (get_or all (length all - 1 - age) u) u (le-ltb age room (omega arith))))
+    (cases_lt age rows)
+
+finished_at : {A P B : Type 0} (rule : Rule A P B) (begun_at : ℕ) (begun : P) (items : List A) (i : ℕ) (d : B) → i < length (finished rule begun_at begun items) → get_or (finished rule begun_at begun items) i d ≡ rule.close (group_part rule begun_at begun items (begun_at / rule.size + i))
+unfolding finished
+finished_at rule begun_at begun items i d h =
+    let close_at = λ (group : ℕ). rule.close (group_part rule begun_at begun items group) in
+    let count = (begun_at + length items) / rule.size - begun_at / rule.size in
+    get_or-map-range_with_len close_at (begun_at / rule.size) count i (begun_at / rule.size + i) d (omega (arith, length-map-range_with_len close_at (begun_at / rule.size) count)) refl
+
+-- a row that ended since the base
+new_row : (base : Content) (archive : Archive) (es : List Event) (i number : ℕ) (d : List Cell) → i < length (rows_of base archive es) → base.last / base.step / archive.def.steps + i ≡ number → get_or (rows_of base archive es) i d ≡ row base archive es number
+unfolding rows_of
+new_row base archive es i number d h e =
+    finished_at (rows_rule archive.def (length base.sources)) (base.last / base.step) archive.parts (steps_of base es) i d h ∙ ap (row base archive es) e
+
+-- the number of the row that ends n - m rows after 1970
+row_number : (size n m : ℕ) (time : ℤ) → 0 < size → IsAt size time n m → m < n → unsigned_abs time / size ≡ n - m
+row_number size n m time some at h =
+    let apart : pos (n * size) -ℤ pos (m * size) ≡ pos ((n - m) * size) = omega (arith, ints, ap (λ k. k * size) {x = n} {y = n - m + m} (omega arith)) in
+    ap (λ t. unsigned_abs t / size) (at.time_is ∙ apart) ∙ ap (λ k. k / size) {x = (n - m) * size} {y = (n - m) * size + 0} (omega arith) ∙ div-mul-add (n - m) size 0 some
+
+-- ---- the three cases of a row that is in sight
+
+old_row : (base : Content) (archive : Archive) (es : List Event) (u : List Cell) (age n m first end : ℕ) (time : ℤ) → let size = resolution base.step archive.def in IsAt size time n m → base.last / size ≡ first → first ≤ end → age + n ≡ end + m → n ≤ first + m → age < length archive.rows + (end - first) → get_or (archive.rows ++ rows_of base archive es) (length archive.rows + (end - first) - 1 - age) u ≡ row_of_age archive.rows u (pos (base.last / size) -ℤ int_div_euclid time (pos size))
+old_row base archive es u age n m first end time at first_is rises aged older seen =
+    let size = resolution base.step archive.def in
+    let back = first + m - n in
+    let ago : pos (base.last / size) -ℤ int_div_euclid time (pos size) ≡ pos back = omega (arith, ints, at.count_is) in
+    get_or_append_left archive.rows (rows_of base archive es) u (length archive.rows + (end - first) - 1 - age) (omega arith)
+    ∙ ap (λ i. get_or archive.rows i u) {x = length archive.rows + (end - first) - 1 - age} {y = length archive.rows - 1 - back} (omega arith)
+    ∙ sym (cond-true (ltb back (length archive.rows)) (get_or archive.rows (length archive.rows - 1 - back) u) u (lt-ltb back (length archive.rows) (omega arith)))
+    ∙ sym (ap (row_of_age archive.rows u) ago)
+
+recent_row : (base : Content) (archive : Archive) (es : List Event) (u : List Cell) (age n m first end : ℕ) (time : ℤ) → let size = resolution base.step archive.def in 0 < size → IsAt size time n m → base.last / size ≡ first → base.last / base.step / archive.def.steps ≡ first → length (rows_of base archive es) ≡ end - first → age + n ≡ end + m → first + m < n → get_or (archive.rows ++ rows_of base archive es) (length archive.rows + (end - first) - 1 - age) u ≡ row_ending base archive es time
+recent_row base archive es u age n m first end time some at first_is first_step count aged newer =
+    let size = resolution base.step archive.def in
+    let i = n - m - 1 - first in
+    get_or-append_right archive.rows (rows_of base archive es) (length archive.rows) (length archive.rows + (end - first) - 1 - age) u refl (omega arith)
+    ∙ ap (λ k. get_or (rows_of base archive es) k u) {x = length archive.rows + (end - first) - 1 - age - length archive.rows} {y = i} (omega arith)
+    ∙ new_row base archive es i (n - m - 1) u (omega arith) (omega arith)
+    ∙ sym (ap (λ k. row base archive es (k - 1)) (row_number size n m time some at (omega arith)))
+
+-- ---- an archive
+
+-- the kept row of a time, by its age
+kept_by_time : (base : Content) (index : ℕ) (archive : Archive) (es : List Event) (time : ℤ) → 0 < base.step → IsArchive archive → IsHistory (moment_of base) es → IsMultiple time (resolution base.step archive.def) → row_of_age (kept_rows base index archive es) (replicate (length base.sources) Cell.Unknown) (pos ((moment_at_end base es).last / resolution base.step archive.def) -ℤ int_div_euclid time (pos (resolution base.step archive.def))) ≡ row_by_time base index archive es time
+unfolding kept_rows
+kept_by_time base index archive es time some_step is h multiple =
+    let size = resolution base.step archive.def in
+    let last = (moment_at_end base es).last in
+    let first = base.last / size in
+    let end = last / size in
+    let some : 0 < size = omega (arith, mul-lt 0 0 base.step archive.def.steps some_step is.some_steps) in
+    let place = multiple_at size time some multiple in
+    let n = place.0 in
+    let m = place.1 in
+    let at : IsAt size time n m = place.2 in
+    let u = replicate (length base.sources) Cell.Unknown in
+    let all = archive.rows ++ rows_of base archive es in
+    let since = λ (t : ℕ). end - t / size in
+    let now = moment_of base in
+    let rows_end = fold (rows_after index) archive.def.rows es in
+    let kept_room = room index since archive.def.rows now es in
+    let kept = filled_up rows_end u (keep_last kept_room all) in
+    let count_new : first + length (rows_of base archive es) ≡ end = length-rows_of base archive es some_step is.some_steps h in
+    let count_all = length-append archive.rows (rows_of base archive es) in
+    let most = room_first index since archive.def.rows now es in
+    let fits = room_last index since archive.def.rows now es in
+    let reached = horizon base index archive es in
+    let hidden = int_le time reached in
+    let ahead = int_lt (pos (newest size last)) time in
+    let old = int_le time (pos (newest size base.last)) in
+    let later = cond old (row_at base archive time) (row_ending base archive es time) in
+    ⊎_elim
+    (λ (after_end : end + m < n).
+    let ago : pos end -ℤ int_div_euclid time (pos size) ≡ negsuc (n - (end + m) - 1) = omega (arith, ints, at.count_is) in
+    let past : cond ahead u later ≡ u = cond-true ahead u later (before (pos (newest size last)) time (ends_under size end n m time some at after_end)) in
+    ap (row_of_age kept u) ago ∙ sym (ap (cond hidden u) past ∙ either hidden u))
+    (λ (in_time : n ≤ end + m).
+    let age = end + m - n in
+    let ago : pos end -ℤ int_div_euclid time (pos size) ≡ pos age = omega (arith, ints, at.count_is) in
+    let aged : age + n ≡ end + m = omega arith in
+    let shown = shown_by_age rows_end kept_room age u all (omega (arith, is.rows_are)) (omega arith) in
+    let not_ahead : cond ahead u later ≡ later = cond-false ahead u later (not_before (pos (newest size last)) time (ends_over size end n m time at in_time)) in
+    ap (row_of_age kept u) ago ∙ shown
+    ∙ ⊎_elim
+    (λ (young : age < kept_room).
+    let rest : cond hidden u (cond ahead u later) ≡ later = cond-false hidden u (cond ahead u later) (in_sight base index archive es age n m time some h at aged young) ∙ not_ahead in
+    let place_is : get_or all (length all - 1 - age) u ≡ get_or all (length archive.rows + (end - first) - 1 - age) u = ap (λ k. get_or all (k - 1 - age) u) {x = length all} {y = length archive.rows + (end - first)} (omega arith) in
+    cond-true (ltb age kept_room) (get_or all (length all - 1 - age) u) u (lt-ltb age kept_room young)
+    ∙ place_is
+    ∙ ⊎_elim
+    (λ (newer : first + m < n).
+    recent_row base archive es u age n m first end time some at refl (div-div-eq-div-mul base.last base.step archive.def.steps) (omega arith) aged newer
+    ∙ sym (rest ∙ cond-false old (row_at base archive time) (row_ending base archive es time) (after time (pos (newest size base.last)) (ends_under size first n m time some at newer))))
+    (λ (older : n ≤ first + m).
+    old_row base archive es u age n m first end time at refl (omega arith) aged older (omega (arith, is.rows_are))
+    ∙ sym (rest ∙ cond-true old (row_at base archive time) (row_ending base archive es time) (at_or_before time (pos (newest size base.last)) (ends_over size first n m time at older))))
+    (cases_lt (first + m) n))
+    (λ (gone : kept_room ≤ age).
+    cond-false (ltb age kept_room) (get_or all (length all - 1 - age) u) u (le-ltb age kept_room gone)
+    ∙ sym (cond-true hidden u (cond ahead u later) (out_of_sight base index archive es age n m time some h at aged gone)))
+    (cases_lt age kept_room))
+    (cases_lt (end + m) n)
+  where
+    either : (b : Bool) (x : List Cell) → cond b x x ≡ x
+    either true x = refl
+    either false x = refl
+
+row_shown : (base : Content) (index : ℕ) (archive : Archive) (es : List Event) (time : ℤ) → 0 < base.step → IsArchive archive → IsHistory (moment_of base) es → IsMultiple time (resolution base.step archive.def) → row_at (content_listed base es) (archive_of base es (index, archive)) time ≡ row_by_time base index archive es time
+unfolding content_listed
+row_shown base index archive es time some_step is h multiple =
+    let size = resolution base.step archive.def in
+    let age = pos ((moment_at_end base es).last / size) -ℤ int_div_euclid time (pos size) in
+    ap (λ k. row_of_age (kept_rows base index archive es) (replicate k Cell.Unknown) age) (length-sources (moment_of base) es h)
+    ∙ kept_by_time base index archive es time some_step is h multiple
+
+-- ---- all rows of an archive
+
+multiple_of : (size n m : ℕ) (time : ℤ) → 0 < size → time ≡ pos (n * size) -ℤ pos (m * size) → IsMultiple time size
+multiple_of size n m time some is =
+    int_rem_euclid_is time (pos size) size m (n * size) some refl (omega (arith, ints, is))
+    ∙ ap pos (ap (λ k. k % size) {x = n * size} {y = n * size + 0} (omega arith) ∙ mod-mul-add n size 0 some)
+
+same_count : (size a b : ℕ) → 0 < size → a * size ≡ b * size → a ≡ b
+same_count size a b some e = ⊎_elim
+    (λ (low : a < b). absurd (omega (arith, e, less_rows a b size some low)))
+    (λ (high : b ≤ a). ⊎_elim
+    (λ (lower : b < a). absurd (omega (arith, e, less_rows b a size some lower)))
+    (λ (same : a ≤ b). omega arith)
+    (cases_lt b a))
+    (cases_lt a b)
+
+-- how old the row of a place is
+age_of : (size rows end place : ℕ) (time : ℤ) → 0 < size → place < rows → time ≡ (pos (end * size) -ℤ pos (rows * size)) +ℤ pos ((place + 1) * size) → IsMultiple time size × (pos end -ℤ int_div_euclid time (pos size) ≡ pos (rows - 1 - place))
+age_of size rows end place time some within is =
+    let whole : time ≡ pos ((end + (place + 1)) * size) -ℤ pos (rows * size) = omega (arith, ints, is) in
+    let multiple = multiple_of size (end + (place + 1)) rows time some whole in
+    let found = multiple_at size time some multiple in
+    let n = found.0 in
+    let m = found.1 in
+    let at : IsAt size time n m = found.2 in
+    let same : n + rows ≡ end + (place + 1) + m = same_count size (n + rows) (end + (place + 1) + m) some (omega (arith, ints, whole, at.time_is)) in
+    (multiple, omega (arith, ints, at.count_is, same))
+
+rows_are_by_time : (base : Content) (index : ℕ) (archive : Archive) (es : List Event) → 0 < base.step → IsArchive archive → IsHistory (moment_of base) es → kept_rows base index archive es ≡ rows_by_time base index archive es
+unfolding kept_rows
+rows_are_by_time base index archive es some_step is h =
+    let size = resolution base.step archive.def in
+    let last = (moment_at_end base es).last in
+    let end = last / size in
+    let some : 0 < size = omega (arith, mul-lt 0 0 base.step archive.def.steps some_step is.some_steps) in
+    let u = replicate (length base.sources) Cell.Unknown in
+    let all = archive.rows ++ rows_of base archive es in
+    let since = λ (t : ℕ). end - t / size in
+    let rows = fold (rows_after index) archive.def.rows es in
+    let kept_room = room index since archive.def.rows (moment_of base) es in
+    let kept = filled_up rows u (keep_last kept_room all) in
+    let one = λ (place : ℕ). row_by_time base index archive es (time_of size rows last place) in
+    let count_new : base.last / size + length (rows_of base archive es) ≡ end = length-rows_of base archive es some_step is.some_steps h in
+    let count_all = length-append archive.rows (rows_of base archive es) in
+    let most = room_first index since archive.def.rows (moment_of base) es in
+    let fits = room_last index since archive.def.rows (moment_of base) es in
+    let count : length kept ≡ rows = length-filled_up rows u (keep_last kept_room all) (omega (arith, is.rows_are, most, fits, length-keep_last kept_room all (omega (arith, is.rows_are)))) in
+    let listed = length-map-range_with_len one 0 rows in
+    ext_get_or u kept (map one (range_with_len 0 rows)) (omega (arith, count, listed))
+    (λ place within.
+    let here : place < rows = omega (arith, count, within) in
+    let age = age_of size rows end place (time_of size rows last place) some here refl in
+    let by_age : row_of_age kept u (pos (rows - 1 - place)) ≡ get_or kept place u
+    = cond-true (ltb (rows - 1 - place) (length kept)) (get_or kept (length kept - 1 - (rows - 1 - place)) u) u (lt-ltb (rows - 1 - place) (length kept) (omega (arith, count, here)))
+    ∙ ap (λ k. get_or kept k u) {x = length kept - 1 - (rows - 1 - place)} {y = place} (omega (arith, count, here)) in
+    sym by_age ∙ sym (ap (row_of_age kept u) age.1)
+    ∙ kept_by_time base index archive es (time_of size rows last place) some_step is h age.0
+    ∙ sym (get_or-map-range_with_len one 0 rows place place u (omega (arith, listed, here)) (omega arith)))
+
+each_by_time : (base : Content) (es : List Event) (n : ℕ) (archives : List Archive) → 0 < base.step → IsHistory (moment_of base) es → AllByRecursion IsArchive archives → map (archive_of base es) (enumerate_from n archives) ≡ map (archive_by_time base es) (enumerate_from n archives)
+each_by_time base es n [] some h is = refl
+each_by_time base es n (archive ∷ archives) some h is =
+    ap (λ rows. let a : Archive = record (archive_of base es (n, archive)) { rows = rows } in a ∷ map (archive_of base es) (enumerate_from (n + 1) archives)) (rows_are_by_time base n archive es some is.0 h)
+    ∙ ap (λ rest. archive_by_time base es (n, archive) ∷ rest) (each_by_time base es (n + 1) archives some h is.1)
+
+pub is_listed : (base : Content) (es : List Event) → IsListed base es
+unfolding content_listed
+is_listed base es is h = ap (λ archives. let x : Content = record (content base es) { archives = archives } in x) (each_by_time base es 0 base.archives is.some_step h is.archives_are)
+
+-- ---- each archive of a content
+
+shown_is : (f : ℕ × Archive → Archive) (n : ℕ) (archives : List Archive) (index : ℕ) (archive shown : Archive) → slice_get archives index ≡ Some archive → slice_get (map f (enumerate_from n archives)) index ≡ Some shown → f (n + index, archive) ≡ shown
+shown_is f n [] index archive shown h k = absurd cc
+shown_is f n (first ∷ archives) zero archive shown h k =
+    let here : first ≡ archive = cc in
+    let there : f (n, first) ≡ shown = cc in
+    ap (λ i. f (i, archive)) {x = n + 0} {y = n} (omega arith) ∙ ap (λ a. f (n, a)) (sym here) ∙ there
+shown_is f n (first ∷ archives) (suc index) archive shown h k =
+    ap (λ i. f (i, archive)) {x = n + suc index} {y = n + 1 + index} (omega arith) ∙ shown_is f (n + 1) archives index archive shown h k
+
+pub one_of : (archives : List Archive) (index : ℕ) (archive : Archive) → AllByRecursion IsArchive archives → slice_get archives index ≡ Some archive → IsArchive archive
+one_of [] index archive is h = absurd cc
+one_of (first ∷ archives) zero archive is h = let here : first ≡ archive = cc in subst IsArchive here is.0
+one_of (first ∷ archives) (suc index) archive is h = one_of archives index archive is.1 h
+
+shows_listed : (base : Content) (es : List Event) → IsBase base → IsHistory (moment_of base) es → (index : ℕ) (archive shown : Archive) → slice_get base.archives index ≡ Some archive → slice_get (content_listed base es).archives index ≡ Some shown → (time : ℤ) → IsMultiple time (resolution base.step archive.def) → row_at (content_listed base es) shown time ≡ row_by_time base index archive es time
+unfolding content_listed
+shows_listed base es is h index archive shown there then time multiple =
+    let this = shown_is (archive_of base es) 0 base.archives index archive shown there then in
+    let number : archive_of base es (index, archive) ≡ shown = ap (λ i. archive_of base es (i, archive)) {x = index} {y = 0 + index} (omega arith) ∙ this in
+    sym (ap (λ a. row_at (content_listed base es) a time) number) ∙ row_shown base index archive es time is.some_step (one_of base.archives index archive is.archives_are there) h multiple
+
+pub shows_by_time : (base : Content) (es : List Event) → ShowsByTime base es
+shows_by_time base es is h = subst
+    (λ (x : Content). (index : ℕ) (archive shown : Archive) → slice_get base.archives index ≡ Some archive → slice_get x.archives index ≡ Some shown → (time : ℤ) → IsMultiple time (resolution base.step archive.def) → row_at x shown time ≡ row_by_time base index archive es time)
+    (is_listed base es is h)
+    (shows_listed base es is h)
+
+-- ---- steps and rows by themselves
+
+finished_by_number : {A P B : Type 0} (rule : Rule A P B) (begun_at : ℕ) (begun : P) (items : List A) → finished rule begun_at begun items ≡ map (λ group. rule.close (group_part rule begun_at begun items group)) (range_with_len (begun_at / rule.size) (length (finished rule begun_at begun items)))
+unfolding finished
+finished_by_number rule begun_at begun items =
+    let close_at = λ (group : ℕ). rule.close (group_part rule begun_at begun items group) in
+    let first = begun_at / rule.size in
+    ap (λ n. map close_at (range_with_len first n)) (sym (length-map-range_with_len close_at first ((begun_at + length items) / rule.size - first)))
+
+pub lists_by_number : (base : Content) (archive : Archive) (events : List Event) → ListsByNumber base archive events
+unfolding steps_of rows_of
+lists_by_number base archive events = record {
+  steps_are = finished_by_number (seconds_to_steps base.step (length base.sources)) base.last base.parts (seconds_of base events);
+  rows_are = finished_by_number (rows_rule archive.def (length base.sources)) (base.last / base.step) archive.parts (steps_of base events);
+}

@@ -1,0 +1,322 @@
+-- The entry of an accepted command fits, and the journal stays valid.
+use Rattle.std.proofs.Common.{◌≡◌, refl, sym, ◌∙◌, ap, subst, ℕ, zero, suc, ◌+◌, ◌-◌, ◌/◌, ◌<◌, ◌≤◌, min, Bool, true, false, cond, ◌||◌, eqb, List, [], ◌∷◌, length, map, take, get_or, arith, ⊎_elim, ◌⊎◌, inl, inr, ltb, Option, Some, None}
+use Rattle.std.specs.Prelude.{is_none}
+use Rattle.std.proofs.lemmas.Bool.{cases_Bool, cond_both, or_parts, not-false, both_ways, leb-false, eqb-false, eq-eqb}
+use Rattle.std.proofs.lemmas.List.{length-map, length-take}
+use Rattle.std.specs.List.{fold, enumerate_from, list_any, AllByRecursion}
+use Rattle.rrd_fixed.specs.declared.raw.Raw.{Raw}
+use Rattle.rrd_fixed.specs.declared.name.Name.{Name}
+use Rattle.rrd_spec.specs.declared.settings.DsDef.{DsDef}
+use Rattle.rrd_spec.specs.History.{Archive, Content, Reading, Sampled, Resized, Moment, moment_after, moment_of, moment_at_end, rows_after, archive_of, content_listed, IsHistory, IsArchive}
+use Rattle.rrd_spec.proofs.HistoryLemmas.{last_rises, length-sources}
+use Rattle.rrd_spec.proofs.SampleLemmas.{rows_of_samples}
+use Rattle.rrd_spec.specs.Commands.{Asked, Settings, Command, Updating, TuningBy, Resizing, settings_of, rows_of_archives, names, sample_of, samples_of, tuned, rows_changed, events, moved, moved_listed}
+use Rattle.rrd_spec.specs.Verdict.{has_source, is_double, is_bad_rows, grows_too_far, shrinks_too_far, no_sample, asks_nothing, names_no_source, verdict}
+use Rattle.rrd_spec.specs.Entries.{Held, Entry, Updated, WasTuned, WasResized, rows_between, dropped, is_asked, is_named, held, rows_at, with_held, entry, undone}
+use Rattle.rrd_spec.specs.Survivors.{Action, Changed, Reverted, Kept, is_accepted, changed, reverted, step, AllUndo}
+use Rattle.rrd_spec.proofs.Accepted.{accepted_passes, accepted_history}
+use Rattle.rrd_spec.proofs.Undoing.{comes_back}
+use Rattle.rrd_spec.proofs.AllLemmas.{All-take}
+use Rattle.rrd_spec.proofs.AllLemmas.{rows_wide}
+use Rattle.rrd_spec.proofs.Runs.{runs_agree, is_none-true}
+use Rattle.rrd_spec.proofs.Moving.{listed_sound, moved_is, moved_depth, settings_of-content}
+use Rattle.std.proofs.lemmas.List.FromFn.{length-enumerate_from}
+use Rattle.rrd_spec.proofs.NameLemmas.{same_is, same_itself}
+use Rattle.rrd_spec.specs.Validity.{IsRow, IsValidArchive, IsValid, FitsArchive, FitEach, Rise, Fits, IsValidJournal, IsValidDatabase, DatabaseStays, RevertTakesBack, RunsStay}
+use Rattle.rrd_spec.proofs.Staying.{length-accepted, sound, stays_valid}
+use Rattle.rrd_spec.specs.declared.tune.Tuning.{Tuning}
+use Rattle.rrd_spec.specs.declared.update.Update.{Update}
+use Rattle.rrd_spec.specs.declared.update.Sample.{Sample}
+use Rattle.rrd_spec.specs.declared.resize.Change.{Change}
+use Rattle.rrd_spec.specs.declared.resize.Change.TheVariants.{Grow, Shrink}
+use Rattle.rrd_fixed.specs.Names.{same_name}
+
+-- ---- an update's entry
+
+archive_fits : (base : Content) (sources end : ℕ) (list : List Reading) (index : ℕ) (archive : Archive) → IsValidArchive sources (base.last / base.step) archive → FitsArchive base.step sources base.last end (archive_of base (map Sampled list) (index, archive)) (dropped base.step base.last end archive)
+archive_fits base sources end list index archive is =
+    let m = min (rows_between base.step archive.def base.last end) (length archive.rows) in
+    record {
+      one_part_each = is.parts_are.one_each;
+      as_many = omega (arith, length-take m archive.rows, rows_of_samples index archive.def.rows list, is.rows_are);
+      one_cell_each = All-take _ m archive.rows (rows_wide sources archive.rows is.each_row);
+    }
+
+each_fits : (base : Content) (sources end : ℕ) (list : List Reading) (index : ℕ) (archives : List Archive) → AllByRecursion (IsValidArchive sources (base.last / base.step)) archives → FitEach base.step sources base.last end (map (archive_of base (map Sampled list)) (enumerate_from index archives)) (map (dropped base.step base.last end) archives)
+each_fits base sources end list index [] is = tt
+each_fits base sources end list index (archive ∷ archives) is = (archive_fits base sources end list index archive is.0, each_fits base sources end list (index + 1) archives is.1)
+
+time_rises : (sources : List DsDef) (template : List Name) (now : Moment) (readings : List Sample) → no_sample readings ≡ false → IsHistory now (map Sampled (map (sample_of sources template) readings)) → now.last < (fold moment_after now (map Sampled (map (sample_of sources template) readings))).last
+time_rises sources template now [] some h = absurd cc
+time_rises sources template now (reading ∷ readings) some h =
+    omega (arith, h.0, last_rises (moment_after now (Sampled (sample_of sources template reading))) (map Sampled (map (sample_of sources template) readings)) h.1)
+
+update_fits : (base : Content) (update : Update) → IsValid base → verdict base (Updating update) ≡ None → Fits (moved_listed base (Updating update)) (entry base (Updating update))
+unfolding content_listed
+update_fits base update is h =
+    let list = samples_of base.sources update in
+    let history = accepted_history base (Updating update) h in
+    let p = accepted_passes base (Updating update) h in
+    let end = moment_at_end base (map Sampled list) in
+    let as_many : length end.sources ≡ length base.sources = length-sources (moment_of base) (map Sampled list) history in
+    let P : ℕ → Type 0 = λ n. FitEach base.step n base.last end.last (map (archive_of base (map Sampled list)) (enumerate_from 0 base.archives)) (map (dropped base.step base.last end.last) base.archives) in
+    record {
+      earlier = time_rises base.sources _ (moment_of base) update.samples p.1.1.0 history;
+      one_raw_each = length-accepted base.sources base.raws is.raws_are ∙ sym as_many;
+      one_part_each = is.parts_are.one_each ∙ sym as_many;
+      archives_fit = subst P (sym as_many) (each_fits base (length base.sources) end.last list 0 base.archives is.archives_are);
+    }
+
+-- ---- a tune's entry
+
+held_rise : (tuning : Tuning) (lowest number : ℕ) (sources : List DsDef) (raws : List Raw) → lowest ≤ number → Rise lowest (number + length sources) (held tuning number sources raws)
+held_rise tuning lowest number [] raws h = tt
+held_rise tuning lowest number (source ∷ sources) [] h = tt
+held_rise tuning lowest number (source ∷ sources) (raw ∷ raws) h =
+    let P : ℕ → List Held → Type 0 = λ limit olds. Rise lowest limit olds in
+    let same : number + 1 + length sources ≡ number + suc (length sources) = omega arith in
+    let rest : (low : ℕ) → low ≤ number + 1 → Rise low (number + suc (length sources)) (held tuning (number + 1) sources raws)
+    = λ low k. subst (λ limit. Rise low limit (held tuning (number + 1) sources raws)) same (held_rise tuning low (number + 1) sources raws k) in
+    cond_both (is_named tuning source) (record { number = number; source = source; raw = raw } ∷ held tuning (number + 1) sources raws) (held tuning (number + 1) sources raws) (λ olds. Rise lowest (number + suc (length sources)) olds)
+    (λ e. (h, omega arith, rest (number + 1) (omega arith)))
+    (λ e. rest lowest (omega arith))
+
+-- how many sources pass a test
+abbrev how_many : (DsDef → Bool) → List DsDef → ℕ
+how_many test [] = 0
+how_many test (source ∷ sources) = cond (test source) 1 0 + how_many test sources
+
+or_count : (a b : Bool) → cond (a || b) 1 0 ≤ cond a 1 0 + cond b 1 0
+or_count true b = omega arith
+or_count false b = omega arith
+
+held_count : (tuning : Tuning) (number : ℕ) (sources : List DsDef) (raws : List Raw) → length (held tuning number sources raws) ≤ how_many (is_named tuning) sources
+held_count tuning number [] raws = omega arith
+held_count tuning number (source ∷ sources) [] = omega arith
+held_count tuning number (source ∷ sources) (raw ∷ raws) =
+    let rest = held_count tuning (number + 1) sources raws in
+    let olds = held tuning (number + 1) sources raws in
+    let here : Held = record { number = number; source = source; raw = raw } in
+    each (is_named tuning source) here olds (how_many (is_named tuning) sources) rest
+  where
+    each : (b : Bool) (here : Held) (olds : List Held) (n : ℕ) → length olds ≤ n → length (cond b (here ∷ olds) olds) ≤ cond b 1 0 + n
+    each true here olds n h = omega arith
+    each false here olds n h = omega arith
+
+named_count : (tuning : Tuning) (sources : List DsDef) → how_many (is_named tuning) sources ≤ how_many (is_asked tuning.heartbeat) sources + how_many (is_asked tuning.minimum) sources + how_many (is_asked tuning.maximum) sources + how_many (is_asked tuning.kind) sources + how_many (is_asked tuning.rename) sources
+named_count tuning [] = omega arith
+named_count tuning (source ∷ sources) =
+    let h = is_asked tuning.heartbeat source in
+    let n = is_asked tuning.minimum source in
+    let x = is_asked tuning.maximum source in
+    let k = is_asked tuning.kind source in
+    let r = is_asked tuning.rename source in
+    omega (arith, named_count tuning sources, or_count h n, or_count (h || n) x, or_count (h || n || x) k, or_count (h || n || x || k) r)
+
+sum_is : (a b m n : ℕ) → a ≡ m → b ≡ n → a + b ≡ m + n
+sum_is a b m n h k = omega arith
+
+none_asked : {A : Type 0} (option : Asked A) (sources : List DsDef) → list_any (same_name option.0) (names sources) ≡ false → how_many (is_asked (Some option)) sources ≡ 0
+none_asked option [] h = refl
+none_asked option (source ∷ sources) h =
+    let a = or_parts (same_name option.0 source.name) (list_any (same_name option.0) (names sources)) h in
+    sum_is (cond (same_name option.0 source.name) 1 0) (how_many (is_asked (Some option)) sources) 0 0 (ap (λ b. cond {A = ℕ} b 1 0) a.0) (none_asked option sources a.1)
+
+nothing_asked : (A : Type 0) (sources : List DsDef) → how_many (is_asked {A = A} None) sources ≡ 0
+nothing_asked A [] = refl
+nothing_asked A (source ∷ sources) = sum_is 0 (how_many (is_asked {A = A} None) sources) 0 0 refl (nothing_asked A sources)
+
+asked_once : {A : Type 0} (option : Option (Asked A)) (sources : List DsDef) → is_double (names sources) ≡ false → how_many (is_asked option) sources ≤ 1
+asked_once {A = A} None sources h = let e = nothing_asked A sources in omega arith
+asked_once (Some option) [] h = omega arith
+asked_once (Some option) (source ∷ sources) h =
+    let a = or_parts (list_any (same_name source.name) (names sources)) (is_double (names sources)) h in
+    ⊎_elim
+    (λ (here : same_name option.0 source.name ≡ true).
+    let none : how_many (is_asked (Some option)) sources ≡ 0 = none_asked option sources (ap (λ n. list_any (same_name n) (names sources)) (same_is option.0 source.name here) ∙ a.0) in
+    let P : ℕ → Type 0 = λ n. n ≤ 1 in
+    subst P (sym (sum_is (cond (same_name option.0 source.name) 1 0) (how_many (is_asked (Some option)) sources) 1 0 (ap (λ b. cond {A = ℕ} b 1 0) here) none)) (omega arith))
+    (λ (there : same_name option.0 source.name ≡ false).
+    let P : ℕ → Type 0 = λ n. n ≤ 1 in
+    let rest = asked_once (Some option) sources a.1 in
+    subst P (sym (sum_is (cond (same_name option.0 source.name) 1 0) (how_many (is_asked (Some option)) sources) 0 (how_many (is_asked (Some option)) sources) (ap (λ b. cond {A = ℕ} b 1 0) there) refl)) (omega arith))
+    (cases_Bool (same_name option.0 source.name))
+
+or_here : (a b : Bool) → a ≡ true → (a || b) ≡ true
+or_here a b h = ap (λ x. x || b) h
+
+or_there : (a b : Bool) → b ≡ true → (a || b) ≡ true
+or_there true b h = refl
+or_there false b h = h
+
+list_any_more : (p q : DsDef → Bool) (sources : List DsDef) → ((source : DsDef) → p source ≡ true → q source ≡ true) → list_any p sources ≡ true → list_any q sources ≡ true
+list_any_more p q [] h k = k
+list_any_more p q (source ∷ sources) h k =
+    ⊎_elim
+    (λ (here : p source ≡ true). or_here (q source) (list_any q sources) (h source here))
+    (λ (there : p source ≡ false). or_there (q source) (list_any q sources) (list_any_more p q sources h (sym (ap (λ b. b || list_any p sources) there) ∙ k)))
+    (cases_Bool (p source))
+
+option_named : {A : Type 0} (sources : List DsDef) (option : Option (Asked A)) → names_no_source sources option ≡ false → (is_none option ≡ true) ⊎ (list_any (is_asked option) sources ≡ true)
+option_named sources None h = inl refl
+option_named sources (Some option) h =
+    inr (list_any_more (λ (source : DsDef). same_name source.name option.0) (is_asked (Some option)) sources (λ source e. same_itself option.0 source.name (sym (same_is source.name option.0 e))) (not-false (has_source sources option.0) h))
+
+some_named : (sources : List DsDef) (tuning : Tuning) → asks_nothing tuning ≡ false → (names_no_source sources tuning.heartbeat || names_no_source sources tuning.minimum || names_no_source sources tuning.maximum || names_no_source sources tuning.kind || names_no_source sources tuning.rename) ≡ false → list_any (is_named tuning) sources ≡ true
+some_named sources tuning h k =
+    let e = or_parts _ (names_no_source sources tuning.rename) k in
+    let d = or_parts _ (names_no_source sources tuning.kind) e.0 in
+    let c = or_parts _ (names_no_source sources tuning.maximum) d.0 in
+    let b = or_parts (names_no_source sources tuning.heartbeat) (names_no_source sources tuning.minimum) c.0 in
+    ⊎_elim (λ (n1 : is_none tuning.heartbeat ≡ true).
+    ⊎_elim (λ (n2 : is_none tuning.minimum ≡ true).
+    ⊎_elim (λ (n3 : is_none tuning.maximum ≡ true).
+    ⊎_elim (λ (n4 : is_none tuning.kind ≡ true).
+    ⊎_elim (λ (n5 : is_none tuning.rename ≡ true). let all : asks_nothing tuning ≡ true = rw (n1, n2, n3, n4, n5) in absurd (both_ways (asks_nothing tuning) h all))
+    (λ (s : list_any (is_asked tuning.rename) sources ≡ true). list_any_more (is_asked tuning.rename) (is_named tuning) sources (λ source is. or_there _ (is_asked tuning.rename source) is) s)
+    (option_named sources tuning.rename e.1))
+    (λ (s : list_any (is_asked tuning.kind) sources ≡ true). list_any_more (is_asked tuning.kind) (is_named tuning) sources (λ source is. or_here _ (is_asked tuning.rename source) (or_there _ (is_asked tuning.kind source) is)) s)
+    (option_named sources tuning.kind d.1))
+    (λ (s : list_any (is_asked tuning.maximum) sources ≡ true). list_any_more (is_asked tuning.maximum) (is_named tuning) sources (λ source is. or_here _ (is_asked tuning.rename source) (or_here _ (is_asked tuning.kind source) (or_there _ (is_asked tuning.maximum source) is))) s)
+    (option_named sources tuning.maximum c.1))
+    (λ (s : list_any (is_asked tuning.minimum) sources ≡ true). list_any_more (is_asked tuning.minimum) (is_named tuning) sources (λ source is. or_here _ (is_asked tuning.rename source) (or_here _ (is_asked tuning.kind source) (or_here _ (is_asked tuning.maximum source) (or_there _ (is_asked tuning.minimum source) is)))) s)
+    (option_named sources tuning.minimum b.1))
+    (λ (s : list_any (is_asked tuning.heartbeat) sources ≡ true). list_any_more (is_asked tuning.heartbeat) (is_named tuning) sources (λ source is. or_here _ (is_asked tuning.rename source) (or_here _ (is_asked tuning.kind source) (or_here _ (is_asked tuning.maximum source) (or_here _ (is_asked tuning.minimum source) is)))) s)
+    (option_named sources tuning.heartbeat b.0)
+
+some_held : (tuning : Tuning) (number : ℕ) (sources : List DsDef) (raws : List Raw) → length raws ≡ length sources → list_any (is_named tuning) sources ≡ true → 0 < length (held tuning number sources raws)
+some_held tuning number [] raws e h = absurd cc
+some_held tuning number (source ∷ sources) [] e h = absurd (omega arith)
+some_held tuning number (source ∷ sources) (raw ∷ raws) e h =
+    cond_both (is_named tuning source) (record { number = number; source = source; raw = raw } ∷ held tuning (number + 1) sources raws) (held tuning (number + 1) sources raws) (λ olds. 0 < length olds)
+    (λ here. omega arith)
+    (λ there. some_held tuning (number + 1) sources raws (omega arith) (sym (ap (λ b. b || list_any (is_named tuning) sources) there) ∙ h))
+
+pub tune_fits : (base : Content) (tuning : Tuning) → IsValid base → verdict base (TuningBy tuning) ≡ None → Fits (moved_listed base (TuningBy tuning)) (entry base (TuningBy tuning))
+unfolding content_listed
+tune_fits base tuning is h =
+    let p = accepted_passes base (TuningBy tuning) h in
+    let P : ℕ → Type 0 = λ limit. Rise 0 limit (held tuning 0 base.sources base.raws) in
+    record {
+      some = some_held tuning 0 base.sources base.raws (length-accepted base.sources base.raws is.raws_are) (some_named base.sources tuning p.0 p.1.0);
+      few = omega (arith, held_count tuning 0 base.sources base.raws, named_count tuning base.sources, asked_once tuning.heartbeat base.sources is.names_differ, asked_once tuning.minimum base.sources is.names_differ, asked_once tuning.maximum base.sources is.names_differ, asked_once tuning.kind base.sources is.names_differ, asked_once tuning.rename base.sources is.names_differ);
+      rise = subst P (sym (length-map base.sources (tuned tuning))) (subst P {x = 0 + length base.sources} {y = length base.sources} (omega arith) (held_rise tuning 0 0 base.sources base.raws (omega arith)));
+    }
+
+-- ---- a resize's entry
+
+rows_at_all : (n steps index : ℕ) (archives : List Archive) → AllByRecursion (IsValidArchive n steps) archives → AllByRecursion (IsRow n) (rows_at archives index)
+rows_at_all n steps index [] is = tt
+rows_at_all n steps zero (archive ∷ archives) is = is.0.each_row
+rows_at_all n steps (suc index) (archive ∷ archives) is = rows_at_all n steps index archives is.1
+
+length-rows_at : (index : ℕ) (archives : List Archive) → AllByRecursion IsArchive archives → length (rows_at archives index) ≡ get_or (rows_of_archives archives) index 0
+length-rows_at index [] is = refl
+length-rows_at zero (archive ∷ archives) is = is.0.rows_are
+length-rows_at (suc index) (archive ∷ archives) is = length-rows_at index archives is.1
+
+changed_there : (at new first index : ℕ) (rows : List ℕ) → at ≡ first + index → index < length rows → get_or (map (λ (i, old). rows_after i old (Resized at new)) (enumerate_from first rows)) index 0 ≡ new
+changed_there at new first index [] e h = absurd (omega arith)
+changed_there at new first zero (row ∷ rows) e h = ap (λ b. cond b new row) (eq-eqb at first (omega arith))
+changed_there at new first (suc index) (row ∷ rows) e h = changed_there at new (first + 1) index rows (omega arith) (omega arith)
+
+another : (change : Change) (old rows : ℕ) → (is_bad_rows rows || grows_too_far change old rows) ≡ false → shrinks_too_far change old rows ≡ false → old ≡ rows_changed change old rows → ⊥
+another Grow old rows h k e =
+    let some = eqb-false rows 0 (or_parts (eqb rows 0) (ltb 1000000 rows) (or_parts (is_bad_rows rows) (grows_too_far Grow old rows) h).0).0 in
+    omega (arith, some)
+another Shrink old rows h k e =
+    let some = eqb-false rows 0 (or_parts (eqb rows 0) (ltb 1000000 rows) (or_parts (is_bad_rows rows) (grows_too_far Shrink old rows) h).0).0 in
+    omega (arith, some, leb-false old rows k)
+
+resize_fits : (base : Content) (archive : ℕ) (change : Change) (rows : ℕ) → IsValid base → verdict base (Resizing archive change rows) ≡ None → Fits (moved_listed base (Resizing archive change rows)) (entry base (Resizing archive change rows))
+unfolding content_listed
+resize_fits base archive change rows is h =
+    let command = Resizing archive change rows in
+    let p = accepted_passes base command h in
+    let settings = settings_of base in
+    let old = get_or settings.rows archive 0 in
+    let new = rows_changed change old rows in
+    let after = moved_listed base command in
+    let archives = after.archives in
+    let count : length archives ≡ length base.archives = length-map (enumerate_from 0 base.archives) (archive_of base (events settings command)) ∙ length-enumerate_from 0 base.archives in
+    let there : archive < length settings.rows = leb-false (length settings.rows) archive p.0 in
+    let in_range : archive < length base.archives = omega (arith, length-map base.archives (λ (a : Archive). a.def.rows)) in
+    let was : length (rows_at base.archives archive) ≡ old = length-rows_at archive base.archives (sound base is).is_base.archives_are in
+    let is_now : length (rows_at archives archive) ≡ new
+    = length-rows_at archive archives (listed_sound base command (sound base is) h).is_base.archives_are
+    ∙ ap (λ (s : Settings). get_or s.rows archive 0) (settings_of-content base (events settings command))
+    ∙ changed_there archive new 0 archive settings.rows (omega arith) there in
+    record {
+      there = omega arith;
+      one_cell_each = rows_wide (length base.sources) (rows_at base.archives archive) (rows_at_all (length base.sources) (base.last / base.step) archive base.archives is.archives_are);
+      another = λ e. another change old rows p.1.0 p.1.1.0 (sym was ∙ e ∙ is_now);
+    }
+
+listed_fits : (base : Content) (command : Command) → IsValid base → verdict base command ≡ None → Fits (moved_listed base command) (entry base command)
+listed_fits base (Updating update) is h = update_fits base update is h
+listed_fits base (TuningBy tuning) is h = tune_fits base tuning is h
+listed_fits base (Resizing archive change rows) is h = resize_fits base archive change rows is h
+
+fits : (base : Content) (command : Command) → IsValid base → verdict base command ≡ None → Fits (moved base command) (entry base command)
+fits base command is h = subst (λ now. Fits now (entry base command)) (moved_is base command (sound base is) h) (listed_fits base command is h)
+
+-- ---- the journal
+
+journal_taken : (n : ℕ) (now : Content) (journal : List Entry) → IsValidJournal now journal → IsValidJournal now (take n journal)
+journal_taken zero now journal h = tt
+journal_taken (suc n) now [] h = tt
+journal_taken (suc n) now (old ∷ journal) h = (h.0, h.1, journal_taken n (undone now old) journal h.2)
+
+pub database_stays : (now : Content) (journal : List Entry) (command : Command) → DatabaseStays now journal command
+database_stays now journal command is h =
+    let back = comes_back now command (sound now is.content_is) h in
+    let P : Content → Type 0 = λ c. IsValid c in
+    let J : Content → Type 0 = λ c. IsValidJournal c journal in
+    let whole : IsValidJournal (moved now command) (entry now command ∷ journal) = (fits now command is.content_is h, subst P (sym back) is.content_is, subst J (sym back) is.journal_is) in
+    record {
+      content_is = stays_valid now command is.content_is h;
+      journal_is = journal_taken now.depth (moved now command) (entry now command ∷ journal) whole;
+      few = let same = moved_depth now command in omega (arith, length-take now.depth (entry now command ∷ journal));
+    }
+
+fold_depth : (now : Content) (olds : List Held) → (fold with_held now olds).depth ≡ now.depth
+fold_depth now [] = refl
+fold_depth now (old ∷ olds) = fold_depth (with_held now old) olds
+
+pub undone_depth : (now : Content) (old : Entry) → (undone now old).depth ≡ now.depth
+undone_depth now (Updated old) = refl
+undone_depth now (WasTuned olds) = fold_depth now olds
+undone_depth now (WasResized archive rows) = refl
+
+undo_all : (now : Content) (journal : List Entry) → IsValidJournal now journal → AllUndo now journal
+undo_all now [] h = tt
+undo_all now (old ∷ journal) h = (sound (undone now old) h.1, undone_depth now old, undo_all (undone now old) journal h.2)
+
+pub revert_valid : (now : Content) (journal : List Entry) → IsValidDatabase now journal → let kept = reverted now journal in IsValidDatabase kept.content kept.journal
+revert_valid now [] h = h
+revert_valid now (old ∷ journal) h = record { content_is = h.journal_is.1; journal_is = h.journal_is.2; few = let same = undone_depth now old in omega (arith, h.few) }
+
+pub revert_takes_back : (now : Content) (journal : List Entry) (command : Command) → RevertTakesBack now journal command
+revert_takes_back now journal command is h = places now.depth is.content_is.some_depth where
+  places : (depth : ℕ) → 0 < depth → reverted (moved now command) (take depth (entry now command ∷ journal)) ≡ record { content = now; journal = take (depth - 1) journal }
+  places zero some = absurd (omega arith)
+  places (suc n) some =
+      ap (λ c. let k : Kept = record { content = c; journal = take n journal } in k) (comes_back now command (sound now is.content_is) h)
+      ∙ ap (λ m. let k : Kept = record { content = now; journal = take m journal } in k) {x = n} {y = suc n - 1} (omega arith)
+
+step_valid : (kept : Kept) (action : Action) → IsValidDatabase kept.content kept.journal → let next = step kept action in IsValidDatabase next.content next.journal
+step_valid kept (Changed command) h =
+    cond_both (is_accepted kept.content command) (changed kept command) kept (λ (next : Kept). IsValidDatabase next.content next.journal)
+    (λ e. database_stays kept.content kept.journal command h (is_none-true (verdict kept.content command) e))
+    (λ e. h)
+step_valid kept Reverted h = revert_valid kept.content kept.journal h
+
+run_valid : (actions : List Action) (kept : Kept) → IsValidDatabase kept.content kept.journal → let end = fold step kept actions in IsValidDatabase end.content end.journal
+run_valid [] kept h = h
+run_valid (action ∷ actions) kept h = run_valid actions (step kept action) (step_valid kept action h)
+
+pub runs_stay : (base : Content) (brought : List Entry) (actions : List Action) → RunsStay base brought actions
+runs_stay base brought actions is = record {
+  stands = runs_agree base brought actions (sound base is.content_is) (undo_all base brought is.journal_is) is.few;
+  valid = run_valid actions (record { content = base; journal = brought }) is;
+}

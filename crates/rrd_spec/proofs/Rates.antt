@@ -1,0 +1,95 @@
+-- Rates stay in their bounds.
+use Rattle.std.proofs.Common.{◌≡◌, refl, ap, ℕ, zero, suc, ◌+◌, ◌-◌, ◌<◌, ◌≤◌, cond, List, [], ◌∷◌, length, map, arith, ⊎_elim, ℤ, pos, negsuc, ◌+ℤ◌, ◌-ℤ◌, ◌*ℤ◌, ◌≤ℤ◌, ◌<ℤ◌, unsigned_abs, neg_ℤ, ltb, ◌^◌, Option}
+use Rattle.std.specs.Prelude.{int_lt}
+use Rattle.std.proofs.lemmas.Int.{ints}
+use Rattle.std.proofs.lemmas.Bool.{cond_both, cases_lt, lt-leb, le-leb, ltb-true}
+use Rattle.std.specs.List.{fold, range_with_len, AllByRecursion}
+use Rattle.rrd_fixed.specs.declared.cell.Cell.{Cell}
+use Rattle.rrd_fixed.specs.declared.raw.Raw.{Raw}
+use Rattle.rrd_fixed.specs.declared.kind.Kind.{Kind}
+use Rattle.rrd_fixed.specs.declared.kind.Kind.TheVariants.{Gauge, Counter, Derive, Absolute}
+use Rattle.rrd_fixed.specs.Rate.{top, rise, raised_if_negative, plain_rate, is_under, is_over, cell_within, rate, IsAccepted, IsBounded}
+use Rattle.rrd_fixed.proofs.Nearest.{near_limit}
+use Rattle.rrd_spec.specs.declared.settings.DsDef.{DsDef}
+use Rattle.rrd_spec.specs.History.{Reading, Sampled, Moment, moment_after, rates, samples, second, seconds, IsHistory}
+use Rattle.rrd_spec.specs.Validity.{AreAccepted, IsRow}
+
+-- ---- one source
+
+raised_cases : (by z : ℤ) (P : ℤ → Type 0) → (z <ℤ pos 0 → P (z +ℤ by)) → (pos 0 ≤ℤ z → P z) → P (raised_if_negative by z)
+raised_cases by (pos d) P f g = cond_both (int_lt (pos d) (pos 0)) (pos d +ℤ by) (pos d) P (λ e. absurd (omega (arith, ltb-true d 0 e))) (λ e. g (omega (arith, ints)))
+raised_cases by (negsuc d) P f g = f (omega (arith, ints))
+
+-- a wrap at 2 ^ 32 leaves no more than one at 2 ^ 64 makes up for
+record Raised (z : ℤ) : Type 0 where
+  low : neg_ℤ (pos (2 ^ 64)) <ℤ (z -ℤ pos (2 ^ 32))
+  high : z <ℤ pos (2 ^ 64)
+
+rise_bounded : (old new : ℤ) → pos 0 ≤ℤ old → old <ℤ pos (2 ^ 64) → pos 0 ≤ℤ new → new <ℤ pos (2 ^ 64) → unsigned_abs (rise old new) ≤ 2 ^ 64 - 1
+rise_bounded old new a b c d =
+    let y = raised_if_negative (pos (2 ^ 32)) (new -ℤ old) in
+    let once : Raised y = raised_cases (pos (2 ^ 32)) (new -ℤ old) Raised
+    (λ below. record { low = omega (arith, ints); high = omega (arith, ints) })
+    (λ above. record { low = omega (arith, ints); high = omega (arith, ints) }) in
+    raised_cases (pos (2 ^ 64) -ℤ pos (2 ^ 32)) y (λ x. unsigned_abs x ≤ 2 ^ 64 - 1)
+    (λ below. omega (arith, ints, once.low, once.high))
+    (λ above. omega (arith, ints, once.high))
+
+plain_bounded : (kind : Kind) (old new : Raw) (interval : ℕ) → 0 < interval → IsAccepted kind old → IsAccepted kind new → IsBounded (plain_rate kind old new interval)
+plain_bounded kind old Raw.Unknown interval some a b = tt
+plain_bounded Gauge old (Raw.Known new) interval some a b = omega arith
+plain_bounded Absolute old (Raw.Known new) interval some a b = near_limit new interval top some (omega arith)
+plain_bounded Counter Raw.Unknown (Raw.Known new) interval some a b = tt
+plain_bounded Counter (Raw.Known old) (Raw.Known new) interval some a b =
+    near_limit (rise old new *ℤ pos (10 ^ 6)) interval top some (omega (arith, ints, rise_bounded old new a.0 a.1 b.0 b.1))
+plain_bounded Derive Raw.Unknown (Raw.Known new) interval some a b = tt
+plain_bounded Derive (Raw.Known old) (Raw.Known new) interval some a b =
+    near_limit ((new -ℤ old) *ℤ pos (10 ^ 6)) interval top some (omega (arith, ints, a.0, a.1, b.0, b.1))
+
+within_bounded : (min max : Option ℤ) (cell : Cell) → IsBounded cell → IsBounded (cell_within min max cell)
+within_bounded min max Cell.Unknown h = tt
+within_bounded min max (Cell.Known value) h =
+    cond_both (is_under value min) Cell.Unknown (cond (is_over value max) Cell.Unknown (Cell.Known value)) IsBounded (λ e. tt)
+    (λ e. cond_both (is_over value max) Cell.Unknown (Cell.Known value) IsBounded (λ k. tt) (λ k. h))
+
+pub rate_bounded : (kind : Kind) (old new : Raw) (interval heartbeat : ℕ) (min max : Option ℤ) → 0 < interval → IsAccepted kind old → IsAccepted kind new → IsBounded (rate kind old new interval heartbeat min max)
+rate_bounded kind old new interval heartbeat min max some a b =
+    cond_both (ltb heartbeat interval) Cell.Unknown (cell_within min max (plain_rate kind old new interval)) IsBounded (λ e. tt)
+    (λ e. within_bounded min max (plain_rate kind old new interval) (plain_bounded kind old new interval some a b))
+
+-- ---- all sources
+
+length-rates : (sources : List DsDef) (interval : ℕ) (olds news : List Raw) → AreAccepted sources olds → AreAccepted sources news → length (rates sources interval olds news) ≡ length sources
+length-rates [] interval olds news a b = refl
+length-rates (source ∷ sources) interval [] news a b = absurd a
+length-rates (source ∷ sources) interval (old ∷ olds) [] a b = absurd b
+length-rates (source ∷ sources) interval (old ∷ olds) (new ∷ news) a b = ap suc (length-rates sources interval olds news a.1 b.1)
+
+rates_bounded : (sources : List DsDef) (interval : ℕ) (olds news : List Raw) → 0 < interval → AreAccepted sources olds → AreAccepted sources news → AllByRecursion IsBounded (rates sources interval olds news)
+rates_bounded [] interval olds news some a b = tt
+rates_bounded (source ∷ sources) interval [] news some a b = absurd a
+rates_bounded (source ∷ sources) interval (old ∷ olds) [] some a b = absurd b
+rates_bounded (source ∷ sources) interval (old ∷ olds) (new ∷ news) some a b =
+    (rate_bounded source.kind old new interval source.heartbeat source.min source.max some a.0 b.0, rates_bounded sources interval olds news some a.1 b.1)
+
+second_row : (now : Moment) (list : List Reading) (at : ℕ) → AreAccepted now.sources now.raws → AllByRecursion (λ (sample : Reading). AreAccepted now.sources sample.raws) list → IsHistory now (map Sampled list) → now.last < at → at ≤ (fold moment_after now (map Sampled list)).last → IsRow (length now.sources) (second (samples now (map Sampled list)) at)
+second_row now [] at a is h low high = absurd (omega arith)
+second_row now (sample ∷ list) at a is h low high =
+    let next = moment_after now (Sampled sample) in
+    ⊎_elim
+    (λ (past : sample.time < at). rw (lt-leb at sample.time past) (second_row next list at is.0 is.1 h.1 past high))
+    (λ (reached : at ≤ sample.time). rw (le-leb at sample.time reached) (record {
+      one_each = length-rates now.sources (sample.time - now.last) now.raws sample.raws a is.0;
+      each = rates_bounded now.sources (sample.time - now.last) now.raws sample.raws (omega (arith, h.0)) a is.0;
+    }))
+    (cases_lt sample.time at)
+
+map_range_all : {B : Type 0} (P : B → Type 0) (f : ℕ → B) (a n : ℕ) → ((i : ℕ) → a ≤ i → i < a + n → P (f i)) → AllByRecursion P (map f (range_with_len a n))
+map_range_all P f a zero h = tt
+map_range_all P f a (suc n) h = (h a (omega arith) (omega arith), map_range_all P f (a + 1) n (λ i low high. h i (omega arith) (omega arith)))
+
+pub seconds_rows : (now : Moment) (list : List Reading) → AreAccepted now.sources now.raws → AllByRecursion (λ (sample : Reading). AreAccepted now.sources sample.raws) list → IsHistory now (map Sampled list) → AllByRecursion (IsRow (length now.sources)) (seconds (samples now (map Sampled list)) now.last (fold moment_after now (map Sampled list)).last)
+seconds_rows now list a is h =
+    let end = (fold moment_after now (map Sampled list)).last in
+    map_range_all (IsRow (length now.sources)) (second (samples now (map Sampled list))) (now.last + 1) (end - now.last)
+    (λ i low high. second_row now list i a is h (omega arith) (omega arith))

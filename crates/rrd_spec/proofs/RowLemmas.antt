@@ -1,0 +1,130 @@
+-- An archive's rows after a history in two pieces.
+use Rattle.std.proofs.Common.{◌≡◌, refl, sym, ◌∙◌, ap, ℕ, ◌+◌, ◌-◌, ◌<◌, ◌≤◌, min, cond, List, [], ◌∷◌, ◌++◌, length, take, drop, replicate, arith, length-append, append_assoc, append-nil, take_all, get_or, ltb, ⊎_elim}
+use Rattle.std.proofs.lemmas.Bool.{cases_lt, lt-ltb, le-ltb}
+use Rattle.std.proofs.lemmas.List.{drop-append-le, drop_at, drop-drop, drop-replicate, length-drop, length-replicate, take-append-drop, replicate-append-replicate, take_at, get_or-append_right, get_or-drop, get_or_append_left, get_or-replicate}
+use Rattle.std.specs.List.{fold}
+use Rattle.rrd_spec.specs.History.{Event, Sampled, Tuned, Resized, Moment, moment_after, rows_after, room, keep_last, filled_up, IsHistory}
+use Rattle.rrd_spec.proofs.HistoryLemmas.{last_rises}
+
+-- ---- lists
+
+-- what comes before the last items doesn't count
+pub keep_last_past : {A : Type 0} (n : ℕ) (ps xs : List A) → n ≤ length xs → keep_last n (ps ++ xs) ≡ keep_last n xs
+keep_last_past n ps xs h =
+    let count : length (ps ++ xs) - n ≡ length ps + (length xs - n) = omega (arith, length-append ps xs) in
+    ap (λ m. drop m (ps ++ xs)) count ∙ sym (drop-drop (length xs - n) (length ps) (ps ++ xs)) ∙ ap (drop (length xs - n)) (drop_at ps xs (length ps) refl)
+
+pub keep_all : {A : Type 0} (n : ℕ) (xs : List A) → length xs ≤ n → keep_last n xs ≡ xs
+keep_all n xs h = ap (λ m. drop m xs) {x = length xs - n} {y = 0} (omega arith)
+
+pub length-keep_last : {A : Type 0} (n : ℕ) (xs : List A) → n ≤ length xs → length (keep_last n xs) ≡ n
+length-keep_last n xs h = omega (arith, length-drop (length xs - n) xs)
+
+-- the last items, and what went before them
+pub split_last : {A : Type 0} (n : ℕ) (xs : List A) → take (length xs - n) xs ++ keep_last n xs ≡ xs
+split_last n xs = take-append-drop (length xs - n) xs
+
+-- what is full already stays
+pub filled_already : {A : Type 0} (n : ℕ) (u : A) (xs : List A) → length xs ≡ n → filled_up n u xs ≡ xs
+filled_already n u xs h = ap (λ m. replicate m u ++ xs) {x = n - length xs} {y = 0} (omega arith)
+
+pub length-filled_up : {A : Type 0} (n : ℕ) (u : A) (xs : List A) → length xs ≤ n → length (filled_up n u xs) ≡ n
+length-filled_up n u xs h = omega (arith, length-append (replicate (n - length xs) u) xs, length-replicate (n - length xs) u)
+
+filled_up-replicate : {A : Type 0} (n q : ℕ) (u : A) (xs : List A) → q + length xs ≤ n → filled_up n u (replicate q u ++ xs) ≡ filled_up n u xs
+filled_up-replicate n q u xs h =
+    let count : length (replicate q u ++ xs) ≡ q + length xs = omega (arith, length-append (replicate q u) xs, length-replicate q u) in
+    ap (λ m. replicate (n - m) u ++ (replicate q u ++ xs)) count
+    ∙ sym (append_assoc (replicate (n - (q + length xs)) u) (replicate q u) xs)
+    ∙ ap (λ us. us ++ xs) (replicate-append-replicate (n - (q + length xs)) q u)
+    ∙ ap (λ m. replicate m u ++ xs) {x = n - (q + length xs) + q} {y = n - length xs} (omega arith)
+
+-- to keep the last of what was kept before is to keep the last of all
+pub rows_again : {A : Type 0} (before after then now : ℕ) (u : A) (xs ys : List A) → then ≤ length xs → then ≤ before → now ≤ before + length ys → now ≤ after → filled_up after u (keep_last (min (then + length ys) now) (xs ++ ys)) ≡ filled_up after u (keep_last now (filled_up before u (keep_last then xs) ++ ys))
+rows_again before after then now u xs ys some fits some_now fits_now =
+    let kept = keep_last then xs in
+    let count : length kept ≡ then = length-keep_last then xs some in
+    let pads = replicate (before - length kept) u in
+    let n = length ys in
+    let front = take (length xs - then) xs in
+    let both = kept ++ ys in
+    let count_both : length both ≡ then + n = omega (arith, length-append kept ys) in
+    let whole : xs ++ ys ≡ front ++ both = ap (λ zs. zs ++ ys) (sym (split_last then xs)) ∙ append_assoc front kept ys in
+    let left : keep_last (min (then + n) now) (xs ++ ys) ≡ keep_last (min (then + n) now) both = ap (keep_last (min (then + n) now)) whole ∙ keep_last_past (min (then + n) now) front both (omega arith) in
+    let right : (pads ++ kept) ++ ys ≡ pads ++ both = append_assoc pads kept ys in
+    ⊎_elim
+    (λ (padded : then + n < now).
+    let few : keep_last (min (then + n) now) both ≡ both = ap (λ m. keep_last m both) {x = min (then + n) now} {y = then + n} (omega arith) ∙ keep_all (then + n) both (omega arith) in
+    let cut = length (pads ++ both) - now in
+    let count_pads = length-replicate (before - length kept) u in
+    let count_all = length-append pads both in
+    let more : keep_last now (pads ++ both) ≡ replicate (before - length kept - cut) u ++ both = drop-append-le cut pads both (omega arith) ∙ ap (λ us. us ++ both) (drop-replicate cut (before - length kept) u) in
+    ap (filled_up after u) (left ∙ few) ∙ sym (filled_up-replicate after (before - length kept - cut) u both (omega arith)) ∙ ap (filled_up after u) (sym more ∙ ap (keep_last now) (sym right)))
+    (λ (enough : now ≤ then + n).
+    let same : keep_last (min (then + n) now) both ≡ keep_last now both = ap (λ m. keep_last m both) {x = min (then + n) now} {y = now} (omega arith) in
+    let past : keep_last now (pads ++ both) ≡ keep_last now both = keep_last_past now pads both (omega arith) in
+    ap (filled_up after u) (left ∙ same ∙ sym past ∙ ap (keep_last now) (sym right)))
+    (cases_lt (then + n) now)
+
+-- ---- how many rows have had a place
+
+pub room_first : (index : ℕ) (since : ℕ → ℕ) (rows : ℕ) (now : Moment) (es : List Event) → room index since rows now es ≤ rows + since now.last
+room_first index since rows now [] = omega arith
+room_first index since rows now (e ∷ es) = omega arith
+
+pub room_last : (index : ℕ) (since : ℕ → ℕ) (rows : ℕ) (now : Moment) (es : List Event) → room index since rows now es ≤ fold (rows_after index) rows es + since (fold moment_after now es).last
+room_last index since rows now [] = omega arith
+room_last index since rows now (e ∷ es) = omega (arith, room_last index since (rows_after index rows e) (moment_after now e) es)
+
+pub room-append : (index : ℕ) (first second : ℕ → ℕ) (n rows : ℕ) (now : Moment) (es fs : List Event) → IsHistory now es → ((t : ℕ) → t ≤ (fold moment_after now es).last → second t ≡ first t + n) → room index second rows now (es ++ fs) ≡ min (room index first rows now es + n) (room index second (fold (rows_after index) rows es) (fold moment_after now es) fs)
+room-append index first second n rows now [] fs h e =
+    omega (arith, room_first index second rows now fs, e now.last (omega arith))
+room-append index first second n rows now (Sampled sample ∷ es) fs h e =
+    let next = moment_after now (Sampled sample) in
+    omega (arith, room-append index first second n rows next es fs h.1 e, e now.last (omega (arith, h.0, last_rises next es h.1)))
+room-append index first second n rows now (Tuned sources ∷ es) fs h e =
+    let next = moment_after now (Tuned sources) in
+    omega (arith, room-append index first second n rows next es fs h.1 e, e now.last (last_rises next es h.1))
+room-append index first second n rows now (Resized archive new ∷ es) fs h e =
+    omega (arith, room-append index first second n (rows_after index rows (Resized archive new)) now es fs h.1 e, e now.last (last_rises now es h.1))
+
+-- the rows that were dropped, before those that stayed, are the rows as they were
+pub put_back_rows : {A : Type 0} (old new : List A) (f : ℕ) → length new ≡ f → take (min f (length old)) old ++ take (length old - min f (length old)) (keep_last (length old) (old ++ new)) ≡ old
+put_back_rows old new f e =
+    let r = length old in
+    let m = min f r in
+    let count = length-append old new in
+    ⊎_elim
+    (λ (many : r < f).
+    ap (λ k. take k old ++ take (r - k) (keep_last r (old ++ new))) {x = m} {y = r} (omega arith)
+    ∙ ap (λ zs. zs ++ take (r - r) (keep_last r (old ++ new))) (take_all r old (omega arith))
+    ∙ ap (λ k. old ++ take k (keep_last r (old ++ new))) {x = r - r} {y = 0} (omega arith)
+    ∙ append-nil old)
+    (λ (few : f ≤ r).
+    let cut : length (old ++ new) - r ≡ f = omega arith in
+    ap (λ k. take k old ++ take (r - k) (keep_last r (old ++ new))) {x = m} {y = f} (omega arith)
+    ∙ ap (λ k. take f old ++ take (r - f) (drop k (old ++ new))) cut
+    ∙ ap (λ zs. take f old ++ take (r - f) zs) (drop-append-le f old new few)
+    ∙ ap (λ zs. take f old ++ zs) (take_at (drop f old) new (r - f) (length-drop f old))
+    ∙ take-append-drop f old)
+    (cases_lt r f)
+
+-- a row by its age
+pub row_by_age : {A : Type 0} (rows room age : ℕ) (u : A) (all : List A) → age < rows → room ≤ length all → room ≤ rows → get_or (filled_up rows u (keep_last room all)) (rows - 1 - age) u ≡ cond (ltb age room) (get_or all (length all - 1 - age) u) u
+row_by_age rows room age u all h k m =
+    let kept = keep_last room all in
+    let count = length-keep_last room all k in
+    let pads = replicate (rows - length kept) u in
+    let count_pads = length-replicate (rows - length kept) u in
+    ⊎_elim
+    (λ (young : age < room).
+    get_or-append_right pads kept (length pads) (rows - 1 - age) u refl (omega arith)
+    ∙ ap (λ i. get_or kept i u) {x = rows - 1 - age - length pads} {y = room - 1 - age} (omega arith)
+    ∙ get_or-drop (length all - room) all (room - 1 - age) u
+    ∙ ap (λ i. get_or all i u) {x = length all - room + (room - 1 - age)} {y = length all - 1 - age} (omega arith)
+    ∙ sym (ap (λ b. cond b (get_or all (length all - 1 - age) u) u) (lt-ltb age room young)))
+    (λ (old : room ≤ age).
+    get_or_append_left pads kept u (rows - 1 - age) (omega arith)
+    ∙ get_or-replicate (rows - length kept) (rows - 1 - age) u u (omega arith)
+    ∙ sym (ap (λ b. cond b (get_or all (length all - 1 - age) u) u) (le-ltb age room old)))
+    (cases_lt age room)

@@ -1,0 +1,40 @@
+-- An update: samples alone.
+use Rattle.std.proofs.Common.{◌≡◌, refl, sym, ◌∙◌, ap, ℕ, ◌-◌, ◌*◌, ◌/◌, min, List, [], ◌∷◌, ◌++◌, length, take, map, replicate, arith, length-append}
+use Rattle.std.specs.List.{fold}
+use Rattle.rrd_fixed.specs.declared.cell.Cell.{Cell}
+use Rattle.rrd_spec.specs.History.{Archive, Content, Reading, Sampled, Moment, moment_after, moment_of, moment_at_end, rows_of, rows_after, room, keep_last, filled_up, kept_rows, IsArchive}
+use Rattle.rrd_spec.proofs.RowLemmas.{length-keep_last, put_back_rows}
+
+room_of_samples : (index : ℕ) (since : ℕ → ℕ) (rows : ℕ) (now : Moment) (samples : List Reading) → since (fold moment_after now (map Sampled samples)).last ≡ 0 → room index since rows now (map Sampled samples) ≡ rows
+room_of_samples index since rows now [] h = omega arith
+room_of_samples index since rows now (sample ∷ samples) h = omega (arith, room_of_samples index since rows (moment_after now (Sampled sample)) samples h)
+
+pub rows_of_samples : (index rows : ℕ) (samples : List Reading) → fold (rows_after index) rows (map Sampled samples) ≡ rows
+rows_of_samples index rows [] = refl
+rows_of_samples index rows (sample ∷ samples) = rows_of_samples index rows samples
+
+-- the rows after an update: the newest of the rows before it and of those that it finished
+pub kept_rows_of_samples : (base : Content) (index : ℕ) (archive : Archive) (samples : List Reading) → IsArchive archive → kept_rows base index archive (map Sampled samples) ≡ keep_last (length archive.rows) (archive.rows ++ rows_of base archive (map Sampled samples))
+unfolding kept_rows
+kept_rows_of_samples base index archive samples is =
+    let es = map Sampled samples in
+    let res = base.step * archive.def.steps in
+    let end = (moment_at_end base es).last in
+    let since = λ (time : ℕ). end / res - time / res in
+    let all = archive.rows ++ rows_of base archive es in
+    let nan = replicate (length base.sources) Cell.Unknown in
+    let count = length-append archive.rows (rows_of base archive es) in
+    let rows : fold (rows_after index) archive.def.rows es ≡ length archive.rows = rows_of_samples index archive.def.rows samples ∙ sym is.rows_are in
+    let places : room index since archive.def.rows (moment_of base) es ≡ length archive.rows = room_of_samples index since archive.def.rows (moment_of base) samples (omega arith) ∙ sym is.rows_are in
+    let kept = keep_last (length archive.rows) all in
+    ap (λ n. filled_up n nan (keep_last (room index since archive.def.rows (moment_of base) es) all)) rows
+    ∙ ap (λ n. filled_up (length archive.rows) nan (keep_last n all)) places
+    ∙ ap (λ n. replicate n nan ++ kept) {x = length archive.rows - length kept} {y = 0} (omega (arith, length-keep_last (length archive.rows) all (omega arith)))
+
+-- and what gives them back: the oldest rows from before it, as many as it finished, then the rows that it left
+pub update_undone : (base : Content) (index : ℕ) (archive : Archive) (samples : List Reading) → IsArchive archive → let f = length (rows_of base archive (map Sampled samples)) in let r = length archive.rows in take (min f r) archive.rows ++ take (r - min f r) (kept_rows base index archive (map Sampled samples)) ≡ archive.rows
+update_undone base index archive samples is =
+    let new = rows_of base archive (map Sampled samples) in
+    let f = length new in
+    let r = length archive.rows in
+    ap (λ rows. take (min f r) archive.rows ++ take (r - min f r) rows) (kept_rows_of_samples base index archive samples is) ∙ put_back_rows archive.rows new f refl

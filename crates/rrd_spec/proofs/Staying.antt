@@ -1,0 +1,279 @@
+-- An accepted command moves a valid content to a valid one.
+use Rattle.std.proofs.Common.{◌≡◌, refl, sym, ◌∙◌, ap, subst, ℕ, zero, suc, ◌+◌, ◌-◌, ◌*◌, ◌/◌, ◌%◌, ◌<◌, ◌≤◌, ◌^◌, true, false, cond, not, ◌&&◌, ◌||◌, ltb, eqb, List, [], ◌∷◌, length, map, get_or, arith, ℤ, pos, neg_ℤ, ◌≤ℤ◌, unsigned_abs, Option, Some, None}
+use Rattle.std.specs.Prelude.{int_le, sum}
+use lib.Signed.{le_z_yes}
+use lib.Dec.{T}
+use Rattle.std.proofs.lemmas.Int.{ints}
+use Rattle.std.proofs.lemmas.Bool.{cond_both, ltb-true, ltb-false, or_parts, not-false}
+use Rattle.std.proofs.lemmas.List.{length-map}
+use Rattle.std.proofs.lemmas.List.FromFn.{length-enumerate_from}
+use Rattle.std.specs.List.{fold, enumerate_from, list_any, AllByRecursion}
+use Rattle.std.specs.Option.{option_map_or, unwrap_or}
+use Rattle.rrd_fixed.specs.declared.raw.Raw.{Raw}
+use Rattle.rrd_fixed.specs.declared.kind.Kind.{Kind}
+use Rattle.rrd_fixed.specs.declared.kind.Kind.TheVariants.{Gauge, Counter, Derive, Absolute}
+use Rattle.rrd_fixed.specs.Rate.{IsAccepted}
+use Rattle.rrd_fixed.specs.declared.name.Name.{Name}
+use Rattle.rrd_spec.specs.declared.settings.DsDef.{DsDef}
+use Rattle.rrd_spec.specs.History.{Archive, Content, Reading, Event, Sampled, Tuned, Moment, moment_after, moment_of, moment_at_end, same_kind, raws_under, rows_after, seconds_of, archive_of, content_listed, IsHistory}
+use Rattle.rrd_spec.proofs.HistoryLemmas.{length-sources}
+use Rattle.rrd_spec.proofs.SampleLemmas.{rows_of_samples}
+use Rattle.rrd_spec.specs.Commands.{Asked, Command, Updating, TuningBy, Resizing, settings_of, settings_after, rows_of_archives, raw_of, value_for, sample_of, samples_of, names, asked, tuned, rows_changed, events, moved_listed}
+use Rattle.rrd_spec.specs.Verdict.{is_bad_heartbeat, is_bad_rows, has_bad_bounds, has_source, is_double, grows_too_far, sample_checks, cells, verdict}
+use Rattle.rrd_spec.proofs.Accepted.{Passes, accepted_passes, accepted_history}
+use Rattle.rrd_spec.proofs.Moving.{moved_is, settings_of-content}
+use Rattle.rrd_spec.proofs.Quiet.{seconds_none}
+use Rattle.rrd_spec.specs.Entries.{IsSound}
+use Rattle.rrd_spec.specs.Validity.{IsSource, AreAccepted, AreParts, IsRow, IsValidArchive, IsValid, StaysValid}
+use Rattle.rrd_spec.proofs.Rates.{seconds_rows}
+use Rattle.rrd_spec.proofs.Held.{LeavesGoodRows, are_archives, parts_valid, archives_valid}
+use Rattle.rrd_spec.proofs.NameLemmas.{names_differ, names_tuned}
+use Rattle.rrd_fixed.specs.Rounding.{floor_of}
+use Rattle.rrd_spec.specs.declared.update.Given.{Given}
+use Rattle.rrd_spec.specs.declared.update.Sample.{Sample}
+use Rattle.rrd_spec.specs.declared.update.Update.{Update}
+use Rattle.rrd_spec.specs.declared.tune.Tuning.{Tuning}
+use Rattle.rrd_spec.specs.declared.resize.Change.{Change}
+use Rattle.rrd_spec.specs.declared.resize.Change.TheVariants.{Grow, Shrink}
+use Rattle.rrd_fixed.specs.Admitted.{in_range, is_whole}
+use Rattle.rrd_fixed.specs.Names.{same_name, is_good}
+
+-- ---- raw values
+
+in_order : (a b : ℤ) → int_le a b ≡ true → a ≤ℤ b
+in_order a b e = le_z_yes (subst T (sym e) tt)
+
+admitted_range : (kind : Kind) (low high value : ℤ) → ((z : ℤ) → low ≤ℤ z → z ≤ℤ high → IsAccepted kind (Raw.Known z)) → IsAccepted kind (option_map_or Raw.Known (in_range low high value) Raw.Unknown)
+admitted_range kind low high value h =
+    cond_both (int_le low value) (cond (int_le value high) (Some value) None) None (λ o. IsAccepted kind (option_map_or Raw.Known o Raw.Unknown))
+    (λ a. cond_both (int_le value high) (Some value) None (λ o. IsAccepted kind (option_map_or Raw.Known o Raw.Unknown)) (λ b. h value (in_order low value a) (in_order value high b)) (λ b. tt))
+    (λ a. tt)
+
+raw_accepted : (kind : Kind) (given : Given) → IsAccepted kind (raw_of kind given)
+raw_accepted kind Given.Unknown = tt
+raw_accepted Gauge (Given.Number number) = cond_both (ltb (unsigned_abs number.millionths) (10 ^ 24)) (Some number.millionths) None (λ o. IsAccepted Gauge (option_map_or Raw.Known o Raw.Unknown)) (λ e. ltb-true _ _ e) (λ e. tt)
+raw_accepted Absolute (Given.Number number) = cond_both (ltb (unsigned_abs number.millionths) (10 ^ 24)) (Some number.millionths) None (λ o. IsAccepted Absolute (option_map_or Raw.Known o Raw.Unknown)) (λ e. ltb-true _ _ e) (λ e. tt)
+raw_accepted Counter (Given.Number number) =
+    let value = floor_of number.millionths (pos (10 ^ 6)) in
+    cond_both (not number.point && is_whole number.millionths) (in_range (pos 0) (pos (2 ^ 64 - 1)) value) None (λ o. IsAccepted Counter (option_map_or Raw.Known o Raw.Unknown))
+    (λ e. admitted_range Counter (pos 0) (pos (2 ^ 64 - 1)) value (λ z a b. (a, omega (arith, ints)))) (λ e. tt)
+raw_accepted Derive (Given.Number number) =
+    let value = floor_of number.millionths (pos (10 ^ 6)) in
+    cond_both (not number.point && is_whole number.millionths) (in_range (neg_ℤ (pos (2 ^ 63))) (pos (2 ^ 63 - 1)) value) None (λ o. IsAccepted Derive (option_map_or Raw.Known o Raw.Unknown))
+    (λ e. admitted_range Derive (neg_ℤ (pos (2 ^ 63))) (pos (2 ^ 63 - 1)) value (λ z a b. (a, omega (arith, ints)))) (λ e. tt)
+
+pub raws_accepted : (f : DsDef → Given) (sources : List DsDef) → AreAccepted sources (map (λ (source : DsDef). raw_of source.kind (f source)) sources)
+raws_accepted f [] = tt
+raws_accepted f (source ∷ sources) = (raw_accepted source.kind (f source), raws_accepted f sources)
+
+kind_is : (a b : Kind) (raw : Raw) → same_kind a b ≡ true → IsAccepted a raw → IsAccepted b raw
+kind_is Gauge Gauge raw e h = h
+kind_is Counter Counter raw e h = h
+kind_is Derive Derive raw e h = h
+kind_is Absolute Absolute raw e h = h
+kind_is Gauge Counter raw e h = absurd cc
+kind_is Gauge Derive raw e h = absurd cc
+kind_is Gauge Absolute raw e h = absurd cc
+kind_is Counter Gauge raw e h = absurd cc
+kind_is Counter Derive raw e h = absurd cc
+kind_is Counter Absolute raw e h = absurd cc
+kind_is Derive Gauge raw e h = absurd cc
+kind_is Derive Counter raw e h = absurd cc
+kind_is Derive Absolute raw e h = absurd cc
+kind_is Absolute Gauge raw e h = absurd cc
+kind_is Absolute Counter raw e h = absurd cc
+kind_is Absolute Derive raw e h = absurd cc
+
+raws_tuned : (f : DsDef → DsDef) (sources : List DsDef) (raws : List Raw) → AreAccepted sources raws → AreAccepted (map f sources) (raws_under sources (map f sources) raws)
+raws_tuned f [] [] h = tt
+raws_tuned f [] (raw ∷ raws) h = absurd h
+raws_tuned f (source ∷ sources) [] h = absurd h
+raws_tuned f (source ∷ sources) (raw ∷ raws) h =
+    (cond_both (same_kind source.kind (f source).kind) raw Raw.Unknown (IsAccepted (f source).kind) (λ e. kind_is source.kind (f source).kind raw e h.0) (λ e. tt), raws_tuned f sources raws h.1)
+
+-- ---- the numbers of rows
+
+same_rows : (base : Content) (es : List Event) (first : ℕ) (archives : List Archive) → ((index rows : ℕ) → fold (rows_after index) rows es ≡ rows) → rows_of_archives (map (archive_of base es) (enumerate_from first archives)) ≡ rows_of_archives archives
+same_rows base es first [] h = refl
+same_rows base es first (archive ∷ archives) h = let one = h first archive.def.rows in let rest = same_rows base es (first + 1) archives h in cc
+
+-- ---- what the events must leave, beside preparations and rows
+
+record Leaves (base : Content) (es : List Event) : Type 0 where
+  history : IsHistory (moment_of base) es
+  good_time : (moment_at_end base es).last ≤ 9999999999
+  sources_are : AllByRecursion IsSource (moment_at_end base es).sources
+  names_differ : is_double (names (moment_at_end base es).sources) ≡ false
+  raws_are : AreAccepted (moment_at_end base es).sources (moment_at_end base es).raws
+  seconds_are : AllByRecursion (IsRow (length base.sources)) (seconds_of base es)
+  good_rows : LeavesGoodRows es
+  few_cells : length (moment_at_end base es).sources * sum (rows_of_archives (map (archive_of base es) (enumerate_from 0 base.archives))) ≤ 4000000
+
+left_valid : (base : Content) (es : List Event) → IsValid base → Leaves base es → IsValid (content_listed base es)
+unfolding content_listed
+left_valid base es is left =
+    let end = moment_at_end base es in
+    let as_many : length end.sources ≡ length base.sources = length-sources (moment_of base) es left.history in
+    let count : length (map (archive_of base es) (enumerate_from 0 base.archives)) ≡ length base.archives = length-map (enumerate_from 0 base.archives) (archive_of base es) ∙ length-enumerate_from 0 base.archives in
+    let AP : ℕ → Type 0 = λ n. AllByRecursion (IsValidArchive n (end.last / base.step)) (map (archive_of base es) (enumerate_from 0 base.archives)) in
+    let PP : ℕ → Type 0 = λ n. AreParts Rattle.rrd_fold.specs.declared.function.Function.TheVariants.Average n (end.last % base.step) (content_listed base es).parts in
+    record {
+      some_step = is.some_step;
+      small_step = is.small_step;
+      good_time = left.good_time;
+      some_depth = is.some_depth;
+      small_depth = is.small_depth;
+      some_source = omega (arith, is.some_source);
+      few_sources = omega (arith, is.few_sources);
+      some_archive = omega (arith, is.some_archive);
+      few_archives = omega (arith, is.few_archives);
+      few_cells = left.few_cells;
+      sources_are = left.sources_are;
+      names_differ = left.names_differ;
+      raws_are = left.raws_are;
+      parts_are = subst PP (sym as_many) (parts_valid base es is left.history left.seconds_are);
+      archives_are = subst AP (sym as_many) (archives_valid base es 0 base.archives is left.history left.good_rows left.seconds_are is.archives_are);
+    }
+
+below : (n : ℕ) (m : ℕ) → m ≡ n → n ≤ 4000000 → m ≤ 4000000
+below n m e h = omega arith
+
+-- ---- an update
+
+samples_accepted : (sources : List DsDef) (template : List Name) (readings : List Sample) → AllByRecursion (λ (sample : Reading). AreAccepted sources sample.raws) (map (sample_of sources template) readings)
+samples_accepted sources template [] = tt
+samples_accepted sources template (reading ∷ readings) = (raws_accepted (value_for template reading.values) sources, samples_accepted sources template readings)
+
+end_sources : (now : Moment) (list : List Reading) → (fold moment_after now (map Sampled list)).sources ≡ now.sources
+end_sources now [] = refl
+end_sources now (sample ∷ list) = end_sources (moment_after now (Sampled sample)) list
+
+end_raws : (now : Moment) (list : List Reading) → AreAccepted now.sources now.raws → AllByRecursion (λ (sample : Reading). AreAccepted now.sources sample.raws) list → AreAccepted (fold moment_after now (map Sampled list)).sources (fold moment_after now (map Sampled list)).raws
+end_raws now [] a is = a
+end_raws now (sample ∷ list) a is = end_raws (moment_after now (Sampled sample)) list is.0 is.1
+
+end_time : (sources : List DsDef) (template : List Name) (now : Moment) (readings : List Sample) → AllByRecursion Passes (sample_checks sources template now.last readings) → now.last ≤ 9999999999 → (fold moment_after now (map Sampled (map (sample_of sources template) readings))).last ≤ 9999999999
+end_time sources template now [] p h = h
+end_time sources template now (reading ∷ readings) p h =
+    end_time sources template (moment_after now (Sampled (sample_of sources template reading))) readings p.1.1.1.1 (ltb-false 9999999999 reading.time p.0)
+
+update_leaves : (base : Content) (update : Update) → IsValid base → verdict base (Updating update) ≡ None → Leaves base (events (settings_of base) (Updating update))
+unfolding seconds_of
+update_leaves base update is h =
+    let template = unwrap_or update.template (names base.sources) in
+    let list = samples_of base.sources update in
+    let es = map Sampled list in
+    let p = accepted_passes base (Updating update) h in
+    let history = accepted_history base (Updating update) h in
+    let accepted = samples_accepted base.sources template update.samples in
+    let same = end_sources (moment_of base) list in
+    let SP : List DsDef → Type 0 = λ sources. AllByRecursion IsSource sources in
+    record {
+      history = history;
+      good_time = end_time base.sources template (moment_of base) update.samples p.1.1.1 is.good_time;
+      sources_are = subst SP (sym same) is.sources_are;
+      names_differ = ap (λ sources. is_double (names sources)) same ∙ is.names_differ;
+      raws_are = end_raws (moment_of base) list is.raws_are accepted;
+      seconds_are = seconds_rows (moment_of base) list is.raws_are accepted history;
+      good_rows = λ index rows some few. rw (rows_of_samples index rows list) (some, few);
+      few_cells = below (cells (settings_of base)) _ (ap (λ sources. length sources * sum (rows_of_archives (map (archive_of base es) (enumerate_from 0 base.archives)))) same ∙ ap (λ rows. length base.sources * sum rows) (same_rows base es 0 base.archives (λ index rows. rows_of_samples index rows list))) is.few_cells;
+    }
+
+-- ---- a tune
+
+good_name : (rename : Option (Asked Name)) (name : Name) → option_map_or (λ (option : Asked Name). not (is_good option.1)) rename false ≡ false → is_good name ≡ true → is_good (asked rename name name) ≡ true
+good_name None name k h = h
+good_name (Some option) name k h = cond_both (same_name option.0 name) option.1 name (λ n. is_good n ≡ true) (λ e. not-false (is_good option.1) k) (λ e. h)
+
+good_heartbeat : (heartbeat : Option (Asked ℕ)) (name : Name) (old : ℕ) → option_map_or (λ (option : Asked ℕ). is_bad_heartbeat option.1) heartbeat false ≡ false → is_bad_heartbeat old ≡ false → is_bad_heartbeat (asked heartbeat name old) ≡ false
+good_heartbeat None name old k h = h
+good_heartbeat (Some option) name old k h = cond_both (same_name option.0 name) option.1 old (λ n. is_bad_heartbeat n ≡ false) (λ e. k) (λ e. h)
+
+tuned_sources : (tuning : Tuning) (sources : List DsDef) → option_map_or (λ (option : Asked Name). not (is_good option.1)) tuning.rename false ≡ false → option_map_or (λ (option : Asked ℕ). is_bad_heartbeat option.1) tuning.heartbeat false ≡ false → list_any (λ (source : DsDef). has_bad_bounds (tuned tuning source)) sources ≡ false → AllByRecursion IsSource sources → AllByRecursion IsSource (map (tuned tuning) sources)
+tuned_sources tuning [] a b c is = tt
+tuned_sources tuning (source ∷ sources) a b c is =
+    let d = or_parts (has_bad_bounds (tuned tuning source)) (list_any (λ (source : DsDef). has_bad_bounds (tuned tuning source)) sources) c in (
+      record {
+        good_name = good_name tuning.rename source.name a is.0.good_name;
+        good_heartbeat = good_heartbeat tuning.heartbeat source.name source.heartbeat b is.0.good_heartbeat;
+        good_bounds = d.0;
+      },
+      tuned_sources tuning sources a b d.1 is.1,
+    )
+
+tune_leaves : (base : Content) (tuning : Tuning) → IsValid base → verdict base (TuningBy tuning) ≡ None → Leaves base (events (settings_of base) (TuningBy tuning))
+tune_leaves base tuning is h =
+    let news = map (tuned tuning) base.sources in
+    let es = Tuned news ∷ [] in
+    let p = accepted_passes base (TuningBy tuning) h in
+    let f = λ (option : Asked Name). not (same_name option.0 option.1) && has_source base.sources option.1 in
+    let free = λ (option : Asked Name) (e : tuning.rename ≡ Some option). sym (ap (λ r. option_map_or f r false) e) ∙ p.1.1.1.0 in
+    let SP : List (List _) → Type 0 = λ rows. AllByRecursion (IsRow (length base.sources)) rows in
+    record {
+      history = accepted_history base (TuningBy tuning) h;
+      good_time = is.good_time;
+      sources_are = tuned_sources tuning base.sources p.1.1.0 p.1.1.1.1.0 p.1.1.1.1.1.0 is.sources_are;
+      names_differ = ap is_double (names_tuned tuning base.sources) ∙ names_differ tuning.rename base.sources is.names_differ free;
+      raws_are = raws_tuned (tuned tuning) base.sources base.raws is.raws_are;
+      seconds_are = subst SP (sym (seconds_none base es refl)) tt;
+      good_rows = λ index rows some few. (some, few);
+      few_cells = below (cells (settings_of base)) _ (ap (λ n. n * sum (rows_of_archives (map (archive_of base es) (enumerate_from 0 base.archives)))) (length-map base.sources (tuned tuning)) ∙ ap (λ rows. length base.sources * sum rows) (same_rows base es 0 base.archives (λ index rows. refl))) is.few_cells;
+    }
+
+-- ---- a resize
+
+few_rows_at : (sources steps index : ℕ) (archives : List Archive) → AllByRecursion (IsValidArchive sources steps) archives → get_or (rows_of_archives archives) index 0 ≤ 1000000
+few_rows_at sources steps index [] is = omega arith
+few_rows_at sources steps zero (archive ∷ archives) is = is.0.few_rows
+few_rows_at sources steps (suc index) (archive ∷ archives) is = few_rows_at sources steps index archives is.1
+
+pub few_changed : (change : Change) (old rows : ℕ) → old ≤ 1000000 → (is_bad_rows rows || grows_too_far change old rows) ≡ false → rows_changed change old rows ≤ 1000000
+few_changed Grow old rows h k = ltb-false 1000000 (old + rows) (or_parts (is_bad_rows rows) (grows_too_far Grow old rows) k).1
+few_changed Shrink old rows h k = omega arith
+
+resize_leaves : (base : Content) (archive : ℕ) (change : Change) (rows : ℕ) → IsValid base → verdict base (Resizing archive change rows) ≡ None → Leaves base (events (settings_of base) (Resizing archive change rows))
+unfolding content_listed
+resize_leaves base archive change rows is h =
+    let command = Resizing archive change rows in
+    let settings = settings_of base in
+    let old = get_or settings.rows archive 0 in
+    let new = rows_changed change old rows in
+    let es = events settings command in
+    let p = accepted_passes base command h in
+    let history = accepted_history base command h in
+    let few_new = few_changed change old rows (few_rows_at (length base.sources) (base.last / base.step) archive base.archives is.archives_are) p.1.0 in
+    let SP : List (List _) → Type 0 = λ rows. AllByRecursion (IsRow (length base.sources)) rows in
+    record {
+      history = history;
+      good_time = is.good_time;
+      sources_are = is.sources_are;
+      names_differ = is.names_differ;
+      raws_are = is.raws_are;
+      seconds_are = subst SP (sym (seconds_none base es refl)) tt;
+      good_rows = λ index there some few. cond_both (eqb archive index) new there (λ n. (0 < n) × (n ≤ 1000000)) (λ e. (history.0, few_new)) (λ e. (some, few));
+      few_cells = below (cells (fold settings_after settings es)) _ (ap cells (settings_of-content base es)) (ltb-false 4000000 (cells (fold settings_after settings es)) p.1.1.1.0);
+    }
+
+-- ---- what is valid is sound
+
+pub length-accepted : (sources : List DsDef) (raws : List Raw) → AreAccepted sources raws → length raws ≡ length sources
+length-accepted [] [] h = refl
+length-accepted [] (raw ∷ raws) h = absurd h
+length-accepted (source ∷ sources) [] h = absurd h
+length-accepted (source ∷ sources) (raw ∷ raws) h = ap suc (length-accepted sources raws h.1)
+
+pub sound : (base : Content) → IsValid base → IsSound base
+sound base is = record {
+  is_base = record { some_step = is.some_step; archives_are = are_archives (length base.sources) (base.last / base.step) base.archives is.archives_are };
+  one_raw_each = length-accepted base.sources base.raws is.raws_are;
+}
+
+-- ---- what is valid stays so
+
+pub listed_valid : (base : Content) (command : Command) → IsValid base → verdict base command ≡ None → IsValid (moved_listed base command)
+listed_valid base (Updating update) is h = left_valid base (events (settings_of base) (Updating update)) is (update_leaves base update is h)
+listed_valid base (TuningBy tuning) is h = left_valid base (events (settings_of base) (TuningBy tuning)) is (tune_leaves base tuning is h)
+listed_valid base (Resizing archive change rows) is h = left_valid base (events (settings_of base) (Resizing archive change rows)) is (resize_leaves base archive change rows is h)
+
+pub stays_valid : (base : Content) (command : Command) → StaysValid base command
+stays_valid base command is h = subst IsValid (moved_is base command (sound base is) h) (listed_valid base command is h)

@@ -1,0 +1,180 @@
+-- What undoes a command.
+use Rattle.std.proofs.Common.{◌≡◌, refl, sym, ◌∙◌, ap, ℕ, zero, suc, ◌+◌, ◌-◌, ◌<◌, min, true, false, cond, List, [], ◌∷◌, ◌++◌, length, map, take, set, Option, Some, None, arith, append_assoc, ⊎_elim, ℤ, slice_index_or}
+use Rattle.std.proofs.lemmas.Bool.{or_parts, cases_Bool, leb-false}
+use Rattle.std.proofs.lemmas.List.{set_at, length_push, length-take, length-map}
+use Rattle.std.specs.List.{fold, enumerate_from, AllByRecursion}
+use Rattle.rrd_fixed.specs.declared.raw.Raw.{Raw}
+use Rattle.rrd_fixed.specs.declared.kind.Kind.{Kind}
+use Rattle.rrd_fixed.specs.declared.kind.Kind.TheVariants.{Gauge, Counter, Derive, Absolute}
+use Rattle.rrd_fixed.specs.declared.name.Name.{Name}
+use Rattle.rrd_spec.specs.declared.settings.DsDef.{DsDef}
+use Rattle.rrd_spec.specs.History.{Archive, Content, Reading, Sampled, Resized, Moment, moment_after, moment_of, moment_at_end, same_kind, raws_under, rows_of, row_parts_of, rows_after, kept_rows, archive_of, content_listed, IsHistory, IsArchive}
+use Rattle.rrd_spec.proofs.ContentLemmas.{length-rows_of, length-kept_rows}
+use Rattle.rrd_spec.proofs.SampleLemmas.{rows_of_samples, update_undone}
+use Rattle.rrd_spec.specs.Commands.{Asked, Command, Updating, TuningBy, Resizing, settings_of, samples_of, asked, tuned, rows_changed, moved_listed}
+use Rattle.rrd_spec.specs.Verdict.{verdict}
+use Rattle.rrd_spec.specs.Entries.{Held, WasResized, rows_between, dropped, is_asked, is_named, held, rows_at, put_back, put_back_each, with_held, with_rows_at, entry, undone, IsSound, ComesBack}
+use Rattle.rrd_spec.proofs.Accepted.{accepted_passes, accepted_history}
+use Rattle.rrd_spec.proofs.Moving.{moved_is}
+use Rattle.rrd_spec.proofs.Quiet.{made, with_all, content_tuned, resized_other, resized_elsewhere, content_resized, row_parts_same}
+use Rattle.rrd_spec.specs.declared.tune.Tuning.{Tuning}
+use Rattle.rrd_spec.specs.declared.update.Update.{Update}
+use Rattle.rrd_spec.specs.declared.resize.Change.{Change}
+
+-- ---- an update
+
+same_sources : (now : Moment) (samples : List Reading) → (fold moment_after now (map Sampled samples)).sources ≡ now.sources
+same_sources now [] = refl
+same_sources now (sample ∷ samples) = same_sources (moment_after now (Sampled sample)) samples
+
+archive_back : (base : Content) (index : ℕ) (archive : Archive) (samples : List Reading) → 0 < base.step → IsArchive archive → IsHistory (moment_of base) (map Sampled samples) → put_back (archive_of base (map Sampled samples) (index, archive)) (dropped base.step base.last (moment_at_end base (map Sampled samples)).last archive) ≡ archive
+unfolding made
+archive_back base index archive samples some is h =
+    let es = map Sampled samples in
+    let end = (moment_at_end base es).last in
+    let new = rows_of base archive es in
+    let f = rows_between base.step archive.def base.last end in
+    let r = length archive.rows in
+    let kept = kept_rows base index archive es in
+    let m = min f r in
+    let old = take m archive.rows in
+    let finished : f ≡ length new = let e = length-rows_of base archive es some is.some_steps h in omega arith in
+    let defs : fold (rows_after index) archive.def.rows es ≡ archive.def.rows = rows_of_samples index archive.def.rows samples in
+    let count : length kept ≡ r = length-kept_rows base index archive es some is h ∙ defs ∙ sym is.rows_are in
+    let few : length old ≡ m = let e = length-take m archive.rows in omega arith in
+    let rows : old ++ take (length kept - length old) kept ≡ archive.rows
+    = ap (λ n. old ++ take n kept) {x = length kept - length old} {y = r - m} (omega arith)
+    ∙ ap (λ n. take (min n r) archive.rows ++ take (r - min n r) kept) finished
+    ∙ update_undone base index archive samples is in
+    ap (λ n. made archive n archive.parts (old ++ take (length kept - length old) kept)) defs ∙ ap (made archive archive.def.rows archive.parts) rows
+
+archives_back : (base : Content) (index : ℕ) (archives : List Archive) (samples : List Reading) → 0 < base.step → AllByRecursion IsArchive archives → IsHistory (moment_of base) (map Sampled samples) → put_back_each (map (archive_of base (map Sampled samples)) (enumerate_from index archives)) (map (dropped base.step base.last (moment_at_end base (map Sampled samples)).last) archives) ≡ archives
+archives_back base index [] samples some is h = refl
+archives_back base index (archive ∷ archives) samples some is h =
+    let one = archive_back base index archive samples some is.0 h in
+    let rest = archives_back base (index + 1) archives samples some is.1 h in
+    cc
+
+-- an accepted command is undone by its entry, where the content is said by list
+abbrev ListedBack : Content → Command → Type 0
+ListedBack base command = IsSound base → verdict base command ≡ None → undone (moved_listed base command) (entry base command) ≡ base
+
+update_back : (base : Content) (update : Update) → ListedBack base (Updating update)
+unfolding content_listed with_all
+update_back base update sound h =
+    let samples = samples_of base.sources update in
+    let archives = put_back_each (map (archive_of base (map Sampled samples)) (enumerate_from 0 base.archives)) (map (dropped base.step base.last (moment_at_end base (map Sampled samples)).last) base.archives) in
+    ap (λ sources. with_all base sources base.last base.raws base.parts archives) (same_sources (moment_of base) samples)
+    ∙ ap (with_all base base.sources base.last base.raws base.parts) (archives_back base 0 base.archives samples sound.is_base.some_step sound.is_base.archives_are (accepted_history base (Updating update) h))
+
+-- ---- a tune
+
+source_with : Name → Kind → ℕ → Option ℤ → Option ℤ → DsDef
+source_with name kind heartbeat min max = record { name = name; kind = kind; heartbeat = heartbeat; min = min; max = max }
+
+not_asked : {A : Type 0} (option : Option (Asked A)) (source : DsDef) (old : A) → is_asked option source ≡ false → asked option source.name old ≡ old
+not_asked None source old h = refl
+not_asked (Some option) source old h = ap (λ b. cond b option.1 old) h
+
+not_named : (tuning : Tuning) (source : DsDef) → is_named tuning source ≡ false → tuned tuning source ≡ source
+unfolding source_with
+not_named tuning source h =
+    let e = or_parts _ (is_asked tuning.rename source) h in
+    let d = or_parts _ (is_asked tuning.kind source) e.0 in
+    let c = or_parts _ (is_asked tuning.maximum source) d.0 in
+    let b = or_parts (is_asked tuning.heartbeat source) (is_asked tuning.minimum source) c.0 in
+    let t = tuned tuning source in
+    ap (λ x. source_with x t.kind t.heartbeat t.min t.max) (not_asked tuning.rename source source.name e.1)
+    ∙ ap (λ x. source_with source.name x t.heartbeat t.min t.max) (not_asked tuning.kind source source.kind d.1)
+    ∙ ap (λ x. source_with source.name source.kind x t.min t.max) (not_asked tuning.heartbeat source source.heartbeat b.0)
+    ∙ ap (λ x. source_with source.name source.kind source.heartbeat x t.max) (not_asked tuning.minimum source source.min b.1)
+    ∙ ap (source_with source.name source.kind source.heartbeat source.min) (not_asked tuning.maximum source source.max c.1)
+
+kind_itself : (kind : Kind) → same_kind kind kind ≡ true
+kind_itself Gauge = refl
+kind_itself Counter = refl
+kind_itself Derive = refl
+kind_itself Absolute = refl
+
+with_sources : Content → List DsDef → List Raw → Content
+with_sources base sources raws = record base { sources = sources; raws = raws }
+
+sources_back : (base : Content) (tuning : Tuning) (number : ℕ) (done : List DsDef) (done_raws : List Raw) (sources : List DsDef) (raws : List Raw) → length done ≡ number → length done_raws ≡ number → length raws ≡ length sources → fold with_held (with_sources base (done ++ map (tuned tuning) sources) (done_raws ++ raws_under sources (map (tuned tuning) sources) raws)) (held tuning number sources raws) ≡ with_sources base (done ++ sources) (done_raws ++ raws)
+unfolding with_sources
+sources_back base tuning number done done_raws [] raws d r e = refl
+sources_back base tuning number done done_raws (source ∷ sources) [] d r e = absurd (omega arith)
+sources_back base tuning number done done_raws (source ∷ sources) (raw ∷ raws) d r e =
+    let news = map (tuned tuning) sources in
+    let new_raws = raws_under sources news raws in
+    let source_now = tuned tuning source in
+    let raw_now = cond (same_kind source.kind source_now.kind) raw Raw.Unknown in
+    let rest = held tuning (number + 1) sources raws in
+    let on = sources_back base tuning (number + 1) (done ++ source ∷ []) (done_raws ++ raw ∷ []) sources raws (length_push done source ∙ ap (λ n. n + 1) d) (length_push done_raws raw ∙ ap (λ n. n + 1) r) (omega arith) in
+    let before : with_sources base (done ++ source ∷ news) (done_raws ++ raw ∷ new_raws) ≡ with_sources base ((done ++ source ∷ []) ++ news) ((done_raws ++ raw ∷ []) ++ new_raws)
+    = ap (λ s. with_sources base s (done_raws ++ raw ∷ new_raws)) (sym (append_assoc done (source ∷ []) news)) ∙ ap (with_sources base ((done ++ source ∷ []) ++ news)) (sym (append_assoc done_raws (raw ∷ []) new_raws)) in
+    let after : with_sources base ((done ++ source ∷ []) ++ sources) ((done_raws ++ raw ∷ []) ++ raws) ≡ with_sources base (done ++ source ∷ sources) (done_raws ++ raw ∷ raws)
+    = ap (λ s. with_sources base s ((done_raws ++ raw ∷ []) ++ raws)) (append_assoc done (source ∷ []) sources) ∙ ap (with_sources base (done ++ source ∷ sources)) (append_assoc done_raws (raw ∷ []) raws) in
+    let go_on : fold with_held (with_sources base (done ++ source ∷ news) (done_raws ++ raw ∷ new_raws)) rest ≡ with_sources base (done ++ source ∷ sources) (done_raws ++ raw ∷ raws)
+    = ap (λ now. fold with_held now rest) before ∙ on ∙ after in
+    let here : Held = record { number = number; source = source; raw = raw } in
+    let now = with_sources base (done ++ source_now ∷ news) (done_raws ++ raw_now ∷ new_raws) in
+    ⊎_elim
+    (λ (named : is_named tuning source ≡ true).
+    ap (λ b. fold with_held now (cond b (here ∷ rest) rest)) named
+    ∙ ap (λ s. fold with_held (with_sources base s (set (done_raws ++ raw_now ∷ new_raws) number raw)) rest) (set_at done source_now news source number d)
+    ∙ ap (λ s. fold with_held (with_sources base (done ++ source ∷ news) s) rest) (set_at done_raws raw_now new_raws raw number r)
+    ∙ go_on)
+    (λ (other : is_named tuning source ≡ false).
+    let same = not_named tuning source other in
+    let same_raw : raw_now ≡ raw = ap (λ (s : DsDef). cond (same_kind source.kind s.kind) raw Raw.Unknown) same ∙ ap (λ b. cond b raw Raw.Unknown) (kind_itself source.kind) in
+    ap (λ b. fold with_held now (cond b (here ∷ rest) rest)) other
+    ∙ ap (λ s. fold with_held (with_sources base (done ++ s ∷ news) (done_raws ++ raw_now ∷ new_raws)) rest) same
+    ∙ ap (λ s. fold with_held (with_sources base (done ++ source ∷ news) (done_raws ++ s ∷ new_raws)) rest) same_raw
+    ∙ go_on)
+    (cases_Bool (is_named tuning source))
+
+tune_back : (base : Content) (tuning : Tuning) → ListedBack base (TuningBy tuning)
+unfolding with_sources
+tune_back base tuning sound h =
+    ap (λ now. fold with_held now (held tuning 0 base.sources base.raws)) (content_tuned base (map (tuned tuning) base.sources) sound.is_base)
+    ∙ sources_back base tuning 0 [] [] base.sources base.raws refl refl sound.one_raw_each
+
+-- ---- a resize
+
+resized_here : (base : Content) (at rows first : ℕ) (archive : Archive) → at ≡ first → IsArchive archive → let new = archive_of base (Resized at rows ∷ []) (first, archive) in made new (length archive.rows) new.parts archive.rows ≡ archive
+unfolding made
+resized_here base at rows first archive e is =
+    ap (λ n. made archive n (row_parts_of base archive (Resized at rows ∷ [])) archive.rows) is.rows_are
+    ∙ ap (λ ps. made archive archive.def.rows ps archive.rows) (row_parts_same base (Resized at rows ∷ []) refl archive is.some_steps)
+
+archives_resized_back : (base : Content) (at rows first index : ℕ) (archives : List Archive) → at ≡ first + index → AllByRecursion IsArchive archives → index < length archives → with_rows_at (map (archive_of base (Resized at rows ∷ [])) (enumerate_from first archives)) index (rows_at archives index) ≡ archives
+unfolding made
+archives_resized_back base at rows first index [] e is h = absurd (omega arith)
+archives_resized_back base at rows first zero (archive ∷ archives) e is h =
+    let one = resized_here base at rows first archive (omega arith) is.0 in
+    let rest = resized_elsewhere base at rows (first + 1) archives (omega arith) is.1 in
+    cc
+archives_resized_back base at rows first (suc index) (archive ∷ archives) e is h =
+    let one = resized_other base at rows first archive (λ k. absurd (omega arith)) is.0 in
+    let rest = archives_resized_back base at rows (first + 1) index archives (omega arith) is.1 (omega arith) in
+    cc
+
+with_archives : Content → List Archive → Content
+with_archives base archives = record base { archives = archives }
+
+resize_back : (base : Content) (archive : ℕ) (change : Change) (rows : ℕ) → ListedBack base (Resizing archive change rows)
+unfolding with_archives
+resize_back base archive change rows sound h =
+    let new = rows_changed change (slice_index_or (settings_of base).rows archive 0) rows in
+    let p = accepted_passes base (Resizing archive change rows) h in
+    let there : archive < length base.archives = omega (arith, leb-false (length (settings_of base).rows) archive p.0, length-map base.archives (λ (a : Archive). a.def.rows)) in
+    ap (λ now. undone now (WasResized archive (rows_at base.archives archive))) (content_resized base archive new sound.is_base)
+    ∙ ap (λ archives. with_archives base archives) (archives_resized_back base archive new 0 archive base.archives (omega arith) sound.is_base.archives_are there)
+
+listed_back : (base : Content) (command : Command) → ListedBack base command
+listed_back base (Updating update) = update_back base update
+listed_back base (TuningBy tuning) = tune_back base tuning
+listed_back base (Resizing archive change rows) = resize_back base archive change rows
+
+pub comes_back : (base : Content) (command : Command) → ComesBack base command
+comes_back base command sound h = ap (λ now. undone now (entry base command)) (sym (moved_is base command sound h)) ∙ listed_back base command sound h

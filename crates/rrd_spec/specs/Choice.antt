@@ -1,0 +1,130 @@
+-- Which archive a fetch reads, and which span of it (rrdfetch; the order of the archives is this project's).
+use Rattle.std.specs.Prelude.{ℕ, ◌+◌, ◌-◌, ◌*◌, ◌/◌, ◌^◌, ◌<◌, ◌≤◌, IfSome, pos, int_lt, int_le, nat_lt, Bool, true, false, not, ◌&&◌, ◌||◌, if◌then◌else◌, Option, Some, None, Result, Ok, Err, List, [], ◌∷◌, map}
+use Rattle.std.specs.Int.{abs_diff}
+use Rattle.std.specs.List.{find, filter, list_any, enumerate_from}
+use Rattle.std.specs.Option.{option_or}
+use Rattle.rrd_fold.specs.declared.function.Function.{Function}
+use Rattle.rrd_fold.specs.declared.function.Function.TheVariants.{Average, Min, Max, Last}
+use Rattle.rrd_spec.specs.declared.settings.RraDef.{RraDef}
+use Rattle.rrd_spec.specs.declared.fetch.Candidate.{Candidate}
+use Rattle.rrd_spec.specs.declared.fetch.Chosen.{Chosen}
+use Rattle.rrd_spec.specs.declared.fetch.Request.{Request}
+use Rattle.rrd_spec.specs.declared.refusal.Refusal.{Refusal}
+use Rattle.rrd_spec.specs.declared.refusal.Refusal.TheVariants.{BadTime, BadSpan, NoArchiveForFunction, SpanTooLong}
+use Rattle.rrd_spec.specs.History.{Archive, Content}
+use Rattle.rrd_spec.specs.Cells.{resolution, reach}
+use Rattle.rrd_spec.specs.Verdict.{Check, ◌refuses◌, first_refusal}
+
+-- ---- the archives that can be read
+
+abbrev pub same_function : Function → Function → Bool
+same_function Average Average = true
+same_function Min Min = true
+same_function Max Max = true
+same_function Last Last = true
+same_function _ _ = false
+
+-- an archive with its number, the seconds in a row, and the time after which its rows reach
+abbrev pub candidate : ℕ → ℕ → ℕ × RraDef → Candidate
+candidate step last (number, def) =
+    record { number = number; resolution = resolution step def; reach = reach (resolution step def) def.rows last }
+
+-- those with this function, by their numbers
+abbrev pub candidates : ℕ → ℕ → Function → List RraDef → List Candidate
+candidates step last function defs =
+    map (candidate step last) (filter (λ ((number, def) : ℕ × RraDef). same_function def.function function) (enumerate_from 0 defs))
+
+-- ---- which of them is taken
+
+-- the first one than which none is better
+abbrev pub best : {A : Type 0} → (A → A → Bool) → List A → Option A
+best is_better items = find (λ one. not (list_any (λ other. is_better other one) items)) items
+
+-- all rows from the start on are there
+abbrev pub covers : ℕ → Candidate → Bool
+covers start one = int_le one.reach (pos start)
+
+-- nearer to the resolution that is asked for
+abbrev pub is_nearer : ℕ → Candidate → Candidate → Bool
+is_nearer asked one other = nat_lt (abs_diff one.resolution asked) (abs_diff other.resolution asked)
+
+-- reaches back farther; as far, and nearer
+abbrev pub is_farther : ℕ → Candidate → Candidate → Bool
+is_farther asked one other = int_lt one.reach other.reach || (int_le one.reach other.reach && is_nearer asked one other)
+
+-- of those that cover the start the nearest; if none does, the one that reaches back farthest. Of equal ones the one with the lower number
+abbrev pub taken : ℕ → ℕ → List Candidate → Option Candidate
+taken asked start list = option_or (best (is_nearer asked) (filter (covers start) list)) (best (is_farther asked) list)
+
+-- ---- the span
+
+-- what can't be fetched of any database
+abbrev pub span_checks : Request → List Check
+span_checks request =
+    ◌refuses◌ (nat_lt 9999999999 request.start) BadTime
+    ∷ ◌refuses◌ (nat_lt 9999999999 request.end) BadTime
+    ∷ ◌refuses◌ (nat_lt request.end request.start) BadSpan
+    ∷ []
+
+-- the rows at the multiples of the resolution from after `lo` up to `hi`: `lo` is the start rounded down, `hi` the first one after the end
+abbrev pub span : Request → Candidate → Chosen
+span request one = record {
+  archive = one.number;
+  res = one.resolution;
+  lo = request.start / one.resolution * one.resolution;
+  hi = (request.end / one.resolution + 1) * one.resolution;
+}
+
+-- how many rows that is
+abbrev pub span_rows : Chosen → ℕ
+span_rows chosen = (chosen.hi - chosen.lo) / chosen.res
+
+abbrev pub span_of : Request → Option Candidate → Result Chosen Refusal
+span_of request None = Err NoArchiveForFunction
+span_of request (Some one) = if nat_lt 1000000 (span_rows (span request one)) then Err SpanTooLong else Ok (span request one)
+
+abbrev pub unless_refused : Option Refusal → Result Chosen Refusal → Result Chosen Refusal
+unless_refused None answer = answer
+unless_refused (Some refusal) answer = Err refusal
+
+abbrev pub choice_of : ℕ → ℕ → List RraDef → Request → Result Chosen Refusal
+choice_of step last defs request =
+    unless_refused (first_refusal (span_checks request)) (span_of request (taken request.asked request.start (candidates step last request.function defs)))
+
+-- what a fetch reads, or its refusal
+unfoldable pub choice : Content → Function → ℕ → ℕ → ℕ → Result Chosen Refusal
+choice content function asked start end =
+    choice_of content.step content.last (map (λ (archive : Archive). archive.def) content.archives)
+    (record { function = function; asked = asked; start = start; end = end })
+
+-- ---- the search for it, archive by archive
+
+-- what is asked for, and the one that is taken of the archives so far
+pub record Searched : Type 0 where
+  pub step : ℕ
+  pub last : ℕ
+  pub request : Request
+  pub best : Option Candidate
+
+abbrev pub searched : ℕ → ℕ → Request → List RraDef → Searched
+searched step last request defs = record {
+  step = step;
+  last = last;
+  request = request;
+  best = taken request.asked request.start (candidates step last request.function defs);
+}
+
+-- what keeps its sums within 64 bits
+pub record IsSearch (step last : ℕ) (request : Request) (best : Option Candidate) : Type 0 where
+  pub some_step : 0 < step
+  pub small_step : step ≤ 1000000
+  pub good_last : last ≤ 9999999999
+  pub in_order : request.start ≤ request.end
+  pub good_end : request.end ≤ 9999999999
+  pub usable : IfSome best (λ (one : Candidate). (0 < one.resolution) × (one.resolution ≤ 10 ^ 12))
+
+-- whether an archive is taken rather than one with a lower number
+abbrev pub is_preferred : ℕ → ℕ → Candidate → Candidate → Bool
+is_preferred asked start one other =
+    if covers start one then (if covers start other then is_nearer asked one other else true)
+    else (if covers start other then false else is_farther asked one other)

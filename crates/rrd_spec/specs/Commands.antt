@@ -1,0 +1,123 @@
+-- The commands that change a database, and what happens to it by them (rrdupdate, rrdtune, rrdresize).
+use Rattle.std.specs.Prelude.{ℕ, ◌+◌, ◌-◌, if◌then◌else◌, Option, Some, None, List, [], ◌∷◌, ◌++◌, map, slice_index_or}
+use Rattle.std.specs.List.{fold, enumerate_from}
+use Rattle.std.specs.Option.{option_map_or, unwrap_or}
+use Rattle.rrd_fixed.specs.declared.raw.Raw.{Raw}
+use Rattle.rrd_fixed.specs.declared.kind.Kind.{Kind}
+use Rattle.rrd_fixed.specs.declared.name.Name.{Name}
+use Rattle.rrd_fixed.specs.Names.{same_name}
+use Rattle.rrd_fixed.specs.Admitted.{admit}
+use Rattle.rrd_spec.specs.declared.settings.DsDef.{DsDef}
+use Rattle.rrd_spec.specs.declared.update.Given.{Given}
+use Rattle.rrd_spec.specs.declared.update.Sample.{Sample}
+use Rattle.rrd_spec.specs.declared.update.Update.{Update}
+use Rattle.rrd_spec.specs.declared.tune.Tuning.{Tuning}
+use Rattle.rrd_spec.specs.declared.resize.Change.{Change}
+use Rattle.rrd_spec.specs.declared.resize.Change.TheVariants.{Grow, Shrink}
+use Rattle.rrd_spec.specs.History.{Archive, Content, Reading, Event, Sampled, Tuned, Resized, rows_after, content_listed}
+pub use Rattle.rrd_spec.specs.History.{raw_under}
+use Rattle.rrd_spec.specs.Cells.{content}
+
+-- ---- what is asked
+
+-- a new value for the source of a name
+abbrev pub Asked : Type 0 → Type 0
+Asked A = Name × A
+
+-- a command that changes a database
+pub data Command : Type 0 where
+  Updating : Update → Command
+  TuningBy : Tuning → Command
+  Resizing : ℕ → Change → ℕ → Command
+
+-- ---- raw values
+
+-- the raw value of what is given (rrdupdate; which numbers a source accepts is this project's)
+abbrev pub raw_of : Kind → Given → Raw
+raw_of kind Given.Unknown = Raw.Unknown
+raw_of kind (Given.Number number) = option_map_or Raw.Known (admit kind number) Raw.Unknown
+
+-- ---- names
+
+abbrev pub names : List DsDef → List Name
+names sources = map (λ (source : DsDef). source.name) sources
+
+-- the value for a source: the one in the place of its name; unknown if it isn't named (rrdupdate, "--template")
+abbrev pub value_for : List Name → List Given → DsDef → Given
+value_for [] values source = Given.Unknown
+value_for (name ∷ names) [] source = Given.Unknown
+value_for (name ∷ names) (value ∷ values) source = if same_name name source.name then value else value_for names values source
+
+-- ---- what happens
+
+-- what the settings that a command can change are: those of the sources, and each archive's number of rows
+pub record Settings : Type 0 where
+  pub sources : List DsDef
+  pub rows : List ℕ
+
+abbrev pub rows_of_archives : List Archive → List ℕ
+rows_of_archives archives = map (λ (archive : Archive). archive.def.rows) archives
+
+abbrev pub settings_of : Content → Settings
+settings_of base = record { sources = base.sources; rows = rows_of_archives base.archives }
+
+abbrev pub all_rows_after : Event → List ℕ → List ℕ
+all_rows_after event rows = map (λ (index, old). rows_after index old event) (enumerate_from 0 rows)
+
+abbrev pub sources_after : List DsDef → Event → List DsDef
+sources_after sources (Sampled sample) = sources
+sources_after sources (Tuned new) = new
+sources_after sources (Resized archive rows) = sources
+
+abbrev pub settings_after : Settings → Event → Settings
+settings_after settings event = record { sources = sources_after settings.sources event; rows = all_rows_after event settings.rows }
+
+-- a sample with its raw values
+abbrev pub sample_of : List DsDef → List Name → Sample → Reading
+sample_of sources template sample = record { time = sample.time; raws = map (λ (source : DsDef). raw_of source.kind (value_for template sample.values source)) sources }
+
+abbrev pub samples_of : List DsDef → Update → List Reading
+samples_of sources update = map (sample_of sources (unwrap_or update.template (names sources))) update.samples
+
+-- what is asked of the source of this name, or else the old value
+abbrev pub asked : {A : Type 0} → Option (Asked A) → Name → A → A
+asked None name old = old
+asked (Some option) name old = if same_name option.0 name then option.1 else old
+
+-- a source's new settings (rrdtune). All names are those before the command (own)
+abbrev pub tuned : Tuning → DsDef → DsDef
+tuned tuning source = record {
+  name = asked tuning.rename source.name source.name;
+  kind = asked tuning.kind source.name source.kind;
+  heartbeat = asked tuning.heartbeat source.name source.heartbeat;
+  min = asked tuning.minimum source.name source.min;
+  max = asked tuning.maximum source.name source.max;
+}
+
+abbrev pub rows_changed : Change → ℕ → ℕ → ℕ
+rows_changed Grow old rows = old + rows
+rows_changed Shrink old rows = old - rows
+
+-- the events of a command
+abbrev pub events : Settings → Command → List Event
+events settings (Updating update) = map Sampled (samples_of settings.sources update)
+events settings (TuningBy tuning) = Tuned (map (tuned tuning) settings.sources) ∷ []
+events settings (Resizing archive change rows) = Resized archive (rows_changed change (slice_index_or settings.rows archive 0) rows) ∷ []
+
+-- the events of a history, each command under the settings that the earlier ones left
+abbrev pub events_of : Settings → List Command → List Event
+events_of settings [] = []
+events_of settings (command ∷ commands) = events settings command ++ events_of (fold settings_after settings (events settings command)) commands
+
+-- ---- the content of a history of commands, and a content moved by one
+
+-- each row is that of its time
+abbrev pub content_of : Content → List Command → Content
+content_of base commands = content base (events_of (settings_of base) commands)
+
+abbrev pub moved : Content → Command → Content
+moved base command = content base (events (settings_of base) command)
+
+-- the same, its rows being the list of those that are kept
+abbrev pub moved_listed : Content → Command → Content
+moved_listed base command = content_listed base (events (settings_of base) command)

@@ -1,0 +1,187 @@
+-- What a history of commands makes of a database, second by second. Where no manual page is named, the rule is this project's.
+use Rattle.std.specs.Prelude.{◌≡◌, ℕ, ◌+◌, ◌-◌, ◌*◌, ◌/◌, ◌<◌, min, nat_le, ◌==◌, if◌then◌else◌, Bool, List, [], ◌∷◌, ◌++◌, map, length, drop, replicate}
+use Rattle.std.specs.List.{fold, find, range_with_len, enumerate_from, AllByRecursion}
+use Rattle.std.specs.Option.{option_map_or}
+use Rattle.rrd_fixed.specs.declared.cell.Cell.{Cell}
+use Rattle.rrd_fixed.specs.declared.raw.Raw.{Raw}
+use Rattle.rrd_fixed.specs.declared.kind.Kind.{Kind}
+use Rattle.rrd_fixed.specs.declared.kind.Kind.TheVariants.{Gauge, Counter, Derive, Absolute}
+use Rattle.rrd_fixed.specs.Rate.{rate}
+use Rattle.rrd_spec.specs.declared.settings.DsDef.{DsDef}
+use Rattle.rrd_spec.specs.declared.settings.RraDef.{RraDef}
+use Rattle.rrd_fold.specs.Groups.{finished, unfinished}
+use Rattle.rrd_spec.specs.Rules.{rows_rule}
+use Rattle.rrd_fold.specs.Parts.{Part, seconds_to_steps}
+
+-- ---- what a database holds
+
+-- an archive: per source the part of its unfinished row, and its rows, oldest first, each a cell per source
+pub record Archive : Type 0 where
+  pub def : RraDef
+  pub parts : List Part
+  pub rows : List (List Cell)
+
+-- a database: its settings, the last time, per source the raw value and the part of the unfinished step, and the archives
+pub record Content : Type 0 where
+  pub step : ℕ
+  pub depth : ℕ
+  pub sources : List DsDef
+  pub last : ℕ
+  pub raws : List Raw
+  pub parts : List Part
+  pub archives : List Archive
+
+-- ---- what happens to it
+
+-- a sample: its time, and a raw value per source
+pub record Reading : Type 0 where
+  pub time : ℕ
+  pub raws : List Raw
+
+-- a sample comes; the sources get other settings; an archive gets another number of rows
+pub data Event : Type 0 where
+  Sampled : Reading → Event
+  Tuned : List DsDef → Event
+  Resized : ℕ → ℕ → Event
+
+-- ---- the sources: their settings, last time and raw values
+
+-- what the rate of the next sample depends on
+pub record Moment : Type 0 where
+  pub sources : List DsDef
+  pub last : ℕ
+  pub raws : List Raw
+
+abbrev pub same_kind : Kind → Kind → Bool
+same_kind Gauge Gauge = Bool.true
+same_kind Counter Counter = Bool.true
+same_kind Derive Derive = Bool.true
+same_kind Absolute Absolute = Bool.true
+same_kind _ _ = Bool.false
+
+-- a raw value under new settings: another kind makes it unknown (own; rrdtune gives the new type alone)
+abbrev pub raw_under : Kind → Kind → Raw → Raw
+raw_under old new raw = if same_kind old new then raw else Raw.Unknown
+
+abbrev pub raws_under : List DsDef → List DsDef → List Raw → List Raw
+raws_under (old ∷ olds) (new ∷ news) (raw ∷ raws) = raw_under old.kind new.kind raw ∷ raws_under olds news raws
+raws_under _ _ raws = raws
+
+abbrev pub moment_after : Moment → Event → Moment
+moment_after now (Sampled sample) = record { sources = now.sources; last = sample.time; raws = sample.raws }
+moment_after now (Tuned sources) = record { sources = sources; last = now.last; raws = raws_under now.sources sources now.raws }
+moment_after now (Resized archive rows) = now
+
+-- the rates of a sample's interval, by the settings in force and the raw values of the sample before (rrdcreate, "DS"; that the settings in force hold for the whole interval is this project's)
+abbrev pub rates : List DsDef → ℕ → List Raw → List Raw → List Cell
+rates (source ∷ sources) interval (old ∷ olds) (new ∷ news) = rate source.kind old new interval source.heartbeat source.min source.max ∷ rates sources interval olds news
+rates _ interval _ _ = []
+
+-- a sample as the archives see it
+pub record Taken : Type 0 where
+  pub time : ℕ
+  pub rates : List Cell
+
+-- all samples, in order
+abbrev pub samples : Moment → List Event → List Taken
+samples now [] = []
+samples now (Sampled sample ∷ events) = record { time = sample.time; rates = rates now.sources (sample.time - now.last) now.raws sample.raws } ∷ samples (moment_after now (Sampled sample)) events
+samples now (Tuned sources ∷ events) = samples (moment_after now (Tuned sources)) events
+samples now (Resized archive rows ∷ events) = samples now events
+
+-- the rates in a second: those of the first sample at or after it (rrdcreate, "The HEARTBEAT and the STEP")
+abbrev pub second : List Taken → ℕ → List Cell
+second taken at = option_map_or (λ sample. sample.rates) (find (λ sample. nat_le at sample.time) taken) []
+
+-- each second from one time (without its own) to another
+abbrev pub seconds : List Taken → ℕ → ℕ → List (List Cell)
+seconds taken from to = map (second taken) (range_with_len (from + 1) (to - from))
+
+-- ---- what it comes to
+
+abbrev pub moment_of : Content → Moment
+moment_of content = record { sources = content.sources; last = content.last; raws = content.raws }
+
+-- how the sources stand after the events
+abbrev pub moment_at_end : Content → List Event → Moment
+moment_at_end base events = fold moment_after (moment_of base) events
+
+-- the seconds after the base's last time, each with its rates
+unfoldable pub seconds_of : Content → List Event → List (List Cell)
+seconds_of base events = seconds (samples (moment_of base) events) base.last (moment_at_end base events).last
+
+-- the steps that end after the base's last time (rrdcreate, "The HEARTBEAT and the STEP")
+unfoldable pub steps_of : Content → List Event → List (List Cell)
+steps_of base events = finished (seconds_to_steps base.step (length base.sources)) base.last base.parts (seconds_of base events)
+
+unfoldable pub parts_of : Content → List Event → List Part
+parts_of base events = unfinished (seconds_to_steps base.step (length base.sources)) base.last base.parts (seconds_of base events)
+
+-- the rows of an archive that end after it (rrdcreate, "RRA")
+unfoldable pub rows_of : Content → Archive → List Event → List (List Cell)
+rows_of base archive events = finished (rows_rule archive.def (length base.sources)) (base.last / base.step) archive.parts (steps_of base events)
+
+unfoldable pub row_parts_of : Content → Archive → List Event → List Part
+row_parts_of base archive events = unfinished (rows_rule archive.def (length base.sources)) (base.last / base.step) archive.parts (steps_of base events)
+
+-- how many rows an archive has after an event (rrdresize)
+abbrev pub rows_after : ℕ → ℕ → Event → ℕ
+rows_after index rows (Sampled sample) = rows
+rows_after index rows (Tuned sources) = rows
+rows_after index rows (Resized archive new) = if archive == index then new else rows
+
+-- the newest items, so many of them
+abbrev pub keep_last : {A : Type 0} → ℕ → List A → List A
+keep_last n xs = drop (length xs - n) xs
+
+-- how many of the newest rows have had a place at every moment from the first to the last. `since` says how many rows ended after a time
+abbrev pub room : ℕ → (ℕ → ℕ) → ℕ → Moment → List Event → ℕ
+room index since rows now [] = rows + since now.last
+room index since rows now (event ∷ events) = min (rows + since now.last) (room index since (rows_after index rows event) (moment_after now event) events)
+
+-- the items, with unknown ones before them where they are too few
+abbrev pub filled_up : {A : Type 0} → ℕ → A → List A → List A
+filled_up n unknown items = replicate (n - length items) unknown ++ items
+
+-- the base's rows and those that ended since, as far as they have always had a place (rrdcreate, "RRA"; rrdresize)
+unfoldable pub kept_rows : Content → ℕ → Archive → List Event → List (List Cell)
+kept_rows base index archive events =
+    let resolution = base.step * archive.def.steps in
+    let since = λ (time : ℕ). (moment_at_end base events).last / resolution - time / resolution in
+    filled_up (fold (rows_after index) archive.def.rows events) (replicate (length base.sources) Cell.Unknown)
+    (keep_last (room index since archive.def.rows (moment_of base) events) (archive.rows ++ rows_of base archive events))
+
+abbrev pub archive_of : Content → List Event → ℕ × Archive → Archive
+archive_of base events (index, archive) = record {
+  def = record archive.def { rows = fold (rows_after index) archive.def.rows events };
+  parts = row_parts_of base archive events;
+  rows = kept_rows base index archive events;
+}
+
+-- the content that the events make of a base, its rows said by list: `content` in specs/Cells says each by its time, and is the definition
+unfoldable pub content_listed : Content → List Event → Content
+content_listed base events = record base {
+  sources = (moment_at_end base events).sources;
+  last = (moment_at_end base events).last;
+  raws = (moment_at_end base events).raws;
+  parts = parts_of base events;
+  archives = map (archive_of base events) (enumerate_from 0 base.archives);
+}
+
+-- ---- what is accepted
+
+-- times rise, a tune keeps the number of sources, and an archive keeps a row
+abbrev pub IsHistory : Moment → List Event → Type 0
+IsHistory now [] = Unit {0}
+IsHistory now (Sampled sample ∷ events) = (now.last < sample.time) × IsHistory (moment_after now (Sampled sample)) events
+IsHistory now (Tuned sources ∷ events) = (length sources ≡ length now.sources) × IsHistory (moment_after now (Tuned sources)) events
+IsHistory now (Resized archive rows ∷ events) = (0 < rows) × IsHistory now events
+
+pub record IsArchive (archive : Archive) : Type 0 where
+  pub some_steps : 0 < archive.def.steps
+  pub some_rows : 0 < archive.def.rows
+  pub rows_are : length archive.rows ≡ archive.def.rows
+
+pub record IsBase (base : Content) : Type 0 where
+  pub some_step : 0 < base.step
+  pub archives_are : AllByRecursion IsArchive base.archives

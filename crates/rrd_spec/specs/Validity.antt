@@ -1,0 +1,150 @@
+-- Which databases are valid (own).
+use Rattle.std.specs.Prelude.{◌≡◌, ℕ, ◌+◌, ◌-◌, ◌*◌, ◌/◌, ◌%◌, ◌<◌, ◌≤◌, ◌≢◌, min, pos, ◌≤ℤ◌, unsigned_abs, true, false, List, [], ◌∷◌, length, take, None}
+use Rattle.std.specs.List.{AllByRecursion, fold}
+use Rattle.rrd_fixed.specs.declared.cell.Cell.{Cell}
+use Rattle.rrd_fixed.specs.declared.raw.Raw.{Raw}
+use Rattle.rrd_fixed.specs.Rate.{top, IsAccepted, IsBounded}
+use Rattle.rrd_spec.specs.declared.settings.DsDef.{DsDef}
+use Rattle.rrd_fold.specs.declared.function.Function.{Function}
+use Rattle.rrd_fold.specs.declared.function.Function.TheVariants.{Average}
+use Rattle.rrd_fold.specs.Parts.{Part}
+pub use Rattle.rrd_fold.specs.Bounds.{weight}
+use Rattle.rrd_spec.specs.History.{Archive, Content}
+use Rattle.rrd_spec.specs.Commands.{Command, names, settings_of, moved}
+use Rattle.rrd_fixed.specs.Names.{is_good}
+use Rattle.rrd_spec.specs.Verdict.{is_double, is_bad_heartbeat, has_bad_bounds, cells, verdict}
+use Rattle.rrd_spec.specs.Entries.{Dropped, Held, BeforeUpdate, Entry, Updated, WasTuned, WasResized, rows_between, rows_at, entry, undone}
+use Rattle.rrd_spec.specs.Survivors.{Action, changed, reverted, step, after, Stands}
+
+-- ---- a content
+
+pub record IsSource (source : DsDef) : Type 0 where
+  pub good_name : is_good source.name ≡ true
+  pub good_heartbeat : is_bad_heartbeat source.heartbeat ≡ false
+  pub good_bounds : has_bad_bounds source ≡ false
+
+-- a raw value for each source, which it accepts
+abbrev pub AreAccepted : List DsDef → List Raw → Type 0
+AreAccepted [] [] = Unit {0}
+AreAccepted [] (raw ∷ raws) = ⊥
+AreAccepted (source ∷ sources) [] = ⊥
+AreAccepted (source ∷ sources) (raw ∷ raws) = IsAccepted source.kind raw × AreAccepted sources raws
+
+-- a part of at most so many cells, each from -TOP to TOP
+pub record IsPart (function : Function) (passed : ℕ) (part : Part) : Type 0 where
+  pub few : part.known ≤ passed
+  pub bounded : unsigned_abs part.value ≤ weight function part.known * top
+  pub empty : part.known ≡ 0 → part.value ≡ pos 0
+
+-- a part for each source
+pub record AreParts (function : Function) (sources passed : ℕ) (parts : List Part) : Type 0 where
+  pub one_each : length parts ≡ sources
+  pub each : AllByRecursion (IsPart function passed) parts
+
+-- a row or step: a cell for each source
+pub record IsRow (sources : ℕ) (row : List Cell) : Type 0 where
+  pub one_each : length row ≡ sources
+  pub each : AllByRecursion IsBounded row
+
+-- an archive, so many steps having ended
+pub record IsValidArchive (sources steps : ℕ) (archive : Archive) : Type 0 where
+  pub some_steps : 0 < archive.def.steps
+  pub few_steps : archive.def.steps ≤ 1000000
+  pub some_rows : 0 < archive.def.rows
+  pub few_rows : archive.def.rows ≤ 1000000
+  pub xff_low : pos 0 ≤ℤ archive.def.xff
+  pub xff_high : archive.def.xff ≤ℤ pos 999999
+  pub parts_are : AreParts archive.def.function sources (steps % archive.def.steps) archive.parts
+  pub rows_are : length archive.rows ≡ archive.def.rows
+  pub each_row : AllByRecursion (IsRow sources) archive.rows
+
+pub record IsValid (content : Content) : Type 0 where
+  pub some_step : 0 < content.step
+  pub small_step : content.step ≤ 1000000
+  pub good_time : content.last ≤ 9999999999
+  pub some_depth : 0 < content.depth
+  pub small_depth : content.depth ≤ 1000
+  pub some_source : 0 < length content.sources
+  pub few_sources : length content.sources ≤ 64
+  pub some_archive : 0 < length content.archives
+  pub few_archives : length content.archives ≤ 64
+  pub few_cells : cells (settings_of content) ≤ 4000000
+  pub sources_are : AllByRecursion IsSource content.sources
+  pub names_differ : is_double (names content.sources) ≡ false
+  pub raws_are : AreAccepted content.sources content.raws
+  pub parts_are : AreParts Average (length content.sources) (content.last % content.step) content.parts
+  pub archives_are : AllByRecursion (IsValidArchive (length content.sources) (content.last / content.step)) content.archives
+
+-- ---- its journal
+
+-- what an update dropped of an archive between two times
+pub record FitsArchive (step sources from to : ℕ) (archive : Archive) (old : Dropped) : Type 0 where
+  pub one_part_each : length old.parts ≡ sources
+  pub as_many : length old.rows ≡ min (rows_between step archive.def from to) archive.def.rows
+  pub one_cell_each : AllByRecursion (λ (row : List Cell). length row ≡ sources) old.rows
+
+abbrev pub FitEach : ℕ → ℕ → ℕ → ℕ → List Archive → List Dropped → Type 0
+FitEach step sources from to [] [] = Unit {0}
+FitEach step sources from to [] (old ∷ olds) = ⊥
+FitEach step sources from to (archive ∷ archives) [] = ⊥
+FitEach step sources from to (archive ∷ archives) (old ∷ olds) = FitsArchive step sources from to archive old × FitEach step sources from to archives olds
+
+pub record FitsUpdate (now : Content) (old : BeforeUpdate) : Type 0 where
+  pub earlier : old.last < now.last
+  pub one_raw_each : length old.raws ≡ length now.sources
+  pub one_part_each : length old.parts ≡ length now.sources
+  pub archives_fit : FitEach now.step (length now.sources) old.last now.last now.archives old.archives
+
+-- numbers that rise, from the lowest that may come, below a limit
+abbrev pub Rise : ℕ → ℕ → List Held → Type 0
+Rise lowest limit [] = Unit {0}
+Rise lowest limit (old ∷ olds) = (lowest ≤ old.number) × (old.number < limit) × Rise (old.number + 1) limit olds
+
+pub record FitsTune (now : Content) (olds : List Held) : Type 0 where
+  pub some : 0 < length olds
+  pub few : length olds ≤ 5
+  pub rise : Rise 0 (length now.sources) olds
+
+pub record FitsResize (now : Content) (archive : ℕ) (rows : List (List Cell)) : Type 0 where
+  pub there : archive < length now.archives
+  pub one_cell_each : AllByRecursion (λ (row : List Cell). length row ≡ length now.sources) rows
+  pub another : length rows ≢ length (rows_at now.archives archive)
+
+abbrev pub Fits : Content → Entry → Type 0
+Fits now (Updated old) = FitsUpdate now old
+Fits now (WasTuned olds) = FitsTune now olds
+Fits now (WasResized archive rows) = FitsResize now archive rows
+
+-- each entry fits, and undoing it gives a valid content, on which the older ones are valid
+abbrev pub IsValidJournal : Content → List Entry → Type 0
+IsValidJournal now [] = Unit {0}
+IsValidJournal now (entry ∷ journal) = Fits now entry × IsValid (undone now entry) × IsValidJournal (undone now entry) journal
+
+pub record IsValidDatabase (now : Content) (journal : List Entry) : Type 0 where
+  pub content_is : IsValid now
+  pub journal_is : IsValidJournal now journal
+  pub few : length journal ≤ now.depth
+
+-- ---- the law
+
+-- an accepted command moves a valid content to a valid one
+abbrev pub StaysValid : Content → Command → Type 0
+StaysValid base command = IsValid base → verdict base command ≡ None → IsValid (moved base command)
+
+-- so does it with the journal, a full one dropping its oldest entry
+abbrev pub DatabaseStays : Content → List Entry → Command → Type 0
+DatabaseStays now journal command = IsValidDatabase now journal → verdict now command ≡ None → IsValidDatabase (moved now command) (take now.depth (entry now command ∷ journal))
+
+-- a revert takes an accepted command back: the content and the journal are as before it, but for the oldest entry of a full journal
+abbrev pub RevertTakesBack : Content → List Entry → Command → Type 0
+RevertTakesBack now journal command =
+    let kept = changed (record { content = now; journal = journal }) command in
+    IsValidDatabase now journal → verdict now command ≡ None → reverted kept.content kept.journal ≡ record { content = now; journal = take (now.depth - 1) journal }
+
+-- a run from a valid database keeps to the definition of the survivors, and stays valid
+pub record RunStays (base : Content) (brought : List Entry) (actions : List Action) : Type 0 where
+  pub stands : let kept = fold step (record { content = base; journal = brought }) actions in Stands (fold after (record { base = base; brought = brought; survivors = []; revertible = 0 }) actions) kept
+  pub valid : let kept = fold step (record { content = base; journal = brought }) actions in IsValidDatabase kept.content kept.journal
+
+abbrev pub RunsStay : Content → List Entry → List Action → Type 0
+RunsStay base brought actions = IsValidDatabase base brought → RunStays base brought actions

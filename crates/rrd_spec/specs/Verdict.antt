@@ -1,0 +1,159 @@
+-- Which commands are accepted, and what refuses the others. What can be wrong is that of rrdupdate, rrdtune and rrdresize; the limits and the order of the refusals are this project's.
+use Rattle.std.specs.Prelude.{ℕ, ◌+◌, ◌*◌, ℤ, int_lt, unsigned_abs, nat_lt, nat_le, ◌==◌, if◌then◌else◌, Bool, true, false, not, ◌&&◌, ◌||◌, Option, Some, None, is_none, List, [], ◌∷◌, ◌++◌, length, sum, slice_index_or}
+use Rattle.std.specs.List.{fold, list_any, list_all}
+use Rattle.std.specs.Option.{option_map_or, unwrap_or}
+use Rattle.rrd_fixed.specs.Rate.{top}
+use Rattle.rrd_fixed.specs.declared.name.Name.{Name}
+use Rattle.rrd_fixed.specs.Names.{is_good, same_name}
+use Rattle.rrd_fixed.specs.Admitted.{admit}
+use Rattle.rrd_spec.specs.declared.settings.DsDef.{DsDef}
+use Rattle.rrd_spec.specs.declared.refusal.Refusal.{Refusal}
+use Rattle.rrd_spec.specs.declared.refusal.Refusal.TheVariants.{BadName, DoubleName, BadHeartbeat, BadBounds, BadRows, TooLarge, NoSuchSource, WrongCount, BadValue, NotLater, NoSample, NothingToTune, NoSuchArchive, ShrinkTooFar, BadTime}
+use Rattle.rrd_spec.specs.declared.update.Given.{Given}
+use Rattle.rrd_spec.specs.declared.update.Sample.{Sample}
+use Rattle.rrd_spec.specs.declared.update.Update.{Update}
+use Rattle.rrd_spec.specs.declared.tune.Tuning.{Tuning}
+use Rattle.rrd_spec.specs.declared.resize.Change.{Change}
+use Rattle.rrd_spec.specs.declared.resize.Change.TheVariants.{Grow, Shrink}
+use Rattle.rrd_spec.specs.History.{Content}
+use Rattle.rrd_spec.specs.Commands.{Asked, Command, Updating, TuningBy, Resizing, Settings, settings_of, settings_after, events, names, value_for, tuned}
+
+-- what can be wrong, and the refusal that says so
+pub record Check : Type 0 where
+  pub wrong : Bool
+  pub refusal : Refusal
+
+abbrev pub ◌refuses◌ : Bool → Refusal → Check
+◌refuses◌ wrong refusal = record { wrong = wrong; refusal = refusal }
+
+-- the first refusal in this order
+abbrev pub first_refusal : List Check → Option Refusal
+first_refusal [] = None
+first_refusal (check ∷ checks) = if check.wrong then Some check.refusal else first_refusal checks
+
+-- ---- names and settings
+
+abbrev pub has_source : List DsDef → Name → Bool
+has_source sources name = list_any (λ (source : DsDef). same_name source.name name) sources
+
+-- a name stands twice
+abbrev pub is_double : List Name → Bool
+is_double [] = false
+is_double (name ∷ names) = list_any (same_name name) names || is_double names
+
+-- a bound past the greatest rate
+abbrev pub is_far : Option ℤ → Bool
+is_far None = false
+is_far (Some bound) = nat_lt top (unsigned_abs bound)
+
+abbrev pub is_crossed : Option ℤ → Option ℤ → Bool
+is_crossed (Some min) (Some max) = int_lt max min
+is_crossed None max = false
+is_crossed (Some min) None = false
+
+abbrev pub has_bad_bounds : DsDef → Bool
+has_bad_bounds source = is_far source.min || is_far source.max || is_crossed source.min source.max
+
+-- a number of seconds that isn't from 1 to 9,999,999,999
+abbrev pub is_bad_heartbeat : ℕ → Bool
+is_bad_heartbeat seconds = (seconds == 0) || nat_lt 9999999999 seconds
+
+-- a number of rows that isn't from 1 to 1,000,000
+abbrev pub is_bad_rows : ℕ → Bool
+is_bad_rows rows = (rows == 0) || nat_lt 1000000 rows
+
+-- ---- each command
+
+abbrev pub is_admitted : DsDef → Given → Bool
+is_admitted source Given.Unknown = true
+is_admitted source (Given.Number number) = not (is_none (admit source.kind number))
+
+-- the samples after the first ones, the newest of which came at `last`
+abbrev pub sample_checks : List DsDef → List Name → ℕ → List Sample → List Check
+sample_checks sources template last [] = []
+sample_checks sources template last (sample ∷ samples) =
+    ◌refuses◌ (nat_lt 9999999999 sample.time) BadTime
+    ∷ ◌refuses◌ (nat_le sample.time last) (NotLater last)
+    ∷ ◌refuses◌ (not (length sample.values == length template)) WrongCount
+    ∷ ◌refuses◌ (not (list_all (λ (source : DsDef). is_admitted source (value_for template sample.values source)) sources)) BadValue
+    ∷ sample_checks sources template sample.time samples
+
+abbrev pub no_sample : List Sample → Bool
+no_sample [] = true
+no_sample (sample ∷ samples) = false
+
+-- the names that the values belong to: those given, or all in their order
+abbrev pub template_of : List DsDef → Option (List Name) → List Name
+template_of sources template = unwrap_or template (names sources)
+
+abbrev pub template_checks : List DsDef → Option (List Name) → List Check
+template_checks sources template =
+    ◌refuses◌ (option_map_or (list_any (λ (name : Name). not (has_source sources name))) template false) NoSuchSource
+    ∷ ◌refuses◌ (option_map_or is_double template false) DoubleName
+    ∷ []
+
+abbrev pub update_checks : List DsDef → ℕ → Update → List Check
+update_checks sources last update =
+    template_checks sources update.template
+    ++ ◌refuses◌ (no_sample update.samples) NoSample
+    ∷ sample_checks sources (template_of sources update.template) last update.samples
+
+abbrev pub names_no_source : {A : Type 0} → List DsDef → Option (Asked A) → Bool
+names_no_source sources None = false
+names_no_source sources (Some option) = not (has_source sources option.0)
+
+abbrev pub asks_nothing : Tuning → Bool
+asks_nothing tuning = is_none tuning.heartbeat && is_none tuning.minimum && is_none tuning.maximum && is_none tuning.kind && is_none tuning.rename
+
+-- an option names no source
+abbrev pub any_names_no_source : List DsDef → Tuning → Bool
+any_names_no_source sources tuning = names_no_source sources tuning.heartbeat || names_no_source sources tuning.minimum || names_no_source sources tuning.maximum || names_no_source sources tuning.kind || names_no_source sources tuning.rename
+
+abbrev pub asks_bad_name : Tuning → Bool
+asks_bad_name tuning = option_map_or (λ (option : Asked Name). not (is_good option.1)) tuning.rename false
+
+-- the new name is that of another source
+abbrev pub asks_double_name : List DsDef → Tuning → Bool
+asks_double_name sources tuning = option_map_or (λ (option : Asked Name). not (same_name option.0 option.1) && has_source sources option.1) tuning.rename false
+
+abbrev pub asks_bad_heartbeat : Tuning → Bool
+asks_bad_heartbeat tuning = option_map_or (λ (option : Asked ℕ). is_bad_heartbeat option.1) tuning.heartbeat false
+
+abbrev pub tune_checks : List DsDef → Tuning → List Check
+tune_checks sources tuning =
+    ◌refuses◌ (asks_nothing tuning) NothingToTune
+    ∷ ◌refuses◌ (any_names_no_source sources tuning) NoSuchSource
+    ∷ ◌refuses◌ (asks_bad_name tuning) BadName
+    ∷ ◌refuses◌ (asks_double_name sources tuning) DoubleName
+    ∷ ◌refuses◌ (asks_bad_heartbeat tuning) BadHeartbeat
+    ∷ ◌refuses◌ (list_any (λ (source : DsDef). has_bad_bounds (tuned tuning source)) sources) BadBounds
+    ∷ []
+
+-- the rows that the archive would have are too many
+abbrev pub grows_too_far : Change → ℕ → ℕ → Bool
+grows_too_far Grow old rows = nat_lt 1000000 (old + rows)
+grows_too_far Shrink old rows = false
+
+abbrev pub shrinks_too_far : Change → ℕ → ℕ → Bool
+shrinks_too_far Grow old rows = false
+shrinks_too_far Shrink old rows = nat_le old rows
+
+abbrev pub cells : Settings → ℕ
+cells settings = length settings.sources * sum settings.rows
+
+abbrev pub resize_checks : Settings → ℕ → Change → ℕ → List Check
+resize_checks settings archive change rows =
+    ◌refuses◌ (nat_le (length settings.rows) archive) NoSuchArchive
+    ∷ ◌refuses◌ (is_bad_rows rows || grows_too_far change (slice_index_or settings.rows archive 0) rows) BadRows
+    ∷ ◌refuses◌ (shrinks_too_far change (slice_index_or settings.rows archive 0) rows) ShrinkTooFar
+    ∷ ◌refuses◌ (nat_lt 4000000 (cells (fold settings_after settings (events settings (Resizing archive change rows))))) TooLarge
+    ∷ []
+
+abbrev pub checks : Content → Command → List Check
+checks base (Updating update) = update_checks base.sources base.last update
+checks base (TuningBy tuning) = tune_checks base.sources tuning
+checks base (Resizing archive change rows) = resize_checks (settings_of base) archive change rows
+
+-- the refusal of a command, none if it is accepted. Memory isn't spoken of
+unfoldable pub verdict : Content → Command → Option Refusal
+verdict base command = first_refusal (checks base command)

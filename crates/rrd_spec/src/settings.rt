@@ -1,0 +1,74 @@
+//! Settings of data sources and archives.
+ghost use Rattle.std.specs.Prelude.{◌≡◌, ◌^◌, ◌≤◌, ◌≤ℤ◌, pos};
+ghost use Rattle.rrd_fixed.specs.Rate.{IsAccepted, IsBounded, rate as rate_of};
+
+use rrd_fixed::{Cell, Kind, Name, Raw, rate};
+use rrd_fold::Function;
+
+/// A data source's settings (rrdcreate, "DS").
+#[derive(Debug, Drop)]
+pub struct DsDef {
+    /// 1 to 19 letters, digits or `_`, another for each source.
+    pub name: Name,
+    pub kind: Kind,
+    /// The longest interval, in seconds, after which a sample's rate is known: 1 to 9,999,999,999.
+    pub heartbeat: u64,
+    /// The least rate that is taken, in millionths, at most (2^64 - 1) * 10^6 in size; `None` is no
+    /// bound.
+    pub min: Option<i128>,
+    /// The greatest rate that is taken, in millionths, at most (2^64 - 1) * 10^6 in size and not below
+    /// the least; `None` is no bound.
+    pub max: Option<i128>,
+}
+
+impl DsDef {
+    /// The same settings again. It takes no memory.
+    pub fn duplicate(&self) -> DsDef
+        ensures { result ≡ self.now }
+    {
+        DsDef {
+            name: self.name.duplicate(),
+            kind: self.kind,
+            heartbeat: self.heartbeat,
+            min: self.min,
+            max: self.max,
+        }
+    }
+
+    /// The rate, in millionths, between two of its raw values that came so many seconds apart, 1 to
+    /// 10,000,000,000; unknown where the heartbeat or the bounds don't allow it.
+    pub fn rate(&self, interval: u64, old: Raw, new: Raw) -> Cell
+        requires some_time { 1 ≤ interval }
+        requires not_long { interval ≤ 10 ^ 10 }
+        requires old_accepted { IsAccepted self.now.kind old }
+        requires new_accepted { IsAccepted self.now.kind new }
+        ensures value { result ≡ rate_of self.now.kind old new interval self.now.heartbeat self.now.min self.now.max }
+        ensures bounded { IsBounded result }
+    {
+        let heartbeat = self.heartbeat;
+        rate(self.kind, old, new, interval, heartbeat, self.min, self.max)
+    }
+}
+
+/// An archive's settings (rrdcreate, "RRA").
+#[derive(Clone, Copy, Debug)]
+pub struct RraDef {
+    pub function: Function,
+    /// The share of a row's steps that may be unknown, in millionths: 0 to 999,999.
+    pub xff: i128,
+    /// How many steps make a row: 1 to 1,000,000.
+    pub steps: u64,
+    /// How many rows the archive has: 1 to 1,000,000.
+    pub rows: u64,
+}
+
+impl RraDef {
+    /// The share of a row's steps that may be unknown, as an unsigned number of millionths.
+    pub fn share(&self) -> u64
+        requires low { pos 0 ≤ℤ self.now.xff }
+        requires high { self.now.xff ≤ℤ pos 999999 }
+        ensures { pos result ≡ self.now.xff }
+    {
+        self.xff as u64
+    }
+}

@@ -1,0 +1,413 @@
+//! The plain slow program: the rows that the definitions give for the samples of a new database,
+//! worked out second by second, as a reader of the definitions would by hand. Nothing is carried
+//! along from group to group, no gap is jumped over, and there is no ring. Tests compare it with the
+//! real database.
+ghost use Rattle.std.specs.Prelude.{◌≡◌, ◌^◌, ◌<◌, ◌≤◌, length, map, replicate, IfOk, IsTrue, ◌↔◌, None, Some, slice_get};
+ghost use Rattle.std.specs.List.{AllByRecursion, fold};
+ghost use Rattle.rrd_fixed.specs.Rate.{IsAccepted, IsBounded};
+ghost use Rattle.rrd_fixed.specs.declared.raw.Raw.TheVariants.{Unknown};
+ghost use Rattle.rrd_fold.specs.Groups as groups;
+ghost use Rattle.rrd_fold.specs.Parts.{nothing, with_cell, with_each, step_cell, row_cell};
+ghost use Rattle.rrd_fold.specs.declared.function.Function.TheVariants.{Average};
+ghost use Rattle.rrd_spec.specs.Creating.{create_verdict, created};
+ghost use Rattle.rrd_spec.specs.History as history;
+ghost use Rattle.rrd_spec.specs.History.{Archive};
+ghost use Rattle.rrd_spec.specs.Slow.{AreInOrder, AreNewest, IsGroup, cell_of, event_of, function_of, latest, rule_of, size_of, taken_of};
+ghost use Rattle.rrd_spec.specs.Validity.{AreAccepted, AreParts, IsPart, IsRow};
+
+use crate::{CreateSpec, DsDef, List, RraDef};
+use rrd_fixed::{Cell, Kind, Raw, near};
+use rrd_fold::Function;
+use std::alloc::{AllocError, Global};
+use std::marker::Model;
+
+// The latest time of a sample.
+const LATEST_TIME: u64 = 9_999_999_999;
+
+// The least size that a value of a GAUGE or an ABSOLUTE may not have, in millionths.
+const LEAST_REFUSED: u128 = 1_000_000_000_000_000_000_000_000;
+
+/// A sample: its time, and a raw value for each source.
+#[derive(Drop)]
+pub struct Reading {
+    /// Seconds since 1970: 0 to 9,999,999,999.
+    pub time: u64,
+    pub raws: List<Raw>,
+}
+
+// A sample as the archives see it: its time, and a rate for each source.
+#[derive(Drop)]
+struct Taken {
+    time: u64,
+    rates: List<Cell>,
+}
+
+// What cells come together to: the seconds of a step to a step, so many of them, or the steps of a
+// row of an archive to a row.
+#[derive(Clone, Copy)]
+enum Group {
+    Step(u64),
+    Row(RraDef),
+}
+
+// How many known cells there were, and what they come to: their sum, least, greatest or last one.
+#[derive(Clone, Copy)]
+struct Part {
+    known: u64,
+    value: i128,
+}
+
+impl Model for Part {
+    ghost use Rattle.rrd_fold.specs.Parts.{Part};
+
+    ghost Value = { Part };
+
+    ghost view = { λ p. record { known = p.known; value = p.value } };
+
+    ghost inverse = { λ p. record { known = p.known; value = p.value } };
+}
+
+impl Part {
+    // No cell yet.
+    fn nothing() -> Part
+        ensures { result ≡ nothing }
+    {
+        Part { known: 0, value: 0 }
+    }
+
+    // The part with one more cell.
+    fn with_cell(self, function: Function, cell: Cell) -> Part
+        requires few { IsPart function 999999 self }
+        requires bounded { IsBounded cell }
+        ensures { result ≡ with_cell function self cell }
+    {
+        let Cell::Known(new) = cell else {
+            return self;
+        };
+        let value = match function {
+            Function::Average => self.value + new,
+            Function::Min if self.known > 0 => self.value.min(new),
+            Function::Max if self.known > 0 => self.value.max(new),
+            Function::Min | Function::Max | Function::Last => new,
+        };
+        Part {
+            known: self.known + 1,
+            value,
+        }
+    }
+
+    // The step of so many seconds that it stands for.
+    fn step_cell(self, step: u64) -> Cell
+        requires some { 0 < step }
+        requires few { step ≤ 1000000 }
+        requires part { IsPart Average step self }
+        ensures { result ≡ step_cell step self }
+    {
+        if 2 * (step - self.known) > step {
+            Cell::Unknown
+        } else {
+            Cell::Known(near(self.value, self.known as i128))
+        }
+    }
+
+    // The row of an archive that it stands for.
+    fn row_cell(self, def: RraDef) -> Cell
+        requires group { IsGroup (Group.Row def) }
+        requires part { IsPart def.function def.steps self }
+        ensures { result ≡ row_cell def.function def.xff def.steps self }
+    {
+        if (def.steps - self.known) * 1_000_000 > def.share() * def.steps {
+            return Cell::Unknown;
+        }
+        match def.function {
+            Function::Average => Cell::Known(near(self.value, self.known as i128)),
+            Function::Min | Function::Max | Function::Last => Cell::Known(self.value),
+        }
+    }
+}
+
+impl Group {
+    // How many cells a group has.
+    fn size(self) -> u64
+        ensures { result ≡ size_of self }
+    {
+        match self {
+            Group::Step(seconds) => seconds,
+            Group::Row(def) => def.steps,
+        }
+    }
+
+    // How they are consolidated.
+    fn function(self) -> Function
+        ensures { result ≡ function_of self }
+    {
+        match self {
+            Group::Step(_) => Function::Average,
+            Group::Row(def) => def.function,
+        }
+    }
+
+    // What a source's part of a full group gives.
+    fn cell(self, part: Part) -> Cell
+        requires group { IsGroup self }
+        requires part { IsPart (function_of self) (size_of self) part }
+        ensures { result ≡ cell_of self part }
+    {
+        match self {
+            Group::Step(seconds) => part.step_cell(seconds),
+            Group::Row(def) => part.row_cell(def),
+        }
+    }
+}
+
+// ---- samples
+
+// The rates of a sample's interval, by the raw values of the sample before.
+fn rates(
+    alloc: Global,
+    sources: &[DsDef],
+    interval: u64,
+    old: &[Raw],
+    new: &[Raw],
+) -> Result<List<Cell>, AllocError>
+    requires some_time { 1 ≤ interval }
+    requires not_long { interval ≤ 10 ^ 10 }
+    requires old_accepted { AreAccepted sources.now old.now }
+    requires new_accepted { AreAccepted sources.now new.now }
+    ensures { IfOk result (λ rates. rates ≡ history.rates sources.now interval old.now new.now) }
+{
+    let mut rates = List::new(alloc);
+    for i in 0..sources.len() {
+        rates.push(sources[i].rate(interval, old[i], new[i]))?;
+    }
+    Ok(rates)
+}
+
+// All samples, in order, after the start, when no raw value is known.
+fn samples(
+    alloc: Global,
+    sources: &[DsDef],
+    start: u64,
+    readings: &[Reading],
+) -> Result<List<Taken>, AllocError>
+    requires { AreInOrder sources.now start readings.now }
+    ensures { IfOk result (λ taken. map taken_of taken ≡ history.samples (record { sources = sources.now; last = start; raws = replicate (length sources.now) Unknown }) (map event_of readings.now)) }
+{
+    let mut taken = List::new(alloc);
+    let mut last = start;
+    let mut old = vec![in alloc; Raw::Unknown; sources.len()]?;
+    for reading in readings {
+        let time = reading.time;
+        let new = reading.raws.as_slice();
+        let rates = rates(alloc, sources, time - last, &old, new)?;
+        taken.push(Taken { time, rates })?;
+        last = time;
+        old = Vec::from_slice(alloc, new)?;
+    }
+    Ok(taken)
+}
+
+// ---- seconds
+
+// The rates in a second: those of the first sample at or after it.
+fn second(taken: &[Taken], at: u64) -> &[Cell]
+    ensures { result.now ≡ history.second (map taken_of taken.now) at }
+{
+    for sample in taken {
+        if at <= sample.time {
+            return sample.rates.as_slice();
+        }
+    }
+    &[]
+}
+
+// A copy.
+fn copied(alloc: Global, cells: &[Cell]) -> Result<List<Cell>, AllocError>
+    ensures { IfOk result (λ copy. copy ≡ cells.now) }
+{
+    let mut copy = List::new(alloc);
+    for cell in cells {
+        copy.push(*cell)?;
+    }
+    Ok(copy)
+}
+
+// Each second from one time (without its own) to another, with its rates.
+fn seconds(
+    alloc: Global,
+    taken: &[Taken],
+    from: u64,
+    to: u64,
+) -> Result<List<List<Cell>>, AllocError>
+    requires { from ≤ to }
+    ensures { IfOk result (λ seconds. seconds ≡ history.seconds (map taken_of taken.now) from to) }
+{
+    let mut seconds = List::new(alloc);
+    for at in from..to {
+        seconds.push(copied(alloc, second(taken, at + 1))?)?;
+    }
+    Ok(seconds)
+}
+
+// ---- steps and rows
+
+// Each source's part with one more cell.
+fn add_each(function: Function, parts: &mut [Part], cells: &[Cell])
+    requires parts { AreParts function (length cells.now) 999999 parts.old }
+    requires cells { IsRow (length cells.now) cells.now }
+    ensures { parts.new ≡ with_each function parts.old cells.now }
+{
+    for i in 0..parts.len() {
+        parts[i] = parts[i].with_cell(function, cells[i]);
+    }
+}
+
+// Each source's part of a group, which has these items.
+fn parts_of(
+    alloc: Global,
+    function: Function,
+    sources: usize,
+    items: &[List<Cell>],
+) -> Result<Vec<Part>, AllocError>
+    requires few { length items.now ≤ 1000000 }
+    requires rows { AllByRecursion (IsRow sources) items.now }
+    ensures value { IfOk result (λ parts. parts.items ≡ fold (with_each function) (replicate sources nothing) items.now) }
+    ensures parts { IfOk result (λ parts. AreParts function sources (length items.now) parts.items) }
+{
+    let mut parts = vec![in alloc; Part::nothing(); sources]?;
+    for item in items {
+        add_each(function, &mut parts, item.as_slice());
+    }
+    Ok(parts)
+}
+
+// What a full group gives: a cell for each source.
+fn closed(
+    alloc: Global,
+    group: Group,
+    sources: usize,
+    items: &[List<Cell>],
+) -> Result<List<Cell>, AllocError>
+    requires group { IsGroup group }
+    requires full { length items.now ≤ size_of group }
+    requires rows { AllByRecursion (IsRow sources) items.now }
+    ensures { IfOk result (λ cells. cells ≡ map (cell_of group) (fold (with_each (function_of group)) (replicate sources nothing) items.now)) }
+{
+    let mut cells = List::new(alloc);
+    let parts = parts_of(alloc, group.function(), sources, items)?;
+    for part in &parts {
+        cells.push(group.cell(*part))?;
+    }
+    Ok(cells)
+}
+
+// What the groups give that the items finish, so many having come before them.
+fn finished(
+    alloc: Global,
+    group: Group,
+    sources: usize,
+    before: u64,
+    items: &[List<Cell>],
+) -> Result<List<List<Cell>>, AllocError>
+    requires group { IsGroup group }
+    requires early { before ≤ 10 ^ 10 }
+    requires few { length items.now ≤ 10 ^ 10 }
+    requires rows { AllByRecursion (IsRow sources) items.now }
+    ensures { IfOk result (λ given. given ≡ groups.finished (rule_of group sources) before (replicate sources nothing) items.now) }
+{
+    let mut given = List::new(alloc);
+    let size = group.size();
+    let count = items.len() as u64;
+    for number in before / size..(before + count) / size {
+        let from = (number * size).saturating_sub(before);
+        let to = (number + 1) * size - before;
+        given.push(closed(alloc, group, sources, &items[from as usize..to as usize])?)?;
+    }
+    Ok(given)
+}
+
+// The time of the last sample, or the start.
+fn last_time(start: u64, readings: &[Reading]) -> u64
+    ensures { result ≡ latest start readings.now }
+{
+    let mut last = start;
+    for reading in readings {
+        last = reading.time;
+    }
+    last
+}
+
+/// The rows of an archive of a new database that its samples finish, oldest first, each with a cell
+/// for each source. The archive keeps the newest of them, as many as it has rows. Archives are
+/// counted from 0.
+pub fn rows(
+    alloc: Global,
+    spec: &CreateSpec,
+    archive: usize,
+    readings: &[Reading],
+) -> Result<List<List<Cell>>, AllocError>
+    requires accepted { create_verdict spec.now ≡ None }
+    requires there { archive < length spec.now.archives }
+    requires in_order { AreInOrder spec.now.sources spec.now.start readings.now }
+    ensures all { IfOk result (λ rows. (kept : Archive) → slice_get (created spec.now).archives archive ≡ Some kept → rows ≡ history.rows_of (created spec.now) kept (map event_of readings.now)) }
+    ensures newest { IfOk result (λ rows. AreNewest spec.now (map event_of readings.now) archive rows) }
+{
+    let sources = spec.sources.as_slice();
+    let taken = samples(alloc, sources, spec.start, readings)?;
+    let end = last_time(spec.start, readings);
+    let seconds = seconds(alloc, taken.as_slice(), spec.start, end)?;
+    let step = Group::Step(spec.step);
+    let steps = finished(alloc, step, sources.len(), spec.start, seconds.as_slice())?;
+    let row = Group::Row(spec.archives.as_slice()[archive]);
+    let before = spec.start / spec.step;
+    finished(alloc, row, sources.len(), before, steps.as_slice())
+}
+
+// ---- what can be worked out
+
+// Whether a source accepts a raw value.
+fn is_accepted(kind: Kind, raw: Raw) -> bool
+    ensures { IsTrue result ↔ IsAccepted kind raw }
+{
+    let Raw::Known(value) = raw else {
+        return true;
+    };
+    match kind {
+        Kind::Counter => 0 <= value && value < 0x1_0000_0000_0000_0000,
+        Kind::Derive => -0x8000_0000_0000_0000 <= value && value < 0x8000_0000_0000_0000,
+        Kind::Gauge | Kind::Absolute => value.unsigned_abs() < LEAST_REFUSED,
+    }
+}
+
+// Whether there is a raw value for each source, which it accepts.
+fn are_accepted(sources: &[DsDef], raws: &[Raw]) -> bool
+    ensures { IsTrue result ↔ AreAccepted sources.now raws.now }
+{
+    if raws.len() != sources.len() {
+        return false;
+    }
+    for i in 0..sources.len() {
+        if !is_accepted(sources[i].kind, raws[i]) {
+            return false;
+        }
+    }
+    true
+}
+
+/// Whether the rows of a new database that is accepted can be worked out: the times rise, after the
+/// start and up to 9,999,999,999, and each sample has a raw value for each source, which it accepts.
+pub fn are_in_order(sources: &[DsDef], start: u64, readings: &[Reading]) -> bool
+    ensures { IsTrue result ↔ AreInOrder sources.now start readings.now }
+{
+    let mut last = start;
+    for reading in readings {
+        if reading.time <= last || reading.time > LATEST_TIME {
+            return false;
+        }
+        if !are_accepted(sources, reading.raws.as_slice()) {
+            return false;
+        }
+        last = reading.time;
+    }
+    true
+}
