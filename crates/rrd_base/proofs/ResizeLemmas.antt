@@ -5,7 +5,7 @@ use Rattle.std.proofs.lemmas.List.{length-drop, length-map, length-replicate}
 use Rattle.std.specs.List.{fold, enumerate_from, AllByRecursion}
 use Rattle.rrd_fixed.specs.declared.cell.Cell.{Cell}
 use Rattle.rrd_ring.specs.Rows.{newest_rows, width}
-use Rattle.rrd_spec.specs.History.{Archive, Content, Resized, moment_of, rows_after, rows_of, row_parts_of, room, keep_last, filled_up, kept_rows, archive_of, content_listed, IsArchive}
+use Rattle.rrd_spec.specs.History.{Archive, Content, Resized, moment_of, rows_after, rows_of, row_parts_of, rows_never_lost, keep_last, filled_up, kept_rows, archive_of, content_listed, IsArchive}
 use Rattle.rrd_spec.specs.declared.resize.Change.{Change}
 use Rattle.rrd_spec.specs.declared.resize.Change.TheVariants.{Grow, Shrink}
 use Rattle.rrd_spec.specs.Commands.{Resizing, moved_listed, rows_changed, rows_of_archives}
@@ -19,6 +19,7 @@ use Rattle.rrd_spec.proofs.Staying.{few_changed}
 use Rattle.rrd_base.proofs.StoreLemmas.{width_is}
 use Rattle.rrd_spec.proofs.Held.{base_of_valid}
 use Rattle.rrd_spec.proofs.Quiet.{content_resized, made, rows_none, row_parts_same, resized_other, resized_elsewhere}
+use Rattle.rrd_spec.specs.Limits.{version_one}
 
 -- ---- the number of all rows
 
@@ -106,10 +107,10 @@ kept_resized base at n index archive e is w =
     let nan = replicate (length base.sources) Cell.Unknown in
     let since = λ (time : ℕ). base.last / res - time / res in
     let after : cond (eqb at index) n archive.def.rows ≡ n = ap (λ b. cond b n archive.def.rows) (eq-eqb at index e) in
-    let places : room index since archive.def.rows (moment_of base) es ≡ min (length rows) n = omega (arith, is.rows_are, after) in
+    let places : rows_never_lost index since archive.def.rows (moment_of base) es ≡ min (length rows) n = omega (arith, is.rows_are, after) in
     let cut : length rows - min (length rows) n ≡ length rows - n = omega arith in
     let pads : n - length (drop (length rows - n) rows) ≡ n - length rows = omega (arith, length-drop (length rows - n) rows) in
-    ap (λ m. filled_up m nan (keep_last (room index since archive.def.rows (moment_of base) es) (rows ++ rows_of base archive es))) after
+    ap (λ m. filled_up m nan (keep_last (rows_never_lost index since archive.def.rows (moment_of base) es) (rows ++ rows_of base archive es))) after
     ∙ ap (λ m. filled_up n nan (keep_last m (rows ++ rows_of base archive es))) places
     ∙ ap (λ zs. filled_up n nan (keep_last (min (length rows) n) (rows ++ zs))) (rows_none base es refl archive)
     ∙ ap (λ zs. filled_up n nan (keep_last (min (length rows) n) zs)) (append-nil rows)
@@ -171,7 +172,7 @@ resize_fits now k change rows d is h =
     let there = there_is now k change rows h in
     let same : old ≡ (get_or now.archives k d).def.rows = rows_at_archive now.archives k d there in
     let few_old : old ≤ 1000000 = omega (arith, same, few_at now.archives k d there (have_few (length now.sources) (now.last / now.step) now.archives is.archives_are)) in
-    let few_asked = ltb-false 1000000 rows (or_parts (eqb rows 0) (ltb 1000000 rows) (or_parts (is_bad_rows rows) (grows_too_far change old rows) passes.1.0).0).1 in
+    let few_asked = ltb-false 1000000 rows (or_parts (eqb rows 0) (ltb 1000000 rows) (or_parts (is_bad_rows version_one rows) (grows_too_far version_one change old rows) passes.1.0).0).1 in
     subst (λ m. (rows ≤ 1000000) × (0 < rows_changed change m rows) × (rows_changed change m rows ≤ 1000000)) same
     (few_asked, some_rows change old rows passes.1.0 passes.1.1.0, few_changed change old rows few_old passes.1.0)
 

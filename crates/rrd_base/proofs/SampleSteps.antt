@@ -16,15 +16,16 @@ use Rattle.rrd_spec.proofs.ContentLemmas.{listed-append}
 use Rattle.rrd_spec.proofs.HistoryLemmas.{moment_of-content}
 use Rattle.rrd_spec.proofs.Held.{base_of_valid}
 use Rattle.rrd_spec.proofs.Staying.{raws_accepted}
+use Rattle.rrd_spec.specs.Limits.{version_one}
 
 -- the content after a sample, and those that are left
 pub record Taken (now next : Content) (sources : List DsDef) (template : List Name) (sample : Sample) (rest : List Sample) : Type 0 where
   pub comes_to : content_listed now (map Sampled (map (sample_of sources template) (sample ∷ rest))) ≡ content_listed next (map Sampled (map (sample_of sources template) rest))
-  pub pass : AllByRecursion Passes (sample_checks sources template next.last rest)
+  pub pass : AllByRecursion Passes (sample_checks version_one sources template next.last rest)
   pub same_sources : next.sources ≡ now.sources
   pub last_is : next.last ≡ sample.time
 
-pub one_taken : (now next : Content) (sources : List DsDef) (template : List Name) (sample : Sample) (rest : List Sample) → IsValid now → now.sources ≡ sources → AllByRecursion Passes (sample_checks sources template now.last (sample ∷ rest)) → next ≡ content_listed now (Sampled (sample_of sources template sample) ∷ []) → Taken now next sources template sample rest
+pub one_taken : (now next : Content) (sources : List DsDef) (template : List Name) (sample : Sample) (rest : List Sample) → IsValid now → now.sources ≡ sources → AllByRecursion Passes (sample_checks version_one sources template now.last (sample ∷ rest)) → next ≡ content_listed now (Sampled (sample_of sources template sample) ∷ []) → Taken now next sources template sample rest
 one_taken now next sources template sample rest is same pass e =
     let reading = sample_of sources template sample in
     let all = readings_rise sources template (moment_of now) (sample ∷ rest) pass in
@@ -34,7 +35,7 @@ one_taken now next sources template sample rest is same pass e =
     record {
       comes_to = listed-append now (Sampled reading ∷ []) (map Sampled (map (sample_of sources template) rest)) (base_of_valid now is) (all.0, tt) all.1
           ∙ ap (λ c. content_listed c (map Sampled (map (sample_of sources template) rest))) (sym e);
-      pass = subst (λ t. AllByRecursion Passes (sample_checks sources template t rest)) (sym last) pass.1.1.1.1;
+      pass = subst (λ t. AllByRecursion Passes (sample_checks version_one sources template t rest)) (sym last) pass.1.1.1.1;
       same_sources = ap (λ (m : Moment). m.sources) end;
       last_is = last;
     }
@@ -43,5 +44,5 @@ one_taken now next sources template sample rest is same pass e =
 pub accepted_raws : (now : Content) (sources : List DsDef) (template : List Name) (values : List Given) (raws : List Raw) → now.sources ≡ sources → raws ≡ map (λ (source : DsDef). raw_of source.kind (value_for template values source)) sources → AreAccepted now.sources raws
 accepted_raws now sources template values raws same e = subst (λ ss. AreAccepted ss raws) (sym same) (subst (AreAccepted sources) (sym e) (raws_accepted (value_for template values) sources))
 
-pub later_sample : (sources : List DsDef) (template : List Name) (last : ℕ) (sample : Sample) (rest : List Sample) → AllByRecursion Passes (sample_checks sources template last (sample ∷ rest)) → last < sample.time
+pub later_sample : (sources : List DsDef) (template : List Name) (last : ℕ) (sample : Sample) (rest : List Sample) → AllByRecursion Passes (sample_checks version_one sources template last (sample ∷ rest)) → last < sample.time
 later_sample sources template last sample rest pass = let h = pass.1.0 in grind (arith, nat_tests, h)

@@ -3,11 +3,12 @@ use Rattle.std.proofs.Common.{◌≡◌, refl, ◌∙◌, ap, ℕ, zero, suc, �
 use Rattle.std.specs.List.{fold}
 use Rattle.rrd_fixed.specs.declared.raw.Raw.{Raw}
 use Rattle.rrd_spec.specs.declared.settings.DsDef.{DsDef}
+use Rattle.rrd_spec.specs.declared.entry.SourceBefore.{SourceBefore}
 use Rattle.rrd_spec.specs.declared.tune.Tuning.{Tuning}
 use Rattle.rrd_fixed.specs.declared.cell.Cell.{Cell}
 use Rattle.rrd_spec.specs.History.{Archive, Content, raws_under}
 use Rattle.rrd_spec.specs.Commands.{raw_under}
-use Rattle.rrd_spec.specs.Entries.{Held, held, is_named, with_held, with_rows_at}
+use Rattle.rrd_spec.specs.Entries.{sources_before, is_named, with_source, with_rows_at}
 use Rattle.rrd_base.specs.Tuned.{with_raws, with_sources}
 
 -- one raw value more
@@ -32,38 +33,38 @@ raws_all f (s ∷ ss) raws zero h = absurd (omega arith)
 raws_all f (s ∷ ss) [] (suc i) h = refl
 raws_all f (s ∷ ss) (x ∷ xs) (suc i) h = ap (λ zs. raw_under s.kind (f s).kind x ∷ zs) (raws_all f ss xs i (omega arith))
 
--- ---- what is held
+-- ---- what is kept of the sources
 
-hold_rest : (b : Bool) (h : Held) (xs ys : List Held) → cond b (h ∷ (xs ++ ys)) (xs ++ ys) ≡ cond b (h ∷ xs) xs ++ ys
-hold_rest true h xs ys = refl
-hold_rest false h xs ys = refl
+before_rest : (b : Bool) (h : SourceBefore) (xs ys : List SourceBefore) → cond b (h ∷ (xs ++ ys)) (xs ++ ys) ≡ cond b (h ∷ xs) xs ++ ys
+before_rest true h xs ys = refl
+before_rest false h xs ys = refl
 
 -- one source more
-pub held_more : (tuning : Tuning) (n i m : ℕ) (sources : List DsDef) (raws : List Raw) (d : DsDef) (r : Raw) → i < length sources → length raws ≡ length sources → m ≡ n + i → held tuning n (take (suc i) sources) (take (suc i) raws) ≡ held tuning n (take i sources) (take i raws) ++ (let h : Held = record { number = m; source = get_or sources i d; raw = get_or raws i r } in cond (is_named tuning (get_or sources i d)) (h ∷ []) [])
-held_more tuning n i m [] raws d r h k e = absurd (omega arith)
-held_more tuning n i m (s ∷ ss) [] d r h k e = absurd (omega arith)
-held_more tuning n zero m (s ∷ ss) (x ∷ xs) d r h k e = ap (λ z. let w : Held = record { number = z; source = s; raw = x } in cond (is_named tuning s) (w ∷ []) []) {x = n} {y = m} (omega arith)
-held_more tuning n (suc i) m (s ∷ ss) (x ∷ xs) d r h k e =
-    let w : Held = record { number = n; source = s; raw = x } in
-    ap (λ zs. cond (is_named tuning s) (w ∷ zs) zs) (held_more tuning (n + 1) i m ss xs d r (omega arith) (omega arith) (omega arith))
-    ∙ hold_rest (is_named tuning s) w (held tuning (n + 1) (take i ss) (take i xs)) _
+pub before_more : (tuning : Tuning) (n i m : ℕ) (sources : List DsDef) (raws : List Raw) (d : DsDef) (r : Raw) → i < length sources → length raws ≡ length sources → m ≡ n + i → sources_before tuning n (take (suc i) sources) (take (suc i) raws) ≡ sources_before tuning n (take i sources) (take i raws) ++ (let h : SourceBefore = record { number = m; source = get_or sources i d; raw = get_or raws i r } in cond (is_named tuning (get_or sources i d)) (h ∷ []) [])
+before_more tuning n i m [] raws d r h k e = absurd (omega arith)
+before_more tuning n i m (s ∷ ss) [] d r h k e = absurd (omega arith)
+before_more tuning n zero m (s ∷ ss) (x ∷ xs) d r h k e = ap (λ z. let w : SourceBefore = record { number = z; source = s; raw = x } in cond (is_named tuning s) (w ∷ []) []) {x = n} {y = m} (omega arith)
+before_more tuning n (suc i) m (s ∷ ss) (x ∷ xs) d r h k e =
+    let w : SourceBefore = record { number = n; source = s; raw = x } in
+    ap (λ zs. cond (is_named tuning s) (w ∷ zs) zs) (before_more tuning (n + 1) i m ss xs d r (omega arith) (omega arith) (omega arith))
+    ∙ before_rest (is_named tuning s) w (sources_before tuning (n + 1) (take i ss) (take i xs)) _
 
-shorter : (b : Bool) (h : Held) (xs ys : List Held) → length xs ≤ length ys → length (cond b (h ∷ xs) xs) ≤ length (cond b (h ∷ ys) ys)
+shorter : (b : Bool) (h : SourceBefore) (xs ys : List SourceBefore) → length xs ≤ length ys → length (cond b (h ∷ xs) xs) ≤ length (cond b (h ∷ ys) ys)
 shorter true h xs ys k = omega arith
 shorter false h xs ys k = k
 
 -- no more than of all
-pub held_few : (tuning : Tuning) (n i : ℕ) (sources : List DsDef) (raws : List Raw) → length (held tuning n (take i sources) (take i raws)) ≤ length (held tuning n sources raws)
-held_few tuning n zero sources raws = omega arith
-held_few tuning n (suc i) [] raws = omega arith
-held_few tuning n (suc i) (s ∷ ss) [] = omega arith
-held_few tuning n (suc i) (s ∷ ss) (x ∷ xs) = shorter (is_named tuning s) (record { number = n; source = s; raw = x }) (held tuning (n + 1) (take i ss) (take i xs)) (held tuning (n + 1) ss xs) (held_few tuning (n + 1) i ss xs)
+pub before_few : (tuning : Tuning) (n i : ℕ) (sources : List DsDef) (raws : List Raw) → length (sources_before tuning n (take i sources) (take i raws)) ≤ length (sources_before tuning n sources raws)
+before_few tuning n zero sources raws = omega arith
+before_few tuning n (suc i) [] raws = omega arith
+before_few tuning n (suc i) (s ∷ ss) [] = omega arith
+before_few tuning n (suc i) (s ∷ ss) (x ∷ xs) = shorter (is_named tuning s) (record { number = n; source = s; raw = x }) (sources_before tuning (n + 1) (take i ss) (take i xs)) (sources_before tuning (n + 1) ss xs) (before_few tuning (n + 1) i ss xs)
 
 -- ---- what is put back
 
-pub held_put_back : (now : Content) (olds : List Held) → fold with_held now olds ≡ (let x : Content = record now { sources = with_sources now.sources olds; raws = with_raws now.raws olds } in x)
-held_put_back now [] = refl
-held_put_back now (old ∷ olds) = held_put_back (with_held now old) olds
+pub sources_put_back : (now : Content) (olds : List SourceBefore) → fold with_source now olds ≡ (let x : Content = record now { sources = with_sources now.sources olds; raws = with_raws now.raws olds } in x)
+sources_put_back now [] = refl
+sources_put_back now (old ∷ olds) = sources_put_back (with_source now old) olds
 
 -- ---- a resized archive is put back
 

@@ -14,5 +14,5 @@ content_of d = record {
   archives = d.stores.items;
 }
 
-abbrev pub IsHeld : Inside → Type 0
-IsHeld d = IsValid (content_of d)
+abbrev pub IsValidContents : Inside → Type 0
+IsValidContents d = IsValid (content_of d)

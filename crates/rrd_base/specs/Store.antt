@@ -1,36 +1,22 @@
 -- What is kept of archives, for the steps that they take to be undone.
-use Rattle.std.specs.Prelude.{◌<◌, ◌≤◌, List, [], ◌∷◌, map, length}
-use Rattle.rrd_fold.specs.declared.function.Function.{Function}
+use Rattle.std.specs.Prelude.{◌≡◌, ◌<◌, ◌≤◌, List, [], ◌∷◌, length}
 use Rattle.rrd_ring.specs.Rows.{HasWidth, width}
+use Rattle.rrd_spec.specs.Limits.{version_one}
 use Rattle.rrd_spec.specs.History.{Archive}
-use Rattle.rrd_spec.specs.Entries.{Dropped}
-
--- an archive's function, and its preparations and its oldest rows as they were
-pub record Saved : Type 0 where
-  pub function : Function
-  pub before : Dropped
-
--- what came before, and the functions
-abbrev pub befores : List Saved → List Dropped
-befores saved = map (λ (old : Saved). old.before) saved
-
-abbrev pub saved_functions : List Saved → List Function
-saved_functions saved = map (λ (old : Saved). old.function) saved
-
-abbrev pub functions : List Archive → List Function
-functions archives = map (λ (archive : Archive). archive.def.function) archives
+use Rattle.rrd_spec.specs.Entries.{SavedArchive}
 
 -- the resolution of an archive is a number above 0, and a small one
 pub record IsStepped (archive : Archive) : Type 0 where
   pub some_steps : 0 < archive.def.steps
-  pub few_steps : archive.def.steps ≤ 1000000
+  pub few_steps : archive.def.steps ≤ version_one.most_steps
 
--- rows that can be put back: there is a place for each, and for each of its cells
-pub record CanPutBack (archive : Archive) (old : Dropped) : Type 0 where
+-- what can be put back: it is of the archive's function, and there is a place for each of its rows and for each of their cells
+pub record CanPutBack (archive : Archive) (old : SavedArchive) : Type 0 where
+  pub same_function : old.function ≡ archive.def.function
   pub few : length old.rows ≤ length archive.rows
   pub one_width : HasWidth (width archive.rows) old.rows
 
-abbrev pub CanPutBackEach : List Archive → List Dropped → Type 0
+abbrev pub CanPutBackEach : List Archive → List SavedArchive → Type 0
 CanPutBackEach [] [] = Unit {0}
 CanPutBackEach [] (old ∷ olds) = ⊥
 CanPutBackEach (archive ∷ archives) [] = ⊥

@@ -1,7 +1,8 @@
-//! What a database holds, but for its journal: how seconds and samples move it.
+//! What a database holds, but for its journal: how seconds and samples change it.
 ghost use Rattle.std.specs.Prelude.{◌≡◌, ℕ, ◌+◌, ◌-◌, ◌*◌, ◌/◌, ◌%◌, ◌^◌, ◌<◌, ◌≤◌, [], ◌∷◌, length, map, replicate, slice_index_or, IfOk, IfNone, IfSome, None, pos, ◌-ℤ◌};
 ghost use Rattle.std.specs.Int.{int_div_euclid};
 ghost use Rattle.std.specs.Result.{result_err};
+ghost use Rattle.rrd_spec.specs.Limits.{version_one};
 ghost use Rattle.rrd_spec.specs.Choice.{choice_of};
 ghost use Rattle.rrd_spec.specs.Commands.{Resizing, TuningBy, Updating, moved_listed, rows_changed, rows_of_archives};
 ghost use Rattle.rrd_spec.specs.Creating.{create_verdict, created};
@@ -10,10 +11,9 @@ ghost use Rattle.rrd_fixed.specs.declared.cell.Cell.TheVariants.{Unknown as Cell
 ghost use Rattle.rrd_fixed.specs.declared.raw.Raw.TheVariants.{Unknown};
 ghost use Rattle.rrd_fold.specs.Parts.{nothing};
 ghost use Rattle.rrd_base.specs.Room.{HasPlaces};
-ghost use Rattle.rrd_base.specs.Stored.{CanUndo, before, entry_of, update_of};
-ghost use Rattle.rrd_spec.specs.Entries.{Updated, WasResized, WasTuned, entry as entry_for, rows_at, undone};
-ghost use Rattle.rrd_base.specs.Store.{CanPutBackEach, befores, functions, saved_functions};
-ghost use Rattle.rrd_base.specs.Tuned.{held_of};
+ghost use Rattle.rrd_base.specs.Journal.{CanUndo, before, entry_of, update_of};
+ghost use Rattle.rrd_spec.specs.Entries.{UpdateEntry, ResizeEntry, TuneEntry, entry as entry_for, rows_at, undone};
+ghost use Rattle.rrd_base.specs.Store.{CanPutBackEach};
 ghost use Rattle.rrd_spec.specs.Verdict.{verdict};
 ghost use Rattle.rrd_spec.specs.History.{Resized, Sampled, content_listed};
 ghost use Rattle.rrd_spec.specs.Passed.{passed};
@@ -21,13 +21,14 @@ ghost use Rattle.rrd_ring.specs.Rows.{newest_rows};
 ghost use Rattle.rrd_spec.specs.Turns.{AreTurns, least_of_sample, least_of_steps, most_of_sample, most_of_steps};
 ghost use Rattle.rrd_spec.specs.Validity.{AreAccepted, IsRow, IsValid};
 
-use crate::entry::{BeforeUpdate, Entry, SourceBefore};
+use crate::SourceBefore;
+use crate::entry::{BeforeUpdate, Entry};
 use crate::fetch::Search;
 use crate::preparing::{add_all, close_all, rates_into};
 use crate::resize::{check_resize, rows_changed};
 use crate::room::Room;
 use crate::store::{Store, new_all, put_back_all, save_all, take_all};
-use crate::tune::{check_tune, hold, put_held_back, tune_all};
+use crate::tune::{check_tune, keep_sources, put_sources_back, tune_all};
 use crate::update::{check_update, raws_into};
 use crate::{Change, Chosen, CreateSpec, DsDef, Refusal, Tuning, Update};
 use arrayvec::ArrayVec;
@@ -55,11 +56,11 @@ impl Model for Contents {
 
     ghost Value = { Content };
 
-    ghost use Rattle.rrd_base.specs.Contents.{content_of, IsHeld};
+    ghost use Rattle.rrd_base.specs.Contents.{content_of, IsValidContents};
 
     ghost view = { content_of };
 
-    ghost invariant = { IsHeld };
+    ghost invariant = { IsValidContents };
 }
 
 impl Contents {
@@ -111,7 +112,7 @@ impl Contents {
 
     /// Which archive a fetch reads, and which of its rows.
     pub(crate) fn choose(&self, request: Request) -> Result<Chosen, Refusal>
-        ensures { result ≡ choice_of self.now.step self.now.last (definitions self.now.archives) request }
+        ensures { result ≡ choice_of version_one self.now.step self.now.last (definitions self.now.archives) request }
     {
         let mut search = Search::begin(self.step, self.last, request)?;
         for (number, store) in self.stores.iter().enumerate() {
@@ -154,7 +155,7 @@ impl Contents {
         ensures none { IfNone result ((source : ℕ) → source < length self.now.sources → cell_at self.now archive time source ≡ CellUnknown) }
     {
         let store = &self.stores[archive];
-        let resolution = self.step * store.def().steps;
+        let resolution = store.def().resolution(self.step);
         store.row_of_age(age(self.last, resolution, time))
     }
 
@@ -162,7 +163,7 @@ impl Contents {
     fn begin(&mut self, rates: &[Cell], seconds: u64, meter: &mut Meter)
         requires within { self.old.last + seconds < (self.old.last / self.old.step + 1) * self.old.step }
         requires rates_are { IsRow (length self.old.sources) rates.now }
-        requires in_time { self.old.last + seconds ≤ 9999999999 }
+        requires in_time { self.old.last + seconds ≤ version_one.latest_time }
         requires turns { meter.old + 64 < 2 ^ 64 }
         ensures value { self.new ≡ passed self.old (replicate seconds rates.now) }
         ensures least { meter.old ≤ meter.new }
@@ -185,7 +186,7 @@ impl Contents {
     )
         requires fills { self.old.last + seconds ≡ (self.old.last / self.old.step + 1) * self.old.step }
         requires rates_are { IsRow (length self.old.sources) rates.now }
-        requires in_time { self.old.last + (seconds + count * self.old.step) ≤ 9999999999 }
+        requires in_time { self.old.last + (seconds + count * self.old.step) ≤ version_one.latest_time }
         requires step_wide { length step_room.old ≡ length self.old.sources }
         requires row_wide { length row_room.old ≡ length self.old.sources }
         requires turns { meter.old + 10000000 < 2 ^ 64 }
@@ -220,7 +221,7 @@ impl Contents {
         meter: &mut Meter,
     )
         requires later { self.old.last < time }
-        requires in_time { time ≤ 9999999999 }
+        requires in_time { time ≤ version_one.latest_time }
         requires rates_are { IsRow (length self.old.sources) rates.now }
         requires step_wide { length step_room.old ≡ length self.old.sources }
         requires row_wide { length row_room.old ≡ length self.old.sources }
@@ -254,7 +255,7 @@ impl Contents {
         meter: &mut Meter,
     )
         requires later { self.old.last < time }
-        requires in_time { time ≤ 9999999999 }
+        requires in_time { time ≤ version_one.latest_time }
         requires accepted { AreAccepted self.old.sources raws.now }
         requires rates_wide { length rates.old ≡ length self.old.sources }
         requires step_wide { length step_room.old ≡ length self.old.sources }
@@ -297,7 +298,7 @@ impl Contents {
 
     /// What the journal keeps of an update that ends at a time.
     pub(crate) fn before(&self, alloc: Global, end: u64) -> Result<BeforeUpdate, AllocError>
-        ensures { IfOk result (λ b. (update_of b ≡ before self.now end) × (saved_functions b.archives.items ≡ functions self.now.archives)) }
+        ensures { IfOk result (λ b. update_of b ≡ before self.now end) }
     {
         Ok(BeforeUpdate {
             last: self.last,
@@ -309,10 +310,9 @@ impl Contents {
 
     /// Puts back what was before an update. It takes no memory.
     fn undo_update(&mut self, before: BeforeUpdate)
-        requires functions { saved_functions before.archives.items ≡ functions self.old.archives }
-        requires fits { CanPutBackEach self.old.archives (befores before.archives.items) }
-        requires valid { IsValid (undone self.old (Updated (update_of before))) }
-        ensures { self.new ≡ undone self.old (Updated (update_of before)) }
+        requires fits { CanPutBackEach self.old.archives before.archives.items }
+        requires valid { IsValid (undone self.old (UpdateEntry (update_of before))) }
+        ensures { self.new ≡ undone self.old (UpdateEntry (update_of before)) }
     {
         let BeforeUpdate {
             last,
@@ -327,18 +327,18 @@ impl Contents {
     }
 
     // Puts back the sources that a tune named.
-    fn undo_tune(&mut self, held: &ArrayVec<SourceBefore, 5>)
-        requires { IsValid (undone self.old (WasTuned (map held_of held.now.items))) }
-        ensures { self.new ≡ undone self.old (WasTuned (map held_of held.now.items)) }
+    fn undo_tune(&mut self, olds: &ArrayVec<SourceBefore, 5>)
+        requires { IsValid (undone self.old (TuneEntry olds.now.items)) }
+        ensures { self.new ≡ undone self.old (TuneEntry olds.now.items) }
     {
-        put_held_back(&mut self.sources, &mut self.raws, held.as_slice());
+        put_sources_back(&mut self.sources, &mut self.raws, olds.as_slice());
     }
 
     // Puts back the rows of a resized archive.
     fn undo_resize(&mut self, archive: usize, mut old: Archive)
         requires there { archive < length self.old.archives }
-        requires valid { IsValid (undone self.old (WasResized archive old)) }
-        ensures { self.new ≡ undone self.old (WasResized archive old) }
+        requires valid { IsValid (undone self.old (ResizeEntry archive old)) }
+        ensures { self.new ≡ undone self.old (ResizeEntry archive old) }
     {
         self.stores[archive].swap_rows(&mut old);
     }
@@ -352,11 +352,11 @@ impl Contents {
     }
 
     /// The sources that an accepted tune names, as they are.
-    pub(crate) fn hold(&self, tuning: &Tuning) -> ArrayVec<SourceBefore, 5>
+    pub(crate) fn keep_sources(&self, tuning: &Tuning) -> ArrayVec<SourceBefore, 5>
         requires { verdict self.now (TuningBy tuning.now) ≡ None }
-        ensures { WasTuned (map held_of result.items) ≡ entry_for self.now (TuningBy tuning.now) }
+        ensures { TuneEntry result.items ≡ entry_for self.now (TuningBy tuning.now) }
     {
-        hold(&self.sources, &self.raws, tuning)
+        keep_sources(&self.sources, &self.raws, tuning)
     }
 
     /// The rows that an archive has after an accepted resize.
@@ -394,7 +394,7 @@ impl Contents {
     {
         match entry {
             Entry::Update(before) => self.undo_update(before),
-            Entry::Tune(held) => self.undo_tune(&held),
+            Entry::Tune(olds) => self.undo_tune(&olds),
             Entry::Resize { archive, old } => self.undo_resize(archive as usize, old),
         }
     }

@@ -1,41 +1,19 @@
 //! Making a database.
-ghost use Rattle.std.specs.Prelude.{◌≡◌, ◌-◌, ◌^◌, min, not, map, sum};
+ghost use Rattle.std.specs.Prelude.{◌≡◌, ◌*◌, nat_lt, not};
 ghost use Rattle.std.specs.List.{list_any};
 ghost use Rattle.std.specs.Result.{result_err};
 ghost use Rattle.rrd_fixed.specs.Names.{is_good};
 ghost use Rattle.rrd_spec.specs.Creating as creating;
+ghost use Rattle.rrd_spec.specs.Limits.{version_one};
 ghost use Rattle.rrd_spec.specs.Verdict as verdict;
 
+use crate::definition::all_rows;
+use rrd_spec::limits::{
+    DEEPEST_JOURNAL, GREATEST_BOUND, GREATEST_SHARE, LATEST_TIME, LONGEST_HEARTBEAT, LONGEST_STEP,
+    MOST_ARCHIVES, MOST_CELLS, MOST_ROWS, MOST_SOURCES, MOST_STEPS,
+};
 use crate::named::is_double;
 use crate::{CreateSpec, DsDef, Refusal, RraDef};
-
-/// The latest time of a sample, a start or a fetch.
-pub(crate) const LATEST_TIME: u64 = 9_999_999_999;
-
-// Seconds.
-const LONGEST_STEP: u64 = 1_000_000;
-
-const LONGEST_HEARTBEAT: u64 = 9_999_999_999;
-
-// Millionths: (2^64 - 1) * 10^6.
-const GREATEST_BOUND: u128 = 18_446_744_073_709_551_615_000_000;
-
-// Millionths.
-const GREATEST_XFF: i128 = 999_999;
-
-// Of one row, and of one archive.
-const MOST_STEPS: u64 = 1_000_000;
-
-pub(crate) const MOST_ROWS: u64 = 1_000_000;
-
-// Of one database.
-const MOST_SOURCES: usize = 64;
-
-const MOST_ARCHIVES: usize = 64;
-
-pub(crate) const MOST_CELLS: u64 = 4_000_000;
-
-const DEEPEST_JOURNAL: u64 = 1_000;
 
 /// Whether a database can be made, or the first refusal: each number is judged over all sources or
 /// archives before the next one.
@@ -49,7 +27,7 @@ pub fn check_create(spec: &CreateSpec) -> Result<(), Refusal>
 }
 
 fn check_first(spec: &CreateSpec) -> Result<(), Refusal>
-    ensures { result_err result ≡ verdict.first_refusal (creating.first_checks spec.now) }
+    ensures { result_err result ≡ verdict.first_refusal (creating.first_checks version_one spec.now) }
 {
     if is_bad_step(spec.step) {
         return Err(Refusal::BadStep);
@@ -67,7 +45,7 @@ fn check_first(spec: &CreateSpec) -> Result<(), Refusal>
 }
 
 fn check_sources(sources: &[DsDef]) -> Result<(), Refusal>
-    ensures { result_err result ≡ verdict.first_refusal (creating.source_checks sources.now) }
+    ensures { result_err result ≡ verdict.first_refusal (creating.source_checks version_one sources.now) }
 {
     if any_bad_name(sources) {
         return Err(Refusal::BadName);
@@ -85,7 +63,7 @@ fn check_sources(sources: &[DsDef]) -> Result<(), Refusal>
 }
 
 fn check_archives(archives: &[RraDef]) -> Result<(), Refusal>
-    ensures { result_err result ≡ verdict.first_refusal (creating.archive_checks archives.now) }
+    ensures { result_err result ≡ verdict.first_refusal (creating.archive_checks version_one archives.now) }
 {
     if any_bad_xff(archives) {
         return Err(Refusal::BadXff);
@@ -100,7 +78,7 @@ fn check_archives(archives: &[RraDef]) -> Result<(), Refusal>
 }
 
 fn check_size(spec: &CreateSpec) -> Result<(), Refusal>
-    ensures { result_err result ≡ verdict.first_refusal (creating.size_checks spec.now) }
+    ensures { result_err result ≡ verdict.first_refusal (creating.size_checks version_one spec.now) }
 {
     if is_too_large(spec) {
         return Err(Refusal::TooLarge);
@@ -112,13 +90,13 @@ fn check_size(spec: &CreateSpec) -> Result<(), Refusal>
 }
 
 fn is_bad_step(seconds: u64) -> bool
-    ensures { result ≡ creating.is_bad_step seconds }
+    ensures { result ≡ creating.is_bad_step version_one seconds }
 {
     seconds == 0 || seconds > LONGEST_STEP
 }
 
 fn is_bad_depth(depth: u64) -> bool
-    ensures { result ≡ creating.is_bad_depth depth }
+    ensures { result ≡ creating.is_bad_depth version_one depth }
 {
     depth == 0 || depth > DEEPEST_JOURNAL
 }
@@ -132,7 +110,7 @@ fn any_bad_name(sources: &[DsDef]) -> bool
 }
 
 fn any_bad_heartbeat(sources: &[DsDef]) -> bool
-    ensures { result ≡ list_any (λ source. verdict.is_bad_heartbeat source.heartbeat) sources.now }
+    ensures { result ≡ list_any (λ source. verdict.is_bad_heartbeat version_one source.heartbeat) sources.now }
 {
     sources
         .iter()
@@ -140,27 +118,27 @@ fn any_bad_heartbeat(sources: &[DsDef]) -> bool
 }
 
 fn any_bad_bounds(sources: &[DsDef]) -> bool
-    ensures { result ≡ list_any verdict.has_bad_bounds sources.now }
+    ensures { result ≡ list_any (verdict.has_bad_bounds version_one) sources.now }
 {
     sources.iter().any(|source| has_bad_bounds(source))
 }
 
 /// Whether a heartbeat is not 1 to 9,999,999,999 seconds.
 pub(crate) fn is_bad_heartbeat(seconds: u64) -> bool
-    ensures { result ≡ verdict.is_bad_heartbeat seconds }
+    ensures { result ≡ verdict.is_bad_heartbeat version_one seconds }
 {
     seconds == 0 || seconds > LONGEST_HEARTBEAT
 }
 
 /// Whether a bound is past the greatest rate, or the least is above the greatest.
 pub(crate) fn has_bad_bounds(source: &DsDef) -> bool
-    ensures { result ≡ verdict.has_bad_bounds source.now }
+    ensures { result ≡ verdict.has_bad_bounds version_one source.now }
 {
     is_far(source.min) || is_far(source.max) || is_crossed(source.min, source.max)
 }
 
 fn is_far(bound: Option<i128>) -> bool
-    ensures { result ≡ verdict.is_far bound }
+    ensures { result ≡ verdict.is_far version_one bound }
 {
     match bound {
         Some(bound) => bound.unsigned_abs() > GREATEST_BOUND,
@@ -180,39 +158,39 @@ fn is_crossed(min: Option<i128>, max: Option<i128>) -> bool
 // ---- the archives
 
 fn any_bad_xff(archives: &[RraDef]) -> bool
-    ensures { result ≡ list_any (λ archive. creating.is_bad_xff archive.xff) archives.now }
+    ensures { result ≡ list_any (λ archive. creating.is_bad_xff version_one archive.xff) archives.now }
 {
     archives.iter().any(|archive| is_bad_xff(archive.xff))
 }
 
 fn any_bad_steps(archives: &[RraDef]) -> bool
-    ensures { result ≡ list_any (λ archive. creating.is_bad_steps archive.steps) archives.now }
+    ensures { result ≡ list_any (λ archive. creating.is_bad_steps version_one archive.steps) archives.now }
 {
     archives.iter().any(|archive| is_bad_steps(archive.steps))
 }
 
 fn any_bad_rows(archives: &[RraDef]) -> bool
-    ensures { result ≡ list_any (λ archive. verdict.is_bad_rows archive.rows) archives.now }
+    ensures { result ≡ list_any (λ archive. verdict.is_bad_rows version_one archive.rows) archives.now }
 {
     archives.iter().any(|archive| is_bad_rows(archive.rows))
 }
 
 // Whether a share, in millionths, is not from 0 to below 1.
 fn is_bad_xff(xff: i128) -> bool
-    ensures { result ≡ creating.is_bad_xff xff }
+    ensures { result ≡ creating.is_bad_xff version_one xff }
 {
-    xff < 0 || xff > GREATEST_XFF
+    xff < 0 || xff > GREATEST_SHARE
 }
 
 fn is_bad_steps(steps: u64) -> bool
-    ensures { result ≡ creating.is_bad_steps steps }
+    ensures { result ≡ creating.is_bad_steps version_one steps }
 {
     steps == 0 || steps > MOST_STEPS
 }
 
 /// Whether a number of rows is not 1 to 1,000,000.
 pub(crate) fn is_bad_rows(rows: u64) -> bool
-    ensures { result ≡ verdict.is_bad_rows rows }
+    ensures { result ≡ verdict.is_bad_rows version_one rows }
 {
     rows == 0 || rows > MOST_ROWS
 }
@@ -221,22 +199,18 @@ pub(crate) fn is_bad_rows(rows: u64) -> bool
 
 // Whether there are too many sources, archives or cells.
 fn is_too_large(spec: &CreateSpec) -> bool
-    ensures { result ≡ creating.is_too_large spec.now }
+    ensures { result ≡ creating.is_too_large version_one spec.now }
 {
     let sources = spec.sources.len();
     let archives = spec.archives.len();
     sources > MOST_SOURCES
         || archives > MOST_ARCHIVES
-        || (sources as u64).saturating_mul(all_rows(spec.archives.as_slice())) > MOST_CELLS
+        || has_too_many_cells(sources, all_rows(spec.archives.as_slice()))
 }
 
-// The rows of all archives, or the greatest number if they are more.
-fn all_rows(archives: &[RraDef]) -> u64
-    ensures { result ≡ min (sum (map (λ archive. archive.rows) archives.now)) (2 ^ 64 - 1) }
+/// Whether so many sources with so many rows have too many cells.
+pub(crate) fn has_too_many_cells(sources: usize, rows: u64) -> bool
+    ensures { result ≡ nat_lt version_one.most_cells (sources * rows) }
 {
-    let mut rows: u64 = 0;
-    for archive in archives {
-        rows = rows.saturating_add(archive.rows);
-    }
-    rows
+    (sources as u64).saturating_mul(rows) > MOST_CELLS
 }

@@ -6,16 +6,14 @@ ghost use Rattle.rrd_fold.specs.declared.function.Function.{Function};
 ghost use Rattle.rrd_spec.specs.declared.fetch.Request.{Request};
 ghost use Rattle.rrd_spec.specs.declared.settings.RraDef.{RraDef};
 ghost use Rattle.rrd_spec.specs.Choice as choice;
+ghost use Rattle.rrd_spec.specs.Limits.{version_one};
 ghost use Rattle.rrd_spec.specs.Verdict.{first_refusal};
 
-use crate::create::LATEST_TIME;
+use rrd_spec::limits::{LATEST_TIME, LONGEST_SPAN};
 use crate::{Chosen, Refusal, RraDef};
 use rrd_fold::Function;
 use rrd_spec::{Candidate, Request};
 use std::marker::Model;
-
-// The most rows of one fetch.
-const LONGEST_SPAN: u64 = 1_000_000;
 
 /// The search for the archive that a fetch reads. All archives are offered to it, in order.
 /// Contracts see what is asked for, and the one that is taken of those so far.
@@ -41,11 +39,11 @@ impl Search {
     /// Begins with no archive, or refuses what can't be fetched of any database.
     pub(crate) fn begin(step: u64, last: u64, request: Request) -> Result<Search, Refusal>
         requires some_step { 0 < step }
-        requires small_step { step ≤ 1000000 }
-        requires good_last { last ≤ 9999999999 }
+        requires small_step { step ≤ version_one.longest_step }
+        requires good_last { last ≤ version_one.latest_time }
         ensures { MatchResult result
             (λ search. search ≡ choice.searched step last request [])
-            (λ refusal. (defs : List RraDef) → choice.choice_of step last defs request ≡ Err refusal) }
+            (λ refusal. (defs : List RraDef) → choice.choice_of version_one step last defs request ≡ Err refusal) }
     {
         check_span(request)?;
         Ok(Search {
@@ -59,8 +57,8 @@ impl Search {
     /// Offers the next archive.
     pub(crate) fn offer(&mut self, number: u64, def: &RraDef)
         requires some_steps { 0 < def.now.steps }
-        requires few_steps { def.now.steps ≤ 1000000 }
-        requires few_rows { def.now.rows ≤ 1000000 }
+        requires few_steps { def.now.steps ≤ version_one.most_steps }
+        requires few_rows { def.now.rows ≤ version_one.most_rows }
         ensures { (step last : ℕ) (request : Request) (defs : List RraDef) →
             number ≡ length defs →
             self.old ≡ choice.searched step last request defs →
@@ -83,7 +81,7 @@ impl Search {
     pub(crate) fn finish(&self) -> Result<Chosen, Refusal>
         ensures { (step last : ℕ) (request : Request) (defs : List RraDef) →
             self.now ≡ choice.searched step last request defs →
-            result ≡ choice.choice_of step last defs request }
+            result ≡ choice.choice_of version_one step last defs request }
     {
         let Some(best) = self.best else {
             return Err(Refusal::NoArchiveForFunction);
@@ -98,7 +96,7 @@ impl Search {
 
 // Whether a span can't be fetched of any database.
 fn check_span(request: Request) -> Result<(), Refusal>
-    ensures { result_err result ≡ first_refusal (choice.span_checks request) }
+    ensures { result_err result ≡ first_refusal (choice.span_checks version_one request) }
 {
     if request.start > LATEST_TIME {
         return Err(Refusal::BadTime);
@@ -121,16 +119,16 @@ fn is_same_function(one: Function, other: Function) -> bool
 // An archive as it is judged.
 fn judged(step: u64, last: u64, number: u64, def: &RraDef) -> Candidate
     requires some_step { 0 < step }
-    requires small_step { step ≤ 1000000 }
-    requires good_last { last ≤ 9999999999 }
+    requires small_step { step ≤ version_one.longest_step }
+    requires good_last { last ≤ version_one.latest_time }
     requires some_steps { 0 < def.now.steps }
-    requires few_steps { def.now.steps ≤ 1000000 }
-    requires few_rows { def.now.rows ≤ 1000000 }
+    requires few_steps { def.now.steps ≤ version_one.most_steps }
+    requires few_rows { def.now.rows ≤ version_one.most_rows }
     ensures value { result ≡ choice.candidate step last (number, def.now) }
     ensures some_resolution { 0 < result.resolution }
     ensures small_resolution { result.resolution ≤ 10 ^ 12 }
 {
-    let resolution = step * def.steps;
+    let resolution = def.resolution(step);
     let newest = last / resolution * resolution;
     let reach = newest as i64 - (def.rows * resolution) as i64;
     Candidate {
@@ -177,7 +175,7 @@ fn span(request: Request, one: &Candidate) -> Chosen
     requires some_resolution { 0 < one.now.resolution }
     requires small_resolution { one.now.resolution ≤ 10 ^ 12 }
     requires in_order { request.start ≤ request.end }
-    requires good_end { request.end ≤ 9999999999 }
+    requires good_end { request.end ≤ version_one.latest_time }
     ensures value { result ≡ choice.span request one.now }
     ensures some { 0 < result.res }
     ensures in_order { result.lo ≤ result.hi }

@@ -16,9 +16,9 @@ mod update;
 
 pub use create::check_create;
 pub use database::Database;
-pub use entry::{BeforeUpdate, Entry, SourceBefore};
+pub use entry::{BeforeUpdate, Entry};
 pub use rrd_spec::{
-    Change, Chosen, CreateSpec, DsDef, Given, List, Receipt, Refusal, RraDef, Sample, Tuning,
+    Change, Chosen, CreateSpec, DsDef, Given, List, Receipt, Refusal, RraDef, Sample, SourceBefore, Tuning,
     Update,
 };
 pub use store::SavedArchive;

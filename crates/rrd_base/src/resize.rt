@@ -4,18 +4,21 @@ ghost use Rattle.std.specs.List.{AllByRecursion};
 ghost use Rattle.std.specs.Result.{result_err};
 ghost use Rattle.rrd_spec.specs.Commands.{all_rows_after, rows_changed, rows_of_archives};
 ghost use Rattle.rrd_spec.specs.History.{Resized};
+ghost use Rattle.rrd_spec.specs.Limits.{version_one};
 ghost use Rattle.rrd_base.specs.Resized.{HasFewRows, settings};
 ghost use Rattle.rrd_spec.specs.Verdict as verdict;
 
-use crate::create::{MOST_CELLS, MOST_ROWS, is_bad_rows};
+use crate::create::{has_too_many_cells, is_bad_rows};
+use crate::definition::all_rows;
+use rrd_spec::limits::MOST_ROWS;
 use crate::store::Store;
 use crate::{Change, DsDef, Refusal};
 
 // Whether the archive would have too many rows.
 fn grows_too_far(change: Change, old: u64, rows: u64) -> bool
-    requires small { old ≤ 1000000 }
-    requires few { rows ≤ 1000000 }
-    ensures { result ≡ verdict.grows_too_far change old rows }
+    requires small { old ≤ version_one.most_rows }
+    requires few { rows ≤ version_one.most_rows }
+    ensures { result ≡ verdict.grows_too_far version_one change old rows }
 {
     match change {
         Change::Grow => old + rows > MOST_ROWS,
@@ -35,8 +38,8 @@ fn shrinks_too_far(change: Change, old: u64, rows: u64) -> bool
 
 /// How many rows the archive would have.
 pub(crate) fn rows_changed(change: Change, old: u64, rows: u64) -> u64
-    requires small { old ≤ 1000000 }
-    requires few { rows ≤ 1000000 }
+    requires small { old ≤ version_one.most_rows }
+    requires few { rows ≤ version_one.most_rows }
     ensures { result ≡ rows_changed change old rows }
 {
     match change {
@@ -45,26 +48,16 @@ pub(crate) fn rows_changed(change: Change, old: u64, rows: u64) -> u64
     }
 }
 
-// The rows of all archives.
-fn all_rows(stores: &[Store]) -> u64
-    requires few_rows { AllByRecursion HasFewRows stores.now }
-    requires few { length stores.now ≤ 64 }
-    ensures { result ≡ sum (rows_of_archives stores.now) }
-{
-    let mut rows = 0;
-    for store in stores {
-        rows += store.def().rows;
-    }
-    rows
-}
-
 // The rows of all archives, after a change of one's.
 fn all_rows_then(stores: &[Store], index: usize, change: Change, rows: u64) -> u64
     requires there { index < length stores.now }
     requires few_rows { AllByRecursion HasFewRows stores.now }
-    requires few_stores { length stores.now ≤ 64 }
-    requires few { rows ≤ 1000000 }
-    ensures rows { result ≡ sum (all_rows_after (Resized index (rows_changed change (slice_index_or (rows_of_archives stores.now) index 0) rows)) (rows_of_archives stores.now)) }
+    requires few_stores { length stores.now ≤ version_one.most_archives }
+    requires few { rows ≤ version_one.most_rows }
+    ensures rows { result ≡ sum
+        (all_rows_after (Resized index (rows_changed change (slice_index_or
+        (rows_of_archives stores.now) index 0) rows))
+        (rows_of_archives stores.now)) }
     ensures few { result ≤ 66000000 }
 {
     let old = stores[index].def().rows;
@@ -79,10 +72,11 @@ pub(crate) fn check_resize(
     change: Change,
     rows: u64,
 ) -> Result<(), Refusal>
-    requires few_sources { length sources.now ≤ 64 }
+    requires few_sources { length sources.now ≤ version_one.most_sources }
     requires few_rows { AllByRecursion HasFewRows stores.now }
-    requires few { length stores.now ≤ 64 }
-    ensures { result_err result ≡ verdict.first_refusal (verdict.resize_checks (settings sources.now stores.now) index change rows) }
+    requires few { length stores.now ≤ version_one.most_archives }
+    ensures { result_err result ≡ verdict.first_refusal
+        (verdict.resize_checks version_one (settings sources.now stores.now) index change rows) }
 {
     if index >= stores.len() as u64 {
         return Err(Refusal::NoSuchArchive);
@@ -95,7 +89,7 @@ pub(crate) fn check_resize(
         return Err(Refusal::ShrinkTooFar);
     }
     let all = all_rows_then(stores, index as usize, change, rows);
-    if sources.len() as u64 * all > MOST_CELLS {
+    if has_too_many_cells(sources.len(), all) {
         return Err(Refusal::TooLarge);
     }
     Ok(())

@@ -5,17 +5,19 @@ ghost use Rattle.rrd_fixed.specs.declared.cell.Cell.{Cell};
 ghost use Rattle.rrd_fixed.specs.declared.cell.Cell.TheVariants.{Unknown};
 ghost use Rattle.rrd_fold.specs.Parts.{Part, nothing, row_cell, with_each};
 ghost use Rattle.rrd_ring.specs.Rows.{HasWidth, newest_rows, row_at, width};
-ghost use Rattle.rrd_spec.specs.Entries.{dropped, put_back as after_put_back, put_back_each};
+ghost use Rattle.rrd_spec.specs.Entries.{put_back as after_put_back, put_back_each, saved};
+ghost use Rattle.rrd_spec.specs.Limits.{version_one};
 ghost use Rattle.rrd_spec.specs.Creating.{new_archive};
 ghost use Rattle.rrd_spec.specs.Each.{AllOf, parts_in};
 ghost use Rattle.rrd_spec.specs.History.{keep_last};
 ghost use Rattle.rrd_spec.specs.Passed.{archive_passed, row_of_age};
 ghost use Rattle.rrd_spec.specs.Shown.{definitions};
 ghost use Rattle.rrd_spec.specs.Turns.{least_of_steps, most_of_steps, rows_pushed};
-ghost use Rattle.rrd_base.specs.Store.{CanPutBack, CanPutBackEach, IsStepped, befores, functions, saved_functions};
+ghost use Rattle.rrd_base.specs.Store.{CanPutBack, CanPutBackEach, IsStepped};
 ghost use Rattle.rrd_spec.specs.Validity.{IsRow, IsValidArchive};
 
 use crate::RraDef;
+use crate::definition::HasRows;
 use crate::preparing::{add_each, close_each};
 use rrd_fixed::{Cell, Meter};
 use rrd_fold::{Function, RowPrep};
@@ -43,6 +45,14 @@ impl Model for Store {
     ghost invariant = { λ s. AllOf s.def.function s.preps.items };
 }
 
+impl HasRows for Store {
+    ghost rows_of = { λ store. store.def.rows };
+
+    fn row_count(&self) -> u64 {
+        self.def.rows
+    }
+}
+
 /// What is kept of an archive before an update: for each data source the preparation of its
 /// unfinished row, and the oldest rows, as many as the update finishes or all.
 #[derive(Drop)]
@@ -54,11 +64,11 @@ pub struct SavedArchive {
 
 impl Model for SavedArchive {
     ghost use Rattle.rrd_spec.specs.Each.{AllOf, parts_in};
-    ghost use Rattle.rrd_base.specs.Store.{Saved};
+    ghost use Rattle.rrd_spec.specs.Entries.{SavedArchive};
 
-    ghost Value = { Saved };
+    ghost Value = { SavedArchive };
 
-    ghost view = { λ s. record { function = s.function; before = record { parts = parts_in s.preps.items; rows = s.rows } } };
+    ghost view = { λ s. record { function = s.function; parts = parts_in s.preps.items; rows = s.rows } };
 
     ghost invariant = { λ s. AllOf s.function s.preps.items };
 }
@@ -67,7 +77,7 @@ impl SavedArchive {
     /// What is kept of an archive of this function. The preparations are of that function.
     pub fn new(function: Function, preps: Vec<RowPrep>, rows: Dropped) -> SavedArchive
         requires { AllOf function preps.items }
-        ensures { result ≡ record { function = function; before = record { parts = parts_in preps.items; rows = rows } } }
+        ensures { result ≡ record { function = function; parts = parts_in preps.items; rows = rows } }
     {
         SavedArchive {
             function,
@@ -85,7 +95,7 @@ impl SavedArchive {
 
     /// For each data source the preparation of its unfinished row.
     pub fn preps(&self) -> &[RowPrep]
-        ensures parts { parts_in result.now ≡ self.now.before.parts }
+        ensures parts { parts_in result.now ≡ self.now.parts }
         ensures function { AllOf self.now.function result.now }
     {
         self.preps.as_slice()
@@ -93,7 +103,7 @@ impl SavedArchive {
 
     /// The rows, oldest first.
     pub fn rows(&self) -> &Dropped
-        ensures { result.now ≡ self.now.before.rows }
+        ensures { result.now ≡ self.now.rows }
     {
         &self.rows
     }
@@ -103,9 +113,9 @@ impl Store {
     /// An archive without steps, so many sources having been defined: all its rows are unknown.
     pub(crate) fn new(alloc: Global, def: RraDef, sources: u64) -> Result<Store, AllocError>
         requires some_rows { 0 < def.rows }
-        requires few_rows { def.rows ≤ 1000000 }
+        requires few_rows { def.rows ≤ version_one.most_rows }
         requires some_sources { 0 < sources }
-        requires few_sources { sources ≤ 64 }
+        requires few_sources { sources ≤ version_one.most_sources }
         ensures { IfOk result (λ s. s ≡ record { def = def; parts = replicate sources nothing; rows = replicate def.rows (replicate sources Unknown) }) }
     {
         let preps = vec![in alloc; RowPrep::new(def.function); sources as usize]?;
@@ -167,9 +177,9 @@ impl Store {
     fn close_row(&mut self, row: &mut [Cell], meter: &mut Meter)
         requires room { length row.old ≡ length self.old.parts }
         requires some_steps { 0 < self.old.def.steps }
-        requires few_steps { self.old.def.steps ≤ 1000000 }
+        requires few_steps { self.old.def.steps ≤ version_one.most_steps }
         requires xff_low { pos 0 ≤ℤ self.old.def.xff }
-        requires xff_high { self.old.def.xff ≤ℤ pos 999999 }
+        requires xff_high { self.old.def.xff ≤ℤ pos version_one.greatest_share }
         requires fits { AllByRecursion (λ (p : Part). p.known ≤ self.old.def.steps) self.old.parts }
         requires turns { meter.old + length row.old < 2 ^ 64 }
         ensures cells { row.new ≡ map (row_cell self.old.def.function self.old.def.xff self.old.def.steps) self.old.parts }
@@ -208,7 +218,7 @@ impl Store {
         requires first_bounded { IsRow (length first.now) first.now }
         requires then_bounded { IsRow (length first.now) then.now }
         requires room { length row.old ≡ length first.now }
-        requires in_time { before + (1 + count) ≤ 9999999999 }
+        requires in_time { before + (1 + count) ≤ version_one.latest_time }
         requires turns { meter.old + length first.now * (4 + rows_pushed before (1 + count) self.old.def) < 2 ^ 64 }
         ensures value { self.new ≡ archive_passed (length first.now) before (first.now ∷ replicate count then.now) self.old }
         ensures valid { IsValidArchive (length first.now) (before + (1 + count)) self.new }
@@ -233,7 +243,7 @@ impl Store {
     /// A copy of the preparations and of the `n` oldest rows.
     pub(crate) fn save(&self, alloc: Global, n: u64) -> Result<SavedArchive, AllocError>
         requires { n ≤ length self.now.rows }
-        ensures { IfOk result (λ saved. saved ≡ record { function = self.now.def.function; before = record { parts = self.now.parts; rows = first n self.now.rows } }) }
+        ensures { IfOk result (λ s. s ≡ record { function = self.now.def.function; parts = self.now.parts; rows = first n self.now.rows }) }
     {
         let preps = Vec::from_slice(alloc, &self.preps)?;
         let rows = self.rows.oldest(alloc, n)?;
@@ -251,19 +261,18 @@ impl Store {
     ) -> Result<SavedArchive, AllocError>
         requires stepped { IsStepped self.now }
         requires some_step { 0 < step }
-        requires small_step { step ≤ 1000000 }
-        ensures { IfOk result (λ saved. saved ≡ record { function = self.now.def.function; before = dropped step from to self.now }) }
+        requires small_step { step ≤ version_one.longest_step }
+        ensures { IfOk result (λ s. s ≡ saved step from to self.now) }
     {
-        let resolution = step * self.def.steps;
+        let resolution = self.def.resolution(step);
         let ended = (to / resolution).saturating_sub(from / resolution);
         self.save(alloc, ended.min(self.rows.rows()))
     }
 
     /// Puts preparations and rows back. As many of the newest rows fall out. It takes no memory.
     pub(crate) fn put_back(&mut self, saved: SavedArchive)
-        requires function { saved.function ≡ self.old.def.function }
-        requires fits { CanPutBack self.old saved.before }
-        ensures { self.new ≡ after_put_back self.old saved.before }
+        requires { CanPutBack self.old saved }
+        ensures { self.new ≡ after_put_back self.old saved }
     {
         let SavedArchive { preps, rows, .. } = saved;
         self.preps = preps;
@@ -274,7 +283,7 @@ impl Store {
     /// (rrdresize).
     pub(crate) fn resized(&self, alloc: Global, rows: u64) -> Result<Archive, AllocError>
         requires some_rows { 0 < rows }
-        requires few_rows { rows ≤ 1000000 }
+        requires few_rows { rows ≤ version_one.most_rows }
         ensures { IfOk result (λ new. new ≡ newest_rows rows self.now.rows) }
     {
         self.rows.resized(alloc, rows)
@@ -305,7 +314,7 @@ pub(crate) fn take_all(
     requires first_bounded { IsRow (length first.now) first.now }
     requires then_bounded { IsRow (length first.now) then.now }
     requires room { length row.old ≡ length first.now }
-    requires in_time { before + (1 + count) ≤ 9999999999 }
+    requires in_time { before + (1 + count) ≤ version_one.latest_time }
     requires turns { meter.old + length first.now * most_of_steps before (1 + count) (definitions stores.old) < 2 ^ 64 }
     ensures value { stores.new ≡ map (archive_passed (length first.now) before (first.now ∷ replicate count then.now)) stores.old }
     ensures valid { AllByRecursion (IsValidArchive (length first.now) (before + (1 + count))) stores.new }
@@ -354,9 +363,8 @@ pub(crate) fn save_all(
 ) -> Result<Vec<SavedArchive>, AllocError>
     requires stepped { AllByRecursion IsStepped stores.now }
     requires some_step { 0 < step }
-    requires small_step { step ≤ 1000000 }
-    ensures values { IfOk result (λ saved. befores saved.items ≡ map (dropped step from to) stores.now) }
-    ensures functions { IfOk result (λ saved. saved_functions saved.items ≡ functions stores.now) }
+    requires small_step { step ≤ version_one.longest_step }
+    ensures { IfOk result (λ all. all.items ≡ map (saved step from to) stores.now) }
 {
     let mut all = Vec::with_capacity(alloc, stores.len())?;
     for store in stores {
@@ -368,9 +376,8 @@ pub(crate) fn save_all(
 
 /// Puts back what was kept of each archive. It takes no memory.
 pub(crate) fn put_back_all(stores: &mut [Store], mut saved: Vec<SavedArchive>)
-    requires functions { saved_functions saved.items ≡ functions stores.old }
-    requires fits { CanPutBackEach stores.old (befores saved.items) }
-    ensures { stores.new ≡ put_back_each stores.old (befores saved.items) }
+    requires fits { CanPutBackEach stores.old saved.items }
+    ensures { stores.new ≡ put_back_each stores.old saved.items }
 {
     while let Some(old) = saved.pop() {
         stores[saved.len()].put_back(old);
@@ -383,9 +390,9 @@ pub(crate) fn new_all(
     defs: &[RraDef],
     sources: u64,
 ) -> Result<Vec<Store>, AllocError>
-    requires rows { AllByRecursion (λ def. (0 < def.rows) × (def.rows ≤ 1000000)) defs.now }
+    requires rows { AllByRecursion (λ def. (0 < def.rows) × (def.rows ≤ version_one.most_rows)) defs.now }
     requires some_sources { 0 < sources }
-    requires few_sources { sources ≤ 64 }
+    requires few_sources { sources ≤ version_one.most_sources }
     ensures { IfOk result (λ stores. stores.items ≡ map (new_archive sources) defs.now) }
 {
     let mut stores = Vec::with_capacity(alloc, defs.len())?;

@@ -5,11 +5,12 @@ ghost use Rattle.std.specs.Result.{result_err};
 ghost use Rattle.rrd_spec.specs.Commands as commands;
 ghost use Rattle.rrd_spec.specs.Entries as entries;
 ghost use Rattle.rrd_spec.specs.History.{raws_under};
-ghost use Rattle.rrd_base.specs.Tuned.{held_of, with_raws, with_sources};
+ghost use Rattle.rrd_base.specs.Tuned.{with_raws, with_sources};
+ghost use Rattle.rrd_spec.specs.Limits.{version_one};
 ghost use Rattle.rrd_spec.specs.Verdict as verdict;
 
 use crate::create::{has_bad_bounds, is_bad_heartbeat};
-use crate::entry::SourceBefore;
+use crate::SourceBefore;
 use crate::named::has_source;
 use crate::{DsDef, Refusal, Tuning};
 use arrayvec::ArrayVec;
@@ -71,7 +72,8 @@ fn doubles_name(sources: &[DsDef], tuning: &Tuning) -> bool
 
 // Whether a source would have bad bounds.
 fn any_bad_bounds(sources: &[DsDef], tuning: &Tuning) -> bool
-    ensures { result ≡ list_any (λ source. verdict.has_bad_bounds (commands.tuned tuning.now source)) sources.now }
+    ensures { result
+        ≡ list_any (λ source. verdict.has_bad_bounds version_one (commands.tuned tuning.now source)) sources.now }
 {
     sources
         .iter()
@@ -80,7 +82,7 @@ fn any_bad_bounds(sources: &[DsDef], tuning: &Tuning) -> bool
 
 // Whether the new heartbeat is a bad one.
 fn has_bad_heartbeat(tuning: &Tuning) -> bool
-    ensures { result ≡ verdict.asks_bad_heartbeat tuning.now }
+    ensures { result ≡ verdict.asks_bad_heartbeat version_one tuning.now }
 {
     match &tuning.heartbeat {
         Some((_, seconds)) => is_bad_heartbeat(*seconds),
@@ -90,7 +92,7 @@ fn has_bad_heartbeat(tuning: &Tuning) -> bool
 
 /// Whether a tune is accepted, or the first refusal (rrdtune).
 pub(crate) fn check_tune(sources: &[DsDef], tuning: &Tuning) -> Result<(), Refusal>
-    ensures { result_err result ≡ verdict.first_refusal (verdict.tune_checks sources.now tuning.now) }
+    ensures { result_err result ≡ verdict.first_refusal (verdict.tune_checks version_one sources.now tuning.now) }
 {
     if asks_nothing(tuning) {
         return Err(Refusal::NothingToTune);
@@ -199,37 +201,41 @@ fn is_named(tuning: &Tuning, source: &DsDef) -> bool
 }
 
 /// The sources that a tune names, as they are, by rising number. It takes no memory.
-pub(crate) fn hold(sources: &[DsDef], raws: &[Raw], tuning: &Tuning) -> ArrayVec<SourceBefore, 5>
+pub(crate) fn keep_sources(
+    sources: &[DsDef],
+    raws: &[Raw],
+    tuning: &Tuning,
+) -> ArrayVec<SourceBefore, 5>
     requires one_each { length raws.now ≡ length sources.now }
-    requires few { length (entries.held tuning.now 0 sources.now raws.now) ≤ 5 }
-    ensures { map held_of result.items ≡ entries.held tuning.now 0 sources.now raws.now }
+    requires few { length (entries.sources_before tuning.now 0 sources.now raws.now) ≤ 5 }
+    ensures { result.items ≡ entries.sources_before tuning.now 0 sources.now raws.now }
 {
-    let mut held = ArrayVec::new();
+    let mut olds = ArrayVec::new();
     for place in 0..sources.len() {
         let source = &sources[place];
         if is_named(tuning, source) {
-            held.push(SourceBefore {
+            olds.push(SourceBefore {
                 number: place as u64,
                 source: source.duplicate(),
                 raw: raws[place],
             });
         }
     }
-    held
+    olds
 }
 
 /// Puts back the sources as they were.
-pub(crate) fn put_held_back(sources: &mut [DsDef], raws: &mut [Raw], held: &[SourceBefore])
-    ensures sources { sources.new ≡ with_sources sources.old (map held_of held.now) }
-    ensures raws { raws.new ≡ with_raws raws.old (map held_of held.now) }
+pub(crate) fn put_sources_back(sources: &mut [DsDef], raws: &mut [Raw], olds: &[SourceBefore])
+    ensures sources { sources.new ≡ with_sources sources.old olds.now }
+    ensures raws { raws.new ≡ with_raws raws.old olds.now }
 {
-    for one in held {
-        let number = one.number as usize;
+    for old in olds {
+        let number = old.number as usize;
         if number < sources.len() {
-            sources[number] = one.source.duplicate();
+            sources[number] = old.source.duplicate();
         }
         if number < raws.len() {
-            raws[number] = one.raw;
+            raws[number] = old.raw;
         }
     }
 }

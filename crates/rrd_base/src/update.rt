@@ -5,11 +5,12 @@ ghost use Rattle.rrd_spec.specs.declared.update.Given.TheVariants.{Unknown};
 ghost use Rattle.std.specs.List.{list_any, list_all};
 ghost use Rattle.std.specs.Result.{result_err};
 ghost use Rattle.rrd_spec.specs.Commands.{names, raw_of, value_for};
+ghost use Rattle.rrd_spec.specs.Limits.{version_one};
 ghost use Rattle.rrd_spec.specs.Verdict.{first_refusal, has_source, is_admitted, is_double, sample_checks, update_checks};
 ghost use Rattle.rrd_spec.specs.Updating.{template_checks, template_of};
 ghost use Rattle.rrd_fixed.specs.Rate.{IsAccepted};
 
-use crate::create::LATEST_TIME;
+use rrd_spec::limits::LATEST_TIME;
 use crate::named::{Named, has_source, is_double};
 use crate::{DsDef, Given, List, Refusal, Sample, Update};
 use rrd_fixed::{Name, Raw, admit};
@@ -36,7 +37,8 @@ fn value_for(
 ) -> Given
     requires there { place < length sources.now }
     requires names_differ { is_double (names sources.now) ≡ false }
-    ensures { (d : DsDef) → result ≡ value_for (template_of sources.now template.now) values.now (slice_index_or sources.now place d) }
+    ensures { (d : DsDef) →
+        result ≡ value_for (template_of sources.now template.now) values.now (slice_index_or sources.now place d) }
 {
     match template {
         Some(names) => value_named(names.as_slice(), values, &sources[place]),
@@ -78,7 +80,9 @@ fn is_admitted(source: &DsDef, given: Given) -> bool
 // Whether each source accepts its value.
 fn are_admitted(template: &Option<List<Name>>, sources: &[DsDef], values: &[Given]) -> bool
     requires { is_double (names sources.now) ≡ false }
-    ensures { result ≡ list_all (λ source. is_admitted source (value_for (template_of sources.now template.now) values.now source)) sources.now }
+    ensures { result ≡ list_all
+        (λ source. is_admitted source (value_for (template_of sources.now template.now) values.now source))
+        sources.now }
 {
     for place in 0..sources.len() {
         if !is_admitted(&sources[place], value_for(template, sources, values, place)) {
@@ -96,7 +100,8 @@ fn check_sample(
     sample: &Sample,
 ) -> Result<(), Refusal>
     requires { is_double (names sources.now) ≡ false }
-    ensures { result_err result ≡ first_refusal (sample_checks sources.now (template_of sources.now template.now) last (sample.now ∷ [])) }
+    ensures { result_err result ≡ first_refusal
+        (sample_checks version_one sources.now (template_of sources.now template.now) last (sample.now ∷ [])) }
 {
     if sample.time > LATEST_TIME {
         return Err(Refusal::BadTime);
@@ -121,7 +126,8 @@ fn check_samples(
     samples: &[Sample],
 ) -> Result<(), Refusal>
     requires { is_double (names sources.now) ≡ false }
-    ensures { result_err result ≡ first_refusal (sample_checks sources.now (template_of sources.now template.now) last samples.now) }
+    ensures { result_err result ≡ first_refusal
+        (sample_checks version_one sources.now (template_of sources.now template.now) last samples.now) }
 {
     let mut last = last;
     for sample in samples {
@@ -157,7 +163,7 @@ fn check_template(template: &Option<List<Name>>, sources: &[DsDef]) -> Result<()
 /// Whether an update is accepted, or the first refusal (rrdupdate).
 pub(crate) fn check_update(sources: &[DsDef], last: u64, update: &Update) -> Result<(), Refusal>
     requires { is_double (names sources.now) ≡ false }
-    ensures { result_err result ≡ first_refusal (update_checks sources.now last update.now) }
+    ensures { result_err result ≡ first_refusal (update_checks version_one sources.now last update.now) }
 {
     check_template(&update.template, sources)?;
     let samples = update.samples.as_slice();
@@ -190,7 +196,9 @@ pub(crate) fn raws_into(
 )
     requires room { length room.old ≡ length sources.now }
     requires names_differ { is_double (names sources.now) ≡ false }
-    ensures value { room.new ≡ map (λ source. raw_of source.kind (value_for (template_of sources.now template.now) values.now source)) sources.now }
+    ensures value { room.new ≡ map
+        (λ source. raw_of source.kind (value_for (template_of sources.now template.now) values.now source))
+        sources.now }
 {
     for place in 0..sources.len() {
         let given = value_for(template, sources, values, place);

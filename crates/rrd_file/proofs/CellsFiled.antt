@@ -1,5 +1,5 @@
 -- Cells in the order of a file, as a database shows them.
-use Rattle.std.proofs.Common.{◌≡◌, ◌∙◌, ◌+◌, ◌-◌, ◌*◌, ◌/◌, ◌<◌, ◌≤◌, ◌^◌, ◌++◌, ℕ, zero, suc, ℤ, List, [], ◌∷◌, Some, sym, ap, subst, arith, length, get_or, map, pos, ◌-ℤ◌, replicate, refl}
+use Rattle.std.proofs.Common.{◌≡◌, ◌∙◌, ◌+◌, ◌-◌, ◌*◌, ◌/◌, ◌<◌, ◌≤◌, ◌++◌, ℕ, zero, suc, ℤ, List, [], ◌∷◌, Some, sym, ap, subst, arith, length, get_or, map, pos, ◌-ℤ◌, replicate, refl}
 use Rattle.std.specs.Prelude.{slice_get, slice_index_or}
 use Rattle.std.specs.List.{flat_map, range_with_len}
 use Rattle.std.specs.Int.{int_div_euclid}
@@ -7,7 +7,7 @@ use Rattle.std.proofs.lemmas.Bool.{lt-ltb}
 use Rattle.std.proofs.lemmas.Grind.{flat_map-append}
 use Rattle.std.proofs.lemmas.List.Concat.{flat_map-cons}
 use Rattle.std.proofs.lemmas.Nat.{mul-le}
-use Rattle.std.proofs.lemmas.Option.{get_or_from_slice_get, slice_get_within, slice_get-get_or}
+use Rattle.std.proofs.lemmas.Option.{get_or_from_slice_get, slice_get-get_or}
 use Rattle.rrd_fixed.specs.declared.cell.Cell.{Cell}
 use Rattle.rrd_spec.specs.declared.settings.RraDef.{RraDef}
 use Rattle.rrd_spec.specs.Cells.{resolution, time_of}
@@ -15,10 +15,9 @@ use Rattle.rrd_spec.specs.History.{Archive, Content}
 use Rattle.rrd_spec.specs.Passed.{row_at, row_of_age}
 use Rattle.rrd_spec.specs.Shown.{cell_at}
 use Rattle.rrd_spec.specs.Validity.{IsRow, IsValid}
-use Rattle.rrd_spec.proofs.ShownLemmas.{cell_of_archive}
 use Rattle.std.proofs.lemmas.List.FromFn.{get_or-range_with_len, length-range_with_len}
 use Rattle.rrd_spec.specs.Slots.{place_in, row_in}
-use Rattle.rrd_file.proofs.Told.{all_of, archive_at, some_is}
+use Rattle.rrd_file.proofs.Told.{all_of, archive_at, cell_told, some_is}
 use Rattle.rrd_file.proofs.Slotted.{age_is, is_place, row_in_is}
 use Rattle.rrd_file.specs.Layout.{spelled}
 use Rattle.rrd_file.specs.Pieces.{OfCell, spell}
@@ -28,9 +27,6 @@ product a b p q = omega (arith, mul-le 1 1 a b (omega (arith, p)) (omega (arith,
 
 pub some_size : (d : Content) (n : ℕ) (a : Archive) → IsValid d → slice_get d.archives n ≡ Some a → 0 < resolution d.step a.def
 some_size d n a v e = product d.step a.def.steps v.some_step (archive_at d n a v e).some_steps
-
-pub small_size : (d : Content) (n : ℕ) (a : Archive) → IsValid d → slice_get d.archives n ≡ Some a → resolution d.step a.def ≤ 10 ^ 12
-small_size d n a v e = omega (arith, mul-le d.step a.def.steps 1000000 1000000 v.small_step (archive_at d n a v e).few_steps)
 
 -- the row at the time of a place
 row_at_place : (d : Content) (a : Archive) (place : ℕ) (time : ℤ) → 0 < resolution d.step a.def → place < length a.rows → time ≡ time_of (resolution d.step a.def) (length a.rows) d.last place → row_at d a time ≡ get_or a.rows place []
@@ -54,11 +50,9 @@ pub cell_is : (d : Content) (n : ℕ) (a : Archive) (place source : ℕ) (time :
 cell_is d n a place source time v e inside within is =
     let row = get_or a.rows place [] in
     let wide : source < length row = omega (arith, within, row_width d n a place v e inside) in
-    let there : n < length d.archives = slice_get_within d.archives n a e in
-    let mine : get_or d.archives n a ≡ a = get_or_from_slice_get d.archives n a a e in
     let shown : get_or row source Cell.Unknown ≡ cell_at d n time source =
     ap (λ r. get_or r source Cell.Unknown) (sym (row_at_place d a place time (some_size d n a v e) inside is))
-    ∙ (ap (λ (x : Archive). get_or (row_at d x time) source Cell.Unknown) (sym mine) ∙ cell_of_archive d d.archives n a time source there) in
+    ∙ sym (cell_told d d.archives n a time source e) in
     slice_get-get_or row source Cell.Unknown wide ∙ ap (λ c. Some c) shown
 
 -- ---- cells, list by list
@@ -91,13 +85,15 @@ pub same_def : (d : Content) (n : ℕ) (def : RraDef) (a : Archive) → IsDefOf 
 same_def d n def a f e = let same : a ≡ f.archive = some_is a f.archive (sym e ∙ f.there) in ap (λ (x : Archive). x.def) same ∙ f.def_is
 
 -- the settings are small
-pub record IsSmallDef (step : ℕ) (def : RraDef) : Type 0 where
-  pub some_size : 0 < step * def.steps
-  pub small_size : step * def.steps ≤ 10 ^ 12
+pub record IsSmallDef (def : RraDef) : Type 0 where
+  pub some_steps : 0 < def.steps
+  pub few_steps : def.steps ≤ 1000000
   pub few_rows : def.rows ≤ 1000000
 
-pub small_def : (d : Content) (n : ℕ) (def : RraDef) → IsValid d → IsDefOf d n def → IsSmallDef d.step def
-small_def d n def v f = subst (IsSmallDef d.step) f.def_is (record { some_size = some_size d n f.archive v f.there; small_size = small_size d n f.archive v f.there; few_rows = (archive_at d n f.archive v f.there).few_rows })
+pub small_def : (d : Content) (n : ℕ) (def : RraDef) → IsValid d → IsDefOf d n def → IsSmallDef def
+small_def d n def v f =
+    let archive = archive_at d n f.archive v f.there in
+    subst IsSmallDef f.def_is (record { some_steps = archive.some_steps; few_steps = archive.few_steps; few_rows = archive.few_rows })
 
 pub rows_are : (d : Content) (n : ℕ) (def : RraDef) (a : Archive) → IsValid d → IsDefOf d n def → slice_get d.archives n ≡ Some a → length a.rows ≡ def.rows
 rows_are d n def a v f e = (archive_at d n a v e).rows_are ∙ ap (λ (x : RraDef). x.rows) (same_def d n def a f e)

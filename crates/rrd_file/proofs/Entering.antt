@@ -1,22 +1,21 @@
 -- What an entry of a valid database keeps to.
-use Rattle.std.proofs.Common.{◌≡◌, ◌<◌, ◌≤◌, ◌^◌, ◌+◌, ℕ, zero, suc, List, [], ◌∷◌, Some, ap, subst, map, length, get_or, arith}
+use Rattle.std.proofs.Common.{◌≡◌, ◌<◌, ◌≤◌, ◌^◌, ◌+◌, ℕ, zero, suc, List, [], ◌∷◌, Some, ap, subst, length, get_or, arith}
 use Rattle.std.specs.Prelude.{slice_get}
 use Rattle.std.specs.List.{AllByRecursion}
-use Rattle.rrd_base.specs.declared.entry.SourceBefore.{SourceBefore}
+use Rattle.rrd_spec.specs.declared.entry.SourceBefore.{SourceBefore}
 use Rattle.rrd_spec.specs.History.{Content}
-use Rattle.rrd_spec.specs.Entries.{Entry, Held, undone}
-use Rattle.rrd_base.specs.Tuned.{held_of}
+use Rattle.rrd_spec.specs.Entries.{Entry, undone}
 use Rattle.rrd_spec.specs.Validity.{IsValid, IsValidJournal, IsValidDatabase, Fits, Rise}
 use Rattle.rrd_file.proofs.Told.{some_is}
 use Rattle.rrd_file.specs.Entered.{HasSmallNumber, IsEntryOfSome}
 
-small_in : (held : List SourceBefore) (i : ℕ) (x : SourceBefore) → AllByRecursion HasSmallNumber (map held_of held) → i < length held → (get_or held i x).number < 2 ^ 16
+small_in : (olds : List SourceBefore) (i : ℕ) (x : SourceBefore) → AllByRecursion HasSmallNumber olds → i < length olds → (get_or olds i x).number < 2 ^ 16
 small_in [] i x all h = absurd (omega arith)
-small_in (y ∷ held) zero x all h = all.0
-small_in (y ∷ held) (suc i) x all h = small_in held i x all.1 (omega arith)
+small_in (y ∷ olds) zero x all h = all.0
+small_in (y ∷ olds) (suc i) x all h = small_in olds i x all.1 (omega arith)
 
-pub small_at : (held : List SourceBefore) (i : ℕ) (x : SourceBefore) → AllByRecursion HasSmallNumber (map held_of held) → i < length held → x ≡ get_or held i x → x.number < 2 ^ 16
-small_at held i x all h is = omega (arith, small_in held i x all h, ap (λ (y : SourceBefore). y.number) is)
+pub small_at : (olds : List SourceBefore) (i : ℕ) (x : SourceBefore) → AllByRecursion HasSmallNumber olds → i < length olds → x ≡ get_or olds i x → x.number < 2 ^ 16
+small_at olds i x all h is = omega (arith, small_in olds i x all h, ap (λ (y : SourceBefore). y.number) is)
 
 some_entry : (now : Content) (journal : List Entry) (i : ℕ) (e : Entry) → IsValid now → IsValidJournal now journal → slice_get journal i ≡ Some e → IsEntryOfSome e
 some_entry now [] i e v j is = absurd cc
@@ -27,6 +26,6 @@ pub entry_of_some : (now : Content) (journal : List Entry) (i : ℕ) (e : Entry)
 entry_of_some now journal i e v is = some_entry now journal i e v.content_is v.journal_is is
 
 -- numbers that rise below a small limit
-pub small_numbers_held : (lowest limit : ℕ) (olds : List Held) → limit ≤ 64 → Rise lowest limit olds → AllByRecursion HasSmallNumber olds
-small_numbers_held lowest limit [] few r = tt
-small_numbers_held lowest limit (old ∷ olds) few r = (omega (arith, r.1), small_numbers_held (old.number + 1) limit olds few r.2)
+pub small_numbers : (lowest limit : ℕ) (olds : List SourceBefore) → limit ≤ 64 → Rise lowest limit olds → AllByRecursion HasSmallNumber olds
+small_numbers lowest limit [] few r = tt
+small_numbers lowest limit (old ∷ olds) few r = (omega (arith, r.1), small_numbers (old.number + 1) limit olds few r.2)

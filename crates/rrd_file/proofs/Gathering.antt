@@ -9,8 +9,8 @@ use Rattle.std.proofs.lemmas.List.Concat.{flat_map-cons}
 use Rattle.std.specs.Option.{option_map}
 use Rattle.std.proofs.lemmas.Option.{get_or_from_slice_get, slice_get_within, slice_get-get_or, slice_get-map}
 use Rattle.rrd_fixed.specs.Written.{AppendsFront, Writes}
-use Rattle.rrd_fixed.specs.declared.writing.WriteFault.{WriteFault}
-use Rattle.rrd_fixed.proofs.Writings.{writes_stop, writes_then}
+use Rattle.rrd_fixed.specs.declared.streams.WriteFault.{WriteFault}
+use Rattle.rrd_fixed.specs.Writing.{writes_stop, writes_then}
 use Rattle.rrd_file.specs.Gathered.{Adds, Breaks, Gathers}
 
 -- ---- one run of bytes and then another

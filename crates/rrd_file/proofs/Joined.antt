@@ -2,11 +2,11 @@
 use Rattle.std.proofs.Common.{◌≡◌, ◌∙◌, ◌++◌, ◌∷◌, [], List, ℕ, sym, ap, append_assoc, append-nil, map, refl, length}
 use Rattle.std.specs.List.{flat_map}
 use Rattle.std.proofs.lemmas.Grind.{flat_map-append}
-use Rattle.rrd_spec.specs.Entries.{Dropped}
+use Rattle.rrd_spec.specs.Entries.{SavedArchive}
 use Rattle.rrd_spec.specs.Filed.{Filed, One, filed, head_of, header_of}
 use Rattle.rrd_spec.specs.History.{Archive}
-use Rattle.rrd_spec.specs.Survivors.{Kept}
-use Rattle.rrd_file.specs.Layout.{body_pieces, dropped_pieces, entry_pieces, head_pieces, layout, row_pieces, spelled}
+use Rattle.rrd_spec.specs.Survivors.{Stored}
+use Rattle.rrd_file.specs.Layout.{body_pieces, saved_pieces, entry_pieces, head_pieces, layout, row_pieces, spelled}
 use Rattle.rrd_file.specs.Pieces.{Piece, Mark, OfVersion, OfHeader, OfSource, OfArchive, OfPrep, OfRows, OfCell, spell}
 
 -- ---- bytes added in turn
@@ -41,11 +41,11 @@ joined_three xs ys zs = joined_two xs (ys ++ zs) ∙ ap (λ l. spelled xs ++ l) 
 pub joined_head : (a : Archive) → spelled (head_pieces (head_of a)) ≡ spell (OfArchive a.def) ++ spelled (map OfPrep a.parts)
 joined_head a = refl
 
-pub joined_dropped : (old : Dropped) → spelled (dropped_pieces old) ≡ spelled (map OfPrep old.parts) ++ (spell (OfRows (length old.rows)) ++ spelled (row_pieces old.rows))
-joined_dropped old = flat_map-append spell (map OfPrep old.parts) (OfRows (length old.rows) ∷ row_pieces old.rows)
+pub joined_saved : (old : SavedArchive) → spelled (saved_pieces old) ≡ spelled (map OfPrep old.parts) ++ (spell (OfRows (length old.rows)) ++ spelled (row_pieces old.rows))
+joined_saved old = flat_map-append spell (map OfPrep old.parts) (OfRows (length old.rows) ∷ row_pieces old.rows)
 
 pub joined_body : (f : Filed) → spelled (body_pieces f) ≡ spelled (map OfSource f.sources) ++ (spelled (flat_map head_pieces f.heads) ++ spelled (map OfCell f.cells))
 joined_body f = ap spelled (append_assoc (map OfSource f.sources) (flat_map head_pieces f.heads) (map OfCell f.cells)) ∙ joined_three (map OfSource f.sources) (flat_map head_pieces f.heads) (map OfCell f.cells)
 
-pub joined_whole : (d : Kept) → layout d ≡ spelled (Mark ∷ OfVersion One ∷ OfHeader (header_of One d) ∷ []) ++ (spelled (body_pieces (filed One d)) ++ spelled (flat_map entry_pieces d.journal))
+pub joined_whole : (d : Stored) → layout d ≡ spelled (Mark ∷ OfVersion One ∷ OfHeader (header_of One d) ∷ []) ++ (spelled (body_pieces (filed One d)) ++ spelled (flat_map entry_pieces d.journal))
 joined_whole d = joined_three (Mark ∷ OfVersion One ∷ OfHeader (header_of One d) ∷ []) (body_pieces (filed One d)) (flat_map entry_pieces d.journal)

@@ -1,8 +1,9 @@
 -- What a database's readers tell, as items of its lists.
-use Rattle.std.proofs.Common.{◌≡◌, ◌∙◌, ◌<◌, ◌^◌, ℕ, zero, suc, List, [], ◌∷◌, Some, sym, ap, refl, subst, length, get_or, arith, map, ◌/◌}
+use Rattle.std.proofs.Common.{◌≡◌, ◌∙◌, ◌<◌, ◌^◌, ℕ, zero, suc, ℤ, List, [], ◌∷◌, Some, sym, ap, refl, subst, length, get_or, arith, map, ◌/◌}
 use Rattle.std.specs.Prelude.{slice_get, slice_index_or, unsigned_abs}
 use Rattle.std.specs.List.{AllByRecursion}
 use Rattle.std.proofs.lemmas.Int.{ints}
+use Rattle.rrd_fixed.specs.declared.cell.Cell.TheVariants.{Unknown}
 use Rattle.rrd_fixed.specs.declared.raw.Raw.{Raw}
 use Rattle.rrd_fold.specs.Parts.{Part, nothing}
 use Rattle.rrd_spec.specs.declared.settings.DsDef.{DsDef}
@@ -11,10 +12,11 @@ use Rattle.rrd_spec.specs.Filed.{Source, sources_of}
 use Rattle.rrd_spec.specs.History.{Archive, Content}
 use Rattle.std.proofs.lemmas.List.{length-map}
 use Rattle.rrd_fold.specs.Bounds.{Consolidating}
-use Rattle.rrd_spec.specs.Shown.{prep_in}
+use Rattle.rrd_spec.specs.Passed.{row_at}
+use Rattle.rrd_spec.specs.Shown.{cell_in, prep_in}
 use Rattle.rrd_spec.specs.Validity.{AreAccepted, IsValid, IsValidArchive}
-use Rattle.rrd_file.specs.Layout.{sources_before}
-use Rattle.rrd_file.specs.Pieces.{OfSource, OfSourceBefore}
+use Rattle.rrd_file.specs.Layout.{raws_and_parts}
+use Rattle.rrd_file.specs.Pieces.{OfSource, OfRawAndPart}
 
 pub some_is : {A : Type 0} (x y : A) → Some x ≡ Some y → x ≡ y
 some_is x y e = cc
@@ -24,6 +26,12 @@ pub all_of : {A : Type 0} (P : A → Type 0) (xs : List A) (i : ℕ) (x : A) →
 all_of P [] i x all e = absurd cc
 all_of P (y ∷ xs) zero x all e = subst P (some_is y x e) all.0
 all_of P (y ∷ xs) (suc i) x all e = all_of P xs i x all.1 e
+
+-- the cell that a content shows of an archive
+pub cell_told : (d : Content) (archives : List Archive) (n : ℕ) (a : Archive) (time : ℤ) (source : ℕ) → slice_get archives n ≡ Some a → cell_in d archives n time source ≡ get_or (row_at d a time) source Unknown
+cell_told d [] n a time source e = absurd cc
+cell_told d (b ∷ archives) zero a time source e = ap (λ (x : Archive). get_or (row_at d x time) source Unknown) (some_is b a e)
+cell_told d (b ∷ archives) (suc n) a time source e = cell_told d archives n a time source e
 
 pub archive_at : (d : Content) (n : ℕ) (a : Archive) → IsValid d → slice_get d.archives n ≡ Some a → IsValidArchive (length d.sources) (d.last / d.step) a
 archive_at d n a v e = all_of (IsValidArchive (length d.sources) (d.last / d.step)) d.archives n a v.archives_are e
@@ -88,13 +96,13 @@ there (x ∷ xs) (suc i) h = there xs i (omega arith)
 
 -- ---- before an update
 
-pub before_at : (raws : List Raw) (parts : List Part) (i : ℕ) (r : Raw) (p : Part) → length raws ≡ length parts → i < length raws → slice_get (sources_before raws parts) i ≡ Some (OfSourceBefore (get_or raws i r) (get_or parts i p))
+pub before_at : (raws : List Raw) (parts : List Part) (i : ℕ) (r : Raw) (p : Part) → length raws ≡ length parts → i < length raws → slice_get (raws_and_parts raws parts) i ≡ Some (OfRawAndPart (get_or raws i r) (get_or parts i p))
 before_at [] parts i r p same h = absurd (omega arith)
 before_at (raw ∷ raws) [] i r p same h = absurd (omega (arith, same))
 before_at (raw ∷ raws) (part ∷ parts) zero r p same h = refl
 before_at (raw ∷ raws) (part ∷ parts) (suc i) r p same h = before_at raws parts i r p (omega (arith, same)) (omega arith)
 
-pub length_before : (raws : List Raw) (parts : List Part) → length raws ≡ length parts → length (sources_before raws parts) ≡ length raws
+pub length_before : (raws : List Raw) (parts : List Part) → length raws ≡ length parts → length (raws_and_parts raws parts) ≡ length raws
 length_before [] parts same = refl
 length_before (raw ∷ raws) [] same = absurd (omega (arith, same))
 length_before (raw ∷ raws) (part ∷ parts) same = ap suc (length_before raws parts (omega (arith, same)))

@@ -2,7 +2,7 @@
 use Rattle.std.specs.Prelude.{◌≡◌, ◌++◌, ℕ, List, Option, Result, Ok, Err}
 use Rattle.std.specs.Io.KnownBytes.{Appends}
 use Rattle.rrd_fixed.specs.Written.{AppendsFront}
-use Rattle.rrd_fixed.specs.declared.writing.WriteFault.{WriteFault}
+use Rattle.rrd_fixed.specs.declared.streams.WriteFault.{WriteFault}
 
 -- bs was added behind what waited: some of both was written, and the rest waits now
 pub record Adds (old : Option (List ℕ)) (waited : List ℕ) (new : Option (List ℕ)) (waits bs : List ℕ) : Type 0 where

@@ -4,10 +4,10 @@ use Rattle.std.specs.List.{flat_map}
 use Rattle.rrd_fixed.specs.declared.cell.Cell.{Cell}
 use Rattle.rrd_fixed.specs.declared.raw.Raw.{Raw}
 use Rattle.rrd_fold.specs.Parts.{Part}
-use Rattle.rrd_spec.specs.Entries.{Dropped, Entry, Updated, WasTuned, WasResized}
+use Rattle.rrd_spec.specs.Entries.{Entry, SavedArchive, UpdateEntry, TuneEntry, ResizeEntry}
 use Rattle.rrd_spec.specs.Filed.{Filed, Head, Version, One, filed}
-use Rattle.rrd_spec.specs.Survivors.{Kept}
-use Rattle.rrd_file.specs.Pieces.{Piece, Mark, OfVersion, OfHeader, OfSource, OfArchive, OfPrep, OfCell, OfTag, OfTime, OfSourceBefore, OfRows, OfCount, OfHeld, OfNumber, AnUpdate, ATune, AResize, spell}
+use Rattle.rrd_spec.specs.Survivors.{Stored}
+use Rattle.rrd_file.specs.Pieces.{Piece, Mark, OfVersion, OfHeader, OfSource, OfArchive, OfPrep, OfCell, OfTag, OfTime, OfRawAndPart, OfRows, OfCount, OfSourceBefore, OfNumber, AnUpdate, ATune, AResize, spell}
 
 -- ---- the body
 
@@ -25,19 +25,19 @@ body_pieces f = map OfSource f.sources ++ flat_map head_pieces f.heads ++ map Of
 abbrev pub row_pieces : List (List Cell) → List Piece
 row_pieces rows = flat_map (λ (row : List Cell). map OfCell row) rows
 
-abbrev pub sources_before : List Raw → List Part → List Piece
-sources_before (raw ∷ raws) (part ∷ parts) = OfSourceBefore raw part ∷ sources_before raws parts
-sources_before _ _ = []
+abbrev pub raws_and_parts : List Raw → List Part → List Piece
+raws_and_parts (raw ∷ raws) (part ∷ parts) = OfRawAndPart raw part ∷ raws_and_parts raws parts
+raws_and_parts _ _ = []
 
 -- what an update replaced of an archive: preparations, the number of rows, and those rows
-abbrev pub dropped_pieces : Dropped → List Piece
-dropped_pieces old = map OfPrep old.parts ++ OfRows (length old.rows) ∷ row_pieces old.rows
+abbrev pub saved_pieces : SavedArchive → List Piece
+saved_pieces old = map OfPrep old.parts ++ OfRows (length old.rows) ∷ row_pieces old.rows
 
 abbrev pub entry_pieces : Entry → List Piece
-entry_pieces (Updated old) =
-    OfTag AnUpdate ∷ OfTime old.last ∷ sources_before old.raws old.parts ++ flat_map dropped_pieces old.archives
-entry_pieces (WasTuned olds) = OfTag ATune ∷ OfCount (length olds) ∷ map OfHeld olds
-entry_pieces (WasResized archive rows) = OfTag AResize ∷ OfNumber archive ∷ OfRows (length rows) ∷ row_pieces rows
+entry_pieces (UpdateEntry old) =
+    OfTag AnUpdate ∷ OfTime old.last ∷ raws_and_parts old.raws old.parts ++ flat_map saved_pieces old.archives
+entry_pieces (TuneEntry olds) = OfTag ATune ∷ OfCount (length olds) ∷ map OfSourceBefore olds
+entry_pieces (ResizeEntry archive rows) = OfTag AResize ∷ OfNumber archive ∷ OfRows (length rows) ∷ row_pieces rows
 
 -- ---- the whole
 
@@ -50,9 +50,9 @@ pieces_filed f =
     Mark ∷ OfVersion f.header.version ∷ OfHeader f.header ∷ body_pieces f ++ flat_map entry_pieces f.entries
 
 -- the layout in a version
-abbrev pub layout_in : Version → Kept → List ℕ
+abbrev pub layout_in : Version → Stored → List ℕ
 layout_in version d = spelled (pieces_filed (filed version d))
 
 -- the layout that is written
-abbrev pub layout : Kept → List ℕ
+abbrev pub layout : Stored → List ℕ
 layout d = layout_in One d

@@ -4,7 +4,7 @@ use Rattle.rrd_fixed.specs.declared.cell.Cell.{Cell}
 use Rattle.rrd_fixed.specs.declared.raw.Raw.{Raw}
 use Rattle.rrd_fold.specs.Parts.{Part}
 use Rattle.rrd_spec.specs.declared.settings.RraDef.{RraDef}
-use Rattle.rrd_spec.specs.Entries.{Held}
+use Rattle.rrd_spec.specs.declared.entry.SourceBefore.{SourceBefore}
 use Rattle.rrd_spec.specs.Filed.{Header, Source, Version, One}
 use Rattle.rrd_file.specs.Spelling.{archive_bytes, cell_bytes, eight_bytes, four_bytes, part_bytes, raw_bytes, source_bytes, two_bytes}
 
@@ -27,11 +27,11 @@ pub data Piece : Type 0 where
   OfTag : Tag → Piece
   -- the last time before an update, a source's raw value and part before it, and a number of rows
   OfTime : ℕ → Piece
-  OfSourceBefore : Raw → Part → Piece
+  OfRawAndPart : Raw → Part → Piece
   OfRows : ℕ → Piece
   -- how many sources a tune named, and each of them before it
   OfCount : ℕ → Piece
-  OfHeld : Held → Piece
+  OfSourceBefore : SourceBefore → Piece
   -- the number of the archive that was resized
   OfNumber : ℕ → Piece
 
@@ -61,8 +61,8 @@ spell (OfPrep part) = part_bytes part
 spell (OfCell cell) = cell_bytes cell
 spell (OfTag tag) = tag_byte tag ∷ []
 spell (OfTime time) = eight_bytes time
-spell (OfSourceBefore raw part) = raw_bytes raw ++ part_bytes part
+spell (OfRawAndPart raw part) = raw_bytes raw ++ part_bytes part
 spell (OfRows rows) = four_bytes rows
 spell (OfCount count) = two_bytes count
-spell (OfHeld old) = two_bytes old.number ++ source_bytes old.source ++ raw_bytes old.raw
+spell (OfSourceBefore old) = two_bytes old.number ++ source_bytes old.source ++ raw_bytes old.raw
 spell (OfNumber number) = two_bytes number

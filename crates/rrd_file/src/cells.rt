@@ -2,6 +2,7 @@
 ghost use Rattle.std.specs.Prelude.{ℕ, ◌≡◌, ◌<◌, ◌≤◌, ◌^◌, [], length, map, slice_get, slice_index_or, Some};
 ghost use Rattle.rrd_spec.specs.Cells.{resolution as resolution_of, time_of};
 ghost use Rattle.rrd_spec.specs.History.{Archive};
+ghost use Rattle.rrd_spec.specs.Limits.{version_one};
 ghost use Rattle.rrd_spec.specs.Slots.{all_cells, cells_by_slot, place_in};
 ghost use Rattle.rrd_file.specs.Gathered.{Gathers};
 ghost use Rattle.rrd_file.specs.Layout.{spelled};
@@ -18,9 +19,9 @@ use std::io::Write;
 fn time_in(resolution: u64, rows: u64, last: u64, slot: u64) -> i64
     requires some_seconds { 0 < resolution }
     requires few_seconds { resolution ≤ 10 ^ 12 }
-    requires few_rows { rows ≤ 1000000 }
+    requires few_rows { rows ≤ version_one.most_rows }
     requires there { slot < rows }
-    requires in_time { last ≤ 9999999999 }
+    requires in_time { last ≤ version_one.latest_time }
     ensures { result ≡ time_of resolution rows last (place_in resolution last rows slot) }
 {
     let newest = last / resolution;
@@ -67,7 +68,7 @@ fn write_slots<W: Write>(
     // Its clause says that the content is valid, so that times and numbers of rows are small.
     let _sources = database.sources();
     let def = database.archive(archive);
-    let resolution = database.step() * def.steps;
+    let resolution = def.resolution(database.step());
     let last = database.last();
     for slot in 0..def.rows {
         let time = time_in(resolution, def.rows, last, slot);

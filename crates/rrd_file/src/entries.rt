@@ -1,14 +1,13 @@
 //! The journal's entries, newest first.
 ghost use Rattle.std.specs.Prelude.{◌≡◌, ◌<◌, ◌≤◌, ◌^◌, ◌∷◌, [], length, map};
 ghost use Rattle.std.specs.List.{AllByRecursion, flat_map};
-ghost use Rattle.rrd_spec.specs.Entries.{Updated, WasResized, WasTuned};
-ghost use Rattle.rrd_base.specs.Store.{befores};
-ghost use Rattle.rrd_base.specs.Stored.{entry_of, update_of};
-ghost use Rattle.rrd_base.specs.Tuned.{held_of};
+ghost use Rattle.rrd_spec.specs.Entries.{UpdateEntry, ResizeEntry, TuneEntry};
+ghost use Rattle.rrd_spec.specs.Limits.{version_one};
+ghost use Rattle.rrd_base.specs.Journal.{entry_of, update_of};
 ghost use Rattle.rrd_file.specs.Entered.{HasSmallNumber, IsEntryOfSome};
 ghost use Rattle.rrd_file.specs.Gathered.{Gathers};
-ghost use Rattle.rrd_file.specs.Layout.{dropped_pieces, entry_pieces, row_pieces, sources_before, spelled};
-ghost use Rattle.rrd_file.specs.Pieces.{AResize, ATune, AnUpdate, OfCount, OfHeld, OfNumber, OfRows, OfSourceBefore, OfTag, OfTime, spell};
+ghost use Rattle.rrd_file.specs.Layout.{entry_pieces, row_pieces, saved_pieces, raws_and_parts, spelled};
+ghost use Rattle.rrd_file.specs.Pieces.{AResize, ATune, AnUpdate, OfCount, OfSourceBefore, OfNumber, OfRows, OfRawAndPart, OfTag, OfTime, spell};
 
 use crate::block::Block;
 use crate::pieces::{write_preps, write_row};
@@ -34,14 +33,14 @@ fn write_time<W: Write>(out: &mut W, block: &mut Block, last: u64) -> Result<(),
 
 // Writes a data source before an update.
 #[tactic(auto, unfolding(crate::specs::Pieces::spell))]
-fn write_source_before<W: Write>(
+fn write_raw_and_part<W: Write>(
     out: &mut W,
     block: &mut Block,
     raw: Raw,
     prep: &StepPrep,
 ) -> Result<(), WriteFault>
     ensures { Gathers (W.contents out.old) block.old (W.contents out.new) block.new
-        (spell (OfSourceBefore raw prep.now)) result }
+        (spell (OfRawAndPart raw prep.now)) result }
 {
     block.make_room(out)?;
     block.raw(raw);
@@ -50,7 +49,7 @@ fn write_source_before<W: Write>(
 }
 
 // Writes the data sources before an update.
-fn write_sources_before<W: Write>(
+fn write_raws_and_parts<W: Write>(
     out: &mut W,
     block: &mut Block,
     raws: &[Raw],
@@ -58,10 +57,10 @@ fn write_sources_before<W: Write>(
 ) -> Result<(), WriteFault>
     requires { length raws.now ≡ length preps.now }
     ensures { Gathers (W.contents out.old) block.old (W.contents out.new) block.new
-        (spelled (sources_before raws.now preps.now)) result }
+        (spelled (raws_and_parts raws.now preps.now)) result }
 {
     for i in 0..raws.len() {
-        write_source_before(out, block, raws[i], &preps[i])?;
+        write_raw_and_part(out, block, raws[i], &preps[i])?;
     }
     Ok(())
 }
@@ -69,7 +68,7 @@ fn write_sources_before<W: Write>(
 // Writes a number of rows.
 #[tactic(auto, unfolding(crate::specs::Pieces::spell))]
 fn write_row_count<W: Write>(out: &mut W, block: &mut Block, rows: u64) -> Result<(), WriteFault>
-    requires { rows ≤ 1000000 }
+    requires { rows ≤ version_one.most_rows }
     ensures { Gathers (W.contents out.old) block.old (W.contents out.new) block.new (spell (OfRows rows)) result }
 {
     block.make_room(out)?;
@@ -95,7 +94,7 @@ fn write_saved<W: Write>(
     saved: &SavedArchive,
 ) -> Result<(), WriteFault>
     ensures { Gathers (W.contents out.old) block.old (W.contents out.new) block.new
-        (spelled (dropped_pieces saved.now.before)) result }
+        (spelled (saved_pieces saved.now)) result }
 {
     write_preps(out, block, saved.preps())?;
     write_row_count(out, block, saved.rows().len())?;
@@ -109,7 +108,7 @@ fn write_all_saved<W: Write>(
     saved: &[SavedArchive],
 ) -> Result<(), WriteFault>
     ensures { Gathers (W.contents out.old) block.old (W.contents out.new) block.new
-        (spelled (flat_map dropped_pieces (befores saved.now))) result }
+        (spelled (flat_map saved_pieces saved.now)) result }
 {
     for i in 0..saved.len() {
         write_saved(out, block, &saved[i])?;
@@ -125,10 +124,10 @@ fn write_update<W: Write>(
 ) -> Result<(), WriteFault>
     requires { length before.now.raws.items ≡ length before.now.preps.items }
     ensures { Gathers (W.contents out.old) block.old (W.contents out.new) block.new
-        (spelled (entry_pieces (Updated (update_of before.now)))) result }
+        (spelled (entry_pieces (UpdateEntry (update_of before.now)))) result }
 {
     write_time(out, block, before.last)?;
-    write_sources_before(out, block, &before.raws, &before.preps)?;
+    write_raws_and_parts(out, block, &before.raws, &before.preps)?;
     write_all_saved(out, block, &before.archives)
 }
 
@@ -149,34 +148,34 @@ fn write_tuned<W: Write>(out: &mut W, block: &mut Block, count: usize) -> Result
 
 // Writes a data source before a tune.
 #[tactic(auto, unfolding(crate::specs::Pieces::spell))]
-fn write_held<W: Write>(
+fn write_source_before<W: Write>(
     out: &mut W,
     block: &mut Block,
-    held: &SourceBefore,
+    old: &SourceBefore,
 ) -> Result<(), WriteFault>
-    requires { held.now.number < 2 ^ 16 }
+    requires { old.now.number < 2 ^ 16 }
     ensures { Gathers (W.contents out.old) block.old (W.contents out.new) block.new
-        (spell (OfHeld (held_of held.now))) result }
+        (spell (OfSourceBefore old.now)) result }
 {
     block.make_room(out)?;
-    block.two(held.number);
-    block.source(&held.source);
-    block.raw(held.raw);
+    block.two(old.number);
+    block.source(&old.source);
+    block.raw(old.raw);
     Ok(())
 }
 
 // Writes the data sources before a tune.
-fn write_all_held<W: Write>(
+fn write_sources_before<W: Write>(
     out: &mut W,
     block: &mut Block,
-    held: &[SourceBefore],
+    olds: &[SourceBefore],
 ) -> Result<(), WriteFault>
-    requires { AllByRecursion HasSmallNumber (map held_of held.now) }
+    requires { AllByRecursion HasSmallNumber olds.now }
     ensures { Gathers (W.contents out.old) block.old (W.contents out.new) block.new
-        (spelled (map OfHeld (map held_of held.now))) result }
+        (spelled (map OfSourceBefore olds.now)) result }
 {
-    for i in 0..held.len() {
-        write_held(out, block, &held[i])?;
+    for i in 0..olds.len() {
+        write_source_before(out, block, &olds[i])?;
     }
     Ok(())
 }
@@ -185,15 +184,15 @@ fn write_all_held<W: Write>(
 fn write_tune<W: Write>(
     out: &mut W,
     block: &mut Block,
-    held: &[SourceBefore],
+    olds: &[SourceBefore],
 ) -> Result<(), WriteFault>
-    requires few { length held.now ≤ 5 }
-    requires numbers { AllByRecursion HasSmallNumber (map held_of held.now) }
+    requires few { length olds.now ≤ 5 }
+    requires numbers { AllByRecursion HasSmallNumber olds.now }
     ensures { Gathers (W.contents out.old) block.old (W.contents out.new) block.new
-        (spelled (entry_pieces (WasTuned (map held_of held.now)))) result }
+        (spelled (entry_pieces (TuneEntry olds.now))) result }
 {
-    write_tuned(out, block, held.len())?;
-    write_all_held(out, block, held)
+    write_tuned(out, block, olds.len())?;
+    write_sources_before(out, block, olds)
 }
 
 // ---- resizes
@@ -207,7 +206,7 @@ fn write_resized<W: Write>(
     rows: u64,
 ) -> Result<(), WriteFault>
     requires archive_fits { archive < 2 ^ 16 }
-    requires rows_fit { rows ≤ 1000000 }
+    requires rows_fit { rows ≤ version_one.most_rows }
     ensures { Gathers (W.contents out.old) block.old (W.contents out.new) block.new
         (spelled (OfTag AResize ∷ OfNumber archive ∷ OfRows rows ∷ [])) result }
 {
@@ -238,7 +237,7 @@ fn write_resize<W: Write>(
 ) -> Result<(), WriteFault>
     requires { archive < 2 ^ 16 }
     ensures { Gathers (W.contents out.old) block.old (W.contents out.new) block.new
-        (spelled (entry_pieces (WasResized archive old.now))) result }
+        (spelled (entry_pieces (ResizeEntry archive old.now))) result }
 {
     write_resized(out, block, archive, old.rows())?;
     write_rows(out, block, old)
@@ -254,7 +253,7 @@ fn write_entry<W: Write>(out: &mut W, block: &mut Block, entry: &Entry) -> Resul
 {
     match entry {
         Entry::Update(before) => write_update(out, block, before),
-        Entry::Tune(held) => write_tune(out, block, held.as_slice()),
+        Entry::Tune(olds) => write_tune(out, block, olds.as_slice()),
         Entry::Resize { archive, old } => write_resize(out, block, *archive, old),
     }
 }

@@ -10,6 +10,3 @@ pub mod laws;
 mod pieces;
 
 pub use encoding::encode;
-
-#[cfg(test)]
-mod tests;

@@ -1,17 +1,10 @@
--- Writes one after another.
-use Rattle.std.proofs.Common.{◌≡◌, ◌∙◌, ◌++◌, ℕ, List, Option, Some, None, Result, Ok, Err, sym, ap, take, drop, append_assoc, length, length-drop, get_or, arith, ◌-◌, ◌∷◌, ◌<◌, suc}
+-- A write in several calls.
+use Rattle.std.proofs.Common.{◌≡◌, ◌∙◌, ◌++◌, ℕ, List, Option, sym, ap, take, drop, length, length-drop, get_or, arith, ◌-◌, ◌<◌, suc}
 use Rattle.std.specs.Io.KnownBytes.{Appends, Keeps}
-use Rattle.std.proofs.KnownBytes.{Appends-trans}
 use Rattle.std.proofs.lemmas.List.{take-append-drop, take_all}
 use Rattle.std.proofs.Math.Seq.{drop-cons}
-use Rattle.rrd_fixed.specs.Written.{AppendsFront, Writes}
-use Rattle.rrd_fixed.specs.declared.writing.WriteFault.{WriteFault}
-
-pub Appends-kept : (a b c : Option (List ℕ)) (bs : List ℕ) → Appends a b bs → Keeps b c → Appends a c bs
-Appends-kept None b c bs p q = tt
-Appends-kept (Some x) None c bs p q = absurd p
-Appends-kept (Some x) (Some y) None bs p q = absurd q
-Appends-kept (Some x) (Some y) (Some z) bs p q = q ∙ p
+use Rattle.rrd_fixed.specs.Written.{AppendsFront}
+use Rattle.rrd_fixed.specs.Writing.{Appends-kept}
 
 -- a fault after k bytes, before the last, leaves a front
 pub front_kept : (a b c : Option (List ℕ)) (bs : List ℕ) (k : ℕ) → k < length bs → Appends a b (take k bs) → Keeps b c → AppendsFront a c bs
@@ -22,17 +15,6 @@ front_kept a b c bs k below p q = (
   sym (take-append-drop k bs) ∙ ap (λ l. take k bs ++ l) (drop-cons bs k 0 below),
   Appends-kept a b c (take k bs) p q,
 )
-
--- a write, and then another in either outcome
-pub writes_then : {T : Type 0} (a b c : Option (List ℕ)) (xs ys : List ℕ) (r : Result T WriteFault)
-    → Appends a b xs → Writes b c ys r → Writes a c (xs ++ ys) r
-writes_then a b c xs ys (Ok x) p q = Appends-trans a b c xs ys p q
-writes_then a b c xs ys (Err e) p q =
-    (xs ++ q.0, q.1, q.2, ap (λ l. xs ++ l) q.3 ∙ sym (append_assoc xs q.0 (q.1 ∷ q.2)), Appends-trans a b c xs q.0 p q.4)
-
--- a fault before the rest
-pub writes_stop : (a b : Option (List ℕ)) (xs ys : List ℕ) → AppendsFront a b xs → AppendsFront a b (xs ++ ys)
-writes_stop a b xs ys p = (p.0, p.1, p.2 ++ ys, ap (λ l. l ++ ys) p.3 ∙ append_assoc p.0 (p.1 ∷ p.2) ys, p.4)
 
 pub take_rest : (k : ℕ) (xs : List ℕ) → take (length xs - k) (drop k xs) ≡ drop k xs
 take_rest k xs = take_all (length xs - k) (drop k xs) (omega (arith, length-drop k xs))

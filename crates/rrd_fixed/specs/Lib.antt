@@ -1,7 +1,9 @@
 pub mod Rounding
+pub mod Nearest
 pub mod Rate
 pub mod Names
 pub mod Admitted
 pub mod Written
+pub mod Writing
 pub mod Text
 pub mod Reading

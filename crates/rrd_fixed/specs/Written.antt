@@ -1,7 +1,7 @@
 -- What a call writes, in both outcomes.
 use Rattle.std.specs.Prelude.{◌≡◌, ◌++◌, ◌∷◌, ℕ, List, Option, Result, Ok, Err}
 use Rattle.std.specs.Io.KnownBytes.{Appends}
-use Rattle.rrd_fixed.specs.declared.writing.WriteFault.{WriteFault}
+use Rattle.rrd_fixed.specs.declared.streams.WriteFault.{WriteFault}
 
 -- a front of bs was written, and not all of it
 abbrev pub AppendsFront : Option (List ℕ) → Option (List ℕ) → List ℕ → Type 0

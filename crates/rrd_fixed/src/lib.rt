@@ -1,5 +1,5 @@
-//! Cells, rates, names and numbers, and their texts. Values are whole millionths unless a unit is
-//! said, times are seconds since 1970.
+//! Cells, rates, names and numbers, their texts, and streams of bytes. Values are whole millionths
+//! unless a unit is said, times are seconds since 1970.
 #![tactic(auto)]
 
 mod cell;
@@ -11,10 +11,8 @@ mod number;
 mod rates;
 mod raw;
 mod rounding;
-#[cfg(test)]
-mod tests;
+mod streams;
 mod text;
-mod writing;
 
 pub use cell::Cell;
 pub use kind::Kind;
@@ -25,5 +23,5 @@ pub use number::{Number, admit, read_number, read_whole};
 pub use rates::{rate, rise};
 pub use raw::Raw;
 pub use rounding::near;
+pub use streams::{ReadFault, WriteFault, flush, read_some, write_bytes};
 pub use text::{cell_string, raw_string, time_string, write_cell, write_raw, write_time};
-pub use writing::{WriteFault, write_bytes};

@@ -13,6 +13,3 @@ pub use consolidate::{Average, Consolidate, Greatest, Latest, Least};
 pub use function::Function;
 pub use row::RowPrep;
 pub use step::StepPrep;
-
-#[cfg(test)]
-mod tests;

@@ -11,7 +11,8 @@ use Rattle.rrd_fixed.specs.declared.cell.Cell.{Cell}
 use Rattle.rrd_fixed.specs.declared.cell.Cell.TheVariants.{Unknown}
 use Rattle.rrd_ring.specs.Rows.{row_at, width, HasWidth, unknown_rows, newest_rows, IsArchive, AreDropped}
 use Rattle.rrd_ring.specs.Ring.{row_of, rows_of, ring_rows, from_place, IsRing, AreRows}
-use Rattle.rrd_ring.proofs.RowLemmas.{width_is, IsArchive-from_width, AreDropped-from_width}
+use Rattle.rrd_ring.specs.Widths.{width_is}
+use Rattle.rrd_ring.proofs.RowLemmas.{IsArchive-from_width, AreDropped-from_width}
 
 -- ---- places
 

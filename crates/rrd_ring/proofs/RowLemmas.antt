@@ -4,23 +4,15 @@ use Rattle.std.proofs.lemmas.List.{append_assoc, length-set, set_at, length-take
 use Rattle.std.specs.List.{refill, length_refill}
 use Rattle.rrd_fixed.specs.declared.cell.Cell.{Cell}
 use Rattle.rrd_fixed.specs.declared.cell.Cell.TheVariants.{Unknown}
+use Rattle.rrd_ring.specs.Widths.{HasWidth-append, HasWidth-drop, width_is}
 use Rattle.rrd_ring.specs.Rows.{row_at, with_row, width, HasWidth, unknown_rows, newest_rows, IsArchive, AreDropped}
 
 -- ---- the width of rows
-
-pub HasWidth-append : (w : ℕ) (xs ys : List (List Cell)) → HasWidth w xs → HasWidth w ys → HasWidth w (xs ++ ys)
-HasWidth-append w [] ys h k = k
-HasWidth-append w (x ∷ xs) ys h k = (h.0, HasWidth-append w xs ys h.1 k)
 
 pub HasWidth-take : (w n : ℕ) (xs : List (List Cell)) → HasWidth w xs → HasWidth w (take n xs)
 HasWidth-take w zero xs h = tt
 HasWidth-take w (suc n) [] h = tt
 HasWidth-take w (suc n) (x ∷ xs) h = (h.0, HasWidth-take w n xs h.1)
-
-pub HasWidth-drop : (w n : ℕ) (xs : List (List Cell)) → HasWidth w xs → HasWidth w (drop n xs)
-HasWidth-drop w zero xs h = h
-HasWidth-drop w (suc n) [] h = tt
-HasWidth-drop w (suc n) (x ∷ xs) h = HasWidth-drop w n xs h.1
 
 pub HasWidth-replicate : (w n : ℕ) (x : List Cell) → length x ≡ w → HasWidth w (replicate n x)
 HasWidth-replicate w zero x e = tt
@@ -34,10 +26,6 @@ pub length-row : (w : ℕ) (xs : List (List Cell)) (i : ℕ) (d : List Cell) →
 length-row w [] i d h k = absurd (omega arith)
 length-row w (x ∷ xs) zero d h k = h.0
 length-row w (x ∷ xs) (suc i) d h k = length-row w xs i d h.1 (omega arith)
-
-pub width_is : (w : ℕ) (xs : List (List Cell)) → HasWidth w xs → 0 < length xs → width xs ≡ w
-width_is w [] h k = absurd (omega arith)
-width_is w (x ∷ xs) h k = h.0
 
 -- ---- what an archive and dropped rows may hold
 

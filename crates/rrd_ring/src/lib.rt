@@ -8,6 +8,3 @@ mod table;
 
 pub use archive::Archive;
 pub use dropped::Dropped;
-
-#[cfg(test)]
-mod tests;

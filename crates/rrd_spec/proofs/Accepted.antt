@@ -9,11 +9,12 @@ use Rattle.rrd_fixed.specs.declared.name.Name.{Name}
 use Rattle.rrd_spec.specs.declared.settings.DsDef.{DsDef}
 use Rattle.rrd_spec.specs.History.{Content, Sampled, Moment, moment_after, moment_of, moment_at_end, raws_under, IsHistory}
 use Rattle.rrd_spec.specs.Commands.{Command, Updating, TuningBy, Resizing, settings_of, sample_of, tuned, names, rows_changed, events}
-use Rattle.rrd_spec.specs.Verdict.{Check, first_refusal, is_bad_rows, grows_too_far, shrinks_too_far, sample_checks, checks, verdict}
+use Rattle.rrd_spec.specs.Verdict.{Check, first_refusal, is_bad_rows, grows_too_far, shrinks_too_far, sample_checks, checks, verdict, verdict_within}
 use Rattle.rrd_spec.specs.declared.update.Sample.{Sample}
 use Rattle.rrd_spec.specs.declared.resize.Change.{Change}
 use Rattle.rrd_spec.specs.declared.resize.Change.TheVariants.{Grow, Shrink}
 use Rattle.rrd_spec.specs.declared.refusal.Refusal.{Refusal}
+use Rattle.rrd_spec.specs.Limits.{version_one}
 
 -- ---- every check passes
 
@@ -28,20 +29,20 @@ pub all_pass : (list : List Check) → first_refusal list ≡ None → AllByRecu
 all_pass [] h = tt
 all_pass (check ∷ list) h = let this = by_case check.wrong check.refusal (first_refusal list) h in (this.0, all_pass list this.1)
 
-pub accepted_passes : (base : Content) (command : Command) → verdict base command ≡ None → AllByRecursion Passes (checks base command)
-unfolding verdict
-accepted_passes base command h = all_pass (checks base command) h
+pub accepted_passes : (base : Content) (command : Command) → verdict base command ≡ None → AllByRecursion Passes (checks version_one base command)
+unfolding verdict_within
+accepted_passes base command h = all_pass (checks version_one base command) h
 
 -- ---- its events are a history
 
-pub readings_rise : (sources : List DsDef) (template : List Name) (now : Moment) (readings : List Sample) → AllByRecursion Passes (sample_checks sources template now.last readings) → IsHistory now (map Sampled (map (sample_of sources template) readings))
+pub readings_rise : (sources : List DsDef) (template : List Name) (now : Moment) (readings : List Sample) → AllByRecursion Passes (sample_checks version_one sources template now.last readings) → IsHistory now (map Sampled (map (sample_of sources template) readings))
 readings_rise sources template now [] p = tt
 readings_rise sources template now (reading ∷ readings) p =
     (leb-false reading.time now.last p.1.0, readings_rise sources template (moment_after now (Sampled (sample_of sources template reading))) readings p.1.1.1.1)
 
-pub some_rows : (change : Change) (old rows : ℕ) → (is_bad_rows rows || grows_too_far change old rows) ≡ false → shrinks_too_far change old rows ≡ false → 0 < rows_changed change old rows
+pub some_rows : (change : Change) (old rows : ℕ) → (is_bad_rows version_one rows || grows_too_far version_one change old rows) ≡ false → shrinks_too_far change old rows ≡ false → 0 < rows_changed change old rows
 some_rows Grow old rows h k =
-    let some = eqb-false rows 0 (or_parts (eqb rows 0) (ltb 1000000 rows) (or_parts (is_bad_rows rows) (grows_too_far Grow old rows) h).0).0 in
+    let some = eqb-false rows 0 (or_parts (eqb rows 0) (ltb 1000000 rows) (or_parts (is_bad_rows version_one rows) (grows_too_far version_one Grow old rows) h).0).0 in
     omega (arith, some)
 some_rows Shrink old rows h k = omega (arith, leb-false old rows k)
 

@@ -14,7 +14,7 @@ use Rattle.rrd_fold.specs.Groups.{Rule, group_part, finished}
 use Rattle.rrd_fold.proofs.GroupLemmas.{reached_before}
 use Rattle.rrd_fold.specs.Parts.{seconds_to_steps}
 use Rattle.rrd_spec.specs.Rules.{rows_rule}
-use Rattle.rrd_spec.specs.History.{Archive, Content, Event, Sampled, Tuned, Resized, Moment, moment_after, moment_of, moment_at_end, seconds_of, steps_of, rows_of, rows_after, room, keep_last, filled_up, kept_rows, archive_of, content_listed, IsHistory, IsArchive, IsBase}
+use Rattle.rrd_spec.specs.History.{Archive, Content, Event, Sampled, Tuned, Resized, Moment, moment_after, moment_of, moment_at_end, seconds_of, steps_of, rows_of, rows_after, rows_never_lost, keep_last, filled_up, kept_rows, archive_of, content_listed, IsHistory, IsArchive, IsBase}
 use Rattle.rrd_spec.specs.Passed.{row_of_age, row_at}
 use Rattle.rrd_spec.specs.Cells.{resolution, newest, reach, prefixes, greatest, reach_after, horizon, row, row_ending, row_by_time, time_of, rows_by_time, archive_by_time, content, IsMultiple, IsListed, ShowsByTime, ListsByNumber}
 use Rattle.rrd_spec.proofs.HistoryLemmas.{last_rises, length-sources}
@@ -104,7 +104,7 @@ all_sooner P size index rows now e [] h = tt
 all_sooner P size index rows now e (p ∷ ps) h = (h.0, all_sooner P size index rows now e ps h.1)
 
 -- a row that has always had a place is after what was reached at every moment
-room_under : (size index end age n m : ℕ) (time : ℤ) → 0 < size → IsAt size time n m → age + n ≡ end / size + m → (rows : ℕ) (now : Moment) (es : List Event) → IsHistory now es → (fold moment_after now es).last ≡ end → age < room index (λ t. end / size - t / size) rows now es → AllByRecursion (λ x. x <ℤ time) (map (reach_from size index rows now) (prefixes es))
+room_under : (size index end age n m : ℕ) (time : ℤ) → 0 < size → IsAt size time n m → age + n ≡ end / size + m → (rows : ℕ) (now : Moment) (es : List Event) → IsHistory now es → (fold moment_after now es).last ≡ end → age < rows_never_lost index (λ t. end / size - t / size) rows now es → AllByRecursion (λ x. x <ℤ time) (map (reach_from size index rows now) (prefixes es))
 room_under size index end age n m time some at aged rows now [] h e k =
     let below = div_rises now.last end size some (omega arith) in
     (reach_under size (now.last / size) rows n m time some at (omega arith), tt)
@@ -116,7 +116,7 @@ room_under size index end age n m time some at aged rows now (event ∷ es) h e 
           (room_under size index end age n m time some at aged (rows_after index rows event) (moment_after now event) es (rest_of_history now event es h) e (omega arith)),
     )
 
-under_room : (size index end age n m : ℕ) (time : ℤ) → 0 < size → IsAt size time n m → age + n ≡ end / size + m → (rows : ℕ) (now : Moment) (es : List Event) → IsHistory now es → (fold moment_after now es).last ≡ end → AllByRecursion (λ x. x <ℤ time) (map (reach_from size index rows now) (prefixes es)) → age < room index (λ t. end / size - t / size) rows now es
+under_room : (size index end age n m : ℕ) (time : ℤ) → 0 < size → IsAt size time n m → age + n ≡ end / size + m → (rows : ℕ) (now : Moment) (es : List Event) → IsHistory now es → (fold moment_after now es).last ≡ end → AllByRecursion (λ x. x <ℤ time) (map (reach_from size index rows now) (prefixes es)) → age < rows_never_lost index (λ t. end / size - t / size) rows now es
 under_room size index end age n m time some at aged rows now [] h e k =
     let below = div_rises now.last end size some (omega arith) in
     ⊎_elim
@@ -144,14 +144,14 @@ some_prefix : {A : Type 0} (xs : List A) → 0 < length (prefixes xs)
 some_prefix [] = omega arith
 some_prefix (x ∷ xs) = omega arith
 
-in_sight : (base : Content) (index : ℕ) (archive : Archive) (es : List Event) (age n m : ℕ) (time : ℤ) → let size = resolution base.step archive.def in let end = (moment_at_end base es).last in 0 < size → IsHistory (moment_of base) es → IsAt size time n m → age + n ≡ end / size + m → age < room index (λ t. end / size - t / size) archive.def.rows (moment_of base) es → int_le time (horizon base index archive es) ≡ false
+in_sight : (base : Content) (index : ℕ) (archive : Archive) (es : List Event) (age n m : ℕ) (time : ℤ) → let size = resolution base.step archive.def in let end = (moment_at_end base es).last in 0 < size → IsHistory (moment_of base) es → IsAt size time n m → age + n ≡ end / size + m → age < rows_never_lost index (λ t. end / size - t / size) archive.def.rows (moment_of base) es → int_le time (horizon base index archive es) ≡ false
 in_sight base index archive es age n m time some h at aged k =
     let size = resolution base.step archive.def in
     after time (horizon base index archive es)
     (greatest_under time (map (reach_after base index archive) (prefixes es)) (omega (arith, some_prefix es, length-map (prefixes es) (reach_after base index archive)))
     (room_under size index (moment_at_end base es).last age n m time some at aged archive.def.rows (moment_of base) es h refl k))
 
-out_of_sight : (base : Content) (index : ℕ) (archive : Archive) (es : List Event) (age n m : ℕ) (time : ℤ) → let size = resolution base.step archive.def in let end = (moment_at_end base es).last in 0 < size → IsHistory (moment_of base) es → IsAt size time n m → age + n ≡ end / size + m → room index (λ t. end / size - t / size) archive.def.rows (moment_of base) es ≤ age → int_le time (horizon base index archive es) ≡ true
+out_of_sight : (base : Content) (index : ℕ) (archive : Archive) (es : List Event) (age n m : ℕ) (time : ℤ) → let size = resolution base.step archive.def in let end = (moment_at_end base es).last in 0 < size → IsHistory (moment_of base) es → IsAt size time n m → age + n ≡ end / size + m → rows_never_lost index (λ t. end / size - t / size) archive.def.rows (moment_of base) es ≤ age → int_le time (horizon base index archive es) ≡ true
 out_of_sight base index archive es age n m time some h at aged k =
     let size = resolution base.step archive.def in
     let reached = horizon base index archive es in
@@ -234,7 +234,7 @@ kept_by_time base index archive es time some_step is h multiple =
     let since = λ (t : ℕ). end - t / size in
     let now = moment_of base in
     let rows_end = fold (rows_after index) archive.def.rows es in
-    let kept_room = room index since archive.def.rows now es in
+    let kept_room = rows_never_lost index since archive.def.rows now es in
     let kept = filled_up rows_end u (keep_last kept_room all) in
     let count_new : first + length (rows_of base archive es) ≡ end = length-rows_of base archive es some_step is.some_steps h in
     let count_all = length-append archive.rows (rows_of base archive es) in
@@ -328,7 +328,7 @@ rows_are_by_time base index archive es some_step is h =
     let all = archive.rows ++ rows_of base archive es in
     let since = λ (t : ℕ). end - t / size in
     let rows = fold (rows_after index) archive.def.rows es in
-    let kept_room = room index since archive.def.rows (moment_of base) es in
+    let kept_room = rows_never_lost index since archive.def.rows (moment_of base) es in
     let kept = filled_up rows u (keep_last kept_room all) in
     let one = λ (place : ℕ). row_by_time base index archive es (time_of size rows last place) in
     let count_new : base.last / size + length (rows_of base archive es) ≡ end = length-rows_of base archive es some_step is.some_steps h in

@@ -7,7 +7,7 @@ use Rattle.std.specs.List.{fold, enumerate_from, AllByRecursion}
 use Rattle.rrd_fixed.specs.declared.cell.Cell.{Cell}
 use Rattle.rrd_fold.specs.Parts.{Part}
 use Rattle.rrd_spec.specs.Rules.{rows_rule}
-use Rattle.rrd_spec.specs.History.{Archive, Content, Event, Sampled, Tuned, Resized, Moment, moment_after, moment_of, moment_at_end, steps_of, parts_of, rows_of, rows_after, room, keep_last, filled_up, kept_rows, archive_of, content_listed, IsHistory, IsArchive, IsBase}
+use Rattle.rrd_spec.specs.History.{Archive, Content, Event, Sampled, Tuned, Resized, Moment, moment_after, moment_of, moment_at_end, steps_of, parts_of, rows_of, rows_after, rows_never_lost, keep_last, filled_up, kept_rows, archive_of, content_listed, IsHistory, IsArchive, IsBase}
 use Rattle.rrd_fold.proofs.GroupLemmas.{length-finished, reached_before}
 use Rattle.rrd_spec.proofs.HistoryLemmas.{length-sources, length-steps_of, parts_of-append, rows_of-append, row_parts_of-append}
 use Rattle.rrd_spec.proofs.RowLemmas.{rows_again, room_first, room_last, room-append, length-filled_up, length-keep_last}
@@ -29,7 +29,7 @@ length-kept_rows base index archive es pos is h =
     let res = base.step * archive.def.steps in
     let end = (moment_at_end base es).last in
     let since = λ (time : ℕ). end / res - time / res in
-    let v = room index since archive.def.rows (moment_of base) es in
+    let v = rows_never_lost index since archive.def.rows (moment_of base) es in
     let all = archive.rows ++ rows_of base archive es in
     let count_all = length-append archive.rows (rows_of base archive es) in
     let count_new = length-rows_of base archive es pos is.some_steps h in
@@ -59,8 +59,8 @@ kept_rows-append base index archive es fs pos is h k =
     let new = rows_of middle moved fs in
     let since_mid = λ (time : ℕ). mid.last / res - time / res in
     let since_end = λ (time : ℕ). end.last / res - time / res in
-    let then = room index since_mid rows now es in
-    let later = room index since_end rows_mid mid fs in
+    let then = rows_never_lost index since_mid rows now es in
+    let later = rows_never_lost index since_end rows_mid mid fs in
     let some_res : 0 < res = mul_positive base.step archive.def.steps pos is.some_steps in
     let count_old = length-rows_of base archive es pos is.some_steps h in
     let count_new : mid.last / res + length new ≡ end.last / res = length-rows_of middle moved fs pos is.some_steps k in
@@ -70,10 +70,10 @@ kept_rows-append base index archive es fs pos is h k =
     let count_later = room_first index since_end rows_mid mid fs in
     let fits_later = room_last index since_end rows_mid mid fs in
     let count_all = length-append archive.rows (rows_of base archive es) in
-    ap (λ n. filled_up n nan (keep_last (room index (λ (time : ℕ). (moment_at_end base (es ++ fs)).last / res - time / res) rows now (es ++ fs)) (archive.rows ++ rows_of base archive (es ++ fs)))) (fold-append (rows_after index) rows es fs)
-    ∙ ap (λ (e : Moment). filled_up rows_end nan (keep_last (room index (λ (time : ℕ). e.last / res - time / res) rows now (es ++ fs)) (archive.rows ++ rows_of base archive (es ++ fs)))) (fold-append moment_after now es fs)
-    ∙ ap (λ zs. filled_up rows_end nan (keep_last (room index since_end rows now (es ++ fs)) (archive.rows ++ zs))) (rows_of-append base index archive es fs pos is.some_steps h k)
-    ∙ ap (λ zs. filled_up rows_end nan (keep_last (room index since_end rows now (es ++ fs)) zs)) (sym (append_assoc archive.rows (rows_of base archive es) new))
+    ap (λ n. filled_up n nan (keep_last (rows_never_lost index (λ (time : ℕ). (moment_at_end base (es ++ fs)).last / res - time / res) rows now (es ++ fs)) (archive.rows ++ rows_of base archive (es ++ fs)))) (fold-append (rows_after index) rows es fs)
+    ∙ ap (λ (e : Moment). filled_up rows_end nan (keep_last (rows_never_lost index (λ (time : ℕ). e.last / res - time / res) rows now (es ++ fs)) (archive.rows ++ rows_of base archive (es ++ fs)))) (fold-append moment_after now es fs)
+    ∙ ap (λ zs. filled_up rows_end nan (keep_last (rows_never_lost index since_end rows now (es ++ fs)) (archive.rows ++ zs))) (rows_of-append base index archive es fs pos is.some_steps h k)
+    ∙ ap (λ zs. filled_up rows_end nan (keep_last (rows_never_lost index since_end rows now (es ++ fs)) zs)) (sym (append_assoc archive.rows (rows_of base archive es) new))
     ∙ ap (λ n. filled_up rows_end nan (keep_last n (old ++ new))) (room-append index since_mid since_end (length new) rows now es fs h steps_back)
     ∙ rows_again rows_mid rows_end then later nan old new (omega (arith, is.rows_are)) (omega arith) (omega arith) (omega arith)
     ∙ ap (λ n. filled_up rows_end (replicate n Cell.Unknown) (keep_last later (kept_rows base index archive es ++ new))) (sym (length-sources now es h))

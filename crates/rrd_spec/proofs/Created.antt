@@ -16,19 +16,20 @@ use Rattle.rrd_spec.specs.declared.settings.DsDef.{DsDef}
 use Rattle.rrd_spec.specs.declared.settings.RraDef.{RraDef}
 use Rattle.rrd_spec.specs.Commands.{rows_of_archives}
 use Rattle.rrd_spec.specs.Verdict.{is_bad_heartbeat, is_bad_rows, has_bad_bounds}
-use Rattle.rrd_spec.specs.Creating.{is_bad_xff, is_bad_steps, create_checks, create_verdict, new_archive, created}
+use Rattle.rrd_spec.specs.Creating.{is_bad_xff, is_bad_steps, create_checks, create_verdict, new_archive, created, create_verdict_within}
 use Rattle.rrd_spec.specs.Validity.{IsSource, AreAccepted, IsPart, AreParts, IsRow, IsValidArchive, IsValid}
 use Rattle.rrd_spec.proofs.Accepted.{all_pass}
 use Rattle.rrd_spec.proofs.Bounded.{All-replicate}
+use Rattle.rrd_spec.specs.Limits.{version_one}
 
 -- ---- the sources
 
-none_bad : (sources : List DsDef) → list_any (λ (source : DsDef). not (is_good source.name)) sources ≡ false → list_any (λ (source : DsDef). is_bad_heartbeat source.heartbeat) sources ≡ false → list_any has_bad_bounds sources ≡ false → AllByRecursion IsSource sources
+none_bad : (sources : List DsDef) → list_any (λ (source : DsDef). not (is_good source.name)) sources ≡ false → list_any (λ (source : DsDef). is_bad_heartbeat version_one source.heartbeat) sources ≡ false → list_any (has_bad_bounds version_one) sources ≡ false → AllByRecursion IsSource sources
 none_bad [] a b c = tt
 none_bad (source ∷ sources) a b c =
     let good = or_parts (not (is_good source.name)) (list_any (λ (source : DsDef). not (is_good source.name)) sources) a in
-    let beats = or_parts (is_bad_heartbeat source.heartbeat) (list_any (λ (source : DsDef). is_bad_heartbeat source.heartbeat) sources) b in
-    let bounds = or_parts (has_bad_bounds source) (list_any has_bad_bounds sources) c in
+    let beats = or_parts (is_bad_heartbeat version_one source.heartbeat) (list_any (λ (source : DsDef). is_bad_heartbeat version_one source.heartbeat) sources) b in
+    let bounds = or_parts (has_bad_bounds version_one source) (list_any (has_bad_bounds version_one) sources) c in
     (record { good_name = not-false (is_good source.name) good.0; good_heartbeat = beats.0; good_bounds = bounds.0 }, none_bad sources good.1 beats.1 bounds.1)
 
 all_unknown : (sources : List DsDef) → AreAccepted sources (replicate (length sources) Raw.Unknown)
@@ -46,10 +47,10 @@ no_parts function sources passed = record {
 unknown_row : (sources : ℕ) → IsRow sources (replicate sources Cell.Unknown)
 unknown_row sources = record { one_each = length-replicate sources Cell.Unknown; each = All-replicate _ sources Cell.Unknown tt }
 
-xff_is : (xff : ℤ) → is_bad_xff xff ≡ false → (pos 0 ≤ℤ xff) × (xff ≤ℤ pos 999999)
+xff_is : (xff : ℤ) → is_bad_xff version_one xff ≡ false → (pos 0 ≤ℤ xff) × (xff ≤ℤ pos 999999)
 xff_is xff h = let p = or_parts (int_lt xff (pos 0)) (int_lt (pos 999999) xff) h in (grind (arith, ints), grind (arith, ints))
 
-archive_valid : (sources steps : ℕ) (def : RraDef) → is_bad_xff def.xff ≡ false → is_bad_steps def.steps ≡ false → is_bad_rows def.rows ≡ false → IsValidArchive sources steps (new_archive sources def)
+archive_valid : (sources steps : ℕ) (def : RraDef) → is_bad_xff version_one def.xff ≡ false → is_bad_steps version_one def.steps ≡ false → is_bad_rows version_one def.rows ≡ false → IsValidArchive sources steps (new_archive sources def)
 archive_valid sources steps def a b c =
     let xff = xff_is def.xff a in
     let these = or_parts (eqb def.steps 0) (ltb 1000000 def.steps) b in
@@ -66,12 +67,12 @@ archive_valid sources steps def a b c =
       each_row = All-replicate (IsRow sources) def.rows (replicate sources Cell.Unknown) (unknown_row sources);
     }
 
-archives_valid : (sources steps : ℕ) (defs : List RraDef) → list_any (λ (def : RraDef). is_bad_xff def.xff) defs ≡ false → list_any (λ (def : RraDef). is_bad_steps def.steps) defs ≡ false → list_any (λ (def : RraDef). is_bad_rows def.rows) defs ≡ false → AllByRecursion (IsValidArchive sources steps) (map (new_archive sources) defs)
+archives_valid : (sources steps : ℕ) (defs : List RraDef) → list_any (λ (def : RraDef). is_bad_xff version_one def.xff) defs ≡ false → list_any (λ (def : RraDef). is_bad_steps version_one def.steps) defs ≡ false → list_any (λ (def : RraDef). is_bad_rows version_one def.rows) defs ≡ false → AllByRecursion (IsValidArchive sources steps) (map (new_archive sources) defs)
 archives_valid sources steps [] a b c = tt
 archives_valid sources steps (def ∷ defs) a b c =
-    let xffs = or_parts (is_bad_xff def.xff) (list_any (λ (def : RraDef). is_bad_xff def.xff) defs) a in
-    let these = or_parts (is_bad_steps def.steps) (list_any (λ (def : RraDef). is_bad_steps def.steps) defs) b in
-    let those = or_parts (is_bad_rows def.rows) (list_any (λ (def : RraDef). is_bad_rows def.rows) defs) c in
+    let xffs = or_parts (is_bad_xff version_one def.xff) (list_any (λ (def : RraDef). is_bad_xff version_one def.xff) defs) a in
+    let these = or_parts (is_bad_steps version_one def.steps) (list_any (λ (def : RraDef). is_bad_steps version_one def.steps) defs) b in
+    let those = or_parts (is_bad_rows version_one def.rows) (list_any (λ (def : RraDef). is_bad_rows version_one def.rows) defs) c in
     (archive_valid sources steps def xffs.0 these.0 those.0, archives_valid sources steps defs xffs.1 these.1 those.1)
 
 rows_are_asked : (sources : ℕ) (defs : List RraDef) → rows_of_archives (map (new_archive sources) defs) ≡ map (λ (def : RraDef). def.rows) defs
@@ -81,10 +82,10 @@ rows_are_asked sources (def ∷ defs) = ap (λ rows. def.rows ∷ rows) (rows_ar
 -- ---- the whole
 
 pub created_valid : (spec : CreateSpec) → create_verdict spec ≡ None → IsValid (created spec)
-unfolding create_verdict
+unfolding create_verdict_within
 created_valid spec h =
     let sources = length spec.sources in
-    let p = all_pass (create_checks spec) h in
+    let p = all_pass (create_checks version_one spec) h in
     let step = or_parts (eqb spec.step 0) (ltb 1000000 spec.step) p.0 in
     let sizes = or_parts (ltb 64 sources || ltb 64 (length spec.archives)) (ltb 4000000 (sources * sum (map (λ (def : RraDef). def.rows) spec.archives))) p.1.1.1.1.1.1.1.1.1.1.1.0 in
     let counts = or_parts (ltb 64 sources) (ltb 64 (length spec.archives)) sizes.0 in

@@ -7,13 +7,14 @@ use Rattle.std.specs.List.{fold, enumerate_from, list_any, AllByRecursion}
 use Rattle.rrd_fixed.specs.declared.raw.Raw.{Raw}
 use Rattle.rrd_fixed.specs.declared.name.Name.{Name}
 use Rattle.rrd_spec.specs.declared.settings.DsDef.{DsDef}
+use Rattle.rrd_spec.specs.declared.entry.SourceBefore.{SourceBefore}
 use Rattle.rrd_spec.specs.History.{Archive, Content, Reading, Sampled, Resized, Moment, moment_after, moment_of, moment_at_end, rows_after, archive_of, content_listed, IsHistory, IsArchive}
 use Rattle.rrd_spec.proofs.HistoryLemmas.{last_rises, length-sources}
 use Rattle.rrd_spec.proofs.SampleLemmas.{rows_of_samples}
 use Rattle.rrd_spec.specs.Commands.{Asked, Settings, Command, Updating, TuningBy, Resizing, settings_of, rows_of_archives, names, sample_of, samples_of, tuned, rows_changed, events, moved, moved_listed}
 use Rattle.rrd_spec.specs.Verdict.{has_source, is_double, is_bad_rows, grows_too_far, shrinks_too_far, no_sample, asks_nothing, names_no_source, verdict}
-use Rattle.rrd_spec.specs.Entries.{Held, Entry, Updated, WasTuned, WasResized, rows_between, dropped, is_asked, is_named, held, rows_at, with_held, entry, undone}
-use Rattle.rrd_spec.specs.Survivors.{Action, Changed, Reverted, Kept, is_accepted, changed, reverted, step, AllUndo}
+use Rattle.rrd_spec.specs.Entries.{Entry, UpdateEntry, TuneEntry, ResizeEntry, rows_between, saved, is_asked, is_named, sources_before, rows_at, with_source, entry, undone}
+use Rattle.rrd_spec.specs.Survivors.{Action, Changed, Reverted, Stored, is_accepted, changed, reverted, step, AllUndo}
 use Rattle.rrd_spec.proofs.Accepted.{accepted_passes, accepted_history}
 use Rattle.rrd_spec.proofs.Undoing.{comes_back}
 use Rattle.rrd_spec.proofs.AllLemmas.{All-take}
@@ -30,19 +31,21 @@ use Rattle.rrd_spec.specs.declared.update.Sample.{Sample}
 use Rattle.rrd_spec.specs.declared.resize.Change.{Change}
 use Rattle.rrd_spec.specs.declared.resize.Change.TheVariants.{Grow, Shrink}
 use Rattle.rrd_fixed.specs.Names.{same_name}
+use Rattle.rrd_spec.specs.Limits.{version_one}
 
 -- ---- an update's entry
 
-archive_fits : (base : Content) (sources end : ℕ) (list : List Reading) (index : ℕ) (archive : Archive) → IsValidArchive sources (base.last / base.step) archive → FitsArchive base.step sources base.last end (archive_of base (map Sampled list) (index, archive)) (dropped base.step base.last end archive)
+archive_fits : (base : Content) (sources end : ℕ) (list : List Reading) (index : ℕ) (archive : Archive) → IsValidArchive sources (base.last / base.step) archive → FitsArchive base.step sources base.last end (archive_of base (map Sampled list) (index, archive)) (saved base.step base.last end archive)
 archive_fits base sources end list index archive is =
     let m = min (rows_between base.step archive.def base.last end) (length archive.rows) in
     record {
+      same_function = refl;
       one_part_each = is.parts_are.one_each;
       as_many = omega (arith, length-take m archive.rows, rows_of_samples index archive.def.rows list, is.rows_are);
       one_cell_each = All-take _ m archive.rows (rows_wide sources archive.rows is.each_row);
     }
 
-each_fits : (base : Content) (sources end : ℕ) (list : List Reading) (index : ℕ) (archives : List Archive) → AllByRecursion (IsValidArchive sources (base.last / base.step)) archives → FitEach base.step sources base.last end (map (archive_of base (map Sampled list)) (enumerate_from index archives)) (map (dropped base.step base.last end) archives)
+each_fits : (base : Content) (sources end : ℕ) (list : List Reading) (index : ℕ) (archives : List Archive) → AllByRecursion (IsValidArchive sources (base.last / base.step)) archives → FitEach base.step sources base.last end (map (archive_of base (map Sampled list)) (enumerate_from index archives)) (map (saved base.step base.last end) archives)
 each_fits base sources end list index [] is = tt
 each_fits base sources end list index (archive ∷ archives) is = (archive_fits base sources end list index archive is.0, each_fits base sources end list (index + 1) archives is.1)
 
@@ -59,7 +62,7 @@ update_fits base update is h =
     let p = accepted_passes base (Updating update) h in
     let end = moment_at_end base (map Sampled list) in
     let as_many : length end.sources ≡ length base.sources = length-sources (moment_of base) (map Sampled list) history in
-    let P : ℕ → Type 0 = λ n. FitEach base.step n base.last end.last (map (archive_of base (map Sampled list)) (enumerate_from 0 base.archives)) (map (dropped base.step base.last end.last) base.archives) in
+    let P : ℕ → Type 0 = λ n. FitEach base.step n base.last end.last (map (archive_of base (map Sampled list)) (enumerate_from 0 base.archives)) (map (saved base.step base.last end.last) base.archives) in
     record {
       earlier = time_rises base.sources _ (moment_of base) update.samples p.1.1.0 history;
       one_raw_each = length-accepted base.sources base.raws is.raws_are ∙ sym as_many;
@@ -69,15 +72,15 @@ update_fits base update is h =
 
 -- ---- a tune's entry
 
-held_rise : (tuning : Tuning) (lowest number : ℕ) (sources : List DsDef) (raws : List Raw) → lowest ≤ number → Rise lowest (number + length sources) (held tuning number sources raws)
-held_rise tuning lowest number [] raws h = tt
-held_rise tuning lowest number (source ∷ sources) [] h = tt
-held_rise tuning lowest number (source ∷ sources) (raw ∷ raws) h =
-    let P : ℕ → List Held → Type 0 = λ limit olds. Rise lowest limit olds in
+before_rise : (tuning : Tuning) (lowest number : ℕ) (sources : List DsDef) (raws : List Raw) → lowest ≤ number → Rise lowest (number + length sources) (sources_before tuning number sources raws)
+before_rise tuning lowest number [] raws h = tt
+before_rise tuning lowest number (source ∷ sources) [] h = tt
+before_rise tuning lowest number (source ∷ sources) (raw ∷ raws) h =
+    let P : ℕ → List SourceBefore → Type 0 = λ limit olds. Rise lowest limit olds in
     let same : number + 1 + length sources ≡ number + suc (length sources) = omega arith in
-    let rest : (low : ℕ) → low ≤ number + 1 → Rise low (number + suc (length sources)) (held tuning (number + 1) sources raws)
-    = λ low k. subst (λ limit. Rise low limit (held tuning (number + 1) sources raws)) same (held_rise tuning low (number + 1) sources raws k) in
-    cond_both (is_named tuning source) (record { number = number; source = source; raw = raw } ∷ held tuning (number + 1) sources raws) (held tuning (number + 1) sources raws) (λ olds. Rise lowest (number + suc (length sources)) olds)
+    let rest : (low : ℕ) → low ≤ number + 1 → Rise low (number + suc (length sources)) (sources_before tuning (number + 1) sources raws)
+    = λ low k. subst (λ limit. Rise low limit (sources_before tuning (number + 1) sources raws)) same (before_rise tuning low (number + 1) sources raws k) in
+    cond_both (is_named tuning source) (record { number = number; source = source; raw = raw } ∷ sources_before tuning (number + 1) sources raws) (sources_before tuning (number + 1) sources raws) (λ olds. Rise lowest (number + suc (length sources)) olds)
     (λ e. (h, omega arith, rest (number + 1) (omega arith)))
     (λ e. rest lowest (omega arith))
 
@@ -90,16 +93,16 @@ or_count : (a b : Bool) → cond (a || b) 1 0 ≤ cond a 1 0 + cond b 1 0
 or_count true b = omega arith
 or_count false b = omega arith
 
-held_count : (tuning : Tuning) (number : ℕ) (sources : List DsDef) (raws : List Raw) → length (held tuning number sources raws) ≤ how_many (is_named tuning) sources
-held_count tuning number [] raws = omega arith
-held_count tuning number (source ∷ sources) [] = omega arith
-held_count tuning number (source ∷ sources) (raw ∷ raws) =
-    let rest = held_count tuning (number + 1) sources raws in
-    let olds = held tuning (number + 1) sources raws in
-    let here : Held = record { number = number; source = source; raw = raw } in
+before_count : (tuning : Tuning) (number : ℕ) (sources : List DsDef) (raws : List Raw) → length (sources_before tuning number sources raws) ≤ how_many (is_named tuning) sources
+before_count tuning number [] raws = omega arith
+before_count tuning number (source ∷ sources) [] = omega arith
+before_count tuning number (source ∷ sources) (raw ∷ raws) =
+    let rest = before_count tuning (number + 1) sources raws in
+    let olds = sources_before tuning (number + 1) sources raws in
+    let here : SourceBefore = record { number = number; source = source; raw = raw } in
     each (is_named tuning source) here olds (how_many (is_named tuning) sources) rest
   where
-    each : (b : Bool) (here : Held) (olds : List Held) (n : ℕ) → length olds ≤ n → length (cond b (here ∷ olds) olds) ≤ cond b 1 0 + n
+    each : (b : Bool) (here : SourceBefore) (olds : List SourceBefore) (n : ℕ) → length olds ≤ n → length (cond b (here ∷ olds) olds) ≤ cond b 1 0 + n
     each true here olds n h = omega arith
     each false here olds n h = omega arith
 
@@ -184,23 +187,23 @@ some_named sources tuning h k =
     (λ (s : list_any (is_asked tuning.heartbeat) sources ≡ true). list_any_more (is_asked tuning.heartbeat) (is_named tuning) sources (λ source is. or_here _ (is_asked tuning.rename source) (or_here _ (is_asked tuning.kind source) (or_here _ (is_asked tuning.maximum source) (or_here _ (is_asked tuning.minimum source) is)))) s)
     (option_named sources tuning.heartbeat b.0)
 
-some_held : (tuning : Tuning) (number : ℕ) (sources : List DsDef) (raws : List Raw) → length raws ≡ length sources → list_any (is_named tuning) sources ≡ true → 0 < length (held tuning number sources raws)
-some_held tuning number [] raws e h = absurd cc
-some_held tuning number (source ∷ sources) [] e h = absurd (omega arith)
-some_held tuning number (source ∷ sources) (raw ∷ raws) e h =
-    cond_both (is_named tuning source) (record { number = number; source = source; raw = raw } ∷ held tuning (number + 1) sources raws) (held tuning (number + 1) sources raws) (λ olds. 0 < length olds)
+some_before : (tuning : Tuning) (number : ℕ) (sources : List DsDef) (raws : List Raw) → length raws ≡ length sources → list_any (is_named tuning) sources ≡ true → 0 < length (sources_before tuning number sources raws)
+some_before tuning number [] raws e h = absurd cc
+some_before tuning number (source ∷ sources) [] e h = absurd (omega arith)
+some_before tuning number (source ∷ sources) (raw ∷ raws) e h =
+    cond_both (is_named tuning source) (record { number = number; source = source; raw = raw } ∷ sources_before tuning (number + 1) sources raws) (sources_before tuning (number + 1) sources raws) (λ olds. 0 < length olds)
     (λ here. omega arith)
-    (λ there. some_held tuning (number + 1) sources raws (omega arith) (sym (ap (λ b. b || list_any (is_named tuning) sources) there) ∙ h))
+    (λ there. some_before tuning (number + 1) sources raws (omega arith) (sym (ap (λ b. b || list_any (is_named tuning) sources) there) ∙ h))
 
 pub tune_fits : (base : Content) (tuning : Tuning) → IsValid base → verdict base (TuningBy tuning) ≡ None → Fits (moved_listed base (TuningBy tuning)) (entry base (TuningBy tuning))
 unfolding content_listed
 tune_fits base tuning is h =
     let p = accepted_passes base (TuningBy tuning) h in
-    let P : ℕ → Type 0 = λ limit. Rise 0 limit (held tuning 0 base.sources base.raws) in
+    let P : ℕ → Type 0 = λ limit. Rise 0 limit (sources_before tuning 0 base.sources base.raws) in
     record {
-      some = some_held tuning 0 base.sources base.raws (length-accepted base.sources base.raws is.raws_are) (some_named base.sources tuning p.0 p.1.0);
-      few = omega (arith, held_count tuning 0 base.sources base.raws, named_count tuning base.sources, asked_once tuning.heartbeat base.sources is.names_differ, asked_once tuning.minimum base.sources is.names_differ, asked_once tuning.maximum base.sources is.names_differ, asked_once tuning.kind base.sources is.names_differ, asked_once tuning.rename base.sources is.names_differ);
-      rise = subst P (sym (length-map base.sources (tuned tuning))) (subst P {x = 0 + length base.sources} {y = length base.sources} (omega arith) (held_rise tuning 0 0 base.sources base.raws (omega arith)));
+      some = some_before tuning 0 base.sources base.raws (length-accepted base.sources base.raws is.raws_are) (some_named base.sources tuning p.0 p.1.0);
+      few = omega (arith, before_count tuning 0 base.sources base.raws, named_count tuning base.sources, asked_once tuning.heartbeat base.sources is.names_differ, asked_once tuning.minimum base.sources is.names_differ, asked_once tuning.maximum base.sources is.names_differ, asked_once tuning.kind base.sources is.names_differ, asked_once tuning.rename base.sources is.names_differ);
+      rise = subst P (sym (length-map base.sources (tuned tuning))) (subst P {x = 0 + length base.sources} {y = length base.sources} (omega arith) (before_rise tuning 0 0 base.sources base.raws (omega arith)));
     }
 
 -- ---- a resize's entry
@@ -220,12 +223,12 @@ changed_there at new first index [] e h = absurd (omega arith)
 changed_there at new first zero (row ∷ rows) e h = ap (λ b. cond b new row) (eq-eqb at first (omega arith))
 changed_there at new first (suc index) (row ∷ rows) e h = changed_there at new (first + 1) index rows (omega arith) (omega arith)
 
-another : (change : Change) (old rows : ℕ) → (is_bad_rows rows || grows_too_far change old rows) ≡ false → shrinks_too_far change old rows ≡ false → old ≡ rows_changed change old rows → ⊥
+another : (change : Change) (old rows : ℕ) → (is_bad_rows version_one rows || grows_too_far version_one change old rows) ≡ false → shrinks_too_far change old rows ≡ false → old ≡ rows_changed change old rows → ⊥
 another Grow old rows h k e =
-    let some = eqb-false rows 0 (or_parts (eqb rows 0) (ltb 1000000 rows) (or_parts (is_bad_rows rows) (grows_too_far Grow old rows) h).0).0 in
+    let some = eqb-false rows 0 (or_parts (eqb rows 0) (ltb 1000000 rows) (or_parts (is_bad_rows version_one rows) (grows_too_far version_one Grow old rows) h).0).0 in
     omega (arith, some)
 another Shrink old rows h k e =
-    let some = eqb-false rows 0 (or_parts (eqb rows 0) (ltb 1000000 rows) (or_parts (is_bad_rows rows) (grows_too_far Shrink old rows) h).0).0 in
+    let some = eqb-false rows 0 (or_parts (eqb rows 0) (ltb 1000000 rows) (or_parts (is_bad_rows version_one rows) (grows_too_far version_one Shrink old rows) h).0).0 in
     omega (arith, some, leb-false old rows k)
 
 resize_fits : (base : Content) (archive : ℕ) (change : Change) (rows : ℕ) → IsValid base → verdict base (Resizing archive change rows) ≡ None → Fits (moved_listed base (Resizing archive change rows)) (entry base (Resizing archive change rows))
@@ -279,14 +282,14 @@ database_stays now journal command is h =
       few = let same = moved_depth now command in omega (arith, length-take now.depth (entry now command ∷ journal));
     }
 
-fold_depth : (now : Content) (olds : List Held) → (fold with_held now olds).depth ≡ now.depth
+fold_depth : (now : Content) (olds : List SourceBefore) → (fold with_source now olds).depth ≡ now.depth
 fold_depth now [] = refl
-fold_depth now (old ∷ olds) = fold_depth (with_held now old) olds
+fold_depth now (old ∷ olds) = fold_depth (with_source now old) olds
 
 pub undone_depth : (now : Content) (old : Entry) → (undone now old).depth ≡ now.depth
-undone_depth now (Updated old) = refl
-undone_depth now (WasTuned olds) = fold_depth now olds
-undone_depth now (WasResized archive rows) = refl
+undone_depth now (UpdateEntry old) = refl
+undone_depth now (TuneEntry olds) = fold_depth now olds
+undone_depth now (ResizeEntry archive rows) = refl
 
 undo_all : (now : Content) (journal : List Entry) → IsValidJournal now journal → AllUndo now journal
 undo_all now [] h = tt
@@ -301,17 +304,17 @@ revert_takes_back now journal command is h = places now.depth is.content_is.some
   places : (depth : ℕ) → 0 < depth → reverted (moved now command) (take depth (entry now command ∷ journal)) ≡ record { content = now; journal = take (depth - 1) journal }
   places zero some = absurd (omega arith)
   places (suc n) some =
-      ap (λ c. let k : Kept = record { content = c; journal = take n journal } in k) (comes_back now command (sound now is.content_is) h)
-      ∙ ap (λ m. let k : Kept = record { content = now; journal = take m journal } in k) {x = n} {y = suc n - 1} (omega arith)
+      ap (λ c. let k : Stored = record { content = c; journal = take n journal } in k) (comes_back now command (sound now is.content_is) h)
+      ∙ ap (λ m. let k : Stored = record { content = now; journal = take m journal } in k) {x = n} {y = suc n - 1} (omega arith)
 
-step_valid : (kept : Kept) (action : Action) → IsValidDatabase kept.content kept.journal → let next = step kept action in IsValidDatabase next.content next.journal
+step_valid : (kept : Stored) (action : Action) → IsValidDatabase kept.content kept.journal → let next = step kept action in IsValidDatabase next.content next.journal
 step_valid kept (Changed command) h =
-    cond_both (is_accepted kept.content command) (changed kept command) kept (λ (next : Kept). IsValidDatabase next.content next.journal)
+    cond_both (is_accepted kept.content command) (changed kept command) kept (λ (next : Stored). IsValidDatabase next.content next.journal)
     (λ e. database_stays kept.content kept.journal command h (is_none-true (verdict kept.content command) e))
     (λ e. h)
 step_valid kept Reverted h = revert_valid kept.content kept.journal h
 
-run_valid : (actions : List Action) (kept : Kept) → IsValidDatabase kept.content kept.journal → let end = fold step kept actions in IsValidDatabase end.content end.journal
+run_valid : (actions : List Action) (kept : Stored) → IsValidDatabase kept.content kept.journal → let end = fold step kept actions in IsValidDatabase end.content end.journal
 run_valid [] kept h = h
 run_valid (action ∷ actions) kept h = run_valid actions (step kept action) (step_valid kept action h)
 

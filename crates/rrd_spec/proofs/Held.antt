@@ -6,7 +6,7 @@ use Rattle.rrd_fixed.specs.declared.cell.Cell.{Cell}
 use Rattle.rrd_fixed.specs.Rate.{IsBounded}
 use Rattle.rrd_fold.specs.declared.function.Function.TheVariants.{Average}
 use Rattle.rrd_fold.specs.Parts.{seconds_to_steps}
-use Rattle.rrd_spec.specs.History.{Archive, Content, Event, moment_of, moment_at_end, seconds_of, steps_of, parts_of, rows_of, row_parts_of, rows_after, room, keep_last, kept_rows, archive_of, IsHistory, IsArchive}
+use Rattle.rrd_spec.specs.History.{Archive, Content, Event, moment_of, moment_at_end, seconds_of, steps_of, parts_of, rows_of, row_parts_of, rows_after, rows_never_lost, keep_last, kept_rows, archive_of, IsHistory, IsArchive}
 use Rattle.rrd_spec.proofs.HistoryLemmas.{length-seconds_of, length-steps_of}
 use Rattle.rrd_spec.proofs.ContentLemmas.{length-kept_rows}
 use Rattle.rrd_spec.specs.Validity.{AreParts, IsRow, IsValidArchive, IsValid}
@@ -57,7 +57,7 @@ rows_valid base es index archive is of rows =
     let res = base.step * archive.def.steps in
     let since = λ (time : ℕ). (moment_at_end base es).last / res - time / res in
     let all = archive.rows ++ rows_of base archive es in
-    let left = room index since archive.def.rows (moment_of base) es in
+    let left = rows_never_lost index since archive.def.rows (moment_of base) es in
     let unknown : IsRow n nan = record { one_each = length-replicate n Cell.Unknown; each = All-replicate IsBounded n Cell.Unknown tt } in
     All-append (IsRow n) (replicate (fold (rows_after index) archive.def.rows es - length (keep_last left all)) nan) (keep_last left all)
     (All-replicate (IsRow n) (fold (rows_after index) archive.def.rows es - length (keep_last left all)) nan unknown)

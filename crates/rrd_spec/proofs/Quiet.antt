@@ -7,7 +7,7 @@ use Rattle.rrd_fixed.specs.declared.raw.Raw.{Raw}
 use Rattle.rrd_spec.specs.declared.settings.DsDef.{DsDef}
 use Rattle.rrd_fold.specs.Groups.{finished, unfinished}
 use Rattle.rrd_fold.specs.Parts.{Part, seconds_to_steps}
-use Rattle.rrd_spec.specs.History.{Archive, Content, Event, Tuned, Resized, moment_of, moment_at_end, raws_under, samples, second, seconds_of, steps_of, parts_of, rows_of, row_parts_of, rows_after, room, keep_last, filled_up, kept_rows, archive_of, content_listed, IsArchive, IsBase}
+use Rattle.rrd_spec.specs.History.{Archive, Content, Event, Tuned, Resized, moment_of, moment_at_end, raws_under, samples, second, seconds_of, steps_of, parts_of, rows_of, row_parts_of, rows_after, rows_never_lost, keep_last, filled_up, kept_rows, archive_of, content_listed, IsArchive, IsBase}
 use Rattle.rrd_fold.proofs.GroupLemmas.{finished_nil, unfinished_nil}
 use Rattle.rrd_spec.proofs.RowLemmas.{filled_already, keep_all}
 use Rattle.rrd_spec.specs.Rules.{rows_rule}
@@ -33,15 +33,15 @@ module _ (base : Content) (es : List Event) (same : (moment_at_end base es).last
   unfolding row_parts_of
   row_parts_same archive some = ap (unfinished (rows_rule archive.def (length base.sources)) (base.last / base.step) archive.parts) steps_none ∙ unfinished_nil (rows_rule archive.def (length base.sources)) (base.last / base.step) archive.parts some
 
-  kept_same : (index : ℕ) (archive : Archive) → IsArchive archive → ((rows : ℕ) → fold (rows_after index) rows es ≡ rows) → ((rows : ℕ) (since : ℕ → ℕ) → since base.last ≡ 0 → room index since rows (moment_of base) es ≡ rows) → kept_rows base index archive es ≡ archive.rows
+  kept_same : (index : ℕ) (archive : Archive) → IsArchive archive → ((rows : ℕ) → fold (rows_after index) rows es ≡ rows) → ((rows : ℕ) (since : ℕ → ℕ) → since base.last ≡ 0 → rows_never_lost index since rows (moment_of base) es ≡ rows) → kept_rows base index archive es ≡ archive.rows
   unfolding kept_rows
   kept_same index archive is rows_stay room_stays =
       let res = base.step * archive.def.steps in
       let nan = replicate (length base.sources) Cell.Unknown in
       let since = λ (time : ℕ). (moment_at_end base es).last / res - time / res in
       let now : (moment_at_end base es).last / res ≡ base.last / res = ap (λ t. t / res) same in
-      let places : room index since archive.def.rows (moment_of base) es ≡ archive.def.rows = room_stays archive.def.rows since (omega arith) in
-      ap (λ n. filled_up n nan (keep_last (room index since archive.def.rows (moment_of base) es) (archive.rows ++ rows_of base archive es))) (rows_stay archive.def.rows)
+      let places : rows_never_lost index since archive.def.rows (moment_of base) es ≡ archive.def.rows = room_stays archive.def.rows since (omega arith) in
+      ap (λ n. filled_up n nan (keep_last (rows_never_lost index since archive.def.rows (moment_of base) es) (archive.rows ++ rows_of base archive es))) (rows_stay archive.def.rows)
       ∙ ap (λ n. filled_up archive.def.rows nan (keep_last n (archive.rows ++ rows_of base archive es))) places
       ∙ ap (λ zs. filled_up archive.def.rows nan (keep_last archive.def.rows (archive.rows ++ zs))) (rows_none archive)
       ∙ ap (λ zs. filled_up archive.def.rows nan (keep_last archive.def.rows zs)) (append-nil archive.rows)
@@ -51,14 +51,14 @@ module _ (base : Content) (es : List Event) (same : (moment_at_end base es).last
 unfoldable pub made : Archive → ℕ → List Part → List (List Cell) → Archive
 made archive n parts rows = record { def = record archive.def { rows = n }; parts = parts; rows = rows }
 
-pub archive_stays : (base : Content) (es : List Event) (index : ℕ) (archive : Archive) → (moment_at_end base es).last ≡ base.last → IsArchive archive → ((rows : ℕ) → fold (rows_after index) rows es ≡ rows) → ((rows : ℕ) (since : ℕ → ℕ) → since base.last ≡ 0 → room index since rows (moment_of base) es ≡ rows) → archive_of base es (index, archive) ≡ archive
+pub archive_stays : (base : Content) (es : List Event) (index : ℕ) (archive : Archive) → (moment_at_end base es).last ≡ base.last → IsArchive archive → ((rows : ℕ) → fold (rows_after index) rows es ≡ rows) → ((rows : ℕ) (since : ℕ → ℕ) → since base.last ≡ 0 → rows_never_lost index since rows (moment_of base) es ≡ rows) → archive_of base es (index, archive) ≡ archive
 unfolding made
 archive_stays base es index archive same is rows_stay room_stays =
     ap (λ n. made archive n (row_parts_of base archive es) (kept_rows base index archive es)) (rows_stay archive.def.rows)
     ∙ ap (λ ps. made archive archive.def.rows ps (kept_rows base index archive es)) (row_parts_same base es same archive is.some_steps)
     ∙ ap (made archive archive.def.rows archive.parts) (kept_same base es same index archive is rows_stay room_stays)
 
-pub archives_stay : (base : Content) (es : List Event) (first : ℕ) (archives : List Archive) → (moment_at_end base es).last ≡ base.last → AllByRecursion IsArchive archives → ((index rows : ℕ) → first ≤ index → fold (rows_after index) rows es ≡ rows) → ((index rows : ℕ) (since : ℕ → ℕ) → first ≤ index → since base.last ≡ 0 → room index since rows (moment_of base) es ≡ rows) → map (archive_of base es) (enumerate_from first archives) ≡ archives
+pub archives_stay : (base : Content) (es : List Event) (first : ℕ) (archives : List Archive) → (moment_at_end base es).last ≡ base.last → AllByRecursion IsArchive archives → ((index rows : ℕ) → first ≤ index → fold (rows_after index) rows es ≡ rows) → ((index rows : ℕ) (since : ℕ → ℕ) → first ≤ index → since base.last ≡ 0 → rows_never_lost index since rows (moment_of base) es ≡ rows) → map (archive_of base es) (enumerate_from first archives) ≡ archives
 archives_stay base es first [] same is rows_stay room_stays = refl
 archives_stay base es first (archive ∷ archives) same is rows_stay room_stays =
     let one = archive_stays base es first archive same is.0 (λ rows. rows_stay first rows (omega arith)) (λ rows since h. room_stays first rows since (omega arith) h) in
@@ -88,7 +88,7 @@ content_tuned base sources is =
 other_fold : (at rows index old : ℕ) → (at ≡ index → ⊥) → fold (rows_after index) old (Resized at rows ∷ []) ≡ old
 other_fold at rows index old h = ap (λ b. cond b rows old) (ne_eqb at index h)
 
-other_room : (base : Content) (at rows index old : ℕ) (since : ℕ → ℕ) → (at ≡ index → ⊥) → since base.last ≡ 0 → room index since old (moment_of base) (Resized at rows ∷ []) ≡ old
+other_room : (base : Content) (at rows index old : ℕ) (since : ℕ → ℕ) → (at ≡ index → ⊥) → since base.last ≡ 0 → rows_never_lost index since old (moment_of base) (Resized at rows ∷ []) ≡ old
 other_room base at rows index old since h k = let e = other_fold at rows index old h in omega arith
 
 pub resized_other : (base : Content) (at rows index : ℕ) (archive : Archive) → (at ≡ index → ⊥) → IsArchive archive → archive_of base (Resized at rows ∷ []) (index, archive) ≡ archive

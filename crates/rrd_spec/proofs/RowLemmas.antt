@@ -3,7 +3,7 @@ use Rattle.std.proofs.Common.{◌≡◌, refl, sym, ◌∙◌, ap, ℕ, ◌+◌,
 use Rattle.std.proofs.lemmas.Bool.{cases_lt, lt-ltb, le-ltb}
 use Rattle.std.proofs.lemmas.List.{drop-append-le, drop_at, drop-drop, drop-replicate, length-drop, length-replicate, take-append-drop, replicate-append-replicate, take_at, get_or-append_right, get_or-drop, get_or_append_left, get_or-replicate}
 use Rattle.std.specs.List.{fold}
-use Rattle.rrd_spec.specs.History.{Event, Sampled, Tuned, Resized, Moment, moment_after, rows_after, room, keep_last, filled_up, IsHistory}
+use Rattle.rrd_spec.specs.History.{Event, Sampled, Tuned, Resized, Moment, moment_after, rows_after, rows_never_lost, keep_last, filled_up, IsHistory}
 use Rattle.rrd_spec.proofs.HistoryLemmas.{last_rises}
 
 -- ---- lists
@@ -68,15 +68,15 @@ rows_again before after then now u xs ys some fits some_now fits_now =
 
 -- ---- how many rows have had a place
 
-pub room_first : (index : ℕ) (since : ℕ → ℕ) (rows : ℕ) (now : Moment) (es : List Event) → room index since rows now es ≤ rows + since now.last
+pub room_first : (index : ℕ) (since : ℕ → ℕ) (rows : ℕ) (now : Moment) (es : List Event) → rows_never_lost index since rows now es ≤ rows + since now.last
 room_first index since rows now [] = omega arith
 room_first index since rows now (e ∷ es) = omega arith
 
-pub room_last : (index : ℕ) (since : ℕ → ℕ) (rows : ℕ) (now : Moment) (es : List Event) → room index since rows now es ≤ fold (rows_after index) rows es + since (fold moment_after now es).last
+pub room_last : (index : ℕ) (since : ℕ → ℕ) (rows : ℕ) (now : Moment) (es : List Event) → rows_never_lost index since rows now es ≤ fold (rows_after index) rows es + since (fold moment_after now es).last
 room_last index since rows now [] = omega arith
 room_last index since rows now (e ∷ es) = omega (arith, room_last index since (rows_after index rows e) (moment_after now e) es)
 
-pub room-append : (index : ℕ) (first second : ℕ → ℕ) (n rows : ℕ) (now : Moment) (es fs : List Event) → IsHistory now es → ((t : ℕ) → t ≤ (fold moment_after now es).last → second t ≡ first t + n) → room index second rows now (es ++ fs) ≡ min (room index first rows now es + n) (room index second (fold (rows_after index) rows es) (fold moment_after now es) fs)
+pub room-append : (index : ℕ) (first second : ℕ → ℕ) (n rows : ℕ) (now : Moment) (es fs : List Event) → IsHistory now es → ((t : ℕ) → t ≤ (fold moment_after now es).last → second t ≡ first t + n) → rows_never_lost index second rows now (es ++ fs) ≡ min (rows_never_lost index first rows now es + n) (rows_never_lost index second (fold (rows_after index) rows es) (fold moment_after now es) fs)
 room-append index first second n rows now [] fs h e =
     omega (arith, room_first index second rows now fs, e now.last (omega arith))
 room-append index first second n rows now (Sampled sample ∷ es) fs h e =

@@ -8,7 +8,7 @@ use Rattle.rrd_spec.specs.History.{Content}
 use Rattle.rrd_spec.specs.Commands.{Command, content_of, moved}
 use Rattle.rrd_spec.specs.Verdict.{verdict}
 use Rattle.rrd_spec.specs.Entries.{Entry, entry, undone, IsSound}
-use Rattle.rrd_spec.specs.Survivors.{Action, Changed, Reverted, State, Kept, survived, is_accepted, entries, with_change, without_last, after, reverted, changed, step, AllAccepted, AllUndo, Stands, CommandsGoOn, RunsAgree}
+use Rattle.rrd_spec.specs.Survivors.{Action, Changed, Reverted, State, Stored, survived, is_accepted, entries, with_change, without_last, after, reverted, changed, step, AllAccepted, AllUndo, Stands, CommandsGoOn, RunsAgree}
 use Rattle.rrd_spec.proofs.CellLemmas.{is_listed}
 use Rattle.rrd_spec.proofs.Moving.{moves, moved_sound}
 use Rattle.rrd_spec.proofs.Quiet.{content_nil}
@@ -103,7 +103,7 @@ undo_taken base (suc k) (old ∷ brought) h = (h.0, h.1, undo_taken (undone base
 
 -- ---- one action
 
-revert_stands : (base : Content) (brought : List Entry) (survivors : List Command) (n : ℕ) (kept : Kept) → Stands (record { base = base; brought = brought; survivors = survivors; revertible = n }) kept → Stands (without_last base brought survivors n) (reverted kept.content kept.journal)
+revert_stands : (base : Content) (brought : List Entry) (survivors : List Command) (n : ℕ) (kept : Stored) → Stands (record { base = base; brought = brought; survivors = survivors; revertible = n }) kept → Stands (without_last base brought survivors n) (reverted kept.content kept.journal)
 revert_stands base brought (command ∷ survivors) (suc n) kept h =
     let P : List Entry → Type 0 = λ journal. Stands (record { base = base; brought = brought; survivors = survivors; revertible = n }) (reverted kept.content journal) in
     let earlier = survived base survivors in
@@ -147,7 +147,7 @@ revert_stands base [] survivors zero kept h =
       undo = tt;
     })
 
-change_stands : (state : State) (kept : Kept) (command : Command) → is_accepted (survived state.base state.survivors) command ≡ true → Stands state kept → Stands (with_change state command) (changed kept command)
+change_stands : (state : State) (kept : Stored) (command : Command) → is_accepted (survived state.base state.survivors) command ≡ true → Stands state kept → Stands (with_change state command) (changed kept command)
 change_stands state kept command passes h =
     let base = state.base in
     let earlier = survived base state.survivors in
@@ -169,7 +169,7 @@ change_stands state kept command passes h =
       undo = undo_taken base (base.depth - (state.revertible + 1)) state.brought h.undo;
     }
 
-pub step_stands : (state : State) (kept : Kept) (action : Action) → Stands state kept → Stands (after state action) (step kept action)
+pub step_stands : (state : State) (kept : Stored) (action : Action) → Stands state kept → Stands (after state action) (step kept action)
 step_stands state kept (Changed command) h =
     let same : is_accepted kept.content command ≡ is_accepted (survived state.base state.survivors) command = ap (λ now. is_accepted now command) h.content_is in
     ⊎_elim
@@ -178,7 +178,7 @@ step_stands state kept (Changed command) h =
     (cases_Bool (is_accepted (survived state.base state.survivors) command))
 step_stands state kept Reverted h = revert_stands state.base state.brought state.survivors state.revertible kept h
 
-runs_stand : (actions : List Action) (state : State) (kept : Kept) → Stands state kept → Stands (fold after state actions) (fold step kept actions)
+runs_stand : (actions : List Action) (state : State) (kept : Stored) → Stands state kept → Stands (fold after state actions) (fold step kept actions)
 runs_stand [] state kept h = h
 runs_stand (action ∷ actions) state kept h = runs_stand actions (after state action) (step kept action) (step_stands state kept action h)
 

@@ -2,10 +2,10 @@
 use Rattle.std.proofs.Common.{◌≡◌, refl, sym, ◌∙◌, ap, ℕ, ◌-◌, ◌*◌, ◌/◌, min, List, [], ◌∷◌, ◌++◌, length, take, map, replicate, arith, length-append}
 use Rattle.std.specs.List.{fold}
 use Rattle.rrd_fixed.specs.declared.cell.Cell.{Cell}
-use Rattle.rrd_spec.specs.History.{Archive, Content, Reading, Sampled, Moment, moment_after, moment_of, moment_at_end, rows_of, rows_after, room, keep_last, filled_up, kept_rows, IsArchive}
+use Rattle.rrd_spec.specs.History.{Archive, Content, Reading, Sampled, Moment, moment_after, moment_of, moment_at_end, rows_of, rows_after, rows_never_lost, keep_last, filled_up, kept_rows, IsArchive}
 use Rattle.rrd_spec.proofs.RowLemmas.{length-keep_last, put_back_rows}
 
-room_of_samples : (index : ℕ) (since : ℕ → ℕ) (rows : ℕ) (now : Moment) (samples : List Reading) → since (fold moment_after now (map Sampled samples)).last ≡ 0 → room index since rows now (map Sampled samples) ≡ rows
+room_of_samples : (index : ℕ) (since : ℕ → ℕ) (rows : ℕ) (now : Moment) (samples : List Reading) → since (fold moment_after now (map Sampled samples)).last ≡ 0 → rows_never_lost index since rows now (map Sampled samples) ≡ rows
 room_of_samples index since rows now [] h = omega arith
 room_of_samples index since rows now (sample ∷ samples) h = omega (arith, room_of_samples index since rows (moment_after now (Sampled sample)) samples h)
 
@@ -25,9 +25,9 @@ kept_rows_of_samples base index archive samples is =
     let nan = replicate (length base.sources) Cell.Unknown in
     let count = length-append archive.rows (rows_of base archive es) in
     let rows : fold (rows_after index) archive.def.rows es ≡ length archive.rows = rows_of_samples index archive.def.rows samples ∙ sym is.rows_are in
-    let places : room index since archive.def.rows (moment_of base) es ≡ length archive.rows = room_of_samples index since archive.def.rows (moment_of base) samples (omega arith) ∙ sym is.rows_are in
+    let places : rows_never_lost index since archive.def.rows (moment_of base) es ≡ length archive.rows = room_of_samples index since archive.def.rows (moment_of base) samples (omega arith) ∙ sym is.rows_are in
     let kept = keep_last (length archive.rows) all in
-    ap (λ n. filled_up n nan (keep_last (room index since archive.def.rows (moment_of base) es) all)) rows
+    ap (λ n. filled_up n nan (keep_last (rows_never_lost index since archive.def.rows (moment_of base) es) all)) rows
     ∙ ap (λ n. filled_up (length archive.rows) nan (keep_last n all)) places
     ∙ ap (λ n. replicate n nan ++ kept) {x = length archive.rows - length kept} {y = 0} (omega (arith, length-keep_last (length archive.rows) all (omega arith)))
 

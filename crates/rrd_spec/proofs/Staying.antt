@@ -37,6 +37,7 @@ use Rattle.rrd_spec.specs.declared.resize.Change.{Change}
 use Rattle.rrd_spec.specs.declared.resize.Change.TheVariants.{Grow, Shrink}
 use Rattle.rrd_fixed.specs.Admitted.{in_range, is_whole}
 use Rattle.rrd_fixed.specs.Names.{same_name, is_good}
+use Rattle.rrd_spec.specs.Limits.{version_one}
 
 -- ---- raw values
 
@@ -152,7 +153,7 @@ end_raws : (now : Moment) (list : List Reading) → AreAccepted now.sources now.
 end_raws now [] a is = a
 end_raws now (sample ∷ list) a is = end_raws (moment_after now (Sampled sample)) list is.0 is.1
 
-end_time : (sources : List DsDef) (template : List Name) (now : Moment) (readings : List Sample) → AllByRecursion Passes (sample_checks sources template now.last readings) → now.last ≤ 9999999999 → (fold moment_after now (map Sampled (map (sample_of sources template) readings))).last ≤ 9999999999
+end_time : (sources : List DsDef) (template : List Name) (now : Moment) (readings : List Sample) → AllByRecursion Passes (sample_checks version_one sources template now.last readings) → now.last ≤ 9999999999 → (fold moment_after now (map Sampled (map (sample_of sources template) readings))).last ≤ 9999999999
 end_time sources template now [] p h = h
 end_time sources template now (reading ∷ readings) p h =
     end_time sources template (moment_after now (Sampled (sample_of sources template reading))) readings p.1.1.1.1 (ltb-false 9999999999 reading.time p.0)
@@ -185,14 +186,14 @@ good_name : (rename : Option (Asked Name)) (name : Name) → option_map_or (λ (
 good_name None name k h = h
 good_name (Some option) name k h = cond_both (same_name option.0 name) option.1 name (λ n. is_good n ≡ true) (λ e. not-false (is_good option.1) k) (λ e. h)
 
-good_heartbeat : (heartbeat : Option (Asked ℕ)) (name : Name) (old : ℕ) → option_map_or (λ (option : Asked ℕ). is_bad_heartbeat option.1) heartbeat false ≡ false → is_bad_heartbeat old ≡ false → is_bad_heartbeat (asked heartbeat name old) ≡ false
+good_heartbeat : (heartbeat : Option (Asked ℕ)) (name : Name) (old : ℕ) → option_map_or (λ (option : Asked ℕ). is_bad_heartbeat version_one option.1) heartbeat false ≡ false → is_bad_heartbeat version_one old ≡ false → is_bad_heartbeat version_one (asked heartbeat name old) ≡ false
 good_heartbeat None name old k h = h
-good_heartbeat (Some option) name old k h = cond_both (same_name option.0 name) option.1 old (λ n. is_bad_heartbeat n ≡ false) (λ e. k) (λ e. h)
+good_heartbeat (Some option) name old k h = cond_both (same_name option.0 name) option.1 old (λ n. is_bad_heartbeat version_one n ≡ false) (λ e. k) (λ e. h)
 
-tuned_sources : (tuning : Tuning) (sources : List DsDef) → option_map_or (λ (option : Asked Name). not (is_good option.1)) tuning.rename false ≡ false → option_map_or (λ (option : Asked ℕ). is_bad_heartbeat option.1) tuning.heartbeat false ≡ false → list_any (λ (source : DsDef). has_bad_bounds (tuned tuning source)) sources ≡ false → AllByRecursion IsSource sources → AllByRecursion IsSource (map (tuned tuning) sources)
+tuned_sources : (tuning : Tuning) (sources : List DsDef) → option_map_or (λ (option : Asked Name). not (is_good option.1)) tuning.rename false ≡ false → option_map_or (λ (option : Asked ℕ). is_bad_heartbeat version_one option.1) tuning.heartbeat false ≡ false → list_any (λ (source : DsDef). has_bad_bounds version_one (tuned tuning source)) sources ≡ false → AllByRecursion IsSource sources → AllByRecursion IsSource (map (tuned tuning) sources)
 tuned_sources tuning [] a b c is = tt
 tuned_sources tuning (source ∷ sources) a b c is =
-    let d = or_parts (has_bad_bounds (tuned tuning source)) (list_any (λ (source : DsDef). has_bad_bounds (tuned tuning source)) sources) c in (
+    let d = or_parts (has_bad_bounds version_one (tuned tuning source)) (list_any (λ (source : DsDef). has_bad_bounds version_one (tuned tuning source)) sources) c in (
       record {
         good_name = good_name tuning.rename source.name a is.0.good_name;
         good_heartbeat = good_heartbeat tuning.heartbeat source.name source.heartbeat b is.0.good_heartbeat;
@@ -227,8 +228,8 @@ few_rows_at sources steps index [] is = omega arith
 few_rows_at sources steps zero (archive ∷ archives) is = is.0.few_rows
 few_rows_at sources steps (suc index) (archive ∷ archives) is = few_rows_at sources steps index archives is.1
 
-pub few_changed : (change : Change) (old rows : ℕ) → old ≤ 1000000 → (is_bad_rows rows || grows_too_far change old rows) ≡ false → rows_changed change old rows ≤ 1000000
-few_changed Grow old rows h k = ltb-false 1000000 (old + rows) (or_parts (is_bad_rows rows) (grows_too_far Grow old rows) k).1
+pub few_changed : (change : Change) (old rows : ℕ) → old ≤ 1000000 → (is_bad_rows version_one rows || grows_too_far version_one change old rows) ≡ false → rows_changed change old rows ≤ 1000000
+few_changed Grow old rows h k = ltb-false 1000000 (old + rows) (or_parts (is_bad_rows version_one rows) (grows_too_far version_one Grow old rows) k).1
 few_changed Shrink old rows h k = omega arith
 
 resize_leaves : (base : Content) (archive : ℕ) (change : Change) (rows : ℕ) → IsValid base → verdict base (Resizing archive change rows) ≡ None → Leaves base (events (settings_of base) (Resizing archive change rows))

@@ -8,12 +8,13 @@ use Rattle.rrd_fixed.specs.declared.kind.Kind.{Kind}
 use Rattle.rrd_fixed.specs.declared.kind.Kind.TheVariants.{Gauge, Counter, Derive, Absolute}
 use Rattle.rrd_fixed.specs.declared.name.Name.{Name}
 use Rattle.rrd_spec.specs.declared.settings.DsDef.{DsDef}
+use Rattle.rrd_spec.specs.declared.entry.SourceBefore.{SourceBefore}
 use Rattle.rrd_spec.specs.History.{Archive, Content, Reading, Sampled, Resized, Moment, moment_after, moment_of, moment_at_end, same_kind, raws_under, rows_of, row_parts_of, rows_after, kept_rows, archive_of, content_listed, IsHistory, IsArchive}
 use Rattle.rrd_spec.proofs.ContentLemmas.{length-rows_of, length-kept_rows}
 use Rattle.rrd_spec.proofs.SampleLemmas.{rows_of_samples, update_undone}
 use Rattle.rrd_spec.specs.Commands.{Asked, Command, Updating, TuningBy, Resizing, settings_of, samples_of, asked, tuned, rows_changed, moved_listed}
 use Rattle.rrd_spec.specs.Verdict.{verdict}
-use Rattle.rrd_spec.specs.Entries.{Held, WasResized, rows_between, dropped, is_asked, is_named, held, rows_at, put_back, put_back_each, with_held, with_rows_at, entry, undone, IsSound, ComesBack}
+use Rattle.rrd_spec.specs.Entries.{ResizeEntry, rows_between, saved, is_asked, is_named, sources_before, rows_at, put_back, put_back_each, with_source, with_rows_at, entry, undone, IsSound, ComesBack}
 use Rattle.rrd_spec.proofs.Accepted.{accepted_passes, accepted_history}
 use Rattle.rrd_spec.proofs.Moving.{moved_is}
 use Rattle.rrd_spec.proofs.Quiet.{made, with_all, content_tuned, resized_other, resized_elsewhere, content_resized, row_parts_same}
@@ -27,7 +28,7 @@ same_sources : (now : Moment) (samples : List Reading) → (fold moment_after no
 same_sources now [] = refl
 same_sources now (sample ∷ samples) = same_sources (moment_after now (Sampled sample)) samples
 
-archive_back : (base : Content) (index : ℕ) (archive : Archive) (samples : List Reading) → 0 < base.step → IsArchive archive → IsHistory (moment_of base) (map Sampled samples) → put_back (archive_of base (map Sampled samples) (index, archive)) (dropped base.step base.last (moment_at_end base (map Sampled samples)).last archive) ≡ archive
+archive_back : (base : Content) (index : ℕ) (archive : Archive) (samples : List Reading) → 0 < base.step → IsArchive archive → IsHistory (moment_of base) (map Sampled samples) → put_back (archive_of base (map Sampled samples) (index, archive)) (saved base.step base.last (moment_at_end base (map Sampled samples)).last archive) ≡ archive
 unfolding made
 archive_back base index archive samples some is h =
     let es = map Sampled samples in
@@ -48,7 +49,7 @@ archive_back base index archive samples some is h =
     ∙ update_undone base index archive samples is in
     ap (λ n. made archive n archive.parts (old ++ take (length kept - length old) kept)) defs ∙ ap (made archive archive.def.rows archive.parts) rows
 
-archives_back : (base : Content) (index : ℕ) (archives : List Archive) (samples : List Reading) → 0 < base.step → AllByRecursion IsArchive archives → IsHistory (moment_of base) (map Sampled samples) → put_back_each (map (archive_of base (map Sampled samples)) (enumerate_from index archives)) (map (dropped base.step base.last (moment_at_end base (map Sampled samples)).last) archives) ≡ archives
+archives_back : (base : Content) (index : ℕ) (archives : List Archive) (samples : List Reading) → 0 < base.step → AllByRecursion IsArchive archives → IsHistory (moment_of base) (map Sampled samples) → put_back_each (map (archive_of base (map Sampled samples)) (enumerate_from index archives)) (map (saved base.step base.last (moment_at_end base (map Sampled samples)).last) archives) ≡ archives
 archives_back base index [] samples some is h = refl
 archives_back base index (archive ∷ archives) samples some is h =
     let one = archive_back base index archive samples some is.0 h in
@@ -63,7 +64,7 @@ update_back : (base : Content) (update : Update) → ListedBack base (Updating u
 unfolding content_listed with_all
 update_back base update sound h =
     let samples = samples_of base.sources update in
-    let archives = put_back_each (map (archive_of base (map Sampled samples)) (enumerate_from 0 base.archives)) (map (dropped base.step base.last (moment_at_end base (map Sampled samples)).last) base.archives) in
+    let archives = put_back_each (map (archive_of base (map Sampled samples)) (enumerate_from 0 base.archives)) (map (saved base.step base.last (moment_at_end base (map Sampled samples)).last) base.archives) in
     ap (λ sources. with_all base sources base.last base.raws base.parts archives) (same_sources (moment_of base) samples)
     ∙ ap (with_all base base.sources base.last base.raws base.parts) (archives_back base 0 base.archives samples sound.is_base.some_step sound.is_base.archives_are (accepted_history base (Updating update) h))
 
@@ -99,7 +100,7 @@ kind_itself Absolute = refl
 with_sources : Content → List DsDef → List Raw → Content
 with_sources base sources raws = record base { sources = sources; raws = raws }
 
-sources_back : (base : Content) (tuning : Tuning) (number : ℕ) (done : List DsDef) (done_raws : List Raw) (sources : List DsDef) (raws : List Raw) → length done ≡ number → length done_raws ≡ number → length raws ≡ length sources → fold with_held (with_sources base (done ++ map (tuned tuning) sources) (done_raws ++ raws_under sources (map (tuned tuning) sources) raws)) (held tuning number sources raws) ≡ with_sources base (done ++ sources) (done_raws ++ raws)
+sources_back : (base : Content) (tuning : Tuning) (number : ℕ) (done : List DsDef) (done_raws : List Raw) (sources : List DsDef) (raws : List Raw) → length done ≡ number → length done_raws ≡ number → length raws ≡ length sources → fold with_source (with_sources base (done ++ map (tuned tuning) sources) (done_raws ++ raws_under sources (map (tuned tuning) sources) raws)) (sources_before tuning number sources raws) ≡ with_sources base (done ++ sources) (done_raws ++ raws)
 unfolding with_sources
 sources_back base tuning number done done_raws [] raws d r e = refl
 sources_back base tuning number done done_raws (source ∷ sources) [] d r e = absurd (omega arith)
@@ -108,35 +109,35 @@ sources_back base tuning number done done_raws (source ∷ sources) (raw ∷ raw
     let new_raws = raws_under sources news raws in
     let source_now = tuned tuning source in
     let raw_now = cond (same_kind source.kind source_now.kind) raw Raw.Unknown in
-    let rest = held tuning (number + 1) sources raws in
+    let rest = sources_before tuning (number + 1) sources raws in
     let on = sources_back base tuning (number + 1) (done ++ source ∷ []) (done_raws ++ raw ∷ []) sources raws (length_push done source ∙ ap (λ n. n + 1) d) (length_push done_raws raw ∙ ap (λ n. n + 1) r) (omega arith) in
     let before : with_sources base (done ++ source ∷ news) (done_raws ++ raw ∷ new_raws) ≡ with_sources base ((done ++ source ∷ []) ++ news) ((done_raws ++ raw ∷ []) ++ new_raws)
     = ap (λ s. with_sources base s (done_raws ++ raw ∷ new_raws)) (sym (append_assoc done (source ∷ []) news)) ∙ ap (with_sources base ((done ++ source ∷ []) ++ news)) (sym (append_assoc done_raws (raw ∷ []) new_raws)) in
     let after : with_sources base ((done ++ source ∷ []) ++ sources) ((done_raws ++ raw ∷ []) ++ raws) ≡ with_sources base (done ++ source ∷ sources) (done_raws ++ raw ∷ raws)
     = ap (λ s. with_sources base s ((done_raws ++ raw ∷ []) ++ raws)) (append_assoc done (source ∷ []) sources) ∙ ap (with_sources base (done ++ source ∷ sources)) (append_assoc done_raws (raw ∷ []) raws) in
-    let go_on : fold with_held (with_sources base (done ++ source ∷ news) (done_raws ++ raw ∷ new_raws)) rest ≡ with_sources base (done ++ source ∷ sources) (done_raws ++ raw ∷ raws)
-    = ap (λ now. fold with_held now rest) before ∙ on ∙ after in
-    let here : Held = record { number = number; source = source; raw = raw } in
+    let go_on : fold with_source (with_sources base (done ++ source ∷ news) (done_raws ++ raw ∷ new_raws)) rest ≡ with_sources base (done ++ source ∷ sources) (done_raws ++ raw ∷ raws)
+    = ap (λ now. fold with_source now rest) before ∙ on ∙ after in
+    let here : SourceBefore = record { number = number; source = source; raw = raw } in
     let now = with_sources base (done ++ source_now ∷ news) (done_raws ++ raw_now ∷ new_raws) in
     ⊎_elim
     (λ (named : is_named tuning source ≡ true).
-    ap (λ b. fold with_held now (cond b (here ∷ rest) rest)) named
-    ∙ ap (λ s. fold with_held (with_sources base s (set (done_raws ++ raw_now ∷ new_raws) number raw)) rest) (set_at done source_now news source number d)
-    ∙ ap (λ s. fold with_held (with_sources base (done ++ source ∷ news) s) rest) (set_at done_raws raw_now new_raws raw number r)
+    ap (λ b. fold with_source now (cond b (here ∷ rest) rest)) named
+    ∙ ap (λ s. fold with_source (with_sources base s (set (done_raws ++ raw_now ∷ new_raws) number raw)) rest) (set_at done source_now news source number d)
+    ∙ ap (λ s. fold with_source (with_sources base (done ++ source ∷ news) s) rest) (set_at done_raws raw_now new_raws raw number r)
     ∙ go_on)
     (λ (other : is_named tuning source ≡ false).
     let same = not_named tuning source other in
     let same_raw : raw_now ≡ raw = ap (λ (s : DsDef). cond (same_kind source.kind s.kind) raw Raw.Unknown) same ∙ ap (λ b. cond b raw Raw.Unknown) (kind_itself source.kind) in
-    ap (λ b. fold with_held now (cond b (here ∷ rest) rest)) other
-    ∙ ap (λ s. fold with_held (with_sources base (done ++ s ∷ news) (done_raws ++ raw_now ∷ new_raws)) rest) same
-    ∙ ap (λ s. fold with_held (with_sources base (done ++ source ∷ news) (done_raws ++ s ∷ new_raws)) rest) same_raw
+    ap (λ b. fold with_source now (cond b (here ∷ rest) rest)) other
+    ∙ ap (λ s. fold with_source (with_sources base (done ++ s ∷ news) (done_raws ++ raw_now ∷ new_raws)) rest) same
+    ∙ ap (λ s. fold with_source (with_sources base (done ++ source ∷ news) (done_raws ++ s ∷ new_raws)) rest) same_raw
     ∙ go_on)
     (cases_Bool (is_named tuning source))
 
 tune_back : (base : Content) (tuning : Tuning) → ListedBack base (TuningBy tuning)
 unfolding with_sources
 tune_back base tuning sound h =
-    ap (λ now. fold with_held now (held tuning 0 base.sources base.raws)) (content_tuned base (map (tuned tuning) base.sources) sound.is_base)
+    ap (λ now. fold with_source now (sources_before tuning 0 base.sources base.raws)) (content_tuned base (map (tuned tuning) base.sources) sound.is_base)
     ∙ sources_back base tuning 0 [] [] base.sources base.raws refl refl sound.one_raw_each
 
 -- ---- a resize
@@ -168,7 +169,7 @@ resize_back base archive change rows sound h =
     let new = rows_changed change (slice_index_or (settings_of base).rows archive 0) rows in
     let p = accepted_passes base (Resizing archive change rows) h in
     let there : archive < length base.archives = omega (arith, leb-false (length (settings_of base).rows) archive p.0, length-map base.archives (λ (a : Archive). a.def.rows)) in
-    ap (λ now. undone now (WasResized archive (rows_at base.archives archive))) (content_resized base archive new sound.is_base)
+    ap (λ now. undone now (ResizeEntry archive (rows_at base.archives archive))) (content_resized base archive new sound.is_base)
     ∙ ap (λ archives. with_archives base archives) (archives_resized_back base archive new 0 archive base.archives (omega arith) sound.is_base.archives_are there)
 
 listed_back : (base : Content) (command : Command) → ListedBack base command

@@ -5,17 +5,13 @@ use Rattle.std.specs.Int.{int_max, int_rem_euclid}
 use Rattle.rrd_fixed.specs.declared.cell.Cell.{Cell}
 use Rattle.rrd_fold.specs.Groups.{group_part}
 use Rattle.rrd_fold.specs.Parts.{seconds_to_steps}
-use Rattle.rrd_spec.specs.declared.settings.RraDef.{RraDef}
 use Rattle.rrd_spec.specs.Rules.{rows_rule}
-use Rattle.rrd_spec.specs.History.{Archive, Content, Event, moment_of, moment_at_end, seconds_of, steps_of, parts_of, rows_of, rows_after, archive_of, content_listed, IsHistory, IsBase}
+pub use Rattle.rrd_spec.specs.Rules.{resolution}
+use Rattle.rrd_spec.specs.History.{Archive, Content, Event, moment_of, moment_at_end, seconds_of, steps_of, parts_of, rows_of, row_parts_of, rows_at_end, content_listed, IsHistory, IsBase}
 use Rattle.rrd_spec.specs.Passed.{row_at}
 use Rattle.rrd_spec.specs.Shown.{cell_at}
 
 -- ---- an archive's rows and their times
-
--- the seconds in a row
-abbrev pub resolution : ℕ → RraDef → ℕ
-resolution step def = step * def.steps
 
 -- the end: the time of the newest row, rows ending at the multiples of the resolution (rrdcreate, "RRA")
 abbrev pub newest : ℕ → ℕ → ℕ
@@ -39,7 +35,7 @@ greatest (x ∷ xs) = fold int_max x xs
 -- the time after which an archive's rows reach once the events have come
 abbrev pub reach_after : Content → ℕ → Archive → List Event → ℤ
 reach_after base index archive events =
-    reach (resolution base.step archive.def) (fold (rows_after index) archive.def.rows events) (moment_at_end base events).last
+    reach (resolution base.step archive.def) (rows_at_end index archive.def.rows events) (moment_at_end base events).last
 
 -- the time up to which rows have been lost: an archive never shows again what at any moment it had no place for (rrdresize)
 abbrev pub horizon : Content → ℕ → Archive → List Event → ℤ
@@ -92,11 +88,16 @@ time_of resolution rows last place = reach resolution rows last +ℤ pos ((place
 abbrev pub rows_by_time : Content → ℕ → Archive → List Event → List (List Cell)
 rows_by_time base index archive events =
     let size = resolution base.step archive.def in
-    let rows = fold (rows_after index) archive.def.rows events in
+    let rows = rows_at_end index archive.def.rows events in
     map (λ (place : ℕ). row_by_time base index archive events (time_of size rows (moment_at_end base events).last place)) (range_with_len 0 rows)
 
+-- an archive after the events: its settings with its number of rows, what its unfinished row has made of its steps, and its rows
 abbrev pub archive_by_time : Content → List Event → ℕ × Archive → Archive
-archive_by_time base events (index, archive) = record (archive_of base events (index, archive)) { rows = rows_by_time base index archive events }
+archive_by_time base events (index, archive) = record {
+  def = record archive.def { rows = rows_at_end index archive.def.rows events };
+  parts = row_parts_of base archive events;
+  rows = rows_by_time base index archive events;
+}
 
 -- the content of a history, each row being that of its time
 abbrev pub content : Content → List Event → Content

@@ -11,6 +11,7 @@ use Rattle.rrd_spec.specs.declared.fetch.Chosen.{Chosen}
 use Rattle.rrd_spec.specs.declared.fetch.Request.{Request}
 use Rattle.rrd_spec.specs.declared.refusal.Refusal.{Refusal}
 use Rattle.rrd_spec.specs.declared.refusal.Refusal.TheVariants.{BadTime, BadSpan, NoArchiveForFunction, SpanTooLong}
+use Rattle.rrd_spec.specs.Limits.{Limits, version_one}
 use Rattle.rrd_spec.specs.History.{Archive, Content}
 use Rattle.rrd_spec.specs.Cells.{resolution, reach}
 use Rattle.rrd_spec.specs.Verdict.{Check, ◌refuses◌, first_refusal}
@@ -32,7 +33,8 @@ candidate step last (number, def) =
 -- those with this function, by their numbers
 abbrev pub candidates : ℕ → ℕ → Function → List RraDef → List Candidate
 candidates step last function defs =
-    map (candidate step last) (filter (λ ((number, def) : ℕ × RraDef). same_function def.function function) (enumerate_from 0 defs))
+    map (candidate step last)
+    (filter (λ ((number, def) : ℕ × RraDef). same_function def.function function) (enumerate_from 0 defs))
 
 -- ---- which of them is taken
 
@@ -50,23 +52,26 @@ is_nearer asked one other = nat_lt (abs_diff one.resolution asked) (abs_diff oth
 
 -- reaches back farther; as far, and nearer
 abbrev pub is_farther : ℕ → Candidate → Candidate → Bool
-is_farther asked one other = int_lt one.reach other.reach || (int_le one.reach other.reach && is_nearer asked one other)
+is_farther asked one other =
+    int_lt one.reach other.reach || (int_le one.reach other.reach && is_nearer asked one other)
 
--- of those that cover the start the nearest; if none does, the one that reaches back farthest. Of equal ones the one with the lower number
+-- of those that cover the start the nearest; if none does, the one that reaches back farthest. Of equal ones the one
+-- with the lower number
 abbrev pub taken : ℕ → ℕ → List Candidate → Option Candidate
 taken asked start list = option_or (best (is_nearer asked) (filter (covers start) list)) (best (is_farther asked) list)
 
 -- ---- the span
 
 -- what can't be fetched of any database
-abbrev pub span_checks : Request → List Check
-span_checks request =
-    ◌refuses◌ (nat_lt 9999999999 request.start) BadTime
-    ∷ ◌refuses◌ (nat_lt 9999999999 request.end) BadTime
+abbrev pub span_checks : Limits → Request → List Check
+span_checks limits request =
+    ◌refuses◌ (nat_lt limits.latest_time request.start) BadTime
+    ∷ ◌refuses◌ (nat_lt limits.latest_time request.end) BadTime
     ∷ ◌refuses◌ (nat_lt request.end request.start) BadSpan
     ∷ []
 
--- the rows at the multiples of the resolution from after `lo` up to `hi`: `lo` is the start rounded down, `hi` the first one after the end
+-- the rows at the multiples of the resolution from after `lo` up to `hi`: `lo` is the start rounded down, `hi` the
+-- first one after the end
 abbrev pub span : Request → Candidate → Chosen
 span request one = record {
   archive = one.number;
@@ -79,23 +84,28 @@ span request one = record {
 abbrev pub span_rows : Chosen → ℕ
 span_rows chosen = (chosen.hi - chosen.lo) / chosen.res
 
-abbrev pub span_of : Request → Option Candidate → Result Chosen Refusal
-span_of request None = Err NoArchiveForFunction
-span_of request (Some one) = if nat_lt 1000000 (span_rows (span request one)) then Err SpanTooLong else Ok (span request one)
+abbrev pub span_of : Limits → Request → Option Candidate → Result Chosen Refusal
+span_of limits request None = Err NoArchiveForFunction
+span_of limits request (Some one) =
+    if nat_lt limits.longest_span (span_rows (span request one)) then Err SpanTooLong else Ok (span request one)
 
 abbrev pub unless_refused : Option Refusal → Result Chosen Refusal → Result Chosen Refusal
 unless_refused None answer = answer
 unless_refused (Some refusal) answer = Err refusal
 
-abbrev pub choice_of : ℕ → ℕ → List RraDef → Request → Result Chosen Refusal
-choice_of step last defs request =
-    unless_refused (first_refusal (span_checks request)) (span_of request (taken request.asked request.start (candidates step last request.function defs)))
+abbrev pub choice_of : Limits → ℕ → ℕ → List RraDef → Request → Result Chosen Refusal
+choice_of limits step last defs request =
+    unless_refused (first_refusal (span_checks limits request))
+    (span_of limits request (taken request.asked request.start (candidates step last request.function defs)))
 
 -- what a fetch reads, or its refusal
-unfoldable pub choice : Content → Function → ℕ → ℕ → ℕ → Result Chosen Refusal
-choice content function asked start end =
-    choice_of content.step content.last (map (λ (archive : Archive). archive.def) content.archives)
+unfoldable pub choice_within : Limits → Content → Function → ℕ → ℕ → ℕ → Result Chosen Refusal
+choice_within limits content function asked start end =
+    choice_of limits content.step content.last (map (λ (archive : Archive). archive.def) content.archives)
     (record { function = function; asked = asked; start = start; end = end })
+
+abbrev pub choice : Content → Function → ℕ → ℕ → ℕ → Result Chosen Refusal
+choice = choice_within version_one
 
 -- ---- the search for it, archive by archive
 
@@ -117,10 +127,10 @@ searched step last request defs = record {
 -- what keeps its sums within 64 bits
 pub record IsSearch (step last : ℕ) (request : Request) (best : Option Candidate) : Type 0 where
   pub some_step : 0 < step
-  pub small_step : step ≤ 1000000
-  pub good_last : last ≤ 9999999999
+  pub small_step : step ≤ version_one.longest_step
+  pub good_last : last ≤ version_one.latest_time
   pub in_order : request.start ≤ request.end
-  pub good_end : request.end ≤ 9999999999
+  pub good_end : request.end ≤ version_one.latest_time
   pub usable : IfSome best (λ (one : Candidate). (0 < one.resolution) × (one.resolution ≤ 10 ^ 12))
 
 -- whether an archive is taken rather than one with a lower number

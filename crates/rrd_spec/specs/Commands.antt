@@ -46,7 +46,8 @@ names sources = map (λ (source : DsDef). source.name) sources
 abbrev pub value_for : List Name → List Given → DsDef → Given
 value_for [] values source = Given.Unknown
 value_for (name ∷ names) [] source = Given.Unknown
-value_for (name ∷ names) (value ∷ values) source = if same_name name source.name then value else value_for names values source
+value_for (name ∷ names) (value ∷ values) source =
+    if same_name name source.name then value else value_for names values source
 
 -- ---- what happens
 
@@ -70,11 +71,16 @@ sources_after sources (Tuned new) = new
 sources_after sources (Resized archive rows) = sources
 
 abbrev pub settings_after : Settings → Event → Settings
-settings_after settings event = record { sources = sources_after settings.sources event; rows = all_rows_after event settings.rows }
+settings_after settings event =
+    record { sources = sources_after settings.sources event; rows = all_rows_after event settings.rows }
 
 -- a sample with its raw values
 abbrev pub sample_of : List DsDef → List Name → Sample → Reading
-sample_of sources template sample = record { time = sample.time; raws = map (λ (source : DsDef). raw_of source.kind (value_for template sample.values source)) sources }
+sample_of sources template sample =
+    record {
+      time = sample.time;
+      raws = map (λ (source : DsDef). raw_of source.kind (value_for template sample.values source)) sources;
+    }
 
 abbrev pub samples_of : List DsDef → Update → List Reading
 samples_of sources update = map (sample_of sources (unwrap_or update.template (names sources))) update.samples
@@ -102,12 +108,15 @@ rows_changed Shrink old rows = old - rows
 abbrev pub events : Settings → Command → List Event
 events settings (Updating update) = map Sampled (samples_of settings.sources update)
 events settings (TuningBy tuning) = Tuned (map (tuned tuning) settings.sources) ∷ []
-events settings (Resizing archive change rows) = Resized archive (rows_changed change (slice_index_or settings.rows archive 0) rows) ∷ []
+events settings (Resizing archive change rows) =
+    Resized archive (rows_changed change (slice_index_or settings.rows archive 0) rows) ∷ []
 
 -- the events of a history, each command under the settings that the earlier ones left
 abbrev pub events_of : Settings → List Command → List Event
 events_of settings [] = []
-events_of settings (command ∷ commands) = events settings command ++ events_of (fold settings_after settings (events settings command)) commands
+events_of settings (command ∷ commands) =
+    events settings command
+    ++ events_of (fold settings_after settings (events settings command)) commands
 
 -- ---- the content of a history of commands, and a content moved by one
 

@@ -8,7 +8,7 @@ use Rattle.rrd_spec.specs.declared.settings.RraDef.{RraDef}
 use Rattle.rrd_spec.specs.History.{Archive}
 use Rattle.rrd_spec.specs.Entries.{Entry}
 use Rattle.rrd_spec.specs.Slots.{all_cells}
-use Rattle.rrd_spec.specs.Survivors.{Kept}
+use Rattle.rrd_spec.specs.Survivors.{Stored}
 
 -- ---- the lists
 
@@ -47,7 +47,7 @@ pub record Filed : Type 0 where
 
 -- ---- those of a database
 
-abbrev pub header_of : Version → Kept → Header
+abbrev pub header_of : Version → Stored → Header
 header_of version d = record {
   version = version;
   step = d.content.step;
@@ -66,7 +66,7 @@ sources_of _ _ _ = []
 abbrev pub head_of : Archive → Head
 head_of archive = record { def = archive.def; parts = archive.parts }
 
-abbrev pub filed : Version → Kept → Filed
+abbrev pub filed : Version → Stored → Filed
 filed version d = record {
   header = header_of version d;
   sources = sources_of d.content.sources d.content.raws d.content.parts;

@@ -1,5 +1,6 @@
--- What a history of commands makes of a database, second by second. Where no manual page is named, the rule is this project's.
-use Rattle.std.specs.Prelude.{◌≡◌, ℕ, ◌+◌, ◌-◌, ◌*◌, ◌/◌, ◌<◌, min, nat_le, ◌==◌, if◌then◌else◌, Bool, List, [], ◌∷◌, ◌++◌, map, length, drop, replicate}
+-- What a history of commands makes of a database, second by second. Where no manual page is named, the rule is this
+-- project's.
+use Rattle.std.specs.Prelude.{◌≡◌, ℕ, ◌+◌, ◌-◌, ◌/◌, ◌<◌, min, nat_le, ◌==◌, if◌then◌else◌, Bool, List, [], ◌∷◌, ◌++◌, map, length, drop, replicate}
 use Rattle.std.specs.List.{fold, find, range_with_len, enumerate_from, AllByRecursion}
 use Rattle.std.specs.Option.{option_map_or}
 use Rattle.rrd_fixed.specs.declared.cell.Cell.{Cell}
@@ -10,7 +11,7 @@ use Rattle.rrd_fixed.specs.Rate.{rate}
 use Rattle.rrd_spec.specs.declared.settings.DsDef.{DsDef}
 use Rattle.rrd_spec.specs.declared.settings.RraDef.{RraDef}
 use Rattle.rrd_fold.specs.Groups.{finished, unfinished}
-use Rattle.rrd_spec.specs.Rules.{rows_rule}
+use Rattle.rrd_spec.specs.Rules.{resolution, rows_rule}
 use Rattle.rrd_fold.specs.Parts.{Part, seconds_to_steps}
 
 -- ---- what a database holds
@@ -21,7 +22,8 @@ pub record Archive : Type 0 where
   pub parts : List Part
   pub rows : List (List Cell)
 
--- a database: its settings, the last time, per source the raw value and the part of the unfinished step, and the archives
+-- a database: its settings, the last time, per source the raw value and the part of the unfinished step, and the
+-- archives
 pub record Content : Type 0 where
   pub step : ℕ
   pub depth : ℕ
@@ -69,12 +71,16 @@ raws_under _ _ raws = raws
 
 abbrev pub moment_after : Moment → Event → Moment
 moment_after now (Sampled sample) = record { sources = now.sources; last = sample.time; raws = sample.raws }
-moment_after now (Tuned sources) = record { sources = sources; last = now.last; raws = raws_under now.sources sources now.raws }
+moment_after now (Tuned sources) =
+    record { sources = sources; last = now.last; raws = raws_under now.sources sources now.raws }
 moment_after now (Resized archive rows) = now
 
--- the rates of a sample's interval, by the settings in force and the raw values of the sample before (rrdcreate, "DS"; that the settings in force hold for the whole interval is this project's)
+-- the rates of a sample's interval, by the settings in force and the raw values of the sample before (rrdcreate, "DS";
+-- that the settings in force hold for the whole interval is this project's)
 abbrev pub rates : List DsDef → ℕ → List Raw → List Raw → List Cell
-rates (source ∷ sources) interval (old ∷ olds) (new ∷ news) = rate source.kind old new interval source.heartbeat source.min source.max ∷ rates sources interval olds news
+rates (source ∷ sources) interval (old ∷ olds) (new ∷ news) =
+    rate source.kind old new interval source.heartbeat source.min source.max
+    ∷ rates sources interval olds news
 rates _ interval _ _ = []
 
 -- a sample as the archives see it
@@ -85,7 +91,9 @@ pub record Taken : Type 0 where
 -- all samples, in order
 abbrev pub samples : Moment → List Event → List Taken
 samples now [] = []
-samples now (Sampled sample ∷ events) = record { time = sample.time; rates = rates now.sources (sample.time - now.last) now.raws sample.raws } ∷ samples (moment_after now (Sampled sample)) events
+samples now (Sampled sample ∷ events) =
+    record { time = sample.time; rates = rates now.sources (sample.time - now.last) now.raws sample.raws }
+    ∷ samples (moment_after now (Sampled sample)) events
 samples now (Tuned sources ∷ events) = samples (moment_after now (Tuned sources)) events
 samples now (Resized archive rows ∷ events) = samples now events
 
@@ -112,32 +120,47 @@ seconds_of base events = seconds (samples (moment_of base) events) base.last (mo
 
 -- the steps that end after the base's last time (rrdcreate, "The HEARTBEAT and the STEP")
 unfoldable pub steps_of : Content → List Event → List (List Cell)
-steps_of base events = finished (seconds_to_steps base.step (length base.sources)) base.last base.parts (seconds_of base events)
+steps_of base events =
+    finished (seconds_to_steps base.step (length base.sources)) base.last base.parts (seconds_of base events)
 
+-- what the unfinished step has made of its seconds
 unfoldable pub parts_of : Content → List Event → List Part
-parts_of base events = unfinished (seconds_to_steps base.step (length base.sources)) base.last base.parts (seconds_of base events)
+parts_of base events =
+    unfinished (seconds_to_steps base.step (length base.sources)) base.last base.parts (seconds_of base events)
 
--- the rows of an archive that end after it (rrdcreate, "RRA")
-unfoldable pub rows_of : Content → Archive → List Event → List (List Cell)
-rows_of base archive events = finished (rows_rule archive.def (length base.sources)) (base.last / base.step) archive.parts (steps_of base events)
-
+-- what an archive's unfinished row has made of its steps (rrdcreate, "RRA")
 unfoldable pub row_parts_of : Content → Archive → List Event → List Part
-row_parts_of base archive events = unfinished (rows_rule archive.def (length base.sources)) (base.last / base.step) archive.parts (steps_of base events)
+row_parts_of base archive events =
+    unfinished (rows_rule archive.def (length base.sources)) (base.last / base.step)
+    archive.parts (steps_of base events)
 
--- how many rows an archive has after an event (rrdresize)
+-- how many rows an archive of this number has after an event, and after all of them (rrdresize)
 abbrev pub rows_after : ℕ → ℕ → Event → ℕ
 rows_after index rows (Sampled sample) = rows
 rows_after index rows (Tuned sources) = rows
 rows_after index rows (Resized archive new) = if archive == index then new else rows
 
+abbrev pub rows_at_end : ℕ → ℕ → List Event → ℕ
+rows_at_end index rows events = fold (rows_after index) rows events
+
+-- ---- the same with an archive's rows said as the list of those kept. The definition is `content` in specs/Cells, which
+-- ---- says each row by its time, and needs none of what follows up to the next heading; a law says that both agree
+
+-- the rows of an archive that end after the base's last time (rrdcreate, "RRA")
+unfoldable pub rows_of : Content → Archive → List Event → List (List Cell)
+rows_of base archive events = finished (rows_rule archive.def (length base.sources)) (base.last / base.step) archive.parts (steps_of base events)
+
 -- the newest items, so many of them
 abbrev pub keep_last : {A : Type 0} → ℕ → List A → List A
 keep_last n xs = drop (length xs - n) xs
 
--- how many of the newest rows have had a place at every moment from the first to the last. `since` says how many rows ended after a time
-abbrev pub room : ℕ → (ℕ → ℕ) → ℕ → Moment → List Event → ℕ
-room index since rows now [] = rows + since now.last
-room index since rows now (event ∷ events) = min (rows + since now.last) (room index since (rows_after index rows event) (moment_after now event) events)
+-- how many of the newest rows have had a place at every moment from the first to the last. `since` says how many rows
+-- ended after a time
+abbrev pub rows_never_lost : ℕ → (ℕ → ℕ) → ℕ → Moment → List Event → ℕ
+rows_never_lost index since rows now [] = rows + since now.last
+rows_never_lost index since rows now (event ∷ events) =
+    min (rows + since now.last)
+    (rows_never_lost index since (rows_after index rows event) (moment_after now event) events)
 
 -- the items, with unknown ones before them where they are too few
 abbrev pub filled_up : {A : Type 0} → ℕ → A → List A → List A
@@ -146,19 +169,20 @@ filled_up n unknown items = replicate (n - length items) unknown ++ items
 -- the base's rows and those that ended since, as far as they have always had a place (rrdcreate, "RRA"; rrdresize)
 unfoldable pub kept_rows : Content → ℕ → Archive → List Event → List (List Cell)
 kept_rows base index archive events =
-    let resolution = base.step * archive.def.steps in
-    let since = λ (time : ℕ). (moment_at_end base events).last / resolution - time / resolution in
-    filled_up (fold (rows_after index) archive.def.rows events) (replicate (length base.sources) Cell.Unknown)
-    (keep_last (room index since archive.def.rows (moment_of base) events) (archive.rows ++ rows_of base archive events))
+    let size = resolution base.step archive.def in
+    let since = λ (time : ℕ). (moment_at_end base events).last / size - time / size in
+    filled_up (rows_at_end index archive.def.rows events) (replicate (length base.sources) Cell.Unknown)
+    (keep_last (rows_never_lost index since archive.def.rows (moment_of base) events)
+    (archive.rows ++ rows_of base archive events))
 
 abbrev pub archive_of : Content → List Event → ℕ × Archive → Archive
 archive_of base events (index, archive) = record {
-  def = record archive.def { rows = fold (rows_after index) archive.def.rows events };
+  def = record archive.def { rows = rows_at_end index archive.def.rows events };
   parts = row_parts_of base archive events;
   rows = kept_rows base index archive events;
 }
 
--- the content that the events make of a base, its rows said by list: `content` in specs/Cells says each by its time, and is the definition
+-- the content that the events make of a base
 unfoldable pub content_listed : Content → List Event → Content
 content_listed base events = record base {
   sources = (moment_at_end base events).sources;
@@ -173,8 +197,10 @@ content_listed base events = record base {
 -- times rise, a tune keeps the number of sources, and an archive keeps a row
 abbrev pub IsHistory : Moment → List Event → Type 0
 IsHistory now [] = Unit {0}
-IsHistory now (Sampled sample ∷ events) = (now.last < sample.time) × IsHistory (moment_after now (Sampled sample)) events
-IsHistory now (Tuned sources ∷ events) = (length sources ≡ length now.sources) × IsHistory (moment_after now (Tuned sources)) events
+IsHistory now (Sampled sample ∷ events) =
+    (now.last < sample.time) × IsHistory (moment_after now (Sampled sample)) events
+IsHistory now (Tuned sources ∷ events) =
+    (length sources ≡ length now.sources) × IsHistory (moment_after now (Tuned sources)) events
 IsHistory now (Resized archive rows ∷ events) = (0 < rows) × IsHistory now events
 
 pub record IsArchive (archive : Archive) : Type 0 where

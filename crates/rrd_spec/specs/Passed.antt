@@ -1,10 +1,10 @@
 -- What seconds leave of a content: steps and rows, one after another.
-use Rattle.std.specs.Prelude.{◌≡◌, ℕ, ◌+◌, ◌-◌, ◌/◌, ◌<◌, List, [], ◌∷◌, ◌++◌, map, length, replicate, take, min, ◌*◌, ◌≤◌, ℤ, pos, negsuc, ◌-ℤ◌, nat_lt, slice_index_or, if◌then◌else◌}
+use Rattle.std.specs.Prelude.{◌≡◌, ℕ, ◌+◌, ◌-◌, ◌/◌, ◌<◌, List, [], ◌∷◌, ◌++◌, map, length, replicate, take, min, ◌≤◌, ℤ, pos, negsuc, ◌-ℤ◌, nat_lt, slice_index_or, if◌then◌else◌}
 use Rattle.std.specs.Int.{int_div_euclid}
 use Rattle.rrd_fixed.specs.declared.cell.Cell.{Cell}
 use Rattle.rrd_fold.specs.Groups.{finished, unfinished}
 use Rattle.rrd_fold.specs.Parts.{seconds_to_steps}
-use Rattle.rrd_spec.specs.Rules.{rows_rule}
+use Rattle.rrd_spec.specs.Rules.{resolution, rows_rule}
 use Rattle.rrd_spec.specs.History.{Archive, Content, Reading, Sampled, keep_last, filled_up, rates, rows_of, kept_rows, content_listed, IsBase, IsArchive}
 
 -- an archive after these steps, `before` having ended earlier
@@ -42,9 +42,10 @@ row_of_age rows unknown (pos age) = if nat_lt age (length rows) then slice_index
 row_of_age rows unknown (negsuc ahead) = unknown
 
 abbrev pub row_at : Content → Archive → ℤ → List Cell
-row_at content archive time = let resolution = content.step * archive.def.steps in
-    row_of_age archive.rows (replicate (length content.sources) Cell.Unknown) (pos (content.last / resolution) -ℤ int_div_euclid time (pos resolution))
+row_at content archive time =
+    let size = resolution content.step archive.def in
+    row_of_age archive.rows (replicate (length content.sources) Cell.Unknown) (pos (content.last / size) -ℤ int_div_euclid time (pos size))
 
 -- of the rows there ever were, the archive shows those that have had a place at every moment; a row is told by its age, 0 for the newest
 abbrev pub ShowsByAge : ℕ → ℕ → List (List Cell) → List Cell → Type 0
-ShowsByAge rows room all unknown = (age : ℕ) → age < rows → room ≤ length all → room ≤ rows → slice_index_or (filled_up rows unknown (keep_last room all)) (rows - 1 - age) unknown ≡ (if nat_lt age room then slice_index_or all (length all - 1 - age) unknown else unknown)
+ShowsByAge rows lasting all unknown = (age : ℕ) → age < rows → lasting ≤ length all → lasting ≤ rows → slice_index_or (filled_up rows unknown (keep_last lasting all)) (rows - 1 - age) unknown ≡ (if nat_lt age lasting then slice_index_or all (length all - 1 - age) unknown else unknown)

@@ -13,6 +13,7 @@ use Rattle.rrd_spec.specs.declared.slow.Reading as given
 use Rattle.rrd_spec.specs.declared.slow.Taken as slow
 use Rattle.rrd_spec.specs.Cells.{content}
 use Rattle.rrd_spec.specs.Creating.{created}
+use Rattle.rrd_spec.specs.Limits.{version_one}
 use Rattle.rrd_spec.specs.History.{Archive, Event, Reading, Sampled, Taken, keep_last}
 use Rattle.rrd_spec.specs.Validity.{AreAccepted}
 
@@ -32,7 +33,7 @@ taken_of sample = record { time = sample.time; rates = sample.rates }
 -- times that rise, up to the latest one there may be, and raw values that the sources accept
 abbrev pub AreInOrder : List DsDef → ℕ → List given.Reading → Type 0
 AreInOrder sources last [] = Unit {0}
-AreInOrder sources last (reading ∷ readings) = (last < reading.time) × (reading.time ≤ 9999999999) × AreAccepted sources reading.raws × AreInOrder sources reading.time readings
+AreInOrder sources last (reading ∷ readings) = (last < reading.time) × (reading.time ≤ version_one.latest_time) × AreAccepted sources reading.raws × AreInOrder sources reading.time readings
 
 -- the time of the last sample, or the start
 abbrev pub latest : ℕ → List given.Reading → ℕ
@@ -60,8 +61,8 @@ rule_of group sources = record { size = size_of group; empty = replicate sources
 
 -- a group within the limits of rrdcreate
 abbrev pub IsGroup : Group → Type 0
-IsGroup (Step seconds) = (0 < seconds) × (seconds ≤ 1000000)
-IsGroup (Row def) = (0 < def.steps) × (def.steps ≤ 1000000) × (pos 0 ≤ℤ def.xff) × (def.xff ≤ℤ pos 999999)
+IsGroup (Step seconds) = (0 < seconds) × (seconds ≤ version_one.longest_step)
+IsGroup (Row def) = (0 < def.steps) × (def.steps ≤ version_one.most_steps) × (pos 0 ≤ℤ def.xff) × (def.xff ≤ℤ pos version_one.greatest_share)
 
 -- ---- what an archive then shows
 

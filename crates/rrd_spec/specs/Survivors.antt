@@ -18,8 +18,8 @@ pub record State : Type 0 where
   pub survivors : List Command
   pub revertible : ℕ
 
--- a database as it is kept: the present content, and the journal, newest entry first
-pub record Kept : Type 0 where
+-- a database as it is stored: the present content, and the journal, newest entry first
+pub record Stored : Type 0 where
   pub content : Content
   pub journal : List Entry
 
@@ -63,16 +63,16 @@ after state Reverted = without_last state.base state.brought state.survivors sta
 
 -- ---- as a database of a content and a journal does it
 
-abbrev pub reverted : Content → List Entry → Kept
+abbrev pub reverted : Content → List Entry → Stored
 reverted now [] = record { content = now; journal = [] }
 reverted now (entry ∷ journal) = record { content = undone now entry; journal = journal }
 
-abbrev pub changed : Kept → Command → Kept
-changed kept command = record { content = moved kept.content command; journal = take kept.content.depth (entry kept.content command ∷ kept.journal) }
+abbrev pub changed : Stored → Command → Stored
+changed stored command = record { content = moved stored.content command; journal = take stored.content.depth (entry stored.content command ∷ stored.journal) }
 
-abbrev pub step : Kept → Action → Kept
-step kept (Changed command) = if is_accepted kept.content command then changed kept command else kept
-step kept Reverted = reverted kept.content kept.journal
+abbrev pub step : Stored → Action → Stored
+step stored (Changed command) = if is_accepted stored.content command then changed stored command else stored
+step stored Reverted = reverted stored.content stored.journal
 
 -- ---- that both agree
 
@@ -86,9 +86,9 @@ abbrev pub AllUndo : Content → List Entry → Type 0
 AllUndo base [] = Unit {0}
 AllUndo base (entry ∷ entries) = IsSound (undone base entry) × ((undone base entry).depth ≡ base.depth) × AllUndo (undone base entry) entries
 
-pub record Stands (state : State) (kept : Kept) : Type 0 where
-  pub content_is : kept.content ≡ survived state.base state.survivors
-  pub journal_is : kept.journal ≡ journal_of state
+pub record Stands (state : State) (stored : Stored) : Type 0 where
+  pub content_is : stored.content ≡ survived state.base state.survivors
+  pub journal_is : stored.journal ≡ journal_of state
   pub enough : state.revertible ≤ length state.survivors
   pub places : state.revertible + length state.brought ≤ state.base.depth
   pub whole : 0 < length state.brought → state.revertible ≡ length state.survivors

@@ -19,7 +19,8 @@ least_of_sample sources step defs from to = sources * sum (map (rows_shown step 
 
 -- and at most three more for each source, and eight more for each source in each archive, however long the interval
 abbrev pub most_of_sample : ℕ → ℕ → List RraDef → ℕ → ℕ → ℕ
-most_of_sample sources step defs from to = sources * (3 + sum (map (λ (def : RraDef). 8 + rows_shown step from to def) defs))
+most_of_sample sources step defs from to =
+    sources * (3 + sum (map (λ (def : RraDef). 8 + rows_shown step from to def) defs))
 
 -- what all samples come to, each from the time of the one before it
 abbrev pub in_all : (ℕ → ℕ → ℕ) → ℕ → List Sample → ℕ
@@ -27,8 +28,12 @@ in_all turns last [] = 0
 in_all turns last (sample ∷ samples) = turns last sample.time + in_all turns sample.time samples
 
 pub record AreTurns (base : Content) (update : Update) (turns : ℕ) : Type 0 where
-  pub least : in_all (least_of_sample (length base.sources) base.step (definitions base.archives)) base.last update.samples ≤ turns
-  pub most : turns ≤ in_all (most_of_sample (length base.sources) base.step (definitions base.archives)) base.last update.samples
+  pub least :
+      in_all (least_of_sample (length base.sources) base.step (definitions base.archives)) base.last update.samples
+      ≤ turns
+  pub most :
+      turns
+      ≤ in_all (most_of_sample (length base.sources) base.step (definitions base.archives)) base.last update.samples
 
 -- ---- steps
 

@@ -5,23 +5,25 @@ use Rattle.rrd_fixed.specs.declared.cell.Cell.{Cell}
 use Rattle.rrd_fixed.specs.declared.raw.Raw.{Raw}
 use Rattle.rrd_fixed.specs.Rate.{top, IsAccepted, IsBounded}
 use Rattle.rrd_spec.specs.declared.settings.DsDef.{DsDef}
+use Rattle.rrd_spec.specs.declared.entry.SourceBefore.{SourceBefore}
 use Rattle.rrd_fold.specs.declared.function.Function.{Function}
 use Rattle.rrd_fold.specs.declared.function.Function.TheVariants.{Average}
 use Rattle.rrd_fold.specs.Parts.{Part}
 pub use Rattle.rrd_fold.specs.Bounds.{weight}
+use Rattle.rrd_spec.specs.Limits.{Limits, version_one}
 use Rattle.rrd_spec.specs.History.{Archive, Content}
 use Rattle.rrd_spec.specs.Commands.{Command, names, settings_of, moved}
 use Rattle.rrd_fixed.specs.Names.{is_good}
 use Rattle.rrd_spec.specs.Verdict.{is_double, is_bad_heartbeat, has_bad_bounds, cells, verdict}
-use Rattle.rrd_spec.specs.Entries.{Dropped, Held, BeforeUpdate, Entry, Updated, WasTuned, WasResized, rows_between, rows_at, entry, undone}
+use Rattle.rrd_spec.specs.Entries.{SavedArchive, BeforeUpdate, Entry, UpdateEntry, TuneEntry, ResizeEntry, rows_between, rows_at, entry, undone}
 use Rattle.rrd_spec.specs.Survivors.{Action, changed, reverted, step, after, Stands}
 
 -- ---- a content
 
-pub record IsSource (source : DsDef) : Type 0 where
+pub record IsSourceWithin (limits : Limits) (source : DsDef) : Type 0 where
   pub good_name : is_good source.name ≡ true
-  pub good_heartbeat : is_bad_heartbeat source.heartbeat ≡ false
-  pub good_bounds : has_bad_bounds source ≡ false
+  pub good_heartbeat : is_bad_heartbeat limits source.heartbeat ≡ false
+  pub good_bounds : has_bad_bounds limits source ≡ false
 
 -- a raw value for each source, which it accepts
 abbrev pub AreAccepted : List DsDef → List Raw → Type 0
@@ -47,47 +49,62 @@ pub record IsRow (sources : ℕ) (row : List Cell) : Type 0 where
   pub each : AllByRecursion IsBounded row
 
 -- an archive, so many steps having ended
-pub record IsValidArchive (sources steps : ℕ) (archive : Archive) : Type 0 where
+pub record IsValidArchiveWithin (limits : Limits) (sources steps : ℕ) (archive : Archive) : Type 0 where
   pub some_steps : 0 < archive.def.steps
-  pub few_steps : archive.def.steps ≤ 1000000
+  pub few_steps : archive.def.steps ≤ limits.most_steps
   pub some_rows : 0 < archive.def.rows
-  pub few_rows : archive.def.rows ≤ 1000000
+  pub few_rows : archive.def.rows ≤ limits.most_rows
   pub xff_low : pos 0 ≤ℤ archive.def.xff
-  pub xff_high : archive.def.xff ≤ℤ pos 999999
+  pub xff_high : archive.def.xff ≤ℤ pos limits.greatest_share
   pub parts_are : AreParts archive.def.function sources (steps % archive.def.steps) archive.parts
   pub rows_are : length archive.rows ≡ archive.def.rows
   pub each_row : AllByRecursion (IsRow sources) archive.rows
 
-pub record IsValid (content : Content) : Type 0 where
+pub record IsValidWithin (limits : Limits) (content : Content) : Type 0 where
   pub some_step : 0 < content.step
-  pub small_step : content.step ≤ 1000000
-  pub good_time : content.last ≤ 9999999999
+  pub small_step : content.step ≤ limits.longest_step
+  pub good_time : content.last ≤ limits.latest_time
   pub some_depth : 0 < content.depth
-  pub small_depth : content.depth ≤ 1000
+  pub small_depth : content.depth ≤ limits.deepest_journal
   pub some_source : 0 < length content.sources
-  pub few_sources : length content.sources ≤ 64
+  pub few_sources : length content.sources ≤ limits.most_sources
   pub some_archive : 0 < length content.archives
-  pub few_archives : length content.archives ≤ 64
-  pub few_cells : cells (settings_of content) ≤ 4000000
-  pub sources_are : AllByRecursion IsSource content.sources
+  pub few_archives : length content.archives ≤ limits.most_archives
+  pub few_cells : cells (settings_of content) ≤ limits.most_cells
+  pub sources_are : AllByRecursion (IsSourceWithin limits) content.sources
   pub names_differ : is_double (names content.sources) ≡ false
   pub raws_are : AreAccepted content.sources content.raws
   pub parts_are : AreParts Average (length content.sources) (content.last % content.step) content.parts
-  pub archives_are : AllByRecursion (IsValidArchive (length content.sources) (content.last / content.step)) content.archives
+  pub archives_are :
+      AllByRecursion (IsValidArchiveWithin limits (length content.sources) (content.last / content.step))
+      content.archives
+
+-- by the limits of the first version
+abbrev pub IsSource : DsDef → Type 0
+IsSource = IsSourceWithin version_one
+
+abbrev pub IsValidArchive : ℕ → ℕ → Archive → Type 0
+IsValidArchive = IsValidArchiveWithin version_one
+
+abbrev pub IsValid : Content → Type 0
+IsValid = IsValidWithin version_one
 
 -- ---- its journal
 
--- what an update dropped of an archive between two times
-pub record FitsArchive (step sources from to : ℕ) (archive : Archive) (old : Dropped) : Type 0 where
+-- what an update between two times saved of an archive
+pub record FitsArchive (step sources from to : ℕ) (archive : Archive) (old : SavedArchive) : Type 0 where
+  pub same_function : old.function ≡ archive.def.function
   pub one_part_each : length old.parts ≡ sources
   pub as_many : length old.rows ≡ min (rows_between step archive.def from to) archive.def.rows
   pub one_cell_each : AllByRecursion (λ (row : List Cell). length row ≡ sources) old.rows
 
-abbrev pub FitEach : ℕ → ℕ → ℕ → ℕ → List Archive → List Dropped → Type 0
+abbrev pub FitEach : ℕ → ℕ → ℕ → ℕ → List Archive → List SavedArchive → Type 0
 FitEach step sources from to [] [] = Unit {0}
 FitEach step sources from to [] (old ∷ olds) = ⊥
 FitEach step sources from to (archive ∷ archives) [] = ⊥
-FitEach step sources from to (archive ∷ archives) (old ∷ olds) = FitsArchive step sources from to archive old × FitEach step sources from to archives olds
+FitEach step sources from to (archive ∷ archives) (old ∷ olds) =
+    FitsArchive step sources from to archive old
+    × FitEach step sources from to archives olds
 
 pub record FitsUpdate (now : Content) (old : BeforeUpdate) : Type 0 where
   pub earlier : old.last < now.last
@@ -96,11 +113,11 @@ pub record FitsUpdate (now : Content) (old : BeforeUpdate) : Type 0 where
   pub archives_fit : FitEach now.step (length now.sources) old.last now.last now.archives old.archives
 
 -- numbers that rise, from the lowest that may come, below a limit
-abbrev pub Rise : ℕ → ℕ → List Held → Type 0
+abbrev pub Rise : ℕ → ℕ → List SourceBefore → Type 0
 Rise lowest limit [] = Unit {0}
 Rise lowest limit (old ∷ olds) = (lowest ≤ old.number) × (old.number < limit) × Rise (old.number + 1) limit olds
 
-pub record FitsTune (now : Content) (olds : List Held) : Type 0 where
+pub record FitsTune (now : Content) (olds : List SourceBefore) : Type 0 where
   pub some : 0 < length olds
   pub few : length olds ≤ 5
   pub rise : Rise 0 (length now.sources) olds
@@ -111,19 +128,27 @@ pub record FitsResize (now : Content) (archive : ℕ) (rows : List (List Cell)) 
   pub another : length rows ≢ length (rows_at now.archives archive)
 
 abbrev pub Fits : Content → Entry → Type 0
-Fits now (Updated old) = FitsUpdate now old
-Fits now (WasTuned olds) = FitsTune now olds
-Fits now (WasResized archive rows) = FitsResize now archive rows
+Fits now (UpdateEntry old) = FitsUpdate now old
+Fits now (TuneEntry olds) = FitsTune now olds
+Fits now (ResizeEntry archive rows) = FitsResize now archive rows
 
 -- each entry fits, and undoing it gives a valid content, on which the older ones are valid
-abbrev pub IsValidJournal : Content → List Entry → Type 0
-IsValidJournal now [] = Unit {0}
-IsValidJournal now (entry ∷ journal) = Fits now entry × IsValid (undone now entry) × IsValidJournal (undone now entry) journal
+abbrev pub IsValidJournalWithin : Limits → Content → List Entry → Type 0
+IsValidJournalWithin limits now [] = Unit {0}
+IsValidJournalWithin limits now (entry ∷ journal) =
+    Fits now entry × IsValidWithin limits (undone now entry) × IsValidJournalWithin limits (undone now entry) journal
 
-pub record IsValidDatabase (now : Content) (journal : List Entry) : Type 0 where
-  pub content_is : IsValid now
-  pub journal_is : IsValidJournal now journal
+pub record IsValidDatabaseWithin (limits : Limits) (now : Content) (journal : List Entry) : Type 0 where
+  pub content_is : IsValidWithin limits now
+  pub journal_is : IsValidJournalWithin limits now journal
   pub few : length journal ≤ now.depth
+
+-- by the limits of the first version
+abbrev pub IsValidJournal : Content → List Entry → Type 0
+IsValidJournal = IsValidJournalWithin version_one
+
+abbrev pub IsValidDatabase : Content → List Entry → Type 0
+IsValidDatabase = IsValidDatabaseWithin version_one
 
 -- ---- the law
 
@@ -133,18 +158,29 @@ StaysValid base command = IsValid base → verdict base command ≡ None → IsV
 
 -- so does it with the journal, a full one dropping its oldest entry
 abbrev pub DatabaseStays : Content → List Entry → Command → Type 0
-DatabaseStays now journal command = IsValidDatabase now journal → verdict now command ≡ None → IsValidDatabase (moved now command) (take now.depth (entry now command ∷ journal))
+DatabaseStays now journal command =
+    IsValidDatabase now journal
+    → verdict now command ≡ None
+    → IsValidDatabase (moved now command) (take now.depth (entry now command ∷ journal))
 
--- a revert takes an accepted command back: the content and the journal are as before it, but for the oldest entry of a full journal
+-- a revert takes an accepted command back: the content and the journal are as before it, but for the oldest entry of a
+-- full journal
 abbrev pub RevertTakesBack : Content → List Entry → Command → Type 0
 RevertTakesBack now journal command =
-    let kept = changed (record { content = now; journal = journal }) command in
-    IsValidDatabase now journal → verdict now command ≡ None → reverted kept.content kept.journal ≡ record { content = now; journal = take (now.depth - 1) journal }
+    let stored = changed (record { content = now; journal = journal }) command in
+    IsValidDatabase now journal
+    → verdict now command ≡ None
+    → reverted stored.content stored.journal ≡ record { content = now; journal = take (now.depth - 1) journal }
 
 -- a run from a valid database keeps to the definition of the survivors, and stays valid
 pub record RunStays (base : Content) (brought : List Entry) (actions : List Action) : Type 0 where
-  pub stands : let kept = fold step (record { content = base; journal = brought }) actions in Stands (fold after (record { base = base; brought = brought; survivors = []; revertible = 0 }) actions) kept
-  pub valid : let kept = fold step (record { content = base; journal = brought }) actions in IsValidDatabase kept.content kept.journal
+  pub stands :
+      let stored = fold step (record { content = base; journal = brought }) actions in
+      Stands
+      (fold after (record { base = base; brought = brought; survivors = []; revertible = 0 }) actions) stored
+  pub valid :
+      let stored = fold step (record { content = base; journal = brought }) actions in
+      IsValidDatabase stored.content stored.journal
 
 abbrev pub RunsStay : Content → List Entry → List Action → Type 0
 RunsStay base brought actions = IsValidDatabase base brought → RunStays base brought actions

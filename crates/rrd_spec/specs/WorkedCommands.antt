@@ -15,7 +15,7 @@ use Rattle.rrd_spec.specs.declared.resize.Change.TheVariants.{Grow, Shrink}
 use Rattle.rrd_spec.specs.Commands.{Command, Updating, TuningBy, Resizing}
 use Rattle.rrd_spec.specs.declared.refusal.Refusal.TheVariants.{NotLater, NoSample, BadTime, WrongCount, ShrinkTooFar, NoSuchArchive, BadRows, NothingToTune, BadBounds, NoSuchSource}
 use Rattle.rrd_spec.specs.Verdict.{verdict}
-use Rattle.rrd_spec.specs.Survivors.{Action, Changed, Reverted, Kept, step}
+use Rattle.rrd_spec.specs.Survivors.{Action, Changed, Reverted, Stored, step}
 
 abbrev pub letter : ℕ → Name
 letter c = c ∷ []
@@ -36,29 +36,42 @@ no_tuning = record { heartbeat = None; minimum = None; maximum = None; kind = No
 abbrev pub small : ℕ → Content
 small rows = created 10 0 (record (gauge 100) { name = letter 103 }) (archive Last 1 rows ∷ [])
 
-abbrev pub run : Content → List Action → Kept
+abbrev pub run : Content → List Action → Stored
 run base actions = fold step (record { content = base; journal = [] }) actions
 
 abbrev pub six : Command
 six = update (reading 10 1 ∷ reading 20 2 ∷ reading 30 3 ∷ reading 40 4 ∷ reading 50 5 ∷ reading 60 6 ∷ [])
 
-abbrev pub shrunk : Kept
+abbrev pub shrunk : Stored
 shrunk = run (small 6) (Changed six ∷ Changed (Resizing 0 Shrink 4) ∷ Changed (Resizing 0 Grow 4) ∷ [])
 
 -- an archive made smaller shows no old row when it grows again; two reverts bring them back
 abbrev pub ShrinkAndGrow : Type 0
 ShrinkAndGrow = (rows shrunk.content ≡ (nan ∷ nan ∷ nan ∷ nan ∷ known 5000000 ∷ known 6000000 ∷ []) ∷ [])
-    × (rows (fold step shrunk (Reverted ∷ Reverted ∷ [])).content ≡ (known 1000000 ∷ known 2000000 ∷ known 3000000 ∷ known 4000000 ∷ known 5000000 ∷ known 6000000 ∷ []) ∷ [])
-    × (verdict shrunk.content (Resizing 0 Shrink 6) ≡ Some ShrinkTooFar) × (verdict shrunk.content (Resizing 1 Grow 1) ≡ Some NoSuchArchive) × (verdict shrunk.content (Resizing 0 Grow 1000000) ≡ Some BadRows)
+    × (rows (fold step shrunk (Reverted ∷ Reverted ∷ [])).content
+    ≡ (known 1000000 ∷ known 2000000 ∷ known 3000000 ∷ known 4000000 ∷ known 5000000 ∷ known 6000000 ∷ []) ∷ [])
+    × (verdict shrunk.content (Resizing 0 Shrink 6) ≡ Some ShrinkTooFar)
+    × (verdict shrunk.content (Resizing 1 Grow 1) ≡ Some NoSuchArchive)
+    × (verdict shrunk.content (Resizing 0 Grow 1000000) ≡ Some BadRows)
 
 -- a journal of two places: the third revert finds nothing
 abbrev pub TwoPlaces : Type 0
-TwoPlaces = let end = run (record (small 4) { depth = 2 }) (Changed (update (reading 10 1 ∷ [])) ∷ Changed (update (reading 20 2 ∷ [])) ∷ Changed (update (reading 30 3 ∷ [])) ∷ Reverted ∷ Reverted ∷ Reverted ∷ []) in (end.content.last ≡ 10) × (end.journal ≡ [])
+TwoPlaces =
+    let end = run (record (small 4) { depth = 2 })
+    (Changed (update (reading 10 1 ∷ []))
+    ∷ Changed (update (reading 20 2 ∷ []))
+    ∷ Changed (update (reading 30 3 ∷ []))
+    ∷ Reverted ∷ Reverted ∷ Reverted ∷ []) in
+    (end.content.last ≡ 10) × (end.journal ≡ [])
 
 -- an update is refused whole
 abbrev pub RefusedWhole : Type 0
-RefusedWhole = (verdict (small 4) (update (reading 10 1 ∷ reading 20 2 ∷ reading 20 3 ∷ [])) ≡ Some (NotLater 20)) × (verdict (small 4) (update []) ≡ Some NoSample)
-    × (verdict (small 4) (update (reading 10000000000 1 ∷ [])) ≡ Some BadTime) × (verdict (small 4) (update (record { time = 10; values = whole 1 ∷ whole 2 ∷ [] } ∷ [])) ≡ Some WrongCount)
+RefusedWhole =
+    (verdict (small 4) (update (reading 10 1 ∷ reading 20 2 ∷ reading 20 3 ∷ [])) ≡ Some (NotLater 20))
+    × (verdict (small 4) (update []) ≡ Some NoSample)
+    × (verdict (small 4) (update (reading 10000000000 1 ∷ [])) ≡ Some BadTime)
+    × (verdict (small 4) (update (record { time = 10; values = whole 1 ∷ whole 2 ∷ [] } ∷ []))
+    ≡ Some WrongCount)
 
 abbrev pub to_gauge : Tuning
 to_gauge = record no_tuning { kind = Some ((letter 99, Gauge)); rename = Some ((letter 99, letter 103)) }
@@ -68,17 +81,26 @@ abbrev pub Retyped : Type 0
 Retyped = let base = created 10 0 (record (counter 100) { name = letter 99 }) (archive Last 1 4 ∷ []) in
     let tuned = run base (Changed (update (reading 10 7 ∷ [])) ∷ Changed (TuningBy to_gauge) ∷ []) in
     let back = step tuned Reverted in
-    (tuned.content.raws ≡ Raw.Unknown ∷ []) × (map (λ (s : DsDef). s.name) tuned.content.sources ≡ letter 103 ∷ []) × (back.content.raws ≡ Raw.Known (pos 7) ∷ []) × (map (λ (s : DsDef). s.name) back.content.sources ≡ letter 99 ∷ [])
+    (tuned.content.raws ≡ Raw.Unknown ∷ [])
+    × (map (λ (s : DsDef). s.name) tuned.content.sources ≡ letter 103 ∷ [])
+    × (back.content.raws ≡ Raw.Known (pos 7) ∷ [])
+    × (map (λ (s : DsDef). s.name) back.content.sources ≡ letter 99 ∷ [])
 
 abbrev pub with_maximum : Tuning
 with_maximum = record no_tuning { maximum = Some ((letter 103, Some (pos 5000000))) }
 
 -- new bounds don't change the interval before them; two reverts, and the same update is known again
 abbrev pub Bounded : Type 0
-Bounded = let tuned = run (small 4) (Changed (update (reading 10 9 ∷ [])) ∷ Changed (TuningBy with_maximum) ∷ Changed (update (reading 20 9 ∷ [])) ∷ []) in
+Bounded =
+    let tuned = run (small 4)
+    (Changed (update (reading 10 9 ∷ []))
+    ∷ Changed (TuningBy with_maximum)
+    ∷ Changed (update (reading 20 9 ∷ [])) ∷ []) in
     (rows tuned.content ≡ (nan ∷ nan ∷ known 9000000 ∷ nan ∷ []) ∷ [])
-    × (rows (fold step tuned (Reverted ∷ Reverted ∷ Changed (update (reading 20 9 ∷ [])) ∷ [])).content ≡ (nan ∷ nan ∷ known 9000000 ∷ known 9000000 ∷ []) ∷ [])
+    × (rows (fold step tuned (Reverted ∷ Reverted ∷ Changed (update (reading 20 9 ∷ [])) ∷ [])).content
+    ≡ (nan ∷ nan ∷ known 9000000 ∷ known 9000000 ∷ []) ∷ [])
     × (verdict (small 4) (TuningBy no_tuning) ≡ Some NothingToTune)
-    × (verdict (small 4) (TuningBy (record with_maximum { minimum = Some ((letter 103, Some (pos 6000000))) })) ≡ Some BadBounds)
+    × (verdict (small 4) (TuningBy (record with_maximum { minimum = Some ((letter 103, Some (pos 6000000))) }))
+    ≡ Some BadBounds)
     × (verdict (small 4) (TuningBy to_gauge) ≡ Some NoSuchSource)
     × (verdict (small 4) (TuningBy with_maximum) ≡ None)

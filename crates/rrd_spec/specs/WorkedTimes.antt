@@ -22,9 +22,14 @@ Created =
     (create_verdict (asked 0 (gauge 100 ∷ []) (archive Last 1 4 ∷ [])) ≡ Some BadStep)
     × (create_verdict (asked 300 [] []) ≡ Some NoSource)
     × (create_verdict (asked 300 (gauge 100 ∷ []) []) ≡ Some NoArchive)
-    × (create_verdict (asked 300 (gauge 100 ∷ []) (record { function = Last; xff = pos 1000000; steps = 1; rows = 4 } ∷ [])) ≡ Some BadXff)
+    × (create_verdict (asked 300 (gauge 100 ∷ [])
+    (record { function = Last; xff = pos 1000000; steps = 1; rows = 4 } ∷ []))
+    ≡ Some BadXff)
     × (create_verdict (asked 300 (gauge 100 ∷ []) (archive Last 1 4 ∷ archive Last 1 1000001 ∷ [])) ≡ Some BadRows)
-    × (create_verdict (asked 300 (gauge 100 ∷ []) (archive Last 1 1000000 ∷ archive Last 1 1000000 ∷ archive Last 1 1000000 ∷ archive Last 1 1000000 ∷ archive Last 1 1000000 ∷ [])) ≡ Some TooLarge)
+    × (create_verdict (asked 300 (gauge 100 ∷ [])
+    (archive Last 1 1000000 ∷ archive Last 1 1000000 ∷ archive Last 1 1000000
+    ∷ archive Last 1 1000000 ∷ archive Last 1 1000000 ∷ []))
+    ≡ Some TooLarge)
     × (create_verdict (asked 300 (gauge 100 ∷ []) (archive Last 1 1000000 ∷ [])) ≡ None)
     × (made (asked 10 (gauge 100 ∷ []) (archive Last 1 4 ∷ [])) ≡ created 10 0 (gauge 100) (archive Last 1 4 ∷ []))
 
@@ -37,9 +42,15 @@ shrunk = at 10 1 ∷ at 20 2 ∷ at 30 3 ∷ at 40 4 ∷ at 50 5 ∷ at 60 6 ∷
 -- its horizon is where the two rows began, and it ends at its last time
 abbrev pub Resizing : Type 0
 Resizing =
-    (map (λ a. horizon (created 10 0 (gauge 100) (archive Last 1 6 ∷ [])) 0 a shrunk) (created 10 0 (gauge 100) (archive Last 1 6 ∷ [])).archives ≡ pos 40 ∷ [])
-    × (map (λ t. map (λ a. row_by_time (created 10 0 (gauge 100) (archive Last 1 6 ∷ [])) 0 a shrunk t) (created 10 0 (gauge 100) (archive Last 1 6 ∷ [])).archives) (negsuc 9 ∷ pos 0 ∷ pos 30 ∷ pos 40 ∷ pos 50 ∷ pos 60 ∷ pos 70 ∷ [])
-    ≡ (nan ∷ []) ∷ (nan ∷ []) ∷ (nan ∷ []) ∷ (nan ∷ []) ∷ (known 5000000 ∷ []) ∷ (known 6000000 ∷ []) ∷ (nan ∷ []) ∷ [])
+    (map (λ a. horizon (created 10 0 (gauge 100) (archive Last 1 6 ∷ [])) 0 a shrunk)
+    (created 10 0 (gauge 100) (archive Last 1 6 ∷ [])).archives
+    ≡ pos 40 ∷ [])
+    × (map (λ t. map
+    (λ a. row_by_time (created 10 0 (gauge 100) (archive Last 1 6 ∷ [])) 0 a shrunk t)
+    (created 10 0 (gauge 100) (archive Last 1 6 ∷ [])).archives)
+    (negsuc 9 ∷ pos 0 ∷ pos 30 ∷ pos 40 ∷ pos 50 ∷ pos 60 ∷ pos 70 ∷ [])
+    ≡ (nan ∷ []) ∷ (nan ∷ []) ∷ (nan ∷ []) ∷ (nan ∷ [])
+    ∷ (known 5000000 ∷ []) ∷ (known 6000000 ∷ []) ∷ (nan ∷ []) ∷ [])
 
 -- ---- what a fetch reads
 

@@ -41,7 +41,7 @@ pub fn rows_come_back()
 
 /// An archive's rows, each by its age.
 pub fn rows_by_age()
-    ensures { (rows room : ℕ) (all : List (List Cell)) (unknown : List Cell) → ShowsByAge rows room all unknown }
+    ensures { (rows lasting : ℕ) (all : List (List Cell)) (unknown : List Cell) → ShowsByAge rows lasting all unknown }
 {}
 
 /// Each archive's rows, each by its time, and what a database shows in each of their cells.

@@ -3,8 +3,10 @@
 #![tactic(auto)]
 
 mod create;
+mod entry;
 mod fetch;
 pub mod laws;
+pub mod limits;
 mod list;
 mod refusal;
 mod resize;
@@ -14,6 +16,7 @@ mod tune;
 mod update;
 
 pub use create::CreateSpec;
+pub use entry::SourceBefore;
 pub use fetch::{Candidate, Chosen, Request};
 pub use list::List;
 pub use refusal::Refusal;

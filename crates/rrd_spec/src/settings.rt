@@ -1,6 +1,8 @@
 //! Settings of data sources and archives.
-ghost use Rattle.std.specs.Prelude.{◌≡◌, ◌^◌, ◌≤◌, ◌≤ℤ◌, pos};
+ghost use Rattle.std.specs.Prelude.{◌≡◌, ℕ, ◌-◌, ◌^◌, ◌<◌, ◌≤◌, ◌≤ℤ◌, map, min, pos, sum};
 ghost use Rattle.rrd_fixed.specs.Rate.{IsAccepted, IsBounded, rate as rate_of};
+ghost use Rattle.rrd_spec.specs.Limits.{version_one};
+ghost use Rattle.rrd_spec.specs.Rules.{resolution};
 
 use rrd_fixed::{Cell, Kind, Name, Raw, rate};
 use rrd_fold::Function;
@@ -66,9 +68,52 @@ impl RraDef {
     /// The share of a row's steps that may be unknown, as an unsigned number of millionths.
     pub fn share(&self) -> u64
         requires low { pos 0 ≤ℤ self.now.xff }
-        requires high { self.now.xff ≤ℤ pos 999999 }
+        requires high { self.now.xff ≤ℤ pos version_one.greatest_share }
         ensures { pos result ≡ self.now.xff }
     {
         self.xff as u64
     }
+
+    /// The seconds in a row, up to 10^12, steps of so many seconds making it (rrdcreate, "RRA"). They
+    /// are 1 to 1,000,000, and so are the steps of a row.
+    pub fn resolution(&self, step: u64) -> u64
+        requires some_step { 0 < step }
+        requires small_step { step ≤ version_one.longest_step }
+        requires some_steps { 0 < self.now.steps }
+        requires few_steps { self.now.steps ≤ version_one.most_steps }
+        ensures value { result ≡ resolution step self.now }
+        ensures some { 0 < result }
+        ensures small { result ≤ 10 ^ 12 }
+    {
+        step * self.steps
+    }
+}
+
+/// What has a number of rows: an archive, or its settings by themselves.
+pub(crate) trait HasRows {
+    /// That number, as contracts see it.
+    ghost rows_of: { Self → ℕ };
+
+    /// How many rows.
+    fn row_count(&self) -> u64
+        ensures { result ≡ rows_of self.now };
+}
+
+impl HasRows for RraDef {
+    ghost rows_of = { λ def. def.rows };
+
+    fn row_count(&self) -> u64 {
+        self.rows
+    }
+}
+
+/// The rows of all archives, or the greatest number if they are more.
+pub(crate) fn all_rows<T: HasRows>(archives: &[T]) -> u64
+    ensures { result ≡ min (sum (map T.rows_of archives.now)) (2 ^ 64 - 1) }
+{
+    let mut rows: u64 = 0;
+    for archive in archives {
+        rows = rows.saturating_add(archive.row_count());
+    }
+    rows
 }

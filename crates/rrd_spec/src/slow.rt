@@ -12,17 +12,16 @@ ghost use Rattle.rrd_fold.specs.declared.function.Function.TheVariants.{Average}
 ghost use Rattle.rrd_spec.specs.Creating.{create_verdict, created};
 ghost use Rattle.rrd_spec.specs.History as history;
 ghost use Rattle.rrd_spec.specs.History.{Archive};
+ghost use Rattle.rrd_spec.specs.Limits.{version_one};
 ghost use Rattle.rrd_spec.specs.Slow.{AreInOrder, AreNewest, IsGroup, cell_of, event_of, function_of, latest, rule_of, size_of, taken_of};
 ghost use Rattle.rrd_spec.specs.Validity.{AreAccepted, AreParts, IsPart, IsRow};
 
+use crate::limits::LATEST_TIME;
 use crate::{CreateSpec, DsDef, List, RraDef};
 use rrd_fixed::{Cell, Kind, Raw, near};
 use rrd_fold::Function;
 use std::alloc::{AllocError, Global};
 use std::marker::Model;
-
-// The latest time of a sample.
-const LATEST_TIME: u64 = 9_999_999_999;
 
 // The least size that a value of a GAUGE or an ABSOLUTE may not have, in millionths.
 const LEAST_REFUSED: u128 = 1_000_000_000_000_000_000_000_000;
@@ -99,7 +98,7 @@ impl Part {
     // The step of so many seconds that it stands for.
     fn step_cell(self, step: u64) -> Cell
         requires some { 0 < step }
-        requires few { step ≤ 1000000 }
+        requires few { step ≤ version_one.longest_step }
         requires part { IsPart Average step self }
         ensures { result ≡ step_cell step self }
     {

@@ -6,8 +6,8 @@ use Rattle.std.specs.Result.{is_err}
 use Rattle.rrd_tool.specs.Batch.{Answers, AppendsSome, Performs, Ran, Stopped, Told, Turn, faults_of, faults_written, line_told, state_after, text_of}
 use Rattle.rrd_tool.specs.Lines.{is_empty, last_part, lines_of, whole_lines}
 use Rattle.rrd_fixed.specs.Written.{AppendsFront}
-use Rattle.rrd_fixed.specs.declared.writing.WriteFault.{WriteFault}
-use Rattle.rrd_fixed.proofs.Writings.{Appends-kept}
+use Rattle.rrd_fixed.specs.declared.streams.WriteFault.{WriteFault}
+use Rattle.rrd_fixed.specs.Writing.{Appends-kept}
 use Rattle.rrd_tool.proofs.LineLemmas.{whole_append}
 
 lines-append : (xs ys : List Told) → map line_told (xs ++ ys) ≡ map line_told xs ++ map line_told ys

@@ -13,10 +13,11 @@ use Rattle.rrd_spec.specs.declared.fetch.Request.{Request}
 use Rattle.rrd_spec.specs.declared.refusal.Refusal.{Refusal}
 use Rattle.rrd_spec.specs.declared.refusal.Refusal.TheVariants.{BadTime, BadSpan}
 use Rattle.rrd_spec.specs.History.{Archive, Content}
-use Rattle.rrd_spec.specs.Choice.{best, candidate, candidates, choice, covers, is_farther, is_nearer, same_function, span, span_of, span_rows, taken, unless_refused}
+use Rattle.rrd_spec.specs.Choice.{best, candidate, candidates, choice, covers, is_farther, is_nearer, same_function, span, span_of, span_rows, taken, unless_refused, choice_within}
 use Rattle.rrd_spec.specs.Validity.{IsValid, IsValidArchive}
 use Rattle.rrd_spec.specs.Verdict.{◌refuses◌, first_refusal}
 use Rattle.rrd_tool.specs.Chosen.{IsReadable}
+use Rattle.rrd_spec.specs.Limits.{version_one}
 
 -- ---- lists
 
@@ -87,7 +88,7 @@ unrefused : (verdict : Option Refusal) (answer : Result Chosen Refusal) (chosen 
 unrefused None answer chosen e = (refl, e)
 unrefused (Some refusal) answer chosen e = absurd cc
 
-spanned : (request : Request) (found : Option Candidate) (chosen : Chosen) → span_of request found ≡ Ok chosen → (one : Candidate) × (found ≡ Some one) × (span request one ≡ chosen)
+spanned : (request : Request) (found : Option Candidate) (chosen : Chosen) → span_of version_one request found ≡ Ok chosen → (one : Candidate) × (found ≡ Some one) × (span request one ≡ chosen)
 spanned request None chosen e = absurd cc
 spanned request (Some one) chosen e = ⊎_elim
     (λ (long : nat_lt 1000000 (span_rows (span request one)) ≡ true). absurd (let bad = rw long at e in cc))
@@ -110,11 +111,11 @@ span_readable content request one h end =
 
 -- what is chosen can be read
 pub chosen_readable : (content : Content) (function : Function) (asked start end : ℕ) (chosen : Chosen) → IsValid content → choice content function asked start end ≡ Ok chosen → IsReadable content chosen
-unfolding choice
+unfolding choice_within
 chosen_readable content function asked start end chosen valid e =
     let request : Request = record { function = function; asked = asked; start = start; end = end } in
     let list = candidates content.step content.last function (map (λ (archive : Archive). archive.def) content.archives) in
-    let answered = unrefused _ (span_of request (taken asked start list)) chosen e in
+    let answered = unrefused _ (span_of version_one request (taken asked start list)) chosen e in
     let found = spanned request (taken asked start list) chosen answered.1 in
     let late = second_passes (nat_lt 9999999999 start) (nat_lt 9999999999 end) (nat_lt end start) BadTime BadTime BadSpan answered.0 in
     let can = taken_usable (length content.archives) asked start list found.0 (all_usable content function valid) found.1 in

@@ -3,13 +3,13 @@ use Rattle.std.proofs.Common.{◌≡◌, ◌∙◌, ◌+◌, ◌<◌, ◌++◌, 
 use Rattle.clap.specs.Words.{Text}
 use Rattle.rrd_spec.specs.declared.settings.DsDef.{DsDef}
 use Rattle.rrd_spec.specs.declared.settings.RraDef.{RraDef}
-use Rattle.rrd_tool.specs.Reading.{definitions_of}
-use Rattle.rrd_tool.specs.Texts.{archives_in, definition_of, sources_in}
+use Rattle.rrd_tool.specs.Commands.Create.{definitions_of}
+use Rattle.rrd_tool.specs.Commands.Create.{archives_in, definition_of, sources_in}
 use Rattle.rrd_tool.specs.Unread.{Meets, each_of, or_fault}
-use Rattle.rrd_tool.specs.declared.command.LineFault.{LineFault}
-use Rattle.rrd_tool.specs.declared.command.LineFault.TheVariants.{Usage, BadWord, OutOfMemory}
-use Rattle.rrd_tool.specs.declared.command.Part.TheVariants as part
-use Rattle.rrd_tool.specs.declared.texts.Definition.{Definition}
+use Rattle.rrd_tool.specs.declared.faults.LineFault.{LineFault}
+use Rattle.rrd_tool.specs.declared.faults.LineFault.TheVariants.{Usage, BadWord, OutOfMemory}
+use Rattle.rrd_tool.specs.declared.faults.Part.TheVariants as part
+use Rattle.rrd_tool.specs.declared.commands.create.Definition.{Definition}
 use Rattle.rrd_tool.proofs.Each.{prepend, word_fails, word_more}
 
 sources_of_both : (xs ys : List Definition) → sources_in (xs ++ ys) ≡ sources_in xs ++ sources_in ys

@@ -3,9 +3,9 @@ use Rattle.std.proofs.Common.{◌≡◌, ◌∙◌, ◌+◌, ◌<◌, ◌++◌, 
 use Rattle.std.proofs.Math.Seq.{drop-cons}
 use Rattle.clap.specs.Words.{Text}
 use Rattle.rrd_tool.specs.Unread.{Meets, Unread, each_of, or_fault, ◌>>=◌}
-use Rattle.rrd_tool.specs.declared.command.LineFault.{LineFault}
-use Rattle.rrd_tool.specs.declared.command.LineFault.TheVariants.{Usage, BadWord, OutOfMemory}
-use Rattle.rrd_tool.specs.declared.command.Part.{Part}
+use Rattle.rrd_tool.specs.declared.faults.LineFault.{LineFault}
+use Rattle.rrd_tool.specs.declared.faults.LineFault.TheVariants.{Usage, BadWord, OutOfMemory}
+use Rattle.rrd_tool.specs.declared.faults.Part.{Part}
 
 split : (words : List Text) (i : ℕ) (word : Text) → i < length words → get_or words i [] ≡ word → drop i words ≡ word ∷ drop (i + 1) words
 split words i word h e = rw add-one (drop-cons words i [] h ∙ ap (λ v. v ∷ drop (suc i) words) e)
@@ -48,3 +48,9 @@ module _ {A : Type 0} where
   word_fails read part n words i word xs whole answer Usage h g w e m = absurd m
   word_fails read part n words i word xs whole answer OutOfMemory h g w e m = rw e tt
   word_fails read part n words i word xs whole answer (BadWord p k) h g w e m = rw e (w ∙ word_stops read part n words i word xs (p, k) h g m)
+
+-- a fault of what is read first is one of the whole
+pub meets_first : {A B : Type 0} (read : Result A Unread) (next : A → Result B Unread) (fault : LineFault) → Meets read (Err fault) → Meets (read >>= next) (Err fault)
+meets_first read next Usage h = absurd h
+meets_first read next OutOfMemory h = tt
+meets_first read next (BadWord part number) h = rw h refl

@@ -4,39 +4,46 @@ use Rattle.std.specs.Str.{bytes_eq}
 use Rattle.std.proofs.lemmas.Slice.Eq.{bytes_eq-Decides}
 use Rattle.std.specs.Prelude.{slice_get}
 use Rattle.rrd_tool.proofs.Simple.{rrdi_simple, rrdi_free}
-use Rattle.clap.specs.Words.{App, Text, new_app}
-use Rattle.clap.proofs.OnLiterals.{clap_on_literals}
-use Rattle.rrd_tool.specs.Serves.{Serves, only}
-use Rattle.rrd_tool.specs.Shapes.{rrdi_app, with_options, create_app, update_app, fetch_app, tune_app, resize_app}
+use Rattle.clap.specs.Words.{App, Text}
+use Rattle.rrd_tool.proofs.OnLiterals.{shapes_on_literals}
+use Rattle.rrd_tool.specs.Serves.{Serves, app_with}
+use Rattle.rrd_tool.specs.Commands.{rrdi_app}
+use Rattle.rrd_tool.specs.Commands.Create.{create_app}
+use Rattle.rrd_tool.specs.Commands.Last.{last_app}
+use Rattle.rrd_tool.specs.Commands.Revert.{revert_app}
+use Rattle.rrd_tool.specs.Commands.Update.{update_app}
+use Rattle.rrd_tool.specs.Commands.Fetch.{fetch_app}
+use Rattle.rrd_tool.specs.Commands.Tune.{tune_app}
+use Rattle.rrd_tool.specs.Commands.Resize.{resize_app}
 use Rattle.rrd_tool.proofs.FirstWord.{serves}
 
-pub create_serves : (rest : List Text) → Serves (only create_app) (codes "create" ∷ rest)
-unfolding rrdi_app with_options create_app update_app fetch_app tune_app resize_app clap_on_literals
-create_serves = serves (only create_app) (codes "create") (refl, refl, refl, refl, refl, refl, refl)
+pub create_serves : (rest : List Text) → Serves (app_with create_app) (codes "create" ∷ rest)
+unfolding shapes_on_literals
+create_serves = serves (app_with create_app) (codes "create") (refl, refl, refl, refl, refl, refl, refl)
 
-pub update_serves : (rest : List Text) → Serves (only update_app) (codes "update" ∷ rest)
-unfolding rrdi_app with_options create_app update_app fetch_app tune_app resize_app clap_on_literals
-update_serves = serves (only update_app) (codes "update") (refl, refl, refl, refl, refl, refl, refl)
+pub update_serves : (rest : List Text) → Serves (app_with update_app) (codes "update" ∷ rest)
+unfolding shapes_on_literals
+update_serves = serves (app_with update_app) (codes "update") (refl, refl, refl, refl, refl, refl, refl)
 
-pub fetch_serves : (rest : List Text) → Serves (only fetch_app) (codes "fetch" ∷ rest)
-unfolding rrdi_app with_options create_app update_app fetch_app tune_app resize_app clap_on_literals
-fetch_serves = serves (only fetch_app) (codes "fetch") (refl, refl, refl, refl, refl, refl, refl)
+pub fetch_serves : (rest : List Text) → Serves (app_with fetch_app) (codes "fetch" ∷ rest)
+unfolding shapes_on_literals
+fetch_serves = serves (app_with fetch_app) (codes "fetch") (refl, refl, refl, refl, refl, refl, refl)
 
-pub tune_serves : (rest : List Text) → Serves (only tune_app) (codes "tune" ∷ rest)
-unfolding rrdi_app with_options create_app update_app fetch_app tune_app resize_app clap_on_literals
-tune_serves = serves (only tune_app) (codes "tune") (refl, refl, refl, refl, refl, refl, refl)
+pub tune_serves : (rest : List Text) → Serves (app_with tune_app) (codes "tune" ∷ rest)
+unfolding shapes_on_literals
+tune_serves = serves (app_with tune_app) (codes "tune") (refl, refl, refl, refl, refl, refl, refl)
 
-pub resize_serves : (rest : List Text) → Serves (only resize_app) (codes "resize" ∷ rest)
-unfolding rrdi_app with_options create_app update_app fetch_app tune_app resize_app clap_on_literals
-resize_serves = serves (only resize_app) (codes "resize") (refl, refl, refl, refl, refl, refl, refl)
+pub resize_serves : (rest : List Text) → Serves (app_with resize_app) (codes "resize" ∷ rest)
+unfolding shapes_on_literals
+resize_serves = serves (app_with resize_app) (codes "resize") (refl, refl, refl, refl, refl, refl, refl)
 
-pub last_serves : (rest : List Text) → Serves (only (new_app (codes "last"))) (codes "last" ∷ rest)
-unfolding rrdi_app with_options create_app update_app fetch_app tune_app resize_app clap_on_literals
-last_serves = serves (only (new_app (codes "last"))) (codes "last") (refl, refl, refl, refl, refl, refl, refl)
+pub last_serves : (rest : List Text) → Serves (app_with last_app) (codes "last" ∷ rest)
+unfolding shapes_on_literals
+last_serves = serves (app_with last_app) (codes "last") (refl, refl, refl, refl, refl, refl, refl)
 
-pub revert_serves : (rest : List Text) → Serves (only (new_app (codes "revert"))) (codes "revert" ∷ rest)
-unfolding rrdi_app with_options create_app update_app fetch_app tune_app resize_app clap_on_literals
-revert_serves = serves (only (new_app (codes "revert"))) (codes "revert") (refl, refl, refl, refl, refl, refl, refl)
+pub revert_serves : (rest : List Text) → Serves (app_with revert_app) (codes "revert" ∷ rest)
+unfolding shapes_on_literals
+revert_serves = serves (app_with revert_app) (codes "revert") (refl, refl, refl, refl, refl, refl, refl)
 
 pub whole_serves : (a : App) (words : List Text) → a ≡ rrdi_app → Serves a words
 whole_serves a words e = rw e (refl, refl, rrdi_simple, rrdi_free)

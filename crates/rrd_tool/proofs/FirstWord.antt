@@ -10,7 +10,7 @@ use Rattle.clap.specs.Simple.{argument_words, built, entered, label_of, names_of
 use Rattle.clap.proofs.WalkLemmas.{both, walk_stopped}
 use Rattle.clap.proofs.FaultLemmas.{stopped_fault}
 use Rattle.rrd_tool.specs.Serves.{Serves}
-use Rattle.rrd_tool.specs.Shapes.{rrdi_app}
+use Rattle.rrd_tool.specs.Commands.{rrdi_app}
 
 -- the walk over a name and the words after it
 abbrev at_name : Text → List Text → Walk

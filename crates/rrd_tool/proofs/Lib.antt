@@ -1,3 +1,4 @@
+pub mod OnLiterals
 pub mod Added
 pub mod Simple
 pub mod FirstWord

@@ -1,28 +1,29 @@
 -- What the database stands for after more lines.
 use Rattle.std.proofs.Common.{◌++◌, List, ℕ, Option, Result}
-use Rattle.rrd_fixed.specs.declared.writing.WriteFault.{WriteFault}
-use Rattle.rrd_spec.specs.Survivors.{State, Kept}
+use Rattle.rrd_fixed.specs.declared.streams.WriteFault.{WriteFault}
+use Rattle.rrd_spec.specs.Survivors.{State, Stored}
 use Rattle.rrd_tool.specs.Lines.{last_part, whole_lines}
 use Rattle.rrd_tool.specs.Moves.{Moves}
 use Rattle.rrd_tool.specs.Batch.{Ran, Stopped}
-use Rattle.rrd_tool.specs.Run.{StandsFor, turn}
+use Rattle.rrd_tool.specs.Effects.{StandsFor}
+use Rattle.rrd_tool.specs.Run.{turn}
 use Rattle.rrd_tool.proofs.BatchLemmas.{answers_more, stopped_front}
 
 -- all of them, or some first ones
-abbrev pub MovesRan : ℕ → Option Kept → Option Kept → ℕ → ℕ → Option (List ℕ) → Option (List ℕ) → List (List ℕ) → Type 0
+abbrev pub MovesRan : ℕ → Option Stored → Option Stored → ℕ → ℕ → Option (List ℕ) → Option (List ℕ) → List (List ℕ) → Type 0
 MovesRan now b0 b1 n0 n1 c0 c1 lines = (s0 : Option State) → StandsFor b0 s0 → (s1 : Option State) × StandsFor b1 s1 × Ran (turn now) s0 s1 n0 n1 c0 c1 lines
 
-abbrev pub MovesStopped : ℕ → Option Kept → Option Kept → ℕ → ℕ → Option (List ℕ) → Option (List ℕ) → List (List ℕ) → Type 0
+abbrev pub MovesStopped : ℕ → Option Stored → Option Stored → ℕ → ℕ → Option (List ℕ) → Option (List ℕ) → List (List ℕ) → Type 0
 MovesStopped now b0 b1 n0 n1 c0 c1 lines = (s0 : Option State) → StandsFor b0 s0 → (s1 : Option State) × StandsFor b1 s1 × Stopped (turn now) s0 s1 n0 n1 c0 c1 lines
 
-pub moves_more : {T : Type 0} (now : ℕ) (b0 b1 b2 : Option Kept) (n0 n1 n2 : ℕ) (a b c : Option (List ℕ)) (held xs ys : List ℕ) → MovesRan now b0 b1 n0 n1 a b (whole_lines held xs)
+pub moves_more : {T : Type 0} (now : ℕ) (b0 b1 b2 : Option Stored) (n0 n1 n2 : ℕ) (a b c : Option (List ℕ)) (held xs ys : List ℕ) → MovesRan now b0 b1 n0 n1 a b (whole_lines held xs)
     → (r : Result T WriteFault) → Moves now b1 b2 n1 n2 b c (whole_lines (last_part held xs) ys) r → Moves now b0 b2 n0 n2 a c (whole_lines held (xs ++ ys)) r
 moves_more now b0 b1 b2 n0 n1 n2 a b c held xs ys f r k s0 s =
     let p = f s0 s in
     let q = k p.0 p.1 in
     (q.0, q.1, answers_more (turn now) s0 p.0 q.0 n0 n1 n2 a b c held xs ys p.2 r q.2)
 
-pub moves_front : (now : ℕ) (b0 b1 : Option Kept) (n0 n1 : ℕ) (a b : Option (List ℕ)) (held xs ys : List ℕ) → MovesStopped now b0 b1 n0 n1 a b (whole_lines held xs)
+pub moves_front : (now : ℕ) (b0 b1 : Option Stored) (n0 n1 : ℕ) (a b : Option (List ℕ)) (held xs ys : List ℕ) → MovesStopped now b0 b1 n0 n1 a b (whole_lines held xs)
     → MovesStopped now b0 b1 n0 n1 a b (whole_lines held (xs ++ ys))
 moves_front now b0 b1 n0 n1 a b held xs ys f s0 s =
     let p = f s0 s in

@@ -5,8 +5,8 @@ use Rattle.std.proofs.lemmas.List.{take_more}
 use Rattle.std.proofs.lemmas.Bool.{cases_lt}
 use Rattle.rrd_spec.specs.declared.settings.DsDef.{DsDef}
 use Rattle.rrd_fixed.specs.Written.{AppendsFront}
-use Rattle.rrd_fixed.proofs.Writings.{writes_stop}
-use Rattle.rrd_tool.specs.Printed.{names_text, texts_below}
+use Rattle.rrd_fixed.specs.Writing.{writes_stop}
+use Rattle.rrd_tool.specs.Commands.Fetch.{names_text, texts_below}
 
 pub below_more : (f : ℕ → List ℕ) (n : ℕ) → texts_below f (n + 1) ≡ texts_below f n ++ f n
 below_more f n = rw add-one refl

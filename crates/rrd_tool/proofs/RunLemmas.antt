@@ -1,43 +1,42 @@
 -- How a database keeps to the run, command by command and line by line.
 use Rattle.std.proofs.Common.{◌≡◌, ◌≢◌, ◌∙◌, ◌∷◌, [], ℕ, Bool, true, false, List, Option, Some, None, Result, Ok, Err, inl, inr, ap, ap₂, sym, refl, subst, append-nil, arith, length, option_map}
 use Rattle.std.specs.Io.KnownBytes.{Appends, Keeps}
-use Rattle.rrd_fixed.specs.declared.writing.WriteFault.{WriteFault}
+use Rattle.rrd_fixed.specs.declared.streams.WriteFault.{WriteFault}
 use Rattle.rrd_spec.specs.declared.create.CreateSpec.{CreateSpec}
 use Rattle.rrd_spec.specs.declared.refusal.Refusal.{Refusal}
-use Rattle.rrd_spec.specs.Commands.{Resizing, TuningBy, Updating}
 use Rattle.rrd_spec.specs.Creating.{create_verdict, created}
 use Rattle.rrd_spec.specs.Entries.{Entry}
-use Rattle.rrd_spec.specs.Survivors.{State, Kept, Changed, Reverted, Stands, step}
+use Rattle.rrd_spec.specs.Survivors.{State, Stored, Changed, Reverted, Stands, step}
 use Rattle.rrd_spec.specs.Verdict.{verdict}
 use Rattle.rrd_spec.proofs.Created.{created_valid}
 use Rattle.rrd_spec.proofs.Fitting.{runs_stay}
 use Rattle.rrd_spec.proofs.Runs.{step_stands}
 use Rattle.clap.specs.Words.{fault_of}
-use Rattle.rrd_fixed.proofs.Writings.{Appends-kept}
+use Rattle.rrd_fixed.specs.Writing.{Appends-kept}
 use Rattle.rrd_tool.specs.Batch.{Performs, Turn}
-use Rattle.rrd_tool.specs.Executed.{Comes, IsFault, PrintsBy, kept_next}
+use Rattle.rrd_tool.specs.Effects.{Effect, Makes, Changes, Reverts, Shows, StandsFor, begun, is_change, kept_next, kept_of, next, revert_verdict, text_on, verdict_on}
+use Rattle.rrd_tool.specs.Executed.{Comes, IsFault, PrintsBy}
 use Rattle.rrd_tool.specs.Faults.{fault_line}
 use Rattle.rrd_tool.specs.Lines.{is_empty, text_in, words_of}
 use Rattle.rrd_tool.specs.Moves.{Asks, line_turns}
 use Rattle.rrd_tool.specs.Reading.{IsReading}
-use Rattle.rrd_tool.specs.Run.{StandsFor, begun, command_of, command_turn, is_change, kept_of, lines_on, next, reading_turn, refused, revert_verdict, text_turn, turn, unless_short, verdict_on, words_turn}
-use Rattle.rrd_tool.specs.Shapes.{rrdi_app}
-use Rattle.rrd_tool.specs.declared.command.Command.{Command}
-use Rattle.rrd_tool.specs.declared.command.Command.TheVariants.{Create, Update, Tune, Resize, Fetch, Last, Revert}
-use Rattle.rrd_tool.specs.declared.command.LineFault.{LineFault}
-use Rattle.rrd_tool.specs.declared.command.LineFault.TheVariants.{Usage, BadWord, OutOfMemory}
-use Rattle.rrd_tool.specs.declared.command.Part.{Part}
+use Rattle.rrd_tool.specs.Run.{command_of, effect_turn, reading_turn, refused, text_turn, turn, unless_short, words_turn}
+use Rattle.rrd_tool.specs.Commands.{rrdi_app}
+use Rattle.rrd_tool.specs.declared.commands.Command.{Command}
+use Rattle.rrd_tool.specs.declared.faults.LineFault.{LineFault}
+use Rattle.rrd_tool.specs.declared.faults.LineFault.TheVariants.{Usage, BadWord, OutOfMemory}
+use Rattle.rrd_tool.specs.declared.faults.Part.{Part}
 use Rattle.rrd_tool.specs.declared.faults.Fault.{Fault}
 use Rattle.rrd_tool.specs.declared.faults.Fault.TheVariants.{Line, Refused, NoDatabase, Output}
 
 -- ---- the database
 
 -- the database is the one that the state makes
-pub stands_kept : (kept : Option Kept) (state : Option State) → StandsFor kept state → kept ≡ option_map kept_of state
+pub stands_kept : (kept : Option Stored) (state : Option State) → StandsFor kept state → kept ≡ option_map kept_of state
 stands_kept None None h = refl
 stands_kept None (Some state) h = absurd h
 stands_kept (Some kept) None h = absurd h
-stands_kept (Some kept) (Some state) h = ap₂ (λ now journal. let k : Kept = record { content = now; journal = journal } in Some k) h.content_is h.journal_is
+stands_kept (Some kept) (Some state) h = ap₂ (λ now journal. let k : Stored = record { content = now; journal = journal } in Some k) h.content_is h.journal_is
 
 no_refusal : (verdict : Option Refusal) → option_map Refused verdict ≡ None → verdict ≡ None
 no_refusal None h = refl
@@ -46,89 +45,74 @@ no_refusal (Some r) h = absurd cc
 created_stands : (spec : CreateSpec) → create_verdict spec ≡ None → Stands (begun (created spec)) (record { content = created spec; journal = [] })
 created_stands spec h = (runs_stay (created spec) [] [] (record { content_is = created_valid spec h; journal_is = tt; few = omega arith })).stands
 
--- a command that is accepted keeps it so
-pub stands_next : (command : Command) (kept : Option Kept) (state : Option State) → verdict_on kept command ≡ None → StandsFor kept state → StandsFor (kept_next kept command) (next state command)
-stands_next (Create spec) kept state h s = created_stands spec (no_refusal (create_verdict spec) h)
-stands_next (Update update) None state h s = absurd cc
-stands_next (Tune tuning) None state h s = absurd cc
-stands_next (Resize index change rows) None state h s = absurd cc
-stands_next (Fetch function asked start stop) None state h s = absurd cc
-stands_next Last None state h s = absurd cc
-stands_next Revert None state h s = absurd cc
-stands_next (Update update) (Some kept) None h s = absurd s
-stands_next (Update update) (Some kept) (Some state) h s =
-    let accepted : verdict kept.content (Updating update) ≡ None = no_refusal (verdict kept.content (Updating update)) h in
-    let moved : Stands _ (step kept (Changed (Updating update))) = step_stands state kept (Changed (Updating update)) s in
+-- what is accepted keeps it so
+pub stands_next : (effect : Effect) (kept : Option Stored) (state : Option State) → verdict_on kept effect ≡ None → StandsFor kept state → StandsFor (kept_next kept effect) (next state effect)
+stands_next (Makes spec) kept state h s = created_stands spec (no_refusal (create_verdict spec) h)
+stands_next (Changes command) None state h s = absurd cc
+stands_next Reverts None state h s = absurd cc
+stands_next (Shows show) None state h s = absurd cc
+stands_next (Changes command) (Some kept) None h s = absurd s
+stands_next (Changes command) (Some kept) (Some state) h s =
+    let accepted : verdict kept.content command ≡ None = no_refusal (verdict kept.content command) h in
+    let moved : Stands _ (step kept (Changed command)) = step_stands state kept (Changed command) s in
     rw accepted at moved
-stands_next (Tune tuning) (Some kept) None h s = absurd s
-stands_next (Tune tuning) (Some kept) (Some state) h s =
-    let accepted : verdict kept.content (TuningBy tuning) ≡ None = no_refusal (verdict kept.content (TuningBy tuning)) h in
-    let moved : Stands _ (step kept (Changed (TuningBy tuning))) = step_stands state kept (Changed (TuningBy tuning)) s in
-    rw accepted at moved
-stands_next (Resize index change rows) (Some kept) None h s = absurd s
-stands_next (Resize index change rows) (Some kept) (Some state) h s =
-    let accepted : verdict kept.content (Resizing index change rows) ≡ None = no_refusal (verdict kept.content (Resizing index change rows)) h in
-    let moved : Stands _ (step kept (Changed (Resizing index change rows))) = step_stands state kept (Changed (Resizing index change rows)) s in
-    rw accepted at moved
-stands_next (Fetch function asked start stop) (Some kept) None h s = absurd s
-stands_next (Fetch function asked start stop) (Some kept) (Some state) h s = s
-stands_next Last (Some kept) None h s = absurd s
-stands_next Last (Some kept) (Some state) h s = s
-stands_next Revert (Some kept) None h s = absurd s
-stands_next Revert (Some kept) (Some state) h s = step_stands state kept Reverted s
+stands_next Reverts (Some kept) None h s = absurd s
+stands_next Reverts (Some kept) (Some state) h s = step_stands state kept Reverted s
+stands_next (Shows show) (Some kept) None h s = absurd s
+stands_next (Shows show) (Some kept) (Some state) h s = s
 
 -- ---- a command
 
 -- what a command comes to, carried to facts that follow from those on the database
-comes_as : (verdict : Option Fault) (text : List ℕ) (command : Command) (Moved Moved' Same Same' : Type 0) (c0 c1 : Option (List ℕ)) (changed : Bool) (fault : Option Fault)
-    → (verdict ≡ None → Moved → Moved') → (Same → Same') → Comes verdict text command Moved Same c0 c1 changed fault → Comes verdict text command Moved' Same' c0 c1 changed fault
-comes_as verdict text command Moved Moved' Same Same' c0 c1 changed None f g h = (h.0, f h.0 h.1, h.2, h.3)
-comes_as verdict text command Moved Moved' Same Same' c0 c1 changed (Some Output) f g h = (h.0, f h.0 h.1, h.2, h.3)
-comes_as verdict text command Moved Moved' Same Same' c0 c1 changed (Some (Line fault)) f g h = (h.0, g h.1, h.2, h.3)
-comes_as verdict text command Moved Moved' Same Same' c0 c1 changed (Some (Refused fault)) f g h = (h.0, g h.1, h.2, h.3)
-comes_as verdict text command Moved Moved' Same Same' c0 c1 changed (Some NoDatabase) f g h = (h.0, g h.1, h.2, h.3)
+comes_as : (verdict : Option Fault) (text : List ℕ) (effect : Effect) (Moved Moved' Same Same' : Type 0) (c0 c1 : Option (List ℕ)) (changed : Bool) (fault : Option Fault)
+    → (verdict ≡ None → Moved → Moved') → (Same → Same') → Comes verdict text effect Moved Same c0 c1 changed fault → Comes verdict text effect Moved' Same' c0 c1 changed fault
+comes_as verdict text effect Moved Moved' Same Same' c0 c1 changed None f g h = (h.0, f h.0 h.1, h.2, h.3)
+comes_as verdict text effect Moved Moved' Same Same' c0 c1 changed (Some Output) f g h = (h.0, f h.0 h.1, h.2, h.3)
+comes_as verdict text effect Moved Moved' Same Same' c0 c1 changed (Some (Line fault)) f g h = (h.0, g h.1, h.2, h.3)
+comes_as verdict text effect Moved Moved' Same Same' c0 c1 changed (Some (Refused fault)) f g h = (h.0, g h.1, h.2, h.3)
+comes_as verdict text effect Moved Moved' Same Same' c0 c1 changed (Some NoDatabase) f g h = (h.0, g h.1, h.2, h.3)
 
 -- a command over the database is the command of the run
-pub runs_on : (command : Command) (kept kept1 : Option Kept) (state : Option State) (c0 c1 : Option (List ℕ)) (changed : Bool) (fault : Option Fault) → StandsFor kept state
-    → Comes (verdict_on kept command) (lines_on kept command) command (kept1 ≡ kept_next kept command) (kept1 ≡ kept) c0 c1 changed fault
-    → Comes (verdict_on (option_map kept_of state) command) (lines_on (option_map kept_of state) command) command (StandsFor kept1 (next state command)) (StandsFor kept1 state) c0 c1 changed fault
-runs_on command kept kept1 state c0 c1 changed fault s h =
-    let Here : Option Kept → Type 0 = λ k. Comes (verdict_on k command) (lines_on k command) command (StandsFor kept1 (next state command)) (StandsFor kept1 state) c0 c1 changed fault in
-    let here : Here kept = comes_as (verdict_on kept command) (lines_on kept command) command (kept1 ≡ kept_next kept command) (StandsFor kept1 (next state command)) (kept1 ≡ kept) (StandsFor kept1 state) c0 c1 changed fault
-    (λ accepted moved. subst (λ (k : Option Kept). StandsFor k (next state command)) (sym moved) (stands_next command kept state accepted s))
-    (λ same. subst (λ (k : Option Kept). StandsFor k state) (sym same) s)
+pub runs_on : (effect : Effect) (kept kept1 : Option Stored) (state : Option State) (c0 c1 : Option (List ℕ)) (changed : Bool) (fault : Option Fault) → StandsFor kept state
+    → Comes (verdict_on kept effect) (text_on kept effect) effect (kept1 ≡ kept_next kept effect) (kept1 ≡ kept) c0 c1 changed fault
+    → Comes (verdict_on (option_map kept_of state) effect) (text_on (option_map kept_of state) effect) effect (StandsFor kept1 (next state effect)) (StandsFor kept1 state) c0 c1 changed fault
+runs_on effect kept kept1 state c0 c1 changed fault s h =
+    let Here : Option Stored → Type 0 = λ k. Comes (verdict_on k effect) (text_on k effect) effect (StandsFor kept1 (next state effect)) (StandsFor kept1 state) c0 c1 changed fault in
+    let here : Here kept = comes_as (verdict_on kept effect) (text_on kept effect) effect (kept1 ≡ kept_next kept effect) (StandsFor kept1 (next state effect)) (kept1 ≡ kept) (StandsFor kept1 state) c0 c1 changed fault
+    (λ accepted moved. subst (λ (k : Option Stored). StandsFor k (next state effect)) (sym moved) (stands_next effect kept state accepted s))
+    (λ same. subst (λ (k : Option Stored). StandsFor k state) (sym same) s)
     h in
     subst Here (stands_kept kept state s) here
 
 -- ---- its turn
 
-abbrev command_turns : Option State → Command → Bool → Turn (Option State)
-command_turns state command is_short = unless_short state (command_turn state command) is_short
+abbrev effect_turns : Option State → Effect → Bool → Turn (Option State)
+effect_turns state effect is_short = unless_short state (effect_turn state effect) is_short
 
-module _ (state : Option State) (command : Command) (kept1 : Option Kept) (c0 c1 : Option (List ℕ)) (changed : Bool) where
+module _ (state : Option State) (effect : Effect) (kept1 : Option Stored) (c0 c1 : Option (List ℕ)) (changed : Bool) where
   abbrev ComesTo : Option Fault → Type 0
-  ComesTo fault = Comes (verdict_on (option_map kept_of state) command) (lines_on (option_map kept_of state) command) command (StandsFor kept1 (next state command)) (StandsFor kept1 state) c0 c1 changed fault
+  ComesTo fault = Comes (verdict_on (option_map kept_of state) effect) (text_on (option_map kept_of state) effect) effect (StandsFor kept1 (next state effect)) (StandsFor kept1 state) c0 c1 changed fault
 
   abbrev Performed : Option (List ℕ) → Result (Option Fault) WriteFault → Type 0
-  Performed c2 r = (s1 : Option State) × StandsFor kept1 s1 × Performs fault_line (command_turns state command) s1 c0 c2 r
+  Performed c2 r = (s1 : Option State) × StandsFor kept1 s1 × Performs fault_line (effect_turns state effect) s1 c0 c2 r
 
   -- it was done
   pub done_performs : ComesTo None → Performed c1 (Ok None)
-  done_performs h = (next state command, h.1, (lines_on (option_map kept_of state) command, rw h.0 refl, h.3))
+  done_performs h = (next state effect, h.1, (text_on (option_map kept_of state) effect, rw h.0 refl, h.3))
 
   -- it was done, and what it printed was handed on
   pub flushed_performs : (c2 : Option (List ℕ)) → ComesTo None → Keeps c1 c2 → Performed c2 (Ok None)
-  flushed_performs c2 h k = (next state command, h.1, (lines_on (option_map kept_of state) command, rw h.0 refl, Appends-kept c0 c1 c2 (lines_on (option_map kept_of state) command) h.3 k))
+  flushed_performs c2 h k = (next state effect, h.1, (text_on (option_map kept_of state) effect, rw h.0 refl, Appends-kept c0 c1 c2 (text_on (option_map kept_of state) effect) h.3 k))
 
   -- it was done, and handing on what it printed failed
   pub unflushed_performs : (c2 : Option (List ℕ)) (e : WriteFault) → ComesTo None → Keeps c1 c2 → Performed c2 (Err e)
-  unflushed_performs c2 e h k = (next state command, h.1, (lines_on (option_map kept_of state) command, rw h.0 refl, (lines_on (option_map kept_of state) command, [], sym (append-nil (lines_on (option_map kept_of state) command)), Appends-kept c0 c1 c2 (lines_on (option_map kept_of state) command) h.3 k)))
+  unflushed_performs c2 e h k = (next state effect, h.1, (text_on (option_map kept_of state) effect, rw h.0 refl, (text_on (option_map kept_of state) effect, [], sym (append-nil (text_on (option_map kept_of state) effect)), Appends-kept c0 c1 c2 (text_on (option_map kept_of state) effect) h.3 k)))
 
   -- it was done, and a write failed
   pub unwritten_performs : (e : WriteFault) → ComesTo (Some Output) → Performed c1 (Err e)
-  unwritten_performs e h = (next state command, h.1, (lines_on (option_map kept_of state) command, rw h.0 refl, (h.3.0, h.3.1 ∷ h.3.2, h.3.3, h.3.4)))
+  unwritten_performs e h = (next state effect, h.1, (text_on (option_map kept_of state) effect, rw h.0 refl, (h.3.0, h.3.1 ∷ h.3.2, h.3.3, h.3.4)))
 
-  fault_performs : (fault : Fault) → IsFault (verdict_on (option_map kept_of state) command) command fault → StandsFor kept1 state → Keeps c0 c1 → Performed c1 (Ok (Some fault))
+  fault_performs : (fault : Fault) → IsFault (verdict_on (option_map kept_of state) effect) effect fault → StandsFor kept1 state → Keeps c0 c1 → Performed c1 (Ok (Some fault))
   fault_performs fault h s k = elim h [
     | inl e ↦ (state, s, (false, rw e refl, k))
     | inr short ↦ (state, s, (true, ap (λ (f : Fault). refused state f) (sym short.1), k))
@@ -210,13 +194,13 @@ some_length (word ∷ words) h = refl
 -- ---- what prints
 
 -- a text that was printed, or a front of it
-pub prints_comes : (verdict : Option Fault) (text : List ℕ) (command : Command) (Moved Same : Type 0) (c0 c1 : Option (List ℕ)) (changed : Bool) (fault : Option Fault)
-    → verdict ≡ None → Moved → changed ≡ is_change command → PrintsBy c0 c1 text fault → Comes verdict text command Moved Same c0 c1 changed fault
-prints_comes verdict text command Moved Same c0 c1 changed None v m e p = (v, m, e, p)
-prints_comes verdict text command Moved Same c0 c1 changed (Some Output) v m e p = (v, m, e, p)
-prints_comes verdict text command Moved Same c0 c1 changed (Some (Line fault)) v m e p = absurd p
-prints_comes verdict text command Moved Same c0 c1 changed (Some (Refused fault)) v m e p = absurd p
-prints_comes verdict text command Moved Same c0 c1 changed (Some NoDatabase) v m e p = absurd p
+pub prints_comes : (verdict : Option Fault) (text : List ℕ) (effect : Effect) (Moved Same : Type 0) (c0 c1 : Option (List ℕ)) (changed : Bool) (fault : Option Fault)
+    → verdict ≡ None → Moved → changed ≡ is_change effect → PrintsBy c0 c1 text fault → Comes verdict text effect Moved Same c0 c1 changed fault
+prints_comes verdict text effect Moved Same c0 c1 changed None v m e p = (v, m, e, p)
+prints_comes verdict text effect Moved Same c0 c1 changed (Some Output) v m e p = (v, m, e, p)
+prints_comes verdict text effect Moved Same c0 c1 changed (Some (Line fault)) v m e p = absurd p
+prints_comes verdict text effect Moved Same c0 c1 changed (Some (Refused fault)) v m e p = absurd p
+prints_comes verdict text effect Moved Same c0 c1 changed (Some NoDatabase) v m e p = absurd p
 
 -- ---- what prints nothing
 
@@ -227,10 +211,3 @@ appends_nothing (Some bytes) = sym (append-nil bytes)
 pub revert_accepted : (journal : List Entry) → journal ≢ [] → revert_verdict journal ≡ None
 revert_accepted [] h = absurd (h refl)
 revert_accepted (entry ∷ journal) h = refl
-
-create_prints : (kept : Option Kept) (spec : CreateSpec) → lines_on kept (Create spec) ≡ []
-create_prints None spec = refl
-create_prints (Some kept) spec = refl
-
-pub create_appends : (c : Option (List ℕ)) (kept : Option Kept) (spec : CreateSpec) → Appends c c (lines_on kept (Create spec))
-create_appends c kept spec = subst (Appends c c) (sym (create_prints kept spec)) (appends_nothing c)

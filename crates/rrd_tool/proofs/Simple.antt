@@ -4,15 +4,15 @@ use Rattle.clap.specs.Words.{Kinds, HasKind, IsAmong, is_simple, is_simple_and_f
 use Rattle.clap.specs.Values.{kind_of}
 use Rattle.clap.specs.declared.error.Error.{Error}
 use Rattle.clap.specs.declared.error.kind.ErrorKind.TheVariants.{OutOfMemory}
-use Rattle.clap.proofs.OnLiterals.{clap_on_literals}
-use Rattle.rrd_tool.specs.Shapes.{rrdi_app, with_options, create_app, update_app, fetch_app, tune_app, resize_app}
+use Rattle.rrd_tool.proofs.OnLiterals.{shapes_on_literals}
+use Rattle.rrd_tool.specs.Commands.{rrdi_app}
 
 pub rrdi_simple : is_simple rrdi_app ≡ true
-unfolding rrdi_app with_options create_app update_app fetch_app tune_app resize_app clap_on_literals
+unfolding shapes_on_literals
 rrdi_simple = refl
 
 pub rrdi_free : is_simple_and_free rrdi_app ≡ true
-unfolding rrdi_app with_options create_app update_app fetch_app tune_app resize_app clap_on_literals
+unfolding shapes_on_literals
 rrdi_free = refl
 
 -- an error of another kind comes only where some kind may

@@ -12,14 +12,15 @@ use Rattle.std.specs.List.{list_any}
 use Rattle.clap.specs.declared.parser.matches.SubCommand.{SubCommand}
 use Rattle.clap.specs.declared.parser.matches.ArgMatches.TheViews.{out-SubCommand}
 use Rattle.std.specs.Box.{box_value}
-use Rattle.clap.proofs.OnLiterals.{clap_on_literals}
-use Rattle.rrd_tool.specs.Shapes.{rrdi_app, with_options, create_app, update_app, fetch_app, tune_app, resize_app}
+use Rattle.rrd_tool.proofs.OnLiterals.{shapes_on_literals}
+use Rattle.rrd_tool.specs.Commands.{rrdi_app}
 use Rattle.rrd_tool.specs.Parsed.{IsTaken, entered_of}
-use Rattle.rrd_tool.specs.Reading.{IsReading, line_of}
+use Rattle.rrd_tool.specs.Reading.{IsReading}
+use Rattle.rrd_tool.specs.Commands.{line_of}
 use Rattle.rrd_tool.specs.Unread.{Meets}
-use Rattle.rrd_tool.specs.declared.command.Command.{Command}
-use Rattle.rrd_tool.specs.declared.command.LineFault.{LineFault}
-use Rattle.rrd_tool.specs.declared.command.LineFault.TheVariants.{Usage, BadWord, OutOfMemory}
+use Rattle.rrd_tool.specs.declared.commands.Command.{Command}
+use Rattle.rrd_tool.specs.declared.faults.LineFault.{LineFault}
+use Rattle.rrd_tool.specs.declared.faults.LineFault.TheVariants.{Usage, BadWord, OutOfMemory}
 
 last_empty : (a b : Kinds) → or_else a b ≡ [] → b ≡ []
 last_empty [] b h = h
@@ -59,7 +60,7 @@ app_enters a words r e =
     (entered_fault (built a) at.stopped) e)
 
 rrdi_wants : (built rrdi_app).top.subcommand_required ≡ true
-unfolding rrdi_app with_options create_app update_app fetch_app tune_app resize_app clap_on_literals
+unfolding shapes_on_literals
 rrdi_wants = refl
 
 -- words that clap takes name a subcommand

@@ -9,9 +9,9 @@ use Rattle.clap.specs.Walk.{Names, arg_by_index, finished, idle, nothing_held, s
 use Rattle.clap.specs.Lexer.{long_of, short_of}
 use Rattle.clap.specs.Simple.{built, entered, names_of}
 use Rattle.clap.specs.declared.error.kind.ErrorKind.TheVariants.{UnknownArgument, InvalidSubcommand}
-use Rattle.clap.proofs.OnLiterals.{clap_on_literals}
+use Rattle.rrd_tool.proofs.OnLiterals.{shapes_on_literals}
 use Rattle.rrd_tool.specs.Serves.{IsRefused, begins_with_minus}
-use Rattle.rrd_tool.specs.Shapes.{rrdi_app, with_options, create_app, update_app, fetch_app, tune_app, resize_app}
+use Rattle.rrd_tool.specs.Commands.{rrdi_app, with_options}
 
 abbrev stray : Kinds
 stray = UnknownArgument ∷ InvalidSubcommand ∷ []
@@ -67,15 +67,15 @@ none_met : (word : Text)
     → bytes_eq word (codes "last") ≡ false
     → bytes_eq word (codes "revert") ≡ false
     → subcommand_met (names_of (built rrdi_app)) idle word ≡ None
-unfolding rrdi_app with_options create_app update_app fetch_app tune_app resize_app clap_on_literals
+unfolding shapes_on_literals
 none_met word e1 e2 e3 e4 e5 e6 e7 = rw (other_way word _ e1, other_way word _ e2, other_way word _ e3, other_way word _ e4, other_way word _ e5, other_way word _ e6, other_way word _ e7) refl
 
 rrdi_index : arg_by_index (built rrdi_app).top.rules 1 ≡ None
-unfolding rrdi_app with_options create_app update_app fetch_app tune_app resize_app clap_on_literals
+unfolding shapes_on_literals
 rrdi_index = refl
 
 rrdi_leaf : (built rrdi_app).top.is_leaf ≡ false
-unfolding rrdi_app with_options create_app update_app fetch_app tune_app resize_app clap_on_literals
+unfolding shapes_on_literals
 rrdi_leaf = refl
 
 rrdi_words : (words : List Text) → fault_of rrdi_app words ≡ built_fault (built rrdi_app) nothing_held words

@@ -1,7 +1,7 @@
 -- A run over lines, each of which may be answered with want of memory (own).
 use Rattle.std.specs.Prelude.{◌≡◌, ◌+◌, ◌++◌, ◌∷◌, ◌&&◌, [], ℕ, Bool, List, Option, Some, None, Result, Ok, Err, map, true, false, if◌then◌else◌}
 use Rattle.std.specs.Io.KnownBytes.{Appends, Keeps}
-use Rattle.rrd_fixed.specs.declared.writing.WriteFault.{WriteFault}
+use Rattle.rrd_fixed.specs.declared.streams.WriteFault.{WriteFault}
 use Rattle.rrd_tool.specs.Lines.{is_empty}
 
 -- a line, and whether it was answered with want of memory

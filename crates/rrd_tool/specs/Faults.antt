@@ -1,11 +1,11 @@
--- The texts of faults (own).
-use Rattle.std.specs.Prelude.{◌++◌, ℕ, List, codes, decimal}
+-- Definition: the texts of faults (own).
+use Rattle.std.specs.Prelude.{◌++◌, ℕ, Bool, List, codes, decimal, if◌then◌else◌, true, false}
 use Rattle.rrd_spec.specs.declared.refusal.Refusal.{Refusal}
 use Rattle.rrd_spec.specs.declared.refusal.Refusal.TheVariants as refusal
-use Rattle.rrd_tool.specs.Named.{place_text}
-use Rattle.rrd_tool.specs.declared.command.LineFault.{LineFault}
-use Rattle.rrd_tool.specs.declared.command.LineFault.TheVariants as line
-use Rattle.rrd_tool.specs.declared.command.Part.{Part}
+use Rattle.rrd_tool.specs.declared.faults.LineFault.{LineFault}
+use Rattle.rrd_tool.specs.declared.faults.LineFault.TheVariants as line
+use Rattle.rrd_tool.specs.declared.faults.Part.{Part}
+use Rattle.rrd_tool.specs.declared.faults.Part.TheVariants as part
 use Rattle.rrd_tool.specs.declared.faults.Fault.{Fault}
 use Rattle.rrd_tool.specs.declared.faults.Fault.TheVariants.{Line, Refused, NoDatabase, Output}
 
@@ -37,6 +37,38 @@ refusal_text refusal.SpanTooLong = codes "span too long"
 refusal_text refusal.BadSpan = codes "bad span"
 refusal_text refusal.OutOfMemory = codes "out of memory"
 refusal_text refusal.BadTime = codes "bad time"
+
+-- ---- words that are no command
+
+-- a part's name
+abbrev pub word_of : Part → List ℕ
+word_of part.Step = codes "step"
+word_of part.Start = codes "start"
+word_of part.Journal = codes "journal"
+word_of part.Definition = codes "definition"
+word_of part.Template = codes "template"
+word_of part.Sample = codes "sample"
+word_of part.Heartbeat = codes "heartbeat"
+word_of part.Minimum = codes "minimum"
+word_of part.Maximum = codes "maximum"
+word_of part.Class = codes "type"
+word_of part.Rename = codes "rename"
+word_of part.Archive = codes "archive"
+word_of part.Change = codes "change"
+word_of part.Rows = codes "rows"
+word_of part.Function = codes "function"
+word_of part.Resolution = codes "resolution"
+word_of part.Until = codes "end"
+
+-- a command may have several of these parts, and a fault prints which one it is
+abbrev pub is_numbered : Part → Bool
+is_numbered part.Definition = true
+is_numbered part.Sample = true
+is_numbered _ = false
+
+-- a part, and which one it is where there may be several
+abbrev pub place_text : Part → ℕ → List ℕ
+place_text part number = if is_numbered part then word_of part ++ codes " " ++ decimal number else word_of part
 
 -- the part that can't be read; of definitions and samples also which one
 abbrev pub unread_text : Part → ℕ → List ℕ

@@ -1,12 +1,13 @@
 -- What the functions of a batch say of the state, which no value holds.
 use Rattle.std.specs.Prelude.{◌≡◌, [], ℕ, Bool, List, Option, Some, None, Result, Ok, Err}
-use Rattle.rrd_fixed.specs.declared.writing.WriteFault.{WriteFault}
-use Rattle.rrd_spec.specs.Survivors.{State, Kept}
+use Rattle.rrd_fixed.specs.declared.streams.WriteFault.{WriteFault}
+use Rattle.rrd_spec.specs.Survivors.{State, Stored}
 use Rattle.rrd_tool.specs.Batch.{Answers, Performs, Turn}
+use Rattle.rrd_tool.specs.Effects.{StandsFor}
 use Rattle.rrd_tool.specs.Faults.{fault_line}
-use Rattle.rrd_tool.specs.Run.{StandsFor, command_turn, refused, turn, unless_short}
-use Rattle.rrd_tool.specs.declared.command.Command.{Command}
-use Rattle.rrd_tool.specs.declared.command.LineFault.{LineFault}
+use Rattle.rrd_tool.specs.Run.{command_turn, refused, turn, unless_short}
+use Rattle.rrd_tool.specs.declared.commands.Command.{Command}
+use Rattle.rrd_tool.specs.declared.faults.LineFault.{LineFault}
 use Rattle.rrd_tool.specs.declared.faults.Fault.{Fault}
 use Rattle.rrd_tool.specs.declared.faults.Fault.TheVariants.{Line}
 
@@ -21,15 +22,15 @@ Asks now line (Ok (Some command)) = (state : Option State) (is_short : Bool) →
 Asks now line (Err fault) = (is_short : Bool) × ((state : Option State) → line_turns now state line is_short ≡ refused state (Line fault))
 
 -- from each state that the database stands for, the command, or the line, leads to one that the new database stands for
-abbrev pub MovesBy : Option Kept → Option Kept → Option (List ℕ) → Option (List ℕ) → (Option State → Bool → Turn (Option State)) → Result (Option Fault) WriteFault → Type 0
+abbrev pub MovesBy : Option Stored → Option Stored → Option (List ℕ) → Option (List ℕ) → (Option State → Bool → Turn (Option State)) → Result (Option Fault) WriteFault → Type 0
 MovesBy b0 b1 c0 c1 turns r = (s0 : Option State) → StandsFor b0 s0 → (s1 : Option State) × StandsFor b1 s1 × Performs fault_line (turns s0) s1 c0 c1 r
 
-abbrev pub MovesByCommand : Option Kept → Option Kept → Option (List ℕ) → Option (List ℕ) → Command → Result (Option Fault) WriteFault → Type 0
+abbrev pub MovesByCommand : Option Stored → Option Stored → Option (List ℕ) → Option (List ℕ) → Command → Result (Option Fault) WriteFault → Type 0
 MovesByCommand b0 b1 c0 c1 command r = MovesBy b0 b1 c0 c1 (λ state. unless_short state (command_turn state command)) r
 
-abbrev pub MovesByLine : ℕ → Option Kept → Option Kept → Option (List ℕ) → Option (List ℕ) → List ℕ → Result (Option Fault) WriteFault → Type 0
+abbrev pub MovesByLine : ℕ → Option Stored → Option Stored → Option (List ℕ) → Option (List ℕ) → List ℕ → Result (Option Fault) WriteFault → Type 0
 MovesByLine now b0 b1 c0 c1 line r = MovesBy b0 b1 c0 c1 (λ state. line_turns now state line) r
 
 -- so do these lines
-abbrev pub Moves : {T : Type 0} → ℕ → Option Kept → Option Kept → ℕ → ℕ → Option (List ℕ) → Option (List ℕ) → List (List ℕ) → Result T WriteFault → Type 0
+abbrev pub Moves : {T : Type 0} → ℕ → Option Stored → Option Stored → ℕ → ℕ → Option (List ℕ) → Option (List ℕ) → List (List ℕ) → Result T WriteFault → Type 0
 Moves now b0 b1 n0 n1 c0 c1 lines r = (s0 : Option State) → StandsFor b0 s0 → (s1 : Option State) × StandsFor b1 s1 × Answers (turn now) s0 s1 n0 n1 c0 c1 lines r

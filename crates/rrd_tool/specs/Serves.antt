@@ -2,11 +2,12 @@
 use Rattle.std.specs.Prelude.{◌≡◌, ◌==◌, Bool, List, [], ◌∷◌, Option, MatchOption, true, false}
 use Rattle.clap.specs.Words.{App, Text, app_of, fault_of, is_simple, is_simple_and_free, subcommand_of, with_subcommand}
 use Rattle.clap.specs.declared.builder.command.Command.{Command}
-use Rattle.rrd_tool.specs.Shapes.{bare_top, rrdi_app}
+use Rattle.rrd_tool.specs.Arguments.{bare_top}
+use Rattle.rrd_tool.specs.Commands.{rrdi_app}
 
 -- the command with just this subcommand
-abbrev pub only : App → App
-only s = with_subcommand bare_top s.top
+abbrev pub app_with : App → App
+app_with s = with_subcommand bare_top s.top
 
 -- the command takes and refuses the words as the whole one does, and enters the same subcommand
 abbrev pub Serves : App → List Text → Type 0

@@ -1,9 +1,9 @@
 -- Reading that may stop at a part (own).
 use Rattle.std.specs.Prelude.{◌≡◌, ◌+◌, ℕ, List, [], ◌∷◌, Option, Some, None, Result, Ok, Err}
 use Rattle.clap.specs.Words.{Text}
-use Rattle.rrd_tool.specs.declared.command.Part.{Part}
-use Rattle.rrd_tool.specs.declared.command.LineFault.{LineFault}
-use Rattle.rrd_tool.specs.declared.command.LineFault.TheVariants.{Usage, BadWord, OutOfMemory}
+use Rattle.rrd_tool.specs.declared.faults.Part.{Part}
+use Rattle.rrd_tool.specs.declared.faults.LineFault.{LineFault}
+use Rattle.rrd_tool.specs.declared.faults.LineFault.TheVariants.{Usage, BadWord, OutOfMemory}
 
 -- the part that can't be read, and its number
 abbrev pub Unread : Type 0

@@ -2,23 +2,22 @@
 ghost use Rattle.std.specs.Prelude.{◌≡◌, ◌<◌, ◌≤◌, ◌+◌, ◌^◌, ◌∷◌, [], ℕ, List, Option, OnOk, IfSome, true, length, option_map};
 ghost use Rattle.std.specs.List.{list_all};
 ghost use Rattle.std.specs.Result.{result_err};
-ghost use Rattle.std.specs.Io.KnownBytes.{Consumes, Keeps};
+ghost use Rattle.std.specs.Io.KnownBytes.{Consumes};
 ghost use Rattle.rrd_spec.specs.Survivors.{State};
+ghost use Rattle.rrd_tool.specs.Effects.{StandsFor};
 ghost use Rattle.rrd_tool.specs.Held.{Holds};
 ghost use Rattle.rrd_tool.specs.Lines.{is_plain, last_part, text_in, whole_lines};
 ghost use Rattle.rrd_tool.specs.Moves.{Asks, Moves, MovesByCommand, MovesByLine};
-ghost use Rattle.rrd_tool.specs.Run.{RunOver, StandsFor, is_change};
+ghost use Rattle.rrd_tool.specs.Run.{RunOver};
 
 use crate::execution::execute;
 use crate::faults::{Fault, write_fault};
-use crate::input::read_some;
 use crate::lines::{LineBuffer, read_words};
-use crate::reading::read_command;
-use crate::{Command, LineFault};
+use crate::{Command, LineFault, read_command};
 use rrd_base::Database;
-use rrd_fixed::WriteFault;
+use rrd_fixed::{WriteFault, flush, read_some};
 use std::alloc::Global;
-use std::io::{ErrorKind, Read, Write};
+use std::io::{Read, Write};
 
 /// Why a batch ended before its input did.
 #[derive(Clone, Copy, Debug, PartialEq, Eq)]
@@ -56,40 +55,8 @@ struct Batch {
     refused: u64,
 }
 
-// Hands on what was written. An interrupted flush is tried again, at most 1,000 times in a row.
-fn flush<W: Write>(out: &mut W) -> Result<(), WriteFault>
-    ensures { Keeps (W.contents out.old) (W.contents out.new) }
-{
-    'tries: for _ in 0..1001u32 {
-        match out.flush() {
-            Ok(()) => return Ok(()),
-            Err(error) => {
-                if error.kind() != ErrorKind::Interrupted {
-                    return Err(WriteFault {});
-                }
-            }
-        }
-    }
-    Err(WriteFault {})
-}
-
-// Whether a command changes the database; the others print.
-fn is_change(command: &Command) -> bool
-    ensures { result ≡ is_change command.now }
-{
-    match command {
-        Command::Create(_) => true,
-        Command::Update(_) => true,
-        Command::Tune(_) => true,
-        Command::Resize { .. } => true,
-        Command::Fetch { .. } => false,
-        Command::Last => false,
-        Command::Revert => true,
-    }
-}
-
 // What a line's text asks for; nothing where it has no words.
-fn asked(setting: Setting, text: Option<&[u8]>) -> Result<Option<Command>, LineFault>
+fn request(setting: Setting, text: Option<&[u8]>) -> Result<Option<Command>, LineFault>
     requires { IfSome text (λ bytes. list_all is_plain bytes.now ≡ true) }
     ensures { (line : List ℕ) → option_map (λ bytes. bytes.now) text.entry ≡ text_in line
         → Asks setting.now line result }
@@ -107,7 +74,7 @@ fn asked(setting: Setting, text: Option<&[u8]>) -> Result<Option<Command>, LineF
     Ok(Some(command))
 }
 
-// Runs a command. What it printed is handed on.
+// Runs a command. A command that changes the database prints nothing; what the others printed is handed on.
 fn run_command<W: Write>(
     alloc: Global,
     database: &mut Option<Database>,
@@ -116,11 +83,10 @@ fn run_command<W: Write>(
 ) -> Result<Option<Fault>, WriteFault>
     ensures { MovesByCommand database.old database.new (W.contents out.old) (W.contents out.new) command result }
 {
-    let prints_nothing = is_change(&command);
     let outcome = execute(alloc, database.take(), command, out);
     *database = outcome.database;
     let Some(fault) = outcome.fault else {
-        if prints_nothing {
+        if outcome.changed {
             return Ok(None);
         }
         flush(out)?;
@@ -143,7 +109,7 @@ fn perform<W: Write>(
     ensures { (line : List ℕ) → option_map (λ bytes. bytes.now) text.entry ≡ text_in line
         → MovesByLine setting.now database.old database.new (W.contents out.old) (W.contents out.new) line result }
 {
-    match asked(setting, text) {
+    match request(setting, text) {
         Ok(None) => Ok(None),
         Ok(Some(command)) => run_command(setting.alloc, database, command, out),
         Err(fault) => Ok(Some(Fault::Line(fault))),
@@ -191,7 +157,7 @@ fn take_byte<W: Write>(
         line.push(byte);
         return Ok(());
     }
-    answer(setting, batch, out, line.ended())?;
+    answer(setting, batch, out, line.whole_line())?;
     line.clear();
     Ok(())
 }
@@ -243,7 +209,7 @@ fn run_lines<R: Read, W: Write>(
             if line.is_empty() {
                 return Ok(());
             }
-            if answer(setting, batch, out, line.cut()).is_err() {
+            if answer(setting, batch, out, line.last_line()).is_err() {
                 return Err(StreamFault::Write);
             }
             return Ok(());

@@ -1,15 +1,111 @@
-//! Faults and their lines.
+//! Why a line is refused, and the line that says so.
 ghost use Rattle.std.specs.Prelude.{◌≡◌, ◌≤◌, ◌++◌, ◌+◌, length, decimal};
 ghost use Rattle.rrd_fixed.specs.Written.{Writes};
-ghost use Rattle.rrd_tool.specs.Faults.{fault_text, fault_line, line_fault_text, refusal_text, unread_text};
+ghost use Rattle.rrd_tool.specs.Faults.{fault_text, fault_line, is_numbered, line_fault_text, refusal_text, unread_text, word_of};
 
-use crate::{LineFault, Part};
 use arrayvec::ArrayString;
 use itoa::Buffer;
 use rrd_base::Refusal;
 use rrd_fixed::{WriteFault, write_bytes};
+use std::fmt::{self, Display, Formatter};
 use std::io::Write;
 use thiserror::Error;
+
+/// What a word is a part of, or stands for.
+#[derive(Clone, Copy, Debug, PartialEq, Eq)]
+pub enum Part {
+    Step,
+    Start,
+    Journal,
+    Definition,
+    Template,
+    Sample,
+    Heartbeat,
+    Minimum,
+    Maximum,
+    /// A source's type: `type`.
+    Class,
+    Rename,
+    Archive,
+    Change,
+    Rows,
+    Function,
+    Resolution,
+    /// The end of a fetch: `end`.
+    Until,
+}
+
+impl Part {
+    /// The part's name, as faults print it.
+    pub fn word(self) -> &'static str
+        ensures { result.now ≡ word_of self }
+    {
+        match self {
+            Part::Step => "step",
+            Part::Start => "start",
+            Part::Journal => "journal",
+            Part::Definition => "definition",
+            Part::Template => "template",
+            Part::Sample => "sample",
+            Part::Heartbeat => "heartbeat",
+            Part::Minimum => "minimum",
+            Part::Maximum => "maximum",
+            Part::Class => "type",
+            Part::Rename => "rename",
+            Part::Archive => "archive",
+            Part::Change => "change",
+            Part::Rows => "rows",
+            Part::Function => "function",
+            Part::Resolution => "resolution",
+            Part::Until => "end",
+        }
+    }
+
+    /// Whether a command may have several of these parts, so that faults print the number too.
+    pub fn is_numbered(self) -> bool
+        ensures { result ≡ is_numbered self }
+    {
+        matches!(self, Part::Definition | Part::Sample)
+    }
+}
+
+/// Why words are no command.
+#[derive(Clone, Copy, Debug, PartialEq, Eq, Error)]
+pub enum LineFault {
+    /// clap refuses the words.
+    #[error("usage")]
+    Usage,
+    /// This part can't be read. Definitions and samples are numbered from 1; the number of another
+    /// part is 1.
+    #[error("unreadable {}", Place {part: *.part, number: *.number})]
+    BadWord { part: Part, number: u64 },
+    /// There was no memory for reading the words.
+    #[error("out of memory")]
+    OutOfMemory,
+}
+
+// A part with its number, as faults print them.
+#[derive(Drop)]
+struct Place {
+    part: Part,
+    number: u64,
+}
+
+impl Display for Place {
+    ghost use Rattle.rrd_tool.specs.Faults.{place_text};
+    ghost use Rattle.std.specs.Prelude.{Some};
+
+    ghost output = { λ place. Some (place_text place.part place.number) };
+
+    fn fmt<W: fmt::Write>(&self, f: &mut Formatter<W>) -> fmt::Result {
+        let word = self.part.word();
+        if self.part.is_numbered() {
+            write!(f, "{word} {}", self.number)
+        } else {
+            f.write_str(word)
+        }
+    }
+}
 
 /// Why a command wasn't done, or not whole.
 #[derive(Clone, Copy, Debug, PartialEq, Eq, Error)]

@@ -1,40 +1,17 @@
 //! Commands over a database: read from words, run, printed.
 #![tactic(auto)]
 
+mod arguments;
 mod batch;
-mod command;
+mod commands;
 mod execution;
 mod faults;
-mod input;
+mod fields;
 mod lines;
-mod parse;
-mod print;
-mod reading;
-mod shapes;
-#[cfg(test)]
-mod tests_batch;
-#[cfg(test)]
-mod tests_changes;
-#[cfg(test)]
-mod tests_database;
-#[cfg(test)]
-mod tests_entries;
-#[cfg(test)]
-mod tests_faults;
-#[cfg(test)]
-mod tests_reading;
-#[cfg(test)]
-mod tests_retries;
-#[cfg(test)]
-mod tests_slow;
-#[cfg(test)]
-mod tests_streams;
-mod texts;
 mod words;
 
 pub use batch::{BatchEnd, StreamFault, run_batch};
-pub use command::{Command, LineFault, Part};
+pub use commands::{Command, read_command};
 pub use execution::{Outcome, execute};
-pub use faults::{Fault, write_fault};
-pub use reading::read_command;
+pub use faults::{Fault, LineFault, Part, write_fault};
 pub use words::Words;

@@ -86,7 +86,7 @@ impl LineBuffer {
 
     /// The text of the line that LF ends here, without one CR at its end. None if it is longer than
     /// 65,536 bytes or has a byte that is neither tab nor printable ASCII.
-    pub(crate) fn ended(&self) -> Option<&[u8]>
+    pub(crate) fn whole_line(&self) -> Option<&[u8]>
         ensures text { (held : List ℕ) → Holds self.now held
             → option_map (λ text. text.now) result ≡ text_in (without_cr held) }
         ensures plain { IfSome result (λ text. list_all is_plain text.now ≡ true) }
@@ -99,7 +99,7 @@ impl LineBuffer {
 
     /// The text of the line that the input ends here, without LF: a CR at its end stays, and makes
     /// it none.
-    pub(crate) fn cut(&self) -> Option<&[u8]>
+    pub(crate) fn last_line(&self) -> Option<&[u8]>
         ensures text { (held : List ℕ) → Holds self.now held
             → option_map (λ text. text.now) result ≡ text_in held }
         ensures plain { IfSome result (λ text. list_all is_plain text.now ≡ true) }

@@ -2,8 +2,9 @@ use Rattle.std.proofs.Common.{◌≡◌, ◌∙◌, ap, List, [], ◌∷◌, ◌
 use Rattle.std.proofs.lemmas.Result.{err_from_is_err_and}
 use Rattle.rrd_spec.specs.declared.refusal.Refusal.{Refusal}
 use Rattle.rrd_spec.specs.Verdict.{Check, first_refusal}
-use Rattle.rrd_spec.specs.Creating.{create_verdict, first_checks, source_checks, archive_checks, size_checks}
+use Rattle.rrd_spec.specs.Creating.{create_verdict_within, first_checks, source_checks, archive_checks, size_checks}
 use Rattle.rrd_base.proofs.create.check_create.Goals as goal
+use Rattle.rrd_spec.specs.Limits.{version_one}
 
 by_case : (b : Bool) (refusal : Refusal) (first second : Option Refusal) (e : Option Refusal) → e ≡ cond b (Some refusal) first → (e ≡ first → e ≡ second) → e ≡ cond b (Some refusal) second
 by_case true refusal first second e h k = h
@@ -24,39 +25,39 @@ passed [] later h = refl
 passed (check ∷ checks) later h = by_pass check.wrong check.refusal (first_refusal checks) (first_refusal later) (first_refusal (checks ++ later)) h (λ k. passed checks later k)
 
 pub returns-in_err-check_first : goal.returns-in_err-check_first
-unfolding create_verdict
+unfolding create_verdict_within
 returns-in_err-check_first c =
     let spec = c.args.spec.now in
     let p = err_from_is_err_and c.from_residual.result c.from_residual.ensures.1 in
-    rw (p.1, p.2) (refused (first_checks spec) (source_checks spec.sources ++ archive_checks spec.archives ++ size_checks spec) c.in_err-check_first.field-0.0 c.in_err-check_first.ensures)
+    rw (p.1, p.2) (refused (first_checks version_one spec) (source_checks version_one spec.sources ++ archive_checks version_one spec.archives ++ size_checks version_one spec) c.in_err-check_first.field-0.0 c.in_err-check_first.ensures)
 
 pub returns-in_err-check_sources : goal.returns-in_err-check_sources
-unfolding create_verdict
+unfolding create_verdict_within
 returns-in_err-check_sources c =
     let spec = c.args.spec.now in
     let p = err_from_is_err_and c.from_residual-in_err-check_sources.result c.from_residual-in_err-check_sources.ensures.1 in
-    let later = archive_checks spec.archives ++ size_checks spec in
+    let later = archive_checks version_one spec.archives ++ size_checks version_one spec in
     rw (p.1, p.2)
-    (refused (source_checks spec.sources) later c.in_err-check_sources.field-0.0 (c.in_err-check_sources.ensures ∙ ap (λ s. first_refusal (source_checks s)) c.as_slice.ensures)
-    ∙ passed (first_checks spec) (source_checks spec.sources ++ later) c.in_ok-check_first.ensures)
+    (refused (source_checks version_one spec.sources) later c.in_err-check_sources.field-0.0 (c.in_err-check_sources.ensures ∙ ap (λ s. first_refusal (source_checks version_one s)) c.as_slice.ensures)
+    ∙ passed (first_checks version_one spec) (source_checks version_one spec.sources ++ later) c.in_ok-check_first.ensures)
 
 pub returns-in_err-check_archives : goal.returns-in_err-check_archives
-unfolding create_verdict
+unfolding create_verdict_within
 returns-in_err-check_archives c =
     let spec = c.args.spec.now in
     let p = err_from_is_err_and c.from_residual-in_err-check_archives.result c.from_residual-in_err-check_archives.ensures.1 in
-    let later = archive_checks spec.archives ++ size_checks spec in
+    let later = archive_checks version_one spec.archives ++ size_checks version_one spec in
     rw (p.1, p.2)
-    (refused (archive_checks spec.archives) (size_checks spec) c.in_err-check_archives.field-0.0 (c.in_err-check_archives.ensures ∙ ap (λ a. first_refusal (archive_checks a)) c.as_slice-2.ensures)
-    ∙ passed (source_checks spec.sources) later (c.in_ok-check_sources.ensures ∙ ap (λ s. first_refusal (source_checks s)) c.as_slice.ensures)
-    ∙ passed (first_checks spec) (source_checks spec.sources ++ later) c.in_ok-check_first.ensures)
+    (refused (archive_checks version_one spec.archives) (size_checks version_one spec) c.in_err-check_archives.field-0.0 (c.in_err-check_archives.ensures ∙ ap (λ a. first_refusal (archive_checks version_one a)) c.as_slice-2.ensures)
+    ∙ passed (source_checks version_one spec.sources) later (c.in_ok-check_sources.ensures ∙ ap (λ s. first_refusal (source_checks version_one s)) c.as_slice.ensures)
+    ∙ passed (first_checks version_one spec) (source_checks version_one spec.sources ++ later) c.in_ok-check_first.ensures)
 
 pub returns : goal.returns
-unfolding create_verdict
+unfolding create_verdict_within
 returns c =
     let spec = c.args.spec.now in
-    let later = archive_checks spec.archives ++ size_checks spec in
+    let later = archive_checks version_one spec.archives ++ size_checks version_one spec in
     c.check_size.ensures
-    ∙ passed (archive_checks spec.archives) (size_checks spec) (c.in_ok-check_archives.ensures ∙ ap (λ a. first_refusal (archive_checks a)) c.as_slice-2.ensures)
-    ∙ passed (source_checks spec.sources) later (c.in_ok-check_sources.ensures ∙ ap (λ s. first_refusal (source_checks s)) c.as_slice.ensures)
-    ∙ passed (first_checks spec) (source_checks spec.sources ++ later) c.in_ok-check_first.ensures
+    ∙ passed (archive_checks version_one spec.archives) (size_checks version_one spec) (c.in_ok-check_archives.ensures ∙ ap (λ a. first_refusal (archive_checks version_one a)) c.as_slice-2.ensures)
+    ∙ passed (source_checks version_one spec.sources) later (c.in_ok-check_sources.ensures ∙ ap (λ s. first_refusal (source_checks version_one s)) c.as_slice.ensures)
+    ∙ passed (first_checks version_one spec) (source_checks version_one spec.sources ++ later) c.in_ok-check_first.ensures

@@ -13,7 +13,8 @@ overflow_sub-result c =
     let this = ap (λ (a : Archive). a.def.rows) c.index-stores-index.is in
     let def = ap (λ (d : RraDef). d.rows) c.def-old.ensures in
     let some = some_of_all stores c.args.index c.index-stores-index.result c.requires.there in
-    omega (arith, this, def, some, c.all_rows.ensures)
+    let most = few_sum stores c.requires.few_rows in
+    omega (arith, this, def, some, most, c.all_rows.ensures, c.requires.few_stores)
 
 pub overflow_add-result : goal.overflow_add-result
 overflow_add-result c =
@@ -50,4 +51,5 @@ returns-clause-rows c =
     let new : c.rows_changed.result ≡ commands.rows_changed c.args.change old c.args.rows = c.rows_changed.ensures ∙ ap (λ n. commands.rows_changed c.args.change n c.args.rows) (sym is) in
     let set = sum_set 0 index index (commands.rows_changed c.args.change old c.args.rows) rows (omega arith) (omega (arith, length-map stores (λ (a : Archive). a.def.rows), c.requires.there)) in
     let sum_is : sum (all_rows_after (Resized index (commands.rows_changed c.args.change old c.args.rows)) rows) + old ≡ sum rows + commands.rows_changed c.args.change old c.args.rows = set in
-    omega (arith, this, def, is, some, new, sum_is, c.all_rows.ensures)
+    let most = few_sum stores c.requires.few_rows in
+    omega (arith, this, def, is, some, most, new, sum_is, c.all_rows.ensures, c.requires.few_stores)

@@ -1,31 +1,30 @@
 use Rattle.std.proofs.Common.{◌≡◌, ℕ, sym, ◌∙◌, ap, subst, suc, ◌-◌, ◌+◌, ◌++◌, ◌<◌, take, drop, length, set, get_or, vec_len, arith}
+use Rattle.std.proofs.lemmas.List.{take_all}
 use Rattle.rrd_spec.specs.History.{Archive}
-use Rattle.rrd_spec.specs.Entries.{put_back, put_back_each}
-use Rattle.rrd_base.specs.Store.{Saved, CanPutBack, befores}
-use Rattle.rrd_base.proofs.PutBack.{front_short, front_of, popped, put_back_next, put_back_more, as_many, can_at, function_at}
+use Rattle.rrd_spec.specs.Entries.{SavedArchive, put_back, put_back_each}
+use Rattle.rrd_base.specs.Store.{CanPutBack}
+use Rattle.rrd_base.proofs.PutBack.{none_back, front_short, front_of, popped, put_back_next, put_back_more, as_many, can_at}
 use Rattle.rrd_base.proofs.store.put_back_all.Goals as goal
 
-pub put_back-requires-clause-function : goal.put_back-requires-clause-function
-put_back-requires-clause-function c =
+pub loop-old-init : goal.loop-old-init
+loop-old-init c =
     let stores = c.args.stores.now in
     let saved = c.args.saved.items in
-    let k : ℕ = c.len.result in
-    let old = c.in-Some.old in
-    let d = c.index-stores-len.result in
-    let left = vec_len c.loop-old.saved in
-    let more = c.in-Some.ensures.cases in
-    let few = front_short left saved c.loop-old.saved.items c.loop-old.invariant.left (sym c.loop-old.saved.ok.0) in
-    let count : left ≡ k + 1 = omega (arith, more) in
-    let within : k < length stores = omega (arith, few, as_many stores saved c.requires.fits) in
-    let this = popped left k saved c.loop-old.saved.items old c.loop-old.invariant.left count (cc (c.in-Some.ensures.value old (omega (arith, more)))) in
-    let here : get_or c.loop-old.stores k d ≡ get_or stores k d
-    = ap (λ archives. get_or archives k d) c.loop-old.invariant.value
-    ∙ ap (λ n. get_or (take n stores ++ put_back_each (drop n stores) (drop n (befores saved))) k d) {x = left} {y = suc k} (omega (arith, count))
-    ∙ put_back_next k stores (befores saved) d within in
-    ap (λ (s : Saved). s.function) this ∙ function_at k stores saved d old c.requires.functions within ∙ sym (ap (λ (a : Archive). a.def.function) here)
+    let n : ℕ = vec_len c.args.saved in
+    let count = as_many stores saved c.requires.fits in
+    let whole : n ≡ length saved = c.args.saved.ok.0 in
+    record { left = sym (take_all n saved (omega arith)); value = none_back n stores saved (omega arith) }
 
-pub put_back-requires-clause-fits : goal.put_back-requires-clause-fits
-put_back-requires-clause-fits c =
+pub bounds-stores-len : goal.bounds-stores-len
+bounds-stores-len c =
+    let stores = c.args.stores.now in
+    let saved = c.args.saved.items in
+    let more = c.in-Some.ensures.cases in
+    let few = front_short (vec_len c.loop-old.saved) saved c.loop-old.saved.items c.loop-old.invariant.left (sym c.loop-old.saved.ok.0) in
+    omega (arith, few, more, as_many stores saved c.requires.fits, c.loop-old.auto.stores)
+
+pub put_back-requires : goal.put_back-requires
+put_back-requires c =
     let stores = c.args.stores.now in
     let saved = c.args.saved.items in
     let k : ℕ = c.len.result in
@@ -39,10 +38,10 @@ put_back-requires-clause-fits c =
     let this = popped left k saved c.loop-old.saved.items old c.loop-old.invariant.left count (cc (c.in-Some.ensures.value old (omega (arith, more)))) in
     let here : get_or c.loop-old.stores k d ≡ get_or stores k d
     = ap (λ archives. get_or archives k d) c.loop-old.invariant.value
-    ∙ ap (λ n. get_or (take n stores ++ put_back_each (drop n stores) (drop n (befores saved))) k d) {x = left} {y = suc k} (omega (arith, count))
-    ∙ put_back_next k stores (befores saved) d within in
-    subst (λ (a : Archive). CanPutBack a old.before) (sym here)
-    (subst (λ (s : Saved). CanPutBack (get_or stores k d) s.before) (sym this) (can_at k stores saved d old c.requires.fits within))
+    ∙ ap (λ n. get_or (take n stores ++ put_back_each (drop n stores) (drop n saved)) k d) {x = left} {y = suc k} (omega (arith, count))
+    ∙ put_back_next k stores saved d within in
+    subst (λ (a : Archive). CanPutBack a old) (sym here)
+    (subst (λ (s : SavedArchive). CanPutBack (get_or stores k d) s) (sym this) (can_at k stores saved d old c.requires.fits within))
 
 pub loop-old-preserved : goal.loop-old-preserved
 loop-old-preserved c =
@@ -57,18 +56,18 @@ loop-old-preserved c =
     let few = front_short left saved c.loop-old.saved.items c.loop-old.invariant.left (sym c.loop-old.saved.ok.0) in
     let count : left ≡ k + 1 = omega (arith, more) in
     let within : k < length stores = omega (arith, few, as_many stores saved c.requires.fits) in
-    let held : k < length saved = omega (arith, as_many stores saved c.requires.fits) in
+    let there : k < length saved = omega (arith, as_many stores saved c.requires.fits) in
     let this = popped left k saved c.loop-old.saved.items old c.loop-old.invariant.left count (cc (c.in-Some.ensures.value old (omega (arith, more)))) in
-    let was : c.loop-old.stores ≡ take (suc k) stores ++ put_back_each (drop (suc k) stores) (drop (suc k) (befores saved))
-    = c.loop-old.invariant.value ∙ ap (λ n. take n stores ++ put_back_each (drop n stores) (drop n (befores saved))) {x = left} {y = suc k} (omega (arith, count)) in
-    let here : get_or c.loop-old.stores k d ≡ get_or stores k d = ap (λ archives. get_or archives k d) was ∙ put_back_next k stores (befores saved) d within in
-    let back : new ≡ put_back (get_or stores k d) (get_or saved k old).before
-    = c.put_back.ensures ∙ ap (λ a. put_back a old.before) here ∙ ap (λ (s : Saved). put_back (get_or stores k d) s.before) this in
+    let was : c.loop-old.stores ≡ take (suc k) stores ++ put_back_each (drop (suc k) stores) (drop (suc k) saved)
+    = c.loop-old.invariant.value ∙ ap (λ n. take n stores ++ put_back_each (drop n stores) (drop n saved)) {x = left} {y = suc k} (omega (arith, count)) in
+    let here : get_or c.loop-old.stores k d ≡ get_or stores k d = ap (λ archives. get_or archives k d) was ∙ put_back_next k stores saved d within in
+    let back : new ≡ put_back (get_or stores k d) (get_or saved k old)
+    = c.put_back.ensures ∙ ap (λ a. put_back a old) here ∙ ap (λ (s : SavedArchive). put_back (get_or stores k d) s) this in
     let now = c.len.ensures in
     record {
       left = c.in-Some.ensures.rest ∙ ap (take (left - 1)) c.loop-old.invariant.left
           ∙ ap (λ n. take n (take left saved)) {x = left - 1} {y = k} (omega (arith, count))
           ∙ ap (λ n. take k (take n saved)) {x = left} {y = suc k} (omega (arith, count)) ∙ front_of k saved ∙ ap (λ n. take n saved) now;
-      value = ap (λ archives. set archives k new) was ∙ put_back_more k stores saved d new old within held back
-          ∙ ap (λ n. take n stores ++ put_back_each (drop n stores) (drop n (befores saved))) now;
+      value = ap (λ archives. set archives k new) was ∙ put_back_more k stores saved d new old within there back
+          ∙ ap (λ n. take n stores ++ put_back_each (drop n stores) (drop n saved)) now;
     }

@@ -1,12 +1,11 @@
 use Rattle.std.proofs.Common.{◌≡◌, ◌++◌, take, drop, vec_len}
 use Rattle.rrd_spec.specs.Entries.{put_back_each}
-use Rattle.rrd_base.specs.Store.{befores}
 use Rattle.rrd_base.proofs.store.put_back_all.Given as goal
 
 abbrev pub invariant-loop-old : goal.invariant-loop-old
 invariant-loop-old l = record {
   left : l.saved.items ≡ take (vec_len l.saved) l.initial.saved.items;
-  value : l.stores ≡ take (vec_len l.saved) l.fn.stores ++ put_back_each (drop (vec_len l.saved) l.fn.stores) (drop (vec_len l.saved) (befores l.initial.saved.items));
+  value : l.stores ≡ take (vec_len l.saved) l.fn.stores ++ put_back_each (drop (vec_len l.saved) l.fn.stores) (drop (vec_len l.saved) l.initial.saved.items);
 }
 
 abbrev pub decreases-loop-old : goal.decreases-loop-old

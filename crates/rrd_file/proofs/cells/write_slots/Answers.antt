@@ -1,9 +1,8 @@
-use Rattle.std.proofs.Common.{◌≡◌, ◌∙◌, ◌<◌, ◌*◌, ℕ, sym, subst, map, length, arith}
+use Rattle.std.proofs.Common.{◌≡◌, ◌∙◌, ◌<◌, ℕ, sym, subst, map, length, arith}
 use Rattle.std.specs.List.{range_with_len}
 use Rattle.std.specs.Int.{w64}
 use Rattle.std.proofs.lemmas.List.FromFn.{length-range_with_len}
 use mir.Facts.{to_z-of_z}
-use Rattle.rrd_spec.specs.declared.settings.RraDef.{RraDef}
 use Rattle.rrd_spec.specs.Cells.{resolution, time_of}
 use Rattle.rrd_spec.specs.Slots.{place_in, row_in}
 use Rattle.rrd_file.specs.Layout.{spelled}
@@ -14,19 +13,25 @@ use Rattle.std.proofs.lemmas.Result.{err_from_is_err_and}
 use Rattle.rrd_file.proofs.Gathering.{all_added, item_added, item_broken}
 use Rattle.rrd_file.proofs.cells.write_slots.Goals as goal
 
-pub overflow_mul-resolution : goal.overflow_mul-resolution
-overflow_mul-resolution g c =
+pub resolution-resolution-requires : goal.resolution-resolution-requires
+resolution-resolution-requires g c =
     let d = c.args.database.now.content in
-    let small = small_def d c.args.archive c.archive-def.result c.sources-sources.ensures.valid (def_of d c.args.archive c.archive-def.result c.archive-def.ensures) in
-    rw c.step.ensures (omega (arith, small.small_size))
+    let valid = c.sources-sources.ensures.valid in
+    let small = small_def d c.args.archive c.archive-def.result valid (def_of d c.args.archive c.archive-def.result c.archive-def.ensures) in
+    record {
+      some_step = rw c.step.ensures valid.some_step;
+      small_step = rw c.step.ensures valid.small_step;
+      some_steps = small.some_steps;
+      few_steps = small.few_steps;
+    }
 
 pub time_in-time-requires : goal.time_in-time-requires
 time_in-time-requires g c =
     let d = c.args.database.now.content in
     let small = small_def d c.args.archive c.archive-def.result c.sources-sources.ensures.valid (def_of d c.args.archive c.archive-def.result c.archive-def.ensures) in
     record {
-      some_seconds = rw c.step.ensures small.some_size;
-      few_seconds = rw c.step.ensures small.small_size;
+      some_seconds = c.resolution-resolution.ensures.some;
+      few_seconds = c.resolution-resolution.ensures.small;
       few_rows = small.few_rows;
       there = c.loop-slot-test.true;
       in_time = rw c.last-last.ensures c.sources-sources.ensures.valid.good_time;
@@ -44,8 +49,9 @@ returns-in_err-write_row_at g c = λ a e.
     let slot = c.loop-slot.slot in
     let inside : slot < length a.rows = omega (arith, rows, c.loop-slot-test.true) in
     let place = place_in (resolution d.step a.def) d.last (length a.rows) slot in
+    let size : c.resolution-resolution.result ≡ resolution d.step a.def = c.resolution-resolution.ensures.value ∙ (λ i. resolution (c.step.ensures i) (sym same i)) in
     let time : c.time_in-time.result ≡ time_of (resolution d.step a.def) (length a.rows) d.last place =
-    c.time_in-time.ensures ∙ (λ i. time_of (c.step.ensures i * (let x : RraDef = sym same i in x.steps)) (sym rows i) (c.last-last.ensures i) (place_in (c.step.ensures i * (let x : RraDef = sym same i in x.steps)) (c.last-last.ensures i) (sym rows i) slot)) in
+    c.time_in-time.ensures ∙ (λ i. time_of (size i) (sym rows i) (c.last-last.ensures i) (place_in (size i) (c.last-last.ensures i) (sym rows i) slot)) in
     let row = slot_row d c.args.archive a slot valid e inside in
     rw (p.1, cells_spelled (row_in (resolution d.step a.def) d.last a.rows) (range_with_len 0 (length a.rows))) (item_broken (λ (slot : ℕ). spelled (map OfCell (row_in (resolution d.step a.def) d.last a.rows slot))) (range_with_len 0 (length a.rows)) c.loop-slot.slot (slot) (number_there (length a.rows) slot inside) (c.loop-slot.invariant a e) (rw (← row) at (c.in_err-write_row_at.ensures a place e (slot_place d a slot inside) (to_z-of_z {w = w64} (record { sfits = c.time_in-time.type_inv }) ∙ time))))
 
@@ -60,8 +66,9 @@ loop-slot-preserved g c = λ a e.
     let slot = c.loop-slot.slot in
     let inside : slot < length a.rows = omega (arith, rows, c.loop-slot-test.true) in
     let place = place_in (resolution d.step a.def) d.last (length a.rows) slot in
+    let size : c.resolution-resolution.result ≡ resolution d.step a.def = c.resolution-resolution.ensures.value ∙ (λ i. resolution (c.step.ensures i) (sym same i)) in
     let time : c.time_in-time.result ≡ time_of (resolution d.step a.def) (length a.rows) d.last place =
-    c.time_in-time.ensures ∙ (λ i. time_of (c.step.ensures i * (let x : RraDef = sym same i in x.steps)) (sym rows i) (c.last-last.ensures i) (place_in (c.step.ensures i * (let x : RraDef = sym same i in x.steps)) (c.last-last.ensures i) (sym rows i) slot)) in
+    c.time_in-time.ensures ∙ (λ i. time_of (size i) (sym rows i) (c.last-last.ensures i) (place_in (size i) (c.last-last.ensures i) (sym rows i) slot)) in
     let row = slot_row d c.args.archive a slot valid e inside in
     item_added (λ (slot : ℕ). spelled (map OfCell (row_in (resolution d.step a.def) d.last a.rows slot))) (range_with_len 0 (length a.rows)) c.loop-slot.slot (slot) (number_there (length a.rows) slot inside) (c.loop-slot.invariant a e) (rw (← row) at (c.in_ok-write_row_at.ensures a place e (slot_place d a slot inside) (to_z-of_z {w = w64} (record { sfits = c.time_in-time.type_inv }) ∙ time)))
 

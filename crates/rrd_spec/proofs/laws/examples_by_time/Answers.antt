@@ -1,12 +1,12 @@
 use Rattle.std.proofs.Common.{refl}
 use Rattle.rrd_fold.specs.Groups.{finished, unfinished}
 use Rattle.rrd_spec.specs.History.{content_listed, seconds_of, steps_of, parts_of, rows_of, row_parts_of, kept_rows}
-use Rattle.rrd_spec.specs.Creating.{create_verdict}
-use Rattle.rrd_spec.specs.Choice.{choice}
+use Rattle.rrd_spec.specs.Creating.{create_verdict_within}
+use Rattle.rrd_spec.specs.Choice.{choice_within}
 use Rattle.rrd_spec.proofs.laws.examples_by_time.Goals as goal
 
 pub returns : goal.returns
-unfolding finished unfinished content_listed seconds_of steps_of parts_of rows_of row_parts_of kept_rows create_verdict choice
+unfolding finished unfinished content_listed seconds_of steps_of parts_of rows_of row_parts_of kept_rows create_verdict_within choice_within
 returns c = record {
   created = (refl, refl, refl, refl, refl, refl, refl, refl);
   resizing = (refl, refl);

@@ -25,7 +25,7 @@ returns-then-is_err g c h0 s =
     let more = take c.in-Ok-read_some.count c.read_some.new.buffer in
     let none : more ≡ [] = ap (λ n. take n c.read_some.new.buffer) c.if-count-eq0.true in
     let some : is_empty (last_part [] seen) ≡ false = sym (c.is_empty.ensures (last_part [] seen) inv.5) ∙ c.if-is_empty.false in
-    let told = c.answer.ensures.told (last_part [] seen) (c.cut.ensures.text (last_part [] seen) inv.5) inv.2 inv.3 in
+    let told = c.answer.ensures.told (last_part [] seen) (c.last_line.ensures.text (last_part [] seen) inv.5) inv.2 inv.3 in
     let failed = last_fails (turn c.args.setting.now) h0 inv.2 told.0 0 c.reads.batch.refused c.answer.new.batch.refused
     (g.R.Read.remaining c.args.reader.now) (g.R.Read.remaining c.reads.reader) (g.R.Read.remaining c.read_some.new.reader)
     (g.W.Write.contents c.args.out.now) (g.W.Write.contents c.reads.out) (g.W.Write.contents c.answer.new.out)
@@ -39,7 +39,7 @@ returns-then-count-eq0 g c h0 s =
     let more = take c.in-Ok-read_some.count c.read_some.new.buffer in
     let none : more ≡ [] = ap (λ n. take n c.read_some.new.buffer) c.if-count-eq0.true in
     let some : is_empty (last_part [] seen) ≡ false = sym (c.is_empty.ensures (last_part [] seen) inv.5) ∙ c.if-is_empty.false in
-    let told = c.answer.ensures.told (last_part [] seen) (c.cut.ensures.text (last_part [] seen) inv.5) inv.2 inv.3 in
+    let told = c.answer.ensures.told (last_part [] seen) (c.last_line.ensures.text (last_part [] seen) inv.5) inv.2 inv.3 in
     let left = last_goes (turn c.args.setting.now) h0 inv.2 told.0 0 c.reads.batch.refused c.answer.new.batch.refused
     (g.R.Read.remaining c.args.reader.now) (g.R.Read.remaining c.reads.reader) (g.R.Read.remaining c.read_some.new.reader)
     (g.W.Write.contents c.args.out.now) (g.W.Write.contents c.reads.out) (g.W.Write.contents c.answer.new.out)

@@ -4,7 +4,8 @@ use Rattle.rrd_spec.specs.Survivors.{State}
 use Rattle.rrd_tool.specs.Held.{Holds}
 use Rattle.rrd_tool.specs.Lines.{last_part, whole_lines}
 use Rattle.rrd_tool.specs.Batch.{Ran}
-use Rattle.rrd_tool.specs.Run.{StandsFor, turn}
+use Rattle.rrd_tool.specs.Effects.{StandsFor}
+use Rattle.rrd_tool.specs.Run.{turn}
 use Rattle.rrd_tool.proofs.batch.run_lines.Given as goal
 
 abbrev pub invariant-reads : goal.invariant-reads

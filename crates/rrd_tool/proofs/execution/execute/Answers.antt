@@ -1,15 +1,16 @@
+use Rattle.rrd_tool.specs.Commands.{effect}
 use Rattle.rrd_tool.proofs.RunLemmas.{runs_on}
 use Rattle.rrd_tool.proofs.execution.execute.Goals as goal
 
 pub returns-in-None-clause-kept : goal.returns-in-None-clause-kept
-returns-in-None-clause-kept g c = rw c.in-None.is (c.execute_without.ensures (g.W.Write.contents c.args.out.now))
+returns-in-None-clause-kept g c = rw c.in-None.is (c.run_without.ensures (g.W.Write.contents c.args.out.now))
 
 pub returns-in-None-clause-run : goal.returns-in-None-clause-run
 returns-in-None-clause-run g c state s =
-    let outcome = c.execute_without.result in
-    runs_on c.args.command c.args.database outcome.database state _ _ outcome.changed outcome.fault s (rw c.in-None.is (c.execute_without.ensures (g.W.Write.contents c.args.out.now)))
+    let outcome = c.run_without.result in
+    runs_on (effect c.args.command) c.args.database outcome.database state _ _ outcome.changed outcome.fault s (rw c.in-None.is (c.run_without.ensures (g.W.Write.contents c.args.out.now)))
 
 pub returns-in-Some-clause-run : goal.returns-in-Some-clause-run
 returns-in-Some-clause-run g c state s =
-    let outcome = c.execute_on.result in
-    runs_on c.args.command c.args.database outcome.database state _ _ outcome.changed outcome.fault s (rw c.in-Some.is c.execute_on.ensures)
+    let outcome = c.run.result in
+    runs_on (effect c.args.command) c.args.database outcome.database state _ _ outcome.changed outcome.fault s (rw c.in-Some.is c.run.ensures)

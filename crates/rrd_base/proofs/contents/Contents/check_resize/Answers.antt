@@ -2,16 +2,17 @@ use Rattle.std.proofs.Common.{◌∙◌, ap}
 use Rattle.rrd_spec.specs.Commands.{Resizing}
 use Rattle.rrd_spec.specs.History.{Content}
 use Rattle.rrd_base.specs.Resized.{settings}
-use Rattle.rrd_spec.specs.Verdict.{first_refusal, resize_checks, verdict}
+use Rattle.rrd_spec.specs.Verdict.{first_refusal, resize_checks, verdict, verdict_within}
 use Rattle.rrd_base.proofs.contents.Contents.check_resize.Goals as goal
+use Rattle.rrd_spec.specs.Limits.{version_one}
 
 pub returns : goal.returns
-unfolding verdict
+unfolding verdict_within
 returns c =
     let archive = c.args.archive in
     let change = c.args.change in
     let rows = c.args.rows in
     c.check_resize.ensures
-    ∙ ap (λ sources. first_refusal (resize_checks (settings sources c.deref-2.result.now) archive change rows)) c.deref.ensures.value
-    ∙ ap (λ stores. first_refusal (resize_checks (settings c.self.inside.sources.items stores) archive change rows)) c.deref-2.ensures.value
+    ∙ ap (λ sources. first_refusal (resize_checks version_one (settings sources c.deref-2.result.now) archive change rows)) c.deref.ensures.value
+    ∙ ap (λ stores. first_refusal (resize_checks version_one (settings c.self.inside.sources.items stores) archive change rows)) c.deref-2.ensures.value
     ∙ ap (λ (x : Content). verdict x (Resizing archive change rows)) c.self.view_is

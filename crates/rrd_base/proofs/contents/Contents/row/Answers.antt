@@ -1,4 +1,4 @@
-use Rattle.std.proofs.Common.{rules, ◌≡◌, sym, ◌∙◌, ap, subst, FitsSigned, ◌*◌, ◌/◌, ◌<◌, pos, ◌-ℤ◌, length, replicate, get_or}
+use Rattle.std.proofs.Common.{rules, ◌≡◌, ℕ, sym, ◌∙◌, ap, subst, FitsSigned, ◌*◌, ◌/◌, ◌<◌, pos, ◌-ℤ◌, length, replicate, get_or}
 use Rattle.std.proofs.lemmas.List.{get_or-replicate, length-replicate}
 use Rattle.std.proofs.lemmas.Option.{IfSome_then}
 use Rattle.std.specs.Int.{int_div_euclid, w64, w128}
@@ -23,7 +23,9 @@ returns-clause-cells c =
     let there : c.args.archive < length d.stores.items = subst (λ (x : Content). c.args.archive < length x.archives) (sym c.self.view_is) c.requires in
     let fits : FitsSigned w64 c.args.time = search rules in
     let age : c.age.result ≡ (pos (d.last / (d.step * store.def.steps)) -ℤ int_div_euclid c.args.time (pos (d.step * store.def.steps)))
-    = (simp to_z-of_z at c.age.ensures) ∙ ap (λ (def : RraDef). pos (d.last / (d.step * def.steps)) -ℤ int_div_euclid c.args.time (pos (d.step * def.steps))) c.def.ensures in
+    = (simp to_z-of_z at c.age.ensures)
+    ∙ ap (λ (size : ℕ). pos (d.last / size) -ℤ int_div_euclid c.args.time (pos size)) c.resolution-resolution.ensures.value
+    ∙ ap (λ (def : RraDef). pos (d.last / (d.step * def.steps)) -ℤ int_div_euclid c.args.time (pos (d.step * def.steps))) c.def.ensures in
     let fits_age : FitsSigned w128 c.age.result = search rules in
     IfSome_then c.row_of_age.result c.row_of_age.ensures.some (λ row e source.
     let same : row.now ≡ row_of_age store.rows unknown c.age.result = sym (simp to_z-of_z at (e unknown)) in
@@ -52,7 +54,9 @@ returns-clause-none c =
     let there : c.args.archive < length d.stores.items = subst (λ (x : Content). c.args.archive < length x.archives) (sym c.self.view_is) c.requires in
     let fits : FitsSigned w64 c.args.time = search rules in
     let age : c.age.result ≡ (pos (d.last / (d.step * store.def.steps)) -ℤ int_div_euclid c.args.time (pos (d.step * store.def.steps)))
-    = (simp to_z-of_z at c.age.ensures) ∙ ap (λ (def : RraDef). pos (d.last / (d.step * def.steps)) -ℤ int_div_euclid c.args.time (pos (d.step * def.steps))) c.def.ensures in
+    = (simp to_z-of_z at c.age.ensures)
+    ∙ ap (λ (size : ℕ). pos (d.last / size) -ℤ int_div_euclid c.args.time (pos size)) c.resolution-resolution.ensures.value
+    ∙ ap (λ (def : RraDef). pos (d.last / (d.step * def.steps)) -ℤ int_div_euclid c.args.time (pos (d.step * def.steps))) c.def.ensures in
     let fits_age : FitsSigned w128 c.age.result = search rules in
     none_then c.row_of_age.result c.row_of_age.ensures.none (λ e source within.
     let same : row_of_age store.rows unknown c.age.result ≡ unknown = simp to_z-of_z at (e unknown) in

@@ -11,6 +11,7 @@ use Rattle.rrd_spec.specs.Validity.{IsValid}
 use Rattle.rrd_spec.proofs.Accepted.{Passes}
 use Rattle.rrd_base.proofs.Catching.{SameShape}
 use Rattle.rrd_base.proofs.contents.Contents.take_samples.Given as goal
+use Rattle.rrd_spec.specs.Limits.{version_one}
 
 abbrev pub invariant-loop-sample : goal.invariant-loop-sample
 invariant-loop-sample l =
@@ -22,7 +23,7 @@ invariant-loop-sample l =
     let most = most_of_sample (length sources) base.step (definitions base.archives) in
     record {
       comes_to : content_listed l.self (map Sampled (map (sample_of sources template) left)) ≡ moved_listed base (Updating l.update);
-      pass : AllByRecursion Passes (sample_checks sources template l.self.last left);
+      pass : AllByRecursion Passes (sample_checks version_one sources template l.self.last left);
       same_sources : l.self.sources ≡ sources;
       same_shape : SameShape base l.self;
       valid : IsValid l.self;

@@ -1,6 +1,6 @@
 use Rattle.std.proofs.Common.{◌≡◌, sym, ◌∙◌, ap, subst, ◌<◌, length, set}
 use Rattle.rrd_spec.specs.History.{Archive, Content}
-use Rattle.rrd_spec.specs.Entries.{WasResized, undone, with_rows_at}
+use Rattle.rrd_spec.specs.Entries.{ResizeEntry, undone, with_rows_at}
 use Rattle.rrd_base.specs.Contents.{content_of}
 use Rattle.rrd_spec.specs.Validity.{IsValid}
 use Rattle.rrd_base.proofs.TuneLemmas.{rows_set}
@@ -15,7 +15,7 @@ invariant_of-self c =
     let archives : set d.stores.items k c.swap_rows.new.self ≡ with_rows_at d.stores.items k old
     = ap (set d.stores.items k) (c.swap_rows.ensures.mine ∙ ap (λ (a : Archive). let b : Archive = record a { def = record a.def { rows = length old }; rows = old } in b) c.index_mut.ensures.value)
     ∙ rows_set d.stores.items k c.index_mut.result.now old there in
-    subst (λ xs. IsValid (record (content_of d) { archives = xs })) (sym archives) (subst (λ (x : Content). IsValid (undone x (WasResized k old))) (sym c.self.view_is) c.requires.valid)
+    subst (λ xs. IsValid (record (content_of d) { archives = xs })) (sym archives) (subst (λ (x : Content). IsValid (undone x (ResizeEntry k old))) (sym c.self.view_is) c.requires.valid)
 
 pub returns : goal.returns
 returns c =
@@ -26,4 +26,4 @@ returns c =
     let archives : set d.stores.items k c.swap_rows.new.self ≡ with_rows_at d.stores.items k old
     = ap (set d.stores.items k) (c.swap_rows.ensures.mine ∙ ap (λ (a : Archive). let b : Archive = record a { def = record a.def { rows = length old }; rows = old } in b) c.index_mut.ensures.value)
     ∙ rows_set d.stores.items k c.index_mut.result.now old there in
-    ap (λ xs. let x : Content = record (content_of d) { archives = xs } in x) archives ∙ ap (λ (x : Content). undone x (WasResized k old)) c.self.view_is
+    ap (λ xs. let x : Content = record (content_of d) { archives = xs } in x) archives ∙ ap (λ (x : Content). undone x (ResizeEntry k old)) c.self.view_is

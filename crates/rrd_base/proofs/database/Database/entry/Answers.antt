@@ -1,36 +1,20 @@
-use Rattle.std.proofs.Common.{◌≡◌, ◌∙◌, sym, ap, subst, ◌-◌, ◌<◌, length, map, cond, Some, None, arith}
+use Rattle.std.proofs.Common.{◌≡◌, ◌∙◌, sym, ap, ◌-◌, ◌<◌, length, map, cond, Some, None, arith}
 use Rattle.std.specs.Prelude.{slice_get}
 use Rattle.std.specs.Option.{option_copied}
 use Rattle.std.proofs.lemmas.Bool.{lt-ltb}
 use Rattle.std.proofs.lemmas.List.{length-reverse, length-map}
-use Rattle.std.proofs.lemmas.Option.{slice_get_within}
-use Rattle.rrd_spec.proofs.AllLemmas.{All-at}
-use Rattle.rrd_base.specs.Stored.{HasFunctions, entry_of, journal_of}
-use Rattle.rrd_spec.specs.Survivors.{Kept}
-use Rattle.rrd_base.proofs.JournalLemmas.{item_at, journal_at}
+use Rattle.rrd_base.specs.Journal.{entry_of, journal_of}
+use Rattle.rrd_spec.specs.Survivors.{Stored}
+use Rattle.rrd_base.proofs.JournalLemmas.{journal_at}
 use Rattle.rrd_base.proofs.database.Database.entry.Goals as goal
 
-pub returns-clause-value : goal.returns-clause-value
-returns-clause-value c =
+pub returns : goal.returns
+returns c =
     let items = c.self.inside.journal.items in
     let k = c.args.number in
     let at = length items - k - 1 in
-    let journal : journal_of items ≡ c.args.self.now.journal = ap (λ (d : Kept). d.journal) c.self.view_is in
+    let journal : journal_of items ≡ c.args.self.now.journal = ap (λ (d : Stored). d.journal) c.self.view_is in
     let within : k < length items = omega (arith, c.requires, ap length journal, length-reverse (map entry_of items), length-map items entry_of) in
     let here : Some c.unwrap.result.now ≡ slice_get items at
     = sym (ap option_copied c.unwrap.ensures) ∙ c.nth_back.ensures ∙ ap (λ b. cond b (slice_get items at) None) (lt-ltb k (length items) within) in
     journal_at entry_of items k c.unwrap.result.now within here ∙ ap (λ j. slice_get j k) journal
-
-pub returns-clause-functions : goal.returns-clause-functions
-returns-clause-functions c =
-    let items = c.self.inside.journal.items in
-    let k = c.args.number in
-    let at = length items - k - 1 in
-    let e = c.unwrap.result.now in
-    let archives = c.self.inside.contents.archives in
-    let journal : journal_of items ≡ c.args.self.now.journal = ap (λ (d : Kept). d.journal) c.self.view_is in
-    let within : k < length items = omega (arith, c.requires, ap length journal, length-reverse (map entry_of items), length-map items entry_of) in
-    let here : Some e ≡ slice_get items at
-    = sym (ap option_copied c.unwrap.ensures) ∙ c.nth_back.ensures ∙ ap (λ b. cond b (slice_get items at) None) (lt-ltb k (length items) within) in
-    subst (λ (d : Kept). HasFunctions d.content.archives e) c.self.view_is
-    (subst (HasFunctions archives) (item_at items at e here) (All-at (HasFunctions archives) items at e c.self.invariant.functions_stay (slice_get_within items at e (sym here))))

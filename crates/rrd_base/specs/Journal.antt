@@ -1,0 +1,28 @@
+-- The journal that a database's fields hold.
+use Rattle.std.specs.Prelude.{◌<◌, List, length, map, reverse}
+use Rattle.rrd_spec.specs.History.{Archive}
+use Rattle.rrd_spec.specs.Entries as entries
+pub use Rattle.rrd_spec.specs.Entries.{before}
+use Rattle.rrd_base.specs.Store.{CanPutBackEach}
+use Rattle.rrd_base.specs.declared.entry.Entry.{Entry}
+use Rattle.rrd_base.specs.declared.entry.Entry.TheVariants as entry
+use Rattle.rrd_base.specs.declared.entry.BeforeUpdate.{BeforeUpdate}
+
+-- the entry of an update
+abbrev pub update_of : BeforeUpdate → entries.BeforeUpdate
+update_of b = record { last = b.last; raws = b.raws.items; parts = b.preps.items; archives = b.archives.items }
+
+abbrev pub entry_of : Entry → entries.Entry
+entry_of (entry.Update b) = entries.UpdateEntry (update_of b)
+entry_of (entry.Tune olds) = entries.TuneEntry olds.items
+entry_of (entry.Resize number old) = entries.ResizeEntry number old
+
+-- the entry can be put back
+abbrev pub CanUndo : List Archive → Entry → Type 0
+CanUndo archives (entry.Update b) = CanPutBackEach archives b.archives.items
+CanUndo archives (entry.Tune olds) = Unit {0}
+CanUndo archives (entry.Resize number old) = number < length archives
+
+-- the journal, newest first
+abbrev pub journal_of : List Entry → List entries.Entry
+journal_of items = reverse (map entry_of items)

@@ -1,0 +1,19 @@
+use Rattle.std.proofs.Common.{arith, length-drop}
+use Rattle.std.proofs.lemmas.Result.{err_from_is_err_and}
+use Rattle.rrd_fixed.proofs.Writings.{front_kept, take_rest}
+use Rattle.std.proofs.KnownBytes.{Appends-trans}
+use Rattle.std.proofs.Math.Seq.{take-add}
+use Rattle.rrd_fixed.proofs.streams.write_bytes.Goals as goal
+
+pub returns-in_err-at : goal.returns-in_err-at
+returns-in_err-at g c =
+    let p = err_from_is_err_and c.from_residual.result c.from_residual.ensures.1 in
+    let h = c.in_err-at.ensures.err in
+    rw p.1 (front_kept _ _ _ c.args.bytes.now c.loop-at.at c.loop-at-test.true c.loop-at.invariant.1 h)
+
+pub loop-at-preserved : goal.loop-at-preserved
+loop-at-preserved g c =
+    let h = rw (take_rest c.loop-at.at c.args.bytes.now) at c.in_ok-at.ensures.ok in (
+      omega (arith, h.1, length-drop c.loop-at.at c.args.bytes.now),
+      rw (take-add c.loop-at.at c.in_ok-at.field-0 c.args.bytes.now) (Appends-trans _ _ _ _ _ c.loop-at.invariant.1 h.2),
+    )

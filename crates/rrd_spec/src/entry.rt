@@ -1,0 +1,37 @@
+//! What the journal holds of a data source.
+ghost use Rattle.std.specs.Prelude.{◌≡◌, [], None};
+ghost use Rattle.rrd_fixed.specs.declared.kind.Kind.TheVariants.{Gauge};
+ghost use Rattle.rrd_fixed.specs.declared.raw.Raw.TheVariants.{Unknown};
+
+use crate::DsDef;
+use rrd_fixed::{Kind, Name, Raw};
+
+/// A data source as it was before a tune.
+#[derive(Drop)]
+pub struct SourceBefore {
+    /// The source's number, from 0 on.
+    pub number: u64,
+    /// Its settings.
+    pub source: DsDef,
+    /// Its last raw value.
+    pub raw: Raw,
+}
+
+impl Default for SourceBefore {
+    // What stands in an unused place.
+    fn default() -> Self
+        ensures { result ≡ record { number = 0; source = record { name = []; kind = Gauge; heartbeat = 0; min = None; max = None }; raw = Unknown } }
+    {
+        SourceBefore {
+            number: 0,
+            source: DsDef {
+                name: Name::default(),
+                kind: Kind::Gauge,
+                heartbeat: 0,
+                min: None,
+                max: None,
+            },
+            raw: Raw::Unknown,
+        }
+    }
+}

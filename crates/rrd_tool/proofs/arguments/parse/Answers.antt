@@ -1,0 +1,27 @@
+use Rattle.std.proofs.Common.{◌≡◌, ◌∙◌, ap, sym, true, false}
+use Rattle.clap.specs.declared.error.kind.ErrorKind.TheVariants.{OutOfMemory}
+use Rattle.clap.specs.Words.{app_of, fault_of, subcommand_of}
+use Rattle.rrd_tool.specs.Serves.{Serves}
+use Rattle.rrd_tool.specs.Parsed.{entered_of}
+use Rattle.rrd_tool.proofs.Simple.{refused}
+use Rattle.rrd_tool.proofs.arguments.parse.Goals as goal
+
+pub returns-in-Ok-try_get_matches_from : goal.returns-in-Ok-try_get_matches_from
+unfolding entered_of
+returns-in-Ok-try_get_matches_from c =
+    let serves : Serves (app_of c.in-Some.command) c.args.words.now = rw c.in-Some.is at c.in-Ok.ensures in
+    let app = app_of c.in-Some.command in
+    let parse = c.in-Ok-try_get_matches_from.ensures in (
+      sym serves.0 ∙ (sym (ap (fault_of app) c.as_slice.ensures) ∙ parse.kinds serves.3),
+      (parse.matches serves.2).1 ∙ (ap (subcommand_of app) c.as_slice.ensures ∙ serves.1),
+    )
+
+pub returns : goal.returns
+returns c =
+    let serves : Serves (app_of c.in-Some.command) c.args.words.now = rw c.in-Some.is at c.in-Ok.ensures in
+    let app = app_of c.in-Some.command in
+    let parse = c.in-Err.ensures in
+    let kinds = parse.kinds serves.3 in
+    λ taken. refused _ c.in-Err.error kinds (λ k.
+    let same : c.kind.result ≡ OutOfMemory = c.kind.ensures ∙ k in
+    let bad : false ≡ true = rw same at c.if-eq.ensures in cc) (ap (fault_of app) c.as_slice.ensures ∙ (serves.0 ∙ taken))

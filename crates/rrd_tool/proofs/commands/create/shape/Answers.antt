@@ -1,0 +1,20 @@
+use Rattle.std.proofs.Common.{◌≡◌, rules, codes}
+use Rattle.std.proofs.lemmas.Result.{IfOk-weaker}
+use Rattle.clap.specs.Words.{new_app, rule_of}
+use Rattle.rrd_tool.proofs.Added.{added}
+use Rattle.rrd_tool.specs.Arguments.{HasApp, letter_rule, many_rule, option_rule}
+use Rattle.rrd_tool.specs.Commands.Create.{create_app}
+use Rattle.rrd_tool.proofs.commands.create.shape.Goals as goal
+
+pub returns : goal.returns
+unfolding create_app
+returns c =
+    let start : HasApp (new_app (codes "create")) c.new.result = (search rules, search rules) in
+    let a : rule_of c.letter_arg.result ≡ letter_rule (codes "step") (codes "step") 115 = search rules in
+    let b : rule_of c.letter_arg-2.result ≡ letter_rule (codes "start") (codes "start") 98 = search rules in
+    let d : rule_of c.option_arg.result ≡ option_rule (codes "journal") (codes "journal") = search rules in
+    let e : rule_of c.many_arg.result ≡ many_rule (codes "definition") = search rules in
+    let one = added _ _ _ _ _ c.in_ok-arg.ensures start a c.letter_arg.ensures.local in
+    let two = added _ _ _ _ _ c.in_ok-arg-2.ensures one b c.letter_arg-2.ensures.local in
+    let three = added _ _ _ _ _ c.in_ok-arg-3.ensures two d c.option_arg.ensures.local in
+    IfOk-weaker c.arg-4.result _ _ (λ r h. added _ r _ _ _ h three e c.many_arg.ensures.local) c.arg-4.ensures

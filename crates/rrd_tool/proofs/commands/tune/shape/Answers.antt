@@ -1,0 +1,22 @@
+use Rattle.std.proofs.Common.{◌≡◌, rules, codes}
+use Rattle.std.proofs.lemmas.Result.{IfOk-weaker}
+use Rattle.clap.specs.Words.{new_app, rule_of}
+use Rattle.rrd_tool.proofs.Added.{added}
+use Rattle.rrd_tool.specs.Arguments.{HasApp, letter_rule, option_rule}
+use Rattle.rrd_tool.specs.Commands.Tune.{tune_app}
+use Rattle.rrd_tool.proofs.commands.tune.shape.Goals as goal
+
+pub returns : goal.returns
+unfolding tune_app
+returns c =
+    let start : HasApp (new_app (codes "tune")) c.new.result = (search rules, search rules) in
+    let a : rule_of c.option_arg.result ≡ option_rule (codes "heartbeat") (codes "heartbeat") = search rules in
+    let b : rule_of c.letter_arg.result ≡ letter_rule (codes "minimum") (codes "minimum") 105 = search rules in
+    let d : rule_of c.letter_arg-2.result ≡ letter_rule (codes "maximum") (codes "maximum") 97 = search rules in
+    let e : rule_of c.letter_arg-3.result ≡ letter_rule (codes "type") (codes "data-source-type") 100 = search rules in
+    let f : rule_of c.letter_arg-4.result ≡ letter_rule (codes "rename") (codes "data-source-rename") 114 = search rules in
+    let one = added _ _ _ _ _ c.in_ok-arg.ensures start a c.option_arg.ensures.local in
+    let two = added _ _ _ _ _ c.in_ok-arg-2.ensures one b c.letter_arg.ensures.local in
+    let three = added _ _ _ _ _ c.in_ok-arg-3.ensures two d c.letter_arg-2.ensures.local in
+    let four = added _ _ _ _ _ c.in_ok-arg-4.ensures three e c.letter_arg-3.ensures.local in
+    IfOk-weaker c.arg-5.result _ _ (λ r h. added _ r _ _ _ h four f c.letter_arg-4.ensures.local) c.arg-5.ensures

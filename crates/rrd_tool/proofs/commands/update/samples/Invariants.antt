@@ -1,0 +1,11 @@
+use Rattle.std.proofs.Common.{◌≡◌, ◌+◌, map, drop}
+use Rattle.rrd_tool.specs.Commands.Update.{sample_of}
+use Rattle.rrd_tool.specs.Unread.{each_of}
+use Rattle.rrd_tool.specs.declared.faults.Part.TheVariants.{Sample}
+use Rattle.rrd_tool.proofs.Each.{prepend}
+use Rattle.rrd_tool.proofs.commands.update.samples.Given as goal
+
+abbrev pub invariant-loop-place : goal.invariant-loop-place
+invariant-loop-place l =
+    each_of (sample_of l.now) Sample 1 (map (λ w. w.now) l.words)
+    ≡ prepend l.samples (each_of (sample_of l.now) Sample (l.place + 1) (drop l.place (map (λ w. w.now) l.words)))

@@ -1,4 +1,0 @@
-use Rattle.rrd_tool.proofs.execution.execute_without.Goals as goal
-
-pub returns-in-Create : goal.returns-in-Create
-returns-in-Create c c0 = rw c.in-Create.is (c.create.ensures c0)

@@ -1,9 +1,0 @@
-use Rattle.std.proofs.Common.{refl}
-use Rattle.rrd_tool.proofs.LineLemmas.{cut_none}
-use Rattle.rrd_tool.proofs.lines.LineBuffer.cut.Goals as goal
-
-pub returns-in-Lost : goal.returns-in-Lost
-returns-in-Lost c = record {
-  text = λ held h. rw (cut_none c.args.self.now.ending c.args.self.now.bytes.items held c.in-Lost.is h) refl;
-  plain = tt;
-}

@@ -1,0 +1,16 @@
+use Rattle.std.proofs.Common.{ap, refl, Some}
+use Rattle.rrd_tool.proofs.LineLemmas.{kept_text, lost_ended}
+use Rattle.rrd_tool.proofs.lines.LineBuffer.whole_line.Goals as goal
+
+pub returns-in-Lost-clause-text : goal.returns-in-Lost-clause-text
+returns-in-Lost-clause-text c held h =
+    let k = rw c.in-Lost.is at h in
+    rw (lost_ended held k) refl
+
+pub returns-in-Plain : goal.returns-in-Plain
+returns-in-Plain c = record {
+  text = λ held h.
+      let k = kept_text c.args.self.now.ending c.args.self.now.bytes.items held c.in-Plain.is h in
+      rw (k.0, k.1) (ap Some c.as_slice.ensures.value);
+  plain = rw c.as_slice.ensures.value c.args.self.now.plain;
+}

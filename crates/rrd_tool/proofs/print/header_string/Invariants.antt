@@ -1,8 +1,0 @@
-use Rattle.std.proofs.Common.{◌≡◌, ◌≤◌, ◌+◌, ◌*◌, ◌++◌, codes, length, take}
-use Rattle.rrd_tool.specs.Printed.{names_text}
-use Rattle.rrd_tool.proofs.print.header_string.Given as goal
-
-abbrev pub invariant-loop-source : goal.invariant-loop-source
-invariant-loop-source l =
-    (l.line.bytes ≡ codes "time:" ++ names_text (take l.source l.database.content.sources))
-    × (length l.line.bytes ≤ 5 + 20 * l.source)

@@ -1,6 +1,0 @@
-use Rattle.std.proofs.Common.{map}
-use Rattle.rrd_tool.proofs.Defined.{HasRead}
-use Rattle.rrd_tool.proofs.reading.definitions.Given as goal
-
-abbrev pub invariant-loop-place : goal.invariant-loop-place
-invariant-loop-place l = HasRead (map (λ w. w.now) l.words) l.place l.sources l.archives

@@ -1,0 +1,39 @@
+-- Definition: the arguments of a command, as clap takes them.
+use Rattle.std.specs.Prelude.{◌≡◌, ℕ, List, [], Some, true, false, codes, unwrap_or}
+use Rattle.clap.specs.Words.{App, Row, Rule, Text, all_of, app_of, new_app, new_rule}
+use Rattle.clap.specs.declared.builder.action.ArgAction.TheVariants.{Append}
+use Rattle.clap.specs.declared.builder.command.Command.{Command}
+use Rattle.clap.specs.declared.builder.command.Command.TheViews.{out-Command}
+
+-- `--long VALUE`
+abbrev pub option_rule : Text → Text → Rule
+option_rule id long = record (new_rule id) { long = Some long }
+
+-- `--long VALUE` or `-letter VALUE`
+abbrev pub letter_rule : Text → Text → ℕ → Rule
+letter_rule id long letter = record (new_rule id) { long = Some long; short = Some letter }
+
+-- a word that has to be there
+abbrev pub required_rule : Text → Rule
+required_rule id = record (new_rule id) { required = true }
+
+-- any number of words
+abbrev pub many_rule : Text → Rule
+many_rule id = record (new_rule id) { action = Some Append }
+
+abbrev pub bare_top : App
+bare_top = record (new_app (codes "rrdi")) {
+  top = record (new_app (codes "rrdi")).top {
+    no_binary_name = true;
+    subcommand_required = true;
+    disable_help_subcommand = true;
+  };
+}
+
+-- the command has this shape, and no argument of it is seen by other commands
+abbrev pub HasApp : App → Command → Type 0
+HasApp a c = (app_of c ≡ a) × ((out-Command c).has_globals ≡ false)
+
+-- the values of an argument that any number of words may have
+abbrev pub words_of : Text → List Row → List Text
+words_of id rows = unwrap_or (all_of id rows) []

@@ -1,0 +1,16 @@
+-- Definition: last: its shape, and what it prints (rrdlast).
+use Rattle.std.specs.Prelude.{◌++◌, ℕ, ℤ, List, Result, Ok, codes, pos}
+use Rattle.clap.specs.Words.{App, new_app}
+use Rattle.rrd_fixed.specs.Text.{time_text}
+use Rattle.rrd_spec.specs.declared.refusal.Refusal.{Refusal}
+use Rattle.rrd_spec.specs.History.{Content}
+
+unfoldable pub last_app : App
+last_app = new_app (codes "last")
+
+abbrev pub time_line : ℤ → List ℕ
+time_line time = time_text time ++ codes "\n"
+
+-- the time of the last update, or the start
+abbrev pub last_text : Content → Result (List ℕ) Refusal
+last_text content = Ok (time_line (pos content.last))

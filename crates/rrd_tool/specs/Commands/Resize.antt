@@ -1,0 +1,29 @@
+-- Definition: resize: its shape, and what its values are read as (rrdresize).
+use Rattle.std.specs.Prelude.{List, Option, Some, None, Result, Ok, codes, if◌then◌else◌}
+use Rattle.std.specs.Str.{bytes_eq}
+use Rattle.clap.specs.Words.{App, Row, Text, first_of, new_app, with_rule}
+use Rattle.rrd_fixed.specs.Reading.{whole_of}
+use Rattle.rrd_spec.specs.declared.resize.Change.{Change}
+use Rattle.rrd_tool.specs.Arguments.{required_rule}
+use Rattle.rrd_tool.specs.Unread.{Unread, ◌>>=◌, required}
+use Rattle.rrd_tool.specs.declared.commands.Command.{Command}
+use Rattle.rrd_tool.specs.declared.commands.Command.TheVariants as command
+use Rattle.rrd_tool.specs.declared.faults.Part.TheVariants as part
+
+unfoldable pub resize_app : App
+resize_app = with_rule (with_rule (with_rule (new_app (codes "resize"))
+    (required_rule (codes "archive")))
+    (required_rule (codes "change")))
+    (required_rule (codes "rows"))
+
+abbrev pub change_of : Text → Option Change
+change_of text =
+    if bytes_eq text (codes "GROW") then Some Change.Grow
+    else (if bytes_eq text (codes "SHRINK") then Some Change.Shrink else None)
+
+abbrev pub resize_of : List Row → Result Command Unread
+resize_of rows =
+    required whole_of part.Archive (first_of (codes "archive") rows)
+    >>= (λ index. required change_of part.Change (first_of (codes "change") rows)
+    >>= (λ change. required whole_of part.Rows (first_of (codes "rows") rows)
+    >>= (λ count. Ok (command.Resize index change count))))

@@ -1,0 +1,38 @@
+-- Definition: tune: its shape, and what its values are read as (rrdtune).
+use Rattle.std.specs.Prelude.{List, Option, Some, Result, Ok, codes}
+use Rattle.clap.specs.Words.{App, Row, Text, first_of, new_app, with_rule}
+use Rattle.rrd_fixed.specs.Reading.{whole_of}
+use Rattle.rrd_fixed.specs.declared.name.Name.{Name}
+use Rattle.rrd_tool.specs.Arguments.{letter_rule, option_rule}
+use Rattle.rrd_tool.specs.Fields.{◌>>?◌, bound_of, field, kind_of, name_of}
+use Rattle.rrd_tool.specs.Unread.{Unread, ◌>>=◌, optional}
+use Rattle.rrd_tool.specs.declared.commands.Command.{Command}
+use Rattle.rrd_tool.specs.declared.commands.Command.TheVariants as command
+use Rattle.rrd_tool.specs.declared.faults.Part.TheVariants as part
+
+unfoldable pub tune_app : App
+tune_app = with_rule (with_rule (with_rule (with_rule (with_rule (new_app (codes "tune"))
+    (option_rule (codes "heartbeat") (codes "heartbeat")))
+    (letter_rule (codes "minimum") (codes "minimum") 105))
+    (letter_rule (codes "maximum") (codes "maximum") 97))
+    (letter_rule (codes "type") (codes "data-source-type") 100))
+    (letter_rule (codes "rename") (codes "data-source-rename") 114)
+
+-- a name, and what is read behind the first colon
+abbrev pub setting_of : {A : Type 0} → (Text → Option A) → Text → Option (Name × A)
+setting_of read text = field name_of text (λ name rest. read rest >>? (λ value. Some (name, value)))
+
+abbrev pub tune_of : List Row → Result Command Unread
+tune_of rows =
+    optional (setting_of whole_of) part.Heartbeat (first_of (codes "heartbeat") rows)
+    >>= (λ heartbeat. optional (setting_of bound_of) part.Minimum (first_of (codes "minimum") rows)
+    >>= (λ minimum. optional (setting_of bound_of) part.Maximum (first_of (codes "maximum") rows)
+    >>= (λ maximum. optional (setting_of kind_of) part.Class (first_of (codes "type") rows)
+    >>= (λ kind. optional (setting_of name_of) part.Rename (first_of (codes "rename") rows)
+    >>= (λ rename. Ok (command.Tune (record {
+      heartbeat = heartbeat;
+      minimum = minimum;
+      maximum = maximum;
+      kind = kind;
+      rename = rename;
+    })))))))

@@ -1,0 +1,47 @@
+-- Definition: update: its shape, and what its values are read as (rrdupdate).
+use Rattle.std.specs.Prelude.{ℕ, List, Option, Some, Result, Ok, codes, if◌then◌else◌}
+use Rattle.std.specs.Str.{bytes_eq}
+use Rattle.clap.specs.Words.{App, Row, Text, first_of, new_app, with_rule}
+use Rattle.rrd_fixed.specs.Reading.{number_of, whole_of}
+use Rattle.rrd_fixed.specs.declared.name.Name.{Name}
+use Rattle.rrd_spec.specs.declared.update.Given.{Given}
+use Rattle.rrd_spec.specs.declared.update.Sample.{Sample}
+use Rattle.rrd_tool.specs.Arguments.{letter_rule, many_rule, words_of}
+use Rattle.rrd_tool.specs.Fields.{◌>>?◌, each_in, field, is_unknown, name_of, pieces}
+use Rattle.rrd_tool.specs.Unread.{Unread, ◌>>=◌, each_of, optional}
+use Rattle.rrd_tool.specs.declared.commands.Command.{Command}
+use Rattle.rrd_tool.specs.declared.commands.Command.TheVariants as command
+use Rattle.rrd_tool.specs.declared.faults.Part.TheVariants as part
+
+unfoldable pub update_app : App
+update_app = with_rule (with_rule (new_app (codes "update"))
+    (letter_rule (codes "template") (codes "template") 116))
+    (many_rule (codes "sample"))
+
+-- ---- its template and its samples
+
+-- names, joined by colons
+abbrev pub template_of : Text → Option (List Name)
+template_of text = each_in name_of (pieces text)
+
+-- a sample's time; `N` is now
+abbrev pub time_of : ℕ → Text → Option ℕ
+time_of now text = if bytes_eq text (codes "N") then Some now else whole_of text
+
+-- a sample's value; `U` is unknown
+abbrev pub value_of : Text → Option Given
+value_of text = if is_unknown text then Some Given.Unknown else number_of text >>? (λ number. Some (Given.Number number))
+
+-- `time:value[:value..]`
+abbrev pub sample_of : ℕ → Text → Option Sample
+sample_of now text =
+    field (time_of now) text (λ time rest.
+    each_in value_of (pieces rest) >>? (λ values. Some (record { time = time; values = values })))
+
+-- ---- its values
+
+abbrev pub update_of : List Row → ℕ → Result Command Unread
+update_of rows now =
+    optional template_of part.Template (first_of (codes "template") rows)
+    >>= (λ template. each_of (sample_of now) part.Sample 1 (words_of (codes "sample") rows)
+    >>= (λ samples. Ok (command.Update (record { template = template; samples = samples }))))

@@ -1,0 +1,92 @@
+-- Definition: what a command does, and what comes of each kind of doing, over a database and in a run (own).
+use Rattle.std.specs.Prelude.{◌∷◌, [], ℕ, Bool, List, Option, Some, None, Result, true, false, option_map, unwrap_or}
+use Rattle.std.specs.Result.{result_err, result_ok}
+use Rattle.rrd_spec.specs.declared.create.CreateSpec.{CreateSpec}
+use Rattle.rrd_spec.specs.declared.refusal.Refusal.{Refusal}
+use Rattle.rrd_spec.specs.declared.refusal.Refusal.TheVariants.{NothingToRevert}
+use Rattle.rrd_spec.specs.History.{Content}
+use Rattle.rrd_spec.specs.Commands.{Command, Resizing, TuningBy, Updating}
+use Rattle.rrd_spec.specs.Creating.{create_verdict, created}
+use Rattle.rrd_spec.specs.Entries.{Entry}
+use Rattle.rrd_spec.specs.Survivors.{State, Stored, Changed, Reverted, Stands, after, changed, journal_of, reverted, survived}
+use Rattle.rrd_spec.specs.Verdict.{verdict}
+use Rattle.rrd_tool.specs.declared.faults.Fault.{Fault}
+use Rattle.rrd_tool.specs.declared.faults.Fault.TheVariants.{Refused, NoDatabase}
+
+-- what a command does: it makes a database, changes one, takes back the newest change, or shows a text of one or
+-- why there is none
+pub data Effect : Type 0 where
+  Makes : CreateSpec → Effect
+  Changes : Command → Effect
+  Reverts : Effect
+  Shows : (Content → Result (List ℕ) Refusal) → Effect
+
+-- ---- over a database
+
+-- the refusal of a revert, none if there is an entry
+abbrev pub revert_verdict : List Entry → Option Refusal
+revert_verdict [] = Some NothingToRevert
+revert_verdict (entry ∷ journal) = None
+
+-- the fault over a database of this content and journal, none if it is accepted. Memory isn't spoken of
+abbrev pub verdict_on : Option Stored → Effect → Option Fault
+verdict_on kept (Makes spec) = option_map Refused (create_verdict spec)
+verdict_on None effect = Some NoDatabase
+verdict_on (Some kept) (Changes command) = option_map Refused (verdict kept.content command)
+verdict_on (Some kept) Reverts = option_map Refused (revert_verdict kept.journal)
+verdict_on (Some kept) (Shows show) = option_map Refused (result_err (show kept.content))
+
+-- what is printed, where it is accepted
+abbrev pub text_on : Option Stored → Effect → List ℕ
+text_on kept (Makes spec) = []
+text_on kept (Changes command) = []
+text_on kept Reverts = []
+text_on None (Shows show) = []
+text_on (Some kept) (Shows show) = unwrap_or (result_ok (show kept.content)) []
+
+-- whether it changes the database, where it is accepted
+abbrev pub is_change : Effect → Bool
+is_change (Makes spec) = true
+is_change (Changes command) = true
+is_change Reverts = true
+is_change (Shows show) = false
+
+-- whether it may be answered with want of memory, where it is accepted
+abbrev pub takes_memory : Effect → Bool
+takes_memory (Makes spec) = true
+takes_memory (Changes (Updating update)) = true
+takes_memory (Changes (TuningBy tuning)) = false
+takes_memory (Changes (Resizing archive change rows)) = true
+takes_memory Reverts = false
+takes_memory (Shows show) = false
+
+-- the database after it, where it is accepted
+abbrev pub kept_next : Option Stored → Effect → Option Stored
+kept_next kept (Makes spec) = Some (record { content = created spec; journal = [] })
+kept_next kept (Changes command) = option_map (λ (k : Stored). changed k command) kept
+kept_next kept Reverts = option_map (λ (k : Stored). reverted k.content k.journal) kept
+kept_next kept (Shows show) = kept
+
+-- ---- in a run
+
+-- the content and the journal that the survivors make
+abbrev pub kept_of : State → Stored
+kept_of state = record { content = survived state.base state.survivors; journal = journal_of state }
+
+-- a new base: nothing survives on it yet
+abbrev pub begun : Content → State
+begun base = record { base = base; brought = []; survivors = []; revertible = 0 }
+
+-- the state after it, where it is accepted
+abbrev pub next : Option State → Effect → Option State
+next state (Makes spec) = Some (begun (created spec))
+next state (Changes command) = option_map (λ (s : State). after s (Changed command)) state
+next state Reverts = option_map (λ (s : State). after s Reverted) state
+next state (Shows show) = state
+
+-- the database stands for the state; none stands for no database
+abbrev pub StandsFor : Option Stored → Option State → Type 0
+StandsFor None None = Unit {0}
+StandsFor None (Some state) = ⊥
+StandsFor (Some kept) None = ⊥
+StandsFor (Some kept) (Some state) = Stands state kept

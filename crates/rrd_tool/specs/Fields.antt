@@ -1,0 +1,65 @@
+-- Definition: what a text stands for (rrdcreate, "DS" and "RRA").
+use Rattle.std.specs.Prelude.{ℕ, ℤ, ◌==◌, Bool, List, [], ◌∷◌, Option, Some, None, codes, if◌then◌else◌}
+use Rattle.std.specs.List.{list_any, before_first, after_first, slice_split}
+use Rattle.std.specs.Str.{bytes_eq}
+use Rattle.clap.specs.Words.{Text}
+use Rattle.rrd_fixed.specs.Names.{fits}
+use Rattle.rrd_fixed.specs.Reading.{number_of}
+use Rattle.rrd_fixed.specs.declared.kind.Kind.{Kind}
+use Rattle.rrd_fixed.specs.declared.name.Name.{Name}
+use Rattle.rrd_fold.specs.declared.function.Function.{Function}
+
+-- what is read next, unless something before it can't be read
+infixl 10 ◌>>?◌
+abbrev pub ◌>>?◌ : {A B : Type 0} → Option A → (A → Option B) → Option B
+Some x >>? next = next x
+None >>? next = None
+
+-- ---- colons
+
+abbrev pub is_colon : ℕ → Bool
+is_colon c = c == 58
+
+-- what stands before the first colon, and what behind it; none without a colon
+abbrev pub cut_of : Text → Option (Text × Text)
+cut_of text = if list_any is_colon text then Some (before_first is_colon text, after_first is_colon text) else None
+
+-- what is read before the first colon, and then of what stands behind it
+abbrev pub field : {A B : Type 0} → (Text → Option A) → Text → (A → Text → Option B) → Option B
+field read text next = cut_of text >>? (λ cut. read cut.0 >>? (λ x. next x cut.1))
+
+-- what stands between the colons
+abbrev pub pieces : Text → List Text
+pieces text = slice_split is_colon text
+
+-- what is read of each of the pieces, if all of them can be read
+abbrev pub each_in : {A : Type 0} → (Text → Option A) → List Text → Option (List A)
+each_in read [] = Some []
+each_in read (piece ∷ more) = read piece >>? (λ x. each_in read more >>? (λ xs. Some (x ∷ xs)))
+
+-- ---- words for one thing
+
+-- a name that a source could have, good or not
+abbrev pub name_of : Text → Option Name
+name_of text = if fits text then Some text else None
+
+abbrev pub kind_of : Text → Option Kind
+kind_of text =
+    if bytes_eq text (codes "GAUGE") then Some Kind.Gauge
+    else (if bytes_eq text (codes "COUNTER") then Some Kind.Counter
+    else (if bytes_eq text (codes "DERIVE") then Some Kind.Derive
+    else (if bytes_eq text (codes "ABSOLUTE") then Some Kind.Absolute else None)))
+
+abbrev pub function_of : Text → Option Function
+function_of text =
+    if bytes_eq text (codes "AVERAGE") then Some Function.Average
+    else (if bytes_eq text (codes "MIN") then Some Function.Min
+    else (if bytes_eq text (codes "MAX") then Some Function.Max
+    else (if bytes_eq text (codes "LAST") then Some Function.Last else None)))
+
+abbrev pub is_unknown : Text → Bool
+is_unknown text = bytes_eq text (codes "U")
+
+-- a bound in millionths; `U` is no bound
+abbrev pub bound_of : Text → Option (Option ℤ)
+bound_of text = if is_unknown text then Some None else number_of text >>? (λ number. Some (Some number.millionths))

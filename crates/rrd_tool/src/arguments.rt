@@ -1,0 +1,115 @@
+//! Arguments as clap takes them, and words as it parses them.
+ghost use Rattle.std.specs.Prelude.{◌≡◌, IfOk, false, map, option_map};
+ghost use Rattle.clap.specs.Words.{App, all_of, app_of, first_of, found_of, rows_of, rule_of};
+ghost use Rattle.rrd_tool.specs.Arguments.{HasApp, letter_rule, many_rule, option_rule, required_rule};
+ghost use Rattle.rrd_tool.specs.Parsed.{IsParsedBy};
+ghost use Rattle.rrd_tool.specs.Serves.{ServesOrRefuses, app_with, begins_with_minus};
+
+use crate::commands::{command_named, rrdi_command};
+use crate::{LineFault, Words};
+use clap::error::ErrorKind;
+use clap::{Arg, ArgAction, ArgMatches};
+use std::alloc::{AllocError, Global};
+
+/// `--long VALUE`.
+pub(crate) fn option_arg<'a>(alloc: Global, id: &'a str, long: &'a str) -> Arg<'a>
+    ensures rule { rule_of result ≡ option_rule id.entry.now long.entry.now }
+    ensures local { result.global ≡ false }
+{
+    Arg::new(alloc, id).long(long)
+}
+
+/// `--long VALUE` or `-letter VALUE`.
+pub(crate) fn letter_arg<'a>(alloc: Global, id: &'a str, long: &'a str, letter: char) -> Arg<'a>
+    ensures rule { rule_of result ≡ letter_rule id.entry.now long.entry.now letter }
+    ensures local { result.global ≡ false }
+{
+    Arg::new(alloc, id).long(long).short(letter)
+}
+
+/// A word that has to be there.
+pub(crate) fn required_arg<'a>(alloc: Global, id: &'a str) -> Arg<'a>
+    ensures rule { rule_of result ≡ required_rule id.entry.now }
+    ensures local { result.global ≡ false }
+{
+    Arg::new(alloc, id).required(true)
+}
+
+/// Any number of words.
+pub(crate) fn many_arg<'a>(alloc: Global, id: &'a str) -> Arg<'a>
+    ensures rule { rule_of result ≡ many_rule id.entry.now }
+    ensures local { result.global ≡ false }
+{
+    Arg::new(alloc, id).action(ArgAction::Append)
+}
+
+/// The command with just this subcommand.
+pub(crate) fn command_with<'a>(
+    alloc: Global,
+    sub: clap::Command<'a>,
+) -> Result<clap::Command<'a>, AllocError>
+    ensures { (s : App) → HasApp s sub.entry → IfOk result (λ c. app_of c ≡ app_with s) }
+{
+    clap::Command::new(alloc, "rrdi")
+        .no_binary_name(true)
+        .subcommand_required(true)
+        .disable_help_subcommand(true)
+        .subcommand(sub)
+}
+
+/// Whether a word begins with a minus.
+pub(crate) fn is_flag(word: &str) -> bool
+    ensures { result ≡ begins_with_minus word.now }
+{
+    let bytes = word.as_bytes();
+    if bytes.is_empty() {
+        return false;
+    }
+    bytes[0] == 45
+}
+
+// A command that takes and refuses these words as the whole one does; none where they are refused.
+fn command_for<'a>(alloc: Global, words: &Words) -> Result<Option<clap::Command<'a>>, AllocError>
+    ensures { IfOk result (λ o. ServesOrRefuses o words.now) }
+{
+    match words.first() {
+        None => Ok(Some(rrdi_command(alloc)?)),
+        Some(name) => command_named(alloc, name),
+    }
+}
+
+/// What clap makes of the words.
+pub(crate) fn parse<'a>(alloc: Global, words: &'a Words) -> Result<ArgMatches<'a>, LineFault>
+    ensures { IsParsedBy words.entry.now result }
+{
+    let Ok(found) = command_for(alloc, words) else {
+        return Err(LineFault::OutOfMemory);
+    };
+    let Some(command) = found else {
+        return Err(LineFault::Usage);
+    };
+    match command.try_get_matches_from(words.as_slice()) {
+        Ok(matches) => Ok(matches),
+        Err(error) => {
+            if error.kind() == ErrorKind::OutOfMemory {
+                Err(LineFault::OutOfMemory)
+            } else {
+                Err(LineFault::Usage)
+            }
+        }
+    }
+}
+
+/// The value of an argument.
+pub(crate) fn text_of<'a>(matches: &ArgMatches<'a>, id: &str) -> Option<&'a str>
+    ensures { option_map (λ s. s.now) result ≡ first_of id.now (rows_of (found_of matches.now)) }
+{
+    matches.get_str(id)
+}
+
+/// All values of an argument.
+pub(crate) fn texts_of<'b, 'a>(matches: &'b ArgMatches<'a>, id: &str) -> Option<&'b [&'a str]>
+    ensures { option_map (λ s. map (λ v. v.now) s.now) result ≡ all_of id.now (rows_of (found_of matches.entry.now)) }
+{
+    matches.get_raw(id)
+}

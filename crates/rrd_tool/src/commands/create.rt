@@ -1,0 +1,162 @@
+//! `create`: makes a database (rrdcreate).
+ghost use Rattle.std.specs.Prelude.{◌≡◌, IfOk, List, Option, map, ℕ};
+ghost use Rattle.clap.specs.Words.{found_of, rows_of};
+ghost use Rattle.rrd_tool.specs.Arguments.{HasApp};
+ghost use Rattle.rrd_tool.specs.Commands.Create.{archive_of, create_app, create_of, definition_of, definitions_of, share_of, source_of};
+ghost use Rattle.rrd_tool.specs.Executed.{Executes};
+ghost use Rattle.rrd_tool.specs.Unread.{Meets};
+
+use crate::arguments::{letter_arg, many_arg, option_arg, text_of, texts_of};
+use crate::execution::Outcome;
+use crate::fields::{Field, cut, or_fault, read_or};
+use crate::{Command, Fault, LineFault, Part};
+use clap::ArgMatches;
+use rrd_base::{CreateSpec, Database, DsDef, List, RraDef};
+use rrd_fixed::{Kind, Name, read_number};
+use rrd_fold::Function;
+use std::alloc::{AllocError, Global};
+
+/// The command's shape for clap.
+pub(crate) fn shape<'a>(alloc: Global) -> Result<clap::Command<'a>, AllocError>
+    ensures { IfOk result (HasApp create_app) }
+{
+    clap::Command::new(alloc, "create")
+        .arg(letter_arg(alloc, "step", "step", 's'))?
+        .arg(letter_arg(alloc, "start", "start", 'b'))?
+        .arg(option_arg(alloc, "journal", "journal"))?
+        .arg(many_arg(alloc, "definition"))
+}
+
+/// One of a new database's definitions.
+#[derive(Drop)]
+pub(crate) enum Definition {
+    Source(DsDef),
+    Archive(RraDef),
+}
+
+// A share in millionths.
+impl Field for i128 {
+    ghost meaning = { share_of };
+
+    fn read(text: &str) -> Option<i128> {
+        let number = read_number(text.as_bytes())?;
+        Some(number.millionths)
+    }
+}
+
+// `name:type:heartbeat:min:max`.
+impl Field for DsDef {
+    ghost meaning = { source_of };
+
+    fn read(text: &str) -> Option<DsDef> {
+        let (name, rest) = cut(text)?;
+        let name = Name::read(name)?;
+        let (kind, rest) = cut(rest)?;
+        let kind = Kind::read(kind)?;
+        let (heartbeat, rest) = cut(rest)?;
+        let heartbeat = u64::read(heartbeat)?;
+        let (min, max) = cut(rest)?;
+        let min = <Option<i128>>::read(min)?;
+        let max = <Option<i128>>::read(max)?;
+        Some(DsDef {
+            name,
+            kind,
+            heartbeat,
+            min,
+            max,
+        })
+    }
+}
+
+// `function:xff:steps:rows`.
+impl Field for RraDef {
+    ghost meaning = { archive_of };
+
+    fn read(text: &str) -> Option<RraDef> {
+        let (function, rest) = cut(text)?;
+        let function = Function::read(function)?;
+        let (xff, rest) = cut(rest)?;
+        let xff = i128::read(xff)?;
+        let (steps, rows) = cut(rest)?;
+        let steps = u64::read(steps)?;
+        let rows = u64::read(rows)?;
+        Some(RraDef {
+            function,
+            xff,
+            steps,
+            rows,
+        })
+    }
+}
+
+// `DS:` and a source, or `RRA:` and an archive.
+impl Field for Definition {
+    ghost meaning = { definition_of };
+
+    fn read(text: &str) -> Option<Definition> {
+        let (tag, rest) = cut(text)?;
+        if tag == "DS" {
+            let source = DsDef::read(rest)?;
+            Some(Definition::Source(source))
+        } else if tag == "RRA" {
+            let archive = RraDef::read(rest)?;
+            Some(Definition::Archive(archive))
+        } else {
+            None
+        }
+    }
+}
+
+// What the definitions define: the sources and the archives, each in their order.
+fn definitions(alloc: Global, words: &[&str]) -> Result<(List<DsDef>, List<RraDef>), LineFault>
+    ensures { Meets (definitions_of (map (λ w. w.now) words.now)) result }
+{
+    let mut sources = List::new(alloc);
+    let mut archives = List::new(alloc);
+    for (place, word) in words.iter().enumerate() {
+        let definition = or_fault(Part::Definition, place as u64 + 1, Definition::read(word))?;
+        let added = match definition {
+            Definition::Source(source) => sources.push(source),
+            Definition::Archive(archive) => archives.push(archive),
+        };
+        if added.is_err() {
+            return Err(LineFault::OutOfMemory);
+        }
+    }
+    Ok((sources, archives))
+}
+
+/// The command that the values are (rrdcreate). The step is 300 seconds by default, the start ten seconds before now,
+/// the journal's depth 16.
+pub(crate) fn read(alloc: Global, matches: &ArgMatches<'_>, now: u64) -> Result<Command, LineFault>
+    ensures { Meets (create_of (rows_of (found_of matches.now)) now) result }
+{
+    let step = read_or(Part::Step, text_of(matches, "step"), 300)?;
+    let start = read_or(
+        Part::Start,
+        text_of(matches, "start"),
+        now.saturating_sub(10),
+    )?;
+    let depth = read_or(Part::Journal, text_of(matches, "journal"), 16)?;
+    let (sources, archives) = match texts_of(matches, "definition") {
+        None => (List::new(alloc), List::new(alloc)),
+        Some(words) => definitions(alloc, words)?,
+    };
+    Ok(Command::Create(CreateSpec {
+        step,
+        start,
+        depth,
+        sources,
+        archives,
+    }))
+}
+
+/// Makes a database, in the place of the one that there is.
+pub(crate) fn run(alloc: Global, database: Option<Database>, spec: CreateSpec) -> Outcome
+    ensures { (c : Option (List ℕ)) → Executes database (Command.Create spec) c c result }
+{
+    match Database::create(alloc, spec) {
+        Ok(made) => Outcome::of_change(made),
+        Err(refusal) => Outcome::of_refusal(database, Fault::Refused(refusal)),
+    }
+}

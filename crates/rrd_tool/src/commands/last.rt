@@ -1,0 +1,41 @@
+//! `last`: prints the time of the last update (rrdlast).
+ghost use Rattle.std.specs.Prelude.{Some, pos};
+ghost use Rattle.rrd_fixed.specs.Written.{Writes};
+ghost use Rattle.rrd_tool.specs.Arguments.{HasApp};
+ghost use Rattle.rrd_tool.specs.Commands.Last.{last_app, time_line};
+ghost use Rattle.rrd_tool.specs.Executed.{Executes};
+
+use crate::Command;
+use crate::execution::Outcome;
+use arrayvec::ArrayString;
+use itoa::Buffer;
+use rrd_base::Database;
+use rrd_fixed::{WriteFault, write_bytes};
+use std::alloc::Global;
+use std::io::Write;
+
+/// The command's shape for clap.
+pub(crate) fn shape<'a>(alloc: Global) -> clap::Command<'a>
+    ensures { HasApp last_app result }
+{
+    clap::Command::new(alloc, "last")
+}
+
+// Writes a time in seconds since 1970, on a line.
+fn write_time_line<W: Write>(out: &mut W, time: u64) -> Result<(), WriteFault>
+    ensures { Writes (W.contents out.old) (W.contents out.new) (time_line (pos time)) result }
+{
+    let mut line = ArrayString::<48>::new();
+    let mut buffer = Buffer::new();
+    line.push_str(buffer.format(time));
+    line.push_str("\n");
+    write_bytes(out, line.as_str().as_bytes())
+}
+
+/// Prints the time.
+pub(crate) fn run<W: Write>(database: Database, out: &mut W) -> Outcome
+    ensures { Executes (Some database) Command.Last (W.contents out.old) (W.contents out.new) result }
+{
+    let written = write_time_line(out, database.last());
+    Outcome::of_text(database, written)
+}

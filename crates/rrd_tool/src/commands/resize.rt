@@ -1,0 +1,70 @@
+//! `resize`: changes the number of rows of an archive (rrdresize).
+ghost use Rattle.std.specs.Prelude.{◌≡◌, IfOk, List, Option, Some, ℕ};
+ghost use Rattle.clap.specs.Words.{found_of, rows_of};
+ghost use Rattle.rrd_tool.specs.Arguments.{HasApp};
+ghost use Rattle.rrd_tool.specs.Commands.Resize.{change_of, resize_app, resize_of};
+ghost use Rattle.rrd_tool.specs.Executed.{Executes};
+ghost use Rattle.rrd_tool.specs.Unread.{Meets};
+
+use crate::arguments::{required_arg, text_of};
+use crate::execution::Outcome;
+use crate::fields::{Field, read_required};
+use crate::{Command, Fault, LineFault, Part};
+use clap::ArgMatches;
+use rrd_base::{Change, Database};
+use std::alloc::{AllocError, Global};
+
+/// The command's shape for clap.
+pub(crate) fn shape<'a>(alloc: Global) -> Result<clap::Command<'a>, AllocError>
+    ensures { IfOk result (HasApp resize_app) }
+{
+    clap::Command::new(alloc, "resize")
+        .arg(required_arg(alloc, "archive"))?
+        .arg(required_arg(alloc, "change"))?
+        .arg(required_arg(alloc, "rows"))
+}
+
+// Whether to grow or to shrink.
+impl Field for Change {
+    ghost meaning = { change_of };
+
+    fn read(text: &str) -> Option<Change> {
+        if text == "GROW" {
+            Some(Change::Grow)
+        } else if text == "SHRINK" {
+            Some(Change::Shrink)
+        } else {
+            None
+        }
+    }
+}
+
+/// The command that the values are (rrdresize).
+pub(crate) fn read(matches: &ArgMatches<'_>) -> Result<Command, LineFault>
+    ensures { Meets (resize_of (rows_of (found_of matches.now))) result }
+{
+    let index = read_required(Part::Archive, text_of(matches, "archive"))?;
+    let change = read_required(Part::Change, text_of(matches, "change"))?;
+    let rows = read_required(Part::Rows, text_of(matches, "rows"))?;
+    Ok(Command::Resize {
+        index,
+        change,
+        rows,
+    })
+}
+
+/// Grows or shrinks the archive with this number by so many rows.
+pub(crate) fn run(
+    alloc: Global,
+    mut database: Database,
+    archive: u64,
+    change: Change,
+    rows: u64,
+) -> Outcome
+    ensures { (c : Option (List ℕ)) → Executes (Some database) (Command.Resize archive change rows) c c result }
+{
+    match database.resize(alloc, archive, change, rows) {
+        Ok(()) => Outcome::of_change(database),
+        Err(refusal) => Outcome::of_refusal(Some(database), Fault::Refused(refusal)),
+    }
+}

@@ -1,0 +1,68 @@
+//! `tune`: changes the settings of sources (rrdtune).
+ghost use Rattle.std.specs.Prelude.{◌≡◌, IfOk, List, Option, Some, ℕ};
+ghost use Rattle.clap.specs.Words.{found_of, rows_of};
+ghost use Rattle.rrd_tool.specs.Arguments.{HasApp};
+ghost use Rattle.rrd_tool.specs.Commands.Tune.{setting_of, tune_app, tune_of};
+ghost use Rattle.rrd_tool.specs.Executed.{Executes};
+ghost use Rattle.rrd_tool.specs.Unread.{Meets};
+
+use crate::arguments::{letter_arg, option_arg, text_of};
+use crate::execution::Outcome;
+use crate::fields::{Field, cut, read_optional};
+use crate::{Command, Fault, LineFault, Part};
+use clap::ArgMatches;
+use rrd_base::{Database, Tuning};
+use rrd_fixed::Name;
+use std::alloc::{AllocError, Global};
+
+/// The command's shape for clap.
+pub(crate) fn shape<'a>(alloc: Global) -> Result<clap::Command<'a>, AllocError>
+    ensures { IfOk result (HasApp tune_app) }
+{
+    clap::Command::new(alloc, "tune")
+        .arg(option_arg(alloc, "heartbeat", "heartbeat"))?
+        .arg(letter_arg(alloc, "minimum", "minimum", 'i'))?
+        .arg(letter_arg(alloc, "maximum", "maximum", 'a'))?
+        .arg(letter_arg(alloc, "type", "data-source-type", 'd'))?
+        .arg(letter_arg(alloc, "rename", "data-source-rename", 'r'))
+}
+
+// A name, and a new value for the source of this name behind a colon.
+impl<T: Field + Drop> Field for (Name, T) {
+    ghost meaning = { setting_of T.meaning };
+
+    fn read(text: &str) -> Option<(Name, T)> {
+        let (name, value) = cut(text)?;
+        let name = Name::read(name)?;
+        let value = T::read(value)?;
+        Some((name, value))
+    }
+}
+
+/// The command that the values are (rrdtune).
+pub(crate) fn read(matches: &ArgMatches<'_>) -> Result<Command, LineFault>
+    ensures { Meets (tune_of (rows_of (found_of matches.now))) result }
+{
+    let heartbeat = read_optional(Part::Heartbeat, text_of(matches, "heartbeat"))?;
+    let minimum = read_optional(Part::Minimum, text_of(matches, "minimum"))?;
+    let maximum = read_optional(Part::Maximum, text_of(matches, "maximum"))?;
+    let kind = read_optional(Part::Class, text_of(matches, "type"))?;
+    let rename = read_optional(Part::Rename, text_of(matches, "rename"))?;
+    Ok(Command::Tune(Tuning {
+        heartbeat,
+        minimum,
+        maximum,
+        kind,
+        rename,
+    }))
+}
+
+/// Changes the settings.
+pub(crate) fn run(mut database: Database, tuning: &Tuning) -> Outcome
+    ensures { (c : Option (List ℕ)) → Executes (Some database) (Command.Tune tuning.now) c c result }
+{
+    match database.tune(tuning) {
+        Ok(()) => Outcome::of_change(database),
+        Err(refusal) => Outcome::of_refusal(Some(database), Fault::Refused(refusal)),
+    }
+}

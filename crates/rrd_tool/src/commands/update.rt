@@ -1,0 +1,131 @@
+//! `update`: takes in samples (rrdupdate).
+ghost use Rattle.std.specs.Prelude.{◌≡◌, IfOk, List, Option, Some, map, ℕ};
+ghost use Rattle.clap.specs.Words.{found_of, rows_of};
+ghost use Rattle.rrd_tool.specs.Arguments.{HasApp};
+ghost use Rattle.rrd_tool.specs.Commands.Update.{sample_of, template_of, time_of, update_app, update_of, value_of};
+ghost use Rattle.rrd_tool.specs.Executed.{Executes};
+ghost use Rattle.rrd_tool.specs.Fields.{each_in, pieces};
+ghost use Rattle.rrd_tool.specs.Unread.{Meets, each_of, or_fault};
+
+use crate::arguments::{letter_arg, many_arg, text_of, texts_of};
+use crate::execution::Outcome;
+use crate::fields::{Field, cut, first_piece, or_fault};
+use crate::{Command, Fault, LineFault, Part};
+use clap::ArgMatches;
+use rrd_base::{Database, Given, List, Sample, Update};
+use rrd_fixed::{Name, read_number, read_whole};
+use std::alloc::{AllocError, Global};
+
+/// The command's shape for clap.
+pub(crate) fn shape<'a>(alloc: Global) -> Result<clap::Command<'a>, AllocError>
+    ensures { IfOk result (HasApp update_app) }
+{
+    clap::Command::new(alloc, "update")
+        .arg(letter_arg(alloc, "template", "template", 't'))?
+        .arg(many_arg(alloc, "sample"))
+}
+
+// The names of a template, joined by colons.
+fn read_template(alloc: Global, text: &str) -> Result<List<Name>, LineFault>
+    ensures { Meets (or_fault Part.Template 1 (template_of text.now)) result }
+{
+    let mut names = List::new(alloc);
+    let mut left = Some(text);
+    while let Some(text) = left {
+        let (piece, rest) = first_piece(text);
+        let name = or_fault(Part::Template, 1, Name::read(piece))?;
+        if names.push(name).is_err() {
+            return Err(LineFault::OutOfMemory);
+        }
+        left = rest;
+    }
+    Ok(names)
+}
+
+// A sample's time; `N` is now (rrdupdate).
+fn read_time(now: u64, text: &str) -> Option<u64>
+    ensures { result ≡ time_of now text.now }
+{
+    if text == "N" {
+        return Some(now);
+    }
+    read_whole(text.as_bytes())
+}
+
+// A sample's value; `U` is unknown.
+impl Field for Given {
+    ghost meaning = { value_of };
+
+    fn read(text: &str) -> Option<Given> {
+        if text == "U" {
+            return Some(Given::Unknown);
+        }
+        let number = read_number(text.as_bytes())?;
+        Some(Given::Number(number))
+    }
+}
+
+// The values of the sample with this number, joined by colons.
+fn read_values(alloc: Global, number: u64, text: &str) -> Result<List<Given>, LineFault>
+    ensures { Meets (or_fault Part.Sample number (each_in value_of (pieces text.now))) result }
+{
+    let mut values = List::new(alloc);
+    let mut left = Some(text);
+    while let Some(text) = left {
+        let (piece, rest) = first_piece(text);
+        let value = or_fault(Part::Sample, number, Given::read(piece))?;
+        if values.push(value).is_err() {
+            return Err(LineFault::OutOfMemory);
+        }
+        left = rest;
+    }
+    Ok(values)
+}
+
+// The sample with this number: `time:value[:value..]`.
+fn read_sample(alloc: Global, now: u64, number: u64, text: &str) -> Result<Sample, LineFault>
+    ensures { Meets (or_fault Part.Sample number (sample_of now text.now)) result }
+{
+    let (time, values) = or_fault(Part::Sample, number, cut(text))?;
+    let time = or_fault(Part::Sample, number, read_time(now, time))?;
+    let values = read_values(alloc, number, values)?;
+    Ok(Sample { time, values })
+}
+
+fn samples(alloc: Global, now: u64, words: &[&str]) -> Result<List<Sample>, LineFault>
+    ensures { Meets (each_of (sample_of now) Part.Sample 1 (map (λ w. w.now) words.now)) result }
+{
+    let mut samples = List::new(alloc);
+    for (place, word) in words.iter().enumerate() {
+        let sample = read_sample(alloc, now, place as u64 + 1, word)?;
+        if samples.push(sample).is_err() {
+            return Err(LineFault::OutOfMemory);
+        }
+    }
+    Ok(samples)
+}
+
+/// The command that the values are (rrdupdate).
+pub(crate) fn read(alloc: Global, matches: &ArgMatches<'_>, now: u64) -> Result<Command, LineFault>
+    ensures { Meets (update_of (rows_of (found_of matches.now)) now) result }
+{
+    let template = match text_of(matches, "template") {
+        None => None,
+        Some(text) => Some(read_template(alloc, text)?),
+    };
+    let samples = match texts_of(matches, "sample") {
+        None => List::new(alloc),
+        Some(words) => samples(alloc, now, words)?,
+    };
+    Ok(Command::Update(Update { template, samples }))
+}
+
+/// Takes in the samples.
+pub(crate) fn run(alloc: Global, mut database: Database, update: &Update) -> Outcome
+    ensures { (c : Option (List ℕ)) → Executes (Some database) (Command.Update update.now) c c result }
+{
+    match database.update(alloc, update) {
+        Ok(_) => Outcome::of_change(database),
+        Err(refusal) => Outcome::of_refusal(Some(database), Fault::Refused(refusal)),
+    }
+}

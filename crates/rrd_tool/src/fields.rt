@@ -1,0 +1,156 @@
+//! What texts stand for, and the parts of a command that are read from them.
+ghost use Rattle.std.specs.Prelude.{◌≡◌, ◌∷◌, ◌<◌, [], IfSome, length, option_map};
+ghost use Rattle.std.specs.Option.{option_map_or};
+ghost use Rattle.rrd_tool.specs.Fields.{bound_of, cut_of, function_of, kind_of, name_of, pieces};
+ghost use Rattle.rrd_tool.specs.Unread.{Meets, given, optional, or_fault, required};
+ghost use Rattle.rrd_fixed.specs.Reading.{whole_of};
+
+use crate::{LineFault, Part};
+use rrd_fixed::{Kind, Name, read_number, read_whole};
+use rrd_fold::Function;
+
+/// What a text can stand for.
+pub(crate) trait Field: Sized {
+    ghost use Rattle.std.specs.Prelude.{◌≡◌, List, Option, ℕ};
+
+    ghost meaning: { List ℕ → Option Self };
+
+    /// What the text stands for; none if it can't be read so.
+    fn read(text: &str) -> Option<Self>
+        ensures { result ≡ meaning text.now };
+}
+
+/// What was read, or else the fault of that part.
+pub(crate) fn or_fault<T>(part: Part, number: u64, read: Option<T>) -> Result<T, LineFault>
+    ensures { Meets (or_fault part number read) result }
+{
+    match read {
+        Some(value) => Ok(value),
+        None => Err(LineFault::BadWord { part, number }),
+    }
+}
+
+/// A word that has to be there.
+pub(crate) fn read_required<T: Field>(part: Part, text: Option<&str>) -> Result<T, LineFault>
+    ensures { Meets (required T.meaning part (option_map (λ s. s.now) text.entry)) result }
+{
+    match text {
+        None => Err(LineFault::BadWord { part, number: 1 }),
+        Some(text) => or_fault(part, 1, T::read(text)),
+    }
+}
+
+/// An option, if it is given.
+pub(crate) fn read_optional<T: Field>(
+    part: Part,
+    text: Option<&str>,
+) -> Result<Option<T>, LineFault>
+    ensures { Meets (optional T.meaning part (option_map (λ s. s.now) text.entry)) result }
+{
+    match text {
+        None => Ok(None),
+        Some(text) => Ok(Some(or_fault(part, 1, T::read(text))?)),
+    }
+}
+
+/// An option, or what stands where it isn't given.
+pub(crate) fn read_or<T: Field + Drop>(
+    part: Part,
+    text: Option<&str>,
+    standard: T,
+) -> Result<T, LineFault>
+    ensures { Meets (given T.meaning part (option_map (λ s. s.now) text.entry) standard) result }
+{
+    match text {
+        None => Ok(standard),
+        Some(text) => or_fault(part, 1, T::read(text)),
+    }
+}
+
+/// What stands before the first colon, and what behind it.
+pub(crate) fn cut(text: &str) -> Option<(&str, &str)>
+    ensures { option_map (λ p. (p.0.now, p.1.now)) result ≡ cut_of text.now }
+{
+    text.split_once(':')
+}
+
+/// What stands before the first colon, and behind it if there is one.
+#[tactic(auto, using(crate::proofs::Pieces::pieces_none, crate::proofs::Pieces::pieces_some))]
+pub(crate) fn first_piece(text: &str) -> (&str, Option<&str>)
+    ensures split { pieces text.now ≡ result.0.now ∷ option_map_or (λ rest. pieces rest.now) result.1 [] }
+    ensures shorter { IfSome result.1 (λ rest. length rest.now < length text.now) }
+{
+    match text.split_once(':') {
+        Some((piece, rest)) => (piece, Some(rest)),
+        None => (text, None),
+    }
+}
+
+// A whole number.
+impl Field for u64 {
+    ghost meaning = { whole_of };
+
+    fn read(text: &str) -> Option<u64> {
+        read_whole(text.as_bytes())
+    }
+}
+
+// A source's name.
+impl Field for Name {
+    ghost meaning = { name_of };
+
+    fn read(text: &str) -> Option<Name> {
+        Name::fit(text.as_bytes())
+    }
+}
+
+// A source's type (rrdcreate, "DS").
+impl Field for Kind {
+    ghost meaning = { kind_of };
+
+    fn read(text: &str) -> Option<Kind> {
+        if text == "GAUGE" {
+            Some(Kind::Gauge)
+        } else if text == "COUNTER" {
+            Some(Kind::Counter)
+        } else if text == "DERIVE" {
+            Some(Kind::Derive)
+        } else if text == "ABSOLUTE" {
+            Some(Kind::Absolute)
+        } else {
+            None
+        }
+    }
+}
+
+// A consolidation function (rrdcreate, "RRA").
+impl Field for Function {
+    ghost meaning = { function_of };
+
+    fn read(text: &str) -> Option<Function> {
+        if text == "AVERAGE" {
+            Some(Function::Average)
+        } else if text == "MIN" {
+            Some(Function::Min)
+        } else if text == "MAX" {
+            Some(Function::Max)
+        } else if text == "LAST" {
+            Some(Function::Last)
+        } else {
+            None
+        }
+    }
+}
+
+// A bound in millionths; `U` is no bound (rrdcreate, "DS").
+impl Field for Option<i128> {
+    ghost meaning = { bound_of };
+
+    fn read(text: &str) -> Option<Option<i128>> {
+        if text == "U" {
+            return Some(None);
+        }
+        let number = read_number(text.as_bytes())?;
+        Some(Some(number.millionths))
+    }
+}
