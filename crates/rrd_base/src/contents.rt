@@ -21,7 +21,6 @@ ghost use Rattle.rrd_ring.specs.Rows.{newest_rows};
 ghost use Rattle.rrd_spec.specs.Turns.{AreTurns, least_of_sample, least_of_steps, most_of_sample, most_of_steps};
 ghost use Rattle.rrd_spec.specs.Validity.{AreAccepted, IsRow, IsValid};
 
-use crate::SourceBefore;
 use crate::entry::{BeforeUpdate, Entry};
 use crate::fetch::Search;
 use crate::preparing::{add_all, close_all, rates_into};
@@ -30,7 +29,7 @@ use crate::room::Room;
 use crate::store::{Store, new_all, put_back_all, save_all, take_all};
 use crate::tune::{check_tune, keep_sources, put_sources_back, tune_all};
 use crate::update::{check_update, raws_into};
-use crate::{Change, Chosen, CreateSpec, DsDef, Refusal, Tuning, Update};
+use crate::{Change, Chosen, CreateSpec, DsDef, Refusal, SourceBefore, Tuning, Update};
 use arrayvec::ArrayVec;
 use rrd_fixed::{Cell, Meter, Raw};
 use rrd_fold::{RowPrep, StepPrep};

@@ -7,13 +7,13 @@ ghost use Rattle.rrd_spec.specs.Creating as creating;
 ghost use Rattle.rrd_spec.specs.Limits.{version_one};
 ghost use Rattle.rrd_spec.specs.Verdict as verdict;
 
-use crate::definition::all_rows;
+use crate::rows::all_rows;
+use crate::named::is_double;
+use crate::{CreateSpec, DsDef, Refusal, RraDef};
 use rrd_spec::limits::{
     DEEPEST_JOURNAL, GREATEST_BOUND, GREATEST_SHARE, LATEST_TIME, LONGEST_HEARTBEAT, LONGEST_STEP,
     MOST_ARCHIVES, MOST_CELLS, MOST_ROWS, MOST_SOURCES, MOST_STEPS,
 };
-use crate::named::is_double;
-use crate::{CreateSpec, DsDef, Refusal, RraDef};
 
 /// Whether a database can be made, or the first refusal: each number is judged over all sources or
 /// archives before the next one.

@@ -9,9 +9,9 @@ ghost use Rattle.rrd_spec.specs.Choice as choice;
 ghost use Rattle.rrd_spec.specs.Limits.{version_one};
 ghost use Rattle.rrd_spec.specs.Verdict.{first_refusal};
 
-use rrd_spec::limits::{LATEST_TIME, LONGEST_SPAN};
 use crate::{Chosen, Refusal, RraDef};
 use rrd_fold::Function;
+use rrd_spec::limits::{LATEST_TIME, LONGEST_SPAN};
 use rrd_spec::{Candidate, Request};
 use std::marker::Model;
 

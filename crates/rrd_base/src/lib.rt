@@ -10,6 +10,7 @@ mod named;
 mod preparing;
 mod resize;
 mod room;
+mod rows;
 mod store;
 mod tune;
 mod update;
@@ -18,7 +19,7 @@ pub use create::check_create;
 pub use database::Database;
 pub use entry::{BeforeUpdate, Entry};
 pub use rrd_spec::{
-    Change, Chosen, CreateSpec, DsDef, Given, List, Receipt, Refusal, RraDef, Sample, SourceBefore, Tuning,
-    Update,
+    Change, Chosen, CreateSpec, DsDef, Given, List, Receipt, Refusal, RraDef, Sample, SourceBefore,
+    Tuning, Update,
 };
 pub use store::SavedArchive;

@@ -9,10 +9,10 @@ ghost use Rattle.rrd_base.specs.Resized.{HasFewRows, settings};
 ghost use Rattle.rrd_spec.specs.Verdict as verdict;
 
 use crate::create::{has_too_many_cells, is_bad_rows};
-use crate::definition::all_rows;
-use rrd_spec::limits::MOST_ROWS;
+use crate::rows::all_rows;
 use crate::store::Store;
 use crate::{Change, DsDef, Refusal};
+use rrd_spec::limits::MOST_ROWS;
 
 // Whether the archive would have too many rows.
 fn grows_too_far(change: Change, old: u64, rows: u64) -> bool

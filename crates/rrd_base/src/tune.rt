@@ -10,9 +10,8 @@ ghost use Rattle.rrd_spec.specs.Limits.{version_one};
 ghost use Rattle.rrd_spec.specs.Verdict as verdict;
 
 use crate::create::{has_bad_bounds, is_bad_heartbeat};
-use crate::SourceBefore;
 use crate::named::has_source;
-use crate::{DsDef, Refusal, Tuning};
+use crate::{DsDef, Refusal, SourceBefore, Tuning};
 use arrayvec::ArrayVec;
 use rrd_fixed::{Kind, Name, Raw};
 

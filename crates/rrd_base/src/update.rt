@@ -10,10 +10,10 @@ ghost use Rattle.rrd_spec.specs.Verdict.{first_refusal, has_source, is_admitted,
 ghost use Rattle.rrd_spec.specs.Updating.{template_checks, template_of};
 ghost use Rattle.rrd_fixed.specs.Rate.{IsAccepted};
 
-use rrd_spec::limits::LATEST_TIME;
 use crate::named::{Named, has_source, is_double};
 use crate::{DsDef, Given, List, Refusal, Sample, Update};
 use rrd_fixed::{Name, Raw, admit};
+use rrd_spec::limits::LATEST_TIME;
 
 // The value in the place of a source's name; unknown if it isn't there.
 fn value_named<T: Named>(named: &[T], values: &[Given], source: &DsDef) -> Given
