@@ -22,7 +22,7 @@ use Rattle.rrd_spec.proofs.Runs.{runs_agree, is_none-true}
 use Rattle.rrd_spec.proofs.Moving.{listed_sound, moved_is, moved_depth, settings_of-content}
 use Rattle.std.proofs.lemmas.List.FromFn.{length-enumerate_from}
 use Rattle.rrd_spec.proofs.NameLemmas.{same_is, same_itself}
-use Rattle.rrd_spec.specs.Validity.{IsRow, IsValidArchive, IsValid, FitsArchive, FitEach, Rise, Fits, IsValidJournal, IsValidDatabase, DatabaseStays, RevertTakesBack, RunsStay}
+use Rattle.rrd_spec.specs.Validity.{IsRow, IsValidArchive, IsValid, FitsArchive, FitEach, Rise, Fits, IsValidJournal, IsValidDatabase, DatabaseStays, RevertTakesBack, RunsStay, Begins}
 use Rattle.rrd_spec.proofs.Staying.{length-accepted, sound, stays_valid}
 use Rattle.rrd_spec.specs.declared.tune.Tuning.{Tuning}
 use Rattle.rrd_spec.specs.declared.update.Update.{Update}
@@ -314,6 +314,9 @@ step_valid kept Reverted h = revert_valid kept.content kept.journal h
 run_valid : (actions : List Action) (kept : Kept) → IsValidDatabase kept.content kept.journal → let end = fold step kept actions in IsValidDatabase end.content end.journal
 run_valid [] kept h = h
 run_valid (action ∷ actions) kept h = run_valid actions (step kept action) (step_valid kept action h)
+
+pub database_begins : (base : Content) (brought : List Entry) → Begins base brought
+database_begins base brought is = runs_agree base brought [] (sound base is.content_is) (undo_all base brought is.journal_is) is.few
 
 pub runs_stay : (base : Content) (brought : List Entry) (actions : List Action) → RunsStay base brought actions
 runs_stay base brought actions is = record {

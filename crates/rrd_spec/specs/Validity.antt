@@ -14,7 +14,7 @@ use Rattle.rrd_spec.specs.Commands.{Command, names, settings_of, moved}
 use Rattle.rrd_fixed.specs.Names.{is_good}
 use Rattle.rrd_spec.specs.Verdict.{is_double, is_bad_heartbeat, has_bad_bounds, cells, verdict}
 use Rattle.rrd_spec.specs.Entries.{Dropped, Held, BeforeUpdate, Entry, Updated, WasTuned, WasResized, rows_between, rows_at, entry, undone}
-use Rattle.rrd_spec.specs.Survivors.{Action, changed, reverted, step, after, Stands}
+use Rattle.rrd_spec.specs.Survivors.{Action, State, Kept, changed, reverted, step, after, Stands}
 
 -- ---- a content
 
@@ -125,7 +125,7 @@ pub record IsValidDatabase (now : Content) (journal : List Entry) : Type 0 where
   pub journal_is : IsValidJournal now journal
   pub few : length journal ≤ now.depth
 
--- ---- the law
+-- ---- the laws
 
 -- an accepted command moves a valid content to a valid one
 abbrev pub StaysValid : Content → Command → Type 0
@@ -148,3 +148,11 @@ pub record RunStays (base : Content) (brought : List Entry) (actions : List Acti
 
 abbrev pub RunsStay : Content → List Entry → List Action → Type 0
 RunsStay base brought actions = IsValidDatabase base brought → RunStays base brought actions
+
+-- a valid database stands for the state that begins with it: nothing survives on its content yet, and its journal is brought along
+abbrev pub Begins : Content → List Entry → Type 0
+Begins base brought = IsValidDatabase base brought → Stands (record { base = base; brought = brought; survivors = []; revertible = 0 }) (record { content = base; journal = brought })
+
+-- one action leads from a database that stands for a state to one that stands for the state after it
+abbrev pub ActsOn : State → Kept → Action → Type 0
+ActsOn state kept action = Stands state kept → Stands (after state action) (step kept action)

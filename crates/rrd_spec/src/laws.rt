@@ -1,12 +1,13 @@
-//! Laws of the definitions alone. Each is the contract of a function that does nothing.
+//! Laws of the definitions alone. Each is the contract of a function that does nothing: a call of it
+//! makes the law known where it stands.
 ghost use Rattle.std.specs.Prelude.{ℕ, List};
 ghost use Rattle.rrd_fixed.specs.declared.cell.Cell.{Cell};
 ghost use Rattle.rrd_spec.specs.History.{Archive, Content, Event, Reading};
 ghost use Rattle.rrd_spec.specs.Passed.{PassesInPieces, SampledPasses, RowsComeBack, ShowsByAge};
 ghost use Rattle.rrd_spec.specs.Commands.{Command};
 ghost use Rattle.rrd_spec.specs.Entries.{Entry, ComesBack};
-ghost use Rattle.rrd_spec.specs.Survivors.{Action, CommandsGoOn, Moves, RunsAgree};
-ghost use Rattle.rrd_spec.specs.Validity.{StaysValid, DatabaseStays, RevertTakesBack, RunsStay};
+ghost use Rattle.rrd_spec.specs.Survivors.{Action, CommandsGoOn, Kept, Moves, RunsAgree, State};
+ghost use Rattle.rrd_spec.specs.Validity.{ActsOn, Begins, StaysValid, DatabaseStays, RevertTakesBack, RunsStay};
 ghost use Rattle.rrd_spec.specs.declared.create.CreateSpec.{CreateSpec};
 ghost use Rattle.rrd_spec.specs.Creating.{CreatedIsValid};
 ghost use Rattle.rrd_spec.specs.Cells.{GoesOnFromContent, IsListed, ListsByNumber, ShowsByTime, ShowsCells, StaysBase};
@@ -99,6 +100,17 @@ pub fn database_stays()
 /// journal.
 pub fn revert_takes_back()
     ensures { (now : Content) (journal : List Entry) (command : Command) → RevertTakesBack now journal command }
+{}
+
+/// A valid database stands for the state that begins with it, its journal being brought along.
+pub fn database_begins()
+    ensures { (base : Content) (brought : List Entry) → Begins base brought }
+{}
+
+/// One action leads from a database that stands for a state to one that stands for the state after
+/// it.
+pub fn action_goes_on()
+    ensures { (state : State) (kept : Kept) (action : Action) → ActsOn state kept action }
 {}
 
 /// A run from a valid database is what its survivors make, and stays valid.

@@ -5,13 +5,12 @@ use Rattle.rrd_fixed.specs.declared.writing.WriteFault.{WriteFault}
 use Rattle.rrd_spec.specs.declared.create.CreateSpec.{CreateSpec}
 use Rattle.rrd_spec.specs.declared.refusal.Refusal.{Refusal}
 use Rattle.rrd_spec.specs.Commands.{Resizing, TuningBy, Updating}
-use Rattle.rrd_spec.specs.Creating.{create_verdict, created}
+use Rattle.rrd_spec.specs.Creating.{CreatedIsValid, create_verdict, created}
+use Rattle.rrd_spec.specs.History.{Content}
 use Rattle.rrd_spec.specs.Entries.{Entry}
-use Rattle.rrd_spec.specs.Survivors.{State, Kept, Changed, Reverted, Stands, step}
+use Rattle.rrd_spec.specs.Survivors.{Action, State, Kept, Changed, Reverted, Stands, step}
 use Rattle.rrd_spec.specs.Verdict.{verdict}
-use Rattle.rrd_spec.proofs.Created.{created_valid}
-use Rattle.rrd_spec.proofs.Fitting.{runs_stay}
-use Rattle.rrd_spec.proofs.Runs.{step_stands}
+use Rattle.rrd_spec.specs.Validity.{ActsOn, Begins}
 use Rattle.clap.specs.Words.{fault_of}
 use Rattle.rrd_fixed.proofs.Writings.{Appends-kept}
 use Rattle.rrd_tool.specs.Batch.{Performs, Turn}
@@ -43,40 +42,6 @@ no_refusal : (verdict : Option Refusal) → option_map Refused verdict ≡ None 
 no_refusal None h = refl
 no_refusal (Some r) h = absurd cc
 
-created_stands : (spec : CreateSpec) → create_verdict spec ≡ None → Stands (begun (created spec)) (record { content = created spec; journal = [] })
-created_stands spec h = (runs_stay (created spec) [] [] (record { content_is = created_valid spec h; journal_is = tt; few = omega arith })).stands
-
--- a command that is accepted keeps it so
-pub stands_next : (command : Command) (kept : Option Kept) (state : Option State) → verdict_on kept command ≡ None → StandsFor kept state → StandsFor (kept_next kept command) (next state command)
-stands_next (Create spec) kept state h s = created_stands spec (no_refusal (create_verdict spec) h)
-stands_next (Update update) None state h s = absurd cc
-stands_next (Tune tuning) None state h s = absurd cc
-stands_next (Resize index change rows) None state h s = absurd cc
-stands_next (Fetch function asked start stop) None state h s = absurd cc
-stands_next Last None state h s = absurd cc
-stands_next Revert None state h s = absurd cc
-stands_next (Update update) (Some kept) None h s = absurd s
-stands_next (Update update) (Some kept) (Some state) h s =
-    let accepted : verdict kept.content (Updating update) ≡ None = no_refusal (verdict kept.content (Updating update)) h in
-    let moved : Stands _ (step kept (Changed (Updating update))) = step_stands state kept (Changed (Updating update)) s in
-    rw accepted at moved
-stands_next (Tune tuning) (Some kept) None h s = absurd s
-stands_next (Tune tuning) (Some kept) (Some state) h s =
-    let accepted : verdict kept.content (TuningBy tuning) ≡ None = no_refusal (verdict kept.content (TuningBy tuning)) h in
-    let moved : Stands _ (step kept (Changed (TuningBy tuning))) = step_stands state kept (Changed (TuningBy tuning)) s in
-    rw accepted at moved
-stands_next (Resize index change rows) (Some kept) None h s = absurd s
-stands_next (Resize index change rows) (Some kept) (Some state) h s =
-    let accepted : verdict kept.content (Resizing index change rows) ≡ None = no_refusal (verdict kept.content (Resizing index change rows)) h in
-    let moved : Stands _ (step kept (Changed (Resizing index change rows))) = step_stands state kept (Changed (Resizing index change rows)) s in
-    rw accepted at moved
-stands_next (Fetch function asked start stop) (Some kept) None h s = absurd s
-stands_next (Fetch function asked start stop) (Some kept) (Some state) h s = s
-stands_next Last (Some kept) None h s = absurd s
-stands_next Last (Some kept) (Some state) h s = s
-stands_next Revert (Some kept) None h s = absurd s
-stands_next Revert (Some kept) (Some state) h s = step_stands state kept Reverted s
-
 -- ---- a command
 
 -- what a command comes to, carried to facts that follow from those on the database
@@ -88,17 +53,53 @@ comes_as verdict text command Moved Moved' Same Same' c0 c1 changed (Some (Line 
 comes_as verdict text command Moved Moved' Same Same' c0 c1 changed (Some (Refused fault)) f g h = (h.0, g h.1, h.2, h.3)
 comes_as verdict text command Moved Moved' Same Same' c0 c1 changed (Some NoDatabase) f g h = (h.0, g h.1, h.2, h.3)
 
--- a command over the database is the command of the run
-pub runs_on : (command : Command) (kept kept1 : Option Kept) (state : Option State) (c0 c1 : Option (List ℕ)) (changed : Bool) (fault : Option Fault) → StandsFor kept state
-    → Comes (verdict_on kept command) (lines_on kept command) command (kept1 ≡ kept_next kept command) (kept1 ≡ kept) c0 c1 changed fault
-    → Comes (verdict_on (option_map kept_of state) command) (lines_on (option_map kept_of state) command) command (StandsFor kept1 (next state command)) (StandsFor kept1 state) c0 c1 changed fault
-runs_on command kept kept1 state c0 c1 changed fault s h =
-    let Here : Option Kept → Type 0 = λ k. Comes (verdict_on k command) (lines_on k command) command (StandsFor kept1 (next state command)) (StandsFor kept1 state) c0 c1 changed fault in
-    let here : Here kept = comes_as (verdict_on kept command) (lines_on kept command) command (kept1 ≡ kept_next kept command) (StandsFor kept1 (next state command)) (kept1 ≡ kept) (StandsFor kept1 state) c0 c1 changed fault
-    (λ accepted moved. subst (λ (k : Option Kept). StandsFor k (next state command)) (sym moved) (stands_next command kept state accepted s))
-    (λ same. subst (λ (k : Option Kept). StandsFor k state) (sym same) s)
-    h in
-    subst Here (stands_kept kept state s) here
+-- by the laws of new databases, of those that begin a run, and of one action
+module _ (created_is_valid : (spec : CreateSpec) → CreatedIsValid spec) (database_begins : (base : Content) (brought : List Entry) → Begins base brought) (action_goes_on : (state : State) (kept : Kept) (action : Action) → ActsOn state kept action) where
+  created_stands : (spec : CreateSpec) → create_verdict spec ≡ None → Stands (begun (created spec)) (record { content = created spec; journal = [] })
+  created_stands spec h = database_begins (created spec) [] (record { content_is = created_is_valid spec h; journal_is = tt; few = omega arith })
+
+  -- a command that is accepted keeps it so
+  pub stands_next : (command : Command) (kept : Option Kept) (state : Option State) → verdict_on kept command ≡ None → StandsFor kept state → StandsFor (kept_next kept command) (next state command)
+  stands_next (Create spec) kept state h s = created_stands spec (no_refusal (create_verdict spec) h)
+  stands_next (Update update) None state h s = absurd cc
+  stands_next (Tune tuning) None state h s = absurd cc
+  stands_next (Resize index change rows) None state h s = absurd cc
+  stands_next (Fetch function asked start stop) None state h s = absurd cc
+  stands_next Last None state h s = absurd cc
+  stands_next Revert None state h s = absurd cc
+  stands_next (Update update) (Some kept) None h s = absurd s
+  stands_next (Update update) (Some kept) (Some state) h s =
+      let accepted : verdict kept.content (Updating update) ≡ None = no_refusal (verdict kept.content (Updating update)) h in
+      let moved : Stands _ (step kept (Changed (Updating update))) = action_goes_on state kept (Changed (Updating update)) s in
+      rw accepted at moved
+  stands_next (Tune tuning) (Some kept) None h s = absurd s
+  stands_next (Tune tuning) (Some kept) (Some state) h s =
+      let accepted : verdict kept.content (TuningBy tuning) ≡ None = no_refusal (verdict kept.content (TuningBy tuning)) h in
+      let moved : Stands _ (step kept (Changed (TuningBy tuning))) = action_goes_on state kept (Changed (TuningBy tuning)) s in
+      rw accepted at moved
+  stands_next (Resize index change rows) (Some kept) None h s = absurd s
+  stands_next (Resize index change rows) (Some kept) (Some state) h s =
+      let accepted : verdict kept.content (Resizing index change rows) ≡ None = no_refusal (verdict kept.content (Resizing index change rows)) h in
+      let moved : Stands _ (step kept (Changed (Resizing index change rows))) = action_goes_on state kept (Changed (Resizing index change rows)) s in
+      rw accepted at moved
+  stands_next (Fetch function asked start stop) (Some kept) None h s = absurd s
+  stands_next (Fetch function asked start stop) (Some kept) (Some state) h s = s
+  stands_next Last (Some kept) None h s = absurd s
+  stands_next Last (Some kept) (Some state) h s = s
+  stands_next Revert (Some kept) None h s = absurd s
+  stands_next Revert (Some kept) (Some state) h s = action_goes_on state kept Reverted s
+
+  -- a command over the database is the command of the run
+  pub runs_on : (command : Command) (kept kept1 : Option Kept) (state : Option State) (c0 c1 : Option (List ℕ)) (changed : Bool) (fault : Option Fault) → StandsFor kept state
+      → Comes (verdict_on kept command) (lines_on kept command) command (kept1 ≡ kept_next kept command) (kept1 ≡ kept) c0 c1 changed fault
+      → Comes (verdict_on (option_map kept_of state) command) (lines_on (option_map kept_of state) command) command (StandsFor kept1 (next state command)) (StandsFor kept1 state) c0 c1 changed fault
+  runs_on command kept kept1 state c0 c1 changed fault s h =
+      let Here : Option Kept → Type 0 = λ k. Comes (verdict_on k command) (lines_on k command) command (StandsFor kept1 (next state command)) (StandsFor kept1 state) c0 c1 changed fault in
+      let here : Here kept = comes_as (verdict_on kept command) (lines_on kept command) command (kept1 ≡ kept_next kept command) (StandsFor kept1 (next state command)) (kept1 ≡ kept) (StandsFor kept1 state) c0 c1 changed fault
+      (λ accepted moved. subst (λ (k : Option Kept). StandsFor k (next state command)) (sym moved) (stands_next command kept state accepted s))
+      (λ same. subst (λ (k : Option Kept). StandsFor k state) (sym same) s)
+      h in
+      subst Here (stands_kept kept state s) here
 
 -- ---- its turn
 

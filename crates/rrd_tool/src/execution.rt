@@ -10,6 +10,7 @@ use crate::{Command, Fault};
 use rrd_base::{Change, CreateSpec, Database, Tuning, Update};
 use rrd_fixed::WriteFault;
 use rrd_fold::Function;
+use rrd_spec::laws;
 use std::alloc::Global;
 use std::io::Write;
 
@@ -188,6 +189,9 @@ pub fn execute<W: Write>(
     ensures run { (state : Option State) → StandsFor database state
         → RunsOn state command (W.contents out.old) (W.contents out.new) result }
 {
+    laws::created_is_valid();
+    laws::database_begins();
+    laws::action_goes_on();
     match database {
         None => execute_without(alloc, command),
         Some(database) => execute_on(alloc, database, command, out),

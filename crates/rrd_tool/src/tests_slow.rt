@@ -1,6 +1,5 @@
 //! Worked examples, by the slow program and by the database.
 use crate::tests_database::{source, spec, units, update_of};
-
 use rrd_base::{Chosen, CreateSpec, Database, List, RraDef, check_create};
 use rrd_fixed::{Cell, Kind, Raw, admit};
 use rrd_fold::Function;

@@ -7,9 +7,9 @@ returns-in-None-clause-kept g c = rw c.in-None.is (c.execute_without.ensures (g.
 pub returns-in-None-clause-run : goal.returns-in-None-clause-run
 returns-in-None-clause-run g c state s =
     let outcome = c.execute_without.result in
-    runs_on c.args.command c.args.database outcome.database state _ _ outcome.changed outcome.fault s (rw c.in-None.is (c.execute_without.ensures (g.W.Write.contents c.args.out.now)))
+    runs_on c.created_is_valid.ensures c.database_begins.ensures c.action_goes_on.ensures c.args.command c.args.database outcome.database state _ _ outcome.changed outcome.fault s (rw c.in-None.is (c.execute_without.ensures (g.W.Write.contents c.args.out.now)))
 
 pub returns-in-Some-clause-run : goal.returns-in-Some-clause-run
 returns-in-Some-clause-run g c state s =
     let outcome = c.execute_on.result in
-    runs_on c.args.command c.args.database outcome.database state _ _ outcome.changed outcome.fault s (rw c.in-Some.is c.execute_on.ensures)
+    runs_on c.created_is_valid.ensures c.database_begins.ensures c.action_goes_on.ensures c.args.command c.args.database outcome.database state _ _ outcome.changed outcome.fault s (rw c.in-Some.is c.execute_on.ensures)
