@@ -7,8 +7,8 @@ use Rattle.rrd_spec.specs.History.{Archive}
 use Rattle.rrd_spec.specs.Entries.{Dropped, cells_in, cells_dropped, dropped, rows_between}
 use Rattle.rrd_base.specs.Store.{Saved, befores}
 use Rattle.rrd_spec.specs.Validity.{IsValidArchive}
-use Rattle.rrd_spec.proofs.AllLemmas.{All-take}
-use Rattle.rrd_spec.proofs.AllLemmas.{rows_wide}
+use Rattle.rrd_spec.specs.Facts.{rows_wide}
+use Rattle.rrd_spec.specs.Lists.{All-take}
 
 -- rows of as many cells each
 pub cells_wide : (sources : ℕ) (rows : List (List Cell)) → HasWidth sources rows → cells_in rows ≡ length rows * sources

@@ -9,14 +9,13 @@ use Rattle.rrd_base.specs.declared.entry.Entry.{Entry}
 use Rattle.rrd_base.specs.declared.entry.Entry.TheVariants as entry
 use Rattle.rrd_fixed.specs.declared.name.Name.{Name}
 use Rattle.rrd_spec.specs.History.{Archive, Content, Event, Sampled, Moment, moment_of, moment_after}
-use Rattle.rrd_spec.specs.Commands.{Updating, sample_of, moved}
+use Rattle.rrd_spec.specs.Commands.{Command, Updating, sample_of, moved}
 use Rattle.rrd_spec.specs.Cells.{archive_by_time, content}
 use Rattle.rrd_spec.specs.Entries.{Dropped, Held, put_back_each, with_held, with_rows_at}
 use Rattle.rrd_base.specs.Store.{functions}
 use Rattle.rrd_base.specs.Stored.{HasFunctions}
 use Rattle.rrd_spec.specs.Updating.{last_time, template_of}
-use Rattle.rrd_spec.specs.Verdict.{verdict, no_sample}
-use Rattle.rrd_spec.proofs.Accepted.{accepted_passes}
+use Rattle.rrd_spec.specs.Verdict.{PassesAll, verdict, no_sample}
 
 -- ---- the last time
 
@@ -66,8 +65,8 @@ has_functions before after (entry.Resize number old ∷ entries) e is = (tt, has
 
 -- ---- an accepted update has a sample
 
-pub some_samples : (base : Content) (update : Update) → verdict base (Updating update) ≡ None → 0 < length update.samples
-some_samples base update h = some update.samples (accepted_passes base (Updating update) h).1.1.0 where
+pub some_samples : (passes : (base : Content) (command : Command) → PassesAll base command) (base : Content) (update : Update) → verdict base (Updating update) ≡ None → 0 < length update.samples
+some_samples passes base update h = some update.samples (passes base (Updating update) h).1.1.0 where
   some : (samples : List Sample) → no_sample samples ≡ false → 0 < length samples
   some [] e = cc
   some (sample ∷ samples) e = omega arith

@@ -16,14 +16,12 @@ use Rattle.rrd_base.specs.Store.{befores, functions}
 use Rattle.rrd_base.specs.Stored.{before, update_of, entry_of, HasFunctions, CanUndo, journal_of}
 use Rattle.rrd_base.specs.Tuned.{held_of}
 use Rattle.rrd_spec.specs.Updating.{last_time}
-use Rattle.rrd_spec.specs.Validity.{IsValid, Fits, IsValidDatabase}
+use Rattle.rrd_spec.specs.Validity.{DatabaseStays, IsValid, Fits, IsValidDatabase, RevertStays}
 use Rattle.rrd_spec.specs.Verdict.{verdict}
 use Rattle.rrd_base.proofs.DatabaseLemmas.{moved_last, functions_moved, functions_put_back, functions_resized, functions_tuned, has_functions}
-use Rattle.rrd_spec.proofs.AllLemmas.{All-take, All-drop, All-at}
+use Rattle.rrd_spec.specs.Lists.{All-append, All-at, All-drop, All-take}
 use Rattle.rrd_base.proofs.PutBack.{can_put_back_each}
-use Rattle.rrd_spec.proofs.Fitting.{database_stays, revert_valid}
 use Rattle.rrd_base.proofs.JournalLemmas.{item_at, journal_push, journal_pop}
-use Rattle.rrd_spec.proofs.Kept.{All-append}
 
 -- ---- the newest entry is taken
 
@@ -44,8 +42,9 @@ pub record Newest (now : Content) (items : List Entry) (e : Entry) : Type 0 wher
   pub after : IsValidDatabase (undone now (entry_of e)) (journal_of (take (length items - 1) items))
   pub functions_stay : AllByRecursion (HasFunctions (undone now (entry_of e)).archives) (take (length items - 1) items)
 
-pub newest : (now : Content) (items : List Entry) (e : Entry) → IsValidDatabase now (journal_of items) → AllByRecursion (HasFunctions now.archives) items → Some e ≡ slice_get items (length items - 1) → Newest now items e
-newest now items e is has h =
+-- by the law of reverts
+pub newest : (reverted_stays : (now : Content) (journal : List entries.Entry) → RevertStays now journal) (now : Content) (items : List Entry) (e : Entry) → IsValidDatabase now (journal_of items) → AllByRecursion (HasFunctions now.archives) items → Some e ≡ slice_get items (length items - 1) → Newest now items e
+newest reverted_stays now items e is has h =
     let rest = take (length items - 1) items in
     let pop : journal_of items ≡ entry_of e ∷ journal_of rest = journal_pop entry_of items e h in
     let whole : IsValidDatabase now (entry_of e ∷ journal_of rest) = subst (IsValidDatabase now) pop is in
@@ -55,7 +54,7 @@ newest now items e is has h =
       newest_is = pop;
       can = can_undo now e is.content_is here whole.journal_is.0;
       valid = whole.journal_is.1;
-      after = revert_valid now (entry_of e ∷ journal_of rest) whole;
+      after = reverted_stays now (entry_of e ∷ journal_of rest) whole;
       functions_stay = has_functions now.archives (undone now (entry_of e)).archives rest (functions_undone now e) (All-take (HasFunctions now.archives) (length items - 1) items has);
     }
 
@@ -66,8 +65,9 @@ pub record Added (now : Content) (items : List Entry) (command : Command) (e : E
   pub after : IsValidDatabase (moved now command) (journal_of (keep_last now.depth (items ++ e ∷ [])))
   pub functions_stay : AllByRecursion (HasFunctions (moved now command).archives) (keep_last now.depth (items ++ e ∷ []))
 
-pub added : (now : Content) (items : List Entry) (command : Command) (e : Entry) → IsValidDatabase now (journal_of items) → AllByRecursion (HasFunctions now.archives) items → verdict now command ≡ None → entry_of e ≡ entry_for now command → HasFunctions now.archives e → Added now items command e
-added now items command e is has accepted this functions =
+-- by the law of commands
+pub added : (changed_stays : (now : Content) (journal : List entries.Entry) (command : Command) → DatabaseStays now journal command) (now : Content) (items : List Entry) (command : Command) (e : Entry) → IsValidDatabase now (journal_of items) → AllByRecursion (HasFunctions now.archives) items → verdict now command ≡ None → entry_of e ≡ entry_for now command → HasFunctions now.archives e → Added now items command e
+added changed_stays now items command e is has accepted this functions =
     let all = items ++ e ∷ [] in
     let cut = length all - now.depth in
     let journal : journal_of (keep_last now.depth all) ≡ take now.depth (entry_for now command ∷ journal_of items)
@@ -75,7 +75,7 @@ added now items command e is has accepted this functions =
     let more : AllByRecursion (HasFunctions now.archives) all = All-append (HasFunctions now.archives) items (e ∷ []) has (functions, tt) in
     record {
       journal_is = journal;
-      after = subst (IsValidDatabase (moved now command)) (sym journal) (database_stays now (journal_of items) command is accepted);
+      after = subst (IsValidDatabase (moved now command)) (sym journal) (changed_stays now (journal_of items) command is accepted);
       functions_stay = has_functions now.archives (moved now command).archives (keep_last now.depth all) (functions_moved now (events (settings_of now) command)) (All-drop (HasFunctions now.archives) cut all more);
     }
 

@@ -12,18 +12,18 @@ use Rattle.rrd_spec.proofs.HistoryLemmas.{last_rises, length-sources}
 use Rattle.rrd_spec.proofs.SampleLemmas.{rows_of_samples}
 use Rattle.rrd_spec.specs.Commands.{Asked, Settings, Command, Updating, TuningBy, Resizing, settings_of, rows_of_archives, names, sample_of, samples_of, tuned, rows_changed, events, moved, moved_listed}
 use Rattle.rrd_spec.specs.Verdict.{has_source, is_double, is_bad_rows, grows_too_far, shrinks_too_far, no_sample, asks_nothing, names_no_source, verdict}
-use Rattle.rrd_spec.specs.Entries.{Held, Entry, Updated, WasTuned, WasResized, rows_between, dropped, is_asked, is_named, held, rows_at, with_held, entry, undone}
+use Rattle.rrd_spec.specs.Entries.{Held, Entry, rows_between, dropped, is_asked, is_named, held, rows_at, entry, undone}
 use Rattle.rrd_spec.specs.Survivors.{Action, Changed, Reverted, Kept, is_accepted, changed, reverted, step, AllUndo}
 use Rattle.rrd_spec.proofs.Accepted.{accepted_passes, accepted_history}
 use Rattle.rrd_spec.proofs.Undoing.{comes_back}
-use Rattle.rrd_spec.proofs.AllLemmas.{All-take}
-use Rattle.rrd_spec.proofs.AllLemmas.{rows_wide}
+use Rattle.rrd_spec.specs.Facts.{length-accepted, rows_wide, sound, undone_depth}
+use Rattle.rrd_spec.specs.Lists.{All-take}
 use Rattle.rrd_spec.proofs.Runs.{runs_agree, is_none-true}
 use Rattle.rrd_spec.proofs.Moving.{listed_sound, moved_is, moved_depth, settings_of-content}
 use Rattle.std.proofs.lemmas.List.FromFn.{length-enumerate_from}
 use Rattle.rrd_spec.proofs.NameLemmas.{same_is, same_itself}
 use Rattle.rrd_spec.specs.Validity.{IsRow, IsValidArchive, IsValid, FitsArchive, FitEach, Rise, Fits, IsValidJournal, IsValidDatabase, DatabaseStays, RevertTakesBack, RunsStay, Begins}
-use Rattle.rrd_spec.proofs.Staying.{length-accepted, sound, stays_valid}
+use Rattle.rrd_spec.proofs.Staying.{stays_valid}
 use Rattle.rrd_spec.specs.declared.tune.Tuning.{Tuning}
 use Rattle.rrd_spec.specs.declared.update.Update.{Update}
 use Rattle.rrd_spec.specs.declared.update.Sample.{Sample}
@@ -257,7 +257,7 @@ listed_fits base (Updating update) is h = update_fits base update is h
 listed_fits base (TuningBy tuning) is h = tune_fits base tuning is h
 listed_fits base (Resizing archive change rows) is h = resize_fits base archive change rows is h
 
-fits : (base : Content) (command : Command) → IsValid base → verdict base command ≡ None → Fits (moved base command) (entry base command)
+pub fits : (base : Content) (command : Command) → IsValid base → verdict base command ≡ None → Fits (moved base command) (entry base command)
 fits base command is h = subst (λ now. Fits now (entry base command)) (moved_is base command (sound base is) h) (listed_fits base command is h)
 
 -- ---- the journal
@@ -278,15 +278,6 @@ database_stays now journal command is h =
       journal_is = journal_taken now.depth (moved now command) (entry now command ∷ journal) whole;
       few = let same = moved_depth now command in omega (arith, length-take now.depth (entry now command ∷ journal));
     }
-
-fold_depth : (now : Content) (olds : List Held) → (fold with_held now olds).depth ≡ now.depth
-fold_depth now [] = refl
-fold_depth now (old ∷ olds) = fold_depth (with_held now old) olds
-
-pub undone_depth : (now : Content) (old : Entry) → (undone now old).depth ≡ now.depth
-undone_depth now (Updated old) = refl
-undone_depth now (WasTuned olds) = fold_depth now olds
-undone_depth now (WasResized archive rows) = refl
 
 undo_all : (now : Content) (journal : List Entry) → IsValidJournal now journal → AllUndo now journal
 undo_all now [] h = tt

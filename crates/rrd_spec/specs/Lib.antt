@@ -1,3 +1,4 @@
+pub mod Groups
 pub mod Rules
 pub mod History
 pub mod Passed
@@ -20,3 +21,7 @@ pub mod Turns
 pub mod Slow
 pub mod Slots
 pub mod Filed
+pub mod Lists
+pub mod Facts
+pub mod Changes
+pub mod Steps

@@ -135,6 +135,10 @@ StaysValid base command = IsValid base → verdict base command ≡ None → IsV
 abbrev pub DatabaseStays : Content → List Entry → Command → Type 0
 DatabaseStays now journal command = IsValidDatabase now journal → verdict now command ≡ None → IsValidDatabase (moved now command) (take now.depth (entry now command ∷ journal))
 
+-- so does a revert, which leaves an empty journal as it is
+abbrev pub RevertStays : Content → List Entry → Type 0
+RevertStays now journal = let kept = reverted now journal in IsValidDatabase now journal → IsValidDatabase kept.content kept.journal
+
 -- a revert takes an accepted command back: the content and the journal are as before it, but for the oldest entry of a full journal
 abbrev pub RevertTakesBack : Content → List Entry → Command → Type 0
 RevertTakesBack now journal command =

@@ -1,7 +1,7 @@
 use Rattle.std.proofs.Common.{ap, take, arith}
 use Rattle.rrd_spec.specs.History.{Archive}
 use Rattle.rrd_spec.specs.declared.settings.RraDef.{RraDef}
-use Rattle.rrd_spec.proofs.AllLemmas.{All-take}
+use Rattle.rrd_spec.specs.Lists.{All-take}
 use Rattle.std.proofs.lemmas.List.{length-take}
 use Rattle.rrd_base.specs.Resized.{HasFewRows}
 use Rattle.rrd_base.proofs.ResizeLemmas.{few_sum, few_at}

@@ -4,7 +4,7 @@ use Rattle.std.specs.Option.{option_copied}
 use Rattle.std.proofs.lemmas.Bool.{lt-ltb}
 use Rattle.std.proofs.lemmas.List.{length-reverse, length-map}
 use Rattle.std.proofs.lemmas.Option.{slice_get_within}
-use Rattle.rrd_spec.proofs.AllLemmas.{All-at}
+use Rattle.rrd_spec.specs.Lists.{All-at}
 use Rattle.rrd_base.specs.Stored.{HasFunctions, entry_of, journal_of}
 use Rattle.rrd_spec.specs.Survivors.{Kept}
 use Rattle.rrd_base.proofs.JournalLemmas.{item_at, journal_at}
