@@ -11,7 +11,7 @@ use Rattle.rrd_spec.specs.Passed.{passed}
 use Rattle.rrd_spec.specs.Shown.{definitions}
 use Rattle.rrd_spec.specs.Turns.{rows_shown, in_all, least_of_sample, most_of_sample, least_of_steps, most_of_steps}
 use Rattle.rrd_spec.specs.Validity.{AreAccepted, IsRow, IsValid}
-use Rattle.rrd_fold.proofs.GroupLemmas.{next_ahead}
+use Rattle.rrd_spec.proofs.GroupLemmas.{next_ahead}
 use Rattle.rrd_spec.proofs.PassedLemmas.{passed-append, content_of_sample}
 use Rattle.rrd_base.proofs.Passing.{ended_div, within_div}
 use Rattle.rrd_spec.proofs.Held.{base_of_valid}

@@ -6,10 +6,9 @@ use Rattle.rrd_spec.specs.declared.update.Update.{Update}
 use Rattle.rrd_spec.specs.declared.settings.DsDef.{DsDef}
 use Rattle.rrd_fixed.specs.declared.name.Name.{Name}
 use Rattle.rrd_spec.specs.History.{Content, Sampled, Moment, moment_of, moment_after}
-use Rattle.rrd_spec.specs.Commands.{Updating, sample_of, moved}
+use Rattle.rrd_spec.specs.Commands.{Updating, sample_of, moved, Command}
 use Rattle.rrd_spec.specs.Updating.{last_time, template_of}
-use Rattle.rrd_spec.specs.Verdict.{verdict, no_sample}
-use Rattle.rrd_spec.proofs.Accepted.{accepted_passes}
+use Rattle.rrd_spec.specs.Verdict.{PassesAll, verdict, no_sample}
 
 -- ---- the last time
 
@@ -30,8 +29,8 @@ last_item (s ∷ t ∷ samples) d h = ap (λ n. (get_or (s ∷ t ∷ samples) n 
 
 -- ---- an accepted update has a sample
 
-pub some_samples : (base : Content) (update : Update) → verdict base (Updating update) ≡ None → 0 < length update.samples
-some_samples base update h = some update.samples (accepted_passes base (Updating update) h).1.1.0 where
+pub some_samples : (passes : (base : Content) (command : Command) → PassesAll base command) (base : Content) (update : Update) → verdict base (Updating update) ≡ None → 0 < length update.samples
+some_samples passes base update h = some update.samples (passes base (Updating update) h).1.1.0 where
   some : (samples : List Sample) → no_sample samples ≡ false → 0 < length samples
   some [] e = cc
   some (sample ∷ samples) e = omega arith

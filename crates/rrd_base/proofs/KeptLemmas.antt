@@ -12,11 +12,11 @@ use Rattle.rrd_spec.specs.Entries as entries
 use Rattle.rrd_spec.specs.Entries.{undone, entry as entry_for}
 use Rattle.rrd_base.specs.Journal.{before, update_of, entry_of, CanUndo, journal_of}
 use Rattle.rrd_spec.specs.Updating.{last_time}
-use Rattle.rrd_spec.specs.Validity.{IsValid, Fits, IsValidDatabase}
+use Rattle.rrd_spec.specs.Validity.{DatabaseStays, IsValid, Fits, IsValidDatabase, RevertStays}
 use Rattle.rrd_spec.specs.Verdict.{verdict}
 use Rattle.rrd_base.proofs.DatabaseLemmas.{moved_last}
+use Rattle.rrd_spec.specs.Lists.{All-append, All-at, All-drop, All-take}
 use Rattle.rrd_base.proofs.PutBack.{can_put_back_each}
-use Rattle.rrd_spec.proofs.Fitting.{database_stays, revert_valid}
 use Rattle.rrd_base.proofs.JournalLemmas.{journal_push, journal_pop}
 
 -- ---- the newest entry is taken
@@ -32,8 +32,9 @@ pub record Newest (now : Content) (items : List Entry) (e : Entry) : Type 0 wher
   pub valid : IsValid (undone now (entry_of e))
   pub after : IsValidDatabase (undone now (entry_of e)) (journal_of (take (length items - 1) items))
 
-pub newest : (now : Content) (items : List Entry) (e : Entry) → IsValidDatabase now (journal_of items) → Some e ≡ slice_get items (length items - 1) → Newest now items e
-newest now items e is h =
+-- by the law of reverts
+pub newest : (reverted_stays : (now : Content) (journal : List entries.Entry) → RevertStays now journal) (now : Content) (items : List Entry) (e : Entry) → IsValidDatabase now (journal_of items) → Some e ≡ slice_get items (length items - 1) → Newest now items e
+newest reverted_stays now items e is h =
     let rest = take (length items - 1) items in
     let pop : journal_of items ≡ entry_of e ∷ journal_of rest = journal_pop entry_of items e h in
     let whole : IsValidDatabase now (entry_of e ∷ journal_of rest) = subst (IsValidDatabase now) pop is in
@@ -41,7 +42,7 @@ newest now items e is h =
       newest_is = pop;
       can = can_undo now e is.content_is whole.journal_is.0;
       valid = whole.journal_is.1;
-      after = revert_valid now (entry_of e ∷ journal_of rest) whole;
+      after = reverted_stays now (entry_of e ∷ journal_of rest) whole;
     }
 
 -- ---- an entry is added
@@ -50,14 +51,15 @@ pub record Added (now : Content) (items : List Entry) (command : Command) (e : E
   pub journal_is : journal_of (keep_last now.depth (items ++ e ∷ [])) ≡ take now.depth (entry_for now command ∷ journal_of items)
   pub after : IsValidDatabase (moved now command) (journal_of (keep_last now.depth (items ++ e ∷ [])))
 
-pub added : (now : Content) (items : List Entry) (command : Command) (e : Entry) → IsValidDatabase now (journal_of items) → verdict now command ≡ None → entry_of e ≡ entry_for now command → Added now items command e
-added now items command e is accepted this =
+-- by the law of commands
+pub added : (changed_stays : (now : Content) (journal : List entries.Entry) (command : Command) → DatabaseStays now journal command) (now : Content) (items : List Entry) (command : Command) (e : Entry) → IsValidDatabase now (journal_of items) → verdict now command ≡ None → entry_of e ≡ entry_for now command → Added now items command e
+added changed_stays now items command e is accepted this =
     let all = items ++ e ∷ [] in
     let journal : journal_of (keep_last now.depth all) ≡ take now.depth (entry_for now command ∷ journal_of items)
     = journal_push entry_of now.depth items e ∙ ap (λ x. take now.depth (x ∷ journal_of items)) this in
     record {
       journal_is = journal;
-      after = subst (IsValidDatabase (moved now command)) (sym journal) (database_stays now (journal_of items) command is accepted);
+      after = subst (IsValidDatabase (moved now command)) (sym journal) (changed_stays now (journal_of items) command is accepted);
     }
 
 -- what an update saved is its entry

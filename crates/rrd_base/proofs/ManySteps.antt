@@ -7,12 +7,12 @@ use Rattle.std.specs.List.{fold}
 use Rattle.rrd_fixed.specs.declared.cell.Cell.{Cell}
 use Rattle.rrd_fold.specs.declared.function.Function.{Function}
 use Rattle.rrd_fold.specs.declared.function.Function.TheVariants.{Average}
-use Rattle.rrd_fold.specs.Groups.{finished, unfinished}
-use Rattle.rrd_fold.specs.Parts.{Part, nothing, with_cell, with_each, step_cell, row_cell, seconds_to_steps}
-use Rattle.rrd_fold.proofs.GroupLemmas.{goes_on, finished_within, unfinished_within, finished_filling, unfinished_filling, finished-replicate, unfinished-replicate, next_ahead}
+use Rattle.rrd_spec.specs.Groups.{finished, unfinished}
+use Rattle.rrd_fold.specs.Parts.{Part, nothing, with_cell, with_each, step_cell, row_cell}
+use Rattle.rrd_spec.proofs.GroupLemmas.{goes_on, finished_within, unfinished_within, finished_filling, unfinished_filling, finished-replicate, unfinished-replicate, next_ahead}
 use Rattle.rrd_fold.proofs.Wholes.{whole_step, whole_row}
 use Rattle.rrd_spec.specs.Each.{map_each}
-use Rattle.rrd_spec.specs.Rules.{rows_rule}
+use Rattle.rrd_spec.specs.Rules.{rows_rule, seconds_to_steps}
 use Rattle.rrd_spec.specs.History.{Archive, Content, keep_last, IsBase}
 use Rattle.rrd_spec.specs.Passed.{archive_passed, passed}
 use Rattle.rrd_spec.proofs.EachLemmas.{fold-with_each}

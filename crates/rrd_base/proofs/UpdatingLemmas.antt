@@ -1,5 +1,5 @@
 -- An update's values, name by name.
-use Rattle.std.proofs.Common.{◌≡◌, refl, sym, ◌∙◌, ap, ℕ, zero, suc, ◌+◌, ◌<◌, ◌≤◌, min, Bool, false, cond, List, [], ◌∷◌, map, length, drop, get_or, arith}
+use Rattle.std.proofs.Common.{◌≡◌, refl, sym, ◌∙◌, ap, ℕ, zero, suc, ◌+◌, ◌<◌, ◌≤◌, min, Bool, true, false, cond, List, [], ◌∷◌, map, length, drop, get_or, arith}
 use Rattle.std.proofs.Math.ListN.{get_or-map}
 use Rattle.std.proofs.lemmas.List.{length-map}
 use Rattle.std.proofs.lemmas.Bool.{or_parts}
@@ -10,7 +10,7 @@ use Rattle.rrd_spec.specs.declared.settings.DsDef.{DsDef}
 use Rattle.rrd_spec.specs.declared.update.Given.{Given}
 use Rattle.rrd_spec.specs.Commands.{names, value_for}
 use Rattle.rrd_spec.specs.Verdict.{is_double}
-use Rattle.rrd_spec.proofs.NameLemmas.{same_itself}
+use Rattle.std.proofs.lemmas.Slice.Eq.{bytes_eq-Decides}
 
 -- the value at the first place that is left, or one further on
 value_here : (names : List Name) (values : List Given) (i : ℕ) (d : Name) (e : Given) (source : DsDef) → i < length names → i < length values → value_for (drop i names) (drop i values) source ≡ cond (same_name (get_or names i d) source.name) (get_or values i e) (value_for (drop (suc i) names) (drop (suc i) values) source)
@@ -48,6 +48,9 @@ value_at_end called named values i source h =
     value_none (map called named) values i source (omega (arith, count, h))
 
 -- ---- without a template
+
+same_itself : (a b : Name) → a ≡ b → same_name a b ≡ true
+same_itself a b e = (bytes_eq-Decides a b).1 e
 
 another : (name : Name) (sources : List DsDef) (i : ℕ) (d : DsDef) → list_any (same_name name) (names sources) ≡ false → i < length sources → same_name name (get_or sources i d).name ≡ false
 another name [] i d none h = absurd (omega arith)

@@ -4,7 +4,7 @@ ghost use Rattle.std.specs.Int.{int_div_euclid};
 ghost use Rattle.std.specs.Result.{result_err};
 ghost use Rattle.rrd_spec.specs.Limits.{version_one};
 ghost use Rattle.rrd_spec.specs.Choice.{choice_of};
-ghost use Rattle.rrd_spec.specs.Commands.{Resizing, TuningBy, Updating, moved_listed, rows_changed, rows_of_archives};
+ghost use Rattle.rrd_spec.specs.Commands.{Resizing, TuningBy, Updating, moved, moved_listed, rows_changed, rows_of_archives};
 ghost use Rattle.rrd_spec.specs.Creating.{create_verdict, created};
 ghost use Rattle.rrd_spec.specs.Shown.{cell_at, definitions, prep_at};
 ghost use Rattle.rrd_fixed.specs.declared.cell.Cell.TheVariants.{Unknown as CellUnknown};
@@ -12,10 +12,10 @@ ghost use Rattle.rrd_fixed.specs.declared.raw.Raw.TheVariants.{Unknown};
 ghost use Rattle.rrd_fold.specs.Parts.{nothing};
 ghost use Rattle.rrd_base.specs.Room.{HasPlaces};
 ghost use Rattle.rrd_base.specs.Journal.{CanUndo, before, entry_of, update_of};
-ghost use Rattle.rrd_spec.specs.Entries.{UpdateEntry, ResizeEntry, TuneEntry, entry as entry_for, rows_at, undone};
+ghost use Rattle.rrd_spec.specs.Entries.{UpdateEntry, ResizeEntry, TuneEntry, entry as entry_for, rows_at, undone, with_rows_at};
 ghost use Rattle.rrd_base.specs.Store.{CanPutBackEach};
 ghost use Rattle.rrd_spec.specs.Verdict.{verdict};
-ghost use Rattle.rrd_spec.specs.History.{Resized, Sampled, content_listed};
+ghost use Rattle.rrd_spec.specs.History.{Sampled, content_listed};
 ghost use Rattle.rrd_spec.specs.Passed.{passed};
 ghost use Rattle.rrd_ring.specs.Rows.{newest_rows};
 ghost use Rattle.rrd_spec.specs.Turns.{AreTurns, least_of_sample, least_of_steps, most_of_sample, most_of_steps};
@@ -34,7 +34,7 @@ use arrayvec::ArrayVec;
 use rrd_fixed::{Cell, Meter, Raw};
 use rrd_fold::{RowPrep, StepPrep};
 use rrd_ring::Archive;
-use rrd_spec::Request;
+use rrd_spec::{Request, laws};
 use std::alloc::{AllocError, Global};
 use std::marker::Model;
 
@@ -68,6 +68,7 @@ impl Contents {
         requires { create_verdict spec ≡ None }
         ensures { IfOk result (λ contents. contents ≡ created spec) }
     {
+        laws::created_is_valid();
         let sources = spec.sources.len();
         let raws = vec![in alloc; Raw::Unknown; sources]?;
         let preps = vec![in alloc; StepPrep::new(); sources]?;
@@ -345,8 +346,10 @@ impl Contents {
     /// Gives the sources the settings that a tune asks.
     pub(crate) fn tune(&mut self, tuning: &Tuning)
         requires { verdict self.old (TuningBy tuning.now) ≡ None }
-        ensures { self.new ≡ moved_listed self.old (TuningBy tuning.now) }
+        ensures { self.new ≡ moved self.old (TuningBy tuning.now) }
     {
+        laws::tune_changes_sources();
+        laws::stays_valid();
         tune_all(&mut self.sources, &mut self.raws, tuning);
     }
 
@@ -355,6 +358,7 @@ impl Contents {
         requires { verdict self.now (TuningBy tuning.now) ≡ None }
         ensures { TuneEntry result.items ≡ entry_for self.now (TuningBy tuning.now) }
     {
+        laws::entry_fits();
         keep_sources(&self.sources, &self.raws, tuning)
     }
 
@@ -369,6 +373,7 @@ impl Contents {
         requires { verdict self.now (Resizing archive change rows) ≡ None }
         ensures { IfOk result (λ new. new ≡ newest_rows (rows_changed change (slice_index_or (rows_of_archives self.now.archives) archive 0) rows) (rows_at self.now.archives archive)) }
     {
+        laws::resize_changes_rows();
         let store = &self.stores[archive];
         store.resized(alloc, rows_changed(change, store.def().rows, rows))
     }
@@ -376,9 +381,8 @@ impl Contents {
     /// Gives an archive its resized rows, and gives the ones that it had. It takes no memory.
     pub(crate) fn resize(&mut self, archive: usize, mut rows: Archive) -> Archive
         requires there { archive < length self.old.archives }
-        requires valid { IsValid (content_listed self.old (Resized archive (length rows) ∷ [])) }
-        requires resized { rows ≡ newest_rows (length rows) (rows_at self.old.archives archive) }
-        ensures contents { self.new ≡ content_listed self.old (Resized archive (length rows) ∷ []) }
+        requires valid { IsValid (record self.old { archives = with_rows_at self.old.archives archive rows }) }
+        ensures contents { self.new ≡ record self.old { archives = with_rows_at self.old.archives archive rows } }
         ensures old { result ≡ rows_at self.old.archives archive }
     {
         self.stores[archive].swap_rows(&mut rows);

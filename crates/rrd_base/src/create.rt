@@ -7,8 +7,8 @@ ghost use Rattle.rrd_spec.specs.Creating as creating;
 ghost use Rattle.rrd_spec.specs.Limits.{version_one};
 ghost use Rattle.rrd_spec.specs.Verdict as verdict;
 
-use crate::rows::all_rows;
 use crate::named::is_double;
+use crate::rows::all_rows;
 use crate::{CreateSpec, DsDef, Refusal, RraDef};
 use rrd_spec::limits::{
     DEEPEST_JOURNAL, GREATEST_BOUND, GREATEST_SHARE, LATEST_TIME, LONGEST_HEARTBEAT, LONGEST_STEP,

@@ -17,8 +17,8 @@ ghost use Rattle.rrd_base.specs.Store.{CanPutBack, CanPutBackEach, IsStepped};
 ghost use Rattle.rrd_spec.specs.Validity.{IsRow, IsValidArchive};
 
 use crate::RraDef;
-use crate::rows::HasRows;
 use crate::preparing::{add_each, close_each};
+use crate::rows::HasRows;
 use rrd_fixed::{Cell, Meter};
 use rrd_fold::{Function, RowPrep};
 use rrd_ring::{Archive, Dropped};

@@ -1,4 +1,3 @@
-pub mod Groups
 pub mod Parts
 pub mod Bounds
 pub mod Additions

@@ -1,5 +1,5 @@
 -- A part: how many known cells there were, and what they come to. A step and a row are read off the part of their cells.
-use Rattle.std.specs.Prelude.{ℕ, ◌+◌, ◌-◌, ◌*◌, ◌^◌, ℤ, pos, ◌+ℤ◌, ◌*ℤ◌, int_lt, nat_lt, ◌==◌, if◌then◌else◌, List, [], ◌∷◌, map, replicate, length}
+use Rattle.std.specs.Prelude.{ℕ, ◌+◌, ◌-◌, ◌*◌, ◌^◌, ℤ, pos, ◌+ℤ◌, ◌*ℤ◌, int_lt, nat_lt, ◌==◌, if◌then◌else◌, List, [], ◌∷◌, length}
 use Rattle.std.specs.List.{fold}
 use Rattle.std.specs.Int.{int_min, int_max}
 use Rattle.rrd_fixed.specs.declared.cell.Cell.{Cell}
@@ -7,7 +7,6 @@ use Rattle.rrd_fixed.specs.declared.cell.Cell.TheVariants.{Unknown, Known}
 use Rattle.rrd_fixed.specs.Rounding.{near}
 use Rattle.rrd_fold.specs.declared.function.Function.{Function}
 use Rattle.rrd_fold.specs.declared.function.Function.TheVariants.{Average, Min, Max, Last}
-use Rattle.rrd_fold.specs.Groups.{Rule}
 
 -- how many known cells, and their sum, least, greatest or last one; 0 if there is none
 pub record Part : Type 0 where
@@ -50,13 +49,6 @@ abbrev pub with_each : Function → List Part → List Cell → List Part
 with_each function [] cells = []
 with_each function (part ∷ parts) [] = part ∷ parts
 with_each function (part ∷ parts) (cell ∷ cells) = with_cell function part cell ∷ with_each function parts cells
-
--- the seconds of a step, and the steps of a row, for so many sources
-abbrev pub seconds_to_steps : ℕ → ℕ → Rule (List Cell) (List Part) (List Cell)
-seconds_to_steps step sources = record { size = step; empty = replicate sources nothing; add = with_each Average; close = map (step_cell step) }
-
-abbrev pub steps_to_rows : Function → ℤ → ℕ → ℕ → Rule (List Cell) (List Part) (List Cell)
-steps_to_rows function xff steps sources = record { size = steps; empty = replicate sources nothing; add = with_each function; close = map (row_cell function xff steps) }
 
 -- ---- the same, said of the whole list
 

@@ -1,6 +1,6 @@
 //! What holds of all preparations. Each law is a function without a body: a call of it makes the
 //! law known where it stands.
-ghost use Rattle.std.specs.Prelude.{◌≡◌, ◌++◌, ◌+◌, ◌-◌, ◌*◌, ◌^◌, ◌<◌, ◌≤◌, ℕ, ℤ, pos, ◌+ℤ◌, ◌*ℤ◌, int_lt, unsigned_abs, List, [], ◌∷◌, replicate, if◌then◌else◌};
+ghost use Rattle.std.specs.Prelude.{◌≡◌, ◌++◌, ◌+◌, ◌-◌, ◌*◌, ◌^◌, ◌<◌, ◌≤◌, ℕ, ℤ, pos, ◌+ℤ◌, ◌*ℤ◌, ◌≤ℤ◌, int_lt, unsigned_abs, List, [], ◌∷◌, replicate, if◌then◌else◌};
 ghost use Rattle.std.specs.List.{fold};
 ghost use Rattle.rrd_fixed.specs.declared.cell.Cell.{Cell};
 ghost use Rattle.rrd_fixed.specs.declared.cell.Cell.TheVariants.{Unknown};
@@ -9,8 +9,7 @@ ghost use Rattle.rrd_fold.specs.declared.function.Function.{Function};
 ghost use Rattle.rrd_fold.specs.declared.function.Function.TheVariants.{Average, Min, Max, Last};
 ghost use Rattle.rrd_fold.specs.Additions.{MadeByTwo};
 ghost use Rattle.rrd_fold.specs.Bounds.{finished_cell, weight};
-ghost use Rattle.rrd_fold.specs.Groups.{Rule, GoesOn};
-ghost use Rattle.rrd_fold.specs.Parts.{Part, with_cell, nothing, part_of, row_cell, summary};
+ghost use Rattle.rrd_fold.specs.Parts.{Part, with_cell, nothing, part_of, row_cell, step_cell, summary};
 ghost use Rattle.rrd_fold.specs.Summaries.{IsLeast, IsGreatest};
 
 /// A part that cells are added to one by one stands for the list of them: it counts those that are
@@ -55,9 +54,11 @@ pub fn made_by_two_additions()
         MadeByTwo function known value }
 {}
 
-/// A list in two pieces makes the same groups, the second piece going on where the first one
-/// stopped.
-pub fn groups_in_pieces<A, P, B>()
-    ensures { (rule : Rule A P B) (before : ℕ) (begun : P) (xs ys : List A) →
-        0 < rule.size → GoesOn rule before begun xs ys }
+/// Cells that are all the same come to that cell: the seconds of a step, and the steps of a row.
+pub fn one_cell_alone()
+    ensures step { (step : ℕ) (cell : Cell) → 0 < step →
+        step_cell step (fold (with_cell Average) nothing (replicate step cell)) ≡ cell }
+    ensures row { (function : Function) (xff : ℤ) (steps : ℕ) (cell : Cell) → 0 < steps →
+        pos 0 ≤ℤ xff → xff ≤ℤ pos 999999 →
+        row_cell function xff steps (fold (with_cell function) nothing (replicate steps cell)) ≡ cell }
 {}

@@ -10,6 +10,7 @@ use Rattle.rrd_spec.specs.declared.settings.DsDef.{DsDef}
 use Rattle.rrd_spec.specs.History.{Content, Sampled, Moment, moment_after, moment_of, moment_at_end, raws_under, IsHistory}
 use Rattle.rrd_spec.specs.Commands.{Command, Updating, TuningBy, Resizing, settings_of, sample_of, tuned, names, rows_changed, events}
 use Rattle.rrd_spec.specs.Verdict.{Check, first_refusal, is_bad_rows, grows_too_far, shrinks_too_far, sample_checks, checks, verdict, verdict_within}
+pub use Rattle.rrd_spec.specs.Verdict.{Passes}
 use Rattle.rrd_spec.specs.declared.update.Sample.{Sample}
 use Rattle.rrd_spec.specs.declared.resize.Change.{Change}
 use Rattle.rrd_spec.specs.declared.resize.Change.TheVariants.{Grow, Shrink}
@@ -17,9 +18,6 @@ use Rattle.rrd_spec.specs.declared.refusal.Refusal.{Refusal}
 use Rattle.rrd_spec.specs.Limits.{version_one}
 
 -- ---- every check passes
-
-abbrev pub Passes : Check → Type 0
-Passes check = check.wrong ≡ false
 
 by_case : (b : Bool) (refusal : Refusal) (later : Option Refusal) → cond b (Some refusal) later ≡ None → (b ≡ false) × (later ≡ None)
 by_case true refusal later h = absurd cc

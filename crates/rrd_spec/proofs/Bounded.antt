@@ -1,34 +1,34 @@
 -- The parts of steps and rows, and the cells that they give, stay in their bounds.
-use Rattle.std.proofs.Common.{◌≡◌, refl, sym, ◌∙◌, ap, ℕ, zero, suc, ◌+◌, ◌-◌, ◌*◌, ◌<◌, ◌≤◌, true, false, List, [], ◌∷◌, length, map, replicate, arith, ⊎_elim, ℤ, pos, ◌*ℤ◌, ◌≤ℤ◌, unsigned_abs, ltb, eqb, ◌^◌}
+use Rattle.std.proofs.Common.{◌≡◌, refl, sym, ◌∙◌, ap, ℕ, suc, ◌+◌, ◌-◌, ◌*◌, ◌<◌, ◌≤◌, true, false, List, [], ◌∷◌, length, replicate, arith, ⊎_elim, ℤ, pos, negsuc, ◌*ℤ◌, ◌≤ℤ◌, unsigned_abs, ltb, eqb, ◌^◌}
 use Rattle.std.specs.Prelude.{int_lt}
 use Rattle.std.specs.Int.{int_min, int_max}
 use Rattle.std.proofs.lemmas.Int.{ints}
 use Rattle.std.proofs.lemmas.Bool.{cond_both, lt-ltb, ltb-false, eqb-true, eqb-false}
 use Rattle.std.proofs.lemmas.List.{length-replicate, length-map}
+use Rattle.std.proofs.lemmas.Nat.{mul-le}
 use Rattle.std.specs.List.{AllByRecursion}
 use Rattle.rrd_fixed.specs.declared.cell.Cell.{Cell}
 use Rattle.rrd_fixed.specs.declared.cell.Cell.TheVariants.{Unknown, Known}
 use Rattle.rrd_fixed.specs.Rate.{top, IsBounded}
 use Rattle.rrd_fixed.specs.Nearest.{near_limit}
+use Rattle.rrd_spec.proofs.Nearest.{near_limit}
 use Rattle.rrd_fold.specs.declared.function.Function.{Function}
 use Rattle.rrd_fold.specs.declared.function.Function.TheVariants.{Average, Min, Max, Last}
 use Rattle.rrd_spec.specs.declared.settings.RraDef.{RraDef}
-use Rattle.rrd_fold.specs.Parts.{Part, nothing, with_value, with_cell, with_each, step_cell, consolidated, row_cell, seconds_to_steps}
-use Rattle.rrd_fold.proofs.Wholes.{too_few}
+use Rattle.rrd_fold.specs.Parts.{Part, nothing, with_value, with_cell, with_each, step_cell, consolidated, row_cell}
+use Rattle.rrd_spec.specs.Lists.{All-map}
+pub use Rattle.rrd_spec.specs.Lists.{All-replicate}
 use Rattle.rrd_spec.specs.Validity.{weight, IsPart, AreParts, IsRow}
 use Rattle.rrd_spec.proofs.Kept.{Keeps}
 use Rattle.rrd_fixed.specs.Rounding.{near}
-use Rattle.rrd_spec.specs.Rules.{rows_rule}
-
-pub All-replicate : {A : Type 0} (P : A → Type 0) (n : ℕ) (x : A) → P x → AllByRecursion P (replicate n x)
-All-replicate P zero x h = tt
-All-replicate P (suc n) x h = (h, All-replicate P n x h)
-
-pub All-map : {A B : Type 0} (P : A → Type 0) (Q : B → Type 0) (f : A → B) (xs : List A) → ((x : A) → P x → Q (f x)) → AllByRecursion P xs → AllByRecursion Q (map f xs)
-All-map P Q f [] h is = tt
-All-map P Q f (x ∷ xs) h is = (h x is.0, All-map P Q f xs h is.1)
+use Rattle.rrd_spec.specs.Rules.{rows_rule, seconds_to_steps}
 
 -- ---- one source
+
+-- unknown steps alone are more than xff allows
+too_few : (xff : ℤ) (steps : ℕ) → 0 < steps → pos 0 ≤ℤ xff → xff ≤ℤ pos 999999 → int_lt (xff *ℤ pos steps) (pos (steps * 10 ^ 6)) ≡ true
+too_few (pos x) steps some low high = lt-ltb (x * steps) (steps * 10 ^ 6) (omega (arith, ints, mul-le x steps 999999 steps (omega (arith, ints)) (omega arith)))
+too_few (negsuc x) steps some low high = absurd (omega (arith, ints))
 
 no_part : (function : Function) → IsPart function 0 nothing
 no_part function = record { few = omega arith; bounded = omega arith; empty = λ e. refl }

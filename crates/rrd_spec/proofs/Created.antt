@@ -19,8 +19,8 @@ use Rattle.rrd_spec.specs.Verdict.{is_bad_heartbeat, is_bad_rows, has_bad_bounds
 use Rattle.rrd_spec.specs.Creating.{is_bad_xff, is_bad_steps, create_checks, create_verdict, new_archive, created, create_verdict_within}
 use Rattle.rrd_spec.specs.Validity.{IsSource, AreAccepted, IsPart, AreParts, IsRow, IsValidArchive, IsValid}
 use Rattle.rrd_spec.proofs.Accepted.{all_pass}
-use Rattle.rrd_spec.proofs.Bounded.{All-replicate}
 use Rattle.rrd_spec.specs.Limits.{version_one}
+use Rattle.rrd_spec.specs.Lists.{All-replicate}
 
 -- ---- the sources
 

@@ -17,14 +17,14 @@ use Rattle.rrd_spec.specs.Entries.{Entry, UpdateEntry, TuneEntry, ResizeEntry, r
 use Rattle.rrd_spec.specs.Survivors.{Action, Changed, Reverted, Stored, is_accepted, changed, reverted, step, AllUndo}
 use Rattle.rrd_spec.proofs.Accepted.{accepted_passes, accepted_history}
 use Rattle.rrd_spec.proofs.Undoing.{comes_back}
-use Rattle.rrd_spec.proofs.AllLemmas.{All-take}
-use Rattle.rrd_spec.proofs.AllLemmas.{rows_wide}
+use Rattle.rrd_spec.specs.Facts.{length-accepted, rows_wide, sound, undone_depth}
+use Rattle.rrd_spec.specs.Lists.{All-take}
 use Rattle.rrd_spec.proofs.Runs.{runs_agree, is_none-true}
 use Rattle.rrd_spec.proofs.Moving.{listed_sound, moved_is, moved_depth, settings_of-content}
 use Rattle.std.proofs.lemmas.List.FromFn.{length-enumerate_from}
 use Rattle.rrd_spec.proofs.NameLemmas.{same_is, same_itself}
-use Rattle.rrd_spec.specs.Validity.{IsRow, IsValidArchive, IsValid, FitsArchive, FitEach, Rise, Fits, IsValidJournal, IsValidDatabase, DatabaseStays, RevertTakesBack, RunsStay}
-use Rattle.rrd_spec.proofs.Staying.{length-accepted, sound, stays_valid}
+use Rattle.rrd_spec.specs.Validity.{IsRow, IsValidArchive, IsValid, FitsArchive, FitEach, Rise, Fits, IsValidJournal, IsValidDatabase, DatabaseStays, RevertTakesBack, RunsStay, Begins}
+use Rattle.rrd_spec.proofs.Staying.{stays_valid}
 use Rattle.rrd_spec.specs.declared.tune.Tuning.{Tuning}
 use Rattle.rrd_spec.specs.declared.update.Update.{Update}
 use Rattle.rrd_spec.specs.declared.update.Sample.{Sample}
@@ -260,7 +260,7 @@ listed_fits base (Updating update) is h = update_fits base update is h
 listed_fits base (TuningBy tuning) is h = tune_fits base tuning is h
 listed_fits base (Resizing archive change rows) is h = resize_fits base archive change rows is h
 
-fits : (base : Content) (command : Command) → IsValid base → verdict base command ≡ None → Fits (moved base command) (entry base command)
+pub fits : (base : Content) (command : Command) → IsValid base → verdict base command ≡ None → Fits (moved base command) (entry base command)
 fits base command is h = subst (λ now. Fits now (entry base command)) (moved_is base command (sound base is) h) (listed_fits base command is h)
 
 -- ---- the journal
@@ -281,15 +281,6 @@ database_stays now journal command is h =
       journal_is = journal_taken now.depth (moved now command) (entry now command ∷ journal) whole;
       few = let same = moved_depth now command in omega (arith, length-take now.depth (entry now command ∷ journal));
     }
-
-fold_depth : (now : Content) (olds : List SourceBefore) → (fold with_source now olds).depth ≡ now.depth
-fold_depth now [] = refl
-fold_depth now (old ∷ olds) = fold_depth (with_source now old) olds
-
-pub undone_depth : (now : Content) (old : Entry) → (undone now old).depth ≡ now.depth
-undone_depth now (UpdateEntry old) = refl
-undone_depth now (TuneEntry olds) = fold_depth now olds
-undone_depth now (ResizeEntry archive rows) = refl
 
 undo_all : (now : Content) (journal : List Entry) → IsValidJournal now journal → AllUndo now journal
 undo_all now [] h = tt
@@ -317,6 +308,9 @@ step_valid kept Reverted h = revert_valid kept.content kept.journal h
 run_valid : (actions : List Action) (kept : Stored) → IsValidDatabase kept.content kept.journal → let end = fold step kept actions in IsValidDatabase end.content end.journal
 run_valid [] kept h = h
 run_valid (action ∷ actions) kept h = run_valid actions (step kept action) (step_valid kept action h)
+
+pub database_begins : (base : Content) (brought : List Entry) → Begins base brought
+database_begins base brought is = runs_agree base brought [] (sound base is.content_is) (undo_all base brought is.journal_is) is.few
 
 pub runs_stay : (base : Content) (brought : List Entry) (actions : List Action) → RunsStay base brought actions
 runs_stay base brought actions is = record {

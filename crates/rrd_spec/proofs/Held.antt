@@ -5,23 +5,16 @@ use Rattle.std.specs.List.{fold, enumerate_from, AllByRecursion}
 use Rattle.rrd_fixed.specs.declared.cell.Cell.{Cell}
 use Rattle.rrd_fixed.specs.Rate.{IsBounded}
 use Rattle.rrd_fold.specs.declared.function.Function.TheVariants.{Average}
-use Rattle.rrd_fold.specs.Parts.{seconds_to_steps}
-use Rattle.rrd_spec.specs.History.{Archive, Content, Event, moment_of, moment_at_end, seconds_of, steps_of, parts_of, rows_of, row_parts_of, rows_after, rows_never_lost, keep_last, kept_rows, archive_of, IsHistory, IsArchive}
+use Rattle.rrd_spec.specs.History.{Archive, Content, Event, moment_of, moment_at_end, seconds_of, steps_of, parts_of, rows_of, row_parts_of, rows_after, rows_never_lost, keep_last, kept_rows, archive_of, IsHistory}
 use Rattle.rrd_spec.proofs.HistoryLemmas.{length-seconds_of, length-steps_of}
 use Rattle.rrd_spec.proofs.ContentLemmas.{length-kept_rows}
 use Rattle.rrd_spec.specs.Validity.{AreParts, IsRow, IsValidArchive, IsValid}
-use Rattle.rrd_spec.proofs.AllLemmas.{All-drop}
-use Rattle.rrd_spec.proofs.Kept.{All-append, Kept, kept}
-use Rattle.rrd_spec.proofs.Bounded.{All-replicate, steps_keep, rows_keep}
-use Rattle.rrd_spec.specs.Rules.{rows_rule}
-use Rattle.rrd_spec.specs.History.{IsBase}
-
-pub is_archive : {sources steps : ℕ} (archive : Archive) → IsValidArchive sources steps archive → IsArchive archive
-is_archive archive is = record { some_steps = is.some_steps; some_rows = is.some_rows; rows_are = is.rows_are }
-
-pub are_archives : (sources steps : ℕ) (archives : List Archive) → AllByRecursion (IsValidArchive sources steps) archives → AllByRecursion IsArchive archives
-are_archives sources steps [] is = tt
-are_archives sources steps (archive ∷ archives) is = (is_archive archive is.0, are_archives sources steps archives is.1)
+use Rattle.rrd_spec.specs.Facts.{is_archive}
+pub use Rattle.rrd_spec.specs.Facts.{base_of_valid}
+use Rattle.rrd_spec.specs.Lists.{All-append, All-drop, All-replicate}
+use Rattle.rrd_spec.proofs.Kept.{Kept, kept}
+use Rattle.rrd_spec.proofs.Bounded.{steps_keep, rows_keep}
+use Rattle.rrd_spec.specs.Rules.{rows_rule, seconds_to_steps}
 
 steps_kept : (base : Content) (es : List Event) → IsValid base → AllByRecursion (IsRow (length base.sources)) (seconds_of base es) → Kept (seconds_to_steps base.step (length base.sources)) (AreParts Average (length base.sources)) (IsRow (length base.sources)) base.last base.parts (seconds_of base es)
 steps_kept base es is rows =
@@ -85,6 +78,3 @@ archive_valid base es index archive is h good rows of =
 pub archives_valid : (base : Content) (es : List Event) (index : ℕ) (archives : List Archive) → IsValid base → IsHistory (moment_of base) es → LeavesGoodRows es → AllByRecursion (IsRow (length base.sources)) (seconds_of base es) → AllByRecursion (IsValidArchive (length base.sources) (base.last / base.step)) archives → AllByRecursion (IsValidArchive (length base.sources) ((moment_at_end base es).last / base.step)) (map (archive_of base es) (enumerate_from index archives))
 archives_valid base es index [] is h good rows of = tt
 archives_valid base es index (archive ∷ archives) is h good rows of = (archive_valid base es index archive is h good rows of.0, archives_valid base es (index + 1) archives is h good rows of.1)
-
-pub base_of_valid : (base : Content) → IsValid base → IsBase base
-base_of_valid base is = record { some_step = is.some_step; archives_are = are_archives (length base.sources) (base.last / base.step) base.archives is.archives_are }

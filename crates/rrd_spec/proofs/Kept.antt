@@ -1,14 +1,11 @@
 -- What groups keep to.
-use Rattle.std.proofs.Common.{◌≡◌, ◌∙◌, ap, ℕ, suc, ◌+◌, ◌*◌, ◌/◌, ◌%◌, ◌<◌, ◌≤◌, List, [], ◌∷◌, ◌++◌, length, arith, ⊎_elim}
+use Rattle.std.proofs.Common.{◌≡◌, ◌∙◌, ap, ℕ, suc, ◌+◌, ◌*◌, ◌/◌, ◌%◌, ◌<◌, ◌≤◌, List, [], ◌∷◌, length, arith, ⊎_elim}
 use Rattle.std.proofs.lemmas.Bool.{cases_lt}
 use Rattle.std.proofs.lemmas.Nat.{div-add-mod', mod_below, mod-mul-add}
 use Rattle.std.specs.List.{AllByRecursion}
-use Rattle.rrd_fold.specs.Groups.{Rule, finished, unfinished}
-use Rattle.rrd_fold.proofs.GroupLemmas.{goes_on, finished_nil, unfinished_nil, finished_within, unfinished_within, finished_filling, unfinished_filling, next_ahead}
-
-pub All-append : {A : Type 0} (P : A → Type 0) (xs ys : List A) → AllByRecursion P xs → AllByRecursion P ys → AllByRecursion P (xs ++ ys)
-All-append P [] ys h k = k
-All-append P (x ∷ xs) ys h k = (h.0, All-append P xs ys h.1 k)
+use Rattle.rrd_spec.specs.Groups.{Rule, finished, unfinished}
+pub use Rattle.rrd_spec.specs.Lists.{All-append}
+use Rattle.rrd_spec.proofs.GroupLemmas.{goes_on, finished_nil, unfinished_nil, finished_within, unfinished_within, finished_filling, unfinished_filling, next_ahead}
 
 next_mod : (n size : ℕ) → 0 < size → n + 1 < (n / size + 1) * size → (n + 1) % size ≡ n % size + 1
 next_mod n size some h =

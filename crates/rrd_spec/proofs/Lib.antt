@@ -1,3 +1,4 @@
+pub mod GroupLemmas
 pub mod HistoryLemmas
 pub mod RowLemmas
 pub mod ContentLemmas
@@ -22,3 +23,7 @@ pub mod CellLemmas
 pub mod ShownLemmas
 pub mod SlowLemmas
 pub mod SlowRows
+pub mod Nearest
+pub mod Changing
+pub mod PassedValid
+pub mod ManySteps

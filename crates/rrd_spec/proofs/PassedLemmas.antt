@@ -1,24 +1,19 @@
 -- Seconds that pass in pieces, and a sample's.
-use Rattle.std.proofs.Common.{◌≡◌, refl, sym, ◌∙◌, ap, ℕ, zero, suc, ◌+◌, ◌-◌, ◌*◌, ◌/◌, ◌<◌, ◌≤◌, min, List, [], ◌∷◌, ◌++◌, length, take, map, replicate, arith, length-append, append_assoc, append-nil}
+use Rattle.std.proofs.Common.{◌≡◌, refl, sym, ◌∙◌, ap, ℕ, zero, suc, ◌+◌, ◌-◌, ◌*◌, ◌/◌, ◌<◌, ◌≤◌, min, List, [], ◌∷◌, ◌++◌, length, map, replicate, arith, length-append, append_assoc, append-nil}
 use Rattle.std.proofs.lemmas.Bool.{le-leb}
 use Rattle.std.proofs.lemmas.List.{length-replicate}
 use Rattle.std.specs.List.{fold, range_with_len, enumerate_from, AllByRecursion}
 use Rattle.rrd_fixed.specs.declared.cell.Cell.{Cell}
 use Rattle.rrd_fold.specs.declared.function.Function.TheVariants.{Average}
-use Rattle.rrd_fold.specs.Groups.{finished, unfinished}
-use Rattle.rrd_fold.specs.Parts.{Part, with_each, seconds_to_steps}
-use Rattle.rrd_spec.specs.Rules.{rows_rule}
+use Rattle.rrd_spec.specs.Groups.{finished, unfinished}
+use Rattle.rrd_fold.specs.Parts.{Part, with_each}
+use Rattle.rrd_spec.specs.Rules.{rows_rule, seconds_to_steps}
 use Rattle.rrd_spec.specs.History.{Archive, Content, Reading, Sampled, moment_of, rates, samples, second, seconds_of, steps_of, parts_of, rows_of, row_parts_of, keep_last, filled_up, kept_rows, archive_of, content_listed, IsArchive, IsBase}
 use Rattle.rrd_spec.specs.Passed.{archive_passed, passed}
-use Rattle.rrd_fold.proofs.GroupLemmas.{finished_nil, unfinished_nil, finished_within, unfinished_within, goes_on, length-finished, reached_before}
-use Rattle.rrd_spec.proofs.RowLemmas.{filled_already, keep_last_past, keep_all, split_last, length-keep_last}
-
--- to keep the last of a list twice is to keep them once
-pub keep_last-append : {A : Type 0} (n : ℕ) (xs ys : List A) → n ≤ length xs → keep_last n (xs ++ ys) ≡ keep_last n (keep_last n xs ++ ys)
-keep_last-append n xs ys h =
-    ap (λ zs. keep_last n (zs ++ ys)) (sym (split_last n xs))
-    ∙ ap (keep_last n) (append_assoc (take (length xs - n) xs) (keep_last n xs) ys)
-    ∙ keep_last_past n (take (length xs - n) xs) (keep_last n xs ++ ys) (omega (arith, length-append (keep_last n xs) ys, length-keep_last n xs h))
+use Rattle.rrd_spec.proofs.GroupLemmas.{finished_nil, unfinished_nil, finished_within, unfinished_within, goes_on, length-finished, reached_before}
+use Rattle.rrd_spec.proofs.RowLemmas.{filled_already}
+use Rattle.rrd_spec.specs.Lists.{keep_all, length-keep_last}
+pub use Rattle.rrd_spec.specs.Lists.{keep_last-append}
 
 pub archive_passed-append : (sources before middle : ℕ) (archive : Archive) (xs ys : List (List Cell)) → 0 < archive.def.steps → before + length xs ≡ middle → archive_passed sources before (xs ++ ys) archive ≡ archive_passed sources middle ys (archive_passed sources before xs archive)
 unfolding archive_passed

@@ -5,12 +5,13 @@ use Rattle.std.specs.List.{fold, range_with_len, enumerate_from, AllByRecursion}
 use Rattle.rrd_fixed.specs.declared.cell.Cell.{Cell}
 use Rattle.rrd_fixed.specs.declared.raw.Raw.{Raw}
 use Rattle.rrd_spec.specs.declared.settings.DsDef.{DsDef}
-use Rattle.rrd_fold.specs.Groups.{finished, unfinished}
-use Rattle.rrd_fold.specs.Parts.{Part, seconds_to_steps}
+use Rattle.rrd_fold.specs.Parts.{Part}
 use Rattle.rrd_spec.specs.History.{Archive, Content, Event, Tuned, Resized, moment_of, moment_at_end, raws_under, samples, second, seconds_of, steps_of, parts_of, rows_of, row_parts_of, rows_after, rows_never_lost, keep_last, filled_up, kept_rows, archive_of, content_listed, IsArchive, IsBase}
-use Rattle.rrd_fold.proofs.GroupLemmas.{finished_nil, unfinished_nil}
-use Rattle.rrd_spec.proofs.RowLemmas.{filled_already, keep_all}
-use Rattle.rrd_spec.specs.Rules.{rows_rule}
+use Rattle.rrd_spec.proofs.RowLemmas.{filled_already}
+use Rattle.rrd_spec.specs.Rules.{rows_rule, seconds_to_steps}
+use Rattle.rrd_spec.specs.Groups.{finished, unfinished}
+use Rattle.rrd_spec.proofs.GroupLemmas.{finished_nil, unfinished_nil}
+use Rattle.rrd_spec.specs.Lists.{keep_all}
 
 module _ (base : Content) (es : List Event) (same : (moment_at_end base es).last ≡ base.last) where
   pub seconds_none : seconds_of base es ≡ []

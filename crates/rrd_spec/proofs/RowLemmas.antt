@@ -1,28 +1,13 @@
 -- An archive's rows after a history in two pieces.
 use Rattle.std.proofs.Common.{◌≡◌, refl, sym, ◌∙◌, ap, ℕ, ◌+◌, ◌-◌, ◌<◌, ◌≤◌, min, cond, List, [], ◌∷◌, ◌++◌, length, take, drop, replicate, arith, length-append, append_assoc, append-nil, take_all, get_or, ltb, ⊎_elim}
 use Rattle.std.proofs.lemmas.Bool.{cases_lt, lt-ltb, le-ltb}
-use Rattle.std.proofs.lemmas.List.{drop-append-le, drop_at, drop-drop, drop-replicate, length-drop, length-replicate, take-append-drop, replicate-append-replicate, take_at, get_or-append_right, get_or-drop, get_or_append_left, get_or-replicate}
+use Rattle.std.proofs.lemmas.List.{drop-append-le, drop-replicate, length-drop, length-replicate, take-append-drop, replicate-append-replicate, take_at, get_or-append_right, get_or-drop, get_or_append_left, get_or-replicate}
 use Rattle.std.specs.List.{fold}
 use Rattle.rrd_spec.specs.History.{Event, Sampled, Tuned, Resized, Moment, moment_after, rows_after, rows_never_lost, keep_last, filled_up, IsHistory}
 use Rattle.rrd_spec.proofs.HistoryLemmas.{last_rises}
+pub use Rattle.rrd_spec.specs.Lists.{keep_all, keep_last_past, length-keep_last, split_last}
 
 -- ---- lists
-
--- what comes before the last items doesn't count
-pub keep_last_past : {A : Type 0} (n : ℕ) (ps xs : List A) → n ≤ length xs → keep_last n (ps ++ xs) ≡ keep_last n xs
-keep_last_past n ps xs h =
-    let count : length (ps ++ xs) - n ≡ length ps + (length xs - n) = omega (arith, length-append ps xs) in
-    ap (λ m. drop m (ps ++ xs)) count ∙ sym (drop-drop (length xs - n) (length ps) (ps ++ xs)) ∙ ap (drop (length xs - n)) (drop_at ps xs (length ps) refl)
-
-pub keep_all : {A : Type 0} (n : ℕ) (xs : List A) → length xs ≤ n → keep_last n xs ≡ xs
-keep_all n xs h = ap (λ m. drop m xs) {x = length xs - n} {y = 0} (omega arith)
-
-pub length-keep_last : {A : Type 0} (n : ℕ) (xs : List A) → n ≤ length xs → length (keep_last n xs) ≡ n
-length-keep_last n xs h = omega (arith, length-drop (length xs - n) xs)
-
--- the last items, and what went before them
-pub split_last : {A : Type 0} (n : ℕ) (xs : List A) → take (length xs - n) xs ++ keep_last n xs ≡ xs
-split_last n xs = take-append-drop (length xs - n) xs
 
 -- what is full already stays
 pub filled_already : {A : Type 0} (n : ℕ) (u : A) (xs : List A) → length xs ≡ n → filled_up n u xs ≡ xs

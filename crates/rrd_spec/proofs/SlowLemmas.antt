@@ -8,7 +8,7 @@ use Rattle.rrd_fixed.specs.declared.cell.Cell.{Cell}
 use Rattle.rrd_fixed.specs.declared.raw.Raw.{Raw}
 use Rattle.rrd_fixed.specs.declared.raw.Raw.TheVariants.{Unknown}
 use Rattle.rrd_fold.specs.declared.function.Function.{Function}
-use Rattle.rrd_fold.specs.Groups.{group_items, finished}
+use Rattle.rrd_spec.specs.Groups.{group_items, finished}
 use Rattle.rrd_fold.specs.Parts.{Part, nothing, with_cell, with_each}
 use Rattle.rrd_spec.specs.declared.settings.DsDef.{DsDef}
 use Rattle.rrd_spec.specs.declared.slow.Group.{Group}
@@ -21,8 +21,8 @@ use Rattle.rrd_spec.specs.History.{Taken, Sampled, moment_after, rates, samples,
 use Rattle.rrd_spec.specs.Slow.{event_of, reading_of, taken_of, AreInOrder, latest, size_of, function_of, cell_of, rule_of, IsGroup}
 use Rattle.rrd_spec.specs.Validity.{AreAccepted, AreParts, IsPart}
 use Rattle.rrd_spec.proofs.EachLemmas.{rate_of}
-use Rattle.rrd_spec.proofs.AllLemmas.{All-weaker}
-use Rattle.rrd_fold.proofs.GroupLemmas.{map_range_same}
+use Rattle.rrd_spec.specs.Lists.{All-weaker}
+use Rattle.rrd_spec.proofs.GroupLemmas.{map_range_same}
 
 -- ---- samples
 

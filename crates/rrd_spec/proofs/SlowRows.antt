@@ -6,9 +6,10 @@ use Rattle.std.proofs.Math.Nat.{div-le_self}
 use Rattle.rrd_fixed.specs.declared.cell.Cell.{Cell}
 use Rattle.rrd_fixed.specs.declared.raw.Raw.TheVariants.{Unknown}
 use Rattle.rrd_fold.specs.declared.function.Function.TheVariants.{Average}
-use Rattle.rrd_fold.specs.Groups.{finished}
-use Rattle.rrd_fold.specs.Parts.{nothing, seconds_to_steps}
-use Rattle.rrd_fold.proofs.GroupLemmas.{length-finished}
+use Rattle.rrd_spec.specs.Groups.{finished}
+use Rattle.rrd_fold.specs.Parts.{nothing}
+use Rattle.rrd_spec.specs.Rules.{seconds_to_steps}
+use Rattle.rrd_spec.proofs.GroupLemmas.{length-finished}
 use Rattle.rrd_spec.specs.declared.create.CreateSpec.{CreateSpec}
 use Rattle.rrd_spec.specs.declared.settings.DsDef.{DsDef}
 use Rattle.rrd_spec.specs.declared.settings.RraDef.{RraDef}
@@ -24,7 +25,7 @@ use Rattle.rrd_spec.proofs.Bounded.{steps_keep}
 use Rattle.rrd_spec.proofs.CellLemmas.{is_listed, one_of}
 use Rattle.rrd_spec.proofs.Created.{created_valid}
 use Rattle.rrd_spec.proofs.Kept.{kept}
-use Rattle.rrd_spec.proofs.Held.{base_of_valid}
+use Rattle.rrd_spec.specs.Facts.{base_of_valid}
 use Rattle.rrd_spec.proofs.Rates.{seconds_rows}
 use Rattle.rrd_spec.proofs.SampleLemmas.{kept_rows_of_samples, rows_of_samples}
 use Rattle.rrd_spec.proofs.SlowLemmas.{is_history, are_accepted, events_are, latest_is, latest_later, latest_small, length-seconds}

@@ -19,14 +19,15 @@ use Rattle.rrd_spec.specs.History.{Archive, Content, Reading, Event, Sampled, Tu
 use Rattle.rrd_spec.proofs.HistoryLemmas.{length-sources}
 use Rattle.rrd_spec.proofs.SampleLemmas.{rows_of_samples}
 use Rattle.rrd_spec.specs.Commands.{Asked, Command, Updating, TuningBy, Resizing, settings_of, settings_after, rows_of_archives, raw_of, value_for, sample_of, samples_of, names, asked, tuned, rows_changed, events, moved_listed}
-use Rattle.rrd_spec.specs.Verdict.{is_bad_heartbeat, is_bad_rows, has_bad_bounds, has_source, is_double, grows_too_far, sample_checks, cells, verdict}
-use Rattle.rrd_spec.proofs.Accepted.{Passes, accepted_passes, accepted_history}
+use Rattle.rrd_spec.specs.Verdict.{Passes, is_bad_heartbeat, is_bad_rows, has_bad_bounds, has_source, is_double, grows_too_far, sample_checks, cells, verdict}
+use Rattle.rrd_spec.proofs.Accepted.{accepted_passes, accepted_history}
 use Rattle.rrd_spec.proofs.Moving.{moved_is, settings_of-content}
 use Rattle.rrd_spec.proofs.Quiet.{seconds_none}
-use Rattle.rrd_spec.specs.Entries.{IsSound}
 use Rattle.rrd_spec.specs.Validity.{IsSource, AreAccepted, AreParts, IsRow, IsValidArchive, IsValid, StaysValid}
 use Rattle.rrd_spec.proofs.Rates.{seconds_rows}
-use Rattle.rrd_spec.proofs.Held.{LeavesGoodRows, are_archives, parts_valid, archives_valid}
+use Rattle.rrd_spec.proofs.Held.{LeavesGoodRows, parts_valid, archives_valid}
+use Rattle.rrd_spec.specs.Facts.{sound}
+pub use Rattle.rrd_spec.specs.Facts.{length-accepted}
 use Rattle.rrd_spec.proofs.NameLemmas.{names_differ, names_tuned}
 use Rattle.rrd_fixed.specs.Rounding.{floor_of}
 use Rattle.rrd_spec.specs.declared.update.Given.{Given}
@@ -223,7 +224,7 @@ tune_leaves base tuning is h =
 
 -- ---- a resize
 
-few_rows_at : (sources steps index : ℕ) (archives : List Archive) → AllByRecursion (IsValidArchive sources steps) archives → get_or (rows_of_archives archives) index 0 ≤ 1000000
+pub few_rows_at : (sources steps index : ℕ) (archives : List Archive) → AllByRecursion (IsValidArchive sources steps) archives → get_or (rows_of_archives archives) index 0 ≤ 1000000
 few_rows_at sources steps index [] is = omega arith
 few_rows_at sources steps zero (archive ∷ archives) is = is.0.few_rows
 few_rows_at sources steps (suc index) (archive ∷ archives) is = few_rows_at sources steps index archives is.1
@@ -254,20 +255,6 @@ resize_leaves base archive change rows is h =
       good_rows = λ index there some few. cond_both (eqb archive index) new there (λ n. (0 < n) × (n ≤ 1000000)) (λ e. (history.0, few_new)) (λ e. (some, few));
       few_cells = below (cells (fold settings_after settings es)) _ (ap cells (settings_of-content base es)) (ltb-false 4000000 (cells (fold settings_after settings es)) p.1.1.1.0);
     }
-
--- ---- what is valid is sound
-
-pub length-accepted : (sources : List DsDef) (raws : List Raw) → AreAccepted sources raws → length raws ≡ length sources
-length-accepted [] [] h = refl
-length-accepted [] (raw ∷ raws) h = absurd h
-length-accepted (source ∷ sources) [] h = absurd h
-length-accepted (source ∷ sources) (raw ∷ raws) h = ap suc (length-accepted sources raws h.1)
-
-pub sound : (base : Content) → IsValid base → IsSound base
-sound base is = record {
-  is_base = record { some_step = is.some_step; archives_are = are_archives (length base.sources) (base.last / base.step) base.archives is.archives_are };
-  one_raw_each = length-accepted base.sources base.raws is.raws_are;
-}
 
 -- ---- what is valid stays so
 

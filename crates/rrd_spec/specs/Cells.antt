@@ -3,11 +3,10 @@ use Rattle.std.specs.Prelude.{◌≡◌, ℕ, ◌+◌, ◌-◌, ◌*◌, ◌/◌
 use Rattle.std.specs.List.{fold, enumerate_from, range_with_len}
 use Rattle.std.specs.Int.{int_max, int_rem_euclid}
 use Rattle.rrd_fixed.specs.declared.cell.Cell.{Cell}
-use Rattle.rrd_fold.specs.Groups.{group_part}
-use Rattle.rrd_fold.specs.Parts.{seconds_to_steps}
-use Rattle.rrd_spec.specs.Rules.{rows_rule}
+use Rattle.rrd_spec.specs.Rules.{rows_rule, seconds_to_steps}
 pub use Rattle.rrd_spec.specs.Rules.{resolution}
 use Rattle.rrd_spec.specs.History.{Archive, Content, Event, moment_of, moment_at_end, seconds_of, steps_of, parts_of, rows_of, row_parts_of, rows_at_end, content_listed, IsHistory, IsBase}
+use Rattle.rrd_spec.specs.Groups.{group_part}
 use Rattle.rrd_spec.specs.Passed.{row_at}
 use Rattle.rrd_spec.specs.Shown.{cell_at}
 

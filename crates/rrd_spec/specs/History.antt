@@ -10,9 +10,9 @@ use Rattle.rrd_fixed.specs.declared.kind.Kind.TheVariants.{Gauge, Counter, Deriv
 use Rattle.rrd_fixed.specs.Rate.{rate}
 use Rattle.rrd_spec.specs.declared.settings.DsDef.{DsDef}
 use Rattle.rrd_spec.specs.declared.settings.RraDef.{RraDef}
-use Rattle.rrd_fold.specs.Groups.{finished, unfinished}
-use Rattle.rrd_spec.specs.Rules.{resolution, rows_rule}
-use Rattle.rrd_fold.specs.Parts.{Part, seconds_to_steps}
+use Rattle.rrd_spec.specs.Rules.{resolution, rows_rule, seconds_to_steps}
+use Rattle.rrd_fold.specs.Parts.{Part}
+use Rattle.rrd_spec.specs.Groups.{finished, unfinished}
 
 -- ---- what a database holds
 

@@ -1,4 +1,5 @@
 pub mod Limits
+pub mod Groups
 pub mod Rules
 pub mod History
 pub mod Passed
@@ -21,3 +22,7 @@ pub mod Turns
 pub mod Slow
 pub mod Slots
 pub mod Filed
+pub mod Lists
+pub mod Facts
+pub mod Changes
+pub mod Steps

@@ -2,9 +2,8 @@
 use Rattle.std.specs.Prelude.{◌≡◌, ℕ, ◌+◌, ◌-◌, ◌/◌, ◌<◌, List, [], ◌∷◌, ◌++◌, map, length, replicate, take, min, ◌≤◌, ℤ, pos, negsuc, ◌-ℤ◌, nat_lt, slice_index_or, if◌then◌else◌}
 use Rattle.std.specs.Int.{int_div_euclid}
 use Rattle.rrd_fixed.specs.declared.cell.Cell.{Cell}
-use Rattle.rrd_fold.specs.Groups.{finished, unfinished}
-use Rattle.rrd_fold.specs.Parts.{seconds_to_steps}
-use Rattle.rrd_spec.specs.Rules.{resolution, rows_rule}
+use Rattle.rrd_spec.specs.Rules.{resolution, rows_rule, seconds_to_steps}
+use Rattle.rrd_spec.specs.Groups.{finished, unfinished}
 use Rattle.rrd_spec.specs.History.{Archive, Content, Reading, Sampled, keep_last, filled_up, rates, rows_of, kept_rows, content_listed, IsBase, IsArchive}
 
 -- an archive after these steps, `before` having ended earlier

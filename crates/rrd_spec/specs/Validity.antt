@@ -16,7 +16,7 @@ use Rattle.rrd_spec.specs.Commands.{Command, names, settings_of, moved}
 use Rattle.rrd_fixed.specs.Names.{is_good}
 use Rattle.rrd_spec.specs.Verdict.{is_double, is_bad_heartbeat, has_bad_bounds, cells, verdict}
 use Rattle.rrd_spec.specs.Entries.{SavedArchive, BeforeUpdate, Entry, UpdateEntry, TuneEntry, ResizeEntry, rows_between, rows_at, entry, undone}
-use Rattle.rrd_spec.specs.Survivors.{Action, changed, reverted, step, after, Stands}
+use Rattle.rrd_spec.specs.Survivors.{Action, changed, reverted, step, after, Stands, State, Kept}
 
 -- ---- a content
 
@@ -150,7 +150,7 @@ IsValidJournal = IsValidJournalWithin version_one
 abbrev pub IsValidDatabase : Content → List Entry → Type 0
 IsValidDatabase = IsValidDatabaseWithin version_one
 
--- ---- the law
+-- ---- the laws
 
 -- an accepted command moves a valid content to a valid one
 abbrev pub StaysValid : Content → Command → Type 0
@@ -162,6 +162,10 @@ DatabaseStays now journal command =
     IsValidDatabase now journal
     → verdict now command ≡ None
     → IsValidDatabase (moved now command) (take now.depth (entry now command ∷ journal))
+
+-- so does a revert, which leaves an empty journal as it is
+abbrev pub RevertStays : Content → List Entry → Type 0
+RevertStays now journal = let stored = reverted now journal in IsValidDatabase now journal → IsValidDatabase stored.content stored.journal
 
 -- a revert takes an accepted command back: the content and the journal are as before it, but for the oldest entry of a
 -- full journal
@@ -184,3 +188,11 @@ pub record RunStays (base : Content) (brought : List Entry) (actions : List Acti
 
 abbrev pub RunsStay : Content → List Entry → List Action → Type 0
 RunsStay base brought actions = IsValidDatabase base brought → RunStays base brought actions
+
+-- a valid database stands for the state that begins with it: nothing survives on its content yet, and its journal is brought along
+abbrev pub Begins : Content → List Entry → Type 0
+Begins base brought = IsValidDatabase base brought → Stands (record { base = base; brought = brought; survivors = []; revertible = 0 }) (record { content = base; journal = brought })
+
+-- one action leads from a database that stands for a state to one that stands for the state after it
+abbrev pub ActsOn : State → Kept → Action → Type 0
+ActsOn state kept action = Stands state kept → Stands (after state action) (step kept action)

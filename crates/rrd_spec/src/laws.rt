@@ -1,22 +1,44 @@
-//! Laws of the definitions alone. Each is the contract of a function that does nothing.
-ghost use Rattle.std.specs.Prelude.{ℕ, List};
+//! Laws of the definitions alone. Each is the contract of a function that does nothing: a call of it
+//! makes the law known where it stands.
+ghost use Rattle.std.specs.Prelude.{ℕ, ◌<◌, List, replicate};
 ghost use Rattle.rrd_fixed.specs.declared.cell.Cell.{Cell};
+ghost use Rattle.rrd_fold.specs.declared.function.Function.{Function};
+ghost use Rattle.rrd_fold.specs.Parts.{Part, nothing};
+ghost use Rattle.rrd_spec.specs.Changes.{ArchiveStaysValid, AreKept, EntryFits, GoesOnListed, MovesListed, PartsGrow, PassesWithin, ResizeChanges, ResizeFits, StaysValidFor, TuneChanges};
+ghost use Rattle.rrd_spec.specs.Groups.{GoesOn, Rule};
 ghost use Rattle.rrd_spec.specs.History.{Archive, Content, Event, Reading};
 ghost use Rattle.rrd_spec.specs.Passed.{PassesInPieces, SampledPasses, RowsComeBack, ShowsByAge};
 ghost use Rattle.rrd_spec.specs.Commands.{Command};
 ghost use Rattle.rrd_spec.specs.Entries.{Entry, ComesBack};
-ghost use Rattle.rrd_spec.specs.Survivors.{Action, CommandsGoOn, Moves, RunsAgree};
-ghost use Rattle.rrd_spec.specs.Validity.{StaysValid, DatabaseStays, RevertTakesBack, RunsStay};
+ghost use Rattle.rrd_spec.specs.Steps.{SecondsOver, StepsInPieces, StepsOver, StepsWithin};
+ghost use Rattle.rrd_spec.specs.Survivors.{Action, CommandsGoOn, Kept, Moves, RunsAgree, State};
+ghost use Rattle.rrd_spec.specs.Validity.{ActsOn, AreParts, Begins, StaysValid, DatabaseStays, RevertStays, RevertTakesBack, RunsStay};
+ghost use Rattle.rrd_spec.specs.Verdict.{PassesAll};
 ghost use Rattle.rrd_spec.specs.declared.create.CreateSpec.{CreateSpec};
+ghost use Rattle.rrd_spec.specs.declared.resize.Change.{Change};
+ghost use Rattle.rrd_spec.specs.declared.settings.DsDef.{DsDef};
+ghost use Rattle.rrd_spec.specs.declared.tune.Tuning.{Tuning};
+ghost use Rattle.rrd_spec.specs.declared.update.Given.{Given};
 ghost use Rattle.rrd_spec.specs.Creating.{CreatedIsValid};
 ghost use Rattle.rrd_spec.specs.Cells.{GoesOnFromContent, IsListed, ListsByNumber, ShowsByTime, ShowsCells, StaysBase};
 ghost use Rattle.rrd_spec.specs.Worked as worked;
 ghost use Rattle.rrd_spec.specs.WorkedCommands as commands;
 ghost use Rattle.rrd_spec.specs.WorkedTimes as times;
 
-/// A history may be cut anywhere: the content at the cut is a base for what comes after.
+use rrd_fold::laws::one_cell_alone;
+
+/// A list in two pieces makes the same groups, the second piece going on where the first one
+/// stopped.
+pub fn groups_in_pieces<A, P, B>()
+    ensures { (rule : Rule A P B) (before : ℕ) (begun : P) (xs ys : List A) →
+        0 < rule.size → GoesOn rule before begun xs ys }
+{}
+
+/// A history may be cut anywhere: the content at the cut is a base for what comes after. So it is
+/// where the rows are said by list.
 pub fn content_goes_on()
-    ensures { (base : Content) (first second : List Event) → GoesOnFromContent base first second }
+    ensures by_time { (base : Content) (first second : List Event) → GoesOnFromContent base first second }
+    ensures by_list { (base : Content) (first second : List Event) → GoesOnListed base first second }
 {}
 
 /// A history makes a base of a base.
@@ -32,6 +54,46 @@ pub fn sample_passes()
 /// Seconds may pass in two pieces.
 pub fn seconds_pass_in_pieces()
     ensures { (base : Content) (xs ys : List (List Cell)) → PassesInPieces base xs ys }
+{}
+
+/// Seconds that leave their step unfinished change nothing but its preparations and the last time.
+pub fn seconds_pass_within_a_step()
+    ensures { (base : Content) (seconds : List (List Cell)) → PassesWithin base seconds }
+{}
+
+/// Many seconds of one rate for each source pass at once: those that are left of the step in
+/// progress, and any number of whole steps.
+pub fn seconds_pass_at_once()
+    ensures { (base : Content) (left count : ℕ) (rates : List Cell) → SecondsOver base left count rates }
+{
+    one_cell_alone();
+}
+
+/// Steps pass an archive in two pieces. Those that leave its row unfinished pass at once, and so do a
+/// step and any number of another one, over the ends of rows.
+pub fn steps_pass_at_once()
+    ensures pieces { (sources before : ℕ) (archive : Archive) (xs ys : List (List Cell)) → StepsInPieces sources before archive xs ys }
+    ensures within { (sources before : ℕ) (archive : Archive) (steps : List (List Cell)) → StepsWithin sources before archive steps }
+    ensures over { (sources before count : ℕ) (archive : Archive) (first then : List Cell) → StepsOver sources before count archive first then }
+{
+    one_cell_alone();
+}
+
+/// What seconds leave of a valid content is valid, and what steps leave of a valid archive.
+pub fn seconds_stay_valid()
+    ensures content { (base : Content) (seconds : List (List Cell)) → StaysValidFor base seconds }
+    ensures archive { (sources before : ℕ) (steps : List (List Cell)) (archive : Archive) → ArchiveStaysValid sources before steps archive }
+{}
+
+/// Parts of no cell are within their bounds, and parts with one more cell each.
+pub fn parts_stay_bounded()
+    ensures none { (function : Function) (sources : ℕ) → AreParts function sources 0 (replicate sources nothing) }
+    ensures one_more { (function : Function) (sources n : ℕ) (parts : List Part) (row : List Cell) → PartsGrow function sources n parts row }
+{}
+
+/// Each source accepts the raw value that it keeps of what is given.
+pub fn raw_values_are_accepted()
+    ensures { (given : DsDef → Given) (sources : List DsDef) → AreKept given sources }
 {}
 
 /// The rows that an update drops give back those from before it.
@@ -50,9 +112,10 @@ pub fn cells_by_time()
     ensures cells { (base : Content) (events : List Event) → ShowsCells base events }
 {}
 
-/// A content's rows, by list and by time, are the same.
+/// A content's rows, by list and by time, are the same; so they are after an accepted command.
 pub fn content_is_listed()
-    ensures { (base : Content) (events : List Event) → IsListed base events }
+    ensures events { (base : Content) (events : List Event) → IsListed base events }
+    ensures command { (base : Content) (command : Command) → MovesListed base command }
 {}
 
 /// The steps and rows of a history, each by itself.
@@ -68,6 +131,28 @@ pub fn one_more_moves()
 /// A history of commands may be cut anywhere too.
 pub fn commands_go_on()
     ensures { (base : Content) (first second : List Command) → CommandsGoOn base first second }
+{}
+
+/// An accepted command passes each check.
+pub fn accepted_passes()
+    ensures { (base : Content) (command : Command) → PassesAll base command }
+{}
+
+/// A tune changes the sources' settings and their raw values, and nothing else.
+pub fn tune_changes_sources()
+    ensures { (base : Content) (tuning : Tuning) → TuneChanges base tuning }
+{}
+
+/// An accepted resize is of an archive that is there. It leaves that archive its newest rows, after
+/// unknown ones where they are too few, and changes nothing else.
+pub fn resize_changes_rows()
+    ensures fits { (base : Content) (archive : ℕ) (change : Change) (rows : ℕ) → ResizeFits base archive change rows }
+    ensures changes { (base : Content) (archive : ℕ) (change : Change) (rows : ℕ) → ResizeChanges base archive change rows }
+{}
+
+/// The entry of an accepted command fits the content after it.
+pub fn entry_fits()
+    ensures { (base : Content) (command : Command) → EntryFits base command }
 {}
 
 /// An accepted command is undone by its entry.
@@ -90,15 +175,27 @@ pub fn stays_valid()
     ensures { (base : Content) (command : Command) → StaysValid base command }
 {}
 
-/// So does it with the journal.
+/// So does it with the journal, and so does a revert.
 pub fn database_stays()
-    ensures { (now : Content) (journal : List Entry) (command : Command) → DatabaseStays now journal command }
+    ensures changed { (now : Content) (journal : List Entry) (command : Command) → DatabaseStays now journal command }
+    ensures reverted { (now : Content) (journal : List Entry) → RevertStays now journal }
 {}
 
 /// A revert takes an accepted command back, content and journal, but for the oldest entry of a full
 /// journal.
 pub fn revert_takes_back()
     ensures { (now : Content) (journal : List Entry) (command : Command) → RevertTakesBack now journal command }
+{}
+
+/// A valid database stands for the state that begins with it, its journal being brought along.
+pub fn database_begins()
+    ensures { (base : Content) (brought : List Entry) → Begins base brought }
+{}
+
+/// One action leads from a database that stands for a state to one that stands for the state after
+/// it.
+pub fn action_goes_on()
+    ensures { (state : State) (kept : Kept) (action : Action) → ActsOn state kept action }
 {}
 
 /// A run from a valid database is what its survivors make, and stays valid.

@@ -6,7 +6,7 @@ ghost use Rattle.std.specs.Prelude.{◌≡◌, ◌^◌, ◌<◌, ◌≤◌, leng
 ghost use Rattle.std.specs.List.{AllByRecursion, fold};
 ghost use Rattle.rrd_fixed.specs.Rate.{IsAccepted, IsBounded};
 ghost use Rattle.rrd_fixed.specs.declared.raw.Raw.TheVariants.{Unknown};
-ghost use Rattle.rrd_fold.specs.Groups as groups;
+ghost use Rattle.rrd_spec.specs.Groups as groups;
 ghost use Rattle.rrd_fold.specs.Parts.{nothing, with_cell, with_each, step_cell, row_cell};
 ghost use Rattle.rrd_fold.specs.declared.function.Function.TheVariants.{Average};
 ghost use Rattle.rrd_spec.specs.Creating.{create_verdict, created};

@@ -174,7 +174,7 @@ fn laws_are_called() {
     laws::values_are_meant();
     laws::rows_finish();
     laws::made_by_two_additions();
-    laws::groups_in_pieces::<Cell, StepPrep, Cell>();
+    laws::one_cell_alone();
 }
 
 // The share of each of so many seconds in a sum, rounded down.

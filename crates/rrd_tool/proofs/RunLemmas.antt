@@ -4,13 +4,12 @@ use Rattle.std.specs.Io.KnownBytes.{Appends, Keeps}
 use Rattle.rrd_fixed.specs.declared.streams.WriteFault.{WriteFault}
 use Rattle.rrd_spec.specs.declared.create.CreateSpec.{CreateSpec}
 use Rattle.rrd_spec.specs.declared.refusal.Refusal.{Refusal}
-use Rattle.rrd_spec.specs.Creating.{create_verdict, created}
+use Rattle.rrd_spec.specs.Creating.{create_verdict, created, CreatedIsValid}
+use Rattle.rrd_spec.specs.History.{Content}
 use Rattle.rrd_spec.specs.Entries.{Entry}
-use Rattle.rrd_spec.specs.Survivors.{State, Stored, Changed, Reverted, Stands, step}
+use Rattle.rrd_spec.specs.Survivors.{State, Stored, Changed, Reverted, Stands, step, Action}
 use Rattle.rrd_spec.specs.Verdict.{verdict}
-use Rattle.rrd_spec.proofs.Created.{created_valid}
-use Rattle.rrd_spec.proofs.Fitting.{runs_stay}
-use Rattle.rrd_spec.proofs.Runs.{step_stands}
+use Rattle.rrd_spec.specs.Validity.{ActsOn, Begins}
 use Rattle.clap.specs.Words.{fault_of}
 use Rattle.rrd_fixed.specs.Writing.{Appends-kept}
 use Rattle.rrd_tool.specs.Batch.{Performs, Turn}
@@ -42,25 +41,6 @@ no_refusal : (verdict : Option Refusal) → option_map Refused verdict ≡ None 
 no_refusal None h = refl
 no_refusal (Some r) h = absurd cc
 
-created_stands : (spec : CreateSpec) → create_verdict spec ≡ None → Stands (begun (created spec)) (record { content = created spec; journal = [] })
-created_stands spec h = (runs_stay (created spec) [] [] (record { content_is = created_valid spec h; journal_is = tt; few = omega arith })).stands
-
--- what is accepted keeps it so
-pub stands_next : (effect : Effect) (kept : Option Stored) (state : Option State) → verdict_on kept effect ≡ None → StandsFor kept state → StandsFor (kept_next kept effect) (next state effect)
-stands_next (Makes spec) kept state h s = created_stands spec (no_refusal (create_verdict spec) h)
-stands_next (Changes command) None state h s = absurd cc
-stands_next Reverts None state h s = absurd cc
-stands_next (Shows show) None state h s = absurd cc
-stands_next (Changes command) (Some kept) None h s = absurd s
-stands_next (Changes command) (Some kept) (Some state) h s =
-    let accepted : verdict kept.content command ≡ None = no_refusal (verdict kept.content command) h in
-    let moved : Stands _ (step kept (Changed command)) = step_stands state kept (Changed command) s in
-    rw accepted at moved
-stands_next Reverts (Some kept) None h s = absurd s
-stands_next Reverts (Some kept) (Some state) h s = step_stands state kept Reverted s
-stands_next (Shows show) (Some kept) None h s = absurd s
-stands_next (Shows show) (Some kept) (Some state) h s = s
-
 -- ---- a command
 
 -- what a command comes to, carried to facts that follow from those on the database
@@ -72,17 +52,38 @@ comes_as verdict text effect Moved Moved' Same Same' c0 c1 changed (Some (Line f
 comes_as verdict text effect Moved Moved' Same Same' c0 c1 changed (Some (Refused fault)) f g h = (h.0, g h.1, h.2, h.3)
 comes_as verdict text effect Moved Moved' Same Same' c0 c1 changed (Some NoDatabase) f g h = (h.0, g h.1, h.2, h.3)
 
--- a command over the database is the command of the run
-pub runs_on : (effect : Effect) (kept kept1 : Option Stored) (state : Option State) (c0 c1 : Option (List ℕ)) (changed : Bool) (fault : Option Fault) → StandsFor kept state
-    → Comes (verdict_on kept effect) (text_on kept effect) effect (kept1 ≡ kept_next kept effect) (kept1 ≡ kept) c0 c1 changed fault
-    → Comes (verdict_on (option_map kept_of state) effect) (text_on (option_map kept_of state) effect) effect (StandsFor kept1 (next state effect)) (StandsFor kept1 state) c0 c1 changed fault
-runs_on effect kept kept1 state c0 c1 changed fault s h =
-    let Here : Option Stored → Type 0 = λ k. Comes (verdict_on k effect) (text_on k effect) effect (StandsFor kept1 (next state effect)) (StandsFor kept1 state) c0 c1 changed fault in
-    let here : Here kept = comes_as (verdict_on kept effect) (text_on kept effect) effect (kept1 ≡ kept_next kept effect) (StandsFor kept1 (next state effect)) (kept1 ≡ kept) (StandsFor kept1 state) c0 c1 changed fault
-    (λ accepted moved. subst (λ (k : Option Stored). StandsFor k (next state effect)) (sym moved) (stands_next effect kept state accepted s))
-    (λ same. subst (λ (k : Option Stored). StandsFor k state) (sym same) s)
-    h in
-    subst Here (stands_kept kept state s) here
+-- by the laws of new databases, of those that begin a run, and of one action
+module _ (created_is_valid : (spec : CreateSpec) → CreatedIsValid spec) (database_begins : (base : Content) (brought : List Entry) → Begins base brought) (action_goes_on : (state : State) (kept : Stored) (action : Action) → ActsOn state kept action) where
+  created_stands : (spec : CreateSpec) → create_verdict spec ≡ None → Stands (begun (created spec)) (record { content = created spec; journal = [] })
+  created_stands spec h = database_begins (created spec) [] (record { content_is = created_is_valid spec h; journal_is = tt; few = omega arith })
+
+  -- what is accepted keeps it so
+  pub stands_next : (effect : Effect) (kept : Option Stored) (state : Option State) → verdict_on kept effect ≡ None → StandsFor kept state → StandsFor (kept_next kept effect) (next state effect)
+  stands_next (Makes spec) kept state h s = created_stands spec (no_refusal (create_verdict spec) h)
+  stands_next (Changes command) None state h s = absurd cc
+  stands_next Reverts None state h s = absurd cc
+  stands_next (Shows show) None state h s = absurd cc
+  stands_next (Changes command) (Some kept) None h s = absurd s
+  stands_next (Changes command) (Some kept) (Some state) h s =
+      let accepted : verdict kept.content command ≡ None = no_refusal (verdict kept.content command) h in
+      let moved : Stands _ (step kept (Changed command)) = action_goes_on state kept (Changed command) s in
+      rw accepted at moved
+  stands_next Reverts (Some kept) None h s = absurd s
+  stands_next Reverts (Some kept) (Some state) h s = action_goes_on state kept Reverted s
+  stands_next (Shows show) (Some kept) None h s = absurd s
+  stands_next (Shows show) (Some kept) (Some state) h s = s
+
+  -- a command over the database is the command of the run
+  pub runs_on : (effect : Effect) (kept kept1 : Option Stored) (state : Option State) (c0 c1 : Option (List ℕ)) (changed : Bool) (fault : Option Fault) → StandsFor kept state
+      → Comes (verdict_on kept effect) (text_on kept effect) effect (kept1 ≡ kept_next kept effect) (kept1 ≡ kept) c0 c1 changed fault
+      → Comes (verdict_on (option_map kept_of state) effect) (text_on (option_map kept_of state) effect) effect (StandsFor kept1 (next state effect)) (StandsFor kept1 state) c0 c1 changed fault
+  runs_on effect kept kept1 state c0 c1 changed fault s h =
+      let Here : Option Stored → Type 0 = λ k. Comes (verdict_on k effect) (text_on k effect) effect (StandsFor kept1 (next state effect)) (StandsFor kept1 state) c0 c1 changed fault in
+      let here : Here kept = comes_as (verdict_on kept effect) (text_on kept effect) effect (kept1 ≡ kept_next kept effect) (StandsFor kept1 (next state effect)) (kept1 ≡ kept) (StandsFor kept1 state) c0 c1 changed fault
+      (λ accepted moved. subst (λ (k : Option Stored). StandsFor k (next state effect)) (sym moved) (stands_next effect kept state accepted s))
+      (λ same. subst (λ (k : Option Stored). StandsFor k state) (sym same) s)
+      h in
+      subst Here (stands_kept kept state s) here
 
 -- ---- its turn
 

@@ -9,6 +9,7 @@ use crate::commands::{run, run_without};
 use crate::{Command, Fault};
 use rrd_base::Database;
 use rrd_fixed::WriteFault;
+use rrd_spec::laws;
 use std::alloc::Global;
 use std::io::Write;
 
@@ -79,6 +80,9 @@ pub fn execute<W: Write>(
     ensures run { (state : Option State) → StandsFor database state
         → RunsOn state command (W.contents out.old) (W.contents out.new) result }
 {
+    laws::created_is_valid();
+    laws::database_begins();
+    laws::action_goes_on();
     match database {
         None => run_without(alloc, command),
         Some(database) => run(alloc, database, command, out),

@@ -1,5 +1,10 @@
 use Rattle.rrd_spec.proofs.CellLemmas.{is_listed}
+use Rattle.rrd_spec.proofs.Moving.{moved_is}
+use Rattle.rrd_spec.specs.Facts.{sound}
 use Rattle.rrd_spec.proofs.laws.content_is_listed.Goals as goal
 
-pub returns : goal.returns
-returns c = is_listed
+pub returns-clause-events : goal.returns-clause-events
+returns-clause-events c = is_listed
+
+pub returns-clause-command : goal.returns-clause-command
+returns-clause-command c = λ base command is h. moved_is base command (sound base is) h

@@ -1,7 +1,7 @@
 use Rattle.std.proofs.Common.{◌≡◌, sym, ◌∙◌, ap, ℕ, ◌+◌, ◌-◌, ◌/◌, ◌≤◌, ◌++◌, [], ◌∷◌, map, length, arith}
 use Rattle.std.specs.List.{range_with_len}
 use Rattle.rrd_spec.specs.Slow.{size_of}
-use Rattle.rrd_fold.proofs.GroupLemmas.{reached_before}
+use Rattle.rrd_spec.proofs.GroupLemmas.{reached_before}
 use Rattle.rrd_spec.proofs.SlowLemmas.{some_size, finished_is, given_by, group_is, groups_push}
 use Rattle.rrd_spec.proofs.slow.finished.Goals as goal
 

@@ -8,9 +8,9 @@ returns-in-None-clause-kept g c = rw c.in-None.is (c.run_without.ensures (g.W.Wr
 pub returns-in-None-clause-run : goal.returns-in-None-clause-run
 returns-in-None-clause-run g c state s =
     let outcome = c.run_without.result in
-    runs_on (effect c.args.command) c.args.database outcome.database state _ _ outcome.changed outcome.fault s (rw c.in-None.is (c.run_without.ensures (g.W.Write.contents c.args.out.now)))
+    runs_on c.created_is_valid.ensures c.database_begins.ensures c.action_goes_on.ensures (effect c.args.command) c.args.database outcome.database state _ _ outcome.changed outcome.fault s (rw c.in-None.is (c.run_without.ensures (g.W.Write.contents c.args.out.now)))
 
 pub returns-in-Some-clause-run : goal.returns-in-Some-clause-run
 returns-in-Some-clause-run g c state s =
     let outcome = c.run.result in
-    runs_on (effect c.args.command) c.args.database outcome.database state _ _ outcome.changed outcome.fault s (rw c.in-Some.is c.run.ensures)
+    runs_on c.created_is_valid.ensures c.database_begins.ensures c.action_goes_on.ensures (effect c.args.command) c.args.database outcome.database state _ _ outcome.changed outcome.fault s (rw c.in-Some.is c.run.ensures)

@@ -1,11 +1,10 @@
 use Rattle.std.proofs.Common.{◌≡◌, sym, ◌∙◌, ap, subst, length, ◌≤◌, None}
-use Rattle.rrd_spec.proofs.Staying.{length-accepted}
+use Rattle.rrd_spec.specs.Facts.{length-accepted}
 use Rattle.rrd_spec.specs.History.{Content}
 use Rattle.rrd_spec.specs.Commands.{TuningBy}
 use Rattle.rrd_base.specs.Contents.{content_of}
 use Rattle.rrd_spec.specs.Entries.{sources_before}
 use Rattle.rrd_spec.specs.Verdict.{verdict}
-use Rattle.rrd_spec.proofs.Fitting.{tune_fits}
 use Rattle.rrd_base.proofs.contents.Contents.keep_sources.Goals as goal
 
 pub keep_sources-requires-clause-one_each : goal.keep_sources-requires-clause-one_each
@@ -18,5 +17,5 @@ keep_sources-requires-clause-few c =
     let d = c.self.inside in
     let t = c.args.tuning.now in
     let accepted : verdict (content_of d) (TuningBy t) ≡ None = subst (λ (x : Content). verdict x (TuningBy t) ≡ None) (sym c.self.view_is) c.requires in
-    let few = (tune_fits (content_of d) t c.self.invariant accepted).few in
+    let few = (c.entry_fits.ensures (content_of d) (TuningBy t) c.self.invariant accepted).few in
     subst (λ ss. length (sources_before t 0 ss c.deref-2.result.now) ≤ 5) (sym c.deref.ensures.value) (subst (λ rs. length (sources_before t 0 d.sources.items rs) ≤ 5) (sym c.deref-2.ensures.value) few)

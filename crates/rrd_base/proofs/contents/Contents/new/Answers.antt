@@ -1,26 +1,29 @@
-use Rattle.std.proofs.Common.{rules, map, ◌≡◌, sym, ◌∙◌, ap, subst, length, replicate, ◌<◌, ◌≤◌, ◌/◌}
+use Rattle.std.proofs.Common.{rules, ℕ, List, [], ◌∷◌, map, ◌≡◌, sym, ◌∙◌, ap, subst, length, replicate, ◌<◌, ◌≤◌, ◌/◌}
 use Rattle.std.specs.List.{AllByRecursion}
 use Rattle.rrd_spec.specs.declared.settings.RraDef.{RraDef}
 use Rattle.rrd_fixed.specs.declared.raw.Raw.TheVariants as Raw
 use Rattle.rrd_fold.specs.Parts.{nothing}
 use Rattle.rrd_spec.specs.Creating.{created, new_archive}
-use Rattle.rrd_spec.specs.Validity.{IsValid}
+use Rattle.rrd_spec.specs.Validity.{IsValid, IsValidArchive}
 use Rattle.rrd_spec.specs.History.{Content}
-use Rattle.rrd_spec.proofs.Created.{created_valid}
-use Rattle.rrd_spec.proofs.ShownLemmas.{good_rows}
 use Rattle.rrd_base.proofs.contents.Contents.new.Goals as goal
+
+-- new archives that are valid have a number of rows that can be
+good_rows : (sources steps : ℕ) (defs : List RraDef) → AllByRecursion (IsValidArchive sources steps) (map (new_archive sources) defs) → AllByRecursion (λ (def : RraDef). (0 < def.rows) × (def.rows ≤ 1000000)) defs
+good_rows sources steps [] is = tt
+good_rows sources steps (def ∷ defs) is = ((is.0.some_rows, is.0.few_rows), good_rows sources steps defs is.1)
 
 pub new_all-requires-clause-rows : goal.new_all-requires-clause-rows
 new_all-requires-clause-rows c =
     let spec = c.args.spec in
-    let is = created_valid spec c.requires in
+    let is = c.created_is_valid.ensures spec c.requires in
     subst (λ defs. AllByRecursion (λ (def : RraDef). (0 < def.rows) × (def.rows ≤ 1000000)) defs) (sym c.as_slice.ensures) (good_rows (length spec.sources) ((created spec).last / (created spec).step) spec.archives is.archives_are)
 
 pub new_all-requires-clause-some_sources : goal.new_all-requires-clause-some_sources
-new_all-requires-clause-some_sources c = subst (λ n. 0 < n) (sym c.len-sources.ensures) (created_valid c.args.spec c.requires).some_source
+new_all-requires-clause-some_sources c = subst (λ n. 0 < n) (sym c.len-sources.ensures) (c.created_is_valid.ensures c.args.spec c.requires).some_source
 
 pub new_all-requires-clause-few_sources : goal.new_all-requires-clause-few_sources
-new_all-requires-clause-few_sources c = subst (λ n. n ≤ 64) (sym c.len-sources.ensures) (created_valid c.args.spec c.requires).few_sources
+new_all-requires-clause-few_sources c = subst (λ n. n ≤ 64) (sym c.len-sources.ensures) (c.created_is_valid.ensures c.args.spec c.requires).few_sources
 
 pub invariant_of-result : goal.invariant_of-result
 invariant_of-result c =
@@ -35,4 +38,4 @@ invariant_of-result c =
     ∙ ap (λ rs. let x : Content = record { step = spec.step; depth = spec.depth; sources = spec.sources; last = spec.start; raws = rs; parts = c.in_ok-preps.preps.items; archives = c.in_ok-stores.stores.items } in x) raws
     ∙ ap (λ ps. let x : Content = record { step = spec.step; depth = spec.depth; sources = spec.sources; last = spec.start; raws = replicate n Raw.Unknown; parts = ps; archives = c.in_ok-stores.stores.items } in x) preps
     ∙ ap (λ xs. let x : Content = record { step = spec.step; depth = spec.depth; sources = spec.sources; last = spec.start; raws = replicate n Raw.Unknown; parts = replicate n nothing; archives = xs } in x) stores in
-    subst IsValid (sym same) (created_valid spec c.requires)
+    subst IsValid (sym same) (c.created_is_valid.ensures spec c.requires)

@@ -1,4 +1,8 @@
-use Rattle.std.proofs.Common.{rules, ◌≡◌, ℕ, sym, ◌∙◌, ap, subst, FitsSigned, ◌*◌, ◌/◌, ◌<◌, pos, ◌-ℤ◌, length, replicate, get_or}
+use Rattle.std.proofs.Common.{rules, ◌≡◌, ℕ, sym, ◌∙◌, ap, subst, FitsSigned, ◌*◌, ◌/◌, ◌<◌, pos, ◌-ℤ◌, length, replicate, get_or, arith, ◌-◌, ℤ, negsuc, nat_lt, Option, Some, None, List}
+use Rattle.std.proofs.lemmas.Bool.{cond_both, ltb-true}
+use Rattle.std.specs.List.{AllByRecursion}
+use Rattle.std.specs.Option.{IfNone}
+use Rattle.rrd_fixed.specs.declared.cell.Cell.{Cell}
 use Rattle.std.proofs.lemmas.List.{get_or-replicate, length-replicate}
 use Rattle.std.proofs.lemmas.Option.{IfSome_then}
 use Rattle.std.specs.Int.{int_div_euclid, w64, w128}
@@ -9,10 +13,23 @@ use Rattle.rrd_spec.specs.History.{Content}
 use Rattle.rrd_base.specs.Contents.{content_of}
 use Rattle.rrd_spec.specs.Passed.{row_at, row_of_age}
 use Rattle.rrd_spec.specs.Shown.{cell_at}
-use Rattle.rrd_spec.specs.Validity.{IsValidArchive}
-use Rattle.rrd_spec.proofs.AllLemmas.{All-at}
-use Rattle.rrd_spec.proofs.ShownLemmas.{cell_of_archive, none_then, row_of_age_wide}
+use Rattle.rrd_spec.specs.Validity.{IsRow, IsValidArchive}
+use Rattle.rrd_spec.specs.Facts.{cell_of_archive}
+use Rattle.rrd_spec.specs.Lists.{All-at}
 use Rattle.rrd_base.proofs.contents.Contents.row.Goals as goal
+
+-- rows of one width, and an unknown one as wide
+row_of_age_wide : (n : ℕ) (rows : List (List Cell)) (unknown : List Cell) (age : ℤ) → AllByRecursion (IsRow n) rows → length unknown ≡ n → length (row_of_age rows unknown age) ≡ n
+row_of_age_wide n rows unknown (negsuc ahead) wide e = e
+row_of_age_wide n rows unknown (pos age) wide e =
+    cond_both (nat_lt age (length rows)) (get_or rows (length rows - 1 - age) unknown) unknown (λ row. length row ≡ n)
+    (λ less. let here = All-at (IsRow n) rows (length rows - 1 - age) unknown wide (omega (arith, ltb-true age (length rows) less)) in here.one_each)
+    (λ more. e)
+
+-- what follows where there is no value
+none_then : {A : Type 0} (o : Option A) {P Q : Type 0} → IfNone o P → (P → Q) → IfNone o Q
+none_then None h f = f h
+none_then (Some x) h f = tt
 
 pub returns-clause-cells : goal.returns-clause-cells
 returns-clause-cells c =

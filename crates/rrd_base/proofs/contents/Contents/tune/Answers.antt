@@ -2,13 +2,11 @@ use Rattle.std.proofs.Common.{◌≡◌, sym, ◌∙◌, ap, subst, map, length,
 use Rattle.std.specs.Vec.{with_items}
 use Rattle.std.proofs.lemmas.List.{with_items_is}
 use Rattle.rrd_spec.specs.History.{Content, raws_under}
-use Rattle.rrd_spec.specs.Commands.{TuningBy, moved_listed, tuned}
+use Rattle.rrd_spec.specs.Commands.{TuningBy, moved, tuned}
 use Rattle.rrd_base.specs.Contents.{content_of}
 use Rattle.rrd_spec.specs.Validity.{IsValid}
 use Rattle.rrd_spec.specs.Verdict.{verdict}
-use Rattle.rrd_spec.proofs.Held.{base_of_valid}
-use Rattle.rrd_spec.proofs.Quiet.{content_tuned}
-use Rattle.rrd_spec.proofs.Staying.{length-accepted, listed_valid}
+use Rattle.rrd_spec.specs.Facts.{base_of_valid, length-accepted}
 use Rattle.rrd_base.proofs.TuneLemmas.{settings_are}
 use Rattle.rrd_base.proofs.contents.Contents.tune.Goals as goal
 
@@ -28,9 +26,9 @@ invariant_of-self c =
     let raws : (with_items d.raws c.tune_all.new.raws).items ≡ raws_under d.sources.items (map f d.sources.items) d.raws.items
     = with_items_is d.raws c.tune_all.new.raws (omega (arith, c.tune_all.auto.raws, c.deref_mut-2.ensures.len)) ∙ c.tune_all.ensures.raws
     ∙ ap (λ ss. raws_under ss (map f ss) c.deref_mut-2.result.now) c.deref_mut.ensures.value ∙ ap (raws_under d.sources.items (map f d.sources.items)) c.deref_mut-2.ensures.value in
-    let same = settings_are X (with_items d.sources c.tune_all.new.sources).items (with_items d.raws c.tune_all.new.raws).items (map f d.sources.items) (raws_under d.sources.items (map f d.sources.items) d.raws.items) sources raws ∙ sym (content_tuned X (map f d.sources.items) (base_of_valid X c.self.invariant)) in
+    let same = settings_are X (with_items d.sources c.tune_all.new.sources).items (with_items d.raws c.tune_all.new.raws).items (map f d.sources.items) (raws_under d.sources.items (map f d.sources.items) d.raws.items) sources raws ∙ sym (c.tune_changes_sources.ensures X t (base_of_valid X c.self.invariant)) in
     let accepted : verdict X (TuningBy t) ≡ None = subst (λ (x : Content). verdict x (TuningBy t) ≡ None) (sym c.self.view_is) c.requires in
-    subst IsValid (sym same) (listed_valid X (TuningBy t) c.self.invariant accepted)
+    subst IsValid (sym same) (c.stays_valid.ensures X (TuningBy t) c.self.invariant accepted)
 
 pub returns : goal.returns
 returns c =
@@ -44,5 +42,5 @@ returns c =
     = with_items_is d.raws c.tune_all.new.raws (omega (arith, c.tune_all.auto.raws, c.deref_mut-2.ensures.len)) ∙ c.tune_all.ensures.raws
     ∙ ap (λ ss. raws_under ss (map f ss) c.deref_mut-2.result.now) c.deref_mut.ensures.value ∙ ap (raws_under d.sources.items (map f d.sources.items)) c.deref_mut-2.ensures.value in
     settings_are X (with_items d.sources c.tune_all.new.sources).items (with_items d.raws c.tune_all.new.raws).items (map f d.sources.items) (raws_under d.sources.items (map f d.sources.items) d.raws.items) sources raws
-    ∙ sym (content_tuned X (map f d.sources.items) (base_of_valid X c.self.invariant))
-    ∙ ap (λ (x : Content). moved_listed x (TuningBy t)) c.self.view_is
+    ∙ sym (c.tune_changes_sources.ensures X t (base_of_valid X c.self.invariant))
+    ∙ ap (λ (x : Content). moved x (TuningBy t)) c.self.view_is

@@ -1,10 +1,8 @@
-use Rattle.std.proofs.Common.{◌≡◌, sym, ◌∙◌, ap}
+use Rattle.std.proofs.Common.{◌≡◌, refl, sym, ◌∙◌, ap}
 use Rattle.rrd_base.specs.declared.entry.Entry.TheVariants as entry
 use Rattle.rrd_spec.specs.Commands.{TuningBy, moved}
 use Rattle.rrd_spec.specs.Survivors.{Stored, changed}
 use Rattle.rrd_base.proofs.KeptLemmas.{added}
-use Rattle.rrd_spec.proofs.Moving.{moved_depth, moved_is}
-use Rattle.rrd_spec.proofs.Staying.{sound}
 use Rattle.rrd_base.proofs.database.Database.tune.Goals as goal
 
 pub invariant_of-self : goal.invariant_of-self
@@ -12,10 +10,10 @@ invariant_of-self c =
     let d = c.self.inside in
     let tuning = c.args.tuning.now in
     let accepted = sym c.in_ok-check_tune.ensures in
-    let one = added d.contents d.journal.items (TuningBy tuning) (entry.Tune c.keep_sources-olds.result) c.self.invariant.valid accepted c.keep_sources-olds.ensures in
-    let now : c.tune.new.self ≡ moved d.contents (TuningBy tuning) = c.tune.ensures ∙ moved_is d.contents (TuningBy tuning) (sound d.contents c.self.invariant.valid.content_is) accepted in
+    let one = added c.database_stays.ensures.changed d.contents d.journal.items (TuningBy tuning) (entry.Tune c.keep_sources-olds.result) c.self.invariant.valid accepted c.keep_sources-olds.ensures in
+    let now : c.tune.new.self ≡ moved d.contents (TuningBy tuning) = c.tune.ensures in
     rw (now, c.push_back-oldest.ensures.items, c.self.invariant.places) (record {
-      places = sym (moved_depth d.contents (TuningBy tuning));
+      places = refl;
       valid = one.after;
     })
 
@@ -24,8 +22,8 @@ returns-clause-ok c =
     let d = c.self.inside in
     let tuning = c.args.tuning.now in
     let accepted = sym c.in_ok-check_tune.ensures in
-    let one = added d.contents d.journal.items (TuningBy tuning) (entry.Tune c.keep_sources-olds.result) c.self.invariant.valid accepted c.keep_sources-olds.ensures in
-    let now : c.tune.new.self ≡ moved d.contents (TuningBy tuning) = c.tune.ensures ∙ moved_is d.contents (TuningBy tuning) (sound d.contents c.self.invariant.valid.content_is) accepted in
+    let one = added c.database_stays.ensures.changed d.contents d.journal.items (TuningBy tuning) (entry.Tune c.keep_sources-olds.result) c.self.invariant.valid accepted c.keep_sources-olds.ensures in
+    let now : c.tune.new.self ≡ moved d.contents (TuningBy tuning) = c.tune.ensures in
     rw (now, c.push_back-oldest.ensures.items, c.self.invariant.places)
     (ap (λ j. let k : Stored = record { content = moved d.contents (TuningBy tuning); journal = j } in k) one.journal_is
     ∙ ap (λ (k : Stored). changed k (TuningBy tuning)) c.self.view_is)

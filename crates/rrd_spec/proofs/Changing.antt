@@ -1,0 +1,101 @@
+-- What an accepted tune or resize changes.
+use Rattle.std.proofs.Common.{◌≡◌, refl, sym, ◌∙◌, ap, ℕ, zero, suc, ◌+◌, ◌-◌, ◌*◌, ◌/◌, ◌<◌, min, cond, eqb, ltb, List, [], ◌∷◌, ◌++◌, length, drop, map, replicate, get_or, arith, append-nil, eq-eqb}
+use Rattle.std.proofs.lemmas.Bool.{leb-false, ltb-false, or_parts}
+use Rattle.std.proofs.lemmas.List.{length-drop, length-map}
+use Rattle.std.specs.List.{enumerate_from, AllByRecursion}
+use Rattle.rrd_fixed.specs.declared.cell.Cell.{Cell}
+use Rattle.rrd_spec.specs.declared.resize.Change.{Change}
+use Rattle.rrd_spec.specs.declared.tune.Tuning.{Tuning}
+use Rattle.rrd_spec.specs.Changes.{ResizeChanges, ResizeFits, TuneChanges, rows_then}
+use Rattle.rrd_spec.specs.Commands.{Resizing, rows_of_archives, tuned}
+use Rattle.rrd_spec.specs.Entries.{rows_at, with_rows_at}
+use Rattle.rrd_spec.specs.Facts.{base_of_valid, sound}
+use Rattle.rrd_spec.specs.History.{Archive, Content, Resized, Tuned, moment_of, rows_of, row_parts_of, room, keep_last, filled_up, kept_rows, archive_of, IsArchive}
+use Rattle.rrd_spec.specs.Verdict.{grows_too_far, is_bad_rows}
+use Rattle.rrd_spec.proofs.Accepted.{accepted_passes, some_rows}
+use Rattle.rrd_spec.proofs.CellLemmas.{is_listed}
+use Rattle.rrd_spec.proofs.Moving.{moved_is}
+use Rattle.rrd_spec.proofs.Quiet.{content_resized, content_tuned, made, resized_elsewhere, resized_other, row_parts_same, rows_none}
+use Rattle.rrd_spec.proofs.RowLemmas.{length-filled_up}
+use Rattle.rrd_spec.proofs.Staying.{few_changed, few_rows_at}
+
+-- ---- a tune
+
+pub tune_changes : (base : Content) (tuning : Tuning) → TuneChanges base tuning
+tune_changes base tuning is =
+    let sources = map (tuned tuning) base.sources in
+    sym (is_listed base (Tuned sources ∷ []) is (length-map base.sources (tuned tuning), tt)) ∙ content_tuned base sources is
+
+-- ---- a resize
+
+pub resize_fits : (base : Content) (archive : ℕ) (change : Change) (rows : ℕ) → ResizeFits base archive change rows
+resize_fits base archive change rows is h =
+    let passes = accepted_passes base (Resizing archive change rows) h in
+    let old = get_or (rows_of_archives base.archives) archive 0 in
+    let low = leb-false (length (rows_of_archives base.archives)) archive passes.0 in
+    record {
+      there = omega (arith, low, length-map base.archives (λ (a : Archive). a.def.rows));
+      few_asked = ltb-false 1000000 rows (or_parts (eqb rows 0) (ltb 1000000 rows) (or_parts (is_bad_rows rows) (grows_too_far change old rows) passes.1.0).0).1;
+      some_then = some_rows change old rows passes.1.0 passes.1.1.0;
+      few_then = few_changed change old rows (few_rows_at (length base.sources) (base.last / base.step) archive base.archives is.archives_are) passes.1.0;
+    }
+
+-- the newest rows of one archive
+newest : Content → ℕ → List (List Cell) → List (List Cell)
+newest base n rows = filled_up n (replicate (length base.sources) Cell.Unknown) (keep_last n rows)
+
+length-newest : (base : Content) (n : ℕ) (rows : List (List Cell)) → length (newest base n rows) ≡ n
+unfolding newest
+length-newest base n rows = length-filled_up n (replicate (length base.sources) Cell.Unknown) (keep_last n rows) (omega (arith, length-drop (length rows - n) rows))
+
+kept_resized : (base : Content) (at n index : ℕ) (archive : Archive) → at ≡ index → IsArchive archive → kept_rows base index archive (Resized at n ∷ []) ≡ newest base n archive.rows
+unfolding kept_rows newest
+kept_resized base at n index archive e is =
+    let es = Resized at n ∷ [] in
+    let res = base.step * archive.def.steps in
+    let rows = archive.rows in
+    let nan = replicate (length base.sources) Cell.Unknown in
+    let since = λ (time : ℕ). base.last / res - time / res in
+    let after : cond (eqb at index) n archive.def.rows ≡ n = ap (λ b. cond b n archive.def.rows) (eq-eqb at index e) in
+    let places : room index since archive.def.rows (moment_of base) es ≡ min (length rows) n = omega (arith, is.rows_are, after) in
+    let cut : length rows - min (length rows) n ≡ length rows - n = omega arith in
+    ap (λ m. filled_up m nan (keep_last (room index since archive.def.rows (moment_of base) es) (rows ++ rows_of base archive es))) after
+    ∙ ap (λ m. filled_up n nan (keep_last m (rows ++ rows_of base archive es))) places
+    ∙ ap (λ zs. filled_up n nan (keep_last (min (length rows) n) (rows ++ zs))) (rows_none base es refl archive)
+    ∙ ap (λ zs. filled_up n nan (keep_last (min (length rows) n) zs)) (append-nil rows)
+    ∙ ap (λ m. filled_up n nan (drop m rows)) cut
+
+-- the archive with these rows
+abbrev pub with_rows : Archive → List (List Cell) → Archive
+with_rows archive rows = record archive { def = record archive.def { rows = length rows }; rows = rows }
+
+resized_one : (base : Content) (at n index : ℕ) (archive : Archive) → at ≡ index → IsArchive archive → archive_of base (Resized at n ∷ []) (index, archive) ≡ with_rows archive (newest base n archive.rows)
+unfolding made
+resized_one base at n index archive e is =
+    let es = Resized at n ∷ [] in
+    let new = newest base n archive.rows in
+    ap (λ m. made archive m (row_parts_of base archive es) (kept_rows base index archive es)) {x = cond (eqb at index) n archive.def.rows} {y = n} (ap (λ b. cond b n archive.def.rows) (eq-eqb at index e))
+    ∙ ap (λ ps. made archive n ps (kept_rows base index archive es)) (row_parts_same base es refl archive is.some_steps)
+    ∙ ap (made archive n archive.parts) (kept_resized base at n index archive e is)
+    ∙ ap (λ m. made archive m archive.parts new) (sym (length-newest base n archive.rows))
+
+resized_at : (base : Content) (at n first k : ℕ) (archives : List Archive) → at ≡ first + k → k < length archives → AllByRecursion IsArchive archives → map (archive_of base (Resized at n ∷ [])) (enumerate_from first archives) ≡ with_rows_at archives k (newest base n (rows_at archives k))
+resized_at base at n first k [] e h is = absurd (omega arith)
+resized_at base at n first zero (archive ∷ archives) e h is =
+    let one = resized_one base at n first archive (omega arith) is.0 in
+    let rest = resized_elsewhere base at n (first + 1) archives (omega arith) is.1 in
+    cc
+resized_at base at n first (suc k) (archive ∷ archives) e h is =
+    let one = resized_other base at n first archive (λ f. absurd (omega arith)) is.0 in
+    let rest = resized_at base at n (first + 1) k archives (omega arith) (omega arith) is.1 in
+    cc
+
+pub resize_changes : (base : Content) (archive : ℕ) (change : Change) (rows : ℕ) → ResizeChanges base archive change rows
+unfolding newest
+resize_changes base archive change rows is h =
+    let n = rows_then base archive change rows in
+    let there = (resize_fits base archive change rows is h).there in
+    let base_is = base_of_valid base is in
+    sym (moved_is base (Resizing archive change rows) (sound base is) h)
+    ∙ content_resized base archive n base_is
+    ∙ ap (λ xs. let x : Content = record base { archives = xs } in x) (resized_at base archive n 0 archive base.archives (omega arith) there base_is.archives_are)
