@@ -11,7 +11,6 @@ use Rattle.rrd_fixed.specs.declared.cell.Cell.{Cell}
 use Rattle.rrd_fixed.specs.declared.cell.Cell.TheVariants.{Unknown, Known}
 use Rattle.rrd_fixed.specs.Rate.{top, IsBounded}
 use Rattle.rrd_fixed.specs.Nearest.{near_limit}
-use Rattle.rrd_spec.proofs.Nearest.{near_limit}
 use Rattle.rrd_fold.specs.declared.function.Function.{Function}
 use Rattle.rrd_fold.specs.declared.function.Function.TheVariants.{Average, Min, Max, Last}
 use Rattle.rrd_spec.specs.declared.settings.RraDef.{RraDef}

@@ -10,7 +10,7 @@ use Rattle.rrd_spec.specs.Changes.{ResizeChanges, ResizeFits, TuneChanges, rows_
 use Rattle.rrd_spec.specs.Commands.{Resizing, rows_of_archives, tuned}
 use Rattle.rrd_spec.specs.Entries.{rows_at, with_rows_at}
 use Rattle.rrd_spec.specs.Facts.{base_of_valid, sound}
-use Rattle.rrd_spec.specs.History.{Archive, Content, Resized, Tuned, moment_of, rows_of, row_parts_of, room, keep_last, filled_up, kept_rows, archive_of, IsArchive}
+use Rattle.rrd_spec.specs.History.{Archive, Content, Resized, Tuned, moment_of, rows_of, row_parts_of, rows_never_lost, keep_last, filled_up, kept_rows, archive_of, IsArchive}
 use Rattle.rrd_spec.specs.Verdict.{grows_too_far, is_bad_rows}
 use Rattle.rrd_spec.proofs.Accepted.{accepted_passes, some_rows}
 use Rattle.rrd_spec.proofs.CellLemmas.{is_listed}
@@ -57,9 +57,9 @@ kept_resized base at n index archive e is =
     let nan = replicate (length base.sources) Cell.Unknown in
     let since = λ (time : ℕ). base.last / res - time / res in
     let after : cond (eqb at index) n archive.def.rows ≡ n = ap (λ b. cond b n archive.def.rows) (eq-eqb at index e) in
-    let places : room index since archive.def.rows (moment_of base) es ≡ min (length rows) n = omega (arith, is.rows_are, after) in
+    let places : rows_never_lost index since archive.def.rows (moment_of base) es ≡ min (length rows) n = omega (arith, is.rows_are, after) in
     let cut : length rows - min (length rows) n ≡ length rows - n = omega arith in
-    ap (λ m. filled_up m nan (keep_last (room index since archive.def.rows (moment_of base) es) (rows ++ rows_of base archive es))) after
+    ap (λ m. filled_up m nan (keep_last (rows_never_lost index since archive.def.rows (moment_of base) es) (rows ++ rows_of base archive es))) after
     ∙ ap (λ m. filled_up n nan (keep_last m (rows ++ rows_of base archive es))) places
     ∙ ap (λ zs. filled_up n nan (keep_last (min (length rows) n) (rows ++ zs))) (rows_none base es refl archive)
     ∙ ap (λ zs. filled_up n nan (keep_last (min (length rows) n) zs)) (append-nil rows)

@@ -23,7 +23,6 @@ pub mod CellLemmas
 pub mod ShownLemmas
 pub mod SlowLemmas
 pub mod SlowRows
-pub mod Nearest
 pub mod Changing
 pub mod PassedValid
 pub mod ManySteps

@@ -10,7 +10,6 @@ use Rattle.rrd_fixed.specs.declared.kind.Kind.{Kind}
 use Rattle.rrd_fixed.specs.declared.kind.Kind.TheVariants.{Gauge, Counter, Derive, Absolute}
 use Rattle.rrd_fixed.specs.Rate.{top, rise, raised_if_negative, plain_rate, is_under, is_over, cell_within, rate, IsAccepted, IsBounded}
 use Rattle.rrd_fixed.specs.Nearest.{near_limit}
-use Rattle.rrd_spec.proofs.Nearest.{near_limit}
 use Rattle.rrd_spec.specs.declared.settings.DsDef.{DsDef}
 use Rattle.rrd_spec.specs.History.{Reading, Sampled, Moment, moment_after, rates, samples, second, seconds, IsHistory}
 use Rattle.rrd_spec.specs.Validity.{AreAccepted, IsRow}

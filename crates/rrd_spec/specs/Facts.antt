@@ -8,7 +8,8 @@ use Rattle.rrd_fixed.specs.declared.raw.Raw.{Raw}
 use Rattle.rrd_fold.specs.Bounds.{Consolidating}
 use Rattle.rrd_fold.specs.Parts.{nothing}
 use Rattle.rrd_spec.specs.declared.settings.DsDef.{DsDef}
-use Rattle.rrd_spec.specs.Entries.{Entry, Held, IsSound, Updated, WasResized, WasTuned, undone, with_held}
+use Rattle.rrd_spec.specs.declared.entry.SourceBefore.{SourceBefore}
+use Rattle.rrd_spec.specs.Entries.{Entry, IsSound, UpdateEntry, ResizeEntry, TuneEntry, undone, with_source}
 use Rattle.rrd_spec.specs.History.{Archive, Content, IsArchive, IsBase}
 use Rattle.rrd_spec.specs.Lists.{All-weaker}
 use Rattle.rrd_spec.specs.Passed.{row_at}
@@ -45,14 +46,14 @@ sound base is = record { is_base = base_of_valid base is; one_raw_each = length-
 
 -- ---- undoing keeps the journal's depth
 
-held_depth : (now : Content) (olds : List Held) → (fold with_held now olds).depth ≡ now.depth
-held_depth now [] = refl
-held_depth now (old ∷ olds) = held_depth (with_held now old) olds
+sources_depth : (now : Content) (olds : List SourceBefore) → (fold with_source now olds).depth ≡ now.depth
+sources_depth now [] = refl
+sources_depth now (old ∷ olds) = sources_depth (with_source now old) olds
 
 pub undone_depth : (now : Content) (old : Entry) → (undone now old).depth ≡ now.depth
-undone_depth now (Updated old) = refl
-undone_depth now (WasTuned olds) = held_depth now olds
-undone_depth now (WasResized archive rows) = refl
+undone_depth now (UpdateEntry old) = refl
+undone_depth now (TuneEntry olds) = sources_depth now olds
+undone_depth now (ResizeEntry archive rows) = refl
 
 -- ---- what is shown of the archive of a number
 

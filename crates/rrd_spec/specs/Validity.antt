@@ -16,7 +16,7 @@ use Rattle.rrd_spec.specs.Commands.{Command, names, settings_of, moved}
 use Rattle.rrd_fixed.specs.Names.{is_good}
 use Rattle.rrd_spec.specs.Verdict.{is_double, is_bad_heartbeat, has_bad_bounds, cells, verdict}
 use Rattle.rrd_spec.specs.Entries.{SavedArchive, BeforeUpdate, Entry, UpdateEntry, TuneEntry, ResizeEntry, rows_between, rows_at, entry, undone}
-use Rattle.rrd_spec.specs.Survivors.{Action, changed, reverted, step, after, Stands, State, Kept}
+use Rattle.rrd_spec.specs.Survivors.{Action, changed, reverted, step, after, Stands, State, Stored}
 
 -- ---- a content
 
@@ -194,5 +194,5 @@ abbrev pub Begins : Content → List Entry → Type 0
 Begins base brought = IsValidDatabase base brought → Stands (record { base = base; brought = brought; survivors = []; revertible = 0 }) (record { content = base; journal = brought })
 
 -- one action leads from a database that stands for a state to one that stands for the state after it
-abbrev pub ActsOn : State → Kept → Action → Type 0
+abbrev pub ActsOn : State → Stored → Action → Type 0
 ActsOn state kept action = Stands state kept → Stands (after state action) (step kept action)

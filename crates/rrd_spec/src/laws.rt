@@ -11,7 +11,7 @@ ghost use Rattle.rrd_spec.specs.Passed.{PassesInPieces, SampledPasses, RowsComeB
 ghost use Rattle.rrd_spec.specs.Commands.{Command};
 ghost use Rattle.rrd_spec.specs.Entries.{Entry, ComesBack};
 ghost use Rattle.rrd_spec.specs.Steps.{SecondsOver, StepsInPieces, StepsOver, StepsWithin};
-ghost use Rattle.rrd_spec.specs.Survivors.{Action, CommandsGoOn, Kept, Moves, RunsAgree, State};
+ghost use Rattle.rrd_spec.specs.Survivors.{Action, CommandsGoOn, Stored, Moves, RunsAgree, State};
 ghost use Rattle.rrd_spec.specs.Validity.{ActsOn, AreParts, Begins, StaysValid, DatabaseStays, RevertStays, RevertTakesBack, RunsStay};
 ghost use Rattle.rrd_spec.specs.Verdict.{PassesAll};
 ghost use Rattle.rrd_spec.specs.declared.create.CreateSpec.{CreateSpec};
@@ -195,7 +195,7 @@ pub fn database_begins()
 /// One action leads from a database that stands for a state to one that stands for the state after
 /// it.
 pub fn action_goes_on()
-    ensures { (state : State) (kept : Kept) (action : Action) → ActsOn state kept action }
+    ensures { (state : State) (kept : Stored) (action : Action) → ActsOn state kept action }
 {}
 
 /// A run from a valid database is what its survivors make, and stays valid.
