@@ -21,3 +21,4 @@ pub mod Turns
 pub mod Slow
 pub mod Slots
 pub mod Filed
+pub mod Refusals
