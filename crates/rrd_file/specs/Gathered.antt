@@ -1,4 +1,4 @@
--- What a call adds where bytes wait in a block before they are written.
+-- Glue: what a call adds where bytes wait in a block before they are written.
 use Rattle.std.specs.Prelude.{◌≡◌, ◌++◌, ℕ, List, Option, Result, Ok, Err}
 use Rattle.std.specs.Io.KnownBytes.{Appends}
 use Rattle.rrd_fixed.specs.Written.{AppendsFront}

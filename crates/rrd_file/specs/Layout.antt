@@ -1,4 +1,4 @@
--- The layout of a database with its journal: its pieces, one after another.
+-- Definition: the layout of a database with its journal: its pieces, one after another.
 use Rattle.std.specs.Prelude.{ℕ, List, [], ◌∷◌, ◌++◌, length, map}
 use Rattle.std.specs.List.{flat_map}
 use Rattle.rrd_fixed.specs.declared.cell.Cell.{Cell}

@@ -1,4 +1,4 @@
--- The pieces that a file is made of, each with its bytes.
+-- Definition: the pieces that a file is made of, each with its bytes.
 use Rattle.std.specs.Prelude.{ℕ, List, [], ◌∷◌, ◌++◌}
 use Rattle.rrd_fixed.specs.declared.cell.Cell.{Cell}
 use Rattle.rrd_fixed.specs.declared.raw.Raw.{Raw}

@@ -1,4 +1,4 @@
--- The bytes of single values. Whole numbers have the highest byte first.
+-- Definition: the bytes of single values. Whole numbers have the highest byte first.
 use Rattle.std.specs.Prelude.{ℕ, ◌-◌, ◌^◌, ℤ, negsuc, unsigned_abs, List, ◌∷◌, ◌++◌, length, replicate, Option, Some, None}
 use Rattle.std.specs.Int.{w16, w32, w64, w128, to_be_bytes, cast_unsigned}
 use Rattle.rrd_fixed.specs.declared.cell.Cell.{Cell}

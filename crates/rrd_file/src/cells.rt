@@ -43,7 +43,8 @@ fn write_row_at<W: Write>(
     requires { archive < length database.now.content.archives }
     ensures { (a : Archive) (place : ℕ) → slice_get database.now.content.archives archive ≡ Some a
         → place < length a.rows
-        → time ≡ time_of (resolution_of database.now.content.step a.def) (length a.rows) database.now.content.last place
+        → time ≡ time_of (resolution_of database.now.content.step a.def) (length a.rows)
+        database.now.content.last place
         → Gathers (W.contents out.old) block.old (W.contents out.new) block.new
         (spelled (map OfCell (slice_index_or a.rows place []))) result }
 {

@@ -1,4 +1,4 @@
--- Which values a source accepts, and what is kept of them (rrdcreate, "DS"; the ranges are this project's).
+-- Definition: which values a source accepts, and what is kept of them (rrdcreate, "DS"; the ranges are own).
 use Rattle.std.specs.Prelude.{◌-◌, ◌^◌, ◌&&◌, ℤ, pos, neg_ℤ, int_le, unsigned_abs, nat_lt, not, Bool, if◌then◌else◌, Option, Some, None}
 use Rattle.std.specs.Int.{int_rem_euclid}
 use Rattle.std.specs.Ordering.{int_eq}

@@ -1,11 +1,12 @@
--- Names of data sources (rrdcreate, "DS").
+-- Definition: names of data sources (rrdcreate, "DS").
 use Rattle.std.specs.Prelude.{ℕ, List, Bool, ◌&&◌, ◌||◌, ◌==◌, nat_lt, nat_le, length}
 use Rattle.std.specs.List.{list_all}
 use Rattle.std.specs.Str.{bytes_eq}
 
 -- one of a-z A-Z 0-9 _
 abbrev pub is_letter : ℕ → Bool
-is_letter c = (nat_le 97 c && nat_le c 122) || (nat_le 65 c && nat_le c 90) || (nat_le 48 c && nat_le c 57) || (c == 95)
+is_letter c =
+    (nat_le 97 c && nat_le c 122) || (nat_le 65 c && nat_le c 90) || (nat_le 48 c && nat_le c 57) || (c == 95)
 
 -- at most 19 ASCII characters: what can be held as a name
 abbrev pub fits : List ℕ → Bool

@@ -1,4 +1,4 @@
--- The rate of an interval, in whole millionths (rrdcreate; ties are this project's).
+-- Definition: the rate of an interval, in whole millionths (rrdcreate, "DS"; ties are own).
 use Rattle.std.specs.Prelude.{ℕ, ◌-◌, ◌*◌, ◌^◌, ◌<◌, ◌≤◌, ℤ, pos, ◌+ℤ◌, ◌-ℤ◌, ◌*ℤ◌, ◌≤ℤ◌, ◌<ℤ◌, neg_ℤ, int_lt, unsigned_abs, nat_lt, Bool, if◌then◌else◌, Option, Some, None}
 use Rattle.rrd_fixed.specs.Rounding.{near}
 use Rattle.rrd_fixed.specs.declared.cell.Cell.{Cell}
@@ -23,8 +23,10 @@ abbrev pub plain_rate : Kind → Raw → Raw → ℕ → Cell
 plain_rate kind old Raw.Unknown interval = Cell.Unknown
 plain_rate Gauge old (Raw.Known new) interval = Cell.Known new
 plain_rate Absolute old (Raw.Known new) interval = Cell.Known (near new (pos interval))
-plain_rate Counter (Raw.Known old) (Raw.Known new) interval = Cell.Known (near (rise old new *ℤ pos (10 ^ 6)) (pos interval))
-plain_rate Derive (Raw.Known old) (Raw.Known new) interval = Cell.Known (near ((new -ℤ old) *ℤ pos (10 ^ 6)) (pos interval))
+plain_rate Counter (Raw.Known old) (Raw.Known new) interval =
+    Cell.Known (near (rise old new *ℤ pos (10 ^ 6)) (pos interval))
+plain_rate Derive (Raw.Known old) (Raw.Known new) interval =
+    Cell.Known (near ((new -ℤ old) *ℤ pos (10 ^ 6)) (pos interval))
 plain_rate Counter Raw.Unknown (Raw.Known new) interval = Cell.Unknown
 plain_rate Derive Raw.Unknown (Raw.Known new) interval = Cell.Unknown
 
@@ -39,7 +41,9 @@ is_over rate (Some high) = int_lt high rate
 
 -- a rate outside its bounds is unknown
 abbrev pub within : ℤ → Option ℤ → Option ℤ → Cell
-within rate min max = if is_under rate min then Cell.Unknown else (if is_over rate max then Cell.Unknown else Cell.Known rate)
+within rate min max =
+    if is_under rate min then Cell.Unknown
+    else (if is_over rate max then Cell.Unknown else Cell.Known rate)
 
 abbrev pub cell_within : Option ℤ → Option ℤ → Cell → Cell
 cell_within min max Cell.Unknown = Cell.Unknown
@@ -47,7 +51,9 @@ cell_within min max (Cell.Known rate) = within rate min max
 
 -- the rate of an interval
 abbrev pub rate : Kind → Raw → Raw → ℕ → ℕ → Option ℤ → Option ℤ → Cell
-rate kind old new interval heartbeat min max = if nat_lt heartbeat interval then Cell.Unknown else cell_within min max (plain_rate kind old new interval)
+rate kind old new interval heartbeat min max =
+    if nat_lt heartbeat interval then Cell.Unknown
+    else cell_within min max (plain_rate kind old new interval)
 
 -- a raw value that a source of this kind accepts
 abbrev pub IsAccepted : Kind → Raw → Type 0

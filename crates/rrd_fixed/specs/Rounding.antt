@@ -1,4 +1,4 @@
--- Rounding to whole millionths (own).
+-- Definition: rounding to whole millionths (own).
 use Rattle.std.specs.Prelude.{ℤ, pos, ◌+ℤ◌, ◌*ℤ◌}
 use Rattle.std.specs.Int.{int_div_euclid}
 

@@ -1,4 +1,4 @@
--- Times, cells and raw values as text (own).
+-- Definition: times, cells and raw values as text (own).
 use Rattle.std.specs.Prelude.{◌++◌, ℕ, ℤ, List, ◌/◌, ◌%◌, ◌-◌, ◌+◌, decimal, codes, pos, negsuc, length}
 use Rattle.std.specs.List.{repeat}
 use Rattle.rrd_fixed.specs.declared.cell.Cell.{Cell}

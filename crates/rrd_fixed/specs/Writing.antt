@@ -17,8 +17,13 @@ Appends-kept (Some x) (Some y) (Some z) bs p q = q ∙ p
 pub writes_then : {T : Type 0} (a b c : Option (List ℕ)) (xs ys : List ℕ) (r : Result T WriteFault)
     → Appends a b xs → Writes b c ys r → Writes a c (xs ++ ys) r
 writes_then a b c xs ys (Ok x) p q = Appends-trans a b c xs ys p q
-writes_then a b c xs ys (Err e) p q =
-    (xs ++ q.0, q.1, q.2, ap (λ l. xs ++ l) q.3 ∙ sym (append_assoc xs q.0 (q.1 ∷ q.2)), Appends-trans a b c xs q.0 p q.4)
+writes_then a b c xs ys (Err e) p q = (
+  xs ++ q.0,
+  q.1,
+  q.2,
+  ap (λ l. xs ++ l) q.3 ∙ sym (append_assoc xs q.0 (q.1 ∷ q.2)),
+  Appends-trans a b c xs q.0 p q.4,
+)
 
 -- a fault before the rest
 pub writes_stop : (a b : Option (List ℕ)) (xs ys : List ℕ) → AppendsFront a b xs → AppendsFront a b (xs ++ ys)

@@ -1,4 +1,4 @@
--- Any valid count and value, made by at most two additions: so many of one cell, and the rest of a lower one.
+-- Law: any valid count and value, made by at most two additions: so many of one cell, and the rest of a lower one.
 use Rattle.std.specs.Prelude.{◌≡◌, ℕ, ◌-◌, ◌<◌, ◌==◌, if◌then◌else◌, ℤ, pos, ◌+ℤ◌, unsigned_abs, replicate}
 use Rattle.std.specs.Int.{int_rem_euclid}
 use Rattle.std.specs.List.{fold}
@@ -25,11 +25,19 @@ left_over Last known value = 0
 
 -- the higher value; the lower one again where none is needed
 abbrev pub higher : Function → ℕ → ℤ → ℤ
-higher function known value = if left_over function known value == 0 then lower function known value else lower function known value +ℤ pos 1
+higher function known value =
+    if left_over function known value == 0
+    then lower function known value
+    else lower function known value +ℤ pos 1
 
 -- both cells may be added, and together they make the count and the value
 pub record MadeByTwo (function : Function) (known : ℕ) (value : ℤ) : Type 0 where
   pub few : left_over function known value < known
   pub lower_bounded : IsBounded (Known (lower function known value))
   pub higher_bounded : IsBounded (Known (higher function known value))
-  pub made : fold (with_cell function) (fold (with_cell function) nothing (replicate (left_over function known value) (Known (higher function known value)))) (replicate (known - left_over function known value) (Known (lower function known value))) ≡ record { known = known; value = value }
+  pub made :
+      fold (with_cell function)
+      (fold (with_cell function) nothing
+      (replicate (left_over function known value) (Known (higher function known value))))
+      (replicate (known - left_over function known value) (Known (lower function known value)))
+      ≡ record { known = known; value = value }

@@ -1,4 +1,4 @@
--- How large values are.
+-- Definition: how large values are.
 use Rattle.std.specs.Prelude.{ℕ, ◌*◌, ◌≤◌, ◌≡◌, ◌==◌, if◌then◌else◌, ℤ, pos, unsigned_abs}
 use Rattle.rrd_fixed.specs.declared.cell.Cell.{Cell}
 use Rattle.rrd_fixed.specs.declared.cell.Cell.TheVariants.{Unknown, Known}

@@ -1,4 +1,5 @@
--- A part: how many known cells there were, and what they come to. A step and a row are read off the part of their cells.
+-- Definition: a part, which is how many known cells there were and what they come to. A step and a row are read off
+-- the part of their cells.
 use Rattle.std.specs.Prelude.{ℕ, ◌+◌, ◌-◌, ◌*◌, ◌^◌, ℤ, pos, ◌+ℤ◌, ◌*ℤ◌, int_lt, nat_lt, ◌==◌, if◌then◌else◌, List, [], ◌∷◌, length}
 use Rattle.std.specs.List.{fold}
 use Rattle.std.specs.Int.{int_min, int_max}
@@ -27,11 +28,15 @@ with_value Last known value new = new
 -- the part with one more cell
 abbrev pub with_cell : Function → Part → Cell → Part
 with_cell function part Unknown = part
-with_cell function part (Known new) = record { known = part.known + 1; value = with_value function part.known part.value new }
+with_cell function part (Known new) =
+    record { known = part.known + 1; value = with_value function part.known part.value new }
 
--- a step of this many seconds: unknown if more than half of them are (rrdcreate, "The HEARTBEAT and the STEP"; that one exactly half unknown is known is this project's)
+-- a step of this many seconds: unknown if more than half of them are (rrdcreate, "The HEARTBEAT and the STEP"; that
+-- one exactly half unknown is known is this project's)
 abbrev pub step_cell : ℕ → Part → Cell
-step_cell step part = if nat_lt step (2 * (step - part.known)) then Unknown else Known (near part.value (pos part.known))
+step_cell step part =
+    if nat_lt step (2 * (step - part.known)) then Unknown
+    else Known (near part.value (pos part.known))
 
 -- what the known steps of a row come to (rrdcreate, "RRA")
 abbrev pub consolidated : Function → Part → ℤ
@@ -40,9 +45,12 @@ consolidated Min part = part.value
 consolidated Max part = part.value
 consolidated Last part = part.value
 
--- a row of so many steps: unknown if too large a share of them is (rrdcreate, "RRA", xff; that exactly the share is known is this project's)
+-- a row of so many steps: unknown if too large a share of them is (rrdcreate, "RRA", xff; that exactly the share is
+-- known is this project's)
 abbrev pub row_cell : Function → ℤ → ℕ → Part → Cell
-row_cell function xff steps part = if int_lt (xff *ℤ pos steps) (pos ((steps - part.known) * 10 ^ 6)) then Unknown else Known (consolidated function part)
+row_cell function xff steps part =
+    if int_lt (xff *ℤ pos steps) (pos ((steps - part.known) * 10 ^ 6)) then Unknown
+    else Known (consolidated function part)
 
 -- one more cell for each source
 abbrev pub with_each : Function → List Part → List Cell → List Part

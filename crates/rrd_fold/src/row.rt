@@ -44,7 +44,8 @@ impl RowPrep {
         requires fits { self.old.part.known + counted 1 cell ≤ 1000000 }
         requires bounded { IsBounded cell }
         requires turns { meter.old + 1 < 2 ^ 64 }
-        ensures added { self.new ≡ record { function = self.old.function; part = with_cell self.old.function self.old.part cell } }
+        ensures added { self.new
+            ≡ record { function = self.old.function; part = with_cell self.old.function self.old.part cell } }
         ensures grows { self.new.part.known ≤ self.old.part.known + counted 1 cell }
         ensures ticked { meter.new ≡ meter.old + 1 }
     {
@@ -57,7 +58,10 @@ impl RowPrep {
         requires fits { self.old.part.known + counted n cell ≤ 1000000 }
         requires bounded { IsBounded cell }
         requires turns { meter.old + 1 < 2 ^ 64 }
-        ensures added { self.new ≡ record { function = self.old.function; part = fold (with_cell self.old.function) self.old.part (replicate n cell) } }
+        ensures added { self.new ≡ record {
+          function = self.old.function;
+          part = fold (with_cell self.old.function) self.old.part (replicate n cell);
+        } }
         ensures grows { self.new.part.known ≤ self.old.part.known + counted n cell }
         ensures ticked { meter.new ≡ meter.old + 1 }
     {

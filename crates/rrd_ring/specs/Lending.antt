@@ -1,4 +1,4 @@
--- What a list of rows ends as, once a `&mut` to one of its rows has ended.
+-- Definition: what a list of rows ends as, once a `&mut` to one of its rows has ended.
 use Rattle.std.specs.Prelude.{ℕ, List}
 use Rattle.std.specs.Borrow.{Fml, MutBor, Array, Lends}
 use Rattle.rrd_fixed.specs.declared.cell.Cell.{Cell}

@@ -1,4 +1,4 @@
--- What a vector of cells ends as, once a `&mut` to a part of it has ended.
+-- Glue: what a vector of cells ends as, once a `&mut` to a part of it has ended.
 use Rattle.std.specs.Prelude.{ℕ, List, Vec, length, slice_range}
 use Rattle.std.specs.Global.{Global}
 use Rattle.std.specs.Borrow.{Fml, RattleType, MutBor, Array, Lends}
@@ -22,4 +22,5 @@ LendsPart cells start part = Lends cells_row (Array cell_row 0) cells part (with
 abbrev pub LendsAsMany : MutBor (Vec Cell Global) → ℕ → ℕ → MutBor (List Cell) → Fml
 LendsAsMany cells start end part =
     Lends cells_row (Array cell_row 0) cells part
-    (λ written. with_items_from cells.now start (refill (length (slice_range cells.now.items start end)) (slice_range cells.now.items start end) written))
+    (λ written. with_items_from cells.now start
+    (refill (length (slice_range cells.now.items start end)) (slice_range cells.now.items start end) written))

@@ -1,4 +1,4 @@
--- Rows of cells in one vector, one row after another, and rings of such rows.
+-- Glue: rows of cells in one vector, one row after another, and rings of such rows.
 use Rattle.std.specs.Prelude.{◌≡◌, ℕ, ◌+◌, ◌*◌, ◌%◌, ◌<◌, ◌≤◌, List, ◌++◌, length, take, drop, map}
 use Rattle.std.specs.List.{range_with_len}
 use Rattle.rrd_fixed.specs.declared.cell.Cell.{Cell}
@@ -11,7 +11,8 @@ row_of sources cells k = take sources (drop (k * sources) cells)
 abbrev pub rows_of : ℕ → ℕ → List Cell → List (List Cell)
 rows_of rows sources cells = map (λ i. row_of sources cells i) (range_with_len 0 rows)
 
--- the rows of a ring, row i of them being the vector's row (place + i) mod rows: the vector's row at the place is the oldest
+-- the rows of a ring, row i of them being the vector's row (place + i) mod rows: the vector's row at the place is the
+-- oldest
 abbrev pub ring_rows : ℕ → ℕ → ℕ → List Cell → List (List Cell)
 ring_rows rows sources place cells = map (λ i. row_of sources cells ((place + i) % rows)) (range_with_len 0 rows)
 

@@ -1,4 +1,4 @@
--- Rows of cells, oldest first.
+-- Definition: rows of cells, oldest first.
 use Rattle.std.specs.Prelude.{◌≡◌, ℕ, ◌-◌, ◌<◌, ◌≤◌, List, [], ◌∷◌, ◌++◌, length, drop, replicate, slice_index_or, slice_set}
 use Rattle.std.specs.List.{AllByRecursion, refill}
 use Rattle.rrd_fixed.specs.declared.cell.Cell.{Cell}

@@ -93,7 +93,8 @@ impl Archive {
         requires { i < length self.old }
         ensures* writes_back { sem 𝓛 (LendsRow self.entry i result) }
         ensures value { result.now ≡ row_at self.old i }
-        ensures same_width { (cells : List Cell) → length cells ≡ length (row_at self.old i) → with_row self.old i cells ≡ slice_set self.old i cells }
+        ensures same_width { (cells : List Cell) → length cells ≡ length (row_at self.old i)
+            → with_row self.old i cells ≡ slice_set self.old i cells }
     {
         let place = wrapped(self.oldest + i as usize, self.rows);
         let start = cells_of(place, self.sources);

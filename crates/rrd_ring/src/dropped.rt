@@ -76,7 +76,8 @@ impl Dropped {
         requires { i < length self.old }
         ensures* writes_back { sem 𝓛 (LendsDropped self.entry i result) }
         ensures value { result.now ≡ row_at self.old i }
-        ensures same_width { (cells : List Cell) → length cells ≡ length (row_at self.old i) → with_row self.old i cells ≡ slice_set self.old i cells }
+        ensures same_width { (cells : List Cell) → length cells ≡ length (row_at self.old i)
+            → with_row self.old i cells ≡ slice_set self.old i cells }
     {
         let start = cells_of(i as usize, self.sources);
         row_mut(&mut self.cells, start, start + self.sources)

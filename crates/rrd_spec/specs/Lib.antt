@@ -22,6 +22,7 @@ pub mod Turns
 pub mod Slow
 pub mod Slots
 pub mod Filed
+pub mod Refusals
 pub mod Lists
 pub mod Facts
 pub mod Changes

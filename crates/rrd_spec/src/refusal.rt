@@ -1,88 +1,103 @@
 //! Why a command is refused.
-use thiserror::Error;
+use std::error::Error;
+use std::fmt::{self, Display, Formatter};
 
 /// Why a command is refused. The database is then unchanged.
-#[derive(Clone, Copy, Debug, PartialEq, Eq, Error)]
+#[derive(Clone, Copy, Debug, PartialEq, Eq)]
 pub enum Refusal {
     /// The step is not 1 to 1,000,000 seconds.
-    #[error("bad step")]
     BadStep,
     /// The start is after 9,999,999,999.
-    #[error("bad start")]
     BadStart,
     /// There is no data source.
-    #[error("no data source")]
     NoSource,
     /// There is no archive.
-    #[error("no archive")]
     NoArchive,
     /// A name is not 1 to 19 characters out of `a-z A-Z 0-9 _`.
-    #[error("bad name")]
     BadName,
     /// A name stands twice.
-    #[error("double name")]
     DoubleName,
     /// A heartbeat is not 1 to 9,999,999,999 seconds.
-    #[error("bad heartbeat")]
     BadHeartbeat,
     /// A bound is past the greatest rate, or the least is above the greatest.
-    #[error("bad bounds")]
     BadBounds,
     /// A share is not from 0 to below 1.
-    #[error("bad xff")]
     BadXff,
     /// The steps of a row are not 1 to 1,000,000.
-    #[error("bad steps")]
     BadSteps,
     /// The rows are not 1 to 1,000,000.
-    #[error("bad rows")]
     BadRows,
     /// There are more than 64 sources, 64 archives or 4,000,000 cells.
-    #[error("too large")]
     TooLarge,
     /// The journal's depth is not 1 to 1,000.
-    #[error("bad journal depth")]
     BadDepth,
     /// No source has that name.
-    #[error("no such data source")]
     NoSuchSource,
     /// A sample has another number of values than there are sources or names in the template.
-    #[error("wrong number of values")]
     WrongCount,
     /// A source of that type doesn't accept the value.
-    #[error("bad value")]
     BadValue,
     /// A sample is not later than the one before it, which came at `last`.
-    #[error("not later than {last}")]
     NotLater { last: u64 },
     /// An update has no sample.
-    #[error("no sample")]
     NoSample,
     /// A tune has no option.
-    #[error("nothing to tune")]
     NothingToTune,
     /// No archive has that number.
-    #[error("no such archive")]
     NoSuchArchive,
     /// No row would be left.
-    #[error("shrinks too far")]
     ShrinkTooFar,
     /// The journal is empty.
-    #[error("nothing to revert")]
     NothingToRevert,
     /// No archive has that function.
-    #[error("no archive for this function")]
     NoArchiveForFunction,
     /// More than 1,000,000 rows would be fetched.
-    #[error("span too long")]
     SpanTooLong,
     /// The start is after the end.
-    #[error("bad span")]
     BadSpan,
     /// There is no memory for the change.
-    #[error("out of memory")]
     OutOfMemory,
     /// A time is after 9,999,999,999.
-    #[error("bad time")]
     BadTime,
 }
+
+impl Display for Refusal {
+    ghost use Rattle.rrd_spec.specs.Refusals.{refusal_text};
+    ghost use Rattle.std.specs.Prelude.{Some};
+
+    ghost output = { λ refusal. Some (refusal_text refusal) };
+
+    fn fmt<W: fmt::Write>(&self, f: &mut Formatter<W>) -> fmt::Result {
+        match self {
+            Refusal::BadStep => f.write_str("bad step"),
+            Refusal::BadStart => f.write_str("bad start"),
+            Refusal::NoSource => f.write_str("no data source"),
+            Refusal::NoArchive => f.write_str("no archive"),
+            Refusal::BadName => f.write_str("bad name"),
+            Refusal::DoubleName => f.write_str("double name"),
+            Refusal::BadHeartbeat => f.write_str("bad heartbeat"),
+            Refusal::BadBounds => f.write_str("bad bounds"),
+            Refusal::BadXff => f.write_str("bad xff"),
+            Refusal::BadSteps => f.write_str("bad steps"),
+            Refusal::BadRows => f.write_str("bad rows"),
+            Refusal::TooLarge => f.write_str("too large"),
+            Refusal::BadDepth => f.write_str("bad journal depth"),
+            Refusal::NoSuchSource => f.write_str("no such data source"),
+            Refusal::WrongCount => f.write_str("wrong number of values"),
+            Refusal::BadValue => f.write_str("bad value"),
+            Refusal::NotLater { last } => write!(f, "not later than {last}"),
+            Refusal::NoSample => f.write_str("no sample"),
+            Refusal::NothingToTune => f.write_str("nothing to tune"),
+            Refusal::NoSuchArchive => f.write_str("no such archive"),
+            Refusal::ShrinkTooFar => f.write_str("shrinks too far"),
+            Refusal::NothingToRevert => f.write_str("nothing to revert"),
+            Refusal::NoArchiveForFunction => f.write_str("no archive for this function"),
+            Refusal::SpanTooLong => f.write_str("span too long"),
+            Refusal::BadSpan => f.write_str("bad span"),
+            Refusal::OutOfMemory => f.write_str("out of memory"),
+            Refusal::BadTime => f.write_str("bad time"),
+        }
+    }
+}
+
+impl Error for Refusal {}

@@ -84,7 +84,8 @@ fetch AVERAGE -s 0 -e 119\n",
 
 const FOUR_FUNCTIONS: Case<'static> = (
     "four_functions",
-    "create --step 1 --start 0 DS:g:GAUGE:10:U:U RRA:AVERAGE:0.5:4:2 RRA:MIN:0.5:4:2 RRA:MAX:0.5:4:2 RRA:LAST:0.5:4:2\n\
+    "create --step 1 --start 0 DS:g:GAUGE:10:U:U RRA:AVERAGE:0.5:4:2 RRA:MIN:0.5:4:2 \
+RRA:MAX:0.5:4:2 RRA:LAST:0.5:4:2\n\
 update 1:3 2:U 3:1 4:2 5:3 6:U 7:1 8:U\n\
 fetch AVERAGE -s 0 -e 7\n\
 fetch MIN -s 0 -e 7\n\
@@ -298,7 +299,8 @@ create --step x\n\
 create\n\
 create DS:g:GAUGE:100:U:U RRA:FOO:0.5:1:4\n\
 create DS:g:GAUGE:100:U:U RRA:LAST:1:1:4\n\
-create DS:g:GAUGE:100:U:U RRA:LAST:0.5:1:1000000 RRA:LAST:0.5:1:1000000 RRA:LAST:0.5:1:1000000 RRA:LAST:0.5:1:1000000 RRA:LAST:0.5:1:1000000\n",
+create DS:g:GAUGE:100:U:U RRA:LAST:0.5:1:1000000 RRA:LAST:0.5:1:1000000 \
+RRA:LAST:0.5:1:1000000 RRA:LAST:0.5:1:1000000 RRA:LAST:0.5:1:1000000\n",
     "ERROR: bad step\n\
 ERROR: unreadable step\n\
 ERROR: no data source\n\

@@ -1,7 +1,7 @@
 //! Small databases, each call of rrd_base on its happy path: the readers, updates of fewer, as many and
 //! more rows than an archive has and back, and databases as large as they may be.
 use crate::shared::{
-    NONE, archive, assert_rows, cell, many_sources, of_last_values, of_one, source, spec, take,
+    archive, assert_rows, many_sources, of_last_values, of_one, source, spec, take,
 };
 use rrd_base::{Database, List, Refusal};
 use rrd_fixed::{Kind, Raw};

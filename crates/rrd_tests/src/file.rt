@@ -1,7 +1,5 @@
 //! Files byte by byte, worked out by hand, and writers that fail.
-use crate::shared::{
-    Sink, archive, joined, name_of, of_last_values, sample, source, spec, take, update_of,
-};
+use crate::shared::{Sink, archive, joined, name_of, of_last_values, sample, source, spec, take};
 use rrd_base::{Change, Database, DsDef, List, Tuning, Update};
 use rrd_file::encode;
 use rrd_fixed::Kind;

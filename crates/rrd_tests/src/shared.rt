@@ -88,7 +88,7 @@ pub(crate) fn padded(alloc: Global, length: usize, behind: &str) -> Result<Vec<u
 pub(crate) const NONE: Cell = Cell::Unknown;
 
 // So many whole units, written without a point.
-pub(crate) fn units(number: u32) -> Number {
+fn units(number: u32) -> Number {
     Number {
         millionths: i128::from(number) * 1_000_000,
         point: false,
@@ -182,7 +182,7 @@ pub(crate) fn sample(alloc: Global, time: u64, wholes: &[u32]) -> Result<Sample,
 }
 
 // An update without a template, of samples of one value each, in whole units.
-pub(crate) fn update_of(alloc: Global, samples: &[(u64, u32)]) -> Result<Update, AllocError> {
+fn update_of(alloc: Global, samples: &[(u64, u32)]) -> Result<Update, AllocError> {
     let mut list = List::new(alloc);
     for (time, value) in samples {
         list.push(sample(alloc, *time, &[*value])?)?;

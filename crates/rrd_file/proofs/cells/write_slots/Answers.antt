@@ -49,7 +49,7 @@ returns-in_err-write_row_at g c = λ a e.
     let slot = c.loop-slot.slot in
     let inside : slot < length a.rows = omega (arith, rows, c.loop-slot-test.true) in
     let place = place_in (resolution d.step a.def) d.last (length a.rows) slot in
-    let size : c.resolution-resolution.result ≡ resolution d.step a.def = c.resolution-resolution.ensures.value ∙ (λ i. resolution (c.step.ensures i) (sym same i)) in
+    let size : c.resolution-resolution.result ≡ resolution d.step a.def = ◌∙◌ {b = resolution c.step.result c.archive-def.result} c.resolution-resolution.ensures.value (λ i. resolution (c.step.ensures i) (sym same i)) in
     let time : c.time_in-time.result ≡ time_of (resolution d.step a.def) (length a.rows) d.last place =
     c.time_in-time.ensures ∙ (λ i. time_of (size i) (sym rows i) (c.last-last.ensures i) (place_in (size i) (c.last-last.ensures i) (sym rows i) slot)) in
     let row = slot_row d c.args.archive a slot valid e inside in
@@ -66,7 +66,7 @@ loop-slot-preserved g c = λ a e.
     let slot = c.loop-slot.slot in
     let inside : slot < length a.rows = omega (arith, rows, c.loop-slot-test.true) in
     let place = place_in (resolution d.step a.def) d.last (length a.rows) slot in
-    let size : c.resolution-resolution.result ≡ resolution d.step a.def = c.resolution-resolution.ensures.value ∙ (λ i. resolution (c.step.ensures i) (sym same i)) in
+    let size : c.resolution-resolution.result ≡ resolution d.step a.def = ◌∙◌ {b = resolution c.step.result c.archive-def.result} c.resolution-resolution.ensures.value (λ i. resolution (c.step.ensures i) (sym same i)) in
     let time : c.time_in-time.result ≡ time_of (resolution d.step a.def) (length a.rows) d.last place =
     c.time_in-time.ensures ∙ (λ i. time_of (size i) (sym rows i) (c.last-last.ensures i) (place_in (size i) (c.last-last.ensures i) (sym rows i) slot)) in
     let row = slot_row d c.args.archive a slot valid e inside in
