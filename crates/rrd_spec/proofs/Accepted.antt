@@ -9,7 +9,8 @@ use Rattle.rrd_fixed.specs.declared.name.Name.{Name}
 use Rattle.rrd_spec.specs.declared.settings.DsDef.{DsDef}
 use Rattle.rrd_spec.specs.History.{Content, Sampled, Moment, moment_after, moment_of, moment_at_end, raws_under, IsHistory}
 use Rattle.rrd_spec.specs.Commands.{Command, Updating, TuningBy, Resizing, settings_of, sample_of, tuned, names, rows_changed, events}
-use Rattle.rrd_spec.specs.Verdict.{Check, first_refusal, is_bad_rows, grows_too_far, shrinks_too_far, sample_checks, checks, verdict, verdict_within}
+use Rattle.rrd_spec.specs.Verdict.{Check, first_refusal, is_bad_rows, grows_too_far, shrinks_too_far, checks, verdict, verdict_within}
+pub use Rattle.rrd_spec.specs.Facts.{readings_rise}
 pub use Rattle.rrd_spec.specs.Verdict.{Passes}
 use Rattle.rrd_spec.specs.declared.update.Sample.{Sample}
 use Rattle.rrd_spec.specs.declared.resize.Change.{Change}
@@ -32,11 +33,6 @@ unfolding verdict_within
 accepted_passes base command h = all_pass (checks version_one base command) h
 
 -- ---- its events are a history
-
-pub readings_rise : (sources : List DsDef) (template : List Name) (now : Moment) (readings : List Sample) → AllByRecursion Passes (sample_checks version_one sources template now.last readings) → IsHistory now (map Sampled (map (sample_of sources template) readings))
-readings_rise sources template now [] p = tt
-readings_rise sources template now (reading ∷ readings) p =
-    (leb-false reading.time now.last p.1.0, readings_rise sources template (moment_after now (Sampled (sample_of sources template reading))) readings p.1.1.1.1)
 
 pub some_rows : (change : Change) (old rows : ℕ) → (is_bad_rows version_one rows || grows_too_far version_one change old rows) ≡ false → shrinks_too_far change old rows ≡ false → 0 < rows_changed change old rows
 some_rows Grow old rows h k =

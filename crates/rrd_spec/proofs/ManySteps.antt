@@ -14,7 +14,7 @@ use Rattle.rrd_spec.specs.Lists.{keep_all, keep_last-append}
 use Rattle.rrd_spec.specs.Passed.{archive_passed, passed}
 use Rattle.rrd_spec.specs.Rules.{rows_rule, seconds_to_steps}
 use Rattle.rrd_spec.specs.Steps.{SecondsOver, StepsInPieces, StepsOver, StepsWithin}
-use Rattle.rrd_spec.proofs.EachLemmas.{fold-with_each}
+use Rattle.rrd_spec.specs.Preparations.{fold-with_each}
 use Rattle.rrd_spec.proofs.GroupLemmas.{goes_on, finished_within, unfinished_within, finished_filling, unfinished_filling, finished-replicate, unfinished-replicate, next_ahead}
 use Rattle.rrd_spec.proofs.PassedLemmas.{archive_passed-append}
 

@@ -1,5 +1,5 @@
 -- Law: what a change of a content changes and what it keeps.
-use Rattle.std.specs.Prelude.{◌≡◌, ℕ, ◌+◌, ◌*◌, ◌/◌, ◌<◌, ◌≤◌, None, List, ◌++◌, map, length, replicate, slice_index_or}
+use Rattle.std.specs.Prelude.{◌≡◌, ℕ, ◌+◌, ◌*◌, ◌/◌, ◌<◌, ◌≤◌, None, List, [], ◌++◌, map, length, replicate, slice_index_or}
 use Rattle.std.specs.List.{AllByRecursion, fold}
 use Rattle.rrd_fixed.specs.declared.cell.Cell.{Cell}
 use Rattle.rrd_fold.specs.declared.function.Function.{Function}
@@ -56,6 +56,10 @@ ResizeChanges base archive change rows =
     IsValid base → verdict base (Resizing archive change rows) ≡ None → moved base (Resizing archive change rows) ≡ record base { archives = with_rows_at base.archives archive (newest_of base archive (rows_then base archive change rows)) }
 
 -- ---- samples, seconds and steps
+
+-- without an event a content stays as it is
+abbrev pub StaysAsItIs : Content → Type 0
+StaysAsItIs base = IsBase base → content_listed base [] ≡ base
 
 -- a history may be cut anywhere, its rows being said by list
 abbrev pub GoesOnListed : Content → List Event → List Event → Type 0

@@ -1,20 +1,26 @@
 -- Law: what follows at once from the definitions.
-use Rattle.std.proofs.Common.{◌≡◌, refl, ap, ℕ, zero, suc, ◌/◌, ◌<◌, ℤ, List, [], ◌∷◌, length, get_or}
+use Rattle.std.proofs.Common.{◌≡◌, refl, ap, ℕ, zero, suc, ◌/◌, ◌<◌, ℤ, List, [], ◌∷◌, length, map, get_or}
 use Rattle.std.proofs.Math.Nat.{le_of_suc-le-suc, not-suc-le-zero}
+use Rattle.std.proofs.lemmas.Bool.{leb-false}
 use Rattle.std.specs.List.{AllByRecursion, fold}
 use Rattle.rrd_fixed.specs.declared.cell.Cell.{Cell}
 use Rattle.rrd_fixed.specs.declared.cell.Cell.TheVariants.{Unknown}
+use Rattle.rrd_fixed.specs.declared.name.Name.{Name}
 use Rattle.rrd_fixed.specs.declared.raw.Raw.{Raw}
 use Rattle.rrd_fold.specs.Bounds.{Consolidating}
 use Rattle.rrd_fold.specs.Parts.{nothing}
 use Rattle.rrd_spec.specs.declared.settings.DsDef.{DsDef}
 use Rattle.rrd_spec.specs.declared.entry.SourceBefore.{SourceBefore}
 use Rattle.rrd_spec.specs.Entries.{Entry, IsSound, UpdateEntry, ResizeEntry, TuneEntry, undone, with_source}
-use Rattle.rrd_spec.specs.History.{Archive, Content, IsArchive, IsBase}
+use Rattle.rrd_spec.specs.History.{Archive, Content, IsArchive, IsBase, IsHistory, Moment, Sampled, moment_after}
+use Rattle.rrd_spec.specs.declared.update.Sample.{Sample}
+use Rattle.rrd_spec.specs.Commands.{sample_of}
+use Rattle.rrd_spec.specs.Limits.{version_one}
 use Rattle.rrd_spec.specs.Lists.{All-weaker}
 use Rattle.rrd_spec.specs.Passed.{row_at}
 use Rattle.rrd_spec.specs.Shown.{cell_in, prep_in}
 use Rattle.rrd_spec.specs.Validity.{AreAccepted, IsRow, IsValid, IsValidArchive}
+use Rattle.rrd_spec.specs.Verdict.{Passes, sample_checks}
 
 -- ---- a valid content
 
@@ -43,6 +49,13 @@ base_of_valid base is = record { some_step = is.some_step; archives_are = are_ar
 
 pub sound : (base : Content) → IsValid base → IsSound base
 sound base is = record { is_base = base_of_valid base is; one_raw_each = length-accepted base.sources base.raws is.raws_are }
+
+-- ---- samples that pass their checks come one after another
+
+pub readings_rise : (sources : List DsDef) (template : List Name) (now : Moment) (readings : List Sample) → AllByRecursion Passes (sample_checks version_one sources template now.last readings) → IsHistory now (map Sampled (map (sample_of sources template) readings))
+readings_rise sources template now [] p = tt
+readings_rise sources template now (reading ∷ readings) p =
+    (leb-false reading.time now.last p.1.0, readings_rise sources template (moment_after now (Sampled (sample_of sources template reading))) readings p.1.1.1.1)
 
 -- ---- undoing keeps the journal's depth
 

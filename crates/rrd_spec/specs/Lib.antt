@@ -27,3 +27,4 @@ pub mod Lists
 pub mod Facts
 pub mod Changes
 pub mod Steps
+pub mod Preparations

@@ -4,7 +4,7 @@ ghost use Rattle.std.specs.Prelude.{ℕ, ◌<◌, List, replicate};
 ghost use Rattle.rrd_fixed.specs.declared.cell.Cell.{Cell};
 ghost use Rattle.rrd_fold.specs.declared.function.Function.{Function};
 ghost use Rattle.rrd_fold.specs.Parts.{Part, nothing};
-ghost use Rattle.rrd_spec.specs.Changes.{ArchiveStaysValid, AreKept, EntryFits, GoesOnListed, MovesListed, PartsGrow, PassesWithin, ResizeChanges, ResizeFits, StaysValidFor, TuneChanges};
+ghost use Rattle.rrd_spec.specs.Changes.{ArchiveStaysValid, AreKept, EntryFits, GoesOnListed, MovesListed, PartsGrow, PassesWithin, ResizeChanges, ResizeFits, StaysAsItIs, StaysValidFor, TuneChanges};
 ghost use Rattle.rrd_spec.specs.Groups.{GoesOn, Rule};
 ghost use Rattle.rrd_spec.specs.History.{Archive, Content, Event, Reading};
 ghost use Rattle.rrd_spec.specs.Passed.{PassesInPieces, SampledPasses, RowsComeBack, ShowsByAge};
@@ -32,6 +32,11 @@ use rrd_fold::laws::one_cell_alone;
 pub fn groups_in_pieces<A, P, B>()
     ensures { (rule : Rule A P B) (before : ℕ) (begun : P) (xs ys : List A) →
         0 < rule.size → GoesOn rule before begun xs ys }
+{}
+
+/// Without an event a content stays as it is.
+pub fn content_stays_without_events()
+    ensures { (base : Content) → StaysAsItIs base }
 {}
 
 /// A history may be cut anywhere: the content at the cut is a base for what comes after. So it is
