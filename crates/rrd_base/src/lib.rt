@@ -7,12 +7,11 @@ mod database;
 mod entry;
 mod fetch;
 mod named;
-mod preparing;
 mod resize;
-mod room;
 mod store;
 mod tune;
 mod update;
+mod walk;
 
 pub use create::check_create;
 pub use database::Database;
