@@ -9,13 +9,14 @@ use Rattle.rrd_spec.specs.declared.update.Sample.{Sample}
 use Rattle.rrd_spec.specs.History.{Content, Reading, Sampled, IsBase, content_listed, rates}
 use Rattle.rrd_spec.specs.Passed.{passed}
 use Rattle.rrd_spec.specs.Shown.{definitions}
-use Rattle.rrd_spec.specs.Turns.{rows_shown, in_all, least_of_sample, most_of_sample, least_of_steps, most_of_steps}
+use Rattle.rrd_spec.specs.Turns.{rows_shown, in_all, least_of_sample, most_of_sample, most_of_steps}
 use Rattle.rrd_spec.specs.Validity.{AreAccepted, IsRow, IsValid}
 use Rattle.rrd_spec.proofs.GroupLemmas.{next_ahead}
+use Rattle.rrd_base.specs.Walk.{least_of_ends, least_to, most_of_ends, most_to}
 use Rattle.rrd_spec.proofs.PassedLemmas.{passed-append, content_of_sample}
 use Rattle.rrd_base.proofs.Passing.{ended_div, within_div}
 use Rattle.rrd_spec.proofs.Held.{base_of_valid}
-use Rattle.rrd_base.proofs.TurnLemmas.{Leaves, leaves_of, passed_leaves, least_by_steps, most_by_steps, least_of_none, few_turns}
+use Rattle.rrd_base.proofs.TurnLemmas.{Leaves, leaves_of, passed_leaves, least_by_steps, most_by_steps, least_of_none}
 
 end_ahead : (last step : ℕ) → 0 < step → last + ((last / step + 1) * step - last) ≡ (last / step + 1) * step
 end_ahead last step some = omega (arith, next_ahead last step some)
@@ -79,11 +80,11 @@ number_at last step time some h =
     let split = div-add-mod' more step in
     ap (λ n. n / step) {x = time} {y = (last / step + (1 + more / step)) * step + more % step} (omega arith) ∙ div-mul-add (last / step + (1 + more / step)) step (more % step) (mod_below more step some)
 
-pub least_caught : (base : Content) (time : ℕ) → IsValid base → end_of_step base ≤ time → least_of_sample (length base.sources) base.step (definitions base.archives) base.last time ≡ length base.sources * least_of_steps (base.last / base.step) (1 + steps_after base time) (definitions base.archives)
+pub least_caught : (base : Content) (time : ℕ) → IsValid base → end_of_step base ≤ time → least_to base time ≡ least_of_ends base (steps_after base time)
 least_caught base time is h =
     ap (λ n. length base.sources * n) (least_by_steps base.step base.last time (1 + steps_after base time) base.archives (number_at base.last base.step time is.some_step h))
 
-pub most_caught : (base : Content) (time : ℕ) → IsValid base → end_of_step base ≤ time → let n = length base.sources in n * (2 + most_of_steps (base.last / base.step) (1 + steps_after base time) (definitions base.archives)) + n ≤ most_of_sample n base.step (definitions base.archives) base.last time
+pub most_caught : (base : Content) (time : ℕ) → IsValid base → end_of_step base ≤ time → most_of_ends base (steps_after base time) + length base.sources ≤ most_to base time
 most_caught base time is h =
     let n = length base.sources in
     let defs = definitions base.archives in
@@ -92,24 +93,14 @@ most_caught base time is h =
     let m = mul-le n a n y (omega arith) (most_by_steps base.step base.last time (1 + steps_after base time) base.archives (number_at base.last base.step time is.some_step h)) in
     omega arith
 
--- few of them
-pub few_caught : (base : Content) (count : ℕ) → IsValid base → let n = length base.sources in n * (2 + most_of_steps (base.last / base.step) count (definitions base.archives)) + n ≤ 6000000
-few_caught base count is =
-    let n = length base.sources in
-    let a = most_of_steps (base.last / base.step) count (definitions base.archives) in
-    let few = few_turns base (base.last / base.step) count is in
-    let sources = is.few_sources in
-    let split : n * (2 + a) ≡ 2 * n + n * a = omega arith in
-    omega arith
-
 -- none of the rows ends within the step
-pub least_within : (base : Content) (time : ℕ) → IsValid base → base.last < time → time < end_of_step base → least_of_sample (length base.sources) base.step (definitions base.archives) base.last time ≡ 0
+pub least_within : (base : Content) (time : ℕ) → IsValid base → base.last < time → time < end_of_step base → least_to base time ≡ 0
 least_within base time is later h =
     let n = length base.sources in
     let e : time / base.step ≡ base.last / base.step + 0 = ap (λ m. m / base.step) {x = time} {y = base.last + (time - base.last)} (omega arith) ∙ within_div base.last (time - base.last) base.step is.some_step (omega arith) ∙ omega arith in
     ap (λ x. n * x) (least_by_steps base.step base.last time 0 base.archives e ∙ least_of_none (base.last / base.step) base.archives) ∙ omega arith
 
-pub most_within : (base : Content) (time : ℕ) → length base.sources ≤ most_of_sample (length base.sources) base.step (definitions base.archives) base.last time
+pub most_within : (base : Content) (time : ℕ) → length base.sources ≤ most_to base time
 most_within base time =
     let n = length base.sources in
     let y = sum (map (λ (def : RraDef). 8 + rows_shown base.step base.last time def) (definitions base.archives)) in

@@ -11,7 +11,7 @@ use Rattle.rrd_spec.specs.Commands.{rows_of_archives}
 use Rattle.rrd_spec.specs.Validity.{IsValid}
 use Rattle.rrd_spec.specs.Passed.{archive_passed, passed}
 use Rattle.rrd_spec.specs.Shown.{definitions}
-use Rattle.rrd_spec.specs.Turns.{rows_shown, rows_ended, rows_pushed, least_of_steps, most_of_steps}
+use Rattle.rrd_spec.specs.Turns.{rows_shown, rows_ended, rows_pushed, least_of_steps, most_of_sample, most_of_steps}
 
 -- ---- archive by archive
 
@@ -44,22 +44,24 @@ sum_within f (a ∷ rest) (suc i) =
 
 -- ---- no more than a valid database allows
 
-most_in_all : (before count : ℕ) (archives : List Archive) → most_of_steps before count (definitions archives) ≤ 4 * length archives + sum (rows_of_archives archives)
-most_in_all before count [] = omega arith
-most_in_all before count (a ∷ rest) =
-    let turns = sum_first (4 + rows_pushed before count a.def) (map (λ (def : RraDef). 4 + rows_pushed before count def) (definitions rest)) in
+most_in_all : (step from to : ℕ) (archives : List Archive) → sum (map (λ (def : RraDef). 8 + rows_shown step from to def) (definitions archives)) ≤ 8 * length archives + sum (rows_of_archives archives)
+most_in_all step from to [] = omega arith
+most_in_all step from to (a ∷ rest) =
+    let turns = sum_first (8 + rows_shown step from to a.def) (map (λ (def : RraDef). 8 + rows_shown step from to def) (definitions rest)) in
     let rows = sum_first a.def.rows (rows_of_archives rest) in
-    omega (arith, most_in_all before count rest)
+    omega (arith, most_in_all step from to rest)
 
-pub few_turns : (base : Content) (before count : ℕ) → IsValid base → length base.sources * most_of_steps before count (definitions base.archives) ≤ 5000000
-few_turns base before count is =
+pub few_turns : (base : Content) (from to : ℕ) → IsValid base → most_of_sample (length base.sources) base.step (definitions base.archives) from to ≤ 5000000
+few_turns base from to is =
     let n = length base.sources in
     let m = length base.archives in
     let r = sum (rows_of_archives base.archives) in
-    let all = mul-le n (most_of_steps before count (definitions base.archives)) n (4 * m + r) (omega arith) (most_in_all before count base.archives) in
+    let s = sum (map (λ (def : RraDef). 8 + rows_shown base.step from to def) (definitions base.archives)) in
+    let all = mul-le n (3 + s) n (3 + (8 * m + r)) (omega arith) (omega (arith, most_in_all base.step from to base.archives)) in
+    let sources = is.few_sources in
     let places = mul-le n m 64 64 is.few_sources is.few_archives in
     let cells : n * r ≤ 4000000 = is.few_cells in
-    let split : n * (4 * m + r) ≡ 4 * (n * m) + n * r = omega arith in
+    let split : n * (3 + (8 * m + r)) ≡ 3 * n + 8 * (n * m) + n * r = omega arith in
     omega arith
 
 -- ---- a sample, by the steps that end in its interval

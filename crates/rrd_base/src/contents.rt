@@ -10,28 +10,23 @@ ghost use Rattle.rrd_spec.specs.Shown.{cell_at, definitions, prep_at};
 ghost use Rattle.rrd_fixed.specs.declared.cell.Cell.TheVariants.{Unknown as CellUnknown};
 ghost use Rattle.rrd_fixed.specs.declared.raw.Raw.TheVariants.{Unknown};
 ghost use Rattle.rrd_fold.specs.Parts.{nothing};
-ghost use Rattle.rrd_base.specs.Room.{HasPlaces};
 ghost use Rattle.rrd_base.specs.Journal.{CanUndo, before, entry_of, update_of};
 ghost use Rattle.rrd_spec.specs.Entries.{UpdateEntry, ResizeEntry, TuneEntry, entry as entry_for, rows_at, undone, with_rows_at};
 ghost use Rattle.rrd_base.specs.Store.{CanPutBackEach};
 ghost use Rattle.rrd_spec.specs.Verdict.{verdict};
 ghost use Rattle.rrd_spec.specs.History.{Sampled, content_listed};
-ghost use Rattle.rrd_spec.specs.Passed.{passed};
 ghost use Rattle.rrd_ring.specs.Rows.{newest_rows};
-ghost use Rattle.rrd_spec.specs.Turns.{AreTurns, least_of_sample, least_of_steps, most_of_sample, most_of_steps};
 ghost use Rattle.rrd_spec.specs.Validity.{AreAccepted, IsRow, IsValid};
 
 use crate::entry::{BeforeUpdate, Entry};
 use crate::fetch::Search;
-use crate::preparing::{add_all, close_all, rates_into};
 use crate::resize::{check_resize, rows_changed};
-use crate::room::Room;
-use crate::store::{Store, new_all, put_back_all, save_all, take_all};
 use crate::tune::{check_tune, keep_sources, put_sources_back, tune_all};
-use crate::update::{check_update, raws_into};
 use crate::{Change, Chosen, CreateSpec, DsDef, Refusal, SourceBefore, Tuning, Update};
+use crate::store::{Store, new_all, put_back_all, save_all};
+use crate::update::check_update;
 use arrayvec::ArrayVec;
-use rrd_fixed::{Cell, Meter, Raw};
+use rrd_fixed::{Cell, Raw};
 use rrd_fold::{RowPrep, StepPrep};
 use rrd_ring::Archive;
 use rrd_spec::{Request, laws};
@@ -157,143 +152,6 @@ impl Contents {
         let store = &self.stores[archive];
         let resolution = store.def().resolution(self.step);
         store.row_of_age(age(self.last, resolution, time))
-    }
-
-    // Lets so many seconds pass that leave the step unfinished. It is at most a turn for each source.
-    fn begin(&mut self, rates: &[Cell], seconds: u64, meter: &mut Meter)
-        requires within { self.old.last + seconds < (self.old.last / self.old.step + 1) * self.old.step }
-        requires rates_are { IsRow (length self.old.sources) rates.now }
-        requires in_time { self.old.last + seconds ≤ version_one.latest_time }
-        requires turns { meter.old + 64 < 2 ^ 64 }
-        ensures value { self.new ≡ passed self.old (replicate seconds rates.now) }
-        ensures least { meter.old ≤ meter.new }
-        ensures most { meter.new ≤ meter.old + length self.old.sources }
-    {
-        add_all(&mut self.preps, rates, seconds, meter);
-        self.last += seconds;
-    }
-
-    // Lets the seconds pass that are left of the step in progress, and then `count` whole steps, all
-    // at once: their cells are the rates. The rooms have a place for each source.
-    fn end_steps(
-        &mut self,
-        rates: &[Cell],
-        seconds: u64,
-        count: u64,
-        step_room: &mut [Cell],
-        row_room: &mut [Cell],
-        meter: &mut Meter,
-    )
-        requires fills { self.old.last + seconds ≡ (self.old.last / self.old.step + 1) * self.old.step }
-        requires rates_are { IsRow (length self.old.sources) rates.now }
-        requires in_time { self.old.last + (seconds + count * self.old.step) ≤ version_one.latest_time }
-        requires step_wide { length step_room.old ≡ length self.old.sources }
-        requires row_wide { length row_room.old ≡ length self.old.sources }
-        requires turns { meter.old + 10000000 < 2 ^ 64 }
-        ensures value { self.new ≡ passed self.old (replicate (seconds + count * self.old.step) rates.now) }
-        ensures least { meter.old + length self.old.sources * least_of_steps (self.old.last / self.old.step) (1 + count) (definitions self.old.archives) ≤ meter.new }
-        ensures most { meter.new ≤ meter.old + length self.old.sources * (2 + most_of_steps (self.old.last / self.old.step) (1 + count) (definitions self.old.archives)) }
-    {
-        let step = self.step;
-        let before = self.last / step;
-        add_all(&mut self.preps, rates, seconds, meter);
-        close_all(&mut self.preps, step, step_room, meter);
-        self.last += seconds + count * step;
-        take_all(
-            &mut self.stores,
-            step_room,
-            rates,
-            count,
-            before,
-            row_room,
-            meter,
-        );
-    }
-
-    // Lets all seconds up to a time pass: the rest of the step in progress with all whole steps after
-    // it, and the begin of the next. The rooms have a place for each source.
-    fn catch_up(
-        &mut self,
-        rates: &[Cell],
-        time: u64,
-        step_room: &mut [Cell],
-        row_room: &mut [Cell],
-        meter: &mut Meter,
-    )
-        requires later { self.old.last < time }
-        requires in_time { time ≤ version_one.latest_time }
-        requires rates_are { IsRow (length self.old.sources) rates.now }
-        requires step_wide { length step_room.old ≡ length self.old.sources }
-        requires row_wide { length row_room.old ≡ length self.old.sources }
-        requires turns { meter.old + 20000000 < 2 ^ 64 }
-        ensures value { self.new ≡ passed self.old (replicate (time - self.old.last) rates.now) }
-        ensures least { meter.old + least_of_sample (length self.old.sources) self.old.step (definitions self.old.archives) self.old.last time ≤ meter.new }
-        ensures most { meter.new ≤ meter.old + most_of_sample (length self.old.sources) self.old.step (definitions self.old.archives) self.old.last time }
-        ensures few { meter.new ≤ meter.old + 6000000 }
-    {
-        let step = self.step;
-        let last = self.last;
-        let end = (last / step + 1) * step;
-        if time < end {
-            self.begin(rates, time - last, meter);
-        } else {
-            let more = time - end;
-            self.end_steps(rates, end - last, more / step, step_room, row_room, meter);
-            self.begin(rates, more % step, meter);
-        }
-    }
-
-    /// Takes a sample's raw values, a time after the last one. The rooms have a place for each
-    /// source.
-    fn sample(
-        &mut self,
-        time: u64,
-        raws: &[Raw],
-        rates: &mut [Cell],
-        step_room: &mut [Cell],
-        row_room: &mut [Cell],
-        meter: &mut Meter,
-    )
-        requires later { self.old.last < time }
-        requires in_time { time ≤ version_one.latest_time }
-        requires accepted { AreAccepted self.old.sources raws.now }
-        requires rates_wide { length rates.old ≡ length self.old.sources }
-        requires step_wide { length step_room.old ≡ length self.old.sources }
-        requires row_wide { length row_room.old ≡ length self.old.sources }
-        requires turns { meter.old + 20000000 < 2 ^ 64 }
-        ensures value { self.new ≡ content_listed self.old (Sampled (record { time = time; raws = raws.now }) ∷ []) }
-        ensures valid { IsValid self.new }
-        ensures least { meter.old + least_of_sample (length self.old.sources) self.old.step (definitions self.old.archives) self.old.last time ≤ meter.new }
-        ensures most { meter.new ≤ meter.old + most_of_sample (length self.old.sources) self.old.step (definitions self.old.archives) self.old.last time }
-        ensures few { meter.new ≤ meter.old + 6000000 }
-    {
-        rates_into(&self.sources, time - self.last, &self.raws, raws, rates);
-        self.catch_up(rates, time, step_room, row_room, meter);
-        self.raws.copy_from_slice(raws);
-    }
-
-    /// Takes the samples of an update that is accepted. The room has a place for each source.
-    pub(crate) fn take_samples(&mut self, update: &Update, room: &mut Room, meter: &mut Meter)
-        requires valid { IsValid self.old }
-        requires accepted { verdict self.old (Updating update.now) ≡ None }
-        requires places { HasPlaces room.old (length self.old.sources) }
-        requires turns { meter.old ≡ 0 }
-        ensures value { self.new ≡ moved_listed self.old (Updating update.now) }
-        ensures turns { AreTurns self.old update.now meter.new }
-    {
-        for sample in update.samples.as_slice() {
-            let values = sample.values.as_slice();
-            raws_into(&update.template, &self.sources, values, &mut room.raws);
-            let rates = &mut room.rates;
-            self.sample(
-                sample.time,
-                &room.raws,
-                rates,
-                &mut room.step,
-                &mut room.row,
-                meter,
-            );
-        }
     }
 
     /// What the journal keeps of an update that ends at a time.

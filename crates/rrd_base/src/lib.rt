@@ -7,13 +7,12 @@ mod database;
 mod entry;
 mod fetch;
 mod named;
-mod preparing;
 mod resize;
-mod room;
 mod rows;
 mod store;
 mod tune;
 mod update;
+mod walk;
 
 pub use create::check_create;
 pub use database::Database;

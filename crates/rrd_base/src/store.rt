@@ -11,14 +11,13 @@ ghost use Rattle.rrd_spec.specs.Creating.{new_archive};
 ghost use Rattle.rrd_spec.specs.Each.{AllOf, parts_in};
 ghost use Rattle.rrd_spec.specs.History.{keep_last};
 ghost use Rattle.rrd_spec.specs.Passed.{archive_passed, row_of_age};
-ghost use Rattle.rrd_spec.specs.Shown.{definitions};
-ghost use Rattle.rrd_spec.specs.Turns.{least_of_steps, most_of_steps, rows_pushed};
 ghost use Rattle.rrd_base.specs.Store.{CanPutBack, CanPutBackEach, IsStepped};
+ghost use Rattle.rrd_base.specs.Walk.{AreSteps, cells_of, count_of, least_of_all, least_of_one, most_of_all, most_of_one, sources_of};
 ghost use Rattle.rrd_spec.specs.Validity.{IsRow, IsValidArchive};
 
 use crate::RraDef;
-use crate::preparing::{add_each, close_each};
 use crate::rows::HasRows;
+use crate::walk::{Steps, add_steps, close_rows};
 use rrd_fixed::{Cell, Meter};
 use rrd_fold::{Function, RowPrep};
 use rrd_ring::{Archive, Dropped};
@@ -157,37 +156,35 @@ impl Store {
         self.preps[source]
     }
 
-    // Adds to each preparation its source's step, so many times. It is at most a turn for each.
+    // Adds to each preparation its source's step, so many times. It is a turn for each.
     fn go_on(&mut self, step: &[Cell], count: u64, meter: &mut Meter)
         requires row { IsRow (length self.old.parts) step.now }
         requires fits { AllByRecursion (λ (p : Part). p.known + count ≤ 1000000) self.old.parts }
         requires turns { meter.old + length step.now < 2 ^ 64 }
-        ensures value { self.new ≡ record self.old { parts = fold (with_each self.old.def.function) self.old.parts (replicate count step.now) } }
-        ensures least { meter.old ≤ meter.new }
-        ensures most { meter.new ≤ meter.old + length step.now }
+        ensures value { self.new ≡ record self.old {
+          parts = fold (with_each self.old.def.function) self.old.parts (replicate count step.now);
+        } }
+        ensures ticked { meter.new ≡ meter.old + length step.now }
     {
-        if count == 0 {
-            return;
-        }
-        add_each(&mut self.preps, step, count, meter);
+        add_steps(&mut self.preps, step, count, meter);
     }
 
     // Writes the cells of the row that has all its steps, and starts each preparation anew. It is a
     // turn for each.
     fn close_row(&mut self, row: &mut [Cell], meter: &mut Meter)
-        requires room { length row.old ≡ length self.old.parts }
+        requires places { length row.old ≡ length self.old.parts }
         requires some_steps { 0 < self.old.def.steps }
         requires few_steps { self.old.def.steps ≤ version_one.most_steps }
         requires xff_low { pos 0 ≤ℤ self.old.def.xff }
         requires xff_high { self.old.def.xff ≤ℤ pos version_one.greatest_share }
         requires fits { AllByRecursion (λ (p : Part). p.known ≤ self.old.def.steps) self.old.parts }
         requires turns { meter.old + length row.old < 2 ^ 64 }
-        ensures cells { row.new ≡ map (row_cell self.old.def.function self.old.def.xff self.old.def.steps) self.old.parts }
+        ensures cells { let def = self.old.def in
+            row.new ≡ map (row_cell def.function def.xff def.steps) self.old.parts }
         ensures value { self.new ≡ record self.old { parts = replicate (length row.old) nothing } }
         ensures ticked { meter.new ≡ meter.old + length row.old }
     {
-        let share = self.def.share();
-        close_each(&mut self.preps, self.def.steps, share, row, meter);
+        close_rows(&mut self.preps, &self.def, row, meter);
     }
 
     // Takes a row and then so many of another, those only that are still there in the end. It is a
@@ -196,47 +193,39 @@ impl Store {
         requires wide { HasWidth (length row.now) self.old.rows }
         requires same_width { length then.now ≡ length row.now }
         requires turns { meter.old + length row.now * min (1 + times) (length self.old.rows) < 2 ^ 64 }
-        ensures value { self.new ≡ record self.old { rows = keep_last (length self.old.rows) (self.old.rows ++ row.now ∷ replicate times then.now) } }
+        ensures value { let all = self.old.rows ++ row.now ∷ replicate times then.now in
+            self.new ≡ record self.old { rows = keep_last (length self.old.rows) all } }
         ensures ticked { meter.new ≡ meter.old + length row.now * min (1 + times) (length self.old.rows) }
     {
         push_rows(&mut self.rows, row, then, times, meter);
     }
 
-    /// Takes the cells of one step and then `count` times those of another, `before` steps having
-    /// ended. All whole rows of the other are taken at once: their cells are its cells, and only
-    /// rows that are still there in the end are written. `row` is room for the cells of a row.
-    pub(crate) fn take(
-        &mut self,
-        first: &[Cell],
-        then: &[Cell],
-        count: u64,
-        before: u64,
-        row: &mut [Cell],
-        meter: &mut Meter,
-    )
-        requires valid { IsValidArchive (length first.now) before self.old }
-        requires first_bounded { IsRow (length first.now) first.now }
-        requires then_bounded { IsRow (length first.now) then.now }
-        requires room { length row.old ≡ length first.now }
-        requires in_time { before + (1 + count) ≤ version_one.latest_time }
-        requires turns { meter.old + length first.now * (4 + rows_pushed before (1 + count) self.old.def) < 2 ^ 64 }
-        ensures value { self.new ≡ archive_passed (length first.now) before (first.now ∷ replicate count then.now) self.old }
-        ensures valid { IsValidArchive (length first.now) (before + (1 + count)) self.new }
-        ensures least { meter.old + length first.now * rows_pushed before (1 + count) self.old.def ≤ meter.new }
-        ensures most { meter.new ≤ meter.old + length first.now * (4 + rows_pushed before (1 + count) self.old.def) }
-        ensures room { length row.new ≡ length row.old }
+    /// Takes steps. All whole rows of the ones that are alike are taken at once: their cells are
+    /// those steps', and only rows that are still there in the end are written. `row` has a place for
+    /// each cell of a row.
+    pub(crate) fn take(&mut self, steps: &Steps, row: &mut [Cell], meter: &mut Meter)
+        requires valid { IsValidArchive (sources_of steps.now) steps.now.before self.old }
+        requires steps_are { AreSteps steps.now }
+        requires places { length row.old ≡ sources_of steps.now }
+        requires turns { meter.old + most_of_one steps.now self.old < 2 ^ 64 }
+        ensures value { let passed = archive_passed (sources_of steps.now) steps.now.before (cells_of steps.now) in
+            self.new ≡ passed self.old }
+        ensures valid { IsValidArchive (sources_of steps.now) (steps.now.before + count_of steps.now) self.new }
+        ensures least { meter.old + least_of_one steps.now self.old ≤ meter.new }
+        ensures most { meter.new ≤ meter.old + most_of_one steps.now self.old }
+        ensures places { length row.new ≡ length row.old }
     {
-        let steps = self.def().steps;
-        let left = (before / steps + 1) * steps - (before + 1);
-        self.go_on(first, 1, meter);
-        if count < left {
-            self.go_on(then, count, meter);
+        let in_row = self.def().steps;
+        let left = (steps.before / in_row + 1) * in_row - (steps.before + 1);
+        self.go_on(steps.first, 1, meter);
+        if steps.count < left {
+            self.go_on(steps.then, steps.count, meter);
         } else {
-            let more = count - left;
-            self.go_on(then, left, meter);
+            let more = steps.count - left;
+            self.go_on(steps.then, left, meter);
             self.close_row(row, meter);
-            self.push(row, then, more / steps, meter);
-            self.go_on(then, more % steps, meter);
+            self.push(row, steps.then, more / in_row, meter);
+            self.go_on(steps.then, more % in_row, meter);
         }
     }
 
@@ -299,30 +288,21 @@ impl Store {
     }
 }
 
-/// Each archive takes the cells of one step and then `count` times those of another, `before` steps
-/// having ended. `row` is room for the cells of a row.
-pub(crate) fn take_all(
-    stores: &mut [Store],
-    first: &[Cell],
-    then: &[Cell],
-    count: u64,
-    before: u64,
-    row: &mut [Cell],
-    meter: &mut Meter,
-)
-    requires valid { AllByRecursion (IsValidArchive (length first.now) before) stores.old }
-    requires first_bounded { IsRow (length first.now) first.now }
-    requires then_bounded { IsRow (length first.now) then.now }
-    requires room { length row.old ≡ length first.now }
-    requires in_time { before + (1 + count) ≤ version_one.latest_time }
-    requires turns { meter.old + length first.now * most_of_steps before (1 + count) (definitions stores.old) < 2 ^ 64 }
-    ensures value { stores.new ≡ map (archive_passed (length first.now) before (first.now ∷ replicate count then.now)) stores.old }
-    ensures valid { AllByRecursion (IsValidArchive (length first.now) (before + (1 + count))) stores.new }
-    ensures least { meter.old + length first.now * least_of_steps before (1 + count) (definitions stores.old) ≤ meter.new }
-    ensures most { meter.new ≤ meter.old + length first.now * most_of_steps before (1 + count) (definitions stores.old) }
+/// Each archive takes steps. `row` has a place for each cell of a row.
+pub(crate) fn take_all(stores: &mut [Store], steps: &Steps, row: &mut [Cell], meter: &mut Meter)
+    requires valid { AllByRecursion (IsValidArchive (sources_of steps.now) steps.now.before) stores.old }
+    requires steps_are { AreSteps steps.now }
+    requires places { length row.old ≡ sources_of steps.now }
+    requires turns { meter.old + most_of_all steps.now stores.old < 2 ^ 64 }
+    ensures value { let passed = archive_passed (sources_of steps.now) steps.now.before (cells_of steps.now) in
+        stores.new ≡ map passed stores.old }
+    ensures valid { let before = steps.now.before + count_of steps.now in
+        AllByRecursion (IsValidArchive (sources_of steps.now) before) stores.new }
+    ensures least { meter.old + least_of_all steps.now stores.old ≤ meter.new }
+    ensures most { meter.new ≤ meter.old + most_of_all steps.now stores.old }
 {
     for i in 0..stores.len() {
-        stores[i].take(first, then, count, before, row, meter);
+        stores[i].take(steps, row, meter);
     }
 }
 

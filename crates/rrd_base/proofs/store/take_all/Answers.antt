@@ -1,4 +1,4 @@
-use Rattle.std.proofs.Common.{◌≡◌, ℕ, sym, ◌∙◌, ap, subst, suc, ◌+◌, ◌*◌, ◌^◌, ◌∷◌, ◌++◌, ◌<◌, take, drop, map, length, set, get_or, replicate, arith}
+use Rattle.std.proofs.Common.{◌≡◌, ℕ, sym, ◌∙◌, ap, subst, suc, ◌+◌, ◌*◌, ◌^◌, ◌++◌, ◌<◌, take, drop, map, length, set, get_or, arith}
 use Rattle.std.proofs.lemmas.Nat.{mul-le}
 use Rattle.std.specs.List.{AllByRecursion}
 use Rattle.rrd_spec.specs.History.{Archive}
@@ -9,6 +9,7 @@ use Rattle.rrd_spec.specs.Turns.{rows_pushed, least_of_steps, most_of_steps}
 use Rattle.rrd_spec.specs.Validity.{IsValidArchive}
 use Rattle.rrd_spec.proofs.AllLemmas.{All-take-set}
 use Rattle.rrd_spec.proofs.EachLemmas.{map_more, map_next}
+use Rattle.rrd_base.specs.Walk.{cells_of, count_of, sources_of}
 use Rattle.rrd_base.proofs.TurnLemmas.{sum_more, sum_within}
 use Rattle.rrd_base.proofs.store.take_all.Goals as goal
 
@@ -16,10 +17,11 @@ pub take-requires-clause-turns : goal.take-requires-clause-turns
 take-requires-clause-turns c =
     let i = c.loop-i.i in
     let old = c.args.stores.now in
-    let before : ℕ = c.args.before in
-    let count : ℕ = 1 + c.args.count in
-    let n = length c.args.first.now in
-    let f = archive_passed n before (c.args.first.now ∷ replicate c.args.count c.args.then.now) in
+    let steps = c.args.steps.now in
+    let before = steps.before in
+    let count = count_of steps in
+    let n = sources_of steps in
+    let f = archive_passed n before (cells_of steps) in
     let d = c.index-stores-i.result in
     let within : i < length old = omega arith in
     let was = c.loop-i.invariant in
@@ -35,10 +37,11 @@ pub loop-i-preserved : goal.loop-i-preserved
 loop-i-preserved c =
     let i = c.loop-i.i in
     let old = c.args.stores.now in
-    let before : ℕ = c.args.before in
-    let count : ℕ = 1 + c.args.count in
-    let n = length c.args.first.now in
-    let f = archive_passed n before (c.args.first.now ∷ replicate c.args.count c.args.then.now) in
+    let steps = c.args.steps.now in
+    let before = steps.before in
+    let count = count_of steps in
+    let n = sources_of steps in
+    let f = archive_passed n before (cells_of steps) in
     let d = c.index-stores-i.result in
     let new = c.take.new.self in
     let within : i < length old = omega arith in

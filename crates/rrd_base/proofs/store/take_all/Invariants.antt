@@ -1,15 +1,17 @@
-use Rattle.std.proofs.Common.{◌≡◌, ◌+◌, ◌*◌, ◌≤◌, ◌∷◌, ◌++◌, take, drop, length, map, replicate}
+use Rattle.std.proofs.Common.{◌≡◌, ◌+◌, ◌≤◌, ◌++◌, take, drop, map}
 use Rattle.std.specs.List.{AllByRecursion}
 use Rattle.rrd_spec.specs.Passed.{archive_passed}
-use Rattle.rrd_spec.specs.Shown.{definitions}
-use Rattle.rrd_spec.specs.Turns.{least_of_steps, most_of_steps}
 use Rattle.rrd_spec.specs.Validity.{IsValidArchive}
+use Rattle.rrd_base.specs.Walk.{cells_of, count_of, least_of_all, most_of_all, sources_of}
 use Rattle.rrd_base.proofs.store.take_all.Given as goal
 
 abbrev pub invariant-loop-i : goal.invariant-loop-i
-invariant-loop-i l = record {
-  value : l.stores ≡ map (archive_passed (length l.first) l.before (l.first ∷ replicate l.count l.then)) (take l.i l.fn.stores) ++ drop l.i l.fn.stores;
-  valid : AllByRecursion (IsValidArchive (length l.first) (l.before + (1 + l.count))) (take l.i l.stores);
-  least : l.fn.meter + length l.first * least_of_steps l.before (1 + l.count) (definitions (take l.i l.fn.stores)) ≤ l.meter;
-  most : l.meter ≤ l.fn.meter + length l.first * most_of_steps l.before (1 + l.count) (definitions (take l.i l.fn.stores));
-}
+invariant-loop-i l =
+    let n = sources_of l.steps in
+    let before = l.steps.before in
+    record {
+      value : l.stores ≡ map (archive_passed n before (cells_of l.steps)) (take l.i l.fn.stores) ++ drop l.i l.fn.stores;
+      valid : AllByRecursion (IsValidArchive n (before + count_of l.steps)) (take l.i l.stores);
+      least : l.fn.meter + least_of_all l.steps (take l.i l.fn.stores) ≤ l.meter;
+      most : l.meter ≤ l.fn.meter + most_of_all l.steps (take l.i l.fn.stores);
+    }

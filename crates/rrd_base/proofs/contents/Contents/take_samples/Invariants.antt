@@ -2,7 +2,7 @@ use Rattle.std.proofs.Common.{◌≡◌, ◌+◌, ◌-◌, ◌*◌, ◌≤◌, l
 use Rattle.std.specs.List.{AllByRecursion}
 use Rattle.rrd_spec.specs.History.{Sampled, content_listed}
 use Rattle.rrd_spec.specs.Commands.{Updating, moved_listed, sample_of}
-use Rattle.rrd_base.specs.Room.{HasPlaces}
+use Rattle.rrd_base.specs.Walk.{HasPlaces}
 use Rattle.rrd_spec.specs.Shown.{definitions}
 use Rattle.rrd_spec.specs.Turns.{in_all, least_of_sample, most_of_sample}
 use Rattle.rrd_spec.specs.Updating.{template_of}
@@ -28,8 +28,8 @@ invariant-loop-sample l =
       same_shape : SameShape base l.self;
       valid : IsValid l.self;
       from : base.last ≤ l.self.last;
-      places : HasPlaces l.room (length sources);
-      least : in_all least base.last l.update.samples ≤ l.meter + in_all least l.self.last left;
-      most : l.meter + in_all most l.self.last left ≤ in_all most base.last l.update.samples;
-      few : l.meter ≤ 6000000 * (l.self.last - base.last);
+      places : HasPlaces l.walk (length sources);
+      least : in_all least base.last l.update.samples ≤ l.walk.meter + in_all least l.self.last left;
+      most : l.walk.meter + in_all most l.self.last left ≤ in_all most base.last l.update.samples;
+      few : l.walk.meter ≤ 5000000 * (l.self.last - base.last);
     }

@@ -1,7 +1,5 @@
-use Rattle.std.proofs.Common.{◌≡◌, sym, ◌∙◌, ap, subst, ◌≤◌, List, length, map, replicate, pos, ◌≤ℤ◌, FitsSigned, arith}
-use Rattle.std.proofs.lemmas.Int.{ints}
+use Rattle.std.proofs.Common.{◌≡◌, sym, ◌∙◌, ap, subst, ◌≤◌, List, length, map, replicate, arith}
 use Rattle.std.proofs.lemmas.List.{with_items_is, length-map}
-use Rattle.std.specs.Int.{w128}
 use Rattle.std.specs.List.{AllByRecursion}
 use Rattle.rrd_fold.specs.Bounds.{Consolidating}
 use Rattle.rrd_fold.specs.Parts.{Part, nothing, row_cell}
@@ -11,8 +9,8 @@ use Rattle.rrd_spec.proofs.EachLemmas.{AllOf-anew}
 use Rattle.rrd_base.proofs.StoreLemmas.{shown, closes, parts_fit, row_of_parts}
 use Rattle.rrd_base.proofs.store.Store.close_row.Goals as goal
 
-pub close_each-requires-clause-fits : goal.close_each-requires-clause-fits
-close_each-requires-clause-fits c =
+pub close_rows-requires-clause-fits : goal.close_rows-requires-clause-fits
+close_rows-requires-clause-fits c =
     let a = c.self.inside in
     let fits = subst (λ (x : Archive). AllByRecursion (λ (p : Part). p.known ≤ x.def.steps) x.parts) (sym c.self.view_is) c.requires.fits in
     subst (λ (preps : List Consolidating). AllByRecursion (λ (prep : Consolidating). prep.part.known ≤ a.def.steps) preps) (sym c.deref_mut.ensures.value)
@@ -21,15 +19,15 @@ close_each-requires-clause-fits c =
 pub invariant_of-self : goal.invariant_of-self
 invariant_of-self c =
     let a = c.self.inside in
-    let now = with_items_is a.preps c.close_each.new.preps (omega arith) ∙ c.close_each.ensures.anew ∙ ap (map anew) c.deref_mut.ensures.value in
+    let now = with_items_is a.preps c.close_rows.new.preps (omega arith) ∙ c.close_rows.ensures.anew ∙ ap (map anew) c.deref_mut.ensures.value in
     subst (AllOf a.def.function) (sym now) (AllOf-anew a.def.function a.preps.items c.self.invariant)
 
 pub returns-clause-value : goal.returns-clause-value
 returns-clause-value c =
     let a = c.self.inside in
     let n = length c.args.row.now in
-    let now = with_items_is a.preps c.close_each.new.preps (omega arith) ∙ c.close_each.ensures.anew ∙ ap (map anew) c.deref_mut.ensures.value in
-    let as_many : length a.preps.items ≡ n = sym (length-map a.preps.items (λ (prep : Consolidating). prep.part)) ∙ ap (λ (x : Archive). length x.parts) c.self.view_is ∙ sym c.requires.room in
+    let now = with_items_is a.preps c.close_rows.new.preps (omega arith) ∙ c.close_rows.ensures.anew ∙ ap (map anew) c.deref_mut.ensures.value in
+    let as_many : length a.preps.items ≡ n = sym (length-map a.preps.items (λ (prep : Consolidating). prep.part)) ∙ ap (λ (x : Archive). length x.parts) c.self.view_is ∙ sym c.requires.places in
     ap (λ preps. shown a.def preps a.rows) now
     ∙ closes a.def n a.preps.items a.rows as_many
     ∙ ap (λ (x : Archive). let y : Archive = record x { parts = replicate n nothing } in y) c.self.view_is
@@ -37,12 +35,7 @@ returns-clause-value c =
 pub returns-clause-cells : goal.returns-clause-cells
 returns-clause-cells c =
     let a = c.self.inside in
-    let low = subst (λ (x : Archive). pos 0 ≤ℤ x.def.xff) (sym c.self.view_is) c.requires.xff_low in
-    let high = subst (λ (x : Archive). x.def.xff ≤ℤ pos 999999) (sym c.self.view_is) c.requires.xff_high in
-    let fits : FitsSigned w128 a.def.xff = omega (arith, ints) in
-    let share : pos c.share-share.result ≡ a.def.xff = c.share-share.ensures in
-    c.close_each.ensures.cells
-    ∙ ap (map (row_of (pos c.share-share.result) a.def.steps)) c.deref_mut.ensures.value
-    ∙ ap (λ xff. map (row_of xff a.def.steps) a.preps.items) share
+    c.close_rows.ensures.cells
+    ∙ ap (map (row_of a.def.xff a.def.steps)) c.deref_mut.ensures.value
     ∙ row_of_parts a.def.function a.def.xff a.def.steps a.preps.items c.self.invariant
     ∙ ap (λ (x : Archive). map (row_cell x.def.function x.def.xff x.def.steps) x.parts) c.self.view_is

@@ -4,7 +4,7 @@ use Rattle.rrd_fixed.specs.Rate.{IsBounded}
 use Rattle.rrd_fold.specs.Parts.{Part, nothing, step_cell}
 use Rattle.rrd_spec.proofs.AllLemmas.{All-take-set}
 use Rattle.rrd_spec.proofs.EachLemmas.{map_more, map_next, map_all, map-same}
-use Rattle.rrd_base.proofs.preparing.close_all.Goals as goal
+use Rattle.rrd_base.proofs.walk.preparations.close_steps.Goals as goal
 
 pub loop-i-preserved : goal.loop-i-preserved
 loop-i-preserved c =
@@ -15,8 +15,8 @@ loop-i-preserved c =
     let g = λ (p : Part). nothing in
     let d = c.index-preps-i.result in
     let within : i < length old = omega arith in
-    let room : i < length cells = omega (arith, c.requires.room) in
-    let left : i < length c.loop-i.cells = omega (arith, c.requires.room) in
+    let room : i < length cells = omega (arith, c.requires.places) in
+    let left : i < length c.loop-i.cells = omega (arith, c.requires.places) in
     let was = c.loop-i.invariant in
     let here : get_or c.loop-i.preps i d ≡ get_or old i d = ap (λ ps. get_or ps i d) was.anew ∙ map_next g old old i d within within in
     let P = λ (k : ℕ). AllByRecursion IsBounded (take k (set c.loop-i.cells i c.close.result)) in

@@ -1,10 +1,10 @@
-use Rattle.std.proofs.Common.{◌≡◌, ◌+◌, ◌++◌, take, drop, map, pos}
+use Rattle.std.proofs.Common.{◌≡◌, ◌+◌, ◌++◌, take, drop, map}
 use Rattle.rrd_spec.specs.Each.{anew, row_of}
-use Rattle.rrd_base.proofs.preparing.close_each.Given as goal
+use Rattle.rrd_base.proofs.walk.preparations.close_rows.Given as goal
 
 abbrev pub invariant-loop-i : goal.invariant-loop-i
 invariant-loop-i l = record {
-  cells : l.row ≡ map (row_of (pos l.xff) l.steps) (take l.i l.fn.preps) ++ drop l.i l.fn.row;
+  cells : l.row ≡ map (row_of l.def.xff l.def.steps) (take l.i l.fn.preps) ++ drop l.i l.fn.row;
   anew : l.preps ≡ map anew (take l.i l.fn.preps) ++ drop l.i l.fn.preps;
   ticked : l.meter ≡ l.fn.meter + l.i;
 }

@@ -1,22 +1,24 @@
 use Rattle.std.proofs.Common.{◌≡◌, ◌∙◌, ap, ◌+◌, ◌++◌, take, drop, map, pos, suc, length, set, get_or, ◌<◌, arith}
 use Rattle.rrd_spec.specs.Each.{anew, row_of}
 use Rattle.rrd_spec.proofs.EachLemmas.{map_more, map_next}
-use Rattle.rrd_base.proofs.preparing.close_each.Goals as goal
+use Rattle.rrd_base.proofs.walk.preparations.close_rows.Goals as goal
 
 pub loop-i-preserved : goal.loop-i-preserved
 loop-i-preserved c =
     let i = c.loop-i.i in
     let old = c.args.preps.now in
     let row = c.args.row.now in
-    let f = row_of (pos c.args.xff) c.args.steps in
+    let def = c.args.def.now in
+    let f = row_of def.xff def.steps in
+    let share : pos c.share-share.result ≡ def.xff = c.share-share.ensures in
     let d = c.index-preps-i.result in
     let within : i < length old = omega arith in
-    let within_row : i < length row = omega (arith, c.requires.room) in
+    let within_row : i < length row = omega (arith, c.requires.places) in
     let was = c.loop-i.invariant in
     let here : get_or c.loop-i.preps i d ≡ get_or old i d = ap (λ ps. get_or ps i d) was.anew ∙ map_next anew old old i d within within in
     record {
       cells = ap (λ ys. set ys i c.close.result) was.cells
-          ∙ map_more f old row i d c.close.result within within_row (c.close.ensures.value ∙ ap f here)
+          ∙ map_more f old row i d c.close.result within within_row (c.close.ensures.value ∙ ap (λ xff. row_of xff def.steps (get_or c.loop-i.preps i d)) share ∙ ap f here)
           ∙ ap (λ k. map f (take k old) ++ drop k row) {x = suc i} {y = i + 1} (omega arith);
       anew = ap (λ ps. set ps i c.close.new.self) was.anew
           ∙ map_more anew old old i d c.close.new.self within within (c.close.ensures.anew ∙ ap anew here)

@@ -3,7 +3,7 @@ use Rattle.std.specs.List.{fold}
 use Rattle.rrd_fold.specs.declared.function.Function.TheVariants.{Average}
 use Rattle.rrd_fold.specs.Parts.{with_cell}
 use Rattle.rrd_spec.specs.Each.{map_each}
-use Rattle.rrd_base.proofs.preparing.add_all.Given as goal
+use Rattle.rrd_base.proofs.walk.preparations.add_seconds.Given as goal
 
 abbrev pub invariant-loop-i : goal.invariant-loop-i
 invariant-loop-i l = record {

@@ -1,0 +1,196 @@
+//! A walk over a content: how the time up to a sample passes over it.
+ghost use Rattle.std.specs.Prelude.{◌≡◌, ◌+◌, ◌-◌, ◌*◌, ◌/◌, ◌^◌, ◌<◌, ◌≤◌, [], ◌∷◌, length, replicate, IfOk, None};
+ghost use Rattle.rrd_spec.specs.Commands.{Updating, moved_listed};
+ghost use Rattle.rrd_spec.specs.History.{Sampled, content_listed};
+ghost use Rattle.rrd_spec.specs.History as history;
+ghost use Rattle.rrd_spec.specs.Limits.{version_one};
+ghost use Rattle.rrd_spec.specs.Passed.{passed};
+ghost use Rattle.rrd_spec.specs.Turns.{AreTurns};
+ghost use Rattle.rrd_spec.specs.Validity.{AreAccepted, IsRow, IsValid};
+ghost use Rattle.rrd_spec.specs.Verdict.{verdict};
+
+mod preparations;
+
+use crate::contents::Contents;
+use crate::store::take_all;
+use crate::update::raws_into;
+use crate::{DsDef, Update};
+use preparations::{add_seconds, close_steps};
+pub(crate) use preparations::{add_steps, close_rows};
+use rrd_fixed::{Cell, Meter, Raw};
+use std::alloc::{AllocError, Global};
+
+/// Steps that end one after another, the first of its own and all others alike, with a cell for each
+/// source.
+#[derive(Drop)]
+pub(crate) struct Steps<'a> {
+    /// How many steps ended before.
+    pub(crate) before: u64,
+    /// The cells of the first.
+    pub(crate) first: &'a [Cell],
+    /// The cells of each other.
+    pub(crate) then: &'a [Cell],
+    /// How many others there are.
+    pub(crate) count: u64,
+}
+
+/// What the samples of an update need beside the content: places for each source, taken before the
+/// content changes, and a count of the turns.
+#[derive(Drop)]
+pub(crate) struct Walk {
+    // the raw values of a sample
+    raws: Vec<Raw>,
+    // the rates in its interval
+    rates: Vec<Cell>,
+    // the cells of the step in progress, once it ends
+    step: Vec<Cell>,
+    // the cells of a row
+    row: Vec<Cell>,
+    meter: Meter,
+}
+
+impl Walk {
+    ghost use Rattle.rrd_base.specs.Walk.{HasPlaces};
+
+    /// A walk over the content of so many sources: no turn yet.
+    pub(crate) fn new(alloc: Global, sources: usize) -> Result<Walk, AllocError>
+        ensures places { IfOk result (λ walk. HasPlaces walk sources) }
+        ensures turns { IfOk result (λ walk. walk.meter ≡ 0) }
+    {
+        Ok(Walk {
+            raws: vec![in alloc; Raw::Unknown; sources]?,
+            rates: vec![in alloc; Cell::Unknown; sources]?,
+            step: vec![in alloc; Cell::Unknown; sources]?,
+            row: vec![in alloc; Cell::Unknown; sources]?,
+            meter: Meter::new(),
+        })
+    }
+
+    /// How many turns there were.
+    pub(crate) fn turns(&self) -> u64
+        ensures { result ≡ self.now.meter }
+    {
+        self.meter.turns()
+    }
+
+    // Finds each source's rate, in millionths, from its old raw value to the walk's, so many seconds
+    // later.
+    fn find_rates(&mut self, sources: &[DsDef], old: &[Raw], interval: u64)
+        requires places { HasPlaces self.old (length sources.now) }
+        requires some_time { 1 ≤ interval }
+        requires not_long { interval ≤ 10 ^ 10 }
+        requires old_accepted { AreAccepted sources.now old.now }
+        requires new_accepted { AreAccepted sources.now self.old.raws.items }
+        ensures value { self.new.rates.items ≡ history.rates sources.now interval old.now self.old.raws.items }
+        ensures row { IsRow (length sources.now) self.new.rates.items }
+        ensures rest { self.new ≡ record self.old { rates = self.new.rates } }
+    {
+        for i in 0..sources.len() {
+            self.rates[i] = sources[i].rate(interval, old[i], self.raws[i]);
+        }
+    }
+}
+
+impl Contents {
+    ghost use Rattle.rrd_base.specs.Walk.{HasPlaces, KeepsSample, least_of_ends, least_to, most_of_ends, most_to};
+
+    // Lets so many seconds pass that leave the step unfinished. It is a turn for each source.
+    fn begin(&mut self, seconds: u64, walk: &mut Walk)
+        requires within { self.old.last + seconds < (self.old.last / self.old.step + 1) * self.old.step }
+        requires in_time { self.old.last + seconds ≤ version_one.latest_time }
+        requires rates_are { IsRow (length self.old.sources) walk.old.rates.items }
+        requires turns { walk.old.meter + length self.old.sources < 2 ^ 64 }
+        ensures value { self.new ≡ passed self.old (replicate seconds walk.old.rates.items) }
+        ensures ticked { walk.new ≡ record walk.old { meter = walk.old.meter + length self.old.sources } }
+    {
+        add_seconds(&mut self.preps, &walk.rates, seconds, &mut walk.meter);
+        self.last += seconds;
+    }
+
+    // Lets the seconds pass that are left of the step in progress, and then `count` whole steps, all
+    // at once: their cells are the rates.
+    fn end_steps(&mut self, seconds: u64, count: u64, walk: &mut Walk)
+        requires fills { self.old.last + seconds ≡ (self.old.last / self.old.step + 1) * self.old.step }
+        requires in_time { self.old.last + (seconds + count * self.old.step) ≤ version_one.latest_time }
+        requires places { HasPlaces walk.old (length self.old.sources) }
+        requires rates_are { IsRow (length self.old.sources) walk.old.rates.items }
+        requires turns { walk.old.meter + most_of_ends self.old count < 2 ^ 64 }
+        ensures value { let all = seconds + count * self.old.step in
+            self.new ≡ passed self.old (replicate all walk.old.rates.items) }
+        ensures keeps { KeepsSample walk.old walk.new }
+        ensures least { walk.old.meter + least_of_ends self.old count ≤ walk.new.meter }
+        ensures most { walk.new.meter ≤ walk.old.meter + most_of_ends self.old count }
+    {
+        let before = self.last / self.step;
+        add_seconds(&mut self.preps, &walk.rates, seconds, &mut walk.meter);
+        close_steps(&mut self.preps, self.step, &mut walk.step, &mut walk.meter);
+        self.last += seconds + count * self.step;
+        let steps = Steps {
+            before,
+            first: &walk.step,
+            then: &walk.rates,
+            count,
+        };
+        take_all(&mut self.stores, &steps, &mut walk.row, &mut walk.meter);
+    }
+
+    // Lets all seconds up to a time pass: the rest of the step in progress with all whole steps after
+    // it, and the begin of the next.
+    fn catch_up(&mut self, time: u64, walk: &mut Walk)
+        requires later { self.old.last < time }
+        requires in_time { time ≤ version_one.latest_time }
+        requires places { HasPlaces walk.old (length self.old.sources) }
+        requires rates_are { IsRow (length self.old.sources) walk.old.rates.items }
+        requires turns { walk.old.meter + most_to self.old time < 2 ^ 64 }
+        ensures value { self.new ≡ passed self.old (replicate (time - self.old.last) walk.old.rates.items) }
+        ensures keeps { KeepsSample walk.old walk.new }
+        ensures least { walk.old.meter + least_to self.old time ≤ walk.new.meter }
+        ensures most { walk.new.meter ≤ walk.old.meter + most_to self.old time }
+    {
+        let step = self.step;
+        let last = self.last;
+        let end = (last / step + 1) * step;
+        if time < end {
+            self.begin(time - last, walk);
+        } else {
+            let more = time - end;
+            self.end_steps(end - last, more / step, walk);
+            self.begin(more % step, walk);
+        }
+    }
+
+    // Takes the sample at a time after the last one, whose raw values the walk holds.
+    fn take_sample(&mut self, time: u64, walk: &mut Walk)
+        requires later { self.old.last < time }
+        requires in_time { time ≤ version_one.latest_time }
+        requires accepted { AreAccepted self.old.sources walk.old.raws.items }
+        requires places { HasPlaces walk.old (length self.old.sources) }
+        requires turns { walk.old.meter + most_to self.old time < 2 ^ 64 }
+        ensures value { let raws = walk.old.raws.items in
+            self.new ≡ content_listed self.old (Sampled (record { time = time; raws = raws }) ∷ []) }
+        ensures valid { IsValid self.new }
+        ensures places { HasPlaces walk.new (length self.old.sources) }
+        ensures least { walk.old.meter + least_to self.old time ≤ walk.new.meter }
+        ensures most { walk.new.meter ≤ walk.old.meter + most_to self.old time }
+    {
+        walk.find_rates(&self.sources, &self.raws, time - self.last);
+        self.catch_up(time, walk);
+        self.raws.copy_from_slice(&walk.raws);
+    }
+
+    /// Takes the samples of an update that is accepted.
+    pub(crate) fn take_samples(&mut self, update: &Update, walk: &mut Walk)
+        requires valid { IsValid self.old }
+        requires accepted { verdict self.old (Updating update.now) ≡ None }
+        requires places { HasPlaces walk.old (length self.old.sources) }
+        requires turns { walk.old.meter ≡ 0 }
+        ensures value { self.new ≡ moved_listed self.old (Updating update.now) }
+        ensures turns { AreTurns self.old update.now walk.new.meter }
+    {
+        for sample in update.samples.as_slice() {
+            let values = sample.values.as_slice();
+            raws_into(&update.template, &self.sources, values, &mut walk.raws);
+            self.take_sample(sample.time, walk);
+        }
+    }
+}

@@ -1,0 +1,77 @@
+//! The preparations of many sources, item by item.
+ghost use Rattle.std.specs.Prelude.{◌≡◌, ◌+◌, ◌^◌, ◌<◌, ◌≤◌, ◌≤ℤ◌, length, map, pos, replicate};
+ghost use Rattle.std.specs.List.{AllByRecursion, fold};
+ghost use Rattle.rrd_fold.specs.Parts.{Part, nothing, step_cell, with_each};
+ghost use Rattle.rrd_fold.specs.Bounds.{Consolidating};
+ghost use Rattle.rrd_fold.specs.declared.function.Function.TheVariants.{Average};
+ghost use Rattle.rrd_spec.specs.Each.{anew, map_each, row_of, with_steps};
+ghost use Rattle.rrd_spec.specs.Limits.{version_one};
+ghost use Rattle.rrd_spec.specs.Validity.{IsRow};
+
+use crate::RraDef;
+use rrd_fixed::{Cell, Meter};
+use rrd_fold::{RowPrep, StepPrep};
+
+/// Adds to each preparation its source's rate, so many seconds of it. A turn for each.
+pub(crate) fn add_seconds(preps: &mut [StepPrep], rates: &[Cell], seconds: u64, meter: &mut Meter)
+    requires row { IsRow (length preps.old) rates.now }
+    requires fits { AllByRecursion (λ (p : Part). p.known + seconds ≤ 1000000) preps.old }
+    requires turns { meter.old + length preps.old < 2 ^ 64 }
+    ensures added { preps.new ≡ fold (with_each Average) preps.old (replicate seconds rates.now) }
+    ensures ticked { meter.new ≡ meter.old + length preps.old }
+{
+    for i in 0..preps.len() {
+        preps[i].add(rates[i], seconds, meter);
+    }
+}
+
+/// Writes the cell of each source's step, which so many seconds make, and starts each preparation
+/// anew. A turn for each.
+pub(crate) fn close_steps(preps: &mut [StepPrep], step: u64, cells: &mut [Cell], meter: &mut Meter)
+    requires places { length cells.old ≡ length preps.old }
+    requires some { 1 ≤ step }
+    requires few { step ≤ version_one.longest_step }
+    requires fits { AllByRecursion (λ (p : Part). p.known ≤ step) preps.old }
+    requires turns { meter.old + length preps.old < 2 ^ 64 }
+    ensures cells { cells.new ≡ map (step_cell step) preps.old }
+    ensures row { IsRow (length preps.old) cells.new }
+    ensures anew { preps.new ≡ replicate (length preps.old) nothing }
+    ensures ticked { meter.new ≡ meter.old + length preps.old }
+{
+    for i in 0..preps.len() {
+        cells[i] = preps[i].close(step, meter);
+    }
+}
+
+/// Adds to each preparation its source's step, `count` times. A turn for each.
+pub(crate) fn add_steps(preps: &mut [RowPrep], step: &[Cell], count: u64, meter: &mut Meter)
+    requires row { IsRow (length preps.old) step.now }
+    requires fits { AllByRecursion (λ (p : Consolidating). p.part.known + count ≤ 1000000) preps.old }
+    requires turns { meter.old + length preps.old < 2 ^ 64 }
+    ensures added { preps.new ≡ map_each (with_steps count) preps.old step.now }
+    ensures ticked { meter.new ≡ meter.old + length preps.old }
+{
+    for i in 0..preps.len() {
+        preps[i].add_many(step[i], count, meter);
+    }
+}
+
+/// Writes the cell of each source's row, which an archive of these settings makes of its steps, and
+/// starts each preparation anew. A turn for each.
+pub(crate) fn close_rows(preps: &mut [RowPrep], def: &RraDef, row: &mut [Cell], meter: &mut Meter)
+    requires places { length row.old ≡ length preps.old }
+    requires some { 1 ≤ def.now.steps }
+    requires few { def.now.steps ≤ version_one.most_steps }
+    requires xff_low { pos 0 ≤ℤ def.now.xff }
+    requires xff_high { def.now.xff ≤ℤ pos 999999 }
+    requires fits { AllByRecursion (λ (p : Consolidating). p.part.known ≤ def.now.steps) preps.old }
+    requires turns { meter.old + length preps.old < 2 ^ 64 }
+    ensures cells { row.new ≡ map (row_of def.now.xff def.now.steps) preps.old }
+    ensures anew { preps.new ≡ map anew preps.old }
+    ensures ticked { meter.new ≡ meter.old + length preps.old }
+{
+    let share = def.share();
+    for i in 0..preps.len() {
+        row[i] = preps[i].close(def.steps, share, meter);
+    }
+}
