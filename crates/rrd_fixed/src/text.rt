@@ -126,3 +126,14 @@ pub fn write_time<W: Write>(out: &mut W, seconds: i64) -> Result<(), WriteFault>
 {
     write_bytes(out, time_string(seconds).as_str().as_bytes())
 }
+
+/// A text of at most 40 bytes, in a string without memory.
+pub fn short_text(letters: &str) -> ArrayString<96>
+    requires { length letters.now ≤ 40 }
+    ensures text { result.bytes ≡ letters.now }
+    ensures short { length result.bytes ≤ 60 }
+{
+    let mut text = ArrayString::new();
+    text.push_str(letters);
+    text
+}

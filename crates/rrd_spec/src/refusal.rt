@@ -1,9 +1,14 @@
 //! Why a command is refused.
-use std::error::Error;
-use std::fmt::{self, Display, Formatter};
+ghost use Rattle.std.specs.Prelude.{◌≡◌, ◌≤◌, ◌++◌, decimal, length};
+
+use arrayvec::ArrayString;
+use itoa::Buffer;
+use rrd_fixed::short_text;
+use thiserror::Error;
 
 /// Why a command is refused. The database is then unchanged.
-#[derive(Clone, Copy, Debug, PartialEq, Eq)]
+#[derive(Clone, Copy, Debug, PartialEq, Eq, Error)]
+#[error("{}", self.text().as_str())]
 pub enum Refusal {
     /// The step is not 1 to 1,000,000 seconds.
     BadStep,
@@ -61,43 +66,54 @@ pub enum Refusal {
     BadTime,
 }
 
-impl Display for Refusal {
+impl Refusal {
     ghost use Rattle.rrd_spec.specs.Refusals.{refusal_text};
-    ghost use Rattle.std.specs.Prelude.{Some};
 
-    ghost output = { λ refusal. Some (refusal_text refusal) };
-
-    fn fmt<W: fmt::Write>(&self, f: &mut Formatter<W>) -> fmt::Result {
+    /// The text that says why, as faults print it: at most 60 bytes.
+    pub fn text(self) -> ArrayString<96>
+        ensures text { result.bytes ≡ refusal_text self }
+        ensures short { length result.bytes ≤ 60 }
+    {
         match self {
-            Refusal::BadStep => f.write_str("bad step"),
-            Refusal::BadStart => f.write_str("bad start"),
-            Refusal::NoSource => f.write_str("no data source"),
-            Refusal::NoArchive => f.write_str("no archive"),
-            Refusal::BadName => f.write_str("bad name"),
-            Refusal::DoubleName => f.write_str("double name"),
-            Refusal::BadHeartbeat => f.write_str("bad heartbeat"),
-            Refusal::BadBounds => f.write_str("bad bounds"),
-            Refusal::BadXff => f.write_str("bad xff"),
-            Refusal::BadSteps => f.write_str("bad steps"),
-            Refusal::BadRows => f.write_str("bad rows"),
-            Refusal::TooLarge => f.write_str("too large"),
-            Refusal::BadDepth => f.write_str("bad journal depth"),
-            Refusal::NoSuchSource => f.write_str("no such data source"),
-            Refusal::WrongCount => f.write_str("wrong number of values"),
-            Refusal::BadValue => f.write_str("bad value"),
-            Refusal::NotLater { last } => write!(f, "not later than {last}"),
-            Refusal::NoSample => f.write_str("no sample"),
-            Refusal::NothingToTune => f.write_str("nothing to tune"),
-            Refusal::NoSuchArchive => f.write_str("no such archive"),
-            Refusal::ShrinkTooFar => f.write_str("shrinks too far"),
-            Refusal::NothingToRevert => f.write_str("nothing to revert"),
-            Refusal::NoArchiveForFunction => f.write_str("no archive for this function"),
-            Refusal::SpanTooLong => f.write_str("span too long"),
-            Refusal::BadSpan => f.write_str("bad span"),
-            Refusal::OutOfMemory => f.write_str("out of memory"),
-            Refusal::BadTime => f.write_str("bad time"),
+            Refusal::BadStep => short_text("bad step"),
+            Refusal::BadStart => short_text("bad start"),
+            Refusal::NoSource => short_text("no data source"),
+            Refusal::NoArchive => short_text("no archive"),
+            Refusal::BadName => short_text("bad name"),
+            Refusal::DoubleName => short_text("double name"),
+            Refusal::BadHeartbeat => short_text("bad heartbeat"),
+            Refusal::BadBounds => short_text("bad bounds"),
+            Refusal::BadXff => short_text("bad xff"),
+            Refusal::BadSteps => short_text("bad steps"),
+            Refusal::BadRows => short_text("bad rows"),
+            Refusal::TooLarge => short_text("too large"),
+            Refusal::BadDepth => short_text("bad journal depth"),
+            Refusal::NoSuchSource => short_text("no such data source"),
+            Refusal::WrongCount => short_text("wrong number of values"),
+            Refusal::BadValue => short_text("bad value"),
+            Refusal::NotLater { last } => numbered("not later than ", last),
+            Refusal::NoSample => short_text("no sample"),
+            Refusal::NothingToTune => short_text("nothing to tune"),
+            Refusal::NoSuchArchive => short_text("no such archive"),
+            Refusal::ShrinkTooFar => short_text("shrinks too far"),
+            Refusal::NothingToRevert => short_text("nothing to revert"),
+            Refusal::NoArchiveForFunction => short_text("no archive for this function"),
+            Refusal::SpanTooLong => short_text("span too long"),
+            Refusal::BadSpan => short_text("bad span"),
+            Refusal::OutOfMemory => short_text("out of memory"),
+            Refusal::BadTime => short_text("bad time"),
         }
     }
 }
 
-impl Error for Refusal {}
+// Letters, and a number behind them.
+fn numbered(letters: &str, number: u64) -> ArrayString<96>
+    requires { length letters.now ≤ 40 }
+    ensures text { result.bytes ≡ letters.now ++ decimal number }
+    ensures short { length result.bytes ≤ 60 }
+{
+    let mut text = short_text(letters);
+    let mut buffer = Buffer::new();
+    text.push_str(buffer.format(number));
+    text
+}

@@ -1,14 +1,14 @@
 //! Why a line is refused, and the line that says so.
-ghost use Rattle.std.specs.Prelude.{◌≡◌, ◌≤◌, ◌++◌, ◌+◌, length, decimal};
+ghost use Rattle.std.specs.Prelude.{◌≡◌, ◌≤◌, ◌++◌, length};
 ghost use Rattle.rrd_fixed.specs.Written.{Writes};
-ghost use Rattle.rrd_tool.specs.Faults.{fault_line, is_numbered, word_of};
+ghost use Rattle.rrd_tool.specs.Faults.{fault_line, fault_text, is_numbered, line_fault_text, unread_text, word_of};
 
 use arrayvec::ArrayString;
+use itoa::Buffer;
 use rrd_base::Refusal;
-use rrd_fixed::{WriteFault, write_bytes};
-use std::error::Error;
-use std::fmt::{self, Display, Formatter, Write as _};
+use rrd_fixed::{WriteFault, short_text, write_bytes};
 use std::io::Write;
+use thiserror::Error;
 
 /// What a word is a part of, or stands for.
 #[derive(Clone, Copy, Debug, PartialEq, Eq)]
@@ -69,7 +69,8 @@ impl Part {
 }
 
 /// Why words are no command.
-#[derive(Clone, Copy, Debug, PartialEq, Eq)]
+#[derive(Clone, Copy, Debug, PartialEq, Eq, Error)]
+#[error("{}", self.text().as_str())]
 pub enum LineFault {
     /// clap refuses the words.
     Usage,
@@ -80,31 +81,38 @@ pub enum LineFault {
     OutOfMemory,
 }
 
-impl Display for LineFault {
-    ghost use Rattle.rrd_tool.specs.Faults.{line_fault_text};
-    ghost use Rattle.std.specs.Prelude.{Some};
-
-    ghost output = { λ fault. Some (line_fault_text fault) };
-
-    fn fmt<W: fmt::Write>(&self, f: &mut Formatter<W>) -> fmt::Result {
+impl LineFault {
+    /// The text that says why, as faults print it: at most 60 bytes.
+    pub fn text(self) -> ArrayString<96>
+        ensures text { result.bytes ≡ line_fault_text self }
+        ensures short { length result.bytes ≤ 60 }
+    {
         match self {
-            LineFault::Usage => f.write_str("usage"),
-            LineFault::BadWord { part, number } => {
-                if part.is_numbered() {
-                    write!(f, "unreadable {} {number}", part.word())
-                } else {
-                    write!(f, "unreadable {}", part.word())
-                }
-            }
-            LineFault::OutOfMemory => f.write_str("out of memory"),
+            LineFault::Usage => short_text("usage"),
+            LineFault::BadWord { part, number } => unread_string(part, number),
+            LineFault::OutOfMemory => short_text("out of memory"),
         }
     }
 }
 
-impl Error for LineFault {}
+// The text of a part that can't be read.
+fn unread_string(part: Part, number: u64) -> ArrayString<96>
+    ensures text { result.bytes ≡ unread_text part number }
+    ensures short { length result.bytes ≤ 60 }
+{
+    let mut text = short_text("unreadable ");
+    text.push_str(part.word());
+    if part.is_numbered() {
+        let mut buffer = Buffer::new();
+        text.push_str(" ");
+        text.push_str(buffer.format(number));
+    }
+    text
+}
 
 /// Why a command wasn't done, or not whole.
-#[derive(Clone, Copy, Debug, PartialEq, Eq)]
+#[derive(Clone, Copy, Debug, PartialEq, Eq, Error)]
+#[error("{}", self.text().as_str())]
 pub enum Fault {
     /// The words are no command.
     Line(LineFault),
@@ -116,32 +124,28 @@ pub enum Fault {
     Output,
 }
 
-impl Display for Fault {
-    ghost use Rattle.rrd_tool.specs.Faults.{fault_text};
-    ghost use Rattle.std.specs.Prelude.{Some};
-
-    ghost output = { λ fault. Some (fault_text fault) };
-
-    fn fmt<W: fmt::Write>(&self, f: &mut Formatter<W>) -> fmt::Result {
+impl Fault {
+    /// The text that says why, without the mark before it: at most 60 bytes.
+    pub fn text(self) -> ArrayString<96>
+        ensures text { result.bytes ≡ fault_text self }
+        ensures short { length result.bytes ≤ 60 }
+    {
         match self {
-            Fault::Line(fault) => write!(f, "{fault}"),
-            Fault::Refused(refusal) => write!(f, "{refusal}"),
-            Fault::NoDatabase => f.write_str("no database"),
-            Fault::Output => f.write_str("write failed"),
+            Fault::Line(fault) => fault.text(),
+            Fault::Refused(refusal) => refusal.text(),
+            Fault::NoDatabase => short_text("no database"),
+            Fault::Output => short_text("write failed"),
         }
     }
 }
-
-impl Error for Fault {}
 
 /// Writes the line of a fault: `ERROR: `, its text and LF.
 pub fn write_fault<W: Write>(out: &mut W, fault: &Fault) -> Result<(), WriteFault>
     ensures { Writes (W.contents out.old) (W.contents out.new) (fault_line fault.now) result }
 {
     let mut line = ArrayString::<96>::new();
-    // No text has over 60 bytes, so there is room; no contract of `Display` says that a call of it succeeds.
-    if writeln!(line, "ERROR: {fault}").is_err() {
-        return Err(WriteFault {});
-    }
+    line.push_str("ERROR: ");
+    line.push_str(fault.text().as_str());
+    line.push_str("\n");
     write_bytes(out, line.as_str().as_bytes())
 }
