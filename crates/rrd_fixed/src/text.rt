@@ -133,7 +133,7 @@ pub fn short_text(letters: &str) -> ArrayString<96>
     ensures text { result.bytes ≡ letters.now }
     ensures short { length result.bytes ≤ 60 }
 {
-    let mut text = ArrayString::new();
-    text.push_str(letters);
-    text
+    let mut string = ArrayString::new();
+    string.push_str(letters);
+    string
 }

@@ -18,6 +18,7 @@ use Rattle.rrd_spec.proofs.Moving.{moved_is}
 use Rattle.rrd_spec.proofs.Quiet.{content_resized, content_tuned, made, resized_elsewhere, resized_other, row_parts_same, rows_none}
 use Rattle.rrd_spec.proofs.RowLemmas.{length-filled_up}
 use Rattle.rrd_spec.proofs.Staying.{few_changed, few_rows_at}
+use Rattle.rrd_spec.specs.Limits.{version_one}
 
 -- ---- a tune
 
@@ -35,7 +36,7 @@ resize_fits base archive change rows is h =
     let low = leb-false (length (rows_of_archives base.archives)) archive passes.0 in
     record {
       there = omega (arith, low, length-map base.archives (λ (a : Archive). a.def.rows));
-      few_asked = ltb-false 1000000 rows (or_parts (eqb rows 0) (ltb 1000000 rows) (or_parts (is_bad_rows rows) (grows_too_far change old rows) passes.1.0).0).1;
+      few_asked = ltb-false 1000000 rows (or_parts (eqb rows 0) (ltb 1000000 rows) (or_parts (is_bad_rows version_one rows) (grows_too_far version_one change old rows) passes.1.0).0).1;
       some_then = some_rows change old rows passes.1.0 passes.1.1.0;
       few_then = few_changed change old rows (few_rows_at (length base.sources) (base.last / base.step) archive base.archives is.archives_are) passes.1.0;
     }
