@@ -6,9 +6,10 @@ use Rattle.rrd_fixed.specs.declared.cell.Cell.{Cell}
 use Rattle.rrd_spec.specs.declared.settings.RraDef.{RraDef}
 use Rattle.rrd_fixed.specs.declared.raw.Raw.{Raw}
 use Rattle.rrd_spec.specs.declared.update.Sample.{Sample}
-use Rattle.rrd_spec.specs.History.{Content, Reading, Sampled, IsBase, content_listed, rates}
-use Rattle.rrd_spec.specs.Passed.{passed}
-use Rattle.rrd_spec.specs.Shown.{definitions}
+use Rattle.rrd_spec.specs.History.{Content, Reading, Sampled, IsBase, rates}
+use Rattle.rrd_spec.specs.Listed.{content_listed}
+use Rattle.rrd_spec.specs.Passing.{passed}
+use Rattle.rrd_spec.specs.History.{definitions}
 use Rattle.rrd_spec.specs.Turns.{rows_shown, in_all, least_of_sample, most_of_sample, most_of_steps}
 use Rattle.rrd_spec.specs.Validity.{AreAccepted, IsRow, IsValid}
 use Rattle.rrd_spec.proofs.GroupLemmas.{next_ahead}

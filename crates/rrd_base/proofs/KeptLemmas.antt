@@ -12,7 +12,8 @@ use Rattle.rrd_spec.specs.Entries as entries
 use Rattle.rrd_spec.specs.Entries.{undone, entry as entry_for}
 use Rattle.rrd_base.specs.Journal.{before, update_of, entry_of, CanUndo, journal_of}
 use Rattle.rrd_spec.specs.Updating.{last_time}
-use Rattle.rrd_spec.specs.Validity.{DatabaseStays, IsValid, Fits, IsValidDatabase, RevertStays}
+use Rattle.rrd_spec.specs.Laws.{DatabaseStays, RevertStays}
+use Rattle.rrd_spec.specs.Validity.{IsValid, Fits, IsValidDatabase}
 use Rattle.rrd_spec.specs.Verdict.{verdict}
 use Rattle.rrd_base.proofs.DatabaseLemmas.{moved_last}
 use Rattle.rrd_spec.specs.Lists.{All-append, All-at, All-drop, All-take}

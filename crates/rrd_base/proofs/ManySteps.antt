@@ -12,9 +12,10 @@ use Rattle.rrd_fold.specs.Parts.{Part, nothing, with_cell, with_each, step_cell,
 use Rattle.rrd_spec.proofs.GroupLemmas.{goes_on, finished_within, unfinished_within, finished_filling, unfinished_filling, finished-replicate, unfinished-replicate, next_ahead}
 use Rattle.rrd_fold.proofs.Wholes.{whole_step, whole_row}
 use Rattle.rrd_spec.specs.Each.{map_each}
-use Rattle.rrd_spec.specs.Rules.{rows_rule, seconds_to_steps}
-use Rattle.rrd_spec.specs.History.{Archive, Content, keep_last, IsBase}
-use Rattle.rrd_spec.specs.Passed.{archive_passed, passed}
+use Rattle.rrd_spec.specs.Steps.{rows_rule, seconds_to_steps}
+use Rattle.rrd_spec.specs.History.{Archive, Content, IsBase}
+use Rattle.rrd_spec.specs.Listed.{keep_last}
+use Rattle.rrd_spec.specs.Passing.{archive_passed, passed}
 use Rattle.rrd_spec.proofs.EachLemmas.{fold-with_each}
 use Rattle.rrd_spec.proofs.PassedLemmas.{archive_passed-append, keep_last-append}
 use Rattle.rrd_spec.proofs.RowLemmas.{keep_last_past, keep_all, length-keep_last}

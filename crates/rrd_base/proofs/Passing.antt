@@ -8,7 +8,7 @@ use Rattle.rrd_fold.specs.declared.function.Function.{Function}
 use Rattle.rrd_fold.specs.declared.function.Function.TheVariants.{Average}
 use Rattle.rrd_fold.specs.Parts.{Part, nothing, with_each, step_cell}
 use Rattle.rrd_spec.specs.History.{Content, Archive}
-use Rattle.rrd_spec.specs.Passed.{archive_passed, passed}
+use Rattle.rrd_spec.specs.Passing.{archive_passed, passed}
 use Rattle.rrd_spec.specs.Commands.{rows_of_archives}
 use Rattle.rrd_spec.specs.Validity.{IsPart, AreParts, IsRow, IsValid, IsValidArchive}
 use Rattle.rrd_spec.proofs.Bounded.{more, no_parts}

@@ -5,7 +5,8 @@ use Rattle.std.proofs.lemmas.List.{length-drop}
 use Rattle.std.specs.List.{fold, enumerate_from, AllByRecursion}
 use Rattle.rrd_fixed.specs.declared.cell.Cell.{Cell}
 use Rattle.rrd_ring.specs.Rows.{newest_rows, width}
-use Rattle.rrd_spec.specs.History.{Archive, Content, Resized, rows_after, rows_never_lost}
+use Rattle.rrd_spec.specs.History.{Archive, Content, Resized, rows_after}
+use Rattle.rrd_spec.specs.Listed.{rows_never_lost}
 use Rattle.rrd_spec.specs.declared.resize.Change.{Change}
 use Rattle.rrd_spec.specs.declared.resize.Change.TheVariants.{Grow, Shrink}
 use Rattle.rrd_spec.specs.Commands.{Resizing, moved, rows_changed, rows_of_archives}

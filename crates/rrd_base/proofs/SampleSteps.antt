@@ -7,7 +7,8 @@ use Rattle.rrd_fixed.specs.declared.name.Name.{Name}
 use Rattle.rrd_spec.specs.declared.settings.DsDef.{DsDef}
 use Rattle.rrd_spec.specs.declared.update.Sample.{Sample}
 use Rattle.rrd_spec.specs.declared.update.Given.{Given}
-use Rattle.rrd_spec.specs.History.{Content, Moment, Sampled, moment_of, moment_at_end, content_listed}
+use Rattle.rrd_spec.specs.History.{Content, Moment, Sampled, moment_of, moment_at_end}
+use Rattle.rrd_spec.specs.Listed.{content_listed}
 use Rattle.rrd_spec.specs.Commands.{raw_of, value_for, sample_of}
 use Rattle.rrd_spec.specs.Verdict.{sample_checks}
 use Rattle.rrd_spec.specs.Validity.{IsValid, AreAccepted}

@@ -9,9 +9,9 @@ use Rattle.rrd_fold.specs.Parts.{Part, nothing, with_each, row_cell}
 use Rattle.rrd_fold.specs.Bounds.{Consolidating}
 use Rattle.rrd_ring.specs.Rows.{width}
 use Rattle.rrd_spec.specs.declared.settings.RraDef.{RraDef}
-use Rattle.rrd_spec.specs.Rules.{rows_rule}
+use Rattle.rrd_spec.specs.Steps.{rows_rule}
 use Rattle.rrd_spec.specs.History.{Archive}
-use Rattle.rrd_spec.specs.Passed.{archive_passed}
+use Rattle.rrd_spec.specs.Passing.{archive_passed}
 use Rattle.rrd_spec.specs.Validity.{AreParts, IsRow, IsValidArchive}
 use Rattle.rrd_spec.specs.Each.{map_each, with_steps, anew, row_of, parts_in, AllOf}
 use Rattle.rrd_spec.proofs.RowLemmas.{length-keep_last}

@@ -3,7 +3,8 @@ use Rattle.std.specs.Prelude.{◌≤◌, List}
 use Rattle.rrd_spec.specs.declared.settings.DsDef.{DsDef}
 use Rattle.rrd_spec.specs.History.{Archive}
 use Rattle.rrd_spec.specs.Limits.{version_one}
-use Rattle.rrd_spec.specs.Commands.{Settings, rows_of_archives}
+use Rattle.rrd_spec.specs.Settings.{Settings}
+use Rattle.rrd_spec.specs.Commands.{rows_of_archives}
 
 -- the settings that these sources and archives have
 abbrev pub settings : List DsDef → List Archive → Settings

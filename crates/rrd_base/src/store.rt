@@ -9,8 +9,9 @@ ghost use Rattle.rrd_spec.specs.Entries.{put_back as after_put_back, put_back_ea
 ghost use Rattle.rrd_spec.specs.Limits.{version_one};
 ghost use Rattle.rrd_spec.specs.Creating.{new_archive};
 ghost use Rattle.rrd_spec.specs.Each.{AllOf, parts_in};
-ghost use Rattle.rrd_spec.specs.History.{keep_last};
-ghost use Rattle.rrd_spec.specs.Passed.{archive_passed, row_of_age};
+ghost use Rattle.rrd_spec.specs.Listed.{keep_last};
+ghost use Rattle.rrd_spec.specs.Passing.{archive_passed};
+ghost use Rattle.rrd_spec.specs.Cells.{row_of_age};
 ghost use Rattle.rrd_base.specs.Store.{CanPutBack, CanPutBackEach, IsStepped};
 ghost use Rattle.rrd_base.specs.Walk.{AreSteps, cells_of, count_of, least_of_all, least_of_one, most_of_all, most_of_one, sources_of};
 ghost use Rattle.rrd_spec.specs.Validity.{IsRow, IsValidArchive};

@@ -1,10 +1,12 @@
 //! A walk over a content: how the time up to a sample passes over it.
 ghost use Rattle.std.specs.Prelude.{◌≡◌, ◌+◌, ◌-◌, ◌*◌, ◌/◌, ◌^◌, ◌<◌, ◌≤◌, [], ◌∷◌, length, replicate, IfOk, None};
-ghost use Rattle.rrd_spec.specs.Commands.{Updating, moved_listed};
-ghost use Rattle.rrd_spec.specs.History.{Sampled, content_listed};
+ghost use Rattle.rrd_spec.specs.Commands.{Updating};
+ghost use Rattle.rrd_spec.specs.Listed.{moved_listed};
+ghost use Rattle.rrd_spec.specs.History.{Sampled};
+ghost use Rattle.rrd_spec.specs.Listed.{content_listed};
 ghost use Rattle.rrd_spec.specs.History as history;
 ghost use Rattle.rrd_spec.specs.Limits.{version_one};
-ghost use Rattle.rrd_spec.specs.Passed.{passed};
+ghost use Rattle.rrd_spec.specs.Passing.{passed};
 ghost use Rattle.rrd_spec.specs.Turns.{AreTurns};
 ghost use Rattle.rrd_spec.specs.Validity.{AreAccepted, IsRow, IsValid};
 ghost use Rattle.rrd_spec.specs.Verdict.{verdict};

@@ -10,10 +10,11 @@ use Rattle.std.proofs.lemmas.Nat.{mul-le}
 use Rattle.std.proofs.lemmas.Option.{get_or_from_slice_get, slice_get-get_or}
 use Rattle.rrd_fixed.specs.declared.cell.Cell.{Cell}
 use Rattle.rrd_spec.specs.declared.settings.RraDef.{RraDef}
-use Rattle.rrd_spec.specs.Cells.{resolution, time_of}
+use Rattle.rrd_spec.specs.Settings.{resolution}
+use Rattle.rrd_spec.specs.Cells.{time_of}
 use Rattle.rrd_spec.specs.History.{Archive, Content}
-use Rattle.rrd_spec.specs.Passed.{row_at, row_of_age}
-use Rattle.rrd_spec.specs.Shown.{cell_at}
+use Rattle.rrd_spec.specs.Cells.{row_at, row_of_age}
+use Rattle.rrd_spec.specs.Cells.{cell_at}
 use Rattle.rrd_spec.specs.Validity.{IsRow, IsValid}
 use Rattle.rrd_spec.specs.Facts.{cell_of_archive}
 use Rattle.std.proofs.lemmas.List.FromFn.{get_or-range_with_len, length-range_with_len}

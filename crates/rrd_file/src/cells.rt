@@ -1,6 +1,7 @@
 //! The cells of all archives, slot by slot.
 ghost use Rattle.std.specs.Prelude.{ℕ, ◌≡◌, ◌<◌, ◌≤◌, ◌^◌, [], length, map, slice_get, slice_index_or, Some};
-ghost use Rattle.rrd_spec.specs.Cells.{resolution as resolution_of, time_of};
+ghost use Rattle.rrd_spec.specs.Settings.{resolution as resolution_of};
+ghost use Rattle.rrd_spec.specs.Cells.{time_of};
 ghost use Rattle.rrd_spec.specs.History.{Archive};
 ghost use Rattle.rrd_spec.specs.Limits.{version_one};
 ghost use Rattle.rrd_spec.specs.Slots.{all_cells, cells_by_slot, place_in};

@@ -8,10 +8,11 @@ use Rattle.rrd_fixed.specs.declared.raw.Raw.{Raw}
 use Rattle.rrd_fixed.specs.declared.name.Name.{Name}
 use Rattle.rrd_spec.specs.declared.settings.DsDef.{DsDef}
 use Rattle.rrd_spec.specs.History.{Content, Sampled, Moment, moment_after, moment_of, moment_at_end, raws_under, IsHistory}
-use Rattle.rrd_spec.specs.Commands.{Command, Updating, TuningBy, Resizing, settings_of, sample_of, tuned, names, rows_changed, events}
+use Rattle.rrd_spec.specs.Commands.{Command, Updating, TuningBy, Resizing, settings_of, sample_of, tuned, rows_changed, events}
+use Rattle.rrd_spec.specs.Settings.{names}
 use Rattle.rrd_spec.specs.Verdict.{Check, first_refusal, is_bad_rows, grows_too_far, shrinks_too_far, checks, verdict, verdict_within}
 pub use Rattle.rrd_spec.specs.Facts.{readings_rise}
-pub use Rattle.rrd_spec.specs.Verdict.{Passes}
+pub use Rattle.rrd_spec.specs.Laws.{Passes}
 use Rattle.rrd_spec.specs.declared.update.Sample.{Sample}
 use Rattle.rrd_spec.specs.declared.resize.Change.{Change}
 use Rattle.rrd_spec.specs.declared.resize.Change.TheVariants.{Grow, Shrink}

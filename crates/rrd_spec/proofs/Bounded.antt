@@ -20,7 +20,7 @@ pub use Rattle.rrd_spec.specs.Lists.{All-replicate}
 use Rattle.rrd_spec.specs.Validity.{weight, IsPart, AreParts, IsRow}
 use Rattle.rrd_spec.proofs.Kept.{Keeps}
 use Rattle.rrd_fixed.specs.Rounding.{near}
-use Rattle.rrd_spec.specs.Rules.{rows_rule, seconds_to_steps}
+use Rattle.rrd_spec.specs.Steps.{rows_rule, seconds_to_steps}
 
 -- ---- one source
 

@@ -10,7 +10,9 @@ use Rattle.rrd_spec.specs.Changes.{ResizeChanges, ResizeFits, TuneChanges, rows_
 use Rattle.rrd_spec.specs.Commands.{Resizing, rows_of_archives, tuned}
 use Rattle.rrd_spec.specs.Entries.{rows_at, with_rows_at}
 use Rattle.rrd_spec.specs.Facts.{base_of_valid, sound}
-use Rattle.rrd_spec.specs.History.{Archive, Content, Resized, Tuned, moment_of, rows_of, row_parts_of, rows_never_lost, keep_last, filled_up, kept_rows, archive_of, IsArchive}
+use Rattle.rrd_spec.specs.History.{Archive, Content, Resized, Tuned, moment_of, IsArchive}
+use Rattle.rrd_spec.specs.Steps.{rows_of, row_parts_of}
+use Rattle.rrd_spec.specs.Listed.{rows_never_lost, keep_last, filled_up, kept_rows, archive_of}
 use Rattle.rrd_spec.specs.Verdict.{grows_too_far, is_bad_rows}
 use Rattle.rrd_spec.proofs.Accepted.{accepted_passes, some_rows}
 use Rattle.rrd_spec.proofs.CellLemmas.{is_listed}

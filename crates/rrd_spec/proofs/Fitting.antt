@@ -8,11 +8,15 @@ use Rattle.rrd_fixed.specs.declared.raw.Raw.{Raw}
 use Rattle.rrd_fixed.specs.declared.name.Name.{Name}
 use Rattle.rrd_spec.specs.declared.settings.DsDef.{DsDef}
 use Rattle.rrd_spec.specs.declared.entry.SourceBefore.{SourceBefore}
-use Rattle.rrd_spec.specs.History.{Archive, Content, Reading, Sampled, Resized, Moment, moment_after, moment_of, moment_at_end, rows_after, archive_of, content_listed, IsHistory, IsArchive}
+use Rattle.rrd_spec.specs.History.{Archive, Content, Reading, Sampled, Resized, Moment, moment_after, moment_of, moment_at_end, rows_after, IsHistory, IsArchive}
+use Rattle.rrd_spec.specs.Listed.{archive_of, content_listed}
 use Rattle.rrd_spec.proofs.HistoryLemmas.{last_rises, length-sources}
 use Rattle.rrd_spec.proofs.SampleLemmas.{rows_of_samples}
-use Rattle.rrd_spec.specs.Commands.{Asked, Settings, Command, Updating, TuningBy, Resizing, settings_of, rows_of_archives, names, sample_of, samples_of, tuned, rows_changed, events, moved, moved_listed}
-use Rattle.rrd_spec.specs.Verdict.{has_source, is_double, is_bad_rows, grows_too_far, shrinks_too_far, no_sample, asks_nothing, names_no_source, verdict}
+use Rattle.rrd_spec.specs.Commands.{Asked, Command, Updating, TuningBy, Resizing, settings_of, rows_of_archives, sample_of, samples_of, tuned, rows_changed, events, moved}
+use Rattle.rrd_spec.specs.Settings.{Settings, names}
+use Rattle.rrd_spec.specs.Listed.{moved_listed}
+use Rattle.rrd_spec.specs.Settings.{has_source, is_double}
+use Rattle.rrd_spec.specs.Verdict.{is_bad_rows, grows_too_far, shrinks_too_far, no_sample, asks_nothing, names_no_source, verdict}
 use Rattle.rrd_spec.specs.Entries.{Entry, UpdateEntry, TuneEntry, ResizeEntry, rows_between, saved, is_asked, is_named, sources_before, rows_at, with_source, entry, undone}
 use Rattle.rrd_spec.specs.Survivors.{Action, Changed, Reverted, Stored, is_accepted, changed, reverted, step, AllUndo}
 use Rattle.rrd_spec.proofs.Accepted.{accepted_passes, accepted_history}
@@ -23,7 +27,8 @@ use Rattle.rrd_spec.proofs.Runs.{runs_agree, is_none-true}
 use Rattle.rrd_spec.proofs.Moving.{listed_sound, moved_is, moved_depth, settings_of-content}
 use Rattle.std.proofs.lemmas.List.FromFn.{length-enumerate_from}
 use Rattle.rrd_spec.proofs.NameLemmas.{same_is, same_itself}
-use Rattle.rrd_spec.specs.Validity.{IsRow, IsValidArchive, IsValid, FitsArchive, FitEach, Rise, Fits, IsValidJournal, IsValidDatabase, DatabaseStays, RevertTakesBack, RunsStay, Begins}
+use Rattle.rrd_spec.specs.Validity.{IsRow, IsValidArchive, IsValid, FitsArchive, FitEach, Rise, Fits, IsValidJournal, IsValidDatabase}
+use Rattle.rrd_spec.specs.Laws.{DatabaseStays, RevertTakesBack, RunsStay, Begins}
 use Rattle.rrd_spec.proofs.Staying.{stays_valid}
 use Rattle.rrd_spec.specs.declared.tune.Tuning.{Tuning}
 use Rattle.rrd_spec.specs.declared.update.Update.{Update}

@@ -5,8 +5,9 @@ use Rattle.std.proofs.lemmas.Slice.Eq.{bytes_eq-Decides}
 use Rattle.std.specs.List.{list_any}
 use Rattle.rrd_fixed.specs.declared.name.Name.{Name}
 use Rattle.rrd_spec.specs.declared.settings.DsDef.{DsDef}
-use Rattle.rrd_spec.specs.Commands.{Asked, names, asked, tuned}
-use Rattle.rrd_spec.specs.Verdict.{has_source, is_double}
+use Rattle.rrd_spec.specs.Commands.{Asked, asked, tuned}
+use Rattle.rrd_spec.specs.Settings.{names}
+use Rattle.rrd_spec.specs.Settings.{has_source, is_double}
 use Rattle.rrd_spec.specs.declared.tune.Tuning.{Tuning}
 use Rattle.rrd_fixed.specs.Names.{same_name}
 

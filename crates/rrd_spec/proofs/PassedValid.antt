@@ -9,8 +9,8 @@ use Rattle.rrd_spec.specs.Commands.{rows_of_archives}
 use Rattle.rrd_spec.specs.Groups.{finished}
 use Rattle.rrd_spec.specs.History.{Archive, Content}
 use Rattle.rrd_spec.specs.Lists.{All-append, All-drop, length-keep_last}
-use Rattle.rrd_spec.specs.Passed.{archive_passed, passed}
-use Rattle.rrd_spec.specs.Rules.{rows_rule, seconds_to_steps}
+use Rattle.rrd_spec.specs.Passing.{archive_passed, passed}
+use Rattle.rrd_spec.specs.Steps.{rows_rule, seconds_to_steps}
 use Rattle.rrd_spec.specs.Validity.{AreParts, IsRow, IsValidArchive}
 use Rattle.rrd_spec.proofs.Bounded.{rows_keep, steps_keep}
 use Rattle.rrd_spec.proofs.GroupLemmas.{length-finished, reached_before}

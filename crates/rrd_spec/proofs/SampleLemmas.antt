@@ -2,7 +2,9 @@
 use Rattle.std.proofs.Common.{◌≡◌, refl, sym, ◌∙◌, ap, ℕ, ◌-◌, ◌*◌, ◌/◌, min, List, [], ◌∷◌, ◌++◌, length, take, map, replicate, arith, length-append}
 use Rattle.std.specs.List.{fold}
 use Rattle.rrd_fixed.specs.declared.cell.Cell.{Cell}
-use Rattle.rrd_spec.specs.History.{Archive, Content, Reading, Sampled, Moment, moment_after, moment_of, moment_at_end, rows_of, rows_after, rows_never_lost, keep_last, filled_up, kept_rows, IsArchive}
+use Rattle.rrd_spec.specs.History.{Archive, Content, Reading, Sampled, Moment, moment_after, moment_of, moment_at_end, rows_after, IsArchive}
+use Rattle.rrd_spec.specs.Steps.{rows_of}
+use Rattle.rrd_spec.specs.Listed.{rows_never_lost, keep_last, filled_up, kept_rows}
 use Rattle.rrd_spec.proofs.RowLemmas.{put_back_rows}
 use Rattle.rrd_spec.specs.Lists.{length-keep_last}
 

@@ -6,7 +6,8 @@ use Rattle.std.proofs.lemmas.List.{length-map}
 use Rattle.std.proofs.lemmas.List.FromFn.{length-enumerate_from}
 use Rattle.std.proofs.lemmas.Option.{slice_get_within, slice_get-get_or}
 use Rattle.rrd_fixed.specs.declared.cell.Cell.TheVariants.{Unknown}
-use Rattle.rrd_spec.specs.Cells.{ShowsCells, archive_by_time, content}
+use Rattle.rrd_spec.specs.Laws.{ShowsCells}
+use Rattle.rrd_spec.specs.Cells.{archive_by_time, content}
 use Rattle.rrd_spec.specs.History.{Content, Event}
 use Rattle.rrd_spec.proofs.CellLemmas.{shows_by_time}
 

@@ -8,7 +8,7 @@ use Rattle.rrd_fixed.specs.declared.raw.Raw.TheVariants.{Unknown}
 use Rattle.rrd_fold.specs.declared.function.Function.TheVariants.{Average}
 use Rattle.rrd_spec.specs.Groups.{finished}
 use Rattle.rrd_fold.specs.Parts.{nothing}
-use Rattle.rrd_spec.specs.Rules.{seconds_to_steps}
+use Rattle.rrd_spec.specs.Steps.{seconds_to_steps}
 use Rattle.rrd_spec.proofs.GroupLemmas.{length-finished}
 use Rattle.rrd_spec.specs.declared.create.CreateSpec.{CreateSpec}
 use Rattle.rrd_spec.specs.declared.settings.DsDef.{DsDef}
@@ -18,7 +18,9 @@ use Rattle.rrd_spec.specs.declared.slow.Reading.{Reading}
 use Rattle.rrd_spec.specs.declared.slow.Taken as slow
 use Rattle.rrd_spec.specs.Creating.{create_verdict, created, new_archive}
 use Rattle.rrd_spec.specs.Cells.{content}
-use Rattle.rrd_spec.specs.History.{Archive, Content, Event, Sampled, archive_of, content_listed, keep_last, moment_of, moment_at_end, samples, seconds, seconds_of, steps_of, rows_of}
+use Rattle.rrd_spec.specs.History.{Archive, Content, Event, Sampled, moment_of, moment_at_end, samples, seconds, seconds_of}
+use Rattle.rrd_spec.specs.Listed.{archive_of, content_listed, keep_last}
+use Rattle.rrd_spec.specs.Steps.{steps_of, rows_of}
 use Rattle.rrd_spec.specs.Slow.{event_of, reading_of, taken_of, AreInOrder, AreNewest, latest, rule_of, IsGroup}
 use Rattle.rrd_spec.specs.Validity.{AreParts, IsRow, IsValidArchive}
 use Rattle.rrd_spec.proofs.Bounded.{steps_keep}

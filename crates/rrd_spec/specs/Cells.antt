@@ -1,14 +1,48 @@
 -- What an archive shows at each time.
-use Rattle.std.specs.Prelude.{◌≡◌, ℕ, ◌+◌, ◌-◌, ◌*◌, ◌/◌, ◌++◌, ℤ, pos, ◌+ℤ◌, ◌-ℤ◌, unsigned_abs, int_lt, int_le, if◌then◌else◌, Some, List, [], ◌∷◌, map, length, replicate, slice_get, slice_index_or}
+use Rattle.std.specs.Prelude.{ℕ, ◌+◌, ◌-◌, ◌*◌, ◌/◌, ℤ, pos, ◌+ℤ◌, ◌-ℤ◌, int_lt, int_le, if◌then◌else◌, List, [], ◌∷◌, map, length, replicate, slice_index_or}
 use Rattle.std.specs.List.{fold, enumerate_from, range_with_len}
-use Rattle.std.specs.Int.{int_max, int_rem_euclid}
+use Rattle.std.specs.Int.{int_max}
 use Rattle.rrd_fixed.specs.declared.cell.Cell.{Cell}
-use Rattle.rrd_spec.specs.Rules.{rows_rule, seconds_to_steps}
-pub use Rattle.rrd_spec.specs.Rules.{resolution}
-use Rattle.rrd_spec.specs.History.{Archive, Content, Event, moment_of, moment_at_end, seconds_of, steps_of, parts_of, rows_of, row_parts_of, rows_at_end, content_listed, IsHistory, IsBase}
-use Rattle.rrd_spec.specs.Groups.{group_part}
-use Rattle.rrd_spec.specs.Passed.{row_at}
-use Rattle.rrd_spec.specs.Shown.{cell_at}
+use Rattle.rrd_spec.specs.Settings.{resolution}
+use Rattle.rrd_spec.specs.History.{Archive, Content, Event, moment_at_end, rows_at_end}
+use Rattle.rrd_spec.specs.Steps.{parts_of, row_parts_of}
+use Rattle.std.specs.Prelude.{negsuc, nat_lt}
+use Rattle.std.specs.Int.{int_div_euclid}
+use Rattle.std.specs.Prelude.{zero, suc}
+use Rattle.rrd_fixed.specs.declared.cell.Cell.TheVariants.{Unknown}
+use Rattle.rrd_fold.specs.declared.function.Function.TheVariants.{Average}
+use Rattle.rrd_fold.specs.Bounds.{Consolidating}
+use Rattle.rrd_fold.specs.Parts.{nothing}
+use Rattle.rrd_spec.specs.Steps.{row_ending}
+use Rattle.rrd_spec.specs.Steps.{step}
+
+-- the row at a time, a multiple of the resolution; unknown where the archive has none
+abbrev pub row_of_age : List (List Cell) → List Cell → ℤ → List Cell
+row_of_age rows unknown (pos age) = if nat_lt age (length rows) then slice_index_or rows (length rows - 1 - age) unknown else unknown
+row_of_age rows unknown (negsuc ahead) = unknown
+
+abbrev pub row_at : Content → Archive → ℤ → List Cell
+row_at content archive time =
+    let size = resolution content.step archive.def in
+    row_of_age archive.rows (replicate (length content.sources) Cell.Unknown) (pos (content.last / size) -ℤ int_div_euclid time (pos size))
+
+-- the cell of a source in the row at a time of the archive of this number; unknown where there is none
+abbrev pub cell_in : Content → List Archive → ℕ → ℤ → ℕ → Cell
+cell_in content [] number time source = Unknown
+cell_in content (archive ∷ archives) zero time source = slice_index_or (row_at content archive time) source Unknown
+cell_in content (archive ∷ archives) (suc number) time source = cell_in content archives number time source
+
+abbrev pub cell_at : Content → ℕ → ℤ → ℕ → Cell
+cell_at content number time source = cell_in content content.archives number time source
+
+-- the preparation of a source's unfinished row in the archive of this number
+abbrev pub prep_in : List Archive → ℕ → ℕ → Consolidating
+prep_in [] number source = record { function = Average; part = nothing }
+prep_in (archive ∷ archives) zero source = record { function = archive.def.function; part = slice_index_or archive.parts source nothing }
+prep_in (archive ∷ archives) (suc number) source = prep_in archives number source
+
+abbrev pub prep_at : Content → ℕ → ℕ → Consolidating
+prep_at content number source = prep_in content.archives number source
 
 -- ---- an archive's rows and their times
 
@@ -44,22 +78,6 @@ horizon base index archive events = greatest (map (reach_after base index archiv
 
 -- The seconds: `second` in specs/History, the rate of the first sample at or after each (rrdcreate, "The HEARTBEAT and the STEP").
 -- All steps, and all rows, of a history are `steps_of` and `rows_of` there: the lists of these ones.
-
--- the step of this number, 0 the first since 1970: it has the seconds that pass after so many steps. The base's unfinished step comes before them (rrdcreate, "The HEARTBEAT and the STEP")
-abbrev pub step : Content → List Event → ℕ → List Cell
-step base events number =
-    let rule = seconds_to_steps base.step (length base.sources) in
-    rule.close (group_part rule base.last base.parts (seconds_of base events) number)
-
--- the row of this number: it has the steps that end after so many rows. The base's unfinished row comes before them (rrdcreate, "RRA")
-abbrev pub row : Content → Archive → List Event → ℕ → List Cell
-row base archive events number =
-    let rule = rows_rule archive.def (length base.sources) in
-    rule.close (group_part rule (base.last / base.step) archive.parts (steps_of base events) number)
-
--- the row that ends at a time after 1970, a multiple of the resolution
-abbrev pub row_ending : Content → Archive → List Event → ℤ → List Cell
-row_ending base archive events time = row base archive events (unsigned_abs time / resolution base.step archive.def - 1)
 
 -- ---- what an archive shows
 
@@ -109,40 +127,3 @@ content base events = record {
   parts = parts_of base events;
   archives = map (archive_by_time base events) (enumerate_from 0 base.archives);
 }
-
--- ---- the laws
-
--- what a history in two pieces comes to is what its second piece makes of the first one's content
-abbrev pub GoesOnFromContent : Content → List Event → List Event → Type 0
-GoesOnFromContent base first second =
-    IsBase base → IsHistory (moment_of base) first → IsHistory (moment_at_end base first) second → content base (first ++ second) ≡ content (content base first) second
-
-abbrev pub StaysBase : Content → List Event → Type 0
-StaysBase base events = IsBase base → IsHistory (moment_of base) events → IsBase (content base events)
-
--- the content's rows by list and by time are the same
-abbrev pub IsListed : Content → List Event → Type 0
-IsListed base events = IsBase base → IsHistory (moment_of base) events → content_listed base events ≡ content base events
-
--- a time at which rows of this resolution end
-abbrev pub IsMultiple : ℤ → ℕ → Type 0
-IsMultiple time size = int_rem_euclid time (pos size) ≡ pos 0
-
--- each archive of a history's content shows at each such time the row of that time
-abbrev pub ShowsByTime : Content → List Event → Type 0
-ShowsByTime base events =
-    IsBase base → IsHistory (moment_of base) events →
-    (index : ℕ) (archive shown : Archive) → slice_get base.archives index ≡ Some archive → slice_get (content base events).archives index ≡ Some shown →
-    (time : ℤ) → IsMultiple time (resolution base.step archive.def) → row_at (content base events) shown time ≡ row_by_time base index archive events time
-
--- so the content shows in each cell the one of that time
-abbrev pub ShowsCells : Content → List Event → Type 0
-ShowsCells base events =
-    IsBase base → IsHistory (moment_of base) events →
-    (index : ℕ) (archive : Archive) → slice_get base.archives index ≡ Some archive →
-    (time : ℤ) (source : ℕ) → IsMultiple time (resolution base.step archive.def) → cell_at (content base events) index time source ≡ cell base index archive events time source
-
--- the steps and rows of a history, each by itself
-pub record ListsByNumber (base : Content) (archive : Archive) (events : List Event) : Type 0 where
-  pub steps_are : steps_of base events ≡ map (step base events) (range_with_len (base.last / base.step) (length (steps_of base events)))
-  pub rows_are : rows_of base archive events ≡ map (row base archive events) (range_with_len (base.last / base.step / archive.def.steps) (length (rows_of base archive events)))

@@ -9,12 +9,15 @@ use Rattle.rrd_spec.specs.declared.resize.Change.{Change}
 use Rattle.rrd_spec.specs.declared.settings.DsDef.{DsDef}
 use Rattle.rrd_spec.specs.declared.tune.Tuning.{Tuning}
 use Rattle.rrd_spec.specs.declared.update.Given.{Given}
-use Rattle.rrd_spec.specs.Commands.{Command, Resizing, TuningBy, moved, moved_listed, raw_of, rows_changed, rows_of_archives, tuned}
+use Rattle.rrd_spec.specs.Commands.{Command, Resizing, TuningBy, moved, raw_of, rows_changed, rows_of_archives, tuned}
+use Rattle.rrd_spec.specs.Listed.{moved_listed}
 use Rattle.rrd_spec.specs.Entries.{entry, rows_at, with_rows_at}
-use Rattle.rrd_spec.specs.History.{Archive, Content, Event, content_listed, filled_up, keep_last, moment_at_end, moment_of, raws_under, IsBase, IsHistory}
-use Rattle.rrd_spec.specs.Passed.{archive_passed, passed}
+use Rattle.rrd_spec.specs.History.{Archive, Content, Event, moment_at_end, moment_of, raws_under, IsBase, IsHistory}
+use Rattle.rrd_spec.specs.Listed.{content_listed, filled_up, keep_last}
+use Rattle.rrd_spec.specs.Passing.{archive_passed, passed}
 use Rattle.rrd_spec.specs.Validity.{AreAccepted, AreParts, Fits, IsRow, IsValid, IsValidArchive}
 use Rattle.rrd_spec.specs.Verdict.{verdict}
+use Rattle.rrd_spec.specs.Steps.{row}
 
 -- ---- commands
 

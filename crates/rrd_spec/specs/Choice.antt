@@ -13,8 +13,10 @@ use Rattle.rrd_spec.specs.declared.refusal.Refusal.{Refusal}
 use Rattle.rrd_spec.specs.declared.refusal.Refusal.TheVariants.{BadTime, BadSpan, NoArchiveForFunction, SpanTooLong}
 use Rattle.rrd_spec.specs.Limits.{Limits, version_one}
 use Rattle.rrd_spec.specs.History.{Archive, Content}
-use Rattle.rrd_spec.specs.Cells.{resolution, reach}
+use Rattle.rrd_spec.specs.Settings.{resolution}
+use Rattle.rrd_spec.specs.Cells.{reach}
 use Rattle.rrd_spec.specs.Verdict.{Check, ◌refuses◌, first_refusal}
+use Rattle.rrd_spec.specs.Steps.{step}
 
 -- ---- the archives that can be read
 

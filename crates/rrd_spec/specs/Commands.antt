@@ -14,9 +14,11 @@ use Rattle.rrd_spec.specs.declared.update.Update.{Update}
 use Rattle.rrd_spec.specs.declared.tune.Tuning.{Tuning}
 use Rattle.rrd_spec.specs.declared.resize.Change.{Change}
 use Rattle.rrd_spec.specs.declared.resize.Change.TheVariants.{Grow, Shrink}
-use Rattle.rrd_spec.specs.History.{Archive, Content, Reading, Event, Sampled, Tuned, Resized, rows_after, content_listed}
+use Rattle.rrd_spec.specs.History.{Archive, Content, Reading, Event, Sampled, Tuned, Resized, rows_after}
 pub use Rattle.rrd_spec.specs.History.{raw_under}
 use Rattle.rrd_spec.specs.Cells.{content}
+use Rattle.rrd_spec.specs.Settings.{Settings}
+use Rattle.rrd_spec.specs.Settings.{names}
 
 -- ---- what is asked
 
@@ -39,9 +41,6 @@ raw_of kind (Given.Number number) = option_map_or Raw.Known (admit kind number) 
 
 -- ---- names
 
-abbrev pub names : List DsDef → List Name
-names sources = map (λ (source : DsDef). source.name) sources
-
 -- the value for a source: the one in the place of its name; unknown if it isn't named (rrdupdate, "--template")
 abbrev pub value_for : List Name → List Given → DsDef → Given
 value_for [] values source = Given.Unknown
@@ -50,11 +49,6 @@ value_for (name ∷ names) (value ∷ values) source =
     if same_name name source.name then value else value_for names values source
 
 -- ---- what happens
-
--- what the settings that a command can change are: those of the sources, and each archive's number of rows
-pub record Settings : Type 0 where
-  pub sources : List DsDef
-  pub rows : List ℕ
 
 abbrev pub rows_of_archives : List Archive → List ℕ
 rows_of_archives archives = map (λ (archive : Archive). archive.def.rows) archives
@@ -126,7 +120,3 @@ content_of base commands = content base (events_of (settings_of base) commands)
 
 abbrev pub moved : Content → Command → Content
 moved base command = content base (events (settings_of base) command)
-
--- the same, its rows being the list of those that are kept
-abbrev pub moved_listed : Content → Command → Content
-moved_listed base command = content_listed base (events (settings_of base) command)

@@ -12,9 +12,10 @@ use Rattle.rrd_spec.specs.declared.refusal.Refusal.{Refusal}
 use Rattle.rrd_spec.specs.declared.refusal.Refusal.TheVariants.{BadStep, BadStart, NoSource, NoArchive, BadName, DoubleName, BadHeartbeat, BadBounds, BadXff, BadSteps, BadRows, TooLarge, BadDepth}
 use Rattle.rrd_spec.specs.Limits.{Limits, version_one}
 use Rattle.rrd_spec.specs.History.{Archive, Content}
-use Rattle.rrd_spec.specs.Commands.{Settings, names}
-use Rattle.rrd_spec.specs.Validity.{IsValid}
-use Rattle.rrd_spec.specs.Verdict.{Check, ◌refuses◌, first_refusal, is_double, has_bad_bounds, is_bad_heartbeat, is_bad_rows, is_out, cells}
+use Rattle.rrd_spec.specs.Settings.{Settings, names}
+use Rattle.rrd_spec.specs.Verdict.{Check, ◌refuses◌, first_refusal, has_bad_bounds, is_bad_heartbeat, is_bad_rows, is_out}
+use Rattle.rrd_spec.specs.Settings.{is_double, cells}
+use Rattle.rrd_spec.specs.Steps.{step}
 
 -- ---- what is refused
 
@@ -106,9 +107,3 @@ created spec = record {
   parts = replicate (length spec.sources) nothing;
   archives = map (new_archive (length spec.sources)) spec.archives;
 }
-
--- ---- the law
-
--- a database that isn't refused is valid
-abbrev pub CreatedIsValid : CreateSpec → Type 0
-CreatedIsValid spec = create_verdict spec ≡ None → IsValid (created spec)

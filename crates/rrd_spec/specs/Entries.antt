@@ -8,12 +8,14 @@ use Rattle.rrd_spec.specs.declared.entry.SourceBefore.{SourceBefore}
 use Rattle.rrd_spec.specs.declared.settings.RraDef.{RraDef}
 use Rattle.rrd_fold.specs.declared.function.Function.{Function}
 use Rattle.rrd_fold.specs.Parts.{Part}
-use Rattle.rrd_spec.specs.Rules.{resolution}
+use Rattle.rrd_spec.specs.Settings.{resolution}
 use Rattle.rrd_spec.specs.History.{Archive, Content, IsBase}
 use Rattle.rrd_spec.specs.Commands.{Asked, Command, Updating, TuningBy, Resizing, moved}
 use Rattle.rrd_fixed.specs.Names.{same_name}
 use Rattle.rrd_spec.specs.declared.tune.Tuning.{Tuning}
 use Rattle.rrd_spec.specs.Verdict.{verdict}
+use Rattle.rrd_spec.specs.Steps.{row}
+use Rattle.rrd_spec.specs.Steps.{step}
 
 -- what an update's entry keeps of an archive: its function, its preparations, and the oldest of its rows
 pub record SavedArchive : Type 0 where
@@ -118,7 +120,3 @@ undone now (ResizeEntry archive rows) = record now { archives = with_rows_at now
 pub record IsSound (base : Content) : Type 0 where
   pub is_base : IsBase base
   pub one_raw_each : length base.raws ≡ length base.sources
-
--- an accepted command is undone by its entry
-abbrev pub ComesBack : Content → Command → Type 0
-ComesBack base command = IsSound base → verdict base command ≡ None → undone (moved base command) (entry base command) ≡ base

@@ -17,10 +17,12 @@ use Rattle.rrd_spec.specs.declared.update.Sample.{Sample}
 use Rattle.rrd_spec.specs.Commands.{sample_of}
 use Rattle.rrd_spec.specs.Limits.{version_one}
 use Rattle.rrd_spec.specs.Lists.{All-weaker}
-use Rattle.rrd_spec.specs.Passed.{row_at}
-use Rattle.rrd_spec.specs.Shown.{cell_in, prep_in}
+use Rattle.rrd_spec.specs.Cells.{row_at}
+use Rattle.rrd_spec.specs.Cells.{cell_in, prep_in}
 use Rattle.rrd_spec.specs.Validity.{AreAccepted, IsRow, IsValid, IsValidArchive}
-use Rattle.rrd_spec.specs.Verdict.{Passes, sample_checks}
+use Rattle.rrd_spec.specs.Laws.{Passes}
+use Rattle.rrd_spec.specs.Verdict.{sample_checks}
+use Rattle.rrd_spec.specs.Steps.{row}
 
 -- ---- a valid content
 

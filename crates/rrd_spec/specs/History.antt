@@ -1,7 +1,7 @@
 -- What a history of commands makes of a database, second by second. Where no manual page is named, the rule is this
 -- project's.
-use Rattle.std.specs.Prelude.{◌≡◌, ℕ, ◌+◌, ◌-◌, ◌/◌, ◌<◌, min, nat_le, ◌==◌, if◌then◌else◌, Bool, List, [], ◌∷◌, ◌++◌, map, length, drop, replicate}
-use Rattle.std.specs.List.{fold, find, range_with_len, enumerate_from, AllByRecursion}
+use Rattle.std.specs.Prelude.{◌≡◌, ℕ, ◌+◌, ◌-◌, ◌<◌, min, nat_le, ◌==◌, if◌then◌else◌, Bool, List, [], ◌∷◌, map, length}
+use Rattle.std.specs.List.{fold, find, range_with_len, AllByRecursion}
 use Rattle.std.specs.Option.{option_map_or}
 use Rattle.rrd_fixed.specs.declared.cell.Cell.{Cell}
 use Rattle.rrd_fixed.specs.declared.raw.Raw.{Raw}
@@ -10,9 +10,8 @@ use Rattle.rrd_fixed.specs.declared.kind.Kind.TheVariants.{Gauge, Counter, Deriv
 use Rattle.rrd_fixed.specs.Rate.{rate}
 use Rattle.rrd_spec.specs.declared.settings.DsDef.{DsDef}
 use Rattle.rrd_spec.specs.declared.settings.RraDef.{RraDef}
-use Rattle.rrd_spec.specs.Rules.{resolution, rows_rule, seconds_to_steps}
 use Rattle.rrd_fold.specs.Parts.{Part}
-use Rattle.rrd_spec.specs.Groups.{finished, unfinished}
+use Rattle.rrd_fixed.specs.declared.cell.Cell.TheVariants.{Unknown}
 
 -- ---- what a database holds
 
@@ -118,22 +117,6 @@ moment_at_end base events = fold moment_after (moment_of base) events
 unfoldable pub seconds_of : Content → List Event → List (List Cell)
 seconds_of base events = seconds (samples (moment_of base) events) base.last (moment_at_end base events).last
 
--- the steps that end after the base's last time (rrdcreate, "The HEARTBEAT and the STEP")
-unfoldable pub steps_of : Content → List Event → List (List Cell)
-steps_of base events =
-    finished (seconds_to_steps base.step (length base.sources)) base.last base.parts (seconds_of base events)
-
--- what the unfinished step has made of its seconds
-unfoldable pub parts_of : Content → List Event → List Part
-parts_of base events =
-    unfinished (seconds_to_steps base.step (length base.sources)) base.last base.parts (seconds_of base events)
-
--- what an archive's unfinished row has made of its steps (rrdcreate, "RRA")
-unfoldable pub row_parts_of : Content → Archive → List Event → List Part
-row_parts_of base archive events =
-    unfinished (rows_rule archive.def (length base.sources)) (base.last / base.step)
-    archive.parts (steps_of base events)
-
 -- how many rows an archive of this number has after an event, and after all of them (rrdresize)
 abbrev pub rows_after : ℕ → ℕ → Event → ℕ
 rows_after index rows (Sampled sample) = rows
@@ -145,52 +128,6 @@ rows_at_end index rows events = fold (rows_after index) rows events
 
 -- ---- the same with an archive's rows said as the list of those kept. The definition is `content` in specs/Cells, which
 -- ---- says each row by its time, and needs none of what follows up to the next heading; a law says that both agree
-
--- the rows of an archive that end after the base's last time (rrdcreate, "RRA")
-unfoldable pub rows_of : Content → Archive → List Event → List (List Cell)
-rows_of base archive events = finished (rows_rule archive.def (length base.sources)) (base.last / base.step) archive.parts (steps_of base events)
-
--- the newest items, so many of them
-abbrev pub keep_last : {A : Type 0} → ℕ → List A → List A
-keep_last n xs = drop (length xs - n) xs
-
--- how many of the newest rows have had a place at every moment from the first to the last. `since` says how many rows
--- ended after a time
-abbrev pub rows_never_lost : ℕ → (ℕ → ℕ) → ℕ → Moment → List Event → ℕ
-rows_never_lost index since rows now [] = rows + since now.last
-rows_never_lost index since rows now (event ∷ events) =
-    min (rows + since now.last)
-    (rows_never_lost index since (rows_after index rows event) (moment_after now event) events)
-
--- the items, with unknown ones before them where they are too few
-abbrev pub filled_up : {A : Type 0} → ℕ → A → List A → List A
-filled_up n unknown items = replicate (n - length items) unknown ++ items
-
--- the base's rows and those that ended since, as far as they have always had a place (rrdcreate, "RRA"; rrdresize)
-unfoldable pub kept_rows : Content → ℕ → Archive → List Event → List (List Cell)
-kept_rows base index archive events =
-    let size = resolution base.step archive.def in
-    let since = λ (time : ℕ). (moment_at_end base events).last / size - time / size in
-    filled_up (rows_at_end index archive.def.rows events) (replicate (length base.sources) Cell.Unknown)
-    (keep_last (rows_never_lost index since archive.def.rows (moment_of base) events)
-    (archive.rows ++ rows_of base archive events))
-
-abbrev pub archive_of : Content → List Event → ℕ × Archive → Archive
-archive_of base events (index, archive) = record {
-  def = record archive.def { rows = rows_at_end index archive.def.rows events };
-  parts = row_parts_of base archive events;
-  rows = kept_rows base index archive events;
-}
-
--- the content that the events make of a base
-unfoldable pub content_listed : Content → List Event → Content
-content_listed base events = record base {
-  sources = (moment_at_end base events).sources;
-  last = (moment_at_end base events).last;
-  raws = (moment_at_end base events).raws;
-  parts = parts_of base events;
-  archives = map (archive_of base events) (enumerate_from 0 base.archives);
-}
 
 -- ---- what is accepted
 
@@ -211,3 +148,6 @@ pub record IsArchive (archive : Archive) : Type 0 where
 pub record IsBase (base : Content) : Type 0 where
   pub some_step : 0 < base.step
   pub archives_are : AllByRecursion IsArchive base.archives
+
+abbrev pub definitions : List Archive → List RraDef
+definitions archives = map (λ (archive : Archive). archive.def) archives

@@ -12,6 +12,8 @@ use Rattle.rrd_spec.specs.declared.settings.DsDef.{DsDef}
 use Rattle.rrd_spec.specs.Each.{AllOf, anew, map_each, parts_in, with_steps}
 use Rattle.rrd_spec.specs.History.{rates}
 use Rattle.rrd_spec.specs.Validity.{AreAccepted}
+use Rattle.rrd_spec.specs.Settings.{cells}
+use Rattle.rrd_spec.specs.Steps.{step}
 
 -- ---- rates
 

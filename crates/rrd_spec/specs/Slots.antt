@@ -5,8 +5,11 @@ use Rattle.std.specs.List.{find, flat_map, enumerate_from, range_with_len}
 use Rattle.std.specs.Option.{option_map_or}
 use Rattle.std.specs.Int.{int_div_euclid, int_rem_euclid}
 use Rattle.rrd_fixed.specs.declared.cell.Cell.{Cell}
-use Rattle.rrd_spec.specs.Cells.{resolution, time_of}
+use Rattle.rrd_spec.specs.Settings.{resolution}
+use Rattle.rrd_spec.specs.Cells.{time_of}
 use Rattle.rrd_spec.specs.History.{Archive, Content}
+use Rattle.rrd_spec.specs.Steps.{row}
+use Rattle.rrd_spec.specs.Steps.{step}
 
 -- the slot of the row that ends at a time, among so many rows: the number of the row since 1970, which may be negative,
 -- modulo the number of rows

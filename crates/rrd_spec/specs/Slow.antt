@@ -14,7 +14,8 @@ use Rattle.rrd_spec.specs.declared.slow.Taken as slow
 use Rattle.rrd_spec.specs.Cells.{content}
 use Rattle.rrd_spec.specs.Creating.{created}
 use Rattle.rrd_spec.specs.Limits.{version_one}
-use Rattle.rrd_spec.specs.History.{Archive, Event, Reading, Sampled, Taken, keep_last}
+use Rattle.rrd_spec.specs.History.{Archive, Event, Reading, Sampled, Taken}
+use Rattle.rrd_spec.specs.Listed.{keep_last}
 use Rattle.rrd_spec.specs.Validity.{AreAccepted}
 
 -- ---- samples

@@ -1,51 +1,59 @@
--- Law: what many seconds or steps that are alike leave, all at once.
-use Rattle.std.specs.Prelude.{◌≡◌, ℕ, ◌+◌, ◌-◌, ◌*◌, ◌/◌, ◌%◌, ◌<◌, ◌≤◌, pos, ◌≤ℤ◌, List, ◌∷◌, ◌++◌, length, map, replicate}
-use Rattle.std.specs.List.{fold}
+-- Definition: the steps and the rows of a history, each by itself (rrdcreate, "The HEARTBEAT and the STEP" and "RRA").
+use Rattle.std.specs.Prelude.{ℕ, List, map, replicate}
 use Rattle.rrd_fixed.specs.declared.cell.Cell.{Cell}
 use Rattle.rrd_fold.specs.declared.function.Function.TheVariants.{Average}
-use Rattle.rrd_fold.specs.Parts.{nothing, row_cell, step_cell, with_each}
-use Rattle.rrd_spec.specs.History.{Archive, Content, IsBase, keep_last}
-use Rattle.rrd_spec.specs.Passed.{archive_passed, passed}
+use Rattle.rrd_fold.specs.Parts.{Part, nothing, with_each, step_cell, row_cell}
+use Rattle.rrd_spec.specs.Groups.{Rule}
+use Rattle.rrd_spec.specs.declared.settings.RraDef.{RraDef}
+use Rattle.std.specs.Prelude.{◌-◌, ◌/◌, length}
+use Rattle.rrd_spec.specs.Settings.{resolution}
+use Rattle.rrd_spec.specs.Groups.{finished, unfinished}
+use Rattle.std.specs.Prelude.{ℤ}
+use Rattle.rrd_spec.specs.History.{Archive, Content}
+use Rattle.std.specs.Prelude.{unsigned_abs}
+use Rattle.rrd_spec.specs.History.{Event, seconds_of}
+use Rattle.rrd_spec.specs.Groups.{group_part}
 
--- ---- an archive, `before` steps having ended
+-- the seconds of a step, for so many sources
+abbrev pub seconds_to_steps : ℕ → ℕ → Rule (List Cell) (List Part) (List Cell)
+seconds_to_steps step sources = record { size = step; empty = replicate sources nothing; add = with_each Average; close = map (step_cell step) }
 
--- steps may pass in two pieces
-abbrev pub StepsInPieces : ℕ → ℕ → Archive → List (List Cell) → List (List Cell) → Type 0
-StepsInPieces sources before archive xs ys =
-    0 < archive.def.steps → archive_passed sources before (xs ++ ys) archive ≡ archive_passed sources (before + length xs) ys (archive_passed sources before xs archive)
+-- the steps of a row of an archive, for so many sources
+abbrev pub rows_rule : RraDef → ℕ → Rule (List Cell) (List Part) (List Cell)
+rows_rule def sources = record { size = def.steps; empty = replicate sources nothing; add = with_each def.function; close = map (row_cell def.function def.xff def.steps) }
 
--- steps that leave their row unfinished change its parts alone
-abbrev pub StepsWithin : ℕ → ℕ → Archive → List (List Cell) → Type 0
-StepsWithin sources before archive steps =
-    0 < archive.def.steps → before + length steps < (before / archive.def.steps + 1) * archive.def.steps →
-    archive_passed sources before steps archive ≡ record archive { parts = fold (with_each archive.def.function) archive.parts steps }
+-- the steps that end after the base's last time (rrdcreate, "The HEARTBEAT and the STEP")
+unfoldable pub steps_of : Content → List Event → List (List Cell)
+steps_of base events =
+    finished (seconds_to_steps base.step (length base.sources)) base.last base.parts (seconds_of base events)
 
--- how many steps the row in progress wants after the next one
-abbrev pub steps_left : ℕ → ℕ → ℕ
-steps_left before size = (before / size + 1) * size - (before + 1)
+-- what the unfinished step has made of its seconds
+unfoldable pub parts_of : Content → List Event → List Part
+parts_of base events =
+    unfinished (seconds_to_steps base.step (length base.sources)) base.last base.parts (seconds_of base events)
 
--- a step, and many of another that fill the row and go on: they leave the row that was in progress, whole rows of that other step, and what is past them
-abbrev pub StepsOver : ℕ → ℕ → ℕ → Archive → List Cell → List Cell → Type 0
-StepsOver sources before count archive first then =
-    let def = archive.def in
-    let left = steps_left before def.steps in
-    let row = map (row_cell def.function def.xff def.steps) (fold (with_each def.function) archive.parts (first ∷ replicate left then)) in
-    0 < def.steps → pos 0 ≤ℤ def.xff → def.xff ≤ℤ pos 999999 → length then ≡ sources → left ≤ count →
-    archive_passed sources before (first ∷ replicate count then) archive ≡ record archive {
-      parts = fold (with_each def.function) (replicate sources nothing) (replicate ((count - left) % def.steps) then);
-      rows = keep_last (length archive.rows) (archive.rows ++ row ∷ replicate ((count - left) / def.steps) then);
-    }
+-- the rows of an archive that end after the base's last time (rrdcreate, "RRA")
+unfoldable pub rows_of : Content → Archive → List Event → List (List Cell)
+rows_of base archive events = finished (rows_rule archive.def (length base.sources)) (base.last / base.step) archive.parts (steps_of base events)
 
--- ---- a content
+-- what an archive's unfinished row has made of its steps (rrdcreate, "RRA")
+unfoldable pub row_parts_of : Content → Archive → List Event → List Part
+row_parts_of base archive events =
+    unfinished (rows_rule archive.def (length base.sources)) (base.last / base.step)
+    archive.parts (steps_of base events)
 
--- the seconds that are left of the step in progress, and those of `count` whole steps, all of one rate for each source: they end the step, and then as many of these rates
-abbrev pub SecondsOver : Content → ℕ → ℕ → List Cell → Type 0
-SecondsOver base left count rates =
-    let sources = length base.sources in
-    let step = map (step_cell base.step) (fold (with_each Average) base.parts (replicate left rates)) in
-    IsBase base → base.last + left ≡ (base.last / base.step + 1) * base.step → length rates ≡ sources →
-    passed base (replicate (left + count * base.step) rates) ≡ record base {
-      last = base.last + (left + count * base.step);
-      parts = replicate sources nothing;
-      archives = map (archive_passed sources (base.last / base.step) (step ∷ replicate count rates)) base.archives;
-    }
+-- the step of this number, 0 the first since 1970: it has the seconds that pass after so many steps. The base's unfinished step comes before them (rrdcreate, "The HEARTBEAT and the STEP")
+abbrev pub step : Content → List Event → ℕ → List Cell
+step base events number =
+    let rule = seconds_to_steps base.step (length base.sources) in
+    rule.close (group_part rule base.last base.parts (seconds_of base events) number)
+
+-- the row of this number: it has the steps that end after so many rows. The base's unfinished row comes before them (rrdcreate, "RRA")
+abbrev pub row : Content → Archive → List Event → ℕ → List Cell
+row base archive events number =
+    let rule = rows_rule archive.def (length base.sources) in
+    rule.close (group_part rule (base.last / base.step) archive.parts (steps_of base events) number)
+
+-- the row that ends at a time after 1970, a multiple of the resolution
+abbrev pub row_ending : Content → Archive → List Event → ℤ → List Cell
+row_ending base archive events time = row base archive events (unsigned_abs time / resolution base.step archive.def - 1)

@@ -95,15 +95,3 @@ pub record Stands (state : State) (stored : Stored) : Type 0 where
   pub all_accepted : AllAccepted state.base state.survivors
   pub sound : IsSound state.base
   pub undo : AllUndo state.base state.brought
-
--- one command more is one move more
-abbrev pub Moves : Content → List Command → Command → Type 0
-Moves base commands command = IsSound base → AllAccepted base (command ∷ commands) → survived base (command ∷ commands) ≡ moved (survived base commands) command
-
--- on the content that accepted commands leave, further commands make the content of all of them
-abbrev pub CommandsGoOn : Content → List Command → List Command → Type 0
-CommandsGoOn base first second = IsSound base → AllAccepted base (reverse (first ++ second)) → content_of base (first ++ second) ≡ content_of (content_of base first) second
-
--- after any list of actions the database is what the survivors make, and its journal their entries
-abbrev pub RunsAgree : Content → List Entry → List Action → Type 0
-RunsAgree base brought actions = IsSound base → AllUndo base brought → length brought ≤ base.depth → Stands (fold after (record { base = base; brought = brought; survivors = []; revertible = 0 }) actions) (fold step (record { content = base; journal = brought }) actions)

@@ -5,7 +5,8 @@ use Rattle.rrd_spec.specs.declared.update.Sample.{Sample}
 use Rattle.rrd_spec.specs.declared.update.Update.{Update}
 use Rattle.rrd_spec.specs.Entries.{rows_between}
 use Rattle.rrd_spec.specs.History.{Content}
-use Rattle.rrd_spec.specs.Shown.{definitions}
+use Rattle.rrd_spec.specs.History.{definitions}
+use Rattle.rrd_spec.specs.Steps.{step}
 
 -- ---- an update
 

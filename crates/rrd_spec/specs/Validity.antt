@@ -12,11 +12,14 @@ use Rattle.rrd_fold.specs.Parts.{Part}
 pub use Rattle.rrd_fold.specs.Bounds.{weight}
 use Rattle.rrd_spec.specs.Limits.{Limits, version_one}
 use Rattle.rrd_spec.specs.History.{Archive, Content}
-use Rattle.rrd_spec.specs.Commands.{Command, names, settings_of, moved}
+use Rattle.rrd_spec.specs.Commands.{Command, settings_of, moved}
+use Rattle.rrd_spec.specs.Settings.{names}
 use Rattle.rrd_fixed.specs.Names.{is_good}
-use Rattle.rrd_spec.specs.Verdict.{is_double, is_bad_heartbeat, has_bad_bounds, cells, verdict}
+use Rattle.rrd_spec.specs.Settings.{is_double, cells}
+use Rattle.rrd_spec.specs.Verdict.{is_bad_heartbeat, has_bad_bounds, verdict}
 use Rattle.rrd_spec.specs.Entries.{SavedArchive, BeforeUpdate, Entry, UpdateEntry, TuneEntry, ResizeEntry, rows_between, rows_at, entry, undone}
 use Rattle.rrd_spec.specs.Survivors.{Action, changed, reverted, step, after, Stands, State, Stored}
+use Rattle.rrd_spec.specs.Steps.{row}
 
 -- ---- a content
 
@@ -149,50 +152,3 @@ IsValidJournal = IsValidJournalWithin version_one
 
 abbrev pub IsValidDatabase : Content → List Entry → Type 0
 IsValidDatabase = IsValidDatabaseWithin version_one
-
--- ---- the laws
-
--- an accepted command moves a valid content to a valid one
-abbrev pub StaysValid : Content → Command → Type 0
-StaysValid base command = IsValid base → verdict base command ≡ None → IsValid (moved base command)
-
--- so does it with the journal, a full one dropping its oldest entry
-abbrev pub DatabaseStays : Content → List Entry → Command → Type 0
-DatabaseStays now journal command =
-    IsValidDatabase now journal
-    → verdict now command ≡ None
-    → IsValidDatabase (moved now command) (take now.depth (entry now command ∷ journal))
-
--- so does a revert, which leaves an empty journal as it is
-abbrev pub RevertStays : Content → List Entry → Type 0
-RevertStays now journal = let stored = reverted now journal in IsValidDatabase now journal → IsValidDatabase stored.content stored.journal
-
--- a revert takes an accepted command back: the content and the journal are as before it, but for the oldest entry of a
--- full journal
-abbrev pub RevertTakesBack : Content → List Entry → Command → Type 0
-RevertTakesBack now journal command =
-    let stored = changed (record { content = now; journal = journal }) command in
-    IsValidDatabase now journal
-    → verdict now command ≡ None
-    → reverted stored.content stored.journal ≡ record { content = now; journal = take (now.depth - 1) journal }
-
--- a run from a valid database keeps to the definition of the survivors, and stays valid
-pub record RunStays (base : Content) (brought : List Entry) (actions : List Action) : Type 0 where
-  pub stands :
-      let stored = fold step (record { content = base; journal = brought }) actions in
-      Stands
-      (fold after (record { base = base; brought = brought; survivors = []; revertible = 0 }) actions) stored
-  pub valid :
-      let stored = fold step (record { content = base; journal = brought }) actions in
-      IsValidDatabase stored.content stored.journal
-
-abbrev pub RunsStay : Content → List Entry → List Action → Type 0
-RunsStay base brought actions = IsValidDatabase base brought → RunStays base brought actions
-
--- a valid database stands for the state that begins with it: nothing survives on its content yet, and its journal is brought along
-abbrev pub Begins : Content → List Entry → Type 0
-Begins base brought = IsValidDatabase base brought → Stands (record { base = base; brought = brought; survivors = []; revertible = 0 }) (record { content = base; journal = brought })
-
--- one action leads from a database that stands for a state to one that stands for the state after it
-abbrev pub ActsOn : State → Stored → Action → Type 0
-ActsOn state kept action = Stands state kept → Stands (after state action) (step kept action)

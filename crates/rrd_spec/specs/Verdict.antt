@@ -17,7 +17,11 @@ use Rattle.rrd_spec.specs.declared.resize.Change.{Change}
 use Rattle.rrd_spec.specs.declared.resize.Change.TheVariants.{Grow, Shrink}
 use Rattle.rrd_spec.specs.Limits.{Limits, version_one}
 use Rattle.rrd_spec.specs.History.{Content}
-use Rattle.rrd_spec.specs.Commands.{Asked, Command, Updating, TuningBy, Resizing, Settings, settings_of, settings_after, events, names, value_for, tuned}
+use Rattle.rrd_spec.specs.Commands.{Asked, Command, Updating, TuningBy, Resizing, settings_of, settings_after, events, value_for, tuned}
+use Rattle.rrd_spec.specs.Settings.{Settings, names}
+use Rattle.rrd_spec.specs.Settings.{cells}
+use Rattle.rrd_spec.specs.Settings.{has_source}
+use Rattle.rrd_spec.specs.Settings.{is_double}
 
 -- what can be wrong, and the refusal that says so
 pub record Check : Type 0 where
@@ -33,14 +37,6 @@ first_refusal [] = None
 first_refusal (check ∷ checks) = if check.wrong then Some check.refusal else first_refusal checks
 
 -- ---- names and settings
-
-abbrev pub has_source : List DsDef → Name → Bool
-has_source sources name = list_any (λ (source : DsDef). same_name source.name name) sources
-
--- a name stands twice
-abbrev pub is_double : List Name → Bool
-is_double [] = false
-is_double (name ∷ names) = list_any (same_name name) names || is_double names
 
 -- a bound past the greatest rate
 abbrev pub is_far : Limits → Option ℤ → Bool
@@ -156,9 +152,6 @@ abbrev pub shrinks_too_far : Change → ℕ → ℕ → Bool
 shrinks_too_far Grow old rows = false
 shrinks_too_far Shrink old rows = nat_le old rows
 
-abbrev pub cells : Settings → ℕ
-cells settings = length settings.sources * sum settings.rows
-
 abbrev pub resize_checks : Limits → Settings → ℕ → Change → ℕ → List Check
 resize_checks limits settings archive change rows =
     ◌refuses◌ (nat_le (length settings.rows) archive) NoSuchArchive
@@ -183,12 +176,3 @@ verdict_within limits base command = first_refusal (checks limits base command)
 
 abbrev pub verdict : Content → Command → Option Refusal
 verdict = verdict_within version_one
-
--- ---- the law
-
-abbrev pub Passes : Check → Type 0
-Passes check = check.wrong ≡ false
-
--- a command that is accepted passes each check
-abbrev pub PassesAll : Content → Command → Type 0
-PassesAll base command = verdict base command ≡ None → AllByRecursion Passes (checks version_one base command)

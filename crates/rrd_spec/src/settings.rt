@@ -2,7 +2,7 @@
 ghost use Rattle.std.specs.Prelude.{◌≡◌, ◌^◌, ◌<◌, ◌≤◌, ◌≤ℤ◌, pos};
 ghost use Rattle.rrd_fixed.specs.Rate.{IsAccepted, IsBounded, rate as rate_of};
 ghost use Rattle.rrd_spec.specs.Limits.{version_one};
-ghost use Rattle.rrd_spec.specs.Rules.{resolution};
+ghost use Rattle.rrd_spec.specs.Settings.{resolution};
 
 use rrd_fixed::{Cell, Kind, Name, Raw, rate};
 use rrd_fold::Function;

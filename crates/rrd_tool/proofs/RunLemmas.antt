@@ -4,12 +4,13 @@ use Rattle.std.specs.Io.KnownBytes.{Appends, Keeps}
 use Rattle.rrd_fixed.specs.declared.streams.WriteFault.{WriteFault}
 use Rattle.rrd_spec.specs.declared.create.CreateSpec.{CreateSpec}
 use Rattle.rrd_spec.specs.declared.refusal.Refusal.{Refusal}
-use Rattle.rrd_spec.specs.Creating.{create_verdict, created, CreatedIsValid}
+use Rattle.rrd_spec.specs.Creating.{create_verdict, created}
+use Rattle.rrd_spec.specs.Laws.{CreatedIsValid}
 use Rattle.rrd_spec.specs.History.{Content}
 use Rattle.rrd_spec.specs.Entries.{Entry}
 use Rattle.rrd_spec.specs.Survivors.{State, Stored, Changed, Reverted, Stands, step, Action}
 use Rattle.rrd_spec.specs.Verdict.{verdict}
-use Rattle.rrd_spec.specs.Validity.{ActsOn, Begins}
+use Rattle.rrd_spec.specs.Laws.{ActsOn, Begins}
 use Rattle.clap.specs.Words.{fault_of}
 use Rattle.rrd_fixed.specs.Writing.{Appends-kept}
 use Rattle.rrd_tool.specs.Batch.{Performs, Turn}

@@ -11,7 +11,7 @@ use Rattle.rrd_spec.specs.declared.settings.DsDef.{DsDef}
 use Rattle.rrd_spec.specs.declared.refusal.Refusal.{Refusal}
 use Rattle.rrd_spec.specs.Choice.{choice}
 use Rattle.rrd_spec.specs.History.{Content}
-use Rattle.rrd_spec.specs.Shown.{cell_at}
+use Rattle.rrd_spec.specs.Cells.{cell_at}
 use Rattle.rrd_tool.specs.Arguments.{letter_rule, required_rule}
 use Rattle.rrd_tool.specs.Fields.{function_of}
 use Rattle.rrd_tool.specs.Unread.{Unread, ◌>>=◌, given, optional, required}

@@ -2,7 +2,7 @@ use Rattle.std.proofs.Common.{◌≡◌, sym, ◌∙◌, ap, ℕ, suc, ◌+◌, 
 use Rattle.std.specs.List.{list_any}
 use Rattle.rrd_fixed.specs.declared.name.Name.{Name}
 use Rattle.rrd_fixed.specs.Names.{same_name}
-use Rattle.rrd_spec.specs.Verdict.{is_double}
+use Rattle.rrd_spec.specs.Settings.{is_double}
 use Rattle.rrd_base.proofs.named.is_double.Goals as goal
 
 any_called : {A : Type 0} (called : A → Name) (name : Name) (named : List A) → list_any (same_name name) (map called named) ≡ list_any (λ other. same_name name (called other)) named

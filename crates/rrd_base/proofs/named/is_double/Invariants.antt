@@ -1,5 +1,5 @@
 use Rattle.std.proofs.Common.{◌≡◌, drop, map}
-use Rattle.rrd_spec.specs.Verdict.{is_double}
+use Rattle.rrd_spec.specs.Settings.{is_double}
 use Rattle.rrd_base.proofs.named.is_double.Given as goal
 
 abbrev pub invariant-loop-place : goal.invariant-loop-place

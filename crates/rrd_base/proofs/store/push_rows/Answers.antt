@@ -3,7 +3,7 @@ use Rattle.std.proofs.lemmas.List.{length-drop, length-replicate}
 use Rattle.rrd_fixed.specs.declared.cell.Cell.{Cell}
 use Rattle.rrd_ring.specs.Rows.{HasWidth}
 use Rattle.rrd_ring.specs.Widths.{HasWidth-append, HasWidth-drop, width_is}
-use Rattle.rrd_spec.specs.History.{keep_last}
+use Rattle.rrd_spec.specs.Listed.{keep_last}
 use Rattle.rrd_base.proofs.ManySteps.{push_before, push_past}
 use Rattle.rrd_base.proofs.store.push_rows.Goals as goal
 use Rattle.rrd_base.proofs.store.push_rows.Goals.{then-times-rows, else-times-rows}

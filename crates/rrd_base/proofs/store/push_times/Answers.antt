@@ -4,7 +4,7 @@ use Rattle.std.proofs.lemmas.Nat.{mul-le}
 use Rattle.rrd_fixed.specs.declared.cell.Cell.{Cell}
 use Rattle.rrd_ring.specs.Rows.{HasWidth}
 use Rattle.rrd_ring.specs.Widths.{HasWidth-append, HasWidth-drop, width_is}
-use Rattle.rrd_spec.specs.History.{keep_last}
+use Rattle.rrd_spec.specs.Listed.{keep_last}
 use Rattle.rrd_base.proofs.ManySteps.{push_more, push_all}
 use Rattle.rrd_spec.proofs.RowLemmas.{keep_all}
 use Rattle.rrd_base.proofs.store.push_times.Goals as goal

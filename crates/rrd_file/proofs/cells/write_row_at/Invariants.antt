@@ -1,7 +1,8 @@
 use Rattle.std.proofs.Common.{◌≡◌, ◌<◌, ℕ, [], Some, length, map, take}
 use Rattle.std.specs.Prelude.{slice_get, slice_index_or}
 use Rattle.std.specs.List.{flat_map}
-use Rattle.rrd_spec.specs.Cells.{resolution, time_of}
+use Rattle.rrd_spec.specs.Settings.{resolution}
+use Rattle.rrd_spec.specs.Cells.{time_of}
 use Rattle.rrd_spec.specs.History.{Archive}
 use Rattle.rrd_file.specs.Pieces.{OfCell, spell}
 use Rattle.rrd_file.specs.Gathered.{Adds}

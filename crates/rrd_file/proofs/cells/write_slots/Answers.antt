@@ -3,7 +3,8 @@ use Rattle.std.specs.List.{range_with_len}
 use Rattle.std.specs.Int.{w64}
 use Rattle.std.proofs.lemmas.List.FromFn.{length-range_with_len}
 use mir.Facts.{to_z-of_z}
-use Rattle.rrd_spec.specs.Cells.{resolution, time_of}
+use Rattle.rrd_spec.specs.Settings.{resolution}
+use Rattle.rrd_spec.specs.Cells.{time_of}
 use Rattle.rrd_spec.specs.Slots.{place_in, row_in}
 use Rattle.rrd_file.specs.Layout.{spelled}
 use Rattle.rrd_file.specs.Pieces.{OfCell}

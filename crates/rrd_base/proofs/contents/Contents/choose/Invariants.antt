@@ -1,6 +1,6 @@
 use Rattle.std.proofs.Common.{◌≡◌, take}
 use Rattle.rrd_spec.specs.Choice.{searched}
-use Rattle.rrd_spec.specs.Shown.{definitions}
+use Rattle.rrd_spec.specs.History.{definitions}
 use Rattle.rrd_base.proofs.contents.Contents.choose.Given as goal
 
 abbrev pub invariant-loop-number : goal.invariant-loop-number

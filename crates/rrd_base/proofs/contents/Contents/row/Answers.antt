@@ -11,8 +11,8 @@ use Rattle.rrd_fixed.specs.declared.cell.Cell.TheVariants.{Unknown}
 use Rattle.rrd_spec.specs.declared.settings.RraDef.{RraDef}
 use Rattle.rrd_spec.specs.History.{Content}
 use Rattle.rrd_base.specs.Contents.{content_of}
-use Rattle.rrd_spec.specs.Passed.{row_at, row_of_age}
-use Rattle.rrd_spec.specs.Shown.{cell_at}
+use Rattle.rrd_spec.specs.Cells.{row_at, row_of_age}
+use Rattle.rrd_spec.specs.Cells.{cell_at}
 use Rattle.rrd_spec.specs.Validity.{IsRow, IsValidArchive}
 use Rattle.rrd_spec.specs.Facts.{cell_of_archive}
 use Rattle.rrd_spec.specs.Lists.{All-at}

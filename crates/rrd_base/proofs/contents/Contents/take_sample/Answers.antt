@@ -1,7 +1,7 @@
 use Rattle.std.proofs.Common.{◌≡◌, sym, ◌∙◌, ap, subst, ◌-◌, replicate, length, arith}
 use Rattle.rrd_spec.proofs.Staying.{length-accepted}
 use Rattle.rrd_spec.specs.History.{Content, Reading, rates}
-use Rattle.rrd_spec.specs.Passed.{passed}
+use Rattle.rrd_spec.specs.Passing.{passed}
 use Rattle.rrd_spec.specs.Validity.{AreAccepted, IsValid, IsRow}
 use Rattle.rrd_base.specs.Contents.{content_of}
 use Rattle.rrd_base.proofs.Catching.{with_raws}

@@ -1,9 +1,11 @@
 use Rattle.std.proofs.Common.{◌≡◌, ◌+◌, ◌-◌, ◌*◌, ◌≤◌, length, map, drop}
 use Rattle.std.specs.List.{AllByRecursion}
-use Rattle.rrd_spec.specs.History.{Sampled, content_listed}
-use Rattle.rrd_spec.specs.Commands.{Updating, moved_listed, sample_of}
+use Rattle.rrd_spec.specs.History.{Sampled}
+use Rattle.rrd_spec.specs.Listed.{content_listed}
+use Rattle.rrd_spec.specs.Commands.{Updating, sample_of}
+use Rattle.rrd_spec.specs.Listed.{moved_listed}
 use Rattle.rrd_base.specs.Walk.{HasPlaces}
-use Rattle.rrd_spec.specs.Shown.{definitions}
+use Rattle.rrd_spec.specs.History.{definitions}
 use Rattle.rrd_spec.specs.Turns.{in_all, least_of_sample, most_of_sample}
 use Rattle.rrd_spec.specs.Updating.{template_of}
 use Rattle.rrd_spec.specs.Verdict.{sample_checks}

@@ -5,7 +5,8 @@ use Rattle.rrd_fixed.specs.declared.cell.Cell.{Cell}
 use Rattle.rrd_fold.specs.Parts.{Part, nothing, row_cell, with_each}
 use Rattle.rrd_ring.specs.Rows.{HasWidth}
 use Rattle.rrd_spec.specs.declared.settings.RraDef.{RraDef}
-use Rattle.rrd_spec.specs.History.{Archive, keep_last}
+use Rattle.rrd_spec.specs.History.{Archive}
+use Rattle.rrd_spec.specs.Listed.{keep_last}
 use Rattle.rrd_base.proofs.ManySteps.{ended_none, ended_some, filled, row_fits, taken_over, taken_within}
 use Rattle.rrd_base.proofs.Passing.{room_left}
 use Rattle.rrd_spec.proofs.Bounded.{no_parts}

@@ -7,7 +7,7 @@ use Rattle.rrd_fold.specs.declared.function.Function.TheVariants.{Last}
 use Rattle.rrd_fixed.specs.declared.name.Name.{Name}
 use Rattle.rrd_spec.specs.declared.settings.DsDef.{DsDef}
 use Rattle.rrd_spec.specs.History.{Content}
-use Rattle.rrd_spec.specs.Worked.{created, gauge, counter, archive, rows, known, nan}
+use Rattle.rrd_spec.specs.Examples.Histories.{created, gauge, counter, archive, rows, known, nan}
 use Rattle.rrd_spec.specs.declared.update.Given.{Given}
 use Rattle.rrd_spec.specs.declared.update.Sample.{Sample}
 use Rattle.rrd_spec.specs.declared.tune.Tuning.{Tuning}

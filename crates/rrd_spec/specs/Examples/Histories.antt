@@ -8,8 +8,10 @@ use Rattle.rrd_fold.specs.declared.function.Function.TheVariants.{Average, Last}
 use Rattle.rrd_spec.specs.declared.settings.DsDef.{DsDef}
 use Rattle.rrd_spec.specs.declared.settings.RraDef.{RraDef}
 use Rattle.rrd_fold.specs.Parts.{nothing}
-use Rattle.rrd_spec.specs.Passed.{row_at}
-use Rattle.rrd_spec.specs.History.{Archive, Content, Event, Sampled, Resized, content_listed}
+use Rattle.rrd_spec.specs.Cells.{row_at}
+use Rattle.rrd_spec.specs.History.{Archive, Content, Event, Sampled, Resized}
+use Rattle.rrd_spec.specs.Listed.{content_listed}
+use Rattle.rrd_spec.specs.Steps.{step}
 
 abbrev pub created : ℕ → ℕ → DsDef → List RraDef → Content
 created step start source defs = record {

@@ -5,11 +5,13 @@ use Rattle.rrd_spec.specs.declared.create.CreateSpec.{CreateSpec}
 use Rattle.rrd_spec.specs.declared.settings.DsDef.{DsDef}
 use Rattle.rrd_spec.specs.declared.settings.RraDef.{RraDef}
 use Rattle.rrd_spec.specs.declared.refusal.Refusal.TheVariants.{BadStep, NoSource, NoArchive, BadXff, BadRows, TooLarge, BadSpan, BadTime, NoArchiveForFunction, SpanTooLong}
-use Rattle.rrd_spec.specs.History.{Content, Event, Resized, content_listed}
+use Rattle.rrd_spec.specs.History.{Content, Event, Resized}
+use Rattle.rrd_spec.specs.Listed.{content_listed}
 use Rattle.rrd_spec.specs.Creating.{create_verdict, created as made}
 use Rattle.rrd_spec.specs.Cells.{horizon, row_by_time}
 use Rattle.rrd_spec.specs.Choice.{choice}
-use Rattle.rrd_spec.specs.Worked.{created, gauge, archive, at, known, nan}
+use Rattle.rrd_spec.specs.Examples.Histories.{created, gauge, archive, at, known, nan}
+use Rattle.rrd_spec.specs.Steps.{step}
 
 -- ---- new databases
 

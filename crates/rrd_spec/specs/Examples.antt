@@ -1,0 +1,4 @@
+-- Example: what the definitions compute for worked histories, commands and times.
+pub mod Histories
+pub mod Commands
+pub mod Times

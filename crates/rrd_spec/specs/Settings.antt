@@ -1,0 +1,32 @@
+-- Definition: the settings of a database, and what follows from them alone (rrdcreate).
+use Rattle.std.specs.Prelude.{ℕ, ◌*◌, List, map}
+use Rattle.rrd_spec.specs.declared.settings.RraDef.{RraDef}
+use Rattle.std.specs.Prelude.{[], ◌∷◌}
+use Rattle.rrd_fixed.specs.declared.name.Name.{Name}
+use Rattle.rrd_fixed.specs.Names.{same_name}
+use Rattle.rrd_spec.specs.declared.settings.DsDef.{DsDef}
+use Rattle.std.specs.Prelude.{Bool, false, ◌||◌, length, sum}
+use Rattle.std.specs.List.{list_any}
+
+-- the seconds in a row, steps of so many seconds making it
+abbrev pub resolution : ℕ → RraDef → ℕ
+resolution step def = step * def.steps
+
+abbrev pub names : List DsDef → List Name
+names sources = map (λ (source : DsDef). source.name) sources
+
+-- what the settings that a command can change are: those of the sources, and each archive's number of rows
+pub record Settings : Type 0 where
+  pub sources : List DsDef
+  pub rows : List ℕ
+
+abbrev pub cells : Settings → ℕ
+cells settings = length settings.sources * sum settings.rows
+
+abbrev pub has_source : List DsDef → Name → Bool
+has_source sources name = list_any (λ (source : DsDef). same_name source.name name) sources
+
+-- a name stands twice
+abbrev pub is_double : List Name → Bool
+is_double [] = false
+is_double (name ∷ names) = list_any (same_name name) names || is_double names
