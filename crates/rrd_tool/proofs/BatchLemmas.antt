@@ -3,7 +3,8 @@ use Rattle.std.proofs.Common.{◌≡◌, ◌∙◌, ◌+◌, ◌++◌, ◌∷◌
 use Rattle.std.specs.Io.KnownBytes.{Appends, Consumes, Keeps}
 use Rattle.std.proofs.KnownBytes.{Appends-trans, Consumes-trans}
 use Rattle.std.specs.Result.{is_err}
-use Rattle.rrd_tool.specs.Batch.{Answers, AppendsSome, Performs, Ran, Stopped, Told, Turn, faults_of, faults_written, line_told, state_after, text_of}
+use Rattle.rrd_tool.specs.Batch.{Answers, Ran, Stopped, Told, Turn, faults_of, faults_written, line_told, state_after, text_of}
+use Rattle.rrd_tool.specs.Moves.{AppendsSome, Performs}
 use Rattle.rrd_tool.specs.Lines.{is_empty, last_part, lines_of, whole_lines}
 use Rattle.rrd_fixed.specs.Written.{AppendsFront}
 use Rattle.rrd_fixed.specs.declared.streams.WriteFault.{WriteFault}
@@ -99,15 +100,15 @@ module _ {S : Type 0} (turn : S → Told → Turn S) where
   }
 
   -- the whole lines of bytes, and then of more
-  pub answers_more : {T : Type 0} (s0 s1 s2 : S) (n0 n1 n2 : ℕ) (a b c : Option (List ℕ)) (held xs ys : List ℕ) → Ran turn s0 s1 n0 n1 a b (whole_lines held xs)
-      → (r : Result T WriteFault) → Answers turn s1 s2 n1 n2 b c (whole_lines (last_part held xs) ys) r
-      → Answers turn s0 s2 n0 n2 a c (whole_lines held (xs ++ ys)) r
-  answers_more s0 s1 s2 n0 n1 n2 a b c held xs ys p r q =
-      rw (whole_append held xs ys) (answers_then s0 s1 s2 n0 n1 n2 a b c (whole_lines held xs) (whole_lines (last_part held xs) ys) p r q)
+  pub answers_more : {T : Type 0} (s0 s1 s2 : S) (n0 n1 n2 : ℕ) (a b c : Option (List ℕ)) (unfinished xs ys : List ℕ) → Ran turn s0 s1 n0 n1 a b (whole_lines unfinished xs)
+      → (r : Result T WriteFault) → Answers turn s1 s2 n1 n2 b c (whole_lines (last_part unfinished xs) ys) r
+      → Answers turn s0 s2 n0 n2 a c (whole_lines unfinished (xs ++ ys)) r
+  answers_more s0 s1 s2 n0 n1 n2 a b c unfinished xs ys p r q =
+      rw (whole_append unfinished xs ys) (answers_then s0 s1 s2 n0 n1 n2 a b c (whole_lines unfinished xs) (whole_lines (last_part unfinished xs) ys) p r q)
 
-  pub stopped_front : (s0 s1 : S) (n0 n1 : ℕ) (a b : Option (List ℕ)) (held xs ys : List ℕ) → Stopped turn s0 s1 n0 n1 a b (whole_lines held xs)
-      → Stopped turn s0 s1 n0 n1 a b (whole_lines held (xs ++ ys))
-  stopped_front s0 s1 n0 n1 a b held xs ys p = rw (whole_append held xs ys) (stopped_more s0 s1 n0 n1 a b (whole_lines held xs) (whole_lines (last_part held xs) ys) p)
+  pub stopped_front : (s0 s1 : S) (n0 n1 : ℕ) (a b : Option (List ℕ)) (unfinished xs ys : List ℕ) → Stopped turn s0 s1 n0 n1 a b (whole_lines unfinished xs)
+      → Stopped turn s0 s1 n0 n1 a b (whole_lines unfinished (xs ++ ys))
+  stopped_front s0 s1 n0 n1 a b unfinished xs ys p = rw (whole_append unfinished xs ys) (stopped_more s0 s1 n0 n1 a b (whole_lines unfinished xs) (whole_lines (last_part unfinished xs) ys) p)
 
   module _ (s0 s1 s2 : S) (n0 n1 n2 : ℕ) (r0 r1 r2 c0 c1 c2 : Option (List ℕ)) (seen more : List ℕ) (took : Consumes r0 r1 seen) (takes : Consumes r1 r2 more)
       (p : Ran turn s0 s1 n0 n1 c0 c1 (whole_lines [] seen)) where

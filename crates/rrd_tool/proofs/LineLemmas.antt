@@ -5,7 +5,7 @@ use Rattle.std.proofs.lemmas.Bool.{cases_Bool}
 use Rattle.std.proofs.lemmas.Bool.Decides.{nat_tests}
 use Rattle.std.specs.List.{list_all}
 use Rattle.rrd_tool.specs.Lines.{is_empty, is_plain, is_text, last_part, whole_lines, without_cr}
-use Rattle.rrd_tool.specs.Held.{HoldsBy, IsLost}
+use Rattle.rrd_tool.specs.Buffered.{BuffersBy, IsLost}
 use Rattle.rrd_tool.specs.declared.lines.Ending.{Ending}
 use Rattle.rrd_tool.specs.declared.lines.Ending.TheVariants.{Plain, Cr, Lost}
 
@@ -82,10 +82,10 @@ pub text_whole : (bytes : List ℕ) → list_all is_plain bytes ≡ true → len
 text_whole bytes h k = rw h (grind (arith, nat_tests))
 
 -- what a line of text is
-pub cr_text : (bytes line : List ℕ) → HoldsBy Cr bytes line → without_cr line ≡ bytes
+pub cr_text : (bytes line : List ℕ) → BuffersBy Cr bytes line → without_cr line ≡ bytes
 cr_text bytes line h = ap without_cr h.0 ∙ cr_past bytes 13 [] ∙ append-nil bytes
 
-pub plain_text : (bytes line : List ℕ) → HoldsBy Plain bytes line → without_cr line ≡ bytes
+pub plain_text : (bytes line : List ℕ) → BuffersBy Plain bytes line → without_cr line ≡ bytes
 plain_text bytes line h = ap without_cr h.0 ∙ plain_whole bytes h.1
 
 pub lost_some : (line : List ℕ) → IsLost line → is_empty line ≡ false
@@ -96,7 +96,7 @@ none_cr : (bytes : List ℕ) → is_empty (bytes ++ 13 ∷ []) ≡ false
 none_cr [] = refl
 none_cr (b ∷ bytes) = refl
 
-pub cr_some : (bytes line : List ℕ) → HoldsBy Cr bytes line → is_empty line ≡ false
+pub cr_some : (bytes line : List ℕ) → BuffersBy Cr bytes line → is_empty line ≡ false
 cr_some bytes line h = ap is_empty h.0 ∙ none_cr bytes
 
 none_length : (bytes : List ℕ) → is_empty bytes ≡ nat_eq (length bytes) 0
@@ -104,50 +104,50 @@ none_length [] = refl
 none_length (b ∷ bytes) = grind (arith, nat_tests)
 
 -- what is lost is no text
-pub lost_ended : (held : List ℕ) → IsLost held → is_text (without_cr held) ≡ false
-lost_ended held h = ap (λ l. is_text (without_cr l)) (sym (append-nil held)) ∙ h []
+pub lost_ended : (unfinished : List ℕ) → IsLost unfinished → is_text (without_cr unfinished) ≡ false
+lost_ended unfinished h = ap (λ l. is_text (without_cr l)) (sym (append-nil unfinished)) ∙ h []
 
 -- nor is it with the CR that may stand at its end
-pub lost_cut : (held : List ℕ) → IsLost held → is_text held ≡ false
-lost_cut held h = ⊎_elim
-    (λ (is : is_text held ≡ true). ap is_text (sym (plain_whole held (both (nat_le (length held) 65536) (list_all is_plain held) is).1)) ∙ lost_ended held h)
-    (λ (no : is_text held ≡ false). no)
-    (cases_Bool (is_text held))
+pub lost_cut : (unfinished : List ℕ) → IsLost unfinished → is_text unfinished ≡ false
+lost_cut unfinished h = ⊎_elim
+    (λ (is : is_text unfinished ≡ true). ap is_text (sym (plain_whole unfinished (both (nat_le (length unfinished) 65536) (list_all is_plain unfinished) is).1)) ∙ lost_ended unfinished h)
+    (λ (no : is_text unfinished ≡ false). no)
+    (cases_Bool (is_text unfinished))
 
 -- a line that ends in CR is no text
-pub cr_cut : (bytes held : List ℕ) → HoldsBy Cr bytes held → is_text held ≡ false
-cr_cut bytes held h = ap is_text h.0 ∙ not_text bytes (13 ∷ []) refl
+pub cr_cut : (bytes unfinished : List ℕ) → BuffersBy Cr bytes unfinished → is_text unfinished ≡ false
+cr_cut bytes unfinished h = ap is_text h.0 ∙ not_text bytes (13 ∷ []) refl
 
 -- ---- what an unfinished line has come to
 
-pub cut_none : (ending : Ending) (bytes held : List ℕ) → (ending ≡ Lost) ⊎ (ending ≡ Cr) → HoldsBy ending bytes held → is_text held ≡ false
-cut_none ending bytes held (inl lost) h = lost_cut held (rw lost at h)
-cut_none ending bytes held (inr cr) h = cr_cut bytes held (rw cr at h)
+pub cut_none : (ending : Ending) (bytes unfinished : List ℕ) → (ending ≡ Lost) ⊎ (ending ≡ Cr) → BuffersBy ending bytes unfinished → is_text unfinished ≡ false
+cut_none ending bytes unfinished (inl lost) h = lost_cut unfinished (rw lost at h)
+cut_none ending bytes unfinished (inr cr) h = cr_cut bytes unfinished (rw cr at h)
 
-pub some_held : (ending : Ending) (bytes held : List ℕ) → (ending ≡ Lost) ⊎ (ending ≡ Cr) → HoldsBy ending bytes held → is_empty held ≡ false
-some_held ending bytes held (inl lost) h = lost_some held (rw lost at h)
-some_held ending bytes held (inr cr) h = cr_some bytes held (rw cr at h)
+pub some_held : (ending : Ending) (bytes unfinished : List ℕ) → (ending ≡ Lost) ⊎ (ending ≡ Cr) → BuffersBy ending bytes unfinished → is_empty unfinished ≡ false
+some_held ending bytes unfinished (inl lost) h = lost_some unfinished (rw lost at h)
+some_held ending bytes unfinished (inr cr) h = cr_some bytes unfinished (rw cr at h)
 
-pub kept_text : (ending : Ending) (bytes held : List ℕ) → (ending ≡ Plain) ⊎ (ending ≡ Cr) → HoldsBy ending bytes held → (without_cr held ≡ bytes) × (is_text bytes ≡ true)
-kept_text ending bytes held (inl plain) h = let k = rw plain at h in (plain_text bytes held k, text_whole bytes k.1 k.2)
-kept_text ending bytes held (inr cr) h = let k = rw cr at h in (cr_text bytes held k, text_whole bytes k.1 k.2)
+pub kept_text : (ending : Ending) (bytes unfinished : List ℕ) → (ending ≡ Plain) ⊎ (ending ≡ Cr) → BuffersBy ending bytes unfinished → (without_cr unfinished ≡ bytes) × (is_text bytes ≡ true)
+kept_text ending bytes unfinished (inl plain) h = let k = rw plain at h in (plain_text bytes unfinished k, text_whole bytes k.1 k.2)
+kept_text ending bytes unfinished (inr cr) h = let k = rw cr at h in (cr_text bytes unfinished k, text_whole bytes k.1 k.2)
 
 -- ---- the lines of bytes that come one after another
 
-pub whole_append : (held xs ys : List ℕ) → whole_lines held (xs ++ ys) ≡ whole_lines held xs ++ whole_lines (last_part held xs) ys
-whole_append held [] ys = refl
-whole_append held (x ∷ xs) ys = elim (nat_eq x 10) as
-    (λ v. (if v then without_cr held ∷ whole_lines [] (xs ++ ys) else whole_lines (held ++ x ∷ []) (xs ++ ys))
-    ≡ (if v then without_cr held ∷ whole_lines [] xs else whole_lines (held ++ x ∷ []) xs)
-    ++ whole_lines (if v then last_part [] xs else last_part (held ++ x ∷ []) xs) ys)
-    [ true ↦ ap (λ l. without_cr held ∷ l) (whole_append [] xs ys) | false ↦ whole_append (held ++ x ∷ []) xs ys ]
+pub whole_append : (unfinished xs ys : List ℕ) → whole_lines unfinished (xs ++ ys) ≡ whole_lines unfinished xs ++ whole_lines (last_part unfinished xs) ys
+whole_append unfinished [] ys = refl
+whole_append unfinished (x ∷ xs) ys = elim (nat_eq x 10) as
+    (λ v. (if v then without_cr unfinished ∷ whole_lines [] (xs ++ ys) else whole_lines (unfinished ++ x ∷ []) (xs ++ ys))
+    ≡ (if v then without_cr unfinished ∷ whole_lines [] xs else whole_lines (unfinished ++ x ∷ []) xs)
+    ++ whole_lines (if v then last_part [] xs else last_part (unfinished ++ x ∷ []) xs) ys)
+    [ true ↦ ap (λ l. without_cr unfinished ∷ l) (whole_append [] xs ys) | false ↦ whole_append (unfinished ++ x ∷ []) xs ys ]
 
-pub part_append : (held xs ys : List ℕ) → last_part held (xs ++ ys) ≡ last_part (last_part held xs) ys
-part_append held [] ys = refl
-part_append held (x ∷ xs) ys = elim (nat_eq x 10) as
-    (λ v. (if v then last_part [] (xs ++ ys) else last_part (held ++ x ∷ []) (xs ++ ys))
-    ≡ last_part (if v then last_part [] xs else last_part (held ++ x ∷ []) xs) ys)
-    [ true ↦ part_append [] xs ys | false ↦ part_append (held ++ x ∷ []) xs ys ]
+pub part_append : (unfinished xs ys : List ℕ) → last_part unfinished (xs ++ ys) ≡ last_part (last_part unfinished xs) ys
+part_append unfinished [] ys = refl
+part_append unfinished (x ∷ xs) ys = elim (nat_eq x 10) as
+    (λ v. (if v then last_part [] (xs ++ ys) else last_part (unfinished ++ x ∷ []) (xs ++ ys))
+    ≡ last_part (if v then last_part [] xs else last_part (unfinished ++ x ∷ []) xs) ys)
+    [ true ↦ part_append [] xs ys | false ↦ part_append (unfinished ++ x ∷ []) xs ys ]
 
 pub at_ok : {T E P : Type 0} (r : Result T E) → is_err r ≡ false → OnOk r P → P
 at_ok (Ok x) e p = p

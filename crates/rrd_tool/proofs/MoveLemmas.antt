@@ -16,15 +16,15 @@ MovesRan now b0 b1 n0 n1 c0 c1 lines = (s0 : Option State) → StandsFor b0 s0 �
 abbrev pub MovesStopped : ℕ → Option Stored → Option Stored → ℕ → ℕ → Option (List ℕ) → Option (List ℕ) → List (List ℕ) → Type 0
 MovesStopped now b0 b1 n0 n1 c0 c1 lines = (s0 : Option State) → StandsFor b0 s0 → (s1 : Option State) × StandsFor b1 s1 × Stopped (turn now) s0 s1 n0 n1 c0 c1 lines
 
-pub moves_more : {T : Type 0} (now : ℕ) (b0 b1 b2 : Option Stored) (n0 n1 n2 : ℕ) (a b c : Option (List ℕ)) (held xs ys : List ℕ) → MovesRan now b0 b1 n0 n1 a b (whole_lines held xs)
-    → (r : Result T WriteFault) → Moves now b1 b2 n1 n2 b c (whole_lines (last_part held xs) ys) r → Moves now b0 b2 n0 n2 a c (whole_lines held (xs ++ ys)) r
-moves_more now b0 b1 b2 n0 n1 n2 a b c held xs ys f r k s0 s =
+pub moves_more : {T : Type 0} (now : ℕ) (b0 b1 b2 : Option Stored) (n0 n1 n2 : ℕ) (a b c : Option (List ℕ)) (unfinished xs ys : List ℕ) → MovesRan now b0 b1 n0 n1 a b (whole_lines unfinished xs)
+    → (r : Result T WriteFault) → Moves now b1 b2 n1 n2 b c (whole_lines (last_part unfinished xs) ys) r → Moves now b0 b2 n0 n2 a c (whole_lines unfinished (xs ++ ys)) r
+moves_more now b0 b1 b2 n0 n1 n2 a b c unfinished xs ys f r k s0 s =
     let p = f s0 s in
     let q = k p.0 p.1 in
-    (q.0, q.1, answers_more (turn now) s0 p.0 q.0 n0 n1 n2 a b c held xs ys p.2 r q.2)
+    (q.0, q.1, answers_more (turn now) s0 p.0 q.0 n0 n1 n2 a b c unfinished xs ys p.2 r q.2)
 
-pub moves_front : (now : ℕ) (b0 b1 : Option Stored) (n0 n1 : ℕ) (a b : Option (List ℕ)) (held xs ys : List ℕ) → MovesStopped now b0 b1 n0 n1 a b (whole_lines held xs)
-    → MovesStopped now b0 b1 n0 n1 a b (whole_lines held (xs ++ ys))
-moves_front now b0 b1 n0 n1 a b held xs ys f s0 s =
+pub moves_front : (now : ℕ) (b0 b1 : Option Stored) (n0 n1 : ℕ) (a b : Option (List ℕ)) (unfinished xs ys : List ℕ) → MovesStopped now b0 b1 n0 n1 a b (whole_lines unfinished xs)
+    → MovesStopped now b0 b1 n0 n1 a b (whole_lines unfinished (xs ++ ys))
+moves_front now b0 b1 n0 n1 a b unfinished xs ys f s0 s =
     let p = f s0 s in
-    (p.0, p.1, stopped_front (turn now) s0 p.0 n0 n1 a b held xs ys p.2)
+    (p.0, p.1, stopped_front (turn now) s0 p.0 n0 n1 a b unfinished xs ys p.2)

@@ -1,7 +1,7 @@
 -- What a proof unfolds to compute with the shapes of all commands.
 use Rattle.std.specs.Prelude.{⊤}
 use Rattle.clap.proofs.OnLiterals.{clap_on_literals}
-use Rattle.rrd_tool.specs.Commands.{rrdi_app, with_options}
+use Rattle.rrd_tool.specs.Commands.{rrdi_app}
 use Rattle.rrd_tool.specs.Commands.Create.{create_app}
 use Rattle.rrd_tool.specs.Commands.Fetch.{fetch_app}
 use Rattle.rrd_tool.specs.Commands.Last.{last_app}
@@ -11,5 +11,5 @@ use Rattle.rrd_tool.specs.Commands.Tune.{tune_app}
 use Rattle.rrd_tool.specs.Commands.Update.{update_app}
 
 unfoldable pub shapes_on_literals : ⊤
-unfolding rrdi_app with_options create_app update_app fetch_app tune_app resize_app last_app revert_app clap_on_literals
+unfolding rrdi_app create_app update_app fetch_app tune_app resize_app last_app revert_app clap_on_literals
 shapes_on_literals = tt

@@ -13,14 +13,16 @@ use Rattle.rrd_spec.specs.Verdict.{verdict}
 use Rattle.rrd_spec.specs.Laws.{ActsOn, Begins}
 use Rattle.clap.specs.Words.{fault_of}
 use Rattle.rrd_fixed.specs.Writing.{Appends-kept}
-use Rattle.rrd_tool.specs.Batch.{Performs, Turn}
-use Rattle.rrd_tool.specs.Effects.{Effect, Makes, Changes, Reverts, Shows, StandsFor, begun, is_change, kept_next, kept_of, next, revert_verdict, text_on, verdict_on}
-use Rattle.rrd_tool.specs.Executed.{Comes, IsFault, PrintsBy}
+use Rattle.rrd_tool.specs.Batch.{Turn}
+use Rattle.rrd_tool.specs.Effects.{Effect, Makes, Changes, Reverts, Shows, StandsFor, is_change, kept_next, kept_of, next, revert_verdict, text_on, verdict_on, first_state}
+use Rattle.rrd_tool.specs.Executed.{Comes, IsFault}
+use Rattle.rrd_tool.specs.Moves.{Performs}
+use Rattle.rrd_tool.specs.Prints.{PrintsBy}
 use Rattle.rrd_tool.specs.Faults.{fault_line}
 use Rattle.rrd_tool.specs.Lines.{is_empty, text_in, words_of}
 use Rattle.rrd_tool.specs.Moves.{Asks, line_turns}
 use Rattle.rrd_tool.specs.Reading.{IsReading}
-use Rattle.rrd_tool.specs.Run.{command_of, effect_turn, reading_turn, refused, text_turn, turn, unless_short, words_turn}
+use Rattle.rrd_tool.specs.Run.{command_of, effect_turn, reading_turn, refusal_turn, text_turn, turn, unless_short, words_turn}
 use Rattle.rrd_tool.specs.Commands.{rrdi_app}
 use Rattle.rrd_tool.specs.declared.commands.Command.{Command}
 use Rattle.rrd_tool.specs.declared.faults.LineFault.{LineFault}
@@ -55,7 +57,7 @@ comes_as verdict text effect Moved Moved' Same Same' c0 c1 changed (Some NoDatab
 
 -- by the laws of new databases, of those that begin a run, and of one action
 module _ (created_is_valid : (spec : CreateSpec) → CreatedIsValid spec) (database_begins : (base : Content) (brought : List Entry) → Begins base brought) (action_goes_on : (state : State) (kept : Stored) (action : Action) → ActsOn state kept action) where
-  created_stands : (spec : CreateSpec) → create_verdict spec ≡ None → Stands (begun (created spec)) (record { content = created spec; journal = [] })
+  created_stands : (spec : CreateSpec) → create_verdict spec ≡ None → Stands (first_state (created spec)) (record { content = created spec; journal = [] })
   created_stands spec h = database_begins (created spec) [] (record { content_is = created_is_valid spec h; journal_is = tt; few = omega arith })
 
   -- what is accepted keeps it so
@@ -117,7 +119,7 @@ module _ (state : Option State) (effect : Effect) (kept1 : Option Stored) (c0 c1
   fault_performs : (fault : Fault) → IsFault (verdict_on (option_map kept_of state) effect) effect fault → StandsFor kept1 state → Keeps c0 c1 → Performed c1 (Ok (Some fault))
   fault_performs fault h s k = elim h [
     | inl e ↦ (state, s, (false, rw e refl, k))
-    | inr short ↦ (state, s, (true, ap (λ (f : Fault). refused state f) (sym short.1), k))
+    | inr short ↦ (state, s, (true, ap (λ (f : Fault). refusal_turn state f) (sym short.1), k))
   ]
 
   -- it was refused

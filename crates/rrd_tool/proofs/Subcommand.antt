@@ -17,7 +17,7 @@ use Rattle.rrd_tool.specs.Commands.{rrdi_app}
 use Rattle.rrd_tool.specs.Parsed.{IsTaken, entered_of}
 use Rattle.rrd_tool.specs.Reading.{IsReading}
 use Rattle.rrd_tool.specs.Commands.{line_of}
-use Rattle.rrd_tool.specs.Unread.{Meets}
+use Rattle.rrd_tool.specs.Meets.{Meets}
 use Rattle.rrd_tool.specs.declared.commands.Command.{Command}
 use Rattle.rrd_tool.specs.declared.faults.LineFault.{LineFault}
 use Rattle.rrd_tool.specs.declared.faults.LineFault.TheVariants.{Usage, BadWord, OutOfMemory}

@@ -11,7 +11,7 @@ use Rattle.clap.specs.Simple.{built, entered, names_of}
 use Rattle.clap.specs.declared.error.kind.ErrorKind.TheVariants.{UnknownArgument, InvalidSubcommand}
 use Rattle.rrd_tool.proofs.OnLiterals.{shapes_on_literals}
 use Rattle.rrd_tool.specs.Serves.{IsRefused, begins_with_minus}
-use Rattle.rrd_tool.specs.Commands.{rrdi_app, with_options}
+use Rattle.rrd_tool.specs.Commands.{rrdi_app}
 
 abbrev stray : Kinds
 stray = UnknownArgument ∷ InvalidSubcommand ∷ []
@@ -79,7 +79,7 @@ unfolding shapes_on_literals
 rrdi_leaf = refl
 
 rrdi_words : (words : List Text) → fault_of rrdi_app words ≡ built_fault (built rrdi_app) nothing_held words
-unfolding rrdi_app with_options
+unfolding rrdi_app
 rrdi_words words = refl
 
 pub unknown_refused : (word : Text) (rest : List Text) → begins_with_minus word ≡ false

@@ -1,9 +1,7 @@
 -- Definition: the arguments of a command, as clap takes them.
-use Rattle.std.specs.Prelude.{◌≡◌, ℕ, List, [], Some, true, false, codes, unwrap_or}
-use Rattle.clap.specs.Words.{App, Row, Rule, Text, all_of, app_of, new_app, new_rule}
+use Rattle.std.specs.Prelude.{ℕ, List, [], Some, true, codes, unwrap_or}
+use Rattle.clap.specs.Words.{App, Row, Rule, Text, all_of, new_app, new_rule}
 use Rattle.clap.specs.declared.builder.action.ArgAction.TheVariants.{Append}
-use Rattle.clap.specs.declared.builder.command.Command.{Command}
-use Rattle.clap.specs.declared.builder.command.Command.TheViews.{out-Command}
 
 -- `--long VALUE`
 abbrev pub option_rule : Text → Text → Rule
@@ -29,10 +27,6 @@ bare_top = record (new_app (codes "rrdi")) {
     disable_help_subcommand = true;
   };
 }
-
--- the command has this shape, and no argument of it is seen by other commands
-abbrev pub HasApp : App → Command → Type 0
-HasApp a c = (app_of c ≡ a) × ((out-Command c).has_globals ≡ false)
 
 -- the values of an argument that any number of words may have
 abbrev pub words_of : Text → List Row → List Text

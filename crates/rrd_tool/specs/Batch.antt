@@ -1,6 +1,6 @@
--- A run over lines, each of which may be answered with want of memory (own).
-use Rattle.std.specs.Prelude.{◌≡◌, ◌+◌, ◌++◌, ◌∷◌, ◌&&◌, [], ℕ, Bool, List, Option, Some, None, Result, Ok, Err, map, true, false, if◌then◌else◌}
-use Rattle.std.specs.Io.KnownBytes.{Appends, Keeps}
+-- Definition: a run over lines, each of which may be answered with want of memory (own).
+use Rattle.std.specs.Prelude.{◌≡◌, ◌+◌, ◌++◌, ◌∷◌, ◌&&◌, [], ℕ, Bool, List, Option, Result, Ok, Err, map, if◌then◌else◌}
+use Rattle.std.specs.Io.KnownBytes.{Appends}
 use Rattle.rrd_fixed.specs.declared.streams.WriteFault.{WriteFault}
 use Rattle.rrd_tool.specs.Lines.{is_empty}
 
@@ -17,10 +17,6 @@ pub record Turn (S : Type 0) : Type 0 where
 
 abbrev pub line_told : Told → List ℕ
 line_told told = told.line
-
--- a front of the text was written, or all of it
-abbrev pub AppendsSome : Option (List ℕ) → Option (List ℕ) → List ℕ → Type 0
-AppendsSome old new text = (front : List ℕ) × (unwritten : List ℕ) × (text ≡ front ++ unwritten) × Appends old new front
 
 -- how many fault lines a text is, written but for this rest: one if it is a fault's and none of it is left
 abbrev pub faults_written : Bool → List ℕ → ℕ
@@ -47,8 +43,8 @@ module _ {S : Type 0} (turn : S → Told → Turn S) where
     pub faults : n1 ≡ n0 + faults_of s0 told
     pub text : Appends c0 c1 (text_of s0 told)
 
-  -- some of the lines were run, and then writing the next one's text, or handing it on, failed: a front of it is there. The line of a fault counts
-  -- where it was written whole
+  -- some of the lines were run, and then writing the next one's text, or handing it on, failed: a front of it is
+  -- there. The line of a fault counts where it was written whole
   pub record Stopped (s0 s1 : S) (n0 n1 : ℕ) (c0 c1 : Option (List ℕ)) (lines : List (List ℕ)) : Type 0 where
     pub told : List Told
     pub last : Told
@@ -61,13 +57,7 @@ module _ {S : Type 0} (turn : S → Told → Turn S) where
     pub front_is : (turn (state_after s0 told) last).text ≡ front ++ unwritten
     pub text : Appends c0 c1 (text_of s0 told ++ front)
 
-  abbrev pub Answers : {T : Type 0} → S → S → ℕ → ℕ → Option (List ℕ) → Option (List ℕ) → List (List ℕ) → Result T WriteFault → Type 0
+  abbrev pub Answers : {T : Type 0} → S → S → ℕ → ℕ → Option (List ℕ) → Option (List ℕ) → List (List ℕ)
+      → Result T WriteFault → Type 0
   Answers s0 s1 n0 n1 c0 c1 lines (Ok x) = Ran s0 s1 n0 n1 c0 c1 lines
   Answers s0 s1 n0 n1 c0 c1 lines (Err e) = Stopped s0 s1 n0 n1 c0 c1 lines
-
--- what performing a line answers, whose turn depends on whether memory was wanting: its text is written, or a fault is
--- answered and nothing written; where writing or handing on failed a front of the text is there
-abbrev pub Performs : {S F : Type 0} → (F → List ℕ) → (Bool → Turn S) → S → Option (List ℕ) → Option (List ℕ) → Result (Option F) WriteFault → Type 0
-Performs fault_line turn state c0 c1 (Ok None) = (text : List ℕ) × (turn false ≡ record { state = state; text = text; is_fault = false }) × Appends c0 c1 text
-Performs fault_line turn state c0 c1 (Ok (Some fault)) = (is_short : Bool) × (turn is_short ≡ record { state = state; text = fault_line fault; is_fault = true }) × Keeps c0 c1
-Performs fault_line turn state c0 c1 (Err e) = (text : List ℕ) × (turn false ≡ record { state = state; text = text; is_fault = false }) × AppendsSome c0 c1 text

@@ -1,4 +1,4 @@
--- What a fetch may read.
+-- Glue: what a fetch may read.
 use Rattle.std.specs.Prelude.{◌<◌, ◌≤◌, length}
 use Rattle.rrd_spec.specs.declared.fetch.Chosen.{Chosen}
 use Rattle.rrd_spec.specs.History.{Content}

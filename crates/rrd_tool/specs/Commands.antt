@@ -11,7 +11,7 @@ use Rattle.rrd_tool.specs.Commands.Create.{create_app, create_of}
 use Rattle.rrd_tool.specs.Commands.Update.{update_app, update_of}
 use Rattle.rrd_tool.specs.Commands.Tune.{tune_app, tune_of}
 use Rattle.rrd_tool.specs.Commands.Resize.{resize_app, resize_of}
-use Rattle.rrd_tool.specs.Commands.Fetch.{fetch_app, fetch_of, fetched}
+use Rattle.rrd_tool.specs.Commands.Fetch.{fetch_app, fetch_of, fetch_answer}
 use Rattle.rrd_tool.specs.Commands.Last.{last_app, last_text}
 use Rattle.rrd_tool.specs.Commands.Revert.{revert_app}
 use Rattle.rrd_tool.specs.declared.commands.Command.{Command}
@@ -24,14 +24,17 @@ pub mod Fetch
 pub mod Last
 pub mod Revert
 
--- the commands that have arguments
-unfoldable pub with_options : App
-with_options = with_subcommand (with_subcommand (with_subcommand (with_subcommand (with_subcommand bare_top
-    create_app.top) update_app.top) fetch_app.top) tune_app.top) resize_app.top
-
--- all of them
+-- all commands
 unfoldable pub rrdi_app : App
-rrdi_app = with_subcommand (with_subcommand with_options last_app.top) revert_app.top
+rrdi_app = with_subcommand (with_subcommand (with_subcommand (with_subcommand (with_subcommand (with_subcommand
+    (with_subcommand bare_top
+    create_app.top)
+    update_app.top)
+    fetch_app.top)
+    tune_app.top)
+    resize_app.top)
+    last_app.top)
+    revert_app.top
 
 -- the command of this name, which is one of the above, with these values
 abbrev pub line_of : Text → List Row → ℕ → Result Command Unread
@@ -49,6 +52,6 @@ effect (command.Create spec) = Makes spec
 effect (command.Update update) = Changes (Updating update)
 effect (command.Tune tuning) = Changes (TuningBy tuning)
 effect (command.Resize index change rows) = Changes (Resizing index change rows)
-effect (command.Fetch function asked start stop) = Shows (λ content. fetched content function asked start stop)
+effect (command.Fetch function asked start stop) = Shows (λ content. fetch_answer content function asked start stop)
 effect command.Last = Shows last_text
 effect command.Revert = Reverts

@@ -74,12 +74,12 @@ abbrev pub kept_of : State → Stored
 kept_of state = record { content = survived state.base state.survivors; journal = journal_of state }
 
 -- a new base: nothing survives on it yet
-abbrev pub begun : Content → State
-begun base = record { base = base; brought = []; survivors = []; revertible = 0 }
+abbrev pub first_state : Content → State
+first_state base = record { base = base; brought = []; survivors = []; revertible = 0 }
 
 -- the state after it, where it is accepted
 abbrev pub next : Option State → Effect → Option State
-next state (Makes spec) = Some (begun (created spec))
+next state (Makes spec) = Some (first_state (created spec))
 next state (Changes command) = option_map (λ (s : State). after s (Changed command)) state
 next state Reverts = option_map (λ (s : State). after s Reverted) state
 next state (Shows show) = state

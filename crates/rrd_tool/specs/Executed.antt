@@ -33,17 +33,6 @@ Comes verdict text effect Moved Same c0 c1 changed (Some (Refused fault)) =
 Comes verdict text effect Moved Same c0 c1 changed (Some NoDatabase) =
     IsFault verdict effect NoDatabase × Same × (changed ≡ false) × Keeps c0 c1
 
--- a text was printed, or a front of it where a write failed
-abbrev pub PrintsBy : Option (List ℕ) → Option (List ℕ) → List ℕ → Option Fault → Type 0
-PrintsBy c0 c1 text None = Appends c0 c1 text
-PrintsBy c0 c1 text (Some Output) = AppendsFront c0 c1 text
-PrintsBy c0 c1 text (Some (Line fault)) = ⊥
-PrintsBy c0 c1 text (Some (Refused fault)) = ⊥
-PrintsBy c0 c1 text (Some NoDatabase) = ⊥
-
-abbrev pub Prints : Stored → Option (List ℕ) → Option (List ℕ) → List ℕ → Outcome → Type 0
-Prints kept c0 c1 text outcome = (outcome.database ≡ Some kept) × (outcome.changed ≡ false) × PrintsBy c0 c1 text outcome.fault
-
 -- a command of this effect over a database of this content and journal
 abbrev pub Affects : Option Stored → Effect → Option (List ℕ) → Option (List ℕ) → Outcome → Type 0
 Affects kept effect c0 c1 outcome =

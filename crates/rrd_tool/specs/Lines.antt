@@ -1,4 +1,4 @@
--- The lines of an input, and the words of a line (own; rrdtool reads such lines by its command `-`).
+-- Definition: the lines of an input, and the words of a line (own; rrdtool reads such lines by its command `-`).
 use Rattle.std.specs.Prelude.{◌==◌, ◌&&◌, ◌||◌, ◌++◌, ◌∷◌, [], ℕ, Bool, List, Option, Some, None, length, if◌then◌else◌, nat_le, true, false}
 use Rattle.std.specs.List.{list_all}
 
@@ -8,15 +8,16 @@ without_cr [] = []
 without_cr (b ∷ []) = if b == 13 then [] else b ∷ []
 without_cr (b ∷ c ∷ bs) = b ∷ without_cr (c ∷ bs)
 
--- the lines that LF ends, without their ends, where the first one's bytes `held` came before
+-- the lines that LF ends, without their ends, where the first one's bytes `unfinished` came before
 abbrev pub whole_lines : List ℕ → List ℕ → List (List ℕ)
-whole_lines held [] = []
-whole_lines held (b ∷ bs) = if b == 10 then without_cr held ∷ whole_lines [] bs else whole_lines (held ++ b ∷ []) bs
+whole_lines unfinished [] = []
+whole_lines unfinished (b ∷ bs) =
+    if b == 10 then without_cr unfinished ∷ whole_lines [] bs else whole_lines (unfinished ++ b ∷ []) bs
 
 -- the bytes after the last LF
 abbrev pub last_part : List ℕ → List ℕ → List ℕ
-last_part held [] = held
-last_part held (b ∷ bs) = if b == 10 then last_part [] bs else last_part (held ++ b ∷ []) bs
+last_part unfinished [] = unfinished
+last_part unfinished (b ∷ bs) = if b == 10 then last_part [] bs else last_part (unfinished ++ b ∷ []) bs
 
 abbrev pub is_empty : {A : Type 0} → List A → Bool
 is_empty [] = true
@@ -46,10 +47,11 @@ text_in line = if is_text line then Some line else None
 abbrev pub is_blank : ℕ → Bool
 is_blank b = b == 32 || b == 9
 
--- the words of a text, which blanks part, where the first one's bytes `begun` came before
+-- the words of a text, which blanks part, where the first one's bytes `unfinished` came before
 abbrev pub words_after : List ℕ → List ℕ → List (List ℕ)
-words_after begun [] = if_some begun
-words_after begun (b ∷ bs) = if is_blank b then if_some begun ++ words_after [] bs else words_after (begun ++ b ∷ []) bs
+words_after unfinished [] = if_some unfinished
+words_after unfinished (b ∷ bs) =
+    if is_blank b then if_some unfinished ++ words_after [] bs else words_after (unfinished ++ b ∷ []) bs
 
 abbrev pub words_of : List ℕ → List (List ℕ)
 words_of text = words_after [] text

@@ -32,27 +32,27 @@ unfoldable pub command_of : List (List ℕ) → ℕ → Result Command LineFault
 command_of words now = if is_empty (fault_of rrdi_app words) then read_as (reading words now) else Err Usage
 
 -- a refused line leaves the state, and its fault's line is written
-abbrev pub refused : Option State → Fault → Turn (Option State)
-refused state fault = record { state = state; text = fault_line fault; is_fault = true }
+abbrev pub refusal_turn : Option State → Fault → Turn (Option State)
+refusal_turn state fault = record { state = state; text = fault_line fault; is_fault = true }
 
-abbrev pub decided : Option State → Effect → Option Fault → Turn (Option State)
-decided state effect (Some fault) = refused state fault
-decided state effect None =
+abbrev pub verdict_turn : Option State → Effect → Option Fault → Turn (Option State)
+verdict_turn state effect (Some fault) = refusal_turn state fault
+verdict_turn state effect None =
     record { state = next state effect; text = text_on (option_map kept_of state) effect; is_fault = false }
 
 abbrev pub effect_turn : Option State → Effect → Turn (Option State)
-effect_turn state effect = decided state effect (verdict_on (option_map kept_of state) effect)
+effect_turn state effect = verdict_turn state effect (verdict_on (option_map kept_of state) effect)
 
 abbrev pub command_turn : Option State → Command → Turn (Option State)
 command_turn state command = effect_turn state (effect command)
 
 abbrev pub reading_turn : Option State → Result Command LineFault → Turn (Option State)
 reading_turn state (Ok command) = command_turn state command
-reading_turn state (Err fault) = refused state (Line fault)
+reading_turn state (Err fault) = refusal_turn state (Line fault)
 
 -- what was asked, or want of memory
 abbrev pub unless_short : Option State → Turn (Option State) → Bool → Turn (Option State)
-unless_short state asked true = refused state (Line OutOfMemory)
+unless_short state asked true = refusal_turn state (Line OutOfMemory)
 unless_short state asked false = asked
 
 -- a line without words is skipped. Any other may be answered with want of memory
@@ -63,7 +63,7 @@ words_turn now state (word ∷ words) is_short =
 
 -- a line that is no text is no command, also if it has no words
 abbrev pub text_turn : ℕ → Option State → Option (List ℕ) → Bool → Turn (Option State)
-text_turn now state None is_short = refused state (Line Usage)
+text_turn now state None is_short = refusal_turn state (Line Usage)
 text_turn now state (Some text) is_short = words_turn now state (words_of text) is_short
 
 -- what a line comes to, `now` being the present time

@@ -1,9 +1,18 @@
--- A command that reads words as the whole one does.
-use Rattle.std.specs.Prelude.{◌≡◌, ◌==◌, Bool, List, [], ◌∷◌, Option, MatchOption, true, false}
-use Rattle.clap.specs.Words.{App, Text, app_of, fault_of, is_simple, is_simple_and_free, subcommand_of, with_subcommand}
+-- Glue: the shape of a command that is built, and whether it reads words as the whole one does.
+use Rattle.std.specs.Prelude.{◌≡◌, ◌==◌, Bool, List, [], ◌∷◌, Option, MatchOption, Result, Ok, Err, true, false}
+use Rattle.clap.specs.Words.{App, Text, app_of, fault_of, is_simple, is_simple_and_free, subcommand_of, subcommand_rows_of, with_subcommand}
 use Rattle.clap.specs.declared.builder.command.Command.{Command}
+use Rattle.clap.specs.declared.builder.command.Command.TheViews.{out-Command}
+use Rattle.clap.specs.declared.parser.matches.ArgMatches.{ArgMatches}
 use Rattle.rrd_tool.specs.Arguments.{bare_top}
 use Rattle.rrd_tool.specs.Commands.{rrdi_app}
+use Rattle.rrd_tool.specs.Parsed.{IsTaken, entered_of}
+use Rattle.rrd_tool.specs.declared.faults.LineFault.{LineFault}
+use Rattle.rrd_tool.specs.declared.faults.LineFault.TheVariants.{Usage, BadWord, OutOfMemory}
+
+-- the command has this shape, and no argument of it is seen by other commands
+abbrev pub HasApp : App → Command → Type 0
+HasApp a c = (app_of c ≡ a) × ((out-Command c).has_globals ≡ false)
 
 -- the command with just this subcommand
 abbrev pub app_with : App → App
@@ -25,3 +34,10 @@ ServesOrRefuses found words = MatchOption found (IsRefused words) (λ c. Serves 
 abbrev pub begins_with_minus : Text → Bool
 begins_with_minus [] = false
 begins_with_minus (b ∷ bs) = b == 45
+
+-- the matches are those of words that clap takes; a refusal comes for others, and want of memory for any
+abbrev pub IsParsedBy : List Text → Result ArgMatches LineFault → Type 0
+IsParsedBy words (Ok matches) = IsTaken words × (subcommand_rows_of matches ≡ entered_of words)
+IsParsedBy words (Err OutOfMemory) = Unit {0}
+IsParsedBy words (Err Usage) = ¬ IsTaken words
+IsParsedBy words (Err (BadWord part number)) = ⊥

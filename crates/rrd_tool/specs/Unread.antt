@@ -1,9 +1,7 @@
--- Reading that may stop at a part (own).
-use Rattle.std.specs.Prelude.{◌≡◌, ◌+◌, ℕ, List, [], ◌∷◌, Option, Some, None, Result, Ok, Err}
+-- Definition: reading that may stop at a part that can't be read (own).
+use Rattle.std.specs.Prelude.{◌+◌, ℕ, List, [], ◌∷◌, Option, Some, None, Result, Ok, Err}
 use Rattle.clap.specs.Words.{Text}
 use Rattle.rrd_tool.specs.declared.faults.Part.{Part}
-use Rattle.rrd_tool.specs.declared.faults.LineFault.{LineFault}
-use Rattle.rrd_tool.specs.declared.faults.LineFault.TheVariants.{Usage, BadWord, OutOfMemory}
 
 -- the part that can't be read, and its number
 abbrev pub Unread : Type 0
@@ -40,10 +38,3 @@ abbrev pub each_of : {A : Type 0} → (Text → Option A) → Part → ℕ → L
 each_of read part number [] = Ok []
 each_of read part number (word ∷ words) =
     or_fault part number (read word) >>= (λ x. each_of read part (number + 1) words >>= (λ xs. Ok (x ∷ xs)))
-
--- a function answers what is read, or that memory was wanting
-abbrev pub Meets : {A : Type 0} → Result A Unread → Result A LineFault → Type 0
-Meets read (Ok x) = read ≡ Ok x
-Meets read (Err (BadWord part number)) = read ≡ Err (part, number)
-Meets read (Err OutOfMemory) = Unit {0}
-Meets read (Err Usage) = ⊥

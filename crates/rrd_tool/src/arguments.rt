@@ -1,8 +1,9 @@
 //! Arguments as clap takes them, and words as it parses them.
 ghost use Rattle.std.specs.Prelude.{◌≡◌, IfOk, false, map, option_map};
 ghost use Rattle.clap.specs.Words.{App, all_of, app_of, first_of, found_of, rows_of, rule_of};
-ghost use Rattle.rrd_tool.specs.Arguments.{HasApp, letter_rule, many_rule, option_rule, required_rule};
-ghost use Rattle.rrd_tool.specs.Parsed.{IsParsedBy};
+ghost use Rattle.rrd_tool.specs.Serves.{HasApp};
+ghost use Rattle.rrd_tool.specs.Arguments.{bare_top, letter_rule, many_rule, option_rule, required_rule};
+ghost use Rattle.rrd_tool.specs.Serves.{IsParsedBy};
 ghost use Rattle.rrd_tool.specs.Serves.{ServesOrRefuses, app_with, begins_with_minus};
 
 use crate::commands::{command_named, rrdi_command};
@@ -43,6 +44,16 @@ pub(crate) fn many_arg<'a>(alloc: Global, id: &'a str) -> Arg<'a>
     Arg::new(alloc, id).action(ArgAction::Append)
 }
 
+/// The command without its subcommands.
+pub(crate) fn bare_command<'a>(alloc: Global) -> clap::Command<'a>
+    ensures { HasApp bare_top result }
+{
+    clap::Command::new(alloc, "rrdi")
+        .no_binary_name(true)
+        .subcommand_required(true)
+        .disable_help_subcommand(true)
+}
+
 /// The command with just this subcommand.
 pub(crate) fn command_with<'a>(
     alloc: Global,
@@ -50,11 +61,7 @@ pub(crate) fn command_with<'a>(
 ) -> Result<clap::Command<'a>, AllocError>
     ensures { (s : App) → HasApp s sub.entry → IfOk result (λ c. app_of c ≡ app_with s) }
 {
-    clap::Command::new(alloc, "rrdi")
-        .no_binary_name(true)
-        .subcommand_required(true)
-        .disable_help_subcommand(true)
-        .subcommand(sub)
+    bare_command(alloc).subcommand(sub)
 }
 
 /// Whether a word begins with a minus.

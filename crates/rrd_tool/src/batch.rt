@@ -5,7 +5,7 @@ ghost use Rattle.std.specs.Result.{result_err};
 ghost use Rattle.std.specs.Io.KnownBytes.{Consumes};
 ghost use Rattle.rrd_spec.specs.Survivors.{State};
 ghost use Rattle.rrd_tool.specs.Effects.{StandsFor};
-ghost use Rattle.rrd_tool.specs.Held.{Holds};
+ghost use Rattle.rrd_tool.specs.Buffered.{Buffers};
 ghost use Rattle.rrd_tool.specs.Lines.{is_plain, last_part, text_in, whole_lines};
 ghost use Rattle.rrd_tool.specs.Moves.{Asks, Moves, MovesByCommand, MovesByLine};
 ghost use Rattle.rrd_tool.specs.Run.{RunOver};
@@ -147,10 +147,10 @@ fn take_byte<W: Write>(
     byte: u8,
 ) -> Result<(), WriteFault>
     requires { batch.old.refused + 1 < 2 ^ 64 }
-    ensures told { (held : List ℕ) → Holds line.old held
+    ensures told { (unfinished : List ℕ) → Buffers line.old unfinished
         → Moves setting.now batch.old.database batch.new.database batch.old.refused batch.new.refused
-        (W.contents out.old) (W.contents out.new) (whole_lines held (byte ∷ [])) result
-        × OnOk result (Holds line.new (last_part held (byte ∷ []))) }
+        (W.contents out.old) (W.contents out.new) (whole_lines unfinished (byte ∷ [])) result
+        × OnOk result (Buffers line.new (last_part unfinished (byte ∷ []))) }
     ensures count { batch.new.refused ≤ batch.old.refused + 1 }
 {
     if byte != b'\n' {
@@ -171,10 +171,10 @@ fn feed<W: Write>(
     bytes: &[u8],
 ) -> Result<(), WriteFault>
     requires { batch.old.refused + length bytes.now < 2 ^ 64 }
-    ensures told { (held : List ℕ) → Holds line.old held
+    ensures told { (unfinished : List ℕ) → Buffers line.old unfinished
         → Moves setting.now batch.old.database batch.new.database batch.old.refused batch.new.refused
-        (W.contents out.old) (W.contents out.new) (whole_lines held bytes.now) result
-        × OnOk result (Holds line.new (last_part held bytes.now)) }
+        (W.contents out.old) (W.contents out.new) (whole_lines unfinished bytes.now) result
+        × OnOk result (Buffers line.new (last_part unfinished bytes.now)) }
     ensures count { batch.new.refused ≤ batch.old.refused + length bytes.now }
 {
     for byte in bytes {

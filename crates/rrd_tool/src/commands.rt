@@ -2,12 +2,11 @@
 //! command's own stands in its file.
 ghost use Rattle.std.specs.Prelude.{◌≡◌, ◌∷◌, IfOk, IfSome, List, None, Option, Some, is_some, true, ℕ};
 ghost use Rattle.clap.specs.Words.{app_of, found_of, rows_of, subcommand_rows_of};
-ghost use Rattle.rrd_tool.specs.Arguments.{HasApp};
-ghost use Rattle.rrd_tool.specs.Commands.{line_of, rrdi_app, with_options};
+ghost use Rattle.rrd_tool.specs.Commands.{line_of, rrdi_app};
 ghost use Rattle.rrd_tool.specs.Executed.{Executes};
 ghost use Rattle.rrd_tool.specs.Reading.{IsReading};
 ghost use Rattle.rrd_tool.specs.Serves.{ServesOrRefuses};
-ghost use Rattle.rrd_tool.specs.Unread.{Meets};
+ghost use Rattle.rrd_tool.specs.Meets.{Meets};
 
 mod create;
 mod fetch;
@@ -17,7 +16,7 @@ mod revert;
 mod tune;
 mod update;
 
-use crate::arguments::{command_with, is_flag, parse};
+use crate::arguments::{bare_command, command_with, is_flag, parse};
 use crate::execution::Outcome;
 use crate::{Fault, LineFault, Words};
 use clap::ArgMatches;
@@ -55,26 +54,16 @@ pub enum Command {
     Revert,
 }
 
-// The command with the subcommands that have arguments.
-fn with_options<'a>(alloc: Global) -> Result<clap::Command<'a>, AllocError>
-    ensures { IfOk result (HasApp with_options) }
-{
-    clap::Command::new(alloc, "rrdi")
-        .no_binary_name(true)
-        .subcommand_required(true)
-        .disable_help_subcommand(true)
-        .subcommand(create::shape(alloc)?)?
-        .subcommand(update::shape(alloc)?)?
-        .subcommand(fetch::shape(alloc)?)?
-        .subcommand(tune::shape(alloc)?)?
-        .subcommand(resize::shape(alloc)?)
-}
-
 /// The command with its subcommands.
 pub(crate) fn rrdi_command<'a>(alloc: Global) -> Result<clap::Command<'a>, AllocError>
     ensures { IfOk result (λ c. app_of c ≡ rrdi_app) }
 {
-    with_options(alloc)?
+    bare_command(alloc)
+        .subcommand(create::shape(alloc)?)?
+        .subcommand(update::shape(alloc)?)?
+        .subcommand(fetch::shape(alloc)?)?
+        .subcommand(tune::shape(alloc)?)?
+        .subcommand(resize::shape(alloc)?)?
         .subcommand(last::shape(alloc))?
         .subcommand(revert::shape(alloc))
 }

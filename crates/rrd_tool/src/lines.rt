@@ -36,12 +36,12 @@ fn is_plain(byte: u8) -> bool
 }
 
 impl LineBuffer {
-    ghost use Rattle.rrd_tool.specs.Held.{Holds};
+    ghost use Rattle.rrd_tool.specs.Buffered.{Buffers};
     ghost use Rattle.rrd_tool.specs.declared.lines.Ending.TheVariants.{Plain};
 
     /// An empty line, with room for 65,536 bytes.
     pub(crate) fn new(alloc: Global) -> Result<LineBuffer, AllocError>
-        ensures { IfOk result (λ line. Holds line []) }
+        ensures { IfOk result (λ line. Buffers line []) }
     {
         Ok(LineBuffer {
             bytes: Vec::with_capacity(alloc, MOST)?,
@@ -52,7 +52,7 @@ impl LineBuffer {
     /// Adds a byte other than LF.
     pub(crate) fn push(&mut self, byte: u8)
         requires { byte ≢ 10 }
-        ensures { (held : List ℕ) → Holds self.old held → Holds self.new (held ++ byte ∷ []) }
+        ensures { (unfinished : List ℕ) → Buffers self.old unfinished → Buffers self.new (unfinished ++ byte ∷ []) }
     {
         match self.ending {
             Ending::Lost => {}
@@ -65,7 +65,7 @@ impl LineBuffer {
     fn push_behind_plain(&mut self, byte: u8)
         requires other { byte ≢ 10 }
         requires plain { self.old.ending ≡ Plain }
-        ensures { (held : List ℕ) → Holds self.old held → Holds self.new (held ++ byte ∷ []) }
+        ensures { (unfinished : List ℕ) → Buffers self.old unfinished → Buffers self.new (unfinished ++ byte ∷ []) }
     {
         if byte == b'\r' {
             self.ending = Ending::Cr;
@@ -87,8 +87,8 @@ impl LineBuffer {
     /// The text of the line that LF ends here, without one CR at its end. None if it is longer than
     /// 65,536 bytes or has a byte that is neither tab nor printable ASCII.
     pub(crate) fn whole_line(&self) -> Option<&[u8]>
-        ensures text { (held : List ℕ) → Holds self.now held
-            → option_map (λ text. text.now) result ≡ text_in (without_cr held) }
+        ensures text { (unfinished : List ℕ) → Buffers self.now unfinished
+            → option_map (λ text. text.now) result ≡ text_in (without_cr unfinished) }
         ensures plain { IfSome result (λ text. list_all is_plain text.now ≡ true) }
     {
         match self.ending {
@@ -100,8 +100,8 @@ impl LineBuffer {
     /// The text of the line that the input ends here, without LF: a CR at its end stays, and makes
     /// it none.
     pub(crate) fn last_line(&self) -> Option<&[u8]>
-        ensures text { (held : List ℕ) → Holds self.now held
-            → option_map (λ text. text.now) result ≡ text_in held }
+        ensures text { (unfinished : List ℕ) → Buffers self.now unfinished
+            → option_map (λ text. text.now) result ≡ text_in unfinished }
         ensures plain { IfSome result (λ text. list_all is_plain text.now ≡ true) }
     {
         match self.ending {
@@ -112,7 +112,7 @@ impl LineBuffer {
 
     /// Whether no byte came.
     pub(crate) fn is_empty(&self) -> bool
-        ensures { (held : List ℕ) → Holds self.now held → result ≡ is_empty held }
+        ensures { (unfinished : List ℕ) → Buffers self.now unfinished → result ≡ is_empty unfinished }
     {
         match self.ending {
             Ending::Lost | Ending::Cr => false,
@@ -122,7 +122,7 @@ impl LineBuffer {
 
     /// Begins a new line.
     pub(crate) fn clear(&mut self)
-        ensures { Holds self.new [] }
+        ensures { Buffers self.new [] }
     {
         self.bytes.clear();
         self.ending = Ending::Plain;

@@ -33,7 +33,8 @@ source_of text =
     field kind_of rest (λ kind rest.
     field whole_of rest (λ heartbeat rest.
     field bound_of rest (λ min rest.
-    bound_of rest >>? (λ max. Some (record { name = name; kind = kind; heartbeat = heartbeat; min = min; max = max }))))))
+    bound_of rest >>? (λ max.
+    Some (record { name = name; kind = kind; heartbeat = heartbeat; min = min; max = max }))))))
 
 -- `function:xff:steps:rows`
 abbrev pub archive_of : Text → Option RraDef
@@ -48,7 +49,8 @@ abbrev pub definition_of : Text → Option Definition
 definition_of text =
     cut_of text >>? (λ cut.
     if bytes_eq cut.0 (codes "DS") then source_of cut.1 >>? (λ source. Some (Definition.Source source))
-    else (if bytes_eq cut.0 (codes "RRA") then archive_of cut.1 >>? (λ archive. Some (Definition.Archive archive)) else None))
+    else (if bytes_eq cut.0 (codes "RRA") then archive_of cut.1 >>? (λ archive. Some (Definition.Archive archive))
+    else None))
 
 -- the sources among the definitions, in their order
 abbrev pub sources_in : List Definition → List DsDef
@@ -70,7 +72,8 @@ definitions_of words =
     each_of definition_of part.Definition 1 words
     >>= (λ definitions. Ok (sources_in definitions, archives_in definitions))
 
--- the step is 300 seconds by default, the start ten seconds before now (rrdcreate), and 16 changes can be reverted (own)
+-- the step is 300 seconds by default, the start ten seconds before now (rrdcreate), and 16 changes can be reverted
+-- (own)
 abbrev pub create_of : List Row → ℕ → Result Command Unread
 create_of rows now =
     given whole_of part.Step (first_of (codes "step") rows) 300

@@ -1,5 +1,5 @@
--- Definition: fetch: its shape, what its values are read as, and what it prints (rrdfetch, "Output format", with cells in plain
--- digits; `--resolution` as a whole number is own).
+-- Definition: fetch: its shape, what its values are read as, and what it prints (rrdfetch, "Output format", with cells
+-- in plain digits; `--resolution` as a whole number is own).
 use Rattle.std.specs.Prelude.{◌+◌, ◌-◌, ◌*◌, ◌/◌, ◌++◌, ◌∷◌, [], ℕ, ℤ, List, zero, suc, codes, pos, length, Result, Ok, unwrap_or}
 use Rattle.std.specs.Result.{result_map_both}
 use Rattle.clap.specs.Words.{App, Row, first_of, new_app, with_rule}
@@ -68,6 +68,6 @@ abbrev pub fetch_text : Content → Chosen → List ℕ
 fetch_text content chosen = header_text content.sources ++ rows_text content chosen
 
 -- what a fetch prints, or its refusal
-abbrev pub fetched : Content → Function → ℕ → ℕ → ℕ → Result (List ℕ) Refusal
-fetched content function asked start stop =
+abbrev pub fetch_answer : Content → Function → ℕ → ℕ → ℕ → Result (List ℕ) Refusal
+fetch_answer content function asked start stop =
     result_map_both (fetch_text content) (λ refusal. refusal) (choice content function asked start stop)

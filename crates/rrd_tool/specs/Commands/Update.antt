@@ -30,7 +30,8 @@ time_of now text = if bytes_eq text (codes "N") then Some now else whole_of text
 
 -- a sample's value; `U` is unknown
 abbrev pub value_of : Text → Option Given
-value_of text = if is_unknown text then Some Given.Unknown else number_of text >>? (λ number. Some (Given.Number number))
+value_of text =
+    if is_unknown text then Some Given.Unknown else number_of text >>? (λ number. Some (Given.Number number))
 
 -- `time:value[:value..]`
 abbrev pub sample_of : ℕ → Text → Option Sample

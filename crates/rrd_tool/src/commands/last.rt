@@ -1,7 +1,7 @@
 //! `last`: prints the time of the last update (rrdlast).
 ghost use Rattle.std.specs.Prelude.{Some, pos};
 ghost use Rattle.rrd_fixed.specs.Written.{Writes};
-ghost use Rattle.rrd_tool.specs.Arguments.{HasApp};
+ghost use Rattle.rrd_tool.specs.Serves.{HasApp};
 ghost use Rattle.rrd_tool.specs.Commands.Last.{last_app, time_line};
 ghost use Rattle.rrd_tool.specs.Executed.{Executes};
 

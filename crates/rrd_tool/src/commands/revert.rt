@@ -1,6 +1,6 @@
 //! `revert`: takes back the newest change (this project's own).
 ghost use Rattle.std.specs.Prelude.{List, Option, Some, ℕ};
-ghost use Rattle.rrd_tool.specs.Arguments.{HasApp};
+ghost use Rattle.rrd_tool.specs.Serves.{HasApp};
 ghost use Rattle.rrd_tool.specs.Commands.Revert.{revert_app};
 ghost use Rattle.rrd_tool.specs.Executed.{Executes};
 

@@ -1,7 +1,7 @@
 use Rattle.std.proofs.Common.{List, ℕ, Option, [], ◌≤◌, ◌*◌}
 use Rattle.std.specs.Io.KnownBytes.{Consumes}
 use Rattle.rrd_spec.specs.Survivors.{State}
-use Rattle.rrd_tool.specs.Held.{Holds}
+use Rattle.rrd_tool.specs.Buffered.{Buffers}
 use Rattle.rrd_tool.specs.Lines.{last_part, whole_lines}
 use Rattle.rrd_tool.specs.Batch.{Ran}
 use Rattle.rrd_tool.specs.Effects.{StandsFor}
@@ -13,5 +13,5 @@ invariant-reads g l = ((s0 : Option State) → StandsFor l.fn.batch.database s0
     → (seen : List ℕ) × Consumes (g.R.Read.remaining l.fn.reader) (g.R.Read.remaining l.reader) seen
     × (s1 : Option State) × StandsFor l.batch.database s1
     × Ran (turn l.setting.now) s0 s1 0 l.batch.refused (g.W.Write.contents l.fn.out) (g.W.Write.contents l.out) (whole_lines [] seen)
-    × Holds l.line (last_part [] seen))
+    × Buffers l.line (last_part [] seen))
     × (l.batch.refused ≤ 65536 * l.counter)

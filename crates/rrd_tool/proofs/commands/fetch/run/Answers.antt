@@ -1,14 +1,14 @@
 use Rattle.std.proofs.Common.{◌≡◌, Ok, Some, refl, sym}
 use Rattle.rrd_spec.specs.Choice.{choice}
 use Rattle.rrd_tool.specs.Effects.{Effect, Shows, kept_next, text_on, verdict_on}
-use Rattle.rrd_tool.specs.Commands.Fetch.{fetch_text, fetched}
+use Rattle.rrd_tool.specs.Commands.Fetch.{fetch_text, fetch_answer}
 use Rattle.rrd_tool.proofs.RunLemmas.{prints_comes}
 use Rattle.rrd_tool.proofs.commands.fetch.run.Goals as goal
 
 pub returns-in-Ok : goal.returns-in-Ok
 returns-in-Ok g c =
     let kept = c.args.database in
-    let shows : Effect = Shows (λ content. fetched content c.args.function c.args.asked c.args.start c.args.stop) in
+    let shows : Effect = Shows (λ content. fetch_answer content c.args.function c.args.asked c.args.start c.args.stop) in
     let outcome = c.of_text.result in
     let chosen : choice kept.content c.args.function c.args.asked c.args.start c.args.stop ≡ Ok c.in-Ok.chosen = sym c.in-Ok.ensures in
     let old = g.W.Write.contents c.args.out.now in

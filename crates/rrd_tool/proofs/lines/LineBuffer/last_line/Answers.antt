@@ -4,6 +4,6 @@ use Rattle.rrd_tool.proofs.lines.LineBuffer.last_line.Goals as goal
 
 pub returns-in-Lost : goal.returns-in-Lost
 returns-in-Lost c = record {
-  text = λ held h. rw (cut_none c.args.self.now.ending c.args.self.now.bytes.items held c.in-Lost.is h) refl;
+  text = λ unfinished h. rw (cut_none c.args.self.now.ending c.args.self.now.bytes.items unfinished c.in-Lost.is h) refl;
   plain = tt;
 }

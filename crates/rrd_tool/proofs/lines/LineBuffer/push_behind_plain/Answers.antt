@@ -4,13 +4,13 @@ use Rattle.rrd_tool.proofs.LineLemmas.{lost_byte, lost_long}
 use Rattle.rrd_tool.proofs.lines.LineBuffer.push_behind_plain.Goals as goal
 
 pub returns-then-not-is_plain : goal.returns-then-not-is_plain
-returns-then-not-is_plain c held h more =
+returns-then-not-is_plain c unfinished h more =
     let k = rw c.requires.plain at h in
     let n : nat_eq c.args.byte 13 ≡ false = grind (arith, nat_tests, c.if-byte-eq13.false) in
-    lost_byte c.args.self.now.bytes.items held c.args.byte k.0 n (sym c.if-not-is_plain.ensures) more
+    lost_byte c.args.self.now.bytes.items unfinished c.args.byte k.0 n (sym c.if-not-is_plain.ensures) more
 
 pub returns-then-len-ge-MOST : goal.returns-then-len-ge-MOST
-returns-then-len-ge-MOST c held h more =
+returns-then-len-ge-MOST c unfinished h more =
     let k = rw c.requires.plain at h in
     let n : nat_eq c.args.byte 13 ≡ false = grind (arith, nat_tests, c.if-byte-eq13.false) in
-    lost_long c.args.self.now.bytes.items held c.args.byte k.0 n (omega arith) more
+    lost_long c.args.self.now.bytes.items unfinished c.args.byte k.0 n (omega arith) more

@@ -1,0 +1,5 @@
+use Rattle.std.proofs.Common.{rules}
+use Rattle.rrd_tool.proofs.arguments.bare_command.Goals as goal
+
+pub returns : goal.returns
+returns c = (search rules, search rules)

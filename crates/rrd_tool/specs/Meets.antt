@@ -1,0 +1,12 @@
+-- Glue: what the functions that read parts answer.
+use Rattle.std.specs.Prelude.{◌≡◌, Result, Ok, Err}
+use Rattle.rrd_tool.specs.Unread.{Unread}
+use Rattle.rrd_tool.specs.declared.faults.LineFault.{LineFault}
+use Rattle.rrd_tool.specs.declared.faults.LineFault.TheVariants.{Usage, BadWord, OutOfMemory}
+
+-- a function answers what is read, or that memory was wanting
+abbrev pub Meets : {A : Type 0} → Result A Unread → Result A LineFault → Type 0
+Meets read (Ok x) = read ≡ Ok x
+Meets read (Err (BadWord part number)) = read ≡ Err (part, number)
+Meets read (Err OutOfMemory) = Unit {0}
+Meets read (Err Usage) = ⊥
