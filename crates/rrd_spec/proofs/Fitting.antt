@@ -17,7 +17,7 @@ use Rattle.rrd_spec.specs.Settings.{Settings, names}
 use Rattle.rrd_spec.specs.Listed.{moved_listed}
 use Rattle.rrd_spec.specs.Settings.{has_source, is_double}
 use Rattle.rrd_spec.specs.Verdict.{is_bad_rows, grows_too_far, shrinks_too_far, no_sample, asks_nothing, names_no_source, verdict}
-use Rattle.rrd_spec.specs.Entries.{Entry, UpdateEntry, TuneEntry, ResizeEntry, rows_between, saved, is_asked, is_named, sources_before, rows_at, with_source, entry, undone}
+use Rattle.rrd_spec.specs.Entries.{Entry, rows_between, saved, is_asked, is_named, sources_before, rows_at, entry, undone}
 use Rattle.rrd_spec.specs.Survivors.{Action, Changed, Reverted, Stored, is_accepted, changed, reverted, step, AllUndo}
 use Rattle.rrd_spec.proofs.Accepted.{accepted_passes, accepted_history}
 use Rattle.rrd_spec.proofs.Undoing.{comes_back}

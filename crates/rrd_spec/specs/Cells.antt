@@ -14,7 +14,6 @@ use Rattle.rrd_fold.specs.declared.function.Function.TheVariants.{Average}
 use Rattle.rrd_fold.specs.Bounds.{Consolidating}
 use Rattle.rrd_fold.specs.Parts.{nothing}
 use Rattle.rrd_spec.specs.Steps.{row_ending}
-use Rattle.rrd_spec.specs.Steps.{step}
 
 -- the row at a time, a multiple of the resolution; unknown where the archive has none
 abbrev pub row_of_age : List (List Cell) → List Cell → ℤ → List Cell

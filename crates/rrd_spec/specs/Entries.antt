@@ -13,7 +13,6 @@ use Rattle.rrd_spec.specs.History.{Archive, Content, IsBase}
 use Rattle.rrd_spec.specs.Commands.{Asked, Command, Updating, TuningBy, Resizing, moved}
 use Rattle.rrd_fixed.specs.Names.{same_name}
 use Rattle.rrd_spec.specs.declared.tune.Tuning.{Tuning}
-use Rattle.rrd_spec.specs.Verdict.{verdict}
 use Rattle.rrd_spec.specs.Steps.{row}
 use Rattle.rrd_spec.specs.Steps.{step}
 

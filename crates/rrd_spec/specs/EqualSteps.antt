@@ -7,8 +7,6 @@ use Rattle.rrd_fold.specs.Parts.{nothing, row_cell, step_cell, with_each}
 use Rattle.rrd_spec.specs.History.{Archive, Content, IsBase}
 use Rattle.rrd_spec.specs.Listed.{keep_last}
 use Rattle.rrd_spec.specs.Passing.{archive_passed, passed}
-use Rattle.rrd_spec.specs.Steps.{row}
-use Rattle.rrd_spec.specs.Steps.{step}
 
 -- ---- an archive, `before` steps having ended
 

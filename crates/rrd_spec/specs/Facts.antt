@@ -22,7 +22,6 @@ use Rattle.rrd_spec.specs.Cells.{cell_in, prep_in}
 use Rattle.rrd_spec.specs.Validity.{AreAccepted, IsRow, IsValid, IsValidArchive}
 use Rattle.rrd_spec.specs.Laws.{Passes}
 use Rattle.rrd_spec.specs.Verdict.{sample_checks}
-use Rattle.rrd_spec.specs.Steps.{row}
 
 -- ---- a valid content
 

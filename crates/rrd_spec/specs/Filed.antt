@@ -9,8 +9,6 @@ use Rattle.rrd_spec.specs.History.{Archive}
 use Rattle.rrd_spec.specs.Entries.{Entry}
 use Rattle.rrd_spec.specs.Slots.{all_cells}
 use Rattle.rrd_spec.specs.Survivors.{Stored}
-use Rattle.rrd_spec.specs.Settings.{cells}
-use Rattle.rrd_spec.specs.Steps.{step}
 
 -- ---- the lists
 

@@ -1,6 +1,6 @@
 -- What a history of commands makes of a database, second by second. Where no manual page is named, the rule is this
 -- project's.
-use Rattle.std.specs.Prelude.{◌≡◌, ℕ, ◌+◌, ◌-◌, ◌<◌, min, nat_le, ◌==◌, if◌then◌else◌, Bool, List, [], ◌∷◌, map, length}
+use Rattle.std.specs.Prelude.{◌≡◌, ℕ, ◌+◌, ◌-◌, ◌<◌, nat_le, ◌==◌, if◌then◌else◌, Bool, List, [], ◌∷◌, map, length}
 use Rattle.std.specs.List.{fold, find, range_with_len, AllByRecursion}
 use Rattle.std.specs.Option.{option_map_or}
 use Rattle.rrd_fixed.specs.declared.cell.Cell.{Cell}
@@ -11,7 +11,6 @@ use Rattle.rrd_fixed.specs.Rate.{rate}
 use Rattle.rrd_spec.specs.declared.settings.DsDef.{DsDef}
 use Rattle.rrd_spec.specs.declared.settings.RraDef.{RraDef}
 use Rattle.rrd_fold.specs.Parts.{Part}
-use Rattle.rrd_fixed.specs.declared.cell.Cell.TheVariants.{Unknown}
 
 -- ---- what a database holds
 

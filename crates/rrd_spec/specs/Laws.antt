@@ -35,7 +35,6 @@ use Rattle.rrd_spec.specs.Survivors.{AllAccepted}
 use Rattle.rrd_spec.specs.Survivors.{AllUndo}
 use Rattle.rrd_spec.specs.Validity.{IsValidDatabase}
 use Rattle.rrd_spec.specs.Groups.{Rule}
-use Rattle.rrd_spec.specs.Entries.{before}
 use Rattle.rrd_spec.specs.Cells.{cell}
 use Rattle.rrd_spec.specs.Verdict.{checks}
 use Rattle.rrd_spec.specs.Cells.{content}
@@ -43,6 +42,8 @@ use Rattle.rrd_spec.specs.Creating.{create_verdict}
 use Rattle.rrd_spec.specs.Creating.{created}
 use Rattle.rrd_spec.specs.Cells.{row_by_time}
 use Rattle.rrd_spec.specs.Survivors.{survived}
+use Rattle.rrd_spec.specs.Steps.{step as step_numbered}
+use Rattle.rrd_spec.specs.Passing.{passed}
 
 -- For every list in two pieces, the groups go on where the first piece left them.
 pub record GoesOn {A P B : Type 0} (rule : Rule A P B) (before : ℕ) (begun : P) (xs ys : List A) : Type 0 where
@@ -104,7 +105,7 @@ ShowsCells base events =
 
 -- the steps and rows of a history, each by itself
 pub record ListsByNumber (base : Content) (archive : Archive) (events : List Event) : Type 0 where
-  pub steps_are : steps_of base events ≡ map (step base events) (range_with_len (base.last / base.step) (length (steps_of base events)))
+  pub steps_are : steps_of base events ≡ map (step_numbered base events) (range_with_len (base.last / base.step) (length (steps_of base events)))
   pub rows_are : rows_of base archive events ≡ map (row base archive events) (range_with_len (base.last / base.step / archive.def.steps) (length (rows_of base archive events)))
 
 -- seconds that pass in two pieces

@@ -1,13 +1,10 @@
 -- What seconds leave of a content: steps and rows, one after another.
-use Rattle.std.specs.Prelude.{◌≡◌, ℕ, ◌+◌, ◌-◌, ◌/◌, ◌<◌, List, [], ◌∷◌, ◌++◌, map, length, replicate, take, min, ◌≤◌, ℤ, pos, negsuc, ◌-ℤ◌, nat_lt, slice_index_or, if◌then◌else◌}
-use Rattle.std.specs.Int.{int_div_euclid}
+use Rattle.std.specs.Prelude.{ℕ, ◌+◌, ◌/◌, List, ◌++◌, map, length}
 use Rattle.rrd_fixed.specs.declared.cell.Cell.{Cell}
-use Rattle.rrd_spec.specs.Settings.{resolution}
 use Rattle.rrd_spec.specs.Steps.{rows_rule, seconds_to_steps}
 use Rattle.rrd_spec.specs.Groups.{finished, unfinished}
-use Rattle.rrd_spec.specs.History.{Archive, Content, Reading, Sampled, rates, IsBase, IsArchive}
-use Rattle.rrd_spec.specs.Listed.{keep_last, filled_up, kept_rows, content_listed}
-use Rattle.rrd_spec.specs.Steps.{rows_of}
+use Rattle.rrd_spec.specs.History.{Archive, Content}
+use Rattle.rrd_spec.specs.Listed.{keep_last}
 
 -- an archive after these steps, `before` having ended earlier
 unfoldable pub archive_passed : ℕ → ℕ → List (List Cell) → Archive → Archive

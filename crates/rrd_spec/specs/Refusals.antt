@@ -2,7 +2,6 @@
 use Rattle.std.specs.Prelude.{◌++◌, ℕ, List, codes, decimal}
 use Rattle.rrd_spec.specs.declared.refusal.Refusal.{Refusal}
 use Rattle.rrd_spec.specs.declared.refusal.Refusal.TheVariants as refusal
-use Rattle.rrd_spec.specs.Steps.{step}
 
 abbrev pub refusal_text : Refusal → List ℕ
 refusal_text refusal.BadStep = codes "bad step"

@@ -1,6 +1,6 @@
 -- Which databases are valid (own).
-use Rattle.std.specs.Prelude.{◌≡◌, ℕ, ◌+◌, ◌-◌, ◌*◌, ◌/◌, ◌%◌, ◌<◌, ◌≤◌, ◌≢◌, min, pos, ◌≤ℤ◌, unsigned_abs, true, false, List, [], ◌∷◌, length, take, None}
-use Rattle.std.specs.List.{AllByRecursion, fold}
+use Rattle.std.specs.Prelude.{◌≡◌, ℕ, ◌+◌, ◌*◌, ◌/◌, ◌%◌, ◌<◌, ◌≤◌, ◌≢◌, min, pos, ◌≤ℤ◌, unsigned_abs, true, false, List, [], ◌∷◌, length}
+use Rattle.std.specs.List.{AllByRecursion}
 use Rattle.rrd_fixed.specs.declared.cell.Cell.{Cell}
 use Rattle.rrd_fixed.specs.declared.raw.Raw.{Raw}
 use Rattle.rrd_fixed.specs.Rate.{top, IsAccepted, IsBounded}
@@ -12,14 +12,13 @@ use Rattle.rrd_fold.specs.Parts.{Part}
 pub use Rattle.rrd_fold.specs.Bounds.{weight}
 use Rattle.rrd_spec.specs.Limits.{Limits, version_one}
 use Rattle.rrd_spec.specs.History.{Archive, Content}
-use Rattle.rrd_spec.specs.Commands.{Command, settings_of, moved}
+use Rattle.rrd_spec.specs.Commands.{settings_of}
 use Rattle.rrd_spec.specs.Settings.{names}
 use Rattle.rrd_fixed.specs.Names.{is_good}
 use Rattle.rrd_spec.specs.Settings.{is_double, cells}
-use Rattle.rrd_spec.specs.Verdict.{is_bad_heartbeat, has_bad_bounds, verdict}
+use Rattle.rrd_spec.specs.Verdict.{is_bad_heartbeat, has_bad_bounds}
 use Rattle.rrd_spec.specs.Entries.{SavedArchive, BeforeUpdate, Entry, UpdateEntry, TuneEntry, ResizeEntry, rows_between, rows_at, entry, undone}
-use Rattle.rrd_spec.specs.Survivors.{Action, changed, reverted, step, after, Stands, State, Stored}
-use Rattle.rrd_spec.specs.Steps.{row}
+use Rattle.rrd_spec.specs.Survivors.{step}
 
 -- ---- a content
 
