@@ -43,7 +43,7 @@ pub struct BatchEnd {
 
 // What stays over a batch: where memory comes from, and the present time.
 #[derive(Clone, Copy)]
-struct Setting {
+struct Context {
     alloc: Global,
     now: u64,
 }
@@ -56,21 +56,21 @@ struct Batch {
 }
 
 // What a line's text asks for; nothing where it has no words.
-fn request(setting: Setting, text: Option<&[u8]>) -> Result<Option<Command>, LineFault>
+fn request(context: Context, text: Option<&[u8]>) -> Result<Option<Command>, LineFault>
     requires { IfSome text (λ bytes. list_all is_plain bytes.now ≡ true) }
     ensures { (line : List ℕ) → option_map (λ bytes. bytes.now) text.entry ≡ text_in line
-        → Asks setting.now line result }
+        → Asks context.now line result }
 {
     let Some(text) = text else {
         return Err(LineFault::Usage);
     };
-    let Ok(words) = read_words(setting.alloc, text) else {
+    let Ok(words) = read_words(context.alloc, text) else {
         return Err(LineFault::OutOfMemory);
     };
     if words.len() == 0 {
         return Ok(None);
     }
-    let command = read_command(setting.alloc, &words, setting.now)?;
+    let command = read_command(context.alloc, &words, context.now)?;
     Ok(Some(command))
 }
 
@@ -100,25 +100,25 @@ fn run_command<W: Write>(
 
 // Performs a line: its text is written, or its fault answered.
 fn perform<W: Write>(
-    setting: Setting,
+    context: Context,
     database: &mut Option<Database>,
     out: &mut W,
     text: Option<&[u8]>,
 ) -> Result<Option<Fault>, WriteFault>
     requires { IfSome text (λ bytes. list_all is_plain bytes.now ≡ true) }
     ensures { (line : List ℕ) → option_map (λ bytes. bytes.now) text.entry ≡ text_in line
-        → MovesByLine setting.now database.old database.new (W.contents out.old) (W.contents out.new) line result }
+        → MovesByLine context.now database.old database.new (W.contents out.old) (W.contents out.new) line result }
 {
-    match request(setting, text) {
+    match request(context, text) {
         Ok(None) => Ok(None),
-        Ok(Some(command)) => run_command(setting.alloc, database, command, out),
+        Ok(Some(command)) => run_command(context.alloc, database, command, out),
         Err(fault) => Ok(Some(Fault::Line(fault))),
     }
 }
 
 // Answers a line: its text or its fault's line is written and handed on.
 fn answer<W: Write>(
-    setting: Setting,
+    context: Context,
     batch: &mut Batch,
     out: &mut W,
     text: Option<&[u8]>,
@@ -126,11 +126,11 @@ fn answer<W: Write>(
     requires plain { IfSome text (λ bytes. list_all is_plain bytes.now ≡ true) }
     requires room { batch.old.refused + 1 < 2 ^ 64 }
     ensures told { (line : List ℕ) → option_map (λ bytes. bytes.now) text.entry ≡ text_in line
-        → Moves setting.now batch.old.database batch.new.database batch.old.refused batch.new.refused
+        → Moves context.now batch.old.database batch.new.database batch.old.refused batch.new.refused
         (W.contents out.old) (W.contents out.new) (line ∷ []) result }
     ensures count { batch.new.refused ≤ batch.old.refused + 1 }
 {
-    let Some(fault) = perform(setting, &mut batch.database, out, text)? else {
+    let Some(fault) = perform(context, &mut batch.database, out, text)? else {
         return Ok(());
     };
     write_fault(out, &fault)?;
@@ -140,7 +140,7 @@ fn answer<W: Write>(
 
 // Takes a byte, and answers the line that it ends.
 fn take_byte<W: Write>(
-    setting: Setting,
+    context: Context,
     batch: &mut Batch,
     out: &mut W,
     line: &mut LineBuffer,
@@ -148,7 +148,7 @@ fn take_byte<W: Write>(
 ) -> Result<(), WriteFault>
     requires { batch.old.refused + 1 < 2 ^ 64 }
     ensures told { (unfinished : List ℕ) → Buffers line.old unfinished
-        → Moves setting.now batch.old.database batch.new.database batch.old.refused batch.new.refused
+        → Moves context.now batch.old.database batch.new.database batch.old.refused batch.new.refused
         (W.contents out.old) (W.contents out.new) (whole_lines unfinished (byte ∷ [])) result
         × OnOk result (Buffers line.new (last_part unfinished (byte ∷ []))) }
     ensures count { batch.new.refused ≤ batch.old.refused + 1 }
@@ -157,14 +157,14 @@ fn take_byte<W: Write>(
         line.push(byte);
         return Ok(());
     }
-    answer(setting, batch, out, line.whole_line())?;
+    answer(context, batch, out, line.whole_line())?;
     line.clear();
     Ok(())
 }
 
 // Takes the bytes, and answers each line that is whole.
 fn feed<W: Write>(
-    setting: Setting,
+    context: Context,
     batch: &mut Batch,
     out: &mut W,
     line: &mut LineBuffer,
@@ -172,20 +172,20 @@ fn feed<W: Write>(
 ) -> Result<(), WriteFault>
     requires { batch.old.refused + length bytes.now < 2 ^ 64 }
     ensures told { (unfinished : List ℕ) → Buffers line.old unfinished
-        → Moves setting.now batch.old.database batch.new.database batch.old.refused batch.new.refused
+        → Moves context.now batch.old.database batch.new.database batch.old.refused batch.new.refused
         (W.contents out.old) (W.contents out.new) (whole_lines unfinished bytes.now) result
         × OnOk result (Buffers line.new (last_part unfinished bytes.now)) }
     ensures count { batch.new.refused ≤ batch.old.refused + length bytes.now }
 {
     for byte in bytes {
-        take_byte(setting, batch, out, line, *byte)?;
+        take_byte(context, batch, out, line, *byte)?;
     }
     Ok(())
 }
 
 // Answers each line that the reader gives.
 fn run_lines<R: Read, W: Write>(
-    setting: Setting,
+    context: Context,
     batch: &mut Batch,
     reader: &mut R,
     out: &mut W,
@@ -194,10 +194,10 @@ fn run_lines<R: Read, W: Write>(
     ensures { (s0 : Option State) → StandsFor batch.old.database s0
         → (seen : List ℕ) × Consumes (R.remaining reader.old) (R.remaining reader.new) seen
         × (s1 : Option State) × StandsFor batch.new.database s1
-        × RunOver setting.now seen (R.remaining reader.new) s0 s1 batch.new.refused
+        × RunOver context.now seen (R.remaining reader.new) s0 s1 batch.new.refused
         (W.contents out.old) (W.contents out.new) (result_err result) }
 {
-    let Ok(mut line) = LineBuffer::new(setting.alloc) else {
+    let Ok(mut line) = LineBuffer::new(context.alloc) else {
         return Err(StreamFault::OutOfMemory);
     };
     let mut chunk = [0u8; 65_536];
@@ -209,12 +209,12 @@ fn run_lines<R: Read, W: Write>(
             if line.is_empty() {
                 return Ok(());
             }
-            if answer(setting, batch, out, line.last_line()).is_err() {
+            if answer(context, batch, out, line.last_line()).is_err() {
                 return Err(StreamFault::Write);
             }
             return Ok(());
         }
-        if feed(setting, batch, out, &mut line, &chunk[..count]).is_err() {
+        if feed(context, batch, out, &mut line, &chunk[..count]).is_err() {
             return Err(StreamFault::Write);
         }
     }
@@ -244,7 +244,7 @@ pub fn run_batch<R: Read, W: Write>(
         database,
         refused: 0,
     };
-    let stream = run_lines(Setting { alloc, now }, &mut batch, reader, out).err();
+    let stream = run_lines(Context { alloc, now }, &mut batch, reader, out).err();
     BatchEnd {
         database: batch.database,
         refused: batch.refused,

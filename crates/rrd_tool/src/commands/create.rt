@@ -126,8 +126,7 @@ fn definitions(alloc: Global, words: &[&str]) -> Result<(List<DsDef>, List<RraDe
     Ok((sources, archives))
 }
 
-/// The command that the values are (rrdcreate). The step is 300 seconds by default, the start ten seconds before now,
-/// the journal's depth 16.
+/// The command that the values are.
 pub(crate) fn read(alloc: Global, matches: &ArgMatches<'_>, now: u64) -> Result<Command, LineFault>
     ensures { Meets (create_of (rows_of (found_of matches.now)) now) result }
 {

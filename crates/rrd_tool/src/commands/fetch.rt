@@ -38,8 +38,7 @@ pub(crate) fn shape<'a>(alloc: Global) -> Result<clap::Command<'a>, AllocError>
         .arg(letter_arg(alloc, "end", "end", 'e'))
 }
 
-/// The command that the values are (rrdfetch). A fetch ends now by default, begins a day before its end, and asks for a
-/// resolution of one second.
+/// The command that the values are.
 pub(crate) fn read(matches: &ArgMatches<'_>, now: u64) -> Result<Command, LineFault>
     ensures { Meets (fetch_of (rows_of (found_of matches.now)) now) result }
 {

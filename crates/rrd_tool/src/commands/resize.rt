@@ -39,7 +39,7 @@ impl Field for Change {
     }
 }
 
-/// The command that the values are (rrdresize).
+/// The command that the values are.
 pub(crate) fn read(matches: &ArgMatches<'_>) -> Result<Command, LineFault>
     ensures { Meets (resize_of (rows_of (found_of matches.now))) result }
 {

@@ -39,7 +39,7 @@ impl<T: Field + Drop> Field for (Name, T) {
     }
 }
 
-/// The command that the values are (rrdtune).
+/// The command that the values are.
 pub(crate) fn read(matches: &ArgMatches<'_>) -> Result<Command, LineFault>
     ensures { Meets (tune_of (rows_of (found_of matches.now))) result }
 {

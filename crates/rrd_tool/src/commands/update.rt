@@ -106,7 +106,7 @@ fn samples(alloc: Global, now: u64, words: &[&str]) -> Result<List<Sample>, Line
     Ok(samples)
 }
 
-/// The command that the values are (rrdupdate).
+/// The command that the values are.
 pub(crate) fn read(alloc: Global, matches: &ArgMatches<'_>, now: u64) -> Result<Command, LineFault>
     ensures { Meets (update_of (rows_of (found_of matches.now)) now) result }
 {

@@ -16,13 +16,13 @@ returns-in_err-take_byte-clause-told g c unfinished h =
     let bad = (c.in_err-take_byte.ensures.told (last_part unfinished (take i bytes)) inv.1).0 in
     let inside : i < length bytes = c.loop-byte-test.true in
     let Stops : List (List ℕ) → Type 0 = λ lines.
-    MovesStopped c.args.setting.now c.args.batch.now.database c.take_byte.new.batch.database c.args.batch.now.refused c.take_byte.new.batch.refused
+    MovesStopped c.args.context.now c.args.batch.now.database c.take_byte.new.batch.database c.args.batch.now.refused c.take_byte.new.batch.refused
     (g.W.Write.contents c.args.out.now) (g.W.Write.contents c.take_byte.new.out) lines in
     let here : Stops (whole_lines unfinished (take i bytes ++ b ∷ [])) =
-    moves_more {T = Unit {0}} c.args.setting.now _ _ _ _ _ _ _ _ _ unfinished (take i bytes) (b ∷ []) inv.0 (Err c.in_err-take_byte.field-0.0) bad in
+    moves_more {T = Unit {0}} c.args.context.now _ _ _ _ _ _ _ _ _ unfinished (take i bytes) (b ∷ []) inv.0 (Err c.in_err-take_byte.field-0.0) bad in
     let more : Stops (whole_lines unfinished (take (i + 1) bytes)) = rw (take_more bytes i 0 inside) here in
     let whole : Stops (whole_lines unfinished (take (i + 1) bytes ++ drop (i + 1) bytes)) =
-    moves_front c.args.setting.now _ _ _ _ _ _ unfinished (take (i + 1) bytes) (drop (i + 1) bytes) more in
+    moves_front c.args.context.now _ _ _ _ _ _ unfinished (take (i + 1) bytes) (drop (i + 1) bytes) more in
     rw p.1 (rw (take-append-drop (i + 1) bytes) at whole, tt)
 
 pub loop-byte-preserved : goal.loop-byte-preserved
@@ -34,7 +34,7 @@ loop-byte-preserved g c = (
       let good = c.in_ok-take_byte.ensures.told (last_part unfinished (take i bytes)) inv.1 in
       let inside : i < length bytes = c.loop-byte-test.true in
       rw (take_more bytes i 0 inside) (
-        moves_more {T = Unit {0}} c.args.setting.now _ _ _ _ _ _ _ _ _ unfinished (take i bytes) (get_or bytes i 0 ∷ []) inv.0 (Ok (tt {0})) good.0,
+        moves_more {T = Unit {0}} c.args.context.now _ _ _ _ _ _ _ _ _ unfinished (take i bytes) (get_or bytes i 0 ∷ []) inv.0 (Ok (tt {0})) good.0,
         rw (part_append unfinished (take i bytes) (get_or bytes i 0 ∷ [])) good.1,
       ),
   let old = c.loop-byte.invariant.1 in

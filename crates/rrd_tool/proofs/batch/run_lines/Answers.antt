@@ -12,7 +12,7 @@ returns-then-is_empty g c h0 s =
     let more = take c.in-Ok-read_some.count c.read_some.new.buffer in
     let none : more ≡ [] = ap (λ n. take n c.read_some.new.buffer) c.if-count-eq0.true in
     let nothing : is_empty (last_part [] seen) ≡ true = sym (c.is_empty.ensures (last_part [] seen) inv.5) ∙ c.if-is_empty.true in
-    let left = none_left (turn c.args.setting.now) h0 inv.2 inv.2 0 c.reads.batch.refused c.reads.batch.refused
+    let left = none_left (turn c.args.context.now) h0 inv.2 inv.2 0 c.reads.batch.refused c.reads.batch.refused
     (g.R.Read.remaining c.args.reader.now) (g.R.Read.remaining c.reads.reader) (g.R.Read.remaining c.read_some.new.reader)
     (g.W.Write.contents c.args.out.now) (g.W.Write.contents c.reads.out) (g.W.Write.contents c.reads.out)
     seen more inv.1 c.in-Ok-read_some.ensures.ok inv.4 none nothing in
@@ -26,7 +26,7 @@ returns-then-is_err g c h0 s =
     let none : more ≡ [] = ap (λ n. take n c.read_some.new.buffer) c.if-count-eq0.true in
     let some : is_empty (last_part [] seen) ≡ false = sym (c.is_empty.ensures (last_part [] seen) inv.5) ∙ c.if-is_empty.false in
     let told = c.answer.ensures.told (last_part [] seen) (c.last_line.ensures.text (last_part [] seen) inv.5) inv.2 inv.3 in
-    let failed = last_fails (turn c.args.setting.now) h0 inv.2 told.0 0 c.reads.batch.refused c.answer.new.batch.refused
+    let failed = last_fails (turn c.args.context.now) h0 inv.2 told.0 0 c.reads.batch.refused c.answer.new.batch.refused
     (g.R.Read.remaining c.args.reader.now) (g.R.Read.remaining c.reads.reader) (g.R.Read.remaining c.read_some.new.reader)
     (g.W.Write.contents c.args.out.now) (g.W.Write.contents c.reads.out) (g.W.Write.contents c.answer.new.out)
     seen more inv.1 c.in-Ok-read_some.ensures.ok inv.4 none some c.answer.result (sym c.if-is_err.ensures.value) told.2 in
@@ -40,7 +40,7 @@ returns-then-count-eq0 g c h0 s =
     let none : more ≡ [] = ap (λ n. take n c.read_some.new.buffer) c.if-count-eq0.true in
     let some : is_empty (last_part [] seen) ≡ false = sym (c.is_empty.ensures (last_part [] seen) inv.5) ∙ c.if-is_empty.false in
     let told = c.answer.ensures.told (last_part [] seen) (c.last_line.ensures.text (last_part [] seen) inv.5) inv.2 inv.3 in
-    let left = last_goes (turn c.args.setting.now) h0 inv.2 told.0 0 c.reads.batch.refused c.answer.new.batch.refused
+    let left = last_goes (turn c.args.context.now) h0 inv.2 told.0 0 c.reads.batch.refused c.answer.new.batch.refused
     (g.R.Read.remaining c.args.reader.now) (g.R.Read.remaining c.reads.reader) (g.R.Read.remaining c.read_some.new.reader)
     (g.W.Write.contents c.args.out.now) (g.W.Write.contents c.reads.out) (g.W.Write.contents c.answer.new.out)
     seen more inv.1 c.in-Ok-read_some.ensures.ok inv.4 none some c.answer.result (sym c.if-is_err.ensures.value) told.2 in
@@ -53,7 +53,7 @@ returns-then-is_err-2 g c h0 s =
     let more = take c.in-Ok-read_some.count c.read_some.new.buffer in
     let fed = c.feed.ensures.told (last_part [] seen) inv.5 in
     let told = fed.0 inv.2 inv.3 in
-    let failed = feed_fails (turn c.args.setting.now) h0 inv.2 told.0 0 c.reads.batch.refused c.feed.new.batch.refused
+    let failed = feed_fails (turn c.args.context.now) h0 inv.2 told.0 0 c.reads.batch.refused c.feed.new.batch.refused
     (g.R.Read.remaining c.args.reader.now) (g.R.Read.remaining c.reads.reader) (g.R.Read.remaining c.read_some.new.reader)
     (g.W.Write.contents c.args.out.now) (g.W.Write.contents c.reads.out) (g.W.Write.contents c.feed.new.out)
     seen more inv.1 c.in-Ok-read_some.ensures.ok inv.4 c.feed.result (sym c.if-is_err-2.ensures.value) told.2 in
@@ -67,7 +67,7 @@ reads-preserved g c = (
       let more = take c.in-Ok-read_some.count c.read_some.new.buffer in
       let fed = c.feed.ensures.told (last_part [] seen) inv.5 in
       let told = fed.0 inv.2 inv.3 in
-      let on = feed_goes (turn c.args.setting.now) h0 inv.2 told.0 0 c.reads.batch.refused c.feed.new.batch.refused
+      let on = feed_goes (turn c.args.context.now) h0 inv.2 told.0 0 c.reads.batch.refused c.feed.new.batch.refused
       (g.R.Read.remaining c.args.reader.now) (g.R.Read.remaining c.reads.reader) (g.R.Read.remaining c.read_some.new.reader)
       (g.W.Write.contents c.args.out.now) (g.W.Write.contents c.reads.out) (g.W.Write.contents c.feed.new.out)
       seen more inv.1 c.in-Ok-read_some.ensures.ok inv.4 c.feed.result (sym c.if-is_err-2.ensures.value) told.2 in

@@ -12,6 +12,6 @@ abbrev pub invariant-reads : goal.invariant-reads
 invariant-reads g l = ((s0 : Option State) → StandsFor l.fn.batch.database s0
     → (seen : List ℕ) × Consumes (g.R.Read.remaining l.fn.reader) (g.R.Read.remaining l.reader) seen
     × (s1 : Option State) × StandsFor l.batch.database s1
-    × Ran (turn l.setting.now) s0 s1 0 l.batch.refused (g.W.Write.contents l.fn.out) (g.W.Write.contents l.out) (whole_lines [] seen)
+    × Ran (turn l.context.now) s0 s1 0 l.batch.refused (g.W.Write.contents l.fn.out) (g.W.Write.contents l.out) (whole_lines [] seen)
     × Buffers l.line (last_part [] seen))
     × (l.batch.refused ≤ 65536 * l.counter)
