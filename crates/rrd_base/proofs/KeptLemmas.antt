@@ -16,7 +16,6 @@ use Rattle.rrd_spec.specs.Laws.{DatabaseStays, RevertStays}
 use Rattle.rrd_spec.specs.Validity.{IsValid, Fits, IsValidDatabase}
 use Rattle.rrd_spec.specs.Verdict.{verdict}
 use Rattle.rrd_base.proofs.DatabaseLemmas.{moved_last}
-use Rattle.rrd_spec.specs.Lists.{All-append, All-at, All-drop, All-take}
 use Rattle.rrd_base.proofs.PutBack.{can_put_back_each}
 use Rattle.rrd_base.proofs.JournalLemmas.{journal_push, journal_pop}
 

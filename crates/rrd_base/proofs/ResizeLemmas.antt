@@ -6,7 +6,6 @@ use Rattle.std.specs.List.{fold, enumerate_from, AllByRecursion}
 use Rattle.rrd_fixed.specs.declared.cell.Cell.{Cell}
 use Rattle.rrd_ring.specs.Rows.{newest_rows, width}
 use Rattle.rrd_spec.specs.History.{Archive, Content, Resized, rows_after}
-use Rattle.rrd_spec.specs.Listed.{rows_never_lost}
 use Rattle.rrd_spec.specs.declared.resize.Change.{Change}
 use Rattle.rrd_spec.specs.declared.resize.Change.TheVariants.{Grow, Shrink}
 use Rattle.rrd_spec.specs.Commands.{Resizing, moved, rows_changed, rows_of_archives}
@@ -16,7 +15,6 @@ use Rattle.rrd_spec.specs.Validity.{IsValid, IsValidArchive}
 use Rattle.rrd_spec.specs.Verdict.{verdict}
 use Rattle.rrd_spec.specs.Changes.{ResizeChanges, newest_of, rows_then}
 use Rattle.rrd_base.proofs.StoreLemmas.{width_is}
-use Rattle.rrd_spec.specs.Limits.{version_one}
 
 -- ---- the number of all rows
 

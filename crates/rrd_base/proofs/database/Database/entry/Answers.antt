@@ -6,7 +6,6 @@ use Rattle.std.proofs.lemmas.List.{length-reverse, length-map}
 use Rattle.rrd_base.specs.Journal.{entry_of, journal_of}
 use Rattle.rrd_spec.specs.Survivors.{Stored}
 use Rattle.rrd_base.proofs.JournalLemmas.{journal_at}
-use Rattle.rrd_spec.specs.Lists.{All-at}
 use Rattle.rrd_base.proofs.database.Database.entry.Goals as goal
 
 pub returns : goal.returns
