@@ -4,33 +4,38 @@ use Rattle.std.specs.List.{fold}
 use Rattle.rrd_fixed.specs.declared.cell.Cell.{Cell}
 use Rattle.rrd_fold.specs.declared.function.Function.TheVariants.{Average}
 use Rattle.rrd_fold.specs.Parts.{nothing, row_cell, step_cell, with_each}
-use Rattle.rrd_spec.specs.History.{Archive, Content, IsBase}
-use Rattle.rrd_spec.specs.Listed.{keep_last}
-use Rattle.rrd_spec.specs.Passing.{archive_passed, passed}
+use Rattle.rrd_spec.specs.History.{Archive, Content, IsBase, keep_last}
+use Rattle.rrd_spec.specs.Passed.{archive_passed, passed}
 
 -- ---- an archive, `before` steps having ended
 
 -- steps may pass in two pieces
 abbrev pub StepsInPieces : ℕ → ℕ → Archive → List (List Cell) → List (List Cell) → Type 0
 StepsInPieces sources before archive xs ys =
-    0 < archive.def.steps → archive_passed sources before (xs ++ ys) archive ≡ archive_passed sources (before + length xs) ys (archive_passed sources before xs archive)
+    0 < archive.def.steps
+    → archive_passed sources before (xs ++ ys) archive
+    ≡ archive_passed sources (before + length xs) ys (archive_passed sources before xs archive)
 
 -- steps that leave their row unfinished change its parts alone
 abbrev pub StepsWithin : ℕ → ℕ → Archive → List (List Cell) → Type 0
 StepsWithin sources before archive steps =
-    0 < archive.def.steps → before + length steps < (before / archive.def.steps + 1) * archive.def.steps →
-    archive_passed sources before steps archive ≡ record archive { parts = fold (with_each archive.def.function) archive.parts steps }
+    let def = archive.def in
+    0 < def.steps → before + length steps < (before / def.steps + 1) * def.steps →
+    archive_passed sources before steps archive
+    ≡ record archive { parts = fold (with_each def.function) archive.parts steps }
 
 -- how many steps the row in progress wants after the next one
 abbrev pub steps_left : ℕ → ℕ → ℕ
 steps_left before size = (before / size + 1) * size - (before + 1)
 
--- a step, and many of another that fill the row and go on: they leave the row that was in progress, whole rows of that other step, and what is past them
+-- a step, and many of another that fill the row and go on: they leave the row that was in progress, whole rows of
+-- that other step, and what is past them
 abbrev pub StepsOver : ℕ → ℕ → ℕ → Archive → List Cell → List Cell → Type 0
 StepsOver sources before count archive first then =
     let def = archive.def in
     let left = steps_left before def.steps in
-    let row = map (row_cell def.function def.xff def.steps) (fold (with_each def.function) archive.parts (first ∷ replicate left then)) in
+    let full = fold (with_each def.function) archive.parts (first ∷ replicate left then) in
+    let row = map (row_cell def.function def.xff def.steps) full in
     0 < def.steps → pos 0 ≤ℤ def.xff → def.xff ≤ℤ pos 999999 → length then ≡ sources → left ≤ count →
     archive_passed sources before (first ∷ replicate count then) archive ≡ record archive {
       parts = fold (with_each def.function) (replicate sources nothing) (replicate ((count - left) % def.steps) then);
@@ -39,7 +44,8 @@ StepsOver sources before count archive first then =
 
 -- ---- a content
 
--- the seconds that are left of the step in progress, and those of `count` whole steps, all of one rate for each source: they end the step, and then as many of these rates
+-- the seconds that are left of the step in progress, and those of `count` whole steps, all of one rate for each
+-- source: they end the step, and then as many of these rates
 abbrev pub SecondsOver : Content → ℕ → ℕ → List Cell → Type 0
 SecondsOver base left count rates =
     let sources = length base.sources in

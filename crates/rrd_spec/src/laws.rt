@@ -81,9 +81,12 @@ pub fn seconds_pass_at_once()
 /// Steps pass an archive in two pieces. Those that leave its row unfinished pass at once, and so do a
 /// step and any number of another one, over the ends of rows.
 pub fn steps_pass_at_once()
-    ensures pieces { (sources before : ℕ) (archive : Archive) (xs ys : List (List Cell)) → StepsInPieces sources before archive xs ys }
-    ensures within { (sources before : ℕ) (archive : Archive) (steps : List (List Cell)) → StepsWithin sources before archive steps }
-    ensures over { (sources before count : ℕ) (archive : Archive) (first then : List Cell) → StepsOver sources before count archive first then }
+    ensures pieces { (sources before : ℕ) (archive : Archive) (xs ys : List (List Cell)) →
+        StepsInPieces sources before archive xs ys }
+    ensures within { (sources before : ℕ) (archive : Archive) (steps : List (List Cell)) →
+        StepsWithin sources before archive steps }
+    ensures over { (sources before count : ℕ) (archive : Archive) (first then : List Cell) →
+        StepsOver sources before count archive first then }
 {
     one_cell_alone();
 }
@@ -91,13 +94,15 @@ pub fn steps_pass_at_once()
 /// What seconds leave of a valid content is valid, and what steps leave of a valid archive.
 pub fn seconds_stay_valid()
     ensures content { (base : Content) (seconds : List (List Cell)) → StaysValidFor base seconds }
-    ensures archive { (sources before : ℕ) (steps : List (List Cell)) (archive : Archive) → ArchiveStaysValid sources before steps archive }
+    ensures archive { (sources before : ℕ) (steps : List (List Cell)) (archive : Archive) →
+        ArchiveStaysValid sources before steps archive }
 {}
 
 /// Parts of no cell are within their bounds, and parts with one more cell each.
 pub fn parts_stay_bounded()
     ensures none { (function : Function) (sources : ℕ) → AreParts function sources 0 (replicate sources nothing) }
-    ensures one_more { (function : Function) (sources n : ℕ) (parts : List Part) (row : List Cell) → PartsGrow function sources n parts row }
+    ensures one_more { (function : Function) (sources n : ℕ) (parts : List Part) (row : List Cell) →
+        PartsGrow function sources n parts row }
 {}
 
 /// Each source accepts the raw value that it keeps of what is given.
@@ -107,7 +112,8 @@ pub fn raw_values_are_accepted()
 
 /// The rows that an update drops give back those from before it.
 pub fn rows_come_back()
-    ensures { (base : Content) (index : ℕ) (archive : Archive) (readings : List Reading) → RowsComeBack base index archive readings }
+    ensures { (base : Content) (index : ℕ) (archive : Archive) (readings : List Reading) →
+        RowsComeBack base index archive readings }
 {}
 
 /// An archive's rows, each by its age.
@@ -155,8 +161,10 @@ pub fn tune_changes_sources()
 /// An accepted resize is of an archive that is there. It leaves that archive its newest rows, after
 /// unknown ones where they are too few, and changes nothing else.
 pub fn resize_changes_rows()
-    ensures fits { (base : Content) (archive : ℕ) (change : Change) (rows : ℕ) → ResizeFits base archive change rows }
-    ensures changes { (base : Content) (archive : ℕ) (change : Change) (rows : ℕ) → ResizeChanges base archive change rows }
+    ensures fits { (base : Content) (archive : ℕ) (change : Change) (rows : ℕ) →
+        ResizeFits base archive change rows }
+    ensures changes { (base : Content) (archive : ℕ) (change : Change) (rows : ℕ) →
+        ResizeChanges base archive change rows }
 {}
 
 /// The entry of an accepted command fits the content after it.
@@ -186,7 +194,8 @@ pub fn stays_valid()
 
 /// So does it with the journal, and so does a revert.
 pub fn database_stays()
-    ensures changed { (now : Content) (journal : List Entry) (command : Command) → DatabaseStays now journal command }
+    ensures changed { (now : Content) (journal : List Entry) (command : Command) →
+        DatabaseStays now journal command }
     ensures reverted { (now : Content) (journal : List Entry) → RevertStays now journal }
 {}
 
