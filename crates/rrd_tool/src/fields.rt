@@ -1,14 +1,16 @@
 //! What texts stand for, and the parts of a command that are read from them.
 ghost use Rattle.std.specs.Prelude.{◌≡◌, ◌∷◌, ◌<◌, [], IfSome, length, option_map};
 ghost use Rattle.std.specs.Option.{option_map_or};
-ghost use Rattle.rrd_tool.specs.Fields.{bound_of, cut_of, function_of, kind_of, name_of, pieces};
+ghost use Rattle.rrd_tool.specs.Fields.{bound_of, cut_of, each_in, function_of, kind_of, name_of, pieces};
 ghost use Rattle.rrd_tool.specs.Meets.{Meets};
 ghost use Rattle.rrd_tool.specs.Unread.{given, optional, or_fault, required};
 ghost use Rattle.rrd_fixed.specs.Reading.{whole_of};
 
 use crate::{LineFault, Part};
+use rrd_base::List;
 use rrd_fixed::{Kind, Name, read_number, read_whole};
 use rrd_fold::Function;
+use std::alloc::Global;
 
 /// What a text can stand for.
 pub(crate) trait Field: Sized {
@@ -75,9 +77,9 @@ pub(crate) fn cut(text: &str) -> Option<(&str, &str)>
     text.split_once(':')
 }
 
-/// What stands before the first colon, and behind it if there is one.
+// What stands before the first colon, and behind it if there is one.
 #[tactic(auto, using(crate::proofs::Pieces::pieces_none, crate::proofs::Pieces::pieces_some))]
-pub(crate) fn first_piece(text: &str) -> (&str, Option<&str>)
+fn first_piece(text: &str) -> (&str, Option<&str>)
     ensures split { pieces text.now ≡ result.0.now ∷ option_map_or (λ rest. pieces rest.now) result.1 [] }
     ensures shorter { IfSome result.1 (λ rest. length rest.now < length text.now) }
 {
@@ -85,6 +87,28 @@ pub(crate) fn first_piece(text: &str) -> (&str, Option<&str>)
         Some((piece, rest)) => (piece, Some(rest)),
         None => (text, None),
     }
+}
+
+/// What stands between the colons.
+pub(crate) fn read_pieces<T: Field + Drop>(
+    alloc: Global,
+    part: Part,
+    number: u64,
+    text: &str,
+) -> Result<List<T>, LineFault>
+    ensures { Meets (or_fault part number (each_in T.meaning (pieces text.now))) result }
+{
+    let mut values = List::new(alloc);
+    let mut left = Some(text);
+    while let Some(text) = left {
+        let (piece, rest) = first_piece(text);
+        let value = or_fault(part, number, T::read(piece))?;
+        if values.push(value).is_err() {
+            return Err(LineFault::OutOfMemory);
+        }
+        left = rest;
+    }
+    Ok(values)
 }
 
 // A whole number.

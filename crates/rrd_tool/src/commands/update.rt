@@ -2,19 +2,18 @@
 ghost use Rattle.std.specs.Prelude.{◌≡◌, IfOk, List, Option, Some, map, ℕ};
 ghost use Rattle.clap.specs.Words.{found_of, rows_of};
 ghost use Rattle.rrd_tool.specs.Serves.{HasApp};
-ghost use Rattle.rrd_tool.specs.Commands.Update.{sample_of, template_of, time_of, update_app, update_of, value_of};
+ghost use Rattle.rrd_tool.specs.Commands.Update.{sample_of, time_of, update_app, update_of, value_of};
 ghost use Rattle.rrd_tool.specs.Executed.{Executes};
-ghost use Rattle.rrd_tool.specs.Fields.{each_in, pieces};
 ghost use Rattle.rrd_tool.specs.Meets.{Meets};
 ghost use Rattle.rrd_tool.specs.Unread.{each_of, or_fault};
 
 use crate::arguments::{letter_arg, many_arg, text_of, texts_of};
 use crate::execution::Outcome;
-use crate::fields::{Field, cut, first_piece, or_fault};
+use crate::fields::{Field, cut, or_fault, read_pieces};
 use crate::{Command, Fault, LineFault, Part};
 use clap::ArgMatches;
 use rrd_base::{Database, Given, List, Sample, Update};
-use rrd_fixed::{Name, read_number, read_whole};
+use rrd_fixed::{read_number, read_whole};
 use std::alloc::{AllocError, Global};
 
 /// The command's shape for clap.
@@ -24,23 +23,6 @@ pub(crate) fn shape<'a>(alloc: Global) -> Result<clap::Command<'a>, AllocError>
     clap::Command::new(alloc, "update")
         .arg(letter_arg(alloc, "template", "template", 't'))?
         .arg(many_arg(alloc, "sample"))
-}
-
-// The names of a template, joined by colons.
-fn read_template(alloc: Global, text: &str) -> Result<List<Name>, LineFault>
-    ensures { Meets (or_fault Part.Template 1 (template_of text.now)) result }
-{
-    let mut names = List::new(alloc);
-    let mut left = Some(text);
-    while let Some(text) = left {
-        let (piece, rest) = first_piece(text);
-        let name = or_fault(Part::Template, 1, Name::read(piece))?;
-        if names.push(name).is_err() {
-            return Err(LineFault::OutOfMemory);
-        }
-        left = rest;
-    }
-    Ok(names)
 }
 
 // A sample's time; `N` is now (rrdupdate).
@@ -66,30 +48,13 @@ impl Field for Given {
     }
 }
 
-// The values of the sample with this number, joined by colons.
-fn read_values(alloc: Global, number: u64, text: &str) -> Result<List<Given>, LineFault>
-    ensures { Meets (or_fault Part.Sample number (each_in value_of (pieces text.now))) result }
-{
-    let mut values = List::new(alloc);
-    let mut left = Some(text);
-    while let Some(text) = left {
-        let (piece, rest) = first_piece(text);
-        let value = or_fault(Part::Sample, number, Given::read(piece))?;
-        if values.push(value).is_err() {
-            return Err(LineFault::OutOfMemory);
-        }
-        left = rest;
-    }
-    Ok(values)
-}
-
 // The sample with this number: `time:value[:value..]`.
 fn read_sample(alloc: Global, now: u64, number: u64, text: &str) -> Result<Sample, LineFault>
     ensures { Meets (or_fault Part.Sample number (sample_of now text.now)) result }
 {
     let (time, values) = or_fault(Part::Sample, number, cut(text))?;
     let time = or_fault(Part::Sample, number, read_time(now, time))?;
-    let values = read_values(alloc, number, values)?;
+    let values = read_pieces(alloc, Part::Sample, number, values)?;
     Ok(Sample { time, values })
 }
 
@@ -112,7 +77,7 @@ pub(crate) fn read(alloc: Global, matches: &ArgMatches<'_>, now: u64) -> Result<
 {
     let template = match text_of(matches, "template") {
         None => None,
-        Some(text) => Some(read_template(alloc, text)?),
+        Some(text) => Some(read_pieces(alloc, Part::Template, 1, text)?),
     };
     let samples = match texts_of(matches, "sample") {
         None => List::new(alloc),
