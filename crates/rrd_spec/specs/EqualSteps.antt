@@ -4,8 +4,9 @@ use Rattle.std.specs.List.{fold}
 use Rattle.rrd_fixed.specs.declared.cell.Cell.{Cell}
 use Rattle.rrd_fold.specs.declared.function.Function.TheVariants.{Average}
 use Rattle.rrd_fold.specs.Parts.{nothing, row_cell, step_cell, with_each}
-use Rattle.rrd_spec.specs.History.{Archive, Content, IsBase, keep_last}
-use Rattle.rrd_spec.specs.Passed.{archive_passed, passed}
+use Rattle.rrd_spec.specs.History.{Archive, Content, IsBase}
+use Rattle.rrd_spec.specs.Listed.{keep_last}
+use Rattle.rrd_spec.specs.Passing.{archive_passed, passed}
 
 -- ---- an archive, `before` steps having ended
 
