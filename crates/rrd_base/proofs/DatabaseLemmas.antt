@@ -7,7 +7,7 @@ use Rattle.rrd_spec.specs.declared.settings.DsDef.{DsDef}
 use Rattle.rrd_fixed.specs.declared.name.Name.{Name}
 use Rattle.rrd_spec.specs.History.{Content, Sampled, Moment, moment_of, moment_after}
 use Rattle.rrd_spec.specs.Commands.{Updating, sample_of, moved, Command}
-use Rattle.rrd_spec.specs.Updating.{last_time, template_of}
+use Rattle.rrd_base.specs.Update.{last_time, template_of}
 use Rattle.rrd_spec.specs.Laws.{PassesAll}
 use Rattle.rrd_spec.specs.Verdict.{verdict, no_sample}
 

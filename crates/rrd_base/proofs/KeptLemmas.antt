@@ -2,16 +2,16 @@
 use Rattle.std.proofs.Common.{◌≡◌, sym, ◌∙◌, ap, subst, ◌-◌, ◌/◌, ◌<◌, List, [], ◌∷◌, ◌++◌, length, take, Some, None}
 use Rattle.std.specs.Prelude.{slice_get}
 use Rattle.circular_buffer.specs.Buffer.{keep_last}
-use Rattle.rrd_base.specs.declared.entry.Entry.{Entry}
-use Rattle.rrd_base.specs.declared.entry.Entry.TheVariants as entry
-use Rattle.rrd_base.specs.declared.entry.BeforeUpdate.{BeforeUpdate}
+use Rattle.rrd_base.specs.declared.journal.Entry.{Entry}
+use Rattle.rrd_base.specs.declared.journal.Entry.TheVariants as entry
+use Rattle.rrd_base.specs.declared.journal.BeforeUpdate.{BeforeUpdate}
 use Rattle.rrd_spec.specs.declared.update.Update.{Update}
 use Rattle.rrd_spec.specs.History.{Content}
 use Rattle.rrd_spec.specs.Commands.{Command, Updating, moved}
 use Rattle.rrd_spec.specs.Entries as entries
 use Rattle.rrd_spec.specs.Entries.{undone, entry as entry_for}
 use Rattle.rrd_base.specs.Journal.{before, update_of, entry_of, CanUndo, journal_of}
-use Rattle.rrd_spec.specs.Updating.{last_time}
+use Rattle.rrd_base.specs.Update.{last_time}
 use Rattle.rrd_spec.specs.Laws.{DatabaseStays, RevertStays}
 use Rattle.rrd_spec.specs.Validity.{IsValid, Fits, IsValidDatabase}
 use Rattle.rrd_spec.specs.Verdict.{verdict}

@@ -6,7 +6,7 @@ use Rattle.rrd_ring.specs.Rows.{width}
 use Rattle.rrd_spec.specs.History.{Archive}
 use Rattle.rrd_spec.specs.Entries.{SavedArchive, put_back, put_back_each}
 use Rattle.rrd_spec.specs.Validity.{IsValidArchive, FitsArchive, FitEach}
-use Rattle.rrd_base.specs.Store.{CanPutBack, CanPutBackEach, IsStepped}
+use Rattle.rrd_base.specs.Rra.{CanPutBack, CanPutBackEach, IsStepped}
 use Rattle.rrd_base.proofs.StoreLemmas.{width_is}
 
 -- the last one of a front, and what is before it

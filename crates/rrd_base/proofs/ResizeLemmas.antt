@@ -10,7 +10,7 @@ use Rattle.rrd_spec.specs.declared.resize.Change.{Change}
 use Rattle.rrd_spec.specs.declared.resize.Change.TheVariants.{Grow, Shrink}
 use Rattle.rrd_spec.specs.Commands.{Resizing, moved, rows_changed, rows_of_archives}
 use Rattle.rrd_spec.specs.Entries.{rows_at, with_rows_at}
-use Rattle.rrd_base.specs.Resized.{HasFewRows}
+use Rattle.rrd_base.specs.Resize.{HasFewRows}
 use Rattle.rrd_spec.specs.Validity.{IsValid, IsValidArchive}
 use Rattle.rrd_spec.specs.Verdict.{verdict}
 use Rattle.rrd_spec.specs.Changes.{ResizeChanges, newest_of, rows_then}

@@ -6,9 +6,9 @@ use Rattle.rrd_spec.specs.Validity.{IsValidDatabase}
 use Rattle.rrd_base.specs.declared.database.Database.TheInside.{Inside}
 
 abbrev pub stored_of : Inside → Stored
-stored_of d = record { content = d.contents; journal = journal_of d.journal.items }
+stored_of d = record { content = d.content; journal = journal_of d.journal.items }
 
 -- the database is valid with its journal, which has as many places as its depth says
 pub record IsDatabase (d : Inside) : Type 0 where
-  pub places : d.journal.capacity ≡ d.contents.depth
-  pub valid : IsValidDatabase d.contents (journal_of d.journal.items)
+  pub places : d.journal.capacity ≡ d.content.depth
+  pub valid : IsValidDatabase d.content (journal_of d.journal.items)

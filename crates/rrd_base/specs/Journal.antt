@@ -3,10 +3,10 @@ use Rattle.std.specs.Prelude.{◌<◌, List, length, map, reverse}
 use Rattle.rrd_spec.specs.History.{Archive}
 use Rattle.rrd_spec.specs.Entries as entries
 pub use Rattle.rrd_spec.specs.Entries.{before}
-use Rattle.rrd_base.specs.Store.{CanPutBackEach}
-use Rattle.rrd_base.specs.declared.entry.Entry.{Entry}
-use Rattle.rrd_base.specs.declared.entry.Entry.TheVariants as entry
-use Rattle.rrd_base.specs.declared.entry.BeforeUpdate.{BeforeUpdate}
+use Rattle.rrd_base.specs.Rra.{CanPutBackEach}
+use Rattle.rrd_base.specs.declared.journal.Entry.{Entry}
+use Rattle.rrd_base.specs.declared.journal.Entry.TheVariants as entry
+use Rattle.rrd_base.specs.declared.journal.BeforeUpdate.{BeforeUpdate}
 
 -- the entry of an update
 abbrev pub update_of : BeforeUpdate → entries.BeforeUpdate

@@ -9,7 +9,7 @@ ghost use Rattle.rrd_spec.specs.Commands.{raw_of, value_for};
 ghost use Rattle.rrd_spec.specs.Limits.{version_one};
 ghost use Rattle.rrd_spec.specs.Verdict.{first_refusal, is_admitted, sample_checks, update_checks};
 ghost use Rattle.rrd_spec.specs.Settings.{has_source, is_double};
-ghost use Rattle.rrd_spec.specs.Updating.{template_checks, template_of};
+ghost use Rattle.rrd_base.specs.Update.{template_checks, template_of};
 ghost use Rattle.rrd_fixed.specs.Rate.{IsAccepted};
 
 use crate::named::{Named, has_source, is_double};

@@ -13,8 +13,8 @@ ghost use Rattle.rrd_spec.specs.Verdict.{verdict};
 
 mod preparations;
 
-use crate::contents::Contents;
-use crate::store::take_all;
+use crate::content::Content;
+use crate::rra::take_all;
 use crate::update::raws_into;
 use crate::{DsDef, Update};
 use preparations::{add_seconds, close_steps};
@@ -93,7 +93,7 @@ impl Walk {
     }
 }
 
-impl Contents {
+impl Content {
     ghost use Rattle.rrd_base.specs.Walk.{HasPlaces, KeepsSample, least_of_ends, least_to, most_of_ends, most_to};
 
     // Lets so many seconds pass that leave the step unfinished. It is a turn for each source.
@@ -133,7 +133,7 @@ impl Contents {
             then: &walk.rates,
             count,
         };
-        take_all(&mut self.stores, &steps, &mut walk.row, &mut walk.meter);
+        take_all(&mut self.archives, &steps, &mut walk.row, &mut walk.meter);
     }
 
     // Lets all seconds up to a time pass: the rest of the step in progress with all whole steps after

@@ -24,7 +24,6 @@ pub mod Each
 pub mod Lists
 pub mod Facts
 pub mod Slow
-pub mod Updating
 pub mod Examples
 pub mod Preparations
 pub mod Refusals

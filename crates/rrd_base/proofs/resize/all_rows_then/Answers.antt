@@ -9,47 +9,47 @@ use Rattle.rrd_base.proofs.resize.all_rows_then.Goals as goal
 
 pub overflow_sub-result : goal.overflow_sub-result
 overflow_sub-result c =
-    let stores = c.args.stores.now in
-    let this = ap (λ (a : Archive). a.def.rows) c.index-stores-index.is in
+    let archives = c.args.archives.now in
+    let this = ap (λ (a : Archive). a.def.rows) c.index-archives-index.is in
     let def = ap (λ (d : RraDef). d.rows) c.def-old.ensures in
-    let some = some_of_all stores c.args.index c.index-stores-index.result c.requires.there in
-    let most = few_sum stores c.requires.few_rows in
+    let some = some_of_all archives c.args.index c.index-archives-index.result c.requires.there in
+    let most = few_sum archives c.requires.few_rows in
     omega (arith, this, def, some, most, c.all_rows.ensures, c.requires.few_stores)
 
 pub overflow_add-result : goal.overflow_add-result
 overflow_add-result c =
-    let stores = c.args.stores.now in
+    let archives = c.args.archives.now in
     let old = c.def-old.result.rows in
-    let this = ap (λ (a : Archive). a.def.rows) c.index-stores-index.is in
+    let this = ap (λ (a : Archive). a.def.rows) c.index-archives-index.is in
     let def = ap (λ (d : RraDef). d.rows) c.def-old.ensures in
-    let some = some_of_all stores c.args.index c.index-stores-index.result c.requires.there in
-    let most = few_sum stores c.requires.few_rows in
+    let some = some_of_all archives c.args.index c.index-archives-index.result c.requires.there in
+    let most = few_sum archives c.requires.few_rows in
     let new = changed_few c.args.change old c.args.rows in
     omega (arith, this, def, some, most, new, c.all_rows.ensures, c.rows_changed.ensures, c.requires.few_stores, c.requires.few)
 
 pub returns-clause-few : goal.returns-clause-few
 returns-clause-few c =
-    let stores = c.args.stores.now in
+    let archives = c.args.archives.now in
     let old = c.def-old.result.rows in
-    let this = ap (λ (a : Archive). a.def.rows) c.index-stores-index.is in
+    let this = ap (λ (a : Archive). a.def.rows) c.index-archives-index.is in
     let def = ap (λ (d : RraDef). d.rows) c.def-old.ensures in
-    let some = some_of_all stores c.args.index c.index-stores-index.result c.requires.there in
-    let most = few_sum stores c.requires.few_rows in
+    let some = some_of_all archives c.args.index c.index-archives-index.result c.requires.there in
+    let most = few_sum archives c.requires.few_rows in
     let new = changed_few c.args.change old c.args.rows in
     omega (arith, this, def, some, most, new, c.all_rows.ensures, c.rows_changed.ensures, c.requires.few_stores, c.requires.few)
 
 pub returns-clause-rows : goal.returns-clause-rows
 returns-clause-rows c =
-    let stores = c.args.stores.now in
-    let rows = rows_of_archives stores in
+    let archives = c.args.archives.now in
+    let rows = rows_of_archives archives in
     let index = c.args.index in
     let old = get_or rows index 0 in
-    let this = ap (λ (a : Archive). a.def.rows) c.index-stores-index.is in
+    let this = ap (λ (a : Archive). a.def.rows) c.index-archives-index.is in
     let def = ap (λ (d : RraDef). d.rows) c.def-old.ensures in
-    let is : get_or rows index 0 ≡ c.def-old.result.rows = rows_at_archive stores index c.index-stores-index.result c.requires.there ∙ sym this ∙ sym def in
-    let some = some_of_all stores index c.index-stores-index.result c.requires.there in
+    let is : get_or rows index 0 ≡ c.def-old.result.rows = rows_at_archive archives index c.index-archives-index.result c.requires.there ∙ sym this ∙ sym def in
+    let some = some_of_all archives index c.index-archives-index.result c.requires.there in
     let new : c.rows_changed.result ≡ commands.rows_changed c.args.change old c.args.rows = c.rows_changed.ensures ∙ ap (λ n. commands.rows_changed c.args.change n c.args.rows) (sym is) in
-    let set = sum_set 0 index index (commands.rows_changed c.args.change old c.args.rows) rows (omega arith) (omega (arith, length-map stores (λ (a : Archive). a.def.rows), c.requires.there)) in
+    let set = sum_set 0 index index (commands.rows_changed c.args.change old c.args.rows) rows (omega arith) (omega (arith, length-map archives (λ (a : Archive). a.def.rows), c.requires.there)) in
     let sum_is : sum (all_rows_after (Resized index (commands.rows_changed c.args.change old c.args.rows)) rows) + old ≡ sum rows + commands.rows_changed c.args.change old c.args.rows = set in
-    let most = few_sum stores c.requires.few_rows in
+    let most = few_sum archives c.requires.few_rows in
     omega (arith, this, def, is, some, most, new, sum_is, c.all_rows.ensures, c.requires.few_stores)

@@ -2,7 +2,7 @@ use Rattle.std.proofs.Common.{◌≡◌, true, take}
 use Rattle.std.specs.List.{list_all}
 use Rattle.rrd_spec.specs.declared.settings.DsDef.{DsDef}
 use Rattle.rrd_spec.specs.Commands.{value_for}
-use Rattle.rrd_spec.specs.Updating.{template_of}
+use Rattle.rrd_base.specs.Update.{template_of}
 use Rattle.rrd_spec.specs.Verdict.{is_admitted}
 use Rattle.rrd_base.proofs.update.are_admitted.Given as goal
 

@@ -1,7 +1,7 @@
 use Rattle.std.proofs.Common.{sym, ◌∙◌, ap, suc, ◌+◌, ◌++◌, map, take, drop, set, length, ◌<◌, arith}
 use Rattle.rrd_spec.specs.declared.settings.DsDef.{DsDef}
 use Rattle.rrd_spec.specs.Commands.{raw_of, value_for}
-use Rattle.rrd_spec.specs.Updating.{template_of}
+use Rattle.rrd_base.specs.Update.{template_of}
 use Rattle.rrd_spec.specs.Lists.{map_more}
 use Rattle.rrd_base.proofs.update.raws_into.Goals as goal
 

@@ -1,6 +1,6 @@
 use Rattle.std.proofs.Common.{sym, ◌∙◌, ap, get_or}
 use Rattle.rrd_spec.specs.Commands.{value_for}
-use Rattle.rrd_spec.specs.Updating.{template_of}
+use Rattle.rrd_base.specs.Update.{template_of}
 use Rattle.rrd_base.proofs.UpdatingLemmas.{own_value}
 use Rattle.rrd_base.proofs.update.value_for.Goals as goal
 

@@ -1,5 +1,5 @@
 use Rattle.std.proofs.Common.{◌≡◌, refl, sym, ◌∙◌, ap, subst}
-use Rattle.rrd_base.specs.declared.entry.Entry.TheVariants as entry
+use Rattle.rrd_base.specs.declared.journal.Entry.TheVariants as entry
 use Rattle.rrd_spec.specs.Commands.{Resizing, moved}
 use Rattle.rrd_spec.specs.Entries as entries
 use Rattle.rrd_spec.specs.Entries.{rows_at, entry as entry_for}
@@ -11,11 +11,11 @@ use Rattle.rrd_base.proofs.ResizeLemmas.{resized_is}
 use Rattle.rrd_base.proofs.database.Database.resize.Goals as goal
 
 pub resize-old-requires-clause-there : goal.resize-old-requires-clause-there
-resize-old-requires-clause-there c = (c.resize_changes_rows.ensures.fits c.self.inside.contents c.args.archive c.args.change c.args.rows c.self.invariant.valid.content_is (sym c.in_ok-check_resize.ensures)).there
+resize-old-requires-clause-there c = (c.resize_changes_rows.ensures.fits c.self.inside.content c.args.archive c.args.change c.args.rows c.self.invariant.valid.content_is (sym c.in_ok-check_resize.ensures)).there
 
 pub resize-old-requires-clause-valid : goal.resize-old-requires-clause-valid
 resize-old-requires-clause-valid c =
-    let X = c.self.inside.contents in
+    let X = c.self.inside.content in
     let accepted = sym c.in_ok-check_resize.ensures in
     let resized = resized_is c.resize_changes_rows.ensures.changes X c.args.archive c.args.change c.args.rows c.in-Ok.new c.self.invariant.valid.content_is accepted (c.resize_changes_rows.ensures.fits X c.args.archive c.args.change c.args.rows c.self.invariant.valid.content_is accepted).there c.in-Ok.ensures in
     subst IsValid (sym resized) (c.stays_valid.ensures X (Resizing c.args.archive c.args.change c.args.rows) c.self.invariant.valid.content_is accepted)
@@ -25,10 +25,10 @@ invariant_of-self c =
     let d = c.self.inside in
     let command = Resizing c.args.archive c.args.change c.args.rows in
     let accepted = sym c.in_ok-check_resize.ensures in
-    let resized = resized_is c.resize_changes_rows.ensures.changes d.contents c.args.archive c.args.change c.args.rows c.in-Ok.new c.self.invariant.valid.content_is accepted (c.resize_changes_rows.ensures.fits d.contents c.args.archive c.args.change c.args.rows c.self.invariant.valid.content_is accepted).there c.in-Ok.ensures in
-    let this : entry_of (entry.Resize c.args.archive c.resize-old.result) ≡ entry_for d.contents command = ap (entries.ResizeEntry c.args.archive) c.resize-old.ensures.old in
-    let one = added c.database_stays.ensures.changed d.contents d.journal.items command (entry.Resize c.args.archive c.resize-old.result) c.self.invariant.valid accepted this in
-    let now : c.resize-old.new.self ≡ moved d.contents command = c.resize-old.ensures.contents ∙ resized in
+    let resized = resized_is c.resize_changes_rows.ensures.changes d.content c.args.archive c.args.change c.args.rows c.in-Ok.new c.self.invariant.valid.content_is accepted (c.resize_changes_rows.ensures.fits d.content c.args.archive c.args.change c.args.rows c.self.invariant.valid.content_is accepted).there c.in-Ok.ensures in
+    let this : entry_of (entry.Resize c.args.archive c.resize-old.result) ≡ entry_for d.content command = ap (entries.ResizeEntry c.args.archive) c.resize-old.ensures.old in
+    let one = added c.database_stays.ensures.changed d.content d.journal.items command (entry.Resize c.args.archive c.resize-old.result) c.self.invariant.valid accepted this in
+    let now : c.resize-old.new.self ≡ moved d.content command = c.resize-old.ensures.content ∙ resized in
     rw (now, c.push_back-oldest.ensures.items, c.self.invariant.places) (record {
       places = refl;
       valid = one.after;
@@ -39,10 +39,10 @@ returns-clause-ok c =
     let d = c.self.inside in
     let command = Resizing c.args.archive c.args.change c.args.rows in
     let accepted = sym c.in_ok-check_resize.ensures in
-    let resized = resized_is c.resize_changes_rows.ensures.changes d.contents c.args.archive c.args.change c.args.rows c.in-Ok.new c.self.invariant.valid.content_is accepted (c.resize_changes_rows.ensures.fits d.contents c.args.archive c.args.change c.args.rows c.self.invariant.valid.content_is accepted).there c.in-Ok.ensures in
-    let this : entry_of (entry.Resize c.args.archive c.resize-old.result) ≡ entry_for d.contents command = ap (entries.ResizeEntry c.args.archive) c.resize-old.ensures.old in
-    let one = added c.database_stays.ensures.changed d.contents d.journal.items command (entry.Resize c.args.archive c.resize-old.result) c.self.invariant.valid accepted this in
-    let now : c.resize-old.new.self ≡ moved d.contents command = c.resize-old.ensures.contents ∙ resized in
+    let resized = resized_is c.resize_changes_rows.ensures.changes d.content c.args.archive c.args.change c.args.rows c.in-Ok.new c.self.invariant.valid.content_is accepted (c.resize_changes_rows.ensures.fits d.content c.args.archive c.args.change c.args.rows c.self.invariant.valid.content_is accepted).there c.in-Ok.ensures in
+    let this : entry_of (entry.Resize c.args.archive c.resize-old.result) ≡ entry_for d.content command = ap (entries.ResizeEntry c.args.archive) c.resize-old.ensures.old in
+    let one = added c.database_stays.ensures.changed d.content d.journal.items command (entry.Resize c.args.archive c.resize-old.result) c.self.invariant.valid accepted this in
+    let now : c.resize-old.new.self ≡ moved d.content command = c.resize-old.ensures.content ∙ resized in
     rw (now, c.push_back-oldest.ensures.items, c.self.invariant.places)
-    (ap (λ j. let k : Stored = record { content = moved d.contents command; journal = j } in k) one.journal_is
+    (ap (λ j. let k : Stored = record { content = moved d.content command; journal = j } in k) one.journal_is
     ∙ ap (λ (k : Stored). changed k command) c.self.view_is)

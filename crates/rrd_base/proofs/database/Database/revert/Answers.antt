@@ -9,20 +9,20 @@ use Rattle.rrd_base.proofs.database.Database.revert.Goals as goal
 pub undo-requires-clause-fits : goal.undo-requires-clause-fits
 undo-requires-clause-fits c =
     let d = c.self.inside in
-    (newest c.database_stays.ensures.reverted d.contents d.journal.items c.in-Some.entry c.self.invariant.valid c.in-Some.ensures.value).can
+    (newest c.database_stays.ensures.reverted d.content d.journal.items c.in-Some.entry c.self.invariant.valid c.in-Some.ensures.value).can
 
 pub undo-requires-clause-valid : goal.undo-requires-clause-valid
 undo-requires-clause-valid c =
     let d = c.self.inside in
-    (newest c.database_stays.ensures.reverted d.contents d.journal.items c.in-Some.entry c.self.invariant.valid c.in-Some.ensures.value).valid
+    (newest c.database_stays.ensures.reverted d.content d.journal.items c.in-Some.entry c.self.invariant.valid c.in-Some.ensures.value).valid
 
 pub invariant_of-self-2 : goal.invariant_of-self-2
 invariant_of-self-2 c =
     let d = c.self.inside in
     let e = c.in-Some.entry in
-    let one = newest c.database_stays.ensures.reverted d.contents d.journal.items e c.self.invariant.valid c.in-Some.ensures.value in
+    let one = newest c.database_stays.ensures.reverted d.content d.journal.items e c.self.invariant.valid c.in-Some.ensures.value in
     rw (c.undo.ensures, c.pop_back.ensures.items) (record {
-      places = c.self.invariant.places ∙ sym (undone_depth d.contents (entry_of e));
+      places = c.self.invariant.places ∙ sym (undone_depth d.content (entry_of e));
       valid = one.after;
     })
 
@@ -33,7 +33,7 @@ pub returns-clause-ok : goal.returns-clause-ok
 returns-clause-ok c =
     let d = c.self.inside in
     let e = c.in-Some.entry in
-    let one = newest c.database_stays.ensures.reverted d.contents d.journal.items e c.self.invariant.valid c.in-Some.ensures.value in
+    let one = newest c.database_stays.ensures.reverted d.content d.journal.items e c.self.invariant.valid c.in-Some.ensures.value in
     let journal : c.args.self.now.journal ≡ entry_of e ∷ journal_of (take (length d.journal.items - 1) d.journal.items) = sym (ap (λ (k : Stored). k.journal) c.self.view_is) ∙ one.newest_is in (
       some_entry (entry_of e) c.args.self.now.journal (journal_of (take (length d.journal.items - 1) d.journal.items)) journal,
       rw (c.undo.ensures, c.pop_back.ensures.items) (sym (ap (reverted c.args.self.now.content) journal ∙ ap (λ (k : Stored). let r : Stored = record { content = undone k.content (entry_of e); journal = journal_of (take (length d.journal.items - 1) d.journal.items) } in r) (sym c.self.view_is))),

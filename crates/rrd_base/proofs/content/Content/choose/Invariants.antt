@@ -1,0 +1,7 @@
+use Rattle.std.proofs.Common.{◌≡◌, take}
+use Rattle.rrd_spec.specs.Choice.{searched}
+use Rattle.rrd_spec.specs.History.{definitions}
+use Rattle.rrd_base.proofs.content.Content.choose.Given as goal
+
+abbrev pub invariant-loop-number : goal.invariant-loop-number
+invariant-loop-number l = l.search ≡ searched l.self.step l.self.last l.fn.request (definitions (take l.number l.self.archives))

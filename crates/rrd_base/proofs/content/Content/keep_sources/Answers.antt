@@ -1,0 +1,21 @@
+use Rattle.std.proofs.Common.{◌≡◌, sym, ◌∙◌, ap, subst, length, ◌≤◌, None}
+use Rattle.rrd_spec.specs.Facts.{length-accepted}
+use Rattle.rrd_spec.specs.History.{Content}
+use Rattle.rrd_spec.specs.Commands.{TuningBy}
+use Rattle.rrd_base.specs.Content.{content_of}
+use Rattle.rrd_spec.specs.Entries.{sources_before}
+use Rattle.rrd_spec.specs.Verdict.{verdict}
+use Rattle.rrd_base.proofs.content.Content.keep_sources.Goals as goal
+
+pub keep_sources-requires-clause-one_each : goal.keep_sources-requires-clause-one_each
+keep_sources-requires-clause-one_each c =
+    let d = c.self.inside in
+    ap length c.deref-2.ensures.value ∙ length-accepted d.sources.items d.raws.items c.self.invariant.raws_are ∙ sym (ap length c.deref.ensures.value)
+
+pub keep_sources-requires-clause-few : goal.keep_sources-requires-clause-few
+keep_sources-requires-clause-few c =
+    let d = c.self.inside in
+    let t = c.args.tuning.now in
+    let accepted : verdict (content_of d) (TuningBy t) ≡ None = subst (λ (x : Content). verdict x (TuningBy t) ≡ None) (sym c.self.view_is) c.requires in
+    let few = (c.entry_fits.ensures (content_of d) (TuningBy t) c.self.invariant accepted).few in
+    subst (λ ss. length (sources_before t 0 ss c.deref-2.result.now) ≤ 5) (sym c.deref.ensures.value) (subst (λ rs. length (sources_before t 0 d.sources.items rs) ≤ 5) (sym c.deref-2.ensures.value) few)

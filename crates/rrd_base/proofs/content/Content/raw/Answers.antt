@@ -1,0 +1,19 @@
+use Rattle.std.proofs.Common.{sym, ◌∙◌, ap, subst, ◌<◌, length, get_or, arith}
+use Rattle.std.proofs.lemmas.List.{get_or_default}
+use Rattle.rrd_fixed.specs.declared.raw.Raw.TheVariants.{Unknown}
+use Rattle.rrd_spec.specs.Facts.{length-accepted}
+use Rattle.rrd_spec.specs.History.{Content}
+use Rattle.rrd_base.proofs.content.Content.raw.Goals as goal
+
+pub index-requires : goal.index-requires
+index-requires c =
+    let d = c.self.inside in
+    let within : c.args.source < length d.sources.items = subst (λ (x : Content). c.args.source < length x.sources) (sym c.self.view_is) c.requires in
+    omega (arith, length-accepted d.sources.items d.raws.items c.self.invariant.raws_are, d.raws.ok.0)
+
+pub returns : goal.returns
+returns c =
+    let d = c.self.inside in
+    let within : c.args.source < length d.sources.items = subst (λ (x : Content). c.args.source < length x.sources) (sym c.self.view_is) c.requires in
+    c.index.ensures ∙ get_or_default d.raws.items c.args.source c.index.result.now Unknown (omega (arith, length-accepted d.sources.items d.raws.items c.self.invariant.raws_are))
+    ∙ ap (λ (x : Content). get_or x.raws c.args.source Unknown) c.self.view_is

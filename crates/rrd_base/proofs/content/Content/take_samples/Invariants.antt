@@ -1,0 +1,37 @@
+use Rattle.std.proofs.Common.{◌≡◌, ◌+◌, ◌-◌, ◌*◌, ◌≤◌, length, map, drop}
+use Rattle.std.specs.List.{AllByRecursion}
+use Rattle.rrd_spec.specs.History.{Sampled}
+use Rattle.rrd_spec.specs.Listed.{content_listed}
+use Rattle.rrd_spec.specs.Commands.{Updating, sample_of}
+use Rattle.rrd_spec.specs.Listed.{moved_listed}
+use Rattle.rrd_base.specs.Walk.{HasPlaces}
+use Rattle.rrd_spec.specs.History.{definitions}
+use Rattle.rrd_spec.specs.Turns.{in_all, least_of_sample, most_of_sample}
+use Rattle.rrd_base.specs.Update.{template_of}
+use Rattle.rrd_spec.specs.Verdict.{sample_checks}
+use Rattle.rrd_spec.specs.Validity.{IsValid}
+use Rattle.rrd_spec.proofs.Accepted.{Passes}
+use Rattle.rrd_base.proofs.Catching.{SameShape}
+use Rattle.rrd_base.proofs.content.Content.take_samples.Given as goal
+use Rattle.rrd_spec.specs.Limits.{version_one}
+
+abbrev pub invariant-loop-sample : goal.invariant-loop-sample
+invariant-loop-sample l =
+    let base = l.fn.self in
+    let sources = base.sources in
+    let template = template_of sources l.update.template in
+    let left = drop l.sample-index l.update.samples in
+    let least = least_of_sample (length sources) base.step (definitions base.archives) in
+    let most = most_of_sample (length sources) base.step (definitions base.archives) in
+    record {
+      comes_to : content_listed l.self (map Sampled (map (sample_of sources template) left)) ≡ moved_listed base (Updating l.update);
+      pass : AllByRecursion Passes (sample_checks version_one sources template l.self.last left);
+      same_sources : l.self.sources ≡ sources;
+      same_shape : SameShape base l.self;
+      valid : IsValid l.self;
+      from : base.last ≤ l.self.last;
+      places : HasPlaces l.walk (length sources);
+      least : in_all least base.last l.update.samples ≤ l.walk.meter + in_all least l.self.last left;
+      most : l.walk.meter + in_all most l.self.last left ≤ in_all most base.last l.update.samples;
+      few : l.walk.meter ≤ 5000000 * (l.self.last - base.last);
+    }

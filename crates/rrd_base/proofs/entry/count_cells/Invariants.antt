@@ -1,9 +1,0 @@
-use Rattle.std.proofs.Common.{◌≡◌, ◌*◌, ◌≤◌, take}
-use Rattle.rrd_spec.specs.Entries.{cells_saved}
-use Rattle.rrd_base.proofs.entry.count_cells.Given as goal
-
-abbrev pub invariant-loop-archive : goal.invariant-loop-archive
-invariant-loop-archive l = record {
-  counted : l.cells ≡ cells_saved (take l.archive-index l.archives);
-  few : l.cells ≤ l.archive-index * 64000000;
-}

@@ -1,0 +1,34 @@
+use Rattle.std.proofs.Common.{sym, ◌∙◌, ap, subst, ◌+◌, ◌≤◌, ℕ, List, replicate, arith}
+use Rattle.std.proofs.lemmas.List.{with_items_is}
+use Rattle.std.specs.List.{AllByRecursion, fold}
+use Rattle.rrd_fold.specs.Bounds.{Consolidating}
+use Rattle.rrd_fold.specs.Parts.{Part, with_each}
+use Rattle.rrd_spec.specs.History.{Archive}
+use Rattle.rrd_spec.specs.Each.{map_each, with_steps, AllOf}
+use Rattle.rrd_spec.proofs.EachLemmas.{AllOf-with_steps}
+use Rattle.rrd_base.proofs.StoreLemmas.{shown, goes_on, preps_fit}
+use Rattle.rrd_base.proofs.rra.Rra.go_on.Goals as goal
+
+pub add_steps-requires-clause-fits : goal.add_steps-requires-clause-fits
+add_steps-requires-clause-fits c =
+    let a = c.self.inside in
+    let n : ℕ = c.args.count in
+    let fits = subst (λ (x : Archive). AllByRecursion (λ (p : Part). p.known + n ≤ 1000000) x.parts) (sym c.self.view_is) c.requires.fits in
+    subst (λ (preps : List Consolidating). AllByRecursion (λ (prep : Consolidating). prep.part.known + n ≤ 1000000) preps) (sym c.deref_mut.ensures.value)
+    (preps_fit n 1000000 1000000 a.preps.items (omega arith) fits)
+
+pub invariant_of-self : goal.invariant_of-self
+invariant_of-self c =
+    let a = c.self.inside in
+    let now = with_items_is a.preps c.add_steps.new.preps (omega arith) ∙ c.add_steps.ensures.added ∙ ap (λ preps. map_each (with_steps c.args.count) preps c.args.step.now) c.deref_mut.ensures.value in
+    subst (AllOf a.def.function) (sym now) (AllOf-with_steps a.def.function c.args.count a.preps.items c.args.step.now c.self.invariant)
+
+pub returns-clause-value : goal.returns-clause-value
+returns-clause-value c =
+    let a = c.self.inside in
+    let step = c.args.step.now in
+    let count : ℕ = c.args.count in
+    let now = with_items_is a.preps c.add_steps.new.preps (omega arith) ∙ c.add_steps.ensures.added ∙ ap (λ preps. map_each (with_steps count) preps step) c.deref_mut.ensures.value in
+    ap (λ preps. shown a.def preps a.rows) now
+    ∙ goes_on a.def a.preps.items a.rows step count c.self.invariant
+    ∙ ap (λ (x : Archive). let y : Archive = record x { parts = fold (with_each x.def.function) x.parts (replicate count step) } in y) c.self.view_is

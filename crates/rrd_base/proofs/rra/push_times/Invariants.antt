@@ -1,0 +1,12 @@
+use Rattle.std.proofs.Common.{◌≡◌, ◌+◌, ◌*◌, ◌++◌, replicate, length}
+use Rattle.rrd_ring.specs.Rows.{HasWidth}
+use Rattle.rrd_spec.specs.Listed.{keep_last}
+use Rattle.rrd_base.proofs.rra.push_times.Given as goal
+
+abbrev pub invariant-loop-i : goal.invariant-loop-i
+invariant-loop-i l = record {
+  rows : l.rows ≡ keep_last (length l.fn.rows) (l.fn.rows ++ replicate l._i l.row);
+  count : length l.rows ≡ length l.fn.rows;
+  wide : HasWidth (length l.row) l.rows;
+  turns : l.meter ≡ l.fn.meter + length l.row * l._i;
+}

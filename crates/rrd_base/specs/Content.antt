@@ -1,0 +1,18 @@
+-- The content that a database's fields hold.
+use Rattle.rrd_spec.specs.History.{Content}
+use Rattle.rrd_spec.specs.Validity.{IsValid}
+use Rattle.rrd_base.specs.declared.content.Content.TheInside.{Inside}
+
+abbrev pub content_of : Inside → Content
+content_of d = record {
+  step = d.step;
+  depth = d.depth;
+  sources = d.sources.items;
+  last = d.last;
+  raws = d.raws.items;
+  parts = d.preps.items;
+  archives = d.archives.items;
+}
+
+abbrev pub IsValidContents : Inside → Type 0
+IsValidContents d = IsValid (content_of d)

@@ -1,0 +1,51 @@
+//! What the journal holds of a change, so that it can be taken back.
+ghost use Rattle.std.specs.Prelude.{◌≡◌, ◌≤◌, [], None, length};
+ghost use Rattle.std.specs.List.{AllByRecursion};
+ghost use Rattle.rrd_ring.specs.Rows.{HasWidth};
+ghost use Rattle.rrd_spec.specs.Entries.{SavedArchive as Saved, cells_saved};
+ghost use Rattle.rrd_spec.specs.Limits.{version_one};
+
+use crate::SourceBefore;
+use crate::rra::SavedArchive;
+use arrayvec::ArrayVec;
+use rrd_fixed::Raw;
+use rrd_fold::StepPrep;
+use rrd_ring::Archive;
+
+/// A database as it was before an update.
+#[derive(Drop)]
+pub struct BeforeUpdate {
+    /// The time of the last sample before, or the start, in seconds.
+    pub last: u64,
+    /// Each data source's last raw value.
+    pub raws: Vec<Raw>,
+    /// For each data source the preparation of its unfinished step.
+    pub preps: Vec<StepPrep>,
+    /// Of each archive what the update replaced.
+    pub archives: Vec<SavedArchive>,
+}
+
+/// A journal entry: what an update, a tune or a resize replaced.
+#[derive(Drop)]
+pub enum Entry {
+    /// What was before an update.
+    Update(BeforeUpdate),
+    /// The data sources that a tune named, at most 5, by rising number.
+    Tune(ArrayVec<SourceBefore, 5>),
+    /// The number of an archive that was resized, and its rows before.
+    Resize { archive: u64, old: Archive },
+}
+
+/// How many cells are kept of all archives, so many sources having been defined.
+pub(crate) fn count_cells(archives: &[SavedArchive], sources: u64) -> u64
+    requires few_archives { length archives.now ≤ version_one.most_archives }
+    requires few_sources { sources ≤ version_one.most_sources }
+    requires one_each { AllByRecursion (λ (old : Saved). HasWidth sources old.rows) archives.now }
+    ensures { result ≡ cells_saved archives.now }
+{
+    let mut cells = 0;
+    for archive in archives {
+        cells += archive.rows().len() * sources;
+    }
+    cells
+}

@@ -1,0 +1,380 @@
+//! Archives: for each source the preparation of its unfinished row, and the rows.
+ghost use Rattle.std.specs.Prelude.{◌≡◌, ℕ, List, ◌+◌, ◌*◌, ◌^◌, ◌<◌, ◌≤◌, ◌∷◌, ◌++◌, length, map, min, replicate, slice_index_or, take as first, IfNone, IfOk, IfSome, pos, ◌≤ℤ◌};
+ghost use Rattle.std.specs.List.{AllByRecursion, fold};
+ghost use Rattle.rrd_fixed.specs.declared.cell.Cell.{Cell};
+ghost use Rattle.rrd_fixed.specs.declared.cell.Cell.TheVariants.{Unknown};
+ghost use Rattle.rrd_fold.specs.Parts.{Part, nothing, row_cell, with_each};
+ghost use Rattle.rrd_ring.specs.Rows.{HasWidth, newest_rows, row_at, width};
+ghost use Rattle.rrd_spec.specs.Entries.{put_back as after_put_back, put_back_each, saved};
+ghost use Rattle.rrd_spec.specs.Limits.{version_one};
+ghost use Rattle.rrd_spec.specs.Creating.{new_archive};
+ghost use Rattle.rrd_spec.specs.Each.{AllOf, parts_in};
+ghost use Rattle.rrd_spec.specs.Listed.{keep_last};
+ghost use Rattle.rrd_spec.specs.Passing.{archive_passed};
+ghost use Rattle.rrd_spec.specs.Cells.{row_of_age};
+ghost use Rattle.rrd_base.specs.Rra.{CanPutBack, CanPutBackEach, IsStepped};
+ghost use Rattle.rrd_base.specs.Walk.{AreSteps, cells_of, count_of, least_of_all, least_of_one, most_of_all, most_of_one, sources_of};
+ghost use Rattle.rrd_spec.specs.Validity.{IsRow, IsValidArchive};
+
+use crate::RraDef;
+use crate::rows::HasRows;
+use crate::walk::{Steps, add_steps, close_rows};
+use rrd_fixed::{Cell, Meter};
+use rrd_fold::{Function, RowPrep};
+use rrd_ring::{Archive, Dropped};
+use std::alloc::{AllocError, Global};
+use std::marker::Model;
+
+/// An archive: its settings, for each source the preparation of its unfinished row, and its rows,
+/// oldest first.
+#[derive(Drop)]
+pub(crate) struct Rra {
+    def: RraDef,
+    preps: Vec<RowPrep>,
+    rows: Archive,
+}
+
+impl Model for Rra {
+    ghost use Rattle.rrd_spec.specs.Each.{AllOf, parts_in};
+    ghost use Rattle.rrd_spec.specs.History.{Archive};
+
+    ghost Value = { Archive };
+
+    ghost view = { λ s. record { def = s.def; parts = parts_in s.preps.items; rows = s.rows } };
+
+    ghost invariant = { λ s. AllOf s.def.function s.preps.items };
+}
+
+impl HasRows for Rra {
+    ghost rows_of = { λ rra. rra.def.rows };
+
+    fn row_count(&self) -> u64 {
+        self.def.rows
+    }
+}
+
+/// What is kept of an archive before an update: for each data source the preparation of its
+/// unfinished row, and the oldest rows, as many as the update finishes or all.
+#[derive(Drop)]
+pub struct SavedArchive {
+    function: Function,
+    preps: Vec<RowPrep>,
+    rows: Dropped,
+}
+
+impl Model for SavedArchive {
+    ghost use Rattle.rrd_spec.specs.Each.{AllOf, parts_in};
+    ghost use Rattle.rrd_spec.specs.Entries.{SavedArchive};
+
+    ghost Value = { SavedArchive };
+
+    ghost view = { λ s. record { function = s.function; parts = parts_in s.preps.items; rows = s.rows } };
+
+    ghost invariant = { λ s. AllOf s.function s.preps.items };
+}
+
+impl SavedArchive {
+    /// What is kept of an archive of this function. The preparations are of that function.
+    pub fn new(function: Function, preps: Vec<RowPrep>, rows: Dropped) -> SavedArchive
+        requires { AllOf function preps.items }
+        ensures { result ≡ record { function = function; parts = parts_in preps.items; rows = rows } }
+    {
+        SavedArchive {
+            function,
+            preps,
+            rows,
+        }
+    }
+
+    /// The archive's consolidation function.
+    pub fn function(&self) -> Function
+        ensures { result ≡ self.now.function }
+    {
+        self.function
+    }
+
+    /// For each data source the preparation of its unfinished row.
+    pub fn preps(&self) -> &[RowPrep]
+        ensures parts { parts_in result.now ≡ self.now.parts }
+        ensures function { AllOf self.now.function result.now }
+    {
+        self.preps.as_slice()
+    }
+
+    /// The rows, oldest first.
+    pub fn rows(&self) -> &Dropped
+        ensures { result.now ≡ self.now.rows }
+    {
+        &self.rows
+    }
+}
+
+impl Rra {
+    /// An archive without steps, so many sources having been defined: all its rows are unknown.
+    pub(crate) fn new(alloc: Global, def: RraDef, sources: u64) -> Result<Rra, AllocError>
+        requires some_rows { 0 < def.rows }
+        requires few_rows { def.rows ≤ version_one.most_rows }
+        requires some_sources { 0 < sources }
+        requires few_sources { sources ≤ version_one.most_sources }
+        ensures { IfOk result (λ s. s ≡ record { def = def; parts = replicate sources nothing; rows = replicate def.rows (replicate sources Unknown) }) }
+    {
+        let preps = vec![in alloc; RowPrep::new(def.function); sources as usize]?;
+        let rows = Archive::new(alloc, def.rows, sources)?;
+        Ok(Rra { def, preps, rows })
+    }
+
+    /// The settings.
+    pub(crate) fn def(&self) -> RraDef
+        ensures { result ≡ self.now.def }
+    {
+        self.def
+    }
+
+    /// How many rows there are.
+    pub(crate) fn rows(&self) -> u64
+        ensures { result ≡ length self.now.rows }
+    {
+        self.rows.rows()
+    }
+
+    /// The cells of the row of an age, 0 for the newest; none where there is no such row.
+    pub(crate) fn row_of_age(&self, age: i128) -> Option<&[Cell]>
+        ensures some { IfSome result (λ row. (unknown : List Cell) → row_of_age self.now.rows unknown age ≡ row.now) }
+        ensures none { IfNone result ((unknown : List Cell) → row_of_age self.now.rows unknown age ≡ unknown) }
+    {
+        let rows = self.rows();
+        if age < 0 || age >= i128::from(rows) {
+            return None;
+        }
+        Some(self.rows.row(rows - 1 - age as u64))
+    }
+
+    /// The preparation of a source's unfinished row.
+    pub(crate) fn prep(&self, source: usize) -> RowPrep
+        requires { source < length self.now.parts }
+        ensures { result ≡ record { function = self.now.def.function; part = slice_index_or self.now.parts source nothing } }
+    {
+        self.preps[source]
+    }
+
+    // Adds to each preparation its source's step, so many times. It is a turn for each.
+    fn go_on(&mut self, step: &[Cell], count: u64, meter: &mut Meter)
+        requires row { IsRow (length self.old.parts) step.now }
+        requires fits { AllByRecursion (λ (p : Part). p.known + count ≤ 1000000) self.old.parts }
+        requires turns { meter.old + length step.now < 2 ^ 64 }
+        ensures value { self.new ≡ record self.old {
+          parts = fold (with_each self.old.def.function) self.old.parts (replicate count step.now);
+        } }
+        ensures ticked { meter.new ≡ meter.old + length step.now }
+    {
+        add_steps(&mut self.preps, step, count, meter);
+    }
+
+    // Writes the cells of the row that has all its steps, and starts each preparation anew. It is a
+    // turn for each.
+    fn close_row(&mut self, row: &mut [Cell], meter: &mut Meter)
+        requires places { length row.old ≡ length self.old.parts }
+        requires some_steps { 0 < self.old.def.steps }
+        requires few_steps { self.old.def.steps ≤ version_one.most_steps }
+        requires xff_low { pos 0 ≤ℤ self.old.def.xff }
+        requires xff_high { self.old.def.xff ≤ℤ pos version_one.greatest_share }
+        requires fits { AllByRecursion (λ (p : Part). p.known ≤ self.old.def.steps) self.old.parts }
+        requires turns { meter.old + length row.old < 2 ^ 64 }
+        ensures cells { let def = self.old.def in
+            row.new ≡ map (row_cell def.function def.xff def.steps) self.old.parts }
+        ensures value { self.new ≡ record self.old { parts = replicate (length row.old) nothing } }
+        ensures ticked { meter.new ≡ meter.old + length row.old }
+    {
+        close_rows(&mut self.preps, &self.def, row, meter);
+    }
+
+    // Takes a row and then so many of another, those only that are still there in the end. It is a
+    // turn for each cell of these.
+    fn push(&mut self, row: &[Cell], then: &[Cell], times: u64, meter: &mut Meter)
+        requires wide { HasWidth (length row.now) self.old.rows }
+        requires same_width { length then.now ≡ length row.now }
+        requires turns { meter.old + length row.now * min (1 + times) (length self.old.rows) < 2 ^ 64 }
+        ensures value { let all = self.old.rows ++ row.now ∷ replicate times then.now in
+            self.new ≡ record self.old { rows = keep_last (length self.old.rows) all } }
+        ensures ticked { meter.new ≡ meter.old + length row.now * min (1 + times) (length self.old.rows) }
+    {
+        push_rows(&mut self.rows, row, then, times, meter);
+    }
+
+    /// Takes steps. All whole rows of the ones that are alike are taken at once: their cells are
+    /// those steps', and only rows that are still there in the end are written. `row` has a place for
+    /// each cell of a row.
+    pub(crate) fn take(&mut self, steps: &Steps, row: &mut [Cell], meter: &mut Meter)
+        requires valid { IsValidArchive (sources_of steps.now) steps.now.before self.old }
+        requires steps_are { AreSteps steps.now }
+        requires places { length row.old ≡ sources_of steps.now }
+        requires turns { meter.old + most_of_one steps.now self.old < 2 ^ 64 }
+        ensures value { let passed = archive_passed (sources_of steps.now) steps.now.before (cells_of steps.now) in
+            self.new ≡ passed self.old }
+        ensures valid { IsValidArchive (sources_of steps.now) (steps.now.before + count_of steps.now) self.new }
+        ensures least { meter.old + least_of_one steps.now self.old ≤ meter.new }
+        ensures most { meter.new ≤ meter.old + most_of_one steps.now self.old }
+        ensures places { length row.new ≡ length row.old }
+    {
+        let in_row = self.def().steps;
+        let left = (steps.before / in_row + 1) * in_row - (steps.before + 1);
+        self.go_on(steps.first, 1, meter);
+        if steps.count < left {
+            self.go_on(steps.then, steps.count, meter);
+        } else {
+            let more = steps.count - left;
+            self.go_on(steps.then, left, meter);
+            self.close_row(row, meter);
+            self.push(row, steps.then, more / in_row, meter);
+            self.go_on(steps.then, more % in_row, meter);
+        }
+    }
+
+    /// A copy of the preparations and of the `n` oldest rows.
+    pub(crate) fn save(&self, alloc: Global, n: u64) -> Result<SavedArchive, AllocError>
+        requires { n ≤ length self.now.rows }
+        ensures { IfOk result (λ s. s ≡ record { function = self.now.def.function; parts = self.now.parts; rows = first n self.now.rows }) }
+    {
+        let preps = Vec::from_slice(alloc, &self.preps)?;
+        let rows = self.rows.oldest(alloc, n)?;
+        Ok(SavedArchive::new(self.def.function, preps, rows))
+    }
+
+    // A copy of what an update from one time to another takes from the archive, steps of so many
+    // seconds being taken.
+    fn save_between(
+        &self,
+        alloc: Global,
+        step: u64,
+        from: u64,
+        to: u64,
+    ) -> Result<SavedArchive, AllocError>
+        requires stepped { IsStepped self.now }
+        requires some_step { 0 < step }
+        requires small_step { step ≤ version_one.longest_step }
+        ensures { IfOk result (λ s. s ≡ saved step from to self.now) }
+    {
+        let resolution = self.def.resolution(step);
+        let ended = (to / resolution).saturating_sub(from / resolution);
+        self.save(alloc, ended.min(self.rows.rows()))
+    }
+
+    /// Puts preparations and rows back. As many of the newest rows fall out. It takes no memory.
+    pub(crate) fn put_back(&mut self, saved: SavedArchive)
+        requires { CanPutBack self.old saved }
+        ensures { self.new ≡ after_put_back self.old saved }
+    {
+        let SavedArchive { preps, rows, .. } = saved;
+        self.preps = preps;
+        self.rows.put_back(rows);
+    }
+
+    /// The rows, so many of them (1 to 1,000,000): the newest, or all after unknown ones
+    /// (rrdresize).
+    pub(crate) fn resized(&self, alloc: Global, rows: u64) -> Result<Archive, AllocError>
+        requires some_rows { 0 < rows }
+        requires few_rows { rows ≤ version_one.most_rows }
+        ensures { IfOk result (λ new. new ≡ newest_rows rows self.now.rows) }
+    {
+        self.rows.resized(alloc, rows)
+    }
+
+    /// Takes these rows for its own, and gives its own for them. It takes no memory.
+    pub(crate) fn swap_rows(&mut self, rows: &mut Archive)
+        ensures mine { self.new ≡ record self.old { def = record self.old.def { rows = length rows.old }; rows = rows.old } }
+        ensures others { rows.new ≡ self.old.rows }
+    {
+        self.def.rows = rows.rows();
+        self.rows.swap(rows);
+    }
+}
+
+/// Each archive takes steps. `row` has a place for each cell of a row.
+pub(crate) fn take_all(archives: &mut [Rra], steps: &Steps, row: &mut [Cell], meter: &mut Meter)
+    requires valid { AllByRecursion (IsValidArchive (sources_of steps.now) steps.now.before) archives.old }
+    requires steps_are { AreSteps steps.now }
+    requires places { length row.old ≡ sources_of steps.now }
+    requires turns { meter.old + most_of_all steps.now archives.old < 2 ^ 64 }
+    ensures value { let passed = archive_passed (sources_of steps.now) steps.now.before (cells_of steps.now) in
+        archives.new ≡ map passed archives.old }
+    ensures valid { let before = steps.now.before + count_of steps.now in
+        AllByRecursion (IsValidArchive (sources_of steps.now) before) archives.new }
+    ensures least { meter.old + least_of_all steps.now archives.old ≤ meter.new }
+    ensures most { meter.new ≤ meter.old + most_of_all steps.now archives.old }
+{
+    for i in 0..archives.len() {
+        archives[i].take(steps, row, meter);
+    }
+}
+
+// Pushes a row and then so many of another, those only that are still there in the end.
+fn push_rows(rows: &mut Archive, row: &[Cell], then: &[Cell], times: u64, meter: &mut Meter)
+    requires wide { HasWidth (length row.now) rows.old }
+    requires same_width { length then.now ≡ length row.now }
+    requires turns { meter.old + length row.now * min (1 + times) (length rows.old) < 2 ^ 64 }
+    ensures rows { rows.new ≡ keep_last (length rows.old) (rows.old ++ row.now ∷ replicate times then.now) }
+    ensures turns { meter.new ≡ meter.old + length row.now * min (1 + times) (length rows.old) }
+{
+    if times < rows.rows() {
+        rows.push_row(row, meter);
+    }
+    push_times(rows, then, times, meter);
+}
+
+// Pushes a row so many times, those only that are still there in the end.
+fn push_times(rows: &mut Archive, row: &[Cell], times: u64, meter: &mut Meter)
+    requires wide { HasWidth (length row.now) rows.old }
+    requires turns { meter.old + length row.now * min times (length rows.old) < 2 ^ 64 }
+    ensures rows { rows.new ≡ keep_last (length rows.old) (rows.old ++ replicate times row.now) }
+    ensures turns { meter.new ≡ meter.old + length row.now * min times (length rows.old) }
+{
+    for _i in 0..times.min(rows.rows()) {
+        rows.push_row(row, meter);
+    }
+}
+
+/// A copy of what an update from one time to another takes from each archive, steps of so many
+/// seconds being taken.
+pub(crate) fn save_all(
+    alloc: Global,
+    archives: &[Rra],
+    step: u64,
+    from: u64,
+    to: u64,
+) -> Result<Vec<SavedArchive>, AllocError>
+    requires stepped { AllByRecursion IsStepped archives.now }
+    requires some_step { 0 < step }
+    requires small_step { step ≤ version_one.longest_step }
+    ensures { IfOk result (λ all. all.items ≡ map (saved step from to) archives.now) }
+{
+    let mut all = Vec::with_capacity(alloc, archives.len())?;
+    for rra in archives {
+        let saved = rra.save_between(alloc, step, from, to)?;
+        all.push(saved)?;
+    }
+    Ok(all)
+}
+
+/// Puts back what was kept of each archive. It takes no memory.
+pub(crate) fn put_back_all(archives: &mut [Rra], mut saved: Vec<SavedArchive>)
+    requires fits { CanPutBackEach archives.old saved.items }
+    ensures { archives.new ≡ put_back_each archives.old saved.items }
+{
+    while let Some(old) = saved.pop() {
+        archives[saved.len()].put_back(old);
+    }
+}
+
+/// New archives of these settings, so many sources having been defined.
+pub(crate) fn new_all(alloc: Global, defs: &[RraDef], sources: u64) -> Result<Vec<Rra>, AllocError>
+    requires rows { AllByRecursion (λ def. (0 < def.rows) × (def.rows ≤ version_one.most_rows)) defs.now }
+    requires some_sources { 0 < sources }
+    requires few_sources { sources ≤ version_one.most_sources }
+    ensures { IfOk result (λ archives. archives.items ≡ map (new_archive sources) defs.now) }
+{
+    let mut archives = Vec::with_capacity(alloc, defs.len())?;
+    for def in defs {
+        archives.push(Rra::new(alloc, *def, sources)?)?;
+    }
+    Ok(archives)
+}
