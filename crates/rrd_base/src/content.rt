@@ -1,31 +1,25 @@
 //! What a database holds, but for its journal: how seconds and samples change it.
-ghost use Rattle.std.specs.Prelude.{◌≡◌, ℕ, ◌+◌, ◌-◌, ◌*◌, ◌/◌, ◌%◌, ◌^◌, ◌<◌, ◌≤◌, [], ◌∷◌, length, map, replicate, slice_index_or, IfOk, IfNone, IfSome, None, pos, ◌-ℤ◌};
+ghost use Rattle.std.specs.Prelude.{◌≡◌, ℕ, ◌-◌, ◌/◌, ◌^◌, ◌<◌, ◌≤◌, length, slice_index_or, IfOk, IfNone, IfSome, None, pos, ◌-ℤ◌};
 ghost use Rattle.std.specs.Int.{int_div_euclid};
 ghost use Rattle.std.specs.Result.{result_err};
 ghost use Rattle.rrd_spec.specs.Limits.{version_one};
 ghost use Rattle.rrd_spec.specs.Choice.{choice_of};
 ghost use Rattle.rrd_spec.specs.Commands.{Resizing, TuningBy, Updating, moved, rows_changed, rows_of_archives};
-ghost use Rattle.rrd_spec.specs.Listed.{moved_listed};
 ghost use Rattle.rrd_spec.specs.Creating.{create_verdict, created};
 ghost use Rattle.rrd_spec.specs.Cells.{cell_at, prep_at};
 ghost use Rattle.rrd_spec.specs.History.{definitions};
 ghost use Rattle.rrd_fixed.specs.declared.cell.Cell.TheVariants.{Unknown as CellUnknown};
 ghost use Rattle.rrd_fixed.specs.declared.raw.Raw.TheVariants.{Unknown};
 ghost use Rattle.rrd_fold.specs.Parts.{nothing};
-ghost use Rattle.rrd_base.specs.Journal.{CanUndo, before, entry_of, update_of};
-ghost use Rattle.rrd_spec.specs.Entries.{UpdateEntry, ResizeEntry, TuneEntry, entry as entry_for, rows_at, undone, with_rows_at};
-ghost use Rattle.rrd_base.specs.Rra.{CanPutBackEach};
+ghost use Rattle.rrd_spec.specs.Entries.{TuneEntry, entry as entry_for, rows_at, with_rows_at};
 ghost use Rattle.rrd_spec.specs.Verdict.{verdict};
-ghost use Rattle.rrd_spec.specs.History.{Sampled};
-ghost use Rattle.rrd_spec.specs.Listed.{content_listed};
 ghost use Rattle.rrd_ring.specs.Rows.{newest_rows};
-ghost use Rattle.rrd_spec.specs.Validity.{AreAccepted, IsRow, IsValid};
+ghost use Rattle.rrd_spec.specs.Validity.{IsValid};
 
 use crate::fetch::Search;
-use crate::journal::{BeforeUpdate, Entry};
 use crate::resize::{check_resize, rows_changed};
-use crate::rra::{Rra, new_all, put_back_all, save_all};
-use crate::tune::{check_tune, keep_sources, put_sources_back, tune_all};
+use crate::rra::{Rra, new_all};
+use crate::tune::{check_tune, keep_sources, tune_all};
 use crate::update::check_update;
 use crate::{Change, Chosen, CreateSpec, DsDef, Refusal, SourceBefore, Tuning, Update};
 use arrayvec::ArrayVec;
@@ -157,53 +151,6 @@ impl Content {
         rra.row_of_age(age(self.last, resolution, time))
     }
 
-    /// What the journal keeps of an update that ends at a time.
-    pub(crate) fn before(&self, alloc: Global, end: u64) -> Result<BeforeUpdate, AllocError>
-        ensures { IfOk result (λ b. update_of b ≡ before self.now end) }
-    {
-        Ok(BeforeUpdate {
-            last: self.last,
-            raws: Vec::from_slice(alloc, &self.raws)?,
-            preps: Vec::from_slice(alloc, &self.preps)?,
-            archives: save_all(alloc, &self.archives, self.step, self.last, end)?,
-        })
-    }
-
-    /// Puts back what was before an update. It takes no memory.
-    fn undo_update(&mut self, before: BeforeUpdate)
-        requires fits { CanPutBackEach self.old.archives before.archives.items }
-        requires valid { IsValid (undone self.old (UpdateEntry (update_of before))) }
-        ensures { self.new ≡ undone self.old (UpdateEntry (update_of before)) }
-    {
-        let BeforeUpdate {
-            last,
-            raws,
-            preps,
-            archives,
-        } = before;
-        self.last = last;
-        self.raws = raws;
-        self.preps = preps;
-        put_back_all(&mut self.archives, archives);
-    }
-
-    // Puts back the sources that a tune named.
-    fn undo_tune(&mut self, olds: &ArrayVec<SourceBefore, 5>)
-        requires { IsValid (undone self.old (TuneEntry olds.now.items)) }
-        ensures { self.new ≡ undone self.old (TuneEntry olds.now.items) }
-    {
-        put_sources_back(&mut self.sources, &mut self.raws, olds.as_slice());
-    }
-
-    // Puts back the rows of a resized archive.
-    fn undo_resize(&mut self, archive: usize, mut old: Archive)
-        requires there { archive < length self.old.archives }
-        requires valid { IsValid (undone self.old (ResizeEntry archive old)) }
-        ensures { self.new ≡ undone self.old (ResizeEntry archive old) }
-    {
-        self.archives[archive].swap_rows(&mut old);
-    }
-
     /// Gives the sources the settings that a tune asks.
     pub(crate) fn tune(&mut self, tuning: &Tuning)
         requires { verdict self.old (TuningBy tuning.now) ≡ None }
@@ -248,19 +195,6 @@ impl Content {
     {
         self.archives[archive].swap_rows(&mut rows);
         rows
-    }
-
-    /// Puts back what was before a change. It takes no memory.
-    pub(crate) fn undo(&mut self, entry: Entry)
-        requires fits { CanUndo self.old.archives entry }
-        requires valid { IsValid (undone self.old (entry_of entry)) }
-        ensures { self.new ≡ undone self.old (entry_of entry) }
-    {
-        match entry {
-            Entry::Update(before) => self.undo_update(before),
-            Entry::Tune(olds) => self.undo_tune(&olds),
-            Entry::Resize { archive, old } => self.undo_resize(archive as usize, old),
-        }
     }
 }
 

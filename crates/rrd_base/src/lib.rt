@@ -16,8 +16,7 @@ mod walk;
 
 pub use create::check_create;
 pub use database::Database;
-pub use journal::{BeforeUpdate, Entry};
-pub use rra::SavedArchive;
+pub use journal::{BeforeUpdate, Entry, SavedArchive};
 pub use rrd_spec::{
     Change, Chosen, CreateSpec, DsDef, Given, List, Receipt, Refusal, RraDef, Sample, SourceBefore,
     Tuning, Update,

@@ -1,27 +1,27 @@
 //! Archives: for each source the preparation of its unfinished row, and the rows.
-ghost use Rattle.std.specs.Prelude.{◌≡◌, ℕ, List, ◌+◌, ◌*◌, ◌^◌, ◌<◌, ◌≤◌, ◌∷◌, ◌++◌, length, map, min, replicate, slice_index_or, take as first, IfNone, IfOk, IfSome, pos, ◌≤ℤ◌};
+ghost use Rattle.std.specs.Prelude.{◌≡◌, List, ◌+◌, ◌*◌, ◌^◌, ◌<◌, ◌≤◌, ◌∷◌, ◌++◌, length, map, min, replicate, slice_index_or, take as first, IfNone, IfOk, IfSome, pos, ◌≤ℤ◌};
 ghost use Rattle.std.specs.List.{AllByRecursion, fold};
 ghost use Rattle.rrd_fixed.specs.declared.cell.Cell.{Cell};
 ghost use Rattle.rrd_fixed.specs.declared.cell.Cell.TheVariants.{Unknown};
 ghost use Rattle.rrd_fold.specs.Parts.{Part, nothing, row_cell, with_each};
-ghost use Rattle.rrd_ring.specs.Rows.{HasWidth, newest_rows, row_at, width};
-ghost use Rattle.rrd_spec.specs.Entries.{put_back as after_put_back, put_back_each, saved};
+ghost use Rattle.rrd_ring.specs.Rows.{HasWidth, newest_rows};
+ghost use Rattle.rrd_spec.specs.Entries.{put_back as after_put_back, saved};
 ghost use Rattle.rrd_spec.specs.Limits.{version_one};
 ghost use Rattle.rrd_spec.specs.Creating.{new_archive};
 ghost use Rattle.rrd_spec.specs.Each.{AllOf, parts_in};
 ghost use Rattle.rrd_spec.specs.Listed.{keep_last};
 ghost use Rattle.rrd_spec.specs.Passing.{archive_passed};
 ghost use Rattle.rrd_spec.specs.Cells.{row_of_age};
-ghost use Rattle.rrd_base.specs.Rra.{CanPutBack, CanPutBackEach, IsStepped};
+ghost use Rattle.rrd_base.specs.Rra.{CanPutBack, IsStepped};
 ghost use Rattle.rrd_base.specs.Walk.{AreSteps, cells_of, count_of, least_of_all, least_of_one, most_of_all, most_of_one, sources_of};
 ghost use Rattle.rrd_spec.specs.Validity.{IsRow, IsValidArchive};
 
-use crate::RraDef;
 use crate::rows::HasRows;
 use crate::walk::{Steps, add_steps, close_rows};
+use crate::{RraDef, SavedArchive};
 use rrd_fixed::{Cell, Meter};
-use rrd_fold::{Function, RowPrep};
-use rrd_ring::{Archive, Dropped};
+use rrd_fold::RowPrep;
+use rrd_ring::Archive;
 use std::alloc::{AllocError, Global};
 use std::marker::Model;
 
@@ -50,62 +50,6 @@ impl HasRows for Rra {
 
     fn row_count(&self) -> u64 {
         self.def.rows
-    }
-}
-
-/// What is kept of an archive before an update: for each data source the preparation of its
-/// unfinished row, and the oldest rows, as many as the update finishes or all.
-#[derive(Drop)]
-pub struct SavedArchive {
-    function: Function,
-    preps: Vec<RowPrep>,
-    rows: Dropped,
-}
-
-impl Model for SavedArchive {
-    ghost use Rattle.rrd_spec.specs.Each.{AllOf, parts_in};
-    ghost use Rattle.rrd_spec.specs.Entries.{SavedArchive};
-
-    ghost Value = { SavedArchive };
-
-    ghost view = { λ s. record { function = s.function; parts = parts_in s.preps.items; rows = s.rows } };
-
-    ghost invariant = { λ s. AllOf s.function s.preps.items };
-}
-
-impl SavedArchive {
-    /// What is kept of an archive of this function. The preparations are of that function.
-    pub fn new(function: Function, preps: Vec<RowPrep>, rows: Dropped) -> SavedArchive
-        requires { AllOf function preps.items }
-        ensures { result ≡ record { function = function; parts = parts_in preps.items; rows = rows } }
-    {
-        SavedArchive {
-            function,
-            preps,
-            rows,
-        }
-    }
-
-    /// The archive's consolidation function.
-    pub fn function(&self) -> Function
-        ensures { result ≡ self.now.function }
-    {
-        self.function
-    }
-
-    /// For each data source the preparation of its unfinished row.
-    pub fn preps(&self) -> &[RowPrep]
-        ensures parts { parts_in result.now ≡ self.now.parts }
-        ensures function { AllOf self.now.function result.now }
-    {
-        self.preps.as_slice()
-    }
-
-    /// The rows, oldest first.
-    pub fn rows(&self) -> &Dropped
-        ensures { result.now ≡ self.now.rows }
-    {
-        &self.rows
     }
 }
 
@@ -240,9 +184,9 @@ impl Rra {
         Ok(SavedArchive::new(self.def.function, preps, rows))
     }
 
-    // A copy of what an update from one time to another takes from the archive, steps of so many
+    /// A copy of what an update from one time to another takes from the archive, steps of so many
     // seconds being taken.
-    fn save_between(
+    pub(crate) fn save_between(
         &self,
         alloc: Global,
         step: u64,
@@ -330,38 +274,6 @@ fn push_times(rows: &mut Archive, row: &[Cell], times: u64, meter: &mut Meter)
 {
     for _i in 0..times.min(rows.rows()) {
         rows.push_row(row, meter);
-    }
-}
-
-/// A copy of what an update from one time to another takes from each archive, steps of so many
-/// seconds being taken.
-pub(crate) fn save_all(
-    alloc: Global,
-    archives: &[Rra],
-    step: u64,
-    from: u64,
-    to: u64,
-) -> Result<Vec<SavedArchive>, AllocError>
-    requires stepped { AllByRecursion IsStepped archives.now }
-    requires some_step { 0 < step }
-    requires small_step { step ≤ version_one.longest_step }
-    ensures { IfOk result (λ all. all.items ≡ map (saved step from to) archives.now) }
-{
-    let mut all = Vec::with_capacity(alloc, archives.len())?;
-    for rra in archives {
-        let saved = rra.save_between(alloc, step, from, to)?;
-        all.push(saved)?;
-    }
-    Ok(all)
-}
-
-/// Puts back what was kept of each archive. It takes no memory.
-pub(crate) fn put_back_all(archives: &mut [Rra], mut saved: Vec<SavedArchive>)
-    requires fits { CanPutBackEach archives.old saved.items }
-    ensures { archives.new ≡ put_back_each archives.old saved.items }
-{
-    while let Some(old) = saved.pop() {
-        archives[saved.len()].put_back(old);
     }
 }
 
