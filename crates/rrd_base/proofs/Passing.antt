@@ -28,9 +28,9 @@ pub few_known : (function : Function) (k limit : ℕ) (parts : List Part) → k 
 few_known function k limit [] h is = tt
 few_known function k limit (part ∷ parts) h is = let few = is.0.few in (omega arith, few_known function k limit parts h is.1)
 
-pub room_left : (function : Function) (k n limit : ℕ) (parts : List Part) → k + n ≤ limit → AllByRecursion (IsPart function k) parts → AllByRecursion (λ (p : Part). p.known + n ≤ limit) parts
-room_left function k n limit [] h is = tt
-room_left function k n limit (part ∷ parts) h is = let few = is.0.few in (omega arith, room_left function k n limit parts h is.1)
+pub still_fit : (function : Function) (k n limit : ℕ) (parts : List Part) → k + n ≤ limit → AllByRecursion (IsPart function k) parts → AllByRecursion (λ (p : Part). p.known + n ≤ limit) parts
+still_fit function k n limit [] h is = tt
+still_fit function k n limit (part ∷ parts) h is = let few = is.0.few in (omega arith, still_fit function k n limit parts h is.1)
 
 -- where a step ends
 pub within_mod : (last n step : ℕ) → 0 < step → last + n < (last / step + 1) * step → (last + n) % step ≡ last % step + n

@@ -7,7 +7,7 @@ use Rattle.rrd_spec.specs.declared.settings.RraDef.{RraDef}
 use Rattle.rrd_spec.specs.History.{Archive}
 use Rattle.rrd_spec.specs.Validity.{IsRow, IsValidArchive}
 use Rattle.rrd_base.proofs.ManySteps.{filled, row_fits}
-use Rattle.rrd_base.proofs.Passing.{few_known, parts_more, room_left}
+use Rattle.rrd_base.proofs.Passing.{few_known, parts_more, still_fit}
 
 -- how many steps of the row are missing after the next one
 abbrev pub left_of : ℕ → RraDef → ℕ
@@ -28,7 +28,7 @@ begun before archive now first then is one many e =
     subst (λ (x : Archive). Begun before x archive.def then) (sym e)
     (record {
       row = subst (λ k. IsRow k then) (sym parts.one_each) many;
-      fits = λ k h. room_left f (j + 1) k 1000000 (fold (with_each f) archive.parts (replicate 1 first)) (omega arith) parts.each;
+      fits = λ k h. still_fit f (j + 1) k 1000000 (fold (with_each f) archive.parts (replicate 1 first)) (omega arith) parts.each;
     })
 
 -- once the row has all its steps

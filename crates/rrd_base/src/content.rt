@@ -1,4 +1,4 @@
-//! What a database holds, but for its journal: how seconds and samples change it.
+//! What a database holds, but for its journal.
 ghost use Rattle.std.specs.Prelude.{◌≡◌, ℕ, ◌-◌, ◌/◌, ◌^◌, ◌<◌, ◌≤◌, length, slice_index_or, IfOk, IfNone, IfSome, None, pos, ◌-ℤ◌};
 ghost use Rattle.std.specs.Int.{int_div_euclid};
 ghost use Rattle.std.specs.Result.{result_err};

@@ -17,7 +17,8 @@ ghost use Rattle.rrd_base.specs.Walk.{AreSteps, cells_of, count_of, least_of_all
 ghost use Rattle.rrd_spec.specs.Validity.{IsRow, IsValidArchive};
 
 use crate::rows::HasRows;
-use crate::walk::{Steps, add_steps, close_rows};
+use crate::walk::Steps;
+use crate::walk::preparations::{add_steps, close_rows};
 use crate::{RraDef, SavedArchive};
 use rrd_fixed::{Cell, Meter};
 use rrd_fold::RowPrep;
@@ -142,7 +143,10 @@ impl Rra {
             self.new ≡ record self.old { rows = keep_last (length self.old.rows) all } }
         ensures ticked { meter.new ≡ meter.old + length row.now * min (1 + times) (length self.old.rows) }
     {
-        push_rows(&mut self.rows, row, then, times, meter);
+        if times < self.rows.rows() {
+            self.rows.push_row(row, meter);
+        }
+        push_times(&mut self.rows, then, times, meter);
     }
 
     /// Takes steps. All whole rows of the ones that are alike are taken at once: their cells are
@@ -249,20 +253,6 @@ pub(crate) fn take_all(archives: &mut [Rra], steps: &Steps, row: &mut [Cell], me
     for i in 0..archives.len() {
         archives[i].take(steps, row, meter);
     }
-}
-
-// Pushes a row and then so many of another, those only that are still there in the end.
-fn push_rows(rows: &mut Archive, row: &[Cell], then: &[Cell], times: u64, meter: &mut Meter)
-    requires wide { HasWidth (length row.now) rows.old }
-    requires same_width { length then.now ≡ length row.now }
-    requires turns { meter.old + length row.now * min (1 + times) (length rows.old) < 2 ^ 64 }
-    ensures rows { rows.new ≡ keep_last (length rows.old) (rows.old ++ row.now ∷ replicate times then.now) }
-    ensures turns { meter.new ≡ meter.old + length row.now * min (1 + times) (length rows.old) }
-{
-    if times < rows.rows() {
-        rows.push_row(row, meter);
-    }
-    push_times(rows, then, times, meter);
 }
 
 // Pushes a row so many times, those only that are still there in the end.

@@ -11,14 +11,13 @@ ghost use Rattle.rrd_spec.specs.Turns.{AreTurns};
 ghost use Rattle.rrd_spec.specs.Validity.{AreAccepted, IsRow, IsValid};
 ghost use Rattle.rrd_spec.specs.Verdict.{verdict};
 
-mod preparations;
+pub(crate) mod preparations;
 
 use crate::content::Content;
 use crate::rra::take_all;
 use crate::update::raws_into;
 use crate::{DsDef, Update};
 use preparations::{add_seconds, close_steps};
-pub(crate) use preparations::{add_steps, close_rows};
 use rrd_fixed::{Cell, Meter, Raw};
 use std::alloc::{AllocError, Global};
 
@@ -40,13 +39,13 @@ pub(crate) struct Steps<'a> {
 /// content changes, and a count of the turns.
 #[derive(Drop)]
 pub(crate) struct Walk {
-    // the raw values of a sample
+    // a sample's raw values
     raws: Vec<Raw>,
     // the rates in its interval
     rates: Vec<Cell>,
-    // the cells of the step in progress, once it ends
+    // the cells of the step in which the interval begins, if it ends
     step: Vec<Cell>,
-    // the cells of a row
+    // the cells of a row in progress, if it ends
     row: Vec<Cell>,
     meter: Meter,
 }

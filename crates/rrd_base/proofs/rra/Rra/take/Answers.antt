@@ -8,7 +8,7 @@ use Rattle.rrd_spec.specs.declared.settings.RraDef.{RraDef}
 use Rattle.rrd_spec.specs.History.{Archive}
 use Rattle.rrd_spec.specs.Listed.{keep_last}
 use Rattle.rrd_base.proofs.ManySteps.{ended_none, ended_some, filled, row_fits, taken_over, taken_within}
-use Rattle.rrd_base.proofs.Passing.{room_left}
+use Rattle.rrd_base.proofs.Passing.{still_fit}
 use Rattle.rrd_spec.proofs.Bounded.{no_parts}
 use Rattle.rrd_base.proofs.StoreLemmas.{taken_valid}
 use Rattle.rrd_spec.proofs.AllLemmas.{rows_wide}
@@ -98,9 +98,9 @@ push-requires-clause-wide c =
     let A = c.args.self.now in
     let n = length c.args.steps.now.first.now in
     let rows : c.close_row.new.self.rows ≡ A.rows = ap (λ (x : Archive). x.rows) (c.close_row.ensures.value) ∙ ap (λ (x : Archive). x.rows) c.go_on-else-steps-left.ensures.value ∙ ap (λ (x : Archive). x.rows) c.go_on.ensures.value in
-    let room : length c.close_row.new.row ≡ n = omega (arith, c.requires.places) in
+    let places : length c.close_row.new.row ≡ n = omega (arith, c.requires.places) in
     subst (λ (rs : List (List Cell)). HasWidth (length c.close_row.new.row) rs) (sym rows)
-    (subst (λ k. HasWidth k A.rows) (sym room) (rows_wide n A.rows c.requires.valid.each_row))
+    (subst (λ k. HasWidth k A.rows) (sym places) (rows_wide n A.rows c.requires.valid.each_row))
 
 pub push-requires-clause-turns : goal.push-requires-clause-turns
 push-requires-clause-turns c =
@@ -113,9 +113,9 @@ push-requires-clause-turns c =
     let ended : (before + (1 + count)) / A.def.steps - before / A.def.steps ≡ k = ended_some before count A.def.steps c.requires.valid.some_steps long in
     let turns = subst (λ x. c.args.meter.now + n * (4 + min x A.def.rows) < 2 ^ 64) ended c.requires.turns in
     let rows : length c.close_row.new.self.rows ≡ A.def.rows = ap (λ (x : Archive). length x.rows) (c.close_row.ensures.value) ∙ ap (λ (x : Archive). length x.rows) c.go_on-else-steps-left.ensures.value ∙ ap (λ (x : Archive). length x.rows) c.go_on.ensures.value ∙ c.requires.valid.rows_are in
-    let room : length c.close_row.new.row ≡ n = omega (arith, c.requires.places) in
+    let places : length c.close_row.new.row ≡ n = omega (arith, c.requires.places) in
     subst (λ (d : RraDef). c.close_row.new.meter + length c.close_row.new.row * min (1 + (count - left_of before d) / d.steps) (length c.close_row.new.self.rows) < 2 ^ 64) (sym c.def-in_row.ensures)
-    (subst (λ w. c.close_row.new.meter + w * min k (length c.close_row.new.self.rows) < 2 ^ 64) (sym room)
+    (subst (λ w. c.close_row.new.meter + w * min k (length c.close_row.new.self.rows) < 2 ^ 64) (sym places)
     (subst (λ r. c.close_row.new.meter + n * min k r < 2 ^ 64) (sym rows)
     (omega (arith, turns, c.requires.places, c.go_on.ensures.ticked, c.go_on-else-steps-left.ensures.ticked, c.close_row.ensures.ticked))))
 
@@ -129,7 +129,7 @@ go_on-requires-else-steps-left-2-clause-fits c =
     let parts : c.push.new.self.parts ≡ replicate m nothing = ap (λ (x : Archive). x.parts) c.push.ensures.value ∙ ap (λ (x : Archive). x.parts) c.close_row.ensures.value in
     subst (λ (d : RraDef). AllByRecursion (λ (p : Part). p.known + (count - left_of before d) % d.steps ≤ 1000000) c.push.new.self.parts) (sym c.def-in_row.ensures)
     (subst (λ ps. AllByRecursion (λ (p : Part). p.known + (count - left_of before A.def) % A.def.steps ≤ 1000000) ps) (sym parts)
-    (room_left f 0 ((count - left_of before A.def) % A.def.steps) 1000000 (replicate m nothing) (omega (arith, mod_below (count - left_of before A.def) A.def.steps c.requires.valid.some_steps, c.requires.valid.few_steps)) (let empty = no_parts f m in empty.each)))
+    (still_fit f 0 ((count - left_of before A.def) % A.def.steps) 1000000 (replicate m nothing) (omega (arith, mod_below (count - left_of before A.def) A.def.steps c.requires.valid.some_steps, c.requires.valid.few_steps)) (let empty = no_parts f m in empty.each)))
 
 pub go_on-requires-else-steps-left-2-clause-turns : goal.go_on-requires-else-steps-left-2-clause-turns
 go_on-requires-else-steps-left-2-clause-turns c =
@@ -142,11 +142,11 @@ go_on-requires-else-steps-left-2-clause-turns c =
     let ended : (before + (1 + count)) / A.def.steps - before / A.def.steps ≡ k = ended_some before count A.def.steps c.requires.valid.some_steps long in
     let turns = subst (λ x. c.args.meter.now + n * (4 + min x A.def.rows) < 2 ^ 64) ended c.requires.turns in
     let rows : length c.close_row.new.self.rows ≡ A.def.rows = ap (λ (x : Archive). length x.rows) (c.close_row.ensures.value) ∙ ap (λ (x : Archive). length x.rows) c.go_on-else-steps-left.ensures.value ∙ ap (λ (x : Archive). length x.rows) c.go_on.ensures.value ∙ c.requires.valid.rows_are in
-    let room : length c.close_row.new.row ≡ n = omega (arith, c.requires.places) in
+    let places : length c.close_row.new.row ≡ n = omega (arith, c.requires.places) in
     let pushed : c.push.new.meter ≡ c.close_row.new.meter + n * min k A.def.rows
     = c.push.ensures.ticked
     ∙ ap (λ (d : RraDef). c.close_row.new.meter + length c.close_row.new.row * min (1 + (count - left_of before d) / d.steps) (length c.close_row.new.self.rows)) c.def-in_row.ensures
-    ∙ ap (λ w. c.close_row.new.meter + w * min k (length c.close_row.new.self.rows)) room
+    ∙ ap (λ w. c.close_row.new.meter + w * min k (length c.close_row.new.self.rows)) places
     ∙ ap (λ r. c.close_row.new.meter + n * min k r) rows in
     omega (arith, turns, c.requires.places, c.requires.steps_are.then.one_each, pushed, c.go_on.ensures.ticked, c.go_on-else-steps-left.ensures.ticked, c.close_row.ensures.ticked)
 
@@ -198,11 +198,11 @@ returns-else-steps-left-clause-least c =
     let k = 1 + (count - left_of before A.def) / A.def.steps in
     let ended : (before + (1 + count)) / A.def.steps - before / A.def.steps ≡ k = ended_some before count A.def.steps c.requires.valid.some_steps long in
     let rows : length c.close_row.new.self.rows ≡ A.def.rows = ap (λ (x : Archive). length x.rows) (c.close_row.ensures.value) ∙ ap (λ (x : Archive). length x.rows) c.go_on-else-steps-left.ensures.value ∙ ap (λ (x : Archive). length x.rows) c.go_on.ensures.value ∙ c.requires.valid.rows_are in
-    let room : length c.close_row.new.row ≡ n = omega (arith, c.requires.places) in
+    let places : length c.close_row.new.row ≡ n = omega (arith, c.requires.places) in
     let pushed : c.push.new.meter ≡ c.close_row.new.meter + n * min k A.def.rows
     = c.push.ensures.ticked
     ∙ ap (λ (d : RraDef). c.close_row.new.meter + length c.close_row.new.row * min (1 + (count - left_of before d) / d.steps) (length c.close_row.new.self.rows)) c.def-in_row.ensures
-    ∙ ap (λ w. c.close_row.new.meter + w * min k (length c.close_row.new.self.rows)) room
+    ∙ ap (λ w. c.close_row.new.meter + w * min k (length c.close_row.new.self.rows)) places
     ∙ ap (λ r. c.close_row.new.meter + n * min k r) rows in
     subst (λ x. c.args.meter.now + n * min x A.def.rows ≤ c.go_on-else-steps-left-2.new.meter) (sym ended)
     (omega (arith, pushed, c.go_on.ensures.ticked, c.go_on-else-steps-left.ensures.ticked, c.close_row.ensures.ticked, c.go_on-else-steps-left-2.ensures.ticked))
@@ -217,11 +217,11 @@ returns-else-steps-left-clause-most c =
     let k = 1 + (count - left_of before A.def) / A.def.steps in
     let ended : (before + (1 + count)) / A.def.steps - before / A.def.steps ≡ k = ended_some before count A.def.steps c.requires.valid.some_steps long in
     let rows : length c.close_row.new.self.rows ≡ A.def.rows = ap (λ (x : Archive). length x.rows) (c.close_row.ensures.value) ∙ ap (λ (x : Archive). length x.rows) c.go_on-else-steps-left.ensures.value ∙ ap (λ (x : Archive). length x.rows) c.go_on.ensures.value ∙ c.requires.valid.rows_are in
-    let room : length c.close_row.new.row ≡ n = omega (arith, c.requires.places) in
+    let places : length c.close_row.new.row ≡ n = omega (arith, c.requires.places) in
     let pushed : c.push.new.meter ≡ c.close_row.new.meter + n * min k A.def.rows
     = c.push.ensures.ticked
     ∙ ap (λ (d : RraDef). c.close_row.new.meter + length c.close_row.new.row * min (1 + (count - left_of before d) / d.steps) (length c.close_row.new.self.rows)) c.def-in_row.ensures
-    ∙ ap (λ w. c.close_row.new.meter + w * min k (length c.close_row.new.self.rows)) room
+    ∙ ap (λ w. c.close_row.new.meter + w * min k (length c.close_row.new.self.rows)) places
     ∙ ap (λ r. c.close_row.new.meter + n * min k r) rows in
     subst (λ x. c.go_on-else-steps-left-2.new.meter ≤ c.args.meter.now + n * (4 + min x A.def.rows)) (sym ended)
     (omega (arith, pushed, c.requires.places, c.requires.steps_are.then.one_each, c.go_on.ensures.ticked, c.go_on-else-steps-left.ensures.ticked, c.close_row.ensures.ticked, c.go_on-else-steps-left-2.ensures.ticked))

@@ -15,14 +15,14 @@ loop-i-preserved c =
     let g = λ (p : Part). nothing in
     let d = c.index-preps-i.result in
     let within : i < length old = omega arith in
-    let room : i < length cells = omega (arith, c.requires.places) in
+    let place : i < length cells = omega (arith, c.requires.places) in
     let left : i < length c.loop-i.cells = omega (arith, c.requires.places) in
     let was = c.loop-i.invariant in
     let here : get_or c.loop-i.preps i d ≡ get_or old i d = ap (λ ps. get_or ps i d) was.anew ∙ map_next g old old i d within within in
     let P = λ (k : ℕ). AllByRecursion IsBounded (take k (set c.loop-i.cells i c.close.result)) in
     record {
       cells = ap (λ ys. set ys i c.close.result) was.cells
-          ∙ map_more f old cells i d c.close.result within room (c.close.ensures.value ∙ ap f here)
+          ∙ map_more f old cells i d c.close.result within place (c.close.ensures.value ∙ ap f here)
           ∙ ap (λ k. map f (take k old) ++ drop k cells) {x = suc i} {y = i + 1} (omega arith);
       bounded = subst P {x = suc i} {y = i + 1} (omega arith) (All-take-set IsBounded c.loop-i.cells i c.close.result left was.bounded c.close.ensures.bounded);
       anew = ap (λ ps. set ps i c.close.new.self) was.anew
