@@ -1,5 +1,5 @@
 -- Definition: a run over lines, each of which may be answered with want of memory (own).
-use Rattle.std.specs.Prelude.{◌≡◌, ◌+◌, ◌++◌, ◌∷◌, ◌&&◌, [], ℕ, Bool, List, Option, Result, Ok, Err, map, if◌then◌else◌}
+use Rattle.std.specs.Prelude.{◌≡◌, ◌+◌, ◌++◌, ◌∷◌, ◌&&◌, [], ℕ, Bool, List, Option, map, if◌then◌else◌}
 use Rattle.std.specs.Io.KnownBytes.{Appends}
 use Rattle.rrd_fixed.specs.declared.streams.WriteFault.{WriteFault}
 use Rattle.rrd_tool.specs.Lines.{is_empty}
@@ -56,8 +56,3 @@ module _ {S : Type 0} (turn : S → Told → Turn S) where
     pub faults : n1 ≡ n0 + faults_of s0 told + faults_written (turn (state_after s0 told) last).is_fault unwritten
     pub front_is : (turn (state_after s0 told) last).text ≡ front ++ unwritten
     pub text : Appends c0 c1 (text_of s0 told ++ front)
-
-  abbrev pub Answers : {T : Type 0} → S → S → ℕ → ℕ → Option (List ℕ) → Option (List ℕ) → List (List ℕ)
-      → Result T WriteFault → Type 0
-  Answers s0 s1 n0 n1 c0 c1 lines (Ok x) = Ran s0 s1 n0 n1 c0 c1 lines
-  Answers s0 s1 n0 n1 c0 c1 lines (Err e) = Stopped s0 s1 n0 n1 c0 c1 lines

@@ -3,7 +3,7 @@ use Rattle.std.specs.Prelude.{◌≡◌, ◌++◌, [], ℕ, Bool, List, Option, 
 use Rattle.std.specs.Io.KnownBytes.{Appends, Keeps}
 use Rattle.rrd_fixed.specs.declared.streams.WriteFault.{WriteFault}
 use Rattle.rrd_spec.specs.Survivors.{State, Stored}
-use Rattle.rrd_tool.specs.Batch.{Answers, Turn}
+use Rattle.rrd_tool.specs.Batch.{Turn, Ran, Stopped, Told}
 use Rattle.rrd_tool.specs.Effects.{StandsFor}
 use Rattle.rrd_tool.specs.Faults.{fault_line}
 use Rattle.rrd_tool.specs.Run.{command_turn, refusal_turn, turn, unless_short}
@@ -48,6 +48,12 @@ Asks now line (Ok (Some command)) =
     → line_turns now state line is_short ≡ unless_short state (command_turn state command) is_short
 Asks now line (Err fault) =
     (is_short : Bool) × ((state : Option State) → line_turns now state line is_short ≡ refusal_turn state (Line fault))
+
+-- the lines were run, or at a fault some of them
+abbrev pub Answers : {S T : Type 0} → (S → Told → Turn S) → S → S → ℕ → ℕ → Option (List ℕ) → Option (List ℕ)
+    → List (List ℕ) → Result T WriteFault → Type 0
+Answers turn s0 s1 n0 n1 c0 c1 lines (Ok x) = Ran turn s0 s1 n0 n1 c0 c1 lines
+Answers turn s0 s1 n0 n1 c0 c1 lines (Err e) = Stopped turn s0 s1 n0 n1 c0 c1 lines
 
 -- ---- the database
 

@@ -1,5 +1,5 @@
 //! `create`: makes a database (rrdcreate).
-ghost use Rattle.std.specs.Prelude.{◌≡◌, IfOk, List, Option, map, ℕ};
+ghost use Rattle.std.specs.Prelude.{IfOk, List, Option, map, ℕ};
 ghost use Rattle.clap.specs.Words.{found_of, rows_of};
 ghost use Rattle.rrd_tool.specs.Serves.{HasApp};
 ghost use Rattle.rrd_tool.specs.Commands.Create.{archive_of, create_app, create_of, definition_of, definitions_of, share_of, source_of};

@@ -1,6 +1,6 @@
 //! `fetch`: prints rows of an archive (rrdfetch). Each line is built without memory, and then written at once; all in
 //! one place, since it is large.
-ghost use Rattle.std.specs.Prelude.{◌≡◌, ◌<◌, ◌≤◌, ◌+◌, ◌++◌, IfNone, IfOk, IfSome, Ok, Option, Some, codes, length, pos, slice_index_or, ℕ};
+ghost use Rattle.std.specs.Prelude.{◌≡◌, ◌<◌, ◌≤◌, ◌+◌, ◌++◌, IfNone, IfOk, IfSome, Ok, Option, Some, codes, length, slice_index_or, ℕ};
 ghost use Rattle.clap.specs.Words.{found_of, rows_of};
 ghost use Rattle.rrd_fixed.specs.declared.cell.Cell.TheVariants.{Unknown};
 ghost use Rattle.rrd_fixed.specs.Text.{cell_text};

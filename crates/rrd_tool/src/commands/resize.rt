@@ -1,5 +1,5 @@
 //! `resize`: changes the number of rows of an archive (rrdresize).
-ghost use Rattle.std.specs.Prelude.{◌≡◌, IfOk, List, Option, Some, ℕ};
+ghost use Rattle.std.specs.Prelude.{IfOk, List, Option, Some, ℕ};
 ghost use Rattle.clap.specs.Words.{found_of, rows_of};
 ghost use Rattle.rrd_tool.specs.Serves.{HasApp};
 ghost use Rattle.rrd_tool.specs.Commands.Resize.{change_of, resize_app, resize_of};

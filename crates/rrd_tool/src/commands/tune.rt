@@ -1,5 +1,5 @@
 //! `tune`: changes the settings of sources (rrdtune).
-ghost use Rattle.std.specs.Prelude.{◌≡◌, IfOk, List, Option, Some, ℕ};
+ghost use Rattle.std.specs.Prelude.{IfOk, List, Option, Some, ℕ};
 ghost use Rattle.clap.specs.Words.{found_of, rows_of};
 ghost use Rattle.rrd_tool.specs.Serves.{HasApp};
 ghost use Rattle.rrd_tool.specs.Commands.Tune.{setting_of, tune_app, tune_of};
