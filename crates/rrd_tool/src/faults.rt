@@ -1,5 +1,5 @@
 //! Why a line is refused, and the line that says so.
-ghost use Rattle.std.specs.Prelude.{◌≡◌};
+ghost use Rattle.std.specs.Prelude.{◌≡◌, ◌≤◌, length};
 ghost use Rattle.rrd_fixed.specs.Written.{Writes};
 ghost use Rattle.rrd_tool.specs.Faults.{fault_line, fault_text, is_numbered, line_fault_text, unread_text, word_of};
 
