@@ -10,7 +10,8 @@ pub record IsStepped (archive : Archive) : Type 0 where
   pub some_steps : 0 < archive.def.steps
   pub few_steps : archive.def.steps ≤ version_one.most_steps
 
--- what can be put back: it is of the archive's function, and there is a place for each of its rows and for each of their cells
+-- what can be put back: it is of the archive's function, and there is a place for each of its rows and for each of
+-- their cells
 pub record CanPutBack (archive : Archive) (old : SavedArchive) : Type 0 where
   pub same_function : old.function ≡ archive.def.function
   pub few : length old.rows ≤ length archive.rows

@@ -143,8 +143,10 @@ impl Content {
     pub(crate) fn row(&self, archive: usize, time: i64) -> Option<&[Cell]>
         requires { archive < length self.now.archives }
         ensures wide { IfSome result (λ row. length row.now ≡ length self.now.sources) }
-        ensures cells { IfSome result (λ row. (source : ℕ) → slice_index_or row.now source CellUnknown ≡ cell_at self.now archive time source) }
-        ensures none { IfNone result ((source : ℕ) → source < length self.now.sources → cell_at self.now archive time source ≡ CellUnknown) }
+        ensures cells { IfSome result (λ row. (source : ℕ)
+            → slice_index_or row.now source CellUnknown ≡ cell_at self.now archive time source) }
+        ensures none { IfNone result ((source : ℕ) → source < length self.now.sources
+            → cell_at self.now archive time source ≡ CellUnknown) }
     {
         let rra = &self.archives[archive];
         let resolution = rra.def().resolution(self.step);
@@ -179,7 +181,9 @@ impl Content {
         rows: u64,
     ) -> Result<Archive, AllocError>
         requires { verdict self.now (Resizing archive change rows) ≡ None }
-        ensures { IfOk result (λ new. new ≡ newest_rows (rows_changed change (slice_index_or (rows_of_archives self.now.archives) archive 0) rows) (rows_at self.now.archives archive)) }
+        ensures { IfOk result (λ new. new
+            ≡ newest_rows (rows_changed change (slice_index_or (rows_of_archives self.now.archives) archive 0) rows)
+            (rows_at self.now.archives archive)) }
     {
         laws::resize_changes_rows();
         let rra = &self.archives[archive];

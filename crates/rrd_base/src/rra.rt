@@ -61,7 +61,12 @@ impl Rra {
         requires few_rows { def.rows ≤ version_one.most_rows }
         requires some_sources { 0 < sources }
         requires few_sources { sources ≤ version_one.most_sources }
-        ensures { IfOk result (λ s. s ≡ record { def = def; parts = replicate sources nothing; rows = replicate def.rows (replicate sources Unknown) }) }
+        ensures { IfOk result (λ s. s
+            ≡ record {
+              def = def;
+              parts = replicate sources nothing;
+              rows = replicate def.rows (replicate sources Unknown);
+            }) }
     {
         let preps = vec![in alloc; RowPrep::new(def.function); sources as usize]?;
         let rows = Archive::new(alloc, def.rows, sources)?;
@@ -97,7 +102,8 @@ impl Rra {
     /// The preparation of a source's unfinished row.
     pub(crate) fn prep(&self, source: usize) -> RowPrep
         requires { source < length self.now.parts }
-        ensures { result ≡ record { function = self.now.def.function; part = slice_index_or self.now.parts source nothing } }
+        ensures { result
+            ≡ record { function = self.now.def.function; part = slice_index_or self.now.parts source nothing } }
     {
         self.preps[source]
     }
@@ -181,7 +187,8 @@ impl Rra {
     /// A copy of the preparations and of the `n` oldest rows.
     pub(crate) fn save(&self, alloc: Global, n: u64) -> Result<SavedArchive, AllocError>
         requires { n ≤ length self.now.rows }
-        ensures { IfOk result (λ s. s ≡ record { function = self.now.def.function; parts = self.now.parts; rows = first n self.now.rows }) }
+        ensures { IfOk result (λ s. s
+            ≡ record { function = self.now.def.function; parts = self.now.parts; rows = first n self.now.rows }) }
     {
         let preps = Vec::from_slice(alloc, &self.preps)?;
         let rows = self.rows.oldest(alloc, n)?;
@@ -229,7 +236,8 @@ impl Rra {
 
     /// Takes these rows for its own, and gives its own for them. It takes no memory.
     pub(crate) fn swap_rows(&mut self, rows: &mut Archive)
-        ensures mine { self.new ≡ record self.old { def = record self.old.def { rows = length rows.old }; rows = rows.old } }
+        ensures mine { self.new
+            ≡ record self.old { def = record self.old.def { rows = length rows.old }; rows = rows.old } }
         ensures others { rows.new ≡ self.old.rows }
     {
         self.def.rows = rows.rows();

@@ -17,13 +17,15 @@ use Rattle.rrd_spec.specs.Steps.{row_ending}
 
 -- the row at a time, a multiple of the resolution; unknown where the archive has none
 abbrev pub row_of_age : List (List Cell) → List Cell → ℤ → List Cell
-row_of_age rows unknown (pos age) = if nat_lt age (length rows) then slice_index_or rows (length rows - 1 - age) unknown else unknown
+row_of_age rows unknown (pos age) =
+    if nat_lt age (length rows) then slice_index_or rows (length rows - 1 - age) unknown else unknown
 row_of_age rows unknown (negsuc ahead) = unknown
 
 abbrev pub row_at : Content → Archive → ℤ → List Cell
 row_at content archive time =
     let size = resolution content.step archive.def in
-    row_of_age archive.rows (replicate (length content.sources) Cell.Unknown) (pos (content.last / size) -ℤ int_div_euclid time (pos size))
+    row_of_age archive.rows (replicate (length content.sources) Cell.Unknown)
+    (pos (content.last / size) -ℤ int_div_euclid time (pos size))
 
 -- the cell of a source in the row at a time of the archive of this number; unknown where there is none
 abbrev pub cell_in : Content → List Archive → ℕ → ℤ → ℕ → Cell
@@ -37,7 +39,8 @@ cell_at content number time source = cell_in content content.archives number tim
 -- the preparation of a source's unfinished row in the archive of this number
 abbrev pub prep_in : List Archive → ℕ → ℕ → Consolidating
 prep_in [] number source = record { function = Average; part = nothing }
-prep_in (archive ∷ archives) zero source = record { function = archive.def.function; part = slice_index_or archive.parts source nothing }
+prep_in (archive ∷ archives) zero source =
+    record { function = archive.def.function; part = slice_index_or archive.parts source nothing }
 prep_in (archive ∷ archives) (suc number) source = prep_in archives number source
 
 abbrev pub prep_at : Content → ℕ → ℕ → Consolidating
@@ -67,20 +70,24 @@ greatest (x ∷ xs) = fold int_max x xs
 -- the time after which an archive's rows reach once the events have come
 abbrev pub reach_after : Content → ℕ → Archive → List Event → ℤ
 reach_after base index archive events =
-    reach (resolution base.step archive.def) (rows_at_end index archive.def.rows events) (moment_at_end base events).last
+    reach (resolution base.step archive.def) (rows_at_end index archive.def.rows events)
+    (moment_at_end base events).last
 
--- the time up to which rows have been lost: an archive never shows again what at any moment it had no place for (rrdresize)
+-- the time up to which rows have been lost: an archive never shows again what at any moment it had no place for
+-- (rrdresize)
 abbrev pub horizon : Content → ℕ → Archive → List Event → ℤ
 horizon base index archive events = greatest (map (reach_after base index archive) (prefixes events))
 
 -- ---- a step and a row by themselves
 
--- The seconds: `second` in specs/History, the rate of the first sample at or after each (rrdcreate, "The HEARTBEAT and the STEP").
+-- The seconds: `second` in specs/History, the rate of the first sample at or after each (rrdcreate, "The HEARTBEAT
+-- and the STEP").
 -- All steps, and all rows, of a history are `steps_of` and `rows_of` there: the lists of these ones.
 
 -- ---- what an archive shows
 
--- the row at a time, a multiple of the resolution: unknown up to the horizon and after the end; else the base's where the base has come so far; else that of its steps (rrdresize)
+-- the row at a time, a multiple of the resolution: unknown up to the horizon and after the end; else the base's where
+-- the base has come so far; else that of its steps (rrdresize)
 abbrev pub row_by_time : Content → ℕ → Archive → List Event → ℤ → List Cell
 row_by_time base index archive events time =
     let size = resolution base.step archive.def in
@@ -92,7 +99,8 @@ row_by_time base index archive events time =
 
 -- a source's cell at a time (rrdfetch)
 abbrev pub cell : Content → ℕ → Archive → List Event → ℤ → ℕ → Cell
-cell base index archive events time source = slice_index_or (row_by_time base index archive events time) source Cell.Unknown
+cell base index archive events time source =
+    slice_index_or (row_by_time base index archive events time) source Cell.Unknown
 
 -- ---- a content by the times of its rows
 
@@ -105,9 +113,11 @@ abbrev pub rows_by_time : Content → ℕ → Archive → List Event → List (L
 rows_by_time base index archive events =
     let size = resolution base.step archive.def in
     let rows = rows_at_end index archive.def.rows events in
-    map (λ (place : ℕ). row_by_time base index archive events (time_of size rows (moment_at_end base events).last place)) (range_with_len 0 rows)
+    map (λ (place : ℕ). row_by_time base index archive events
+    (time_of size rows (moment_at_end base events).last place)) (range_with_len 0 rows)
 
--- an archive after the events: its settings with its number of rows, what its unfinished row has made of its steps, and its rows
+-- an archive after the events: its settings with its number of rows, what its unfinished row has made of its steps,
+-- and its rows
 abbrev pub archive_by_time : Content → List Event → ℕ × Archive → Archive
 archive_by_time base events (index, archive) = record {
   def = record archive.def { rows = rows_at_end index archive.def.rows events };

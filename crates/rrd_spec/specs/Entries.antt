@@ -52,14 +52,17 @@ is_asked None source = false
 is_asked (Some option) source = same_name option.0 source.name
 
 abbrev pub is_named : Tuning → DsDef → Bool
-is_named tuning source = is_asked tuning.heartbeat source || is_asked tuning.minimum source || is_asked tuning.maximum source || is_asked tuning.kind source || is_asked tuning.rename source
+is_named tuning source =
+    is_asked tuning.heartbeat source || is_asked tuning.minimum source || is_asked tuning.maximum source
+    || is_asked tuning.kind source || is_asked tuning.rename source
 
 -- the sources that are named, as they are before the tune, by rising number
 abbrev pub sources_before : Tuning → ℕ → List DsDef → List Raw → List SourceBefore
 sources_before tuning number [] raws = []
 sources_before tuning number (source ∷ sources) [] = []
 sources_before tuning number (source ∷ sources) (raw ∷ raws) =
-    if is_named tuning source then record { number = number; source = source; raw = raw } ∷ sources_before tuning (number + 1) sources raws else sources_before tuning (number + 1) sources raws
+    if is_named tuning source then record { number = number; source = source; raw = raw }
+    ∷ sources_before tuning (number + 1) sources raws else sources_before tuning (number + 1) sources raws
 
 abbrev pub rows_at : List Archive → ℕ → List (List Cell)
 rows_at [] index = []
@@ -68,7 +71,13 @@ rows_at (archive ∷ archives) (suc index) = rows_at archives index
 
 -- what is kept of a content before an update that ends at a time
 abbrev pub before : Content → ℕ → BeforeUpdate
-before base end = record { last = base.last; raws = base.raws; parts = base.parts; archives = map (saved base.step base.last end) base.archives }
+before base end =
+    record {
+      last = base.last;
+      raws = base.raws;
+      parts = base.parts;
+      archives = map (saved base.step base.last end) base.archives;
+    }
 
 abbrev pub entry : Content → Command → Entry
 entry base (Updating update) = UpdateEntry (before base (moved base (Updating update)).last)
@@ -93,7 +102,8 @@ entry_cells (ResizeEntry archive rows) = cells_in rows
 
 -- the old rows come back as the oldest; as many of the newest go
 abbrev pub put_back : Archive → SavedArchive → Archive
-put_back archive old = record archive { parts = old.parts; rows = old.rows ++ take (length archive.rows - length old.rows) archive.rows }
+put_back archive old =
+    record archive { parts = old.parts; rows = old.rows ++ take (length archive.rows - length old.rows) archive.rows }
 
 abbrev pub put_back_each : List Archive → List SavedArchive → List Archive
 put_back_each [] olds = []
@@ -101,15 +111,23 @@ put_back_each (archive ∷ archives) [] = archive ∷ archives
 put_back_each (archive ∷ archives) (old ∷ olds) = put_back archive old ∷ put_back_each archives olds
 
 abbrev pub with_source : Content → SourceBefore → Content
-with_source now old = record now { sources = slice_set now.sources old.number old.source; raws = slice_set now.raws old.number old.raw }
+with_source now old =
+    record now { sources = slice_set now.sources old.number old.source; raws = slice_set now.raws old.number old.raw }
 
 abbrev pub with_rows_at : List Archive → ℕ → List (List Cell) → List Archive
 with_rows_at [] index rows = []
-with_rows_at (archive ∷ archives) zero rows = record archive { def = record archive.def { rows = length rows }; rows = rows } ∷ archives
+with_rows_at (archive ∷ archives) zero rows =
+    record archive { def = record archive.def { rows = length rows }; rows = rows } ∷ archives
 with_rows_at (archive ∷ archives) (suc index) rows = archive ∷ with_rows_at archives index rows
 
 abbrev pub undone : Content → Entry → Content
-undone now (UpdateEntry old) = record now { last = old.last; raws = old.raws; parts = old.parts; archives = put_back_each now.archives old.archives }
+undone now (UpdateEntry old) =
+    record now {
+      last = old.last;
+      raws = old.raws;
+      parts = old.parts;
+      archives = put_back_each now.archives old.archives;
+    }
 undone now (TuneEntry olds) = fold with_source now olds
 undone now (ResizeEntry archive rows) = record now { archives = with_rows_at now.archives archive rows }
 

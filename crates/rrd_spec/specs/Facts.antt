@@ -62,7 +62,9 @@ sound base is =
 
 -- ---- samples that pass their checks come one after another
 
-pub readings_rise : (sources : List DsDef) (template : List Name) (now : Moment) (readings : List Sample) → AllByRecursion Passes (sample_checks version_one sources template now.last readings) → IsHistory now (map Sampled (map (sample_of sources template) readings))
+pub readings_rise : (sources : List DsDef) (template : List Name) (now : Moment) (readings : List Sample)
+    → AllByRecursion Passes (sample_checks version_one sources template now.last readings)
+    → IsHistory now (map Sampled (map (sample_of sources template) readings))
 readings_rise sources template now [] p = tt
 readings_rise sources template now (reading ∷ readings) p =
     let next = moment_after now (Sampled (sample_of sources template reading)) in

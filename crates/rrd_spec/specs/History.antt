@@ -125,7 +125,8 @@ rows_after index rows (Resized archive new) = if archive == index then new else 
 abbrev pub rows_at_end : ℕ → ℕ → List Event → ℕ
 rows_at_end index rows events = fold (rows_after index) rows events
 
--- ---- the same with an archive's rows said as the list of those kept. The definition is `content` in specs/Cells, which
+-- ---- the same with an archive's rows said as the list of those kept. The definition is `content` in specs/Cells,
+-- which
 -- ---- says each row by its time, and needs none of what follows up to the next heading; a law says that both agree
 
 -- ---- what is accepted

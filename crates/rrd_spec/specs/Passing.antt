@@ -10,7 +10,9 @@ use Rattle.rrd_spec.specs.Listed.{keep_last}
 unfoldable pub archive_passed : ℕ → ℕ → List (List Cell) → Archive → Archive
 archive_passed sources before steps archive = record archive {
   parts = unfinished (rows_rule archive.def sources) before archive.parts steps;
-  rows = keep_last (length archive.rows) (archive.rows ++ finished (rows_rule archive.def sources) before archive.parts steps);
+  rows =
+      keep_last (length archive.rows) (archive.rows
+      ++ finished (rows_rule archive.def sources) before archive.parts steps);
 }
 
 -- a content after these seconds
@@ -20,5 +22,7 @@ passed base seconds =
     record base {
       last = base.last + length seconds;
       parts = unfinished rule base.last base.parts seconds;
-      archives = map (archive_passed (length base.sources) (base.last / base.step) (finished rule base.last base.parts seconds)) base.archives;
+      archives =
+          map (archive_passed (length base.sources) (base.last / base.step)
+          (finished rule base.last base.parts seconds)) base.archives;
     }

@@ -1,4 +1,5 @@
--- In which order a file has an archive's rows (own). Each stands in a slot that its time alone decides, so it keeps its
+-- In which order a file has an archive's rows (own). Each stands in a slot that its time alone decides, so it keeps
+-- its
 -- slot while others come and go.
 use Rattle.std.specs.Prelude.{ℕ, ◌+◌, ◌-◌, ◌/◌, ◌%◌, ℤ, pos, unsigned_abs, ◌==◌, Bool, List, [], length}
 use Rattle.std.specs.List.{find, flat_map, enumerate_from, range_with_len}
@@ -11,7 +12,8 @@ use Rattle.rrd_spec.specs.History.{Archive, Content}
 use Rattle.rrd_spec.specs.Steps.{row}
 use Rattle.rrd_spec.specs.Steps.{step}
 
--- the slot of the row that ends at a time, among so many rows: the number of the row since 1970, which may be negative,
+-- the slot of the row that ends at a time, among so many rows: the number of the row since 1970, which may be
+-- negative,
 -- modulo the number of rows
 abbrev pub slot_of : ℕ → ℕ → ℤ → ℕ
 slot_of resolution rows time = unsigned_abs (int_rem_euclid (int_div_euclid time (pos resolution)) (pos rows))

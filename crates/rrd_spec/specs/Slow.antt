@@ -34,7 +34,9 @@ taken_of sample = record { time = sample.time; rates = sample.rates }
 -- times that rise, up to the latest one there may be, and raw values that the sources accept
 abbrev pub AreInOrder : List DsDef → ℕ → List given.Reading → Type 0
 AreInOrder sources last [] = Unit {0}
-AreInOrder sources last (reading ∷ readings) = (last < reading.time) × (reading.time ≤ version_one.latest_time) × AreAccepted sources reading.raws × AreInOrder sources reading.time readings
+AreInOrder sources last (reading ∷ readings) =
+    (last < reading.time) × (reading.time ≤ version_one.latest_time) × AreAccepted sources reading.raws
+    × AreInOrder sources reading.time readings
 
 -- the time of the last sample, or the start
 abbrev pub latest : ℕ → List given.Reading → ℕ
@@ -58,17 +60,27 @@ cell_of (Row def) part = row_cell def.function def.xff def.steps part
 
 -- `seconds_to_steps` of a step, `rows_rule` of a row
 abbrev pub rule_of : Group → ℕ → Rule (List Cell) (List Part) (List Cell)
-rule_of group sources = record { size = size_of group; empty = replicate sources nothing; add = with_each (function_of group); close = map (cell_of group) }
+rule_of group sources =
+    record {
+      size = size_of group;
+      empty = replicate sources nothing;
+      add = with_each (function_of group);
+      close = map (cell_of group);
+    }
 
 -- a group within the limits of rrdcreate
 abbrev pub IsGroup : Group → Type 0
 IsGroup (Step seconds) = (0 < seconds) × (seconds ≤ version_one.longest_step)
-IsGroup (Row def) = (0 < def.steps) × (def.steps ≤ version_one.most_steps) × (pos 0 ≤ℤ def.xff) × (def.xff ≤ℤ pos version_one.greatest_share)
+IsGroup (Row def) =
+    (0 < def.steps) × (def.steps ≤ version_one.most_steps) × (pos 0 ≤ℤ def.xff)
+    × (def.xff ≤ℤ pos version_one.greatest_share)
 
 -- ---- what an archive then shows
 
--- the archive of this number has the newest of these rows in the content of the history, after unknown ones where they are too few
+-- the archive of this number has the newest of these rows in the content of the history, after unknown ones where
+-- they are too few
 abbrev pub AreNewest : CreateSpec → List Event → ℕ → List (List Cell) → Type 0
 AreNewest spec events number rows =
     (shown : Archive) → slice_get (content (created spec) events).archives number ≡ Some shown
-    → shown.rows ≡ keep_last shown.def.rows (replicate shown.def.rows (replicate (length spec.sources) Cell.Unknown) ++ rows)
+    → shown.rows
+    ≡ keep_last shown.def.rows (replicate shown.def.rows (replicate (length spec.sources) Cell.Unknown) ++ rows)

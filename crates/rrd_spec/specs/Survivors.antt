@@ -10,7 +10,8 @@ pub data Action : Type 0 where
   Changed : Command → Action
   Reverted : Action
 
--- the base, the entries that it came with (newest first), the commands that survive (newest first), and how many of them can be reverted
+-- the base, the entries that it came with (newest first), the commands that survive (newest first), and how many of
+-- them can be reverted
 pub record State : Type 0 where
   pub base : Content
   pub brought : List Entry
@@ -40,7 +41,8 @@ journal_of state = entries state.base state.revertible state.survivors ++ state.
 
 -- ---- as the definition has it
 
--- an accepted command survives. The journal has `depth` places: what it has no place for are its oldest entries, those that were brought first of all
+-- an accepted command survives. The journal has `depth` places: what it has no place for are its oldest entries,
+-- those that were brought first of all
 abbrev pub with_change : State → Command → State
 with_change state command = record {
   base = state.base;
@@ -49,15 +51,19 @@ with_change state command = record {
   revertible = min (state.revertible + 1) state.base.depth;
 }
 
--- a revert drops the newest command that can be reverted; with none left, the newest entry that was brought is undone in the base; with neither it is refused
+-- a revert drops the newest command that can be reverted; with none left, the newest entry that was brought is undone
+-- in the base; with neither it is refused
 abbrev pub without_last : Content → List Entry → List Command → ℕ → State
-without_last base brought (command ∷ survivors) (suc n) = record { base = base; brought = brought; survivors = survivors; revertible = n }
+without_last base brought (command ∷ survivors) (suc n) =
+    record { base = base; brought = brought; survivors = survivors; revertible = n }
 without_last base brought [] (suc n) = record { base = base; brought = brought; survivors = []; revertible = suc n }
-without_last base (entry ∷ brought) survivors zero = record { base = undone base entry; brought = brought; survivors = []; revertible = 0 }
+without_last base (entry ∷ brought) survivors zero =
+    record { base = undone base entry; brought = brought; survivors = []; revertible = 0 }
 without_last base [] survivors zero = record { base = base; brought = []; survivors = survivors; revertible = 0 }
 
 abbrev pub after : State → Action → State
-after state (Changed command) = if is_accepted (survived state.base state.survivors) command then with_change state command else state
+after state (Changed command) =
+    if is_accepted (survived state.base state.survivors) command then with_change state command else state
 after state Reverted = without_last state.base state.brought state.survivors state.revertible
 
 -- ---- as a database of a content and a journal does it
@@ -67,7 +73,11 @@ reverted now [] = record { content = now; journal = [] }
 reverted now (entry ∷ journal) = record { content = undone now entry; journal = journal }
 
 abbrev pub changed : Stored → Command → Stored
-changed stored command = record { content = moved stored.content command; journal = take stored.content.depth (entry stored.content command ∷ stored.journal) }
+changed stored command =
+    record {
+      content = moved stored.content command;
+      journal = take stored.content.depth (entry stored.content command ∷ stored.journal);
+    }
 
 abbrev pub step : Stored → Action → Stored
 step stored (Changed command) = if is_accepted stored.content command then changed stored command else stored
@@ -83,7 +93,8 @@ AllAccepted base (command ∷ commands) = (verdict (survived base commands) comm
 -- the brought entries, undone one after another, leave sound contents of the same depth
 abbrev pub AllUndo : Content → List Entry → Type 0
 AllUndo base [] = Unit {0}
-AllUndo base (entry ∷ entries) = IsSound (undone base entry) × ((undone base entry).depth ≡ base.depth) × AllUndo (undone base entry) entries
+AllUndo base (entry ∷ entries) =
+    IsSound (undone base entry) × ((undone base entry).depth ≡ base.depth) × AllUndo (undone base entry) entries
 
 pub record Stands (state : State) (stored : Stored) : Type 0 where
   pub content_is : stored.content ≡ survived state.base state.survivors

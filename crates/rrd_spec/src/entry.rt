@@ -20,7 +20,12 @@ pub struct SourceBefore {
 impl Default for SourceBefore {
     // What stands in an unused place.
     fn default() -> Self
-        ensures { result ≡ record { number = 0; source = record { name = []; kind = Gauge; heartbeat = 0; min = None; max = None }; raw = Unknown } }
+        ensures { result
+            ≡ record {
+              number = 0;
+              source = record { name = []; kind = Gauge; heartbeat = 0; min = None; max = None };
+              raw = Unknown;
+            } }
     {
         SourceBefore {
             number: 0,

@@ -191,7 +191,12 @@ fn samples(
     readings: &[Reading],
 ) -> Result<List<Taken>, AllocError>
     requires { AreInOrder sources.now start readings.now }
-    ensures { IfOk result (λ taken. map taken_of taken ≡ history.samples (record { sources = sources.now; last = start; raws = replicate (length sources.now) Unknown }) (map event_of readings.now)) }
+    ensures { IfOk result (λ taken. map taken_of taken
+        ≡ history.samples (record {
+          sources = sources.now;
+          last = start;
+          raws = replicate (length sources.now) Unknown;
+        }) (map event_of readings.now)) }
 {
     let mut taken = List::new(alloc);
     let mut last = start;
@@ -271,7 +276,8 @@ fn parts_of(
 ) -> Result<Vec<Part>, AllocError>
     requires few { length items.now ≤ 1000000 }
     requires rows { AllByRecursion (IsRow sources) items.now }
-    ensures value { IfOk result (λ parts. parts.items ≡ fold (with_each function) (replicate sources nothing) items.now) }
+    ensures value { IfOk result (λ parts. parts.items
+        ≡ fold (with_each function) (replicate sources nothing) items.now) }
     ensures parts { IfOk result (λ parts. AreParts function sources (length items.now) parts.items) }
 {
     let mut parts = vec![in alloc; Part::nothing(); sources]?;
@@ -291,7 +297,8 @@ fn closed(
     requires group { IsGroup group }
     requires full { length items.now ≤ size_of group }
     requires rows { AllByRecursion (IsRow sources) items.now }
-    ensures { IfOk result (λ cells. cells ≡ map (cell_of group) (fold (with_each (function_of group)) (replicate sources nothing) items.now)) }
+    ensures { IfOk result (λ cells. cells
+        ≡ map (cell_of group) (fold (with_each (function_of group)) (replicate sources nothing) items.now)) }
 {
     let mut cells = List::new(alloc);
     let parts = parts_of(alloc, group.function(), sources, items)?;
@@ -313,7 +320,8 @@ fn finished(
     requires early { before ≤ 10 ^ 10 }
     requires few { length items.now ≤ 10 ^ 10 }
     requires rows { AllByRecursion (IsRow sources) items.now }
-    ensures { IfOk result (λ given. given ≡ groups.finished (rule_of group sources) before (replicate sources nothing) items.now) }
+    ensures { IfOk result (λ given. given
+        ≡ groups.finished (rule_of group sources) before (replicate sources nothing) items.now) }
 {
     let mut given = List::new(alloc);
     let size = group.size();
@@ -349,7 +357,8 @@ pub fn rows(
     requires accepted { create_verdict spec.now ≡ None }
     requires there { archive < length spec.now.archives }
     requires in_order { AreInOrder spec.now.sources spec.now.start readings.now }
-    ensures all { IfOk result (λ rows. (kept : Archive) → slice_get (created spec.now).archives archive ≡ Some kept → rows ≡ steps_def.rows_of (created spec.now) kept (map event_of readings.now)) }
+    ensures all { IfOk result (λ rows. (kept : Archive) → slice_get (created spec.now).archives archive ≡ Some kept
+        → rows ≡ steps_def.rows_of (created spec.now) kept (map event_of readings.now)) }
     ensures newest { IfOk result (λ rows. AreNewest spec.now (map event_of readings.now) archive rows) }
 {
     let sources = spec.sources.as_slice();

@@ -90,7 +90,13 @@ fn shown_by_slow_program(rt: &impl Abort, alloc: Global, example: Example<'_>) -
     let number = example.fetched.archive as usize;
     assert!(rt; number < asked.spec.archives.len());
     assert!(rt; check_create(&asked.spec).is_ok());
-    assert!(rt; are_in_order(asked.spec.sources.as_slice(), asked.spec.start, readings.as_slice()));
+    assert!(rt;
+        are_in_order(
+            asked.spec.sources.as_slice(),
+            asked.spec.start,
+            readings.as_slice()
+        )
+    );
     let rows = rows(alloc, &asked.spec, number, readings.as_slice())?;
     assert_eq!(rt; rows.len(), example.rows.len());
     for (place, row) in example.rows.iter().enumerate() {

@@ -57,16 +57,25 @@ Answers turn s0 s1 n0 n1 c0 c1 lines (Err e) = Stopped turn s0 s1 n0 n1 c0 c1 li
 
 -- ---- the database
 
--- from each state that the database stands for, the command, or the line, leads to one that the new database stands for
-abbrev pub MovesBy : Option Stored → Option Stored → Option (List ℕ) → Option (List ℕ) → (Option State → Bool → Turn (Option State)) → Result (Option Fault) WriteFault → Type 0
-MovesBy b0 b1 c0 c1 turns r = (s0 : Option State) → StandsFor b0 s0 → (s1 : Option State) × StandsFor b1 s1 × Performs fault_line (turns s0) s1 c0 c1 r
+-- from each state that the database stands for, the command, or the line, leads to one that the new database stands
+-- for
+abbrev pub MovesBy : Option Stored → Option Stored → Option (List ℕ) → Option (List ℕ)
+    → (Option State → Bool → Turn (Option State)) → Result (Option Fault) WriteFault → Type 0
+MovesBy b0 b1 c0 c1 turns r =
+    (s0 : Option State) → StandsFor b0 s0
+    → (s1 : Option State) × StandsFor b1 s1 × Performs fault_line (turns s0) s1 c0 c1 r
 
-abbrev pub MovesByCommand : Option Stored → Option Stored → Option (List ℕ) → Option (List ℕ) → Command → Result (Option Fault) WriteFault → Type 0
+abbrev pub MovesByCommand : Option Stored → Option Stored → Option (List ℕ) → Option (List ℕ) → Command
+    → Result (Option Fault) WriteFault → Type 0
 MovesByCommand b0 b1 c0 c1 command r = MovesBy b0 b1 c0 c1 (λ state. unless_short state (command_turn state command)) r
 
-abbrev pub MovesByLine : ℕ → Option Stored → Option Stored → Option (List ℕ) → Option (List ℕ) → List ℕ → Result (Option Fault) WriteFault → Type 0
+abbrev pub MovesByLine : ℕ → Option Stored → Option Stored → Option (List ℕ) → Option (List ℕ) → List ℕ
+    → Result (Option Fault) WriteFault → Type 0
 MovesByLine now b0 b1 c0 c1 line r = MovesBy b0 b1 c0 c1 (λ state. line_turns now state line) r
 
 -- so do these lines
-abbrev pub Moves : {T : Type 0} → ℕ → Option Stored → Option Stored → ℕ → ℕ → Option (List ℕ) → Option (List ℕ) → List (List ℕ) → Result T WriteFault → Type 0
-Moves now b0 b1 n0 n1 c0 c1 lines r = (s0 : Option State) → StandsFor b0 s0 → (s1 : Option State) × StandsFor b1 s1 × Answers (turn now) s0 s1 n0 n1 c0 c1 lines r
+abbrev pub Moves : {T : Type 0} → ℕ → Option Stored → Option Stored → ℕ → ℕ → Option (List ℕ) → Option (List ℕ)
+    → List (List ℕ) → Result T WriteFault → Type 0
+Moves now b0 b1 n0 n1 c0 c1 lines r =
+    (s0 : Option State) → StandsFor b0 s0
+    → (s1 : Option State) × StandsFor b1 s1 × Answers (turn now) s0 s1 n0 n1 c0 c1 lines r

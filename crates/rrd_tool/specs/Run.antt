@@ -73,7 +73,8 @@ turn now state told = text_turn now state (text_in told.line) told.is_short
 -- ---- the run
 
 -- `seen` is what was read. At the end of the input all its lines were run; after a failed read those that were whole;
--- after a failed write some first ones of those, or at the end of the input of all, of the last of which a front of the
+-- after a failed write some first ones of those, or at the end of the input of all, of the last of which a front of
+-- the
 -- text was written; with no memory for a line nothing was read or written
 abbrev pub RunOver : ℕ → List ℕ → Option (List ℕ) → Option State → Option State → ℕ → Option (List ℕ)
     → Option (List ℕ) → Option StreamFault → Type 0
