@@ -3,4 +3,4 @@ use Rattle.rrd_spec.specs.Entries.{saved}
 use Rattle.rrd_base.proofs.journal.save_all.Given as goal
 
 abbrev pub invariant-loop-rra : goal.invariant-loop-rra
-invariant-loop-rra l = l.all.items ≡ map (saved l.step l.from l.to) (take l.store-index l.archives)
+invariant-loop-rra l = l.all.items ≡ map (saved l.step l.from l.to) (take l.rra-index l.archives)

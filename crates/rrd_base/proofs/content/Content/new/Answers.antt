@@ -32,10 +32,10 @@ invariant_of-result c =
     let sources : c.into_vec.result.items ≡ spec.sources = c.into_vec.ensures in
     let raws : c.in_ok-raws.raws.items ≡ replicate n Raw.Unknown = search rules in
     let preps : c.in_ok-preps.preps.items ≡ replicate n nothing = search rules in
-    let archives : c.in_ok-stores.archives.items ≡ map (new_archive n) spec.archives = c.in_ok-stores.ensures ∙ ap (λ m. map (new_archive m) c.as_slice.result.now) c.len-sources.ensures ∙ ap (map (new_archive n)) c.as_slice.ensures in
-    let same : (let x : Content = record { step = spec.step; depth = spec.depth; sources = c.into_vec.result.items; last = spec.start; raws = c.in_ok-raws.raws.items; parts = c.in_ok-preps.preps.items; archives = c.in_ok-stores.archives.items } in x) ≡ created spec
-    = ap (λ ss. let x : Content = record { step = spec.step; depth = spec.depth; sources = ss; last = spec.start; raws = c.in_ok-raws.raws.items; parts = c.in_ok-preps.preps.items; archives = c.in_ok-stores.archives.items } in x) sources
-    ∙ ap (λ rs. let x : Content = record { step = spec.step; depth = spec.depth; sources = spec.sources; last = spec.start; raws = rs; parts = c.in_ok-preps.preps.items; archives = c.in_ok-stores.archives.items } in x) raws
-    ∙ ap (λ ps. let x : Content = record { step = spec.step; depth = spec.depth; sources = spec.sources; last = spec.start; raws = replicate n Raw.Unknown; parts = ps; archives = c.in_ok-stores.archives.items } in x) preps
+    let archives : c.in_ok-archives.archives.items ≡ map (new_archive n) spec.archives = c.in_ok-archives.ensures ∙ ap (λ m. map (new_archive m) c.as_slice.result.now) c.len-sources.ensures ∙ ap (map (new_archive n)) c.as_slice.ensures in
+    let same : (let x : Content = record { step = spec.step; depth = spec.depth; sources = c.into_vec.result.items; last = spec.start; raws = c.in_ok-raws.raws.items; parts = c.in_ok-preps.preps.items; archives = c.in_ok-archives.archives.items } in x) ≡ created spec
+    = ap (λ ss. let x : Content = record { step = spec.step; depth = spec.depth; sources = ss; last = spec.start; raws = c.in_ok-raws.raws.items; parts = c.in_ok-preps.preps.items; archives = c.in_ok-archives.archives.items } in x) sources
+    ∙ ap (λ rs. let x : Content = record { step = spec.step; depth = spec.depth; sources = spec.sources; last = spec.start; raws = rs; parts = c.in_ok-preps.preps.items; archives = c.in_ok-archives.archives.items } in x) raws
+    ∙ ap (λ ps. let x : Content = record { step = spec.step; depth = spec.depth; sources = spec.sources; last = spec.start; raws = replicate n Raw.Unknown; parts = ps; archives = c.in_ok-archives.archives.items } in x) preps
     ∙ ap (λ xs. let x : Content = record { step = spec.step; depth = spec.depth; sources = spec.sources; last = spec.start; raws = replicate n Raw.Unknown; parts = replicate n nothing; archives = xs } in x) archives in
     subst IsValid (sym same) (c.created_is_valid.ensures spec c.requires)

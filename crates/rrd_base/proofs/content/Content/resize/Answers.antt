@@ -18,8 +18,8 @@ invariant_of-self c =
     ∙ rows_set d.archives.items k c.index_mut.result.now rows there in
     subst (λ xs. IsValid (record (content_of d) { archives = xs })) (sym archives) (subst (λ (x : Content). IsValid (record x { archives = with_rows_at x.archives k rows })) (sym c.self.view_is) c.requires.valid)
 
-pub returns-clause-contents : goal.returns-clause-contents
-returns-clause-contents c =
+pub returns-clause-content : goal.returns-clause-content
+returns-clause-content c =
     let d = c.self.inside in
     let k = c.args.archive in
     let rows = c.args.rows in

@@ -2,7 +2,7 @@ use Rattle.std.proofs.Common.{◌≡◌, refl, sym, ◌∙◌, ap, subst, ◌+�
 use Rattle.std.proofs.lemmas.List.{length-drop, length-replicate}
 use Rattle.rrd_fixed.specs.declared.cell.Cell.{Cell}
 use Rattle.rrd_ring.specs.Rows.{HasWidth}
-use Rattle.rrd_ring.proofs.RowLemmas.{HasWidth-append, HasWidth-drop, width_is}
+use Rattle.rrd_ring.specs.Widths.{HasWidth-append, HasWidth-drop, width_is}
 use Rattle.rrd_spec.specs.History.{Archive}
 use Rattle.rrd_spec.specs.Listed.{keep_last}
 use Rattle.rrd_base.specs.declared.rra.Rra.TheInside.{Inside}
