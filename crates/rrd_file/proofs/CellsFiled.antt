@@ -16,7 +16,6 @@ use Rattle.rrd_spec.specs.History.{Archive, Content}
 use Rattle.rrd_spec.specs.Cells.{row_at, row_of_age}
 use Rattle.rrd_spec.specs.Cells.{cell_at}
 use Rattle.rrd_spec.specs.Validity.{IsRow, IsValid}
-use Rattle.rrd_spec.specs.Facts.{cell_of_archive}
 use Rattle.std.proofs.lemmas.List.FromFn.{get_or-range_with_len, length-range_with_len}
 use Rattle.rrd_spec.specs.Slots.{place_in, row_in}
 use Rattle.rrd_file.proofs.Told.{all_of, archive_at, cell_told, some_is}

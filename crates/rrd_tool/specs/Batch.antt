@@ -1,7 +1,6 @@
 -- Definition: a run over lines, each of which may be answered with want of memory (own).
 use Rattle.std.specs.Prelude.{◌≡◌, ◌+◌, ◌++◌, ◌∷◌, ◌&&◌, [], ℕ, Bool, List, Option, map, if◌then◌else◌}
 use Rattle.std.specs.Io.KnownBytes.{Appends}
-use Rattle.rrd_fixed.specs.declared.streams.WriteFault.{WriteFault}
 use Rattle.rrd_tool.specs.Lines.{is_empty}
 
 -- a line, and whether it was answered with want of memory
