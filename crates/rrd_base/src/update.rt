@@ -9,7 +9,7 @@ ghost use Rattle.rrd_spec.specs.Commands.{raw_of, value_for};
 ghost use Rattle.rrd_spec.specs.Limits.{version_one};
 ghost use Rattle.rrd_spec.specs.Verdict.{first_refusal, is_admitted, sample_checks, update_checks};
 ghost use Rattle.rrd_spec.specs.Settings.{has_source, is_double};
-ghost use Rattle.rrd_base.specs.Update.{template_checks, template_of};
+ghost use Rattle.rrd_base.specs.Update.{end_of, template_checks, template_of};
 ghost use Rattle.rrd_fixed.specs.Rate.{IsAccepted};
 
 use crate::named::{Named, has_source, is_double};
@@ -206,4 +206,13 @@ pub(crate) fn raws_into(
         let given = value_for(template, sources, values, place);
         room[place] = raw_of(&sources[place], given);
     }
+}
+
+/// The time of an update's last sample.
+pub(crate) fn end_of(update: &Update) -> u64
+    requires { 0 < length update.now.samples }
+    ensures { result ≡ end_of update.now }
+{
+    let samples = update.samples.as_slice();
+    samples[samples.len() - 1].time
 }

@@ -1,7 +1,7 @@
 use Rattle.std.proofs.Common.{◌∙◌, ap, ◌-◌, get_or, length}
 use Rattle.rrd_spec.specs.declared.update.Sample.{Sample}
 use Rattle.rrd_base.proofs.DatabaseLemmas.{last_item}
-use Rattle.rrd_base.proofs.database.end_of.Goals as goal
+use Rattle.rrd_base.proofs.update.end_of.Goals as goal
 
 pub returns : goal.returns
 returns c =
