@@ -16,7 +16,7 @@ use Rattle.rrd_spec.proofs.GroupLemmas.{next_ahead}
 use Rattle.rrd_base.specs.Walk.{least_of_ends, least_to, most_of_ends, most_to}
 use Rattle.rrd_spec.proofs.PassedLemmas.{passed-append, content_of_sample}
 use Rattle.rrd_base.proofs.Passing.{ended_div, within_div}
-use Rattle.rrd_spec.proofs.Held.{base_of_valid}
+use Rattle.rrd_spec.specs.Facts.{base_of_valid}
 use Rattle.rrd_base.proofs.TurnLemmas.{Leaves, leaves_of, passed_leaves, least_by_steps, most_by_steps, least_of_none}
 
 end_ahead : (last step : ℕ) → 0 < step → last + ((last / step + 1) * step - last) ≡ (last / step + 1) * step

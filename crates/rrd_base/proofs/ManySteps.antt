@@ -16,9 +16,9 @@ use Rattle.rrd_spec.specs.Steps.{rows_rule, seconds_to_steps}
 use Rattle.rrd_spec.specs.History.{Archive, Content, IsBase}
 use Rattle.rrd_spec.specs.Listed.{keep_last}
 use Rattle.rrd_spec.specs.Passing.{archive_passed, passed}
-use Rattle.rrd_spec.proofs.EachLemmas.{fold-with_each}
-use Rattle.rrd_spec.proofs.PassedLemmas.{archive_passed-append, keep_last-append}
-use Rattle.rrd_spec.proofs.RowLemmas.{keep_last_past, keep_all, length-keep_last}
+use Rattle.rrd_spec.specs.Preparations.{fold-with_each}
+use Rattle.rrd_spec.specs.Lists.{keep_last-append, keep_last_past, keep_all, length-keep_last}
+use Rattle.rrd_spec.proofs.PassedLemmas.{archive_passed-append}
 
 -- ---- a full group of one row of cells
 

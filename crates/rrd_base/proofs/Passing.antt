@@ -14,7 +14,7 @@ use Rattle.rrd_spec.specs.Validity.{IsPart, AreParts, IsRow, IsValid, IsValidArc
 use Rattle.rrd_spec.proofs.Bounded.{more, no_parts}
 use Rattle.rrd_base.proofs.ManySteps.{passed_ends}
 use Rattle.rrd_spec.proofs.PassedLemmas.{passed_within}
-use Rattle.rrd_spec.proofs.Held.{base_of_valid}
+use Rattle.rrd_spec.specs.Facts.{base_of_valid}
 
 -- parts with so many seconds more
 pub parts_more : (function : Function) (sources k n : ℕ) (parts : List Part) (row : List Cell) → AreParts function sources k parts → IsRow sources row → AreParts function sources (k + n) (fold (with_each function) parts (replicate n row))

@@ -12,10 +12,10 @@ use Rattle.rrd_spec.specs.Listed.{content_listed}
 use Rattle.rrd_spec.specs.Commands.{raw_of, value_for, sample_of}
 use Rattle.rrd_spec.specs.Verdict.{sample_checks}
 use Rattle.rrd_spec.specs.Validity.{IsValid, AreAccepted}
-use Rattle.rrd_spec.proofs.Accepted.{Passes, readings_rise}
+use Rattle.rrd_spec.specs.Laws.{Passes}
+use Rattle.rrd_spec.specs.Facts.{readings_rise, base_of_valid}
 use Rattle.rrd_spec.proofs.ContentLemmas.{listed-append}
 use Rattle.rrd_spec.proofs.HistoryLemmas.{moment_of-content}
-use Rattle.rrd_spec.proofs.Held.{base_of_valid}
 use Rattle.rrd_spec.proofs.Staying.{raws_accepted}
 use Rattle.rrd_spec.specs.Limits.{version_one}
 

@@ -14,11 +14,10 @@ use Rattle.rrd_spec.specs.History.{Archive}
 use Rattle.rrd_spec.specs.Passing.{archive_passed}
 use Rattle.rrd_spec.specs.Validity.{AreParts, IsRow, IsValidArchive}
 use Rattle.rrd_spec.specs.Each.{map_each, with_steps, anew, row_of, parts_in, AllOf}
-use Rattle.rrd_spec.proofs.RowLemmas.{length-keep_last}
-use Rattle.rrd_spec.proofs.Kept.{All-append, kept}
-use Rattle.rrd_spec.proofs.Bounded.{rows_keep, All-replicate}
-use Rattle.rrd_spec.proofs.AllLemmas.{All-drop}
-use Rattle.rrd_spec.proofs.EachLemmas.{parts_in-with_steps, parts_in-anew}
+use Rattle.rrd_spec.specs.Lists.{length-keep_last, All-append, All-replicate, All-drop}
+use Rattle.rrd_spec.proofs.Kept.{kept}
+use Rattle.rrd_spec.proofs.Bounded.{rows_keep}
+use Rattle.rrd_spec.specs.Preparations.{parts_in-with_steps, parts_in-anew}
 
 -- an archive of these preparations
 abbrev pub shown : RraDef → List Consolidating → List (List Cell) → Archive

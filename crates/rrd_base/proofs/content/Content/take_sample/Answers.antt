@@ -1,12 +1,11 @@
 use Rattle.std.proofs.Common.{◌≡◌, sym, ◌∙◌, ap, subst, ◌-◌, replicate, length, arith}
-use Rattle.rrd_spec.proofs.Staying.{length-accepted}
+use Rattle.rrd_spec.specs.Facts.{length-accepted, base_of_valid}
 use Rattle.rrd_spec.specs.History.{Content, Reading, rates}
 use Rattle.rrd_spec.specs.Passing.{passed}
 use Rattle.rrd_spec.specs.Validity.{AreAccepted, IsValid, IsRow}
 use Rattle.rrd_base.specs.Content.{content_of}
 use Rattle.rrd_base.proofs.Catching.{with_raws}
 use Rattle.rrd_spec.proofs.PassedLemmas.{content_of_sample}
-use Rattle.rrd_spec.proofs.Held.{base_of_valid}
 use Rattle.rrd_base.proofs.TurnLemmas.{leaves_of}
 use Rattle.std.proofs.Common.{ℕ, Vec}
 use Rattle.std.specs.Global.{Global}

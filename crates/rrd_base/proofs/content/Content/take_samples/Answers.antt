@@ -10,14 +10,15 @@ use Rattle.rrd_spec.specs.Turns.{in_all, least_of_sample, most_of_sample}
 use Rattle.rrd_base.specs.Update.{template_of}
 use Rattle.rrd_spec.specs.Verdict.{sample_checks}
 use Rattle.rrd_base.proofs.Catching.{sample_leaves, turns_next, same_least, same_most}
-use Rattle.rrd_spec.proofs.Accepted.{Passes, accepted_passes}
-use Rattle.rrd_spec.proofs.Held.{base_of_valid}
+use Rattle.rrd_spec.specs.Laws.{Passes}
+use Rattle.rrd_spec.proofs.Accepted.{accepted_passes}
+use Rattle.rrd_spec.specs.Facts.{base_of_valid}
 use Rattle.rrd_spec.proofs.Quiet.{content_nil}
 use Rattle.std.specs.Vec.{with_items}
 use Rattle.rrd_base.specs.Walk.{HasPlaces}
 use Rattle.rrd_base.proofs.TurnLemmas.{few_turns}
 use Rattle.rrd_base.proofs.SampleSteps.{one_taken, later_sample, accepted_raws}
-use Rattle.rrd_spec.proofs.AllLemmas.{drop_here}
+use Rattle.rrd_spec.specs.Lists.{drop_here}
 use Rattle.rrd_base.proofs.content.Content.take_samples.Goals as goal
 use Rattle.rrd_spec.specs.Limits.{version_one}
 

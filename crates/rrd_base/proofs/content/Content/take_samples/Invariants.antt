@@ -10,7 +10,7 @@ use Rattle.rrd_spec.specs.Turns.{in_all, least_of_sample, most_of_sample}
 use Rattle.rrd_base.specs.Update.{template_of}
 use Rattle.rrd_spec.specs.Verdict.{sample_checks}
 use Rattle.rrd_spec.specs.Validity.{IsValid}
-use Rattle.rrd_spec.proofs.Accepted.{Passes}
+use Rattle.rrd_spec.specs.Laws.{Passes}
 use Rattle.rrd_base.proofs.Catching.{SameShape}
 use Rattle.rrd_base.proofs.content.Content.take_samples.Given as goal
 use Rattle.rrd_spec.specs.Limits.{version_one}

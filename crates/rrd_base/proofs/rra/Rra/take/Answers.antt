@@ -11,7 +11,7 @@ use Rattle.rrd_base.proofs.ManySteps.{ended_none, ended_some, filled, row_fits, 
 use Rattle.rrd_base.proofs.Passing.{still_fit}
 use Rattle.rrd_spec.proofs.Bounded.{no_parts}
 use Rattle.rrd_base.proofs.StoreLemmas.{taken_valid}
-use Rattle.rrd_spec.proofs.AllLemmas.{rows_wide}
+use Rattle.rrd_spec.specs.Facts.{rows_wide}
 use Rattle.rrd_base.proofs.Taking.{begun, full, left_of}
 use Rattle.rrd_base.proofs.rra.Rra.take.Goals as goal
 
