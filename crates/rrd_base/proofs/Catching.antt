@@ -12,9 +12,9 @@ use Rattle.rrd_spec.specs.Passing.{passed}
 use Rattle.rrd_spec.specs.History.{definitions}
 use Rattle.rrd_spec.specs.Turns.{rows_shown, in_all, least_of_sample, most_of_sample, most_of_steps}
 use Rattle.rrd_spec.specs.Validity.{AreAccepted, IsRow, IsValid}
-use Rattle.rrd_spec.proofs.GroupLemmas.{next_ahead}
 use Rattle.rrd_base.specs.Walk.{least_of_ends, least_to, most_of_ends, most_to}
-use Rattle.rrd_spec.proofs.PassedLemmas.{passed-append, content_of_sample}
+use Rattle.rrd_spec.specs.Laws.{PassesInPieces, SampledPasses}
+use Rattle.rrd_base.proofs.ManySteps.{next_ahead}
 use Rattle.rrd_base.proofs.Passing.{ended_div, within_div}
 use Rattle.rrd_spec.specs.Facts.{base_of_valid}
 use Rattle.rrd_base.proofs.TurnLemmas.{Leaves, leaves_of, passed_leaves, least_by_steps, most_by_steps, least_of_none}
@@ -59,9 +59,9 @@ at_last base now time row is row_is h e =
       same = same;
     }
 
--- what both pieces come to
-pub caught_up : (base late now : Content) (time : ℕ) (row : List Cell) → IsValid base → end_of_step base ≤ time → late ≡ passed base (replicate (seconds_to_steps base time) row) → now ≡ passed late (replicate ((time - end_of_step base) % base.step) row) → now ≡ passed base (replicate (time - base.last) row)
-caught_up base late now time row is h e g =
+-- what both pieces come to, by the law of seconds in two pieces
+pub caught_up : (pieces : (base : Content) (xs ys : List (List Cell)) → PassesInPieces base xs ys) (base late now : Content) (time : ℕ) (row : List Cell) → IsValid base → end_of_step base ≤ time → late ≡ passed base (replicate (seconds_to_steps base time) row) → now ≡ passed late (replicate ((time - end_of_step base) % base.step) row) → now ≡ passed base (replicate (time - base.last) row)
+caught_up pieces base late now time row is h e g =
     let s = base.step in
     let left = (time - end_of_step base) % s in
     let n = seconds_to_steps base time in
@@ -69,7 +69,7 @@ caught_up base late now time row is h e g =
     let split = div-add-mod' (time - end_of_step base) s in
     g
     ∙ ap (λ x. passed x (replicate left row)) e
-    ∙ sym (passed-append base (replicate n row) (replicate left row) (base_of_valid base is))
+    ∙ sym (pieces base (replicate n row) (replicate left row) (base_of_valid base is))
     ∙ ap (passed base) (replicate-append-replicate n left row)
     ∙ ap (λ m. passed base (replicate m row)) {x = n + left} {y = time - base.last} (omega arith)
 
@@ -130,17 +130,17 @@ with_raws base raws is accepted = record {
   archives_are = is.archives_are;
 }
 
--- a sample leaves the steps and the archives' settings
+-- a sample leaves the steps and the archives' settings, by the law of samples
 pub record SameShape (base now : Content) : Type 0 where
   pub step : now.step ≡ base.step
   pub defs : definitions now.archives ≡ definitions base.archives
 
-pub sample_leaves : (base now : Content) (reading : Reading) → IsBase base → base.last < reading.time → now ≡ content_listed base (Sampled reading ∷ []) → SameShape base now
-sample_leaves base now reading is later e =
+pub sample_leaves : (passes : (base : Content) (reading : Reading) → SampledPasses base reading) (base now : Content) (reading : Reading) → IsBase base → base.last < reading.time → now ≡ content_listed base (Sampled reading ∷ []) → SameShape base now
+sample_leaves passes base now reading is later e =
     let n = reading.time - base.last in
     let row = rates base.sources n base.raws reading.raws in
     let left = passed_leaves base n row in
-    let whole = e ∙ content_of_sample base reading is later in
+    let whole = e ∙ passes base reading is later in
     record {
       step = ap (λ (x : Content). x.step) whole ∙ left.step;
       defs = ap (λ (x : Content). definitions x.archives) whole ∙ left.defs;

@@ -1,5 +1,5 @@
 -- An update, sample by sample.
-use Rattle.std.proofs.Common.{◌≡◌, sym, ◌∙◌, ap, subst, ℕ, ◌<◌, List, [], ◌∷◌, map, arith}
+use Rattle.std.proofs.Common.{◌≡◌, refl, sym, ◌∙◌, ap, subst, ℕ, ◌<◌, List, [], ◌∷◌, map, arith}
 use Rattle.std.proofs.lemmas.Bool.Decides.{nat_tests}
 use Rattle.std.specs.List.{AllByRecursion}
 use Rattle.rrd_fixed.specs.declared.raw.Raw.{Raw}
@@ -7,17 +7,14 @@ use Rattle.rrd_fixed.specs.declared.name.Name.{Name}
 use Rattle.rrd_spec.specs.declared.settings.DsDef.{DsDef}
 use Rattle.rrd_spec.specs.declared.update.Sample.{Sample}
 use Rattle.rrd_spec.specs.declared.update.Given.{Given}
-use Rattle.rrd_spec.specs.History.{Content, Moment, Sampled, moment_of, moment_at_end}
+use Rattle.rrd_spec.specs.History.{Content, Event, Moment, Sampled, moment_of, moment_at_end}
 use Rattle.rrd_spec.specs.Listed.{content_listed}
 use Rattle.rrd_spec.specs.Commands.{raw_of, value_for, sample_of}
 use Rattle.rrd_spec.specs.Verdict.{sample_checks}
 use Rattle.rrd_spec.specs.Validity.{IsValid, AreAccepted}
+use Rattle.rrd_spec.specs.Changes.{AreKept, GoesOnListed}
 use Rattle.rrd_spec.specs.Laws.{Passes}
-use Rattle.rrd_spec.specs.Facts.{readings_rise}
-use Rattle.rrd_spec.proofs.ContentLemmas.{listed-append}
-use Rattle.rrd_spec.proofs.HistoryLemmas.{moment_of-content}
-use Rattle.rrd_spec.specs.Facts.{base_of_valid}
-use Rattle.rrd_spec.proofs.Staying.{raws_accepted}
+use Rattle.rrd_spec.specs.Facts.{readings_rise, base_of_valid}
 use Rattle.rrd_spec.specs.Limits.{version_one}
 
 -- the content after a sample, and those that are left
@@ -27,24 +24,29 @@ pub record Taken (now next : Content) (sources : List DsDef) (template : List Na
   pub same_sources : next.sources ≡ now.sources
   pub last_is : next.last ≡ sample.time
 
-pub one_taken : (now next : Content) (sources : List DsDef) (template : List Name) (sample : Sample) (rest : List Sample) → IsValid now → now.sources ≡ sources → AllByRecursion Passes (sample_checks version_one sources template now.last (sample ∷ rest)) → next ≡ content_listed now (Sampled (sample_of sources template sample) ∷ []) → Taken now next sources template sample rest
-one_taken now next sources template sample rest is same pass e =
+moment_of-content : (base : Content) (es : List Event) → moment_of (content_listed base es) ≡ moment_at_end base es
+unfolding content_listed
+moment_of-content base es = refl
+
+-- by the law of histories that are cut
+pub one_taken : (goes_on : (base : Content) (first second : List Event) → GoesOnListed base first second) (now next : Content) (sources : List DsDef) (template : List Name) (sample : Sample) (rest : List Sample) → IsValid now → now.sources ≡ sources → AllByRecursion Passes (sample_checks version_one sources template now.last (sample ∷ rest)) → next ≡ content_listed now (Sampled (sample_of sources template sample) ∷ []) → Taken now next sources template sample rest
+one_taken goes_on now next sources template sample rest is same pass e =
     let reading = sample_of sources template sample in
     let all = readings_rise sources template (moment_of now) (sample ∷ rest) pass in
     let after : moment_of (content_listed now (Sampled reading ∷ [])) ≡ moment_at_end now (Sampled reading ∷ []) = moment_of-content now (Sampled reading ∷ []) in
     let end : moment_of next ≡ moment_at_end now (Sampled reading ∷ []) = ap moment_of e ∙ after in
     let last : next.last ≡ sample.time = ap (λ (m : Moment). m.last) end in
     record {
-      comes_to = listed-append now (Sampled reading ∷ []) (map Sampled (map (sample_of sources template) rest)) (base_of_valid now is) (all.0, tt) all.1
+      comes_to = goes_on now (Sampled reading ∷ []) (map Sampled (map (sample_of sources template) rest)) (base_of_valid now is) (all.0, tt) all.1
           ∙ ap (λ c. content_listed c (map Sampled (map (sample_of sources template) rest))) (sym e);
       pass = subst (λ t. AllByRecursion Passes (sample_checks version_one sources template t rest)) (sym last) pass.1.1.1.1;
       same_sources = ap (λ (m : Moment). m.sources) end;
       last_is = last;
     }
 
--- a sample's raw values are accepted
-pub accepted_raws : (now : Content) (sources : List DsDef) (template : List Name) (values : List Given) (raws : List Raw) → now.sources ≡ sources → raws ≡ map (λ (source : DsDef). raw_of source.kind (value_for template values source)) sources → AreAccepted now.sources raws
-accepted_raws now sources template values raws same e = subst (λ ss. AreAccepted ss raws) (sym same) (subst (AreAccepted sources) (sym e) (raws_accepted (value_for template values) sources))
+-- a sample's raw values are accepted, by the law of raw values
+pub accepted_raws : (kept : (given : DsDef → Given) (sources : List DsDef) → AreKept given sources) (now : Content) (sources : List DsDef) (template : List Name) (values : List Given) (raws : List Raw) → now.sources ≡ sources → raws ≡ map (λ (source : DsDef). raw_of source.kind (value_for template values source)) sources → AreAccepted now.sources raws
+accepted_raws kept now sources template values raws same e = subst (λ ss. AreAccepted ss raws) (sym same) (subst (AreAccepted sources) (sym e) (kept (value_for template values) sources))
 
 pub later_sample : (sources : List DsDef) (template : List Name) (last : ℕ) (sample : Sample) (rest : List Sample) → AllByRecursion Passes (sample_checks version_one sources template last (sample ∷ rest)) → last < sample.time
 later_sample sources template last sample rest pass = let h = pass.1.0 in grind (arith, nat_tests, h)

@@ -1,25 +1,19 @@
 -- A step, for the archive of many sources.
-use Rattle.std.proofs.Common.{◌≡◌, refl, sym, ◌∙◌, ap, subst, ℕ, zero, suc, ◌+◌, ◌-◌, ◌<◌, ◌≤◌, ℤ, List, [], ◌∷◌, ◌++◌, length, map, replicate, arith, length-append}
+use Rattle.std.proofs.Common.{◌≡◌, refl, sym, ◌∙◌, ap, subst, ℕ, zero, suc, ◌+◌, ◌<◌, ◌≤◌, ℤ, List, [], ◌∷◌, length, map, replicate, arith}
 use Rattle.std.proofs.lemmas.List.{length-replicate}
 use Rattle.std.specs.List.{AllByRecursion, fold}
 use Rattle.rrd_fixed.specs.declared.cell.Cell.{Cell}
 use Rattle.rrd_fold.specs.declared.function.Function.{Function}
-use Rattle.rrd_spec.specs.Groups.{finished}
 use Rattle.rrd_fold.specs.Parts.{Part, nothing, with_each, row_cell}
 use Rattle.rrd_fold.specs.Bounds.{Consolidating}
 use Rattle.rrd_ring.specs.Rows.{width}
 use Rattle.rrd_spec.specs.declared.settings.RraDef.{RraDef}
-use Rattle.rrd_spec.specs.Steps.{rows_rule}
+use Rattle.rrd_spec.specs.Changes.{ArchiveStaysValid}
 use Rattle.rrd_spec.specs.History.{Archive}
 use Rattle.rrd_spec.specs.Passing.{archive_passed}
-use Rattle.rrd_spec.specs.Validity.{AreParts, IsRow, IsValidArchive}
+use Rattle.rrd_spec.specs.Validity.{IsRow, IsValidArchive}
 use Rattle.rrd_spec.specs.Each.{map_each, with_steps, anew, row_of, parts_in, AllOf}
-use Rattle.rrd_spec.specs.Lists.{length-keep_last}
-use Rattle.rrd_spec.specs.Lists.{All-append}
-use Rattle.rrd_spec.proofs.Kept.{kept}
-use Rattle.rrd_spec.proofs.Bounded.{rows_keep}
 use Rattle.rrd_spec.specs.Lists.{All-replicate}
-use Rattle.rrd_spec.specs.Lists.{All-drop}
 use Rattle.rrd_spec.specs.Preparations.{parts_in-with_steps, parts_in-anew}
 
 -- an archive of these preparations
@@ -65,34 +59,14 @@ width_is sources (row ∷ rows) some is = is.0.one_each
 
 -- ---- what is valid stays valid
 
-pub passed_valid : (sources before : ℕ) (steps : List (List Cell)) (archive : Archive) → IsValidArchive sources before archive → AllByRecursion (IsRow sources) steps → IsValidArchive sources (before + length steps) (archive_passed sources before steps archive)
-unfolding archive_passed
-passed_valid sources before steps archive is rows =
-    let def = archive.def in
-    let rule = rows_rule def sources in
-    let keeps = kept rule (IsRow sources) (AreParts def.function sources) (IsRow sources) (rows_keep def sources is.some_steps is.xff_low is.xff_high) before archive.parts steps is.parts_are rows in
-    let new = finished rule before archive.parts steps in
-    let all = archive.rows ++ new in
-    record {
-      some_steps = is.some_steps;
-      few_steps = is.few_steps;
-      some_rows = is.some_rows;
-      few_rows = is.few_rows;
-      xff_low = is.xff_low;
-      xff_high = is.xff_high;
-      parts_are = keeps.begun_is;
-      rows_are = length-keep_last (length archive.rows) all (omega (arith, length-append archive.rows new)) ∙ is.rows_are;
-      each_row = All-drop (IsRow sources) (length all - length archive.rows) all (All-append (IsRow sources) archive.rows new is.each_row keeps.given_are);
-    }
-
--- after a step and many of another
-pub taken_valid : (first then : List Cell) (before count : ℕ) (archive new : Archive) → IsValidArchive (length first) before archive → IsRow (length first) first → IsRow (length first) then → new ≡ archive_passed (length first) before (first ∷ replicate count then) archive → IsValidArchive (length first) (before + (1 + count)) new
-taken_valid first then before count archive new is one many e =
+-- after a step and many of another, by the law of steps
+pub taken_valid : (archive_stays : (sources before : ℕ) (steps : List (List Cell)) (archive : Archive) → ArchiveStaysValid sources before steps archive) (first then : List Cell) (before count : ℕ) (archive new : Archive) → IsValidArchive (length first) before archive → IsRow (length first) first → IsRow (length first) then → new ≡ archive_passed (length first) before (first ∷ replicate count then) archive → IsValidArchive (length first) (before + (1 + count)) new
+taken_valid archive_stays first then before count archive new is one many e =
     let n = length first in
     let steps = first ∷ replicate count then in
     subst (IsValidArchive n (before + (1 + count))) (sym e)
     (subst (λ (k : ℕ). IsValidArchive n k (archive_passed n before steps archive)) {x = before + length steps} {y = before + (1 + count)} (omega (arith, length-replicate count then))
-    (passed_valid n before steps archive is (one, All-replicate (IsRow n) count then many)))
+    (archive_stays n before steps archive is (one, All-replicate (IsRow n) count then many)))
 
 -- ---- new preparations
 

@@ -2,8 +2,10 @@
 use Rattle.std.proofs.Common.{◌≡◌, refl, sym, ◌∙◌, ap, subst, ℕ, ◌+◌, ◌-◌, ◌*◌, ◌/◌, ◌%◌, ◌≤◌, List, length, replicate, arith}
 use Rattle.std.specs.List.{fold, AllByRecursion}
 use Rattle.rrd_fixed.specs.declared.cell.Cell.{Cell}
+use Rattle.rrd_fold.specs.declared.function.Function.{Function}
 use Rattle.rrd_fold.specs.Parts.{Part, with_each}
 use Rattle.rrd_spec.specs.declared.settings.RraDef.{RraDef}
+use Rattle.rrd_spec.specs.Changes.{PartsGrow}
 use Rattle.rrd_spec.specs.History.{Archive}
 use Rattle.rrd_spec.specs.Validity.{IsRow, IsValidArchive}
 use Rattle.rrd_base.proofs.ManySteps.{filled, row_fits}
@@ -13,17 +15,17 @@ use Rattle.rrd_base.proofs.Passing.{few_known, parts_more, still_fit}
 abbrev pub left_of : ℕ → RraDef → ℕ
 left_of before def = (before / def.steps + 1) * def.steps - (before + 1)
 
--- after the first step
+-- after the first step; by the law of parts
 pub record Begun (before : ℕ) (now : Archive) (def : RraDef) (then : List Cell) : Type 0 where
   pub row : IsRow (length now.parts) then
   pub fits : (k : ℕ) → before % def.steps + 1 + k ≤ def.steps → AllByRecursion (λ (p : Part). p.known + k ≤ 1000000) now.parts
 
-pub begun : (before : ℕ) (archive now : Archive) (first then : List Cell) → IsValidArchive (length first) before archive → IsRow (length first) first → IsRow (length first) then → now ≡ record archive { parts = fold (with_each archive.def.function) archive.parts (replicate 1 first) } → Begun before now archive.def then
-begun before archive now first then is one many e =
+pub begun : (grow : (function : Function) (sources n : ℕ) (parts : List Part) (row : List Cell) → PartsGrow function sources n parts row) (before : ℕ) (archive now : Archive) (first then : List Cell) → IsValidArchive (length first) before archive → IsRow (length first) first → IsRow (length first) then → now ≡ record archive { parts = fold (with_each archive.def.function) archive.parts (replicate 1 first) } → Begun before now archive.def then
+begun grow before archive now first then is one many e =
     let n = length first in
     let f = archive.def.function in
     let j = before % archive.def.steps in
-    let parts = parts_more f n j 1 archive.parts first is.parts_are one in
+    let parts = parts_more grow f n j 1 archive.parts first is.parts_are one in
     let few = is.few_steps in
     subst (λ (x : Archive). Begun before x archive.def then) (sym e)
     (record {
@@ -37,14 +39,14 @@ pub record Full (archive now : Archive) (first then : List Cell) (left : ℕ) : 
   pub wide : length now.parts ≡ length first
   pub known : AllByRecursion (λ (p : Part). p.known ≤ now.def.steps) now.parts
 
-pub full : (before : ℕ) (archive one now : Archive) (first then : List Cell) → IsValidArchive (length first) before archive → IsRow (length first) first → IsRow (length first) then → one ≡ record archive { parts = fold (with_each archive.def.function) archive.parts (replicate 1 first) } → now ≡ record one { parts = fold (with_each one.def.function) one.parts (replicate (left_of before archive.def) then) } → Full archive now first then (left_of before archive.def)
-full before archive one now first then is alone many e g =
+pub full : (grow : (function : Function) (sources n : ℕ) (parts : List Part) (row : List Cell) → PartsGrow function sources n parts row) (before : ℕ) (archive one now : Archive) (first then : List Cell) → IsValidArchive (length first) before archive → IsRow (length first) first → IsRow (length first) then → one ≡ record archive { parts = fold (with_each archive.def.function) archive.parts (replicate 1 first) } → now ≡ record one { parts = fold (with_each one.def.function) one.parts (replicate (left_of before archive.def) then) } → Full archive now first then (left_of before archive.def)
+full grow before archive one now first then is alone many e g =
     let n = length first in
     let f = archive.def.function in
     let j = before % archive.def.steps in
     let left = left_of before archive.def in
-    let begin = parts_more f n j 1 archive.parts first is.parts_are alone in
-    let parts = parts_more f n (j + 1) left (fold (with_each f) archive.parts (replicate 1 first)) then begin many in
+    let begin = parts_more grow f n j 1 archive.parts first is.parts_are alone in
+    let parts = parts_more grow f n (j + 1) left (fold (with_each f) archive.parts (replicate 1 first)) then begin many in
     let whole = g ∙ ap (λ (x : Archive). let y : Archive = record x { parts = fold (with_each x.def.function) x.parts (replicate left then) } in y) e in
     subst (λ (x : Archive). Full archive x first then left) (sym whole)
     (record {

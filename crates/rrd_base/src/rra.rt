@@ -23,6 +23,7 @@ use crate::{RraDef, SavedArchive};
 use rrd_fixed::{Cell, Meter};
 use rrd_fold::RowPrep;
 use rrd_ring::Archive;
+use rrd_spec::laws;
 use std::alloc::{AllocError, Global};
 use std::marker::Model;
 
@@ -170,6 +171,9 @@ impl Rra {
         ensures most { meter.new ≤ meter.old + most_of_one steps.now self.old }
         ensures places { length row.new ≡ length row.old }
     {
+        laws::parts_stay_bounded();
+        laws::seconds_stay_valid();
+        laws::steps_pass_at_once();
         let in_row = self.def().steps;
         let left = (steps.before / in_row + 1) * in_row - (steps.before + 1);
         self.go_on(steps.first, 1, meter);

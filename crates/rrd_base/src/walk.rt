@@ -19,6 +19,7 @@ use crate::update::raws_into;
 use crate::{DsDef, Update};
 use preparations::{add_seconds, close_steps};
 use rrd_fixed::{Cell, Meter, Raw};
+use rrd_spec::laws;
 use std::alloc::{AllocError, Global};
 
 /// Steps that end one after another, the first of its own and all others alike, with a cell for each
@@ -104,6 +105,8 @@ impl Content {
         ensures value { self.new ≡ passed self.old (replicate seconds walk.old.rates.items) }
         ensures ticked { walk.new ≡ record walk.old { meter = walk.old.meter + length self.old.sources } }
     {
+        laws::seconds_pass_within_a_step();
+        laws::seconds_stay_valid();
         add_seconds(&mut self.preps, &walk.rates, seconds, &mut walk.meter);
         self.last += seconds;
     }
@@ -122,6 +125,9 @@ impl Content {
         ensures least { walk.old.meter + least_of_ends self.old count ≤ walk.new.meter }
         ensures most { walk.new.meter ≤ walk.old.meter + most_of_ends self.old count }
     {
+        laws::parts_stay_bounded();
+        laws::seconds_pass_at_once();
+        laws::seconds_stay_valid();
         let before = self.last / self.step;
         add_seconds(&mut self.preps, &walk.rates, seconds, &mut walk.meter);
         close_steps(&mut self.preps, self.step, &mut walk.step, &mut walk.meter);
@@ -148,6 +154,7 @@ impl Content {
         ensures least { walk.old.meter + least_to self.old time ≤ walk.new.meter }
         ensures most { walk.new.meter ≤ walk.old.meter + most_to self.old time }
     {
+        laws::seconds_pass_in_pieces();
         let step = self.step;
         let last = self.last;
         let end = (last / step + 1) * step;
@@ -174,6 +181,7 @@ impl Content {
         ensures least { walk.old.meter + least_to self.old time ≤ walk.new.meter }
         ensures most { walk.new.meter ≤ walk.old.meter + most_to self.old time }
     {
+        laws::sample_passes();
         walk.find_rates(&self.sources, &self.raws, time - self.last);
         self.catch_up(time, walk);
         self.raws.copy_from_slice(&walk.raws);
@@ -188,6 +196,11 @@ impl Content {
         ensures value { self.new ≡ moved_listed self.old (Updating update.now) }
         ensures turns { AreTurns self.old update.now walk.new.meter }
     {
+        laws::accepted_passes();
+        laws::content_goes_on();
+        laws::content_stays_without_events();
+        laws::raw_values_are_accepted();
+        laws::sample_passes();
         for sample in update.samples.as_slice() {
             let values = sample.values.as_slice();
             raws_into(&update.template, &self.sources, values, &mut walk.raws);

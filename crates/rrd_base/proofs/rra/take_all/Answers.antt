@@ -7,8 +7,7 @@ use Rattle.rrd_spec.specs.History.{definitions}
 use Rattle.rrd_spec.specs.declared.settings.RraDef.{RraDef}
 use Rattle.rrd_spec.specs.Turns.{rows_pushed, least_of_steps, most_of_steps}
 use Rattle.rrd_spec.specs.Validity.{IsValidArchive}
-use Rattle.rrd_spec.specs.Lists.{All-take-set}
-use Rattle.rrd_spec.specs.Lists.{map_more, map_next}
+use Rattle.rrd_spec.specs.Lists.{All-take-set, map_more, map_next}
 use Rattle.rrd_base.specs.Walk.{cells_of, count_of, sources_of}
 use Rattle.rrd_base.proofs.TurnLemmas.{sum_more, sum_within}
 use Rattle.rrd_base.proofs.rra.take_all.Goals as goal

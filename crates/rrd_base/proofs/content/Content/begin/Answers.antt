@@ -1,4 +1,4 @@
-use Rattle.std.proofs.Common.{◌≡◌, sym, ◌∙◌, ap, subst, ℕ, ◌+◌, ◌*◌, ◌/◌, ◌%◌, ◌<◌, ◌≤◌, replicate, length, arith}
+use Rattle.std.proofs.Common.{◌≡◌, sym, ◌∙◌, ap, subst, ℕ, ◌+◌, ◌*◌, ◌/◌, ◌<◌, ◌≤◌, replicate, length, arith}
 use Rattle.std.specs.List.{fold}
 use Rattle.std.specs.Vec.{with_items}
 use Rattle.std.proofs.lemmas.List.{with_items_is}
@@ -6,9 +6,9 @@ use Rattle.rrd_fold.specs.declared.function.Function.TheVariants.{Average}
 use Rattle.rrd_fold.specs.Parts.{with_each}
 use Rattle.rrd_spec.specs.History.{Content}
 use Rattle.rrd_spec.specs.Passing.{passed}
-use Rattle.rrd_spec.specs.Validity.{IsRow, IsValid}
+use Rattle.rrd_spec.specs.Validity.{IsRow}
 use Rattle.rrd_base.specs.Content.{content_of}
-use Rattle.rrd_base.proofs.Passing.{parts_more, leaves, valid_left}
+use Rattle.rrd_base.proofs.Passing.{leaves, stays}
 use Rattle.rrd_base.proofs.content.Content.begin.Goals as goal
 
 pub invariant_of-self : goal.invariant_of-self
@@ -23,9 +23,8 @@ invariant_of-self c =
     let written : (with_items d.preps c.add_seconds.new.preps).items ≡ c.add_seconds.new.preps = with_items_is d.preps c.add_seconds.new.preps (omega (arith, d.preps.ok.0)) in
     let added : (with_items d.preps c.add_seconds.new.preps).items ≡ fold (with_each Average) d.preps.items (replicate n rates)
     = written ∙ c.add_seconds.ensures.added ∙ ap (λ ps. fold (with_each Average) ps (replicate n c.deref.result.now)) c.deref_mut.ensures.value ∙ ap (λ row. fold (with_each Average) d.preps.items (replicate n row)) c.deref.ensures.value in
-    let parts = parts_more Average (length d.sources.items) (d.last % d.step) n d.preps.items rates is.parts_are row in
-    subst (λ ps. IsValid (record (content_of d) { last = d.last + n; parts = ps })) (sym added)
-    (valid_left (content_of d) n (fold (with_each Average) d.preps.items (replicate n rates)) is within in_time parts)
+    let now = leaves c.seconds_pass_within_a_step.ensures (content_of d) n rates (with_items d.preps c.add_seconds.new.preps).items is within added in
+    stays c.seconds_stay_valid.ensures.content (content_of d) _ n rates is row in_time now
 
 pub returns-clause-value : goal.returns-clause-value
 returns-clause-value c =
@@ -37,4 +36,4 @@ returns-clause-value c =
     let written : (with_items d.preps c.add_seconds.new.preps).items ≡ c.add_seconds.new.preps = with_items_is d.preps c.add_seconds.new.preps (omega (arith, d.preps.ok.0)) in
     let added : (with_items d.preps c.add_seconds.new.preps).items ≡ fold (with_each Average) d.preps.items (replicate n rates)
     = written ∙ c.add_seconds.ensures.added ∙ ap (λ ps. fold (with_each Average) ps (replicate n c.deref.result.now)) c.deref_mut.ensures.value ∙ ap (λ row. fold (with_each Average) d.preps.items (replicate n row)) c.deref.ensures.value in
-    leaves (content_of d) n rates (with_items d.preps c.add_seconds.new.preps).items is within added ∙ ap (λ (x : Content). passed x (replicate n rates)) c.self.view_is
+    leaves c.seconds_pass_within_a_step.ensures (content_of d) n rates (with_items d.preps c.add_seconds.new.preps).items is within added ∙ ap (λ (x : Content). passed x (replicate n rates)) c.self.view_is

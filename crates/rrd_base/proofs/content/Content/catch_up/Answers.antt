@@ -126,7 +126,7 @@ returns-else-time-end-clause-value c =
     let late = c.end_steps.new.self in
     let steps : late ≡ passed V (replicate (seconds_to_steps V time) rates) = c.end_steps.ensures.value ∙ ap (λ (x : Content). passed x (replicate (end_of_step V - V.last + steps_after V time * x.step) rates)) (sym c.self.view_is) in
     let last = at_last V late time rates is row h steps in
-    caught_up V late c.begin-else-time-end.new.self time rates is h steps
+    caught_up c.seconds_pass_in_pieces.ensures V late c.begin-else-time-end.new.self time rates is h steps
     (c.begin-else-time-end.ensures.value ∙ ap (λ (row : Vec Cell Global). passed late (replicate ((time - end_of_step V) % V.step) row.items)) c.end_steps.ensures.keeps.rates)
     ∙ ap (λ (x : Content). passed x (replicate (time - x.last) rates)) c.self.view_is
 

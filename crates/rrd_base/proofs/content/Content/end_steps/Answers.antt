@@ -6,9 +6,9 @@ use Rattle.rrd_fold.specs.declared.function.Function.TheVariants.{Average}
 use Rattle.rrd_fold.specs.Parts.{Part, nothing, with_each, step_cell}
 use Rattle.rrd_spec.specs.History.{Content}
 use Rattle.rrd_spec.specs.Passing.{passed, archive_passed}
-use Rattle.rrd_spec.specs.Validity.{IsRow, IsValidArchive}
+use Rattle.rrd_spec.specs.Validity.{IsRow}
 use Rattle.rrd_base.specs.Content.{content_of}
-use Rattle.rrd_base.proofs.Passing.{parts_more, few_known, within_step, ends, valid_ended}
+use Rattle.rrd_base.proofs.Passing.{parts_more, few_known, within_step, ends, stays}
 use Rattle.rrd_base.proofs.content.Content.end_steps.Goals as goal
 
 pub close_steps-requires-clause-fits : goal.close_steps-requires-clause-fits
@@ -26,7 +26,7 @@ close_steps-requires-clause-fits c =
     = c.deref_mut-2.ensures.value ∙ written ∙ c.add_seconds.ensures.added ∙ ap (λ ps. fold (with_each Average) ps (replicate n c.deref.result.now)) c.deref_mut.ensures.value ∙ ap (λ row. fold (with_each Average) d.preps.items (replicate n row)) c.deref.ensures.value in
     let end = subst (λ (z : Content). z.last + n ≡ (z.last / z.step + 1) * z.step) (sym c.self.view_is) c.requires.fills in
     let row = subst (λ (z : Content). IsRow (length z.sources) rates) (sym c.self.view_is) c.requires.rates_are in
-    let parts = parts_more Average k (d.last % d.step) n d.preps.items rates is.parts_are row in
+    let parts = parts_more c.parts_stay_bounded.ensures.one_more Average k (d.last % d.step) n d.preps.items rates is.parts_are row in
     subst (λ ps. AllByRecursion (λ (p : Part). p.known ≤ d.step) ps) (sym added) (few_known Average (d.last % d.step + n) d.step whole (within_step d.last n d.step is.some_step (omega arith)) parts.each)
 
 pub invariant_of-self : goal.invariant_of-self
@@ -43,6 +43,7 @@ invariant_of-self c =
     let added : c.deref_mut-2.result.now ≡ whole
     = c.deref_mut-2.ensures.value ∙ written ∙ c.add_seconds.ensures.added ∙ ap (λ ps. fold (with_each Average) ps (replicate n c.deref.result.now)) c.deref_mut.ensures.value ∙ ap (λ row. fold (with_each Average) d.preps.items (replicate n row)) c.deref.ensures.value in
     let end = subst (λ (z : Content). z.last + n ≡ (z.last / z.step + 1) * z.step) (sym c.self.view_is) c.requires.fills in
+    let row = subst (λ (z : Content). IsRow (length z.sources) rates) (sym c.self.view_is) c.requires.rates_are in
     let in_time = subst (λ (z : Content). z.last + (n + m * z.step) ≤ 9999999999) (sym c.self.view_is) c.requires.in_time in
     let count2 : length c.deref_mut-2.result.now ≡ k = ap length (c.deref_mut-2.ensures.value ∙ written) ∙ omega (arith, ap length c.deref_mut.ensures.value, is.parts_are.one_each) in
     let parts : (with_items added_vec c.close_steps.new.preps).items ≡ replicate k nothing
@@ -57,10 +58,9 @@ invariant_of-self c =
     ∙ ap (λ xs. map (archive_passed (length cells) q (cells ∷ replicate m c.deref-3.result.now)) xs) c.deref_mut-4.ensures.value
     ∙ ap (λ w. map (archive_passed w q (cells ∷ replicate m c.deref-3.result.now)) d.archives.items) wide
     ∙ ap (λ row. map (archive_passed k q (cells ∷ replicate m row)) d.archives.items) c.deref-3.ensures.value in
-    let good : AllByRecursion (IsValidArchive k (q + (1 + m))) (with_items d.archives c.take_all.new.archives).items
-    = subst (λ xs. AllByRecursion (IsValidArchive k (q + (1 + m))) xs) (sym stored)
-    (subst (λ w. AllByRecursion (IsValidArchive w (q + (1 + m))) c.take_all.new.archives) wide c.take_all.ensures.valid) in
-    valid_ended (content_of d) n m (cells ∷ replicate m rates) (with_items added_vec c.close_steps.new.preps).items (with_items d.archives c.take_all.new.archives).items is end in_time parts archives good
+    let made : cells ≡ map (step_cell d.step) whole = cells_are ∙ c.close_steps.ensures.cells ∙ ap (map (step_cell d.step)) added in
+    let now = ends c.seconds_pass_at_once.ensures (content_of d) n m rates cells (with_items added_vec c.close_steps.new.preps).items (with_items d.archives c.take_all.new.archives).items is row end made parts archives in
+    stays c.seconds_stay_valid.ensures.content (content_of d) _ (n + m * d.step) rates is row in_time now
 
 pub returns-clause-value : goal.returns-clause-value
 returns-clause-value c =
@@ -91,5 +91,5 @@ returns-clause-value c =
     ∙ ap (λ w. map (archive_passed w q (cells ∷ replicate m c.deref-3.result.now)) d.archives.items) wide
     ∙ ap (λ row. map (archive_passed k q (cells ∷ replicate m row)) d.archives.items) c.deref-3.ensures.value in
     let made : cells ≡ map (step_cell d.step) whole = cells_are ∙ c.close_steps.ensures.cells ∙ ap (map (step_cell d.step)) added in
-    ends (content_of d) n m rates cells (with_items added_vec c.close_steps.new.preps).items (with_items d.archives c.take_all.new.archives).items is row end made parts archives
+    ends c.seconds_pass_at_once.ensures (content_of d) n m rates cells (with_items added_vec c.close_steps.new.preps).items (with_items d.archives c.take_all.new.archives).items is row end made parts archives
     ∙ ap (λ (x : Content). passed x (replicate (n + m * x.step) rates)) c.self.view_is

@@ -1,12 +1,10 @@
 use Rattle.std.proofs.Common.{◌≡◌, sym, ◌∙◌, ap, subst, ◌-◌, replicate, length, arith}
-use Rattle.rrd_spec.specs.Facts.{length-accepted}
+use Rattle.rrd_spec.specs.Facts.{length-accepted, base_of_valid}
 use Rattle.rrd_spec.specs.History.{Content, Reading, rates}
 use Rattle.rrd_spec.specs.Passing.{passed}
 use Rattle.rrd_spec.specs.Validity.{AreAccepted, IsValid, IsRow}
 use Rattle.rrd_base.specs.Content.{content_of}
 use Rattle.rrd_base.proofs.Catching.{with_raws}
-use Rattle.rrd_spec.proofs.PassedLemmas.{content_of_sample}
-use Rattle.rrd_spec.specs.Facts.{base_of_valid}
 use Rattle.rrd_base.proofs.TurnLemmas.{leaves_of}
 use Rattle.std.proofs.Common.{ℕ, Vec}
 use Rattle.std.specs.Global.{Global}
@@ -59,7 +57,7 @@ returns-clause-value c =
     ap (λ rs. let y : Content = record (content_of c.self-2.inside) { raws = rs } in y) (c.copy_from_slice.ensures.items ∙ copied)
     ∙ ap (λ (x : Content). let y : Content = record x { raws = raws } in y) (c.self-2.view_is ∙ c.catch_up.ensures.value)
     ∙ ap (λ s. let y : Content = record (passed X (replicate (time - X.last) s)) { raws = raws } in y) same
-    ∙ sym (content_of_sample X reading (base_of_valid X valid) c.requires.later)
+    ∙ sym (c.sample_passes.ensures X reading (base_of_valid X valid) c.requires.later)
 
 pub returns-clause-valid : goal.returns-clause-valid
 returns-clause-valid c =

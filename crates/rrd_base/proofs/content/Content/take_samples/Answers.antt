@@ -11,9 +11,7 @@ use Rattle.rrd_base.specs.Update.{template_of}
 use Rattle.rrd_spec.specs.Verdict.{sample_checks}
 use Rattle.rrd_base.proofs.Catching.{sample_leaves, turns_next, same_least, same_most}
 use Rattle.rrd_spec.specs.Laws.{Passes}
-use Rattle.rrd_spec.proofs.Accepted.{accepted_passes}
 use Rattle.rrd_spec.specs.Facts.{base_of_valid}
-use Rattle.rrd_spec.proofs.Quiet.{content_nil}
 use Rattle.std.specs.Vec.{with_items}
 use Rattle.rrd_base.specs.Walk.{HasPlaces}
 use Rattle.rrd_base.proofs.TurnLemmas.{few_turns}
@@ -25,7 +23,7 @@ use Rattle.rrd_spec.specs.Limits.{version_one}
 pub loop-sample-init : goal.loop-sample-init
 loop-sample-init c =
     let X = c.args.self.now in
-    let pass = accepted_passes X (Updating c.args.update.now) c.requires.accepted in
+    let pass = c.accepted_passes.ensures X (Updating c.args.update.now) c.requires.accepted in
     record {
       comes_to = refl;
       pass = pass.1.1.1;
@@ -57,7 +55,7 @@ take_sample-requires-clause-accepted c =
     ∙ ap (λ ss. map (λ (source : DsDef). raw_of source.kind (value_for (template_of ss asked) values source)) ss) sources
     ∙ ap (λ vs. map (λ (source : DsDef). raw_of source.kind (value_for template vs source)) X.sources) c.as_slice-values.ensures in
     let written : given ≡ raws = with_items_is c.loop-sample.walk.raws raws (omega (arith, c.raws_into.auto.room, c.deref_mut.ensures.len)) in
-    accepted_raws now X.sources template sample.values given was.same_sources (written ∙ raws_are)
+    accepted_raws c.raw_values_are_accepted.ensures now X.sources template sample.values given was.same_sources (written ∙ raws_are)
 
 pub take_sample-requires-clause-turns : goal.take_sample-requires-clause-turns
 take_sample-requires-clause-turns c =
@@ -93,9 +91,9 @@ loop-sample-preserved c =
     let moved_is : next ≡ content_listed now (Sampled (sample_of X.sources template sample) ∷ [])
     = c.take_sample.ensures.value ∙ ap (λ rs. let r : Reading = record { time = sample.time; raws = rs } in content_listed now (Sampled r ∷ [])) (written ∙ raws_are) in
     let pass = subst (λ zs. AllByRecursion Passes (sample_checks version_one X.sources template now.last zs)) here was.pass in
-    let taken = one_taken now next X.sources template sample (drop (i + 1) all) was.valid was.same_sources pass moved_is in
+    let taken = one_taken c.content_goes_on.ensures.by_list now next X.sources template sample (drop (i + 1) all) was.valid was.same_sources pass moved_is in
     let later = later_sample X.sources template now.last sample (drop (i + 1) all) pass in
-    let shape = sample_leaves now next (let r : Reading = record { time = sample.time; raws = given } in r) (base_of_valid now was.valid) later c.take_sample.ensures.value in
+    let shape = sample_leaves c.sample_passes.ensures now next (let r : Reading = record { time = sample.time; raws = given } in r) (base_of_valid now was.valid) later c.take_sample.ensures.value in
     let least = least_of_sample (length X.sources) X.step (definitions X.archives) in
     let most = most_of_sample (length X.sources) X.step (definitions X.archives) in
     let low = turns_next least now.last next.last (drop i all) (drop (i + 1) all) sample here taken.last_is in
@@ -121,7 +119,7 @@ returns-clause-value c =
     let was = c.loop-sample.invariant in
     let all = c.args.update.now.samples in
     let none : drop c.loop-sample.sample-index all ≡ [] = drop_all c.loop-sample.sample-index all (omega (arith, ap length c.as_slice-sample-items.ensures)) in
-    sym (ap (λ zs. content_listed c.loop-sample.self (map Sampled (map (sample_of X.sources (template_of X.sources c.args.update.now.template)) zs))) none ∙ content_nil c.loop-sample.self (base_of_valid c.loop-sample.self was.valid)) ∙ was.comes_to
+    sym (ap (λ zs. content_listed c.loop-sample.self (map Sampled (map (sample_of X.sources (template_of X.sources c.args.update.now.template)) zs))) none ∙ c.content_stays_without_events.ensures c.loop-sample.self (base_of_valid c.loop-sample.self was.valid)) ∙ was.comes_to
 
 pub returns-clause-turns : goal.returns-clause-turns
 returns-clause-turns c =

@@ -1,4 +1,5 @@
 use Rattle.std.proofs.Common.{◌≡◌, sym, ◌∙◌, ap, subst, ◌+◌, ◌-◌, ◌*◌, ◌/◌, ◌%◌, ◌≤◌, ◌<◌, ◌^◌, ◌∷◌, ◌++◌, ℕ, List, min, map, length, replicate, arith}
+use Rattle.std.proofs.lemmas.List.{length-replicate}
 use Rattle.std.proofs.lemmas.Nat.{mod_below}
 use Rattle.std.specs.List.{AllByRecursion, fold}
 use Rattle.rrd_fixed.specs.declared.cell.Cell.{Cell}
@@ -7,9 +8,8 @@ use Rattle.rrd_ring.specs.Rows.{HasWidth}
 use Rattle.rrd_spec.specs.declared.settings.RraDef.{RraDef}
 use Rattle.rrd_spec.specs.History.{Archive}
 use Rattle.rrd_spec.specs.Listed.{keep_last}
-use Rattle.rrd_base.proofs.ManySteps.{ended_none, ended_some, filled, row_fits, taken_over, taken_within}
+use Rattle.rrd_base.proofs.ManySteps.{ended_none, ended_some, filled, row_fits}
 use Rattle.rrd_base.proofs.Passing.{still_fit}
-use Rattle.rrd_spec.proofs.Bounded.{no_parts}
 use Rattle.rrd_base.proofs.StoreLemmas.{taken_valid}
 use Rattle.rrd_spec.specs.Facts.{rows_wide}
 use Rattle.rrd_base.proofs.Taking.{begun, full, left_of}
@@ -19,7 +19,7 @@ use Rattle.rrd_base.proofs.rra.Rra.take.Goals as goal
 
 pub go_on-requires-then-steps-left-clause-row : goal.go_on-requires-then-steps-left-clause-row
 go_on-requires-then-steps-left-clause-row c =
-    let begin = begun c.args.steps.now.before c.args.self.now c.go_on.new.self c.args.steps.now.first.now c.args.steps.now.then.now c.requires.valid c.requires.steps_are.first c.requires.steps_are.then c.go_on.ensures.value in
+    let begin = begun c.parts_stay_bounded.ensures.one_more c.args.steps.now.before c.args.self.now c.go_on.new.self c.args.steps.now.first.now c.args.steps.now.then.now c.requires.valid c.requires.steps_are.first c.requires.steps_are.then c.go_on.ensures.value in
     begin.row
 
 pub go_on-requires-then-steps-left-clause-fits : goal.go_on-requires-then-steps-left-clause-fits
@@ -27,7 +27,7 @@ go_on-requires-then-steps-left-clause-fits c =
     let A = c.args.self.now in
     let before : ℕ = c.args.steps.now.before in
     let count : ℕ = c.args.steps.now.count in
-    let begin = begun before A c.go_on.new.self c.args.steps.now.first.now c.args.steps.now.then.now c.requires.valid c.requires.steps_are.first c.requires.steps_are.then c.go_on.ensures.value in
+    let begin = begun c.parts_stay_bounded.ensures.one_more before A c.go_on.new.self c.args.steps.now.first.now c.args.steps.now.then.now c.requires.valid c.requires.steps_are.first c.requires.steps_are.then c.go_on.ensures.value in
     let short = subst (λ (d : RraDef). count < left_of before d) c.def-in_row.ensures c.if-steps-left.true in
     begin.fits count (omega (arith, row_fits before A.def.steps c.requires.valid.some_steps))
 
@@ -40,11 +40,11 @@ returns-then-steps-left-clause-value c =
     let short = subst (λ (d : RraDef). count < left_of before d) c.def-in_row.ensures c.if-steps-left.true in
     c.go_on-then-steps-left.ensures.value
     ∙ ap (λ (x : Archive). let y : Archive = record x { parts = fold (with_each x.def.function) x.parts (replicate count then) } in y) c.go_on.ensures.value
-    ∙ taken_within (length c.args.steps.now.first.now) before count A c.args.steps.now.first.now then c.requires.valid.some_steps short
+    ∙ sym (c.steps_pass_at_once.ensures.within (length c.args.steps.now.first.now) before A (c.args.steps.now.first.now ∷ replicate count then) c.requires.valid.some_steps (omega (arith, short, length-replicate count then)))
 
 pub returns-then-steps-left-clause-valid : goal.returns-then-steps-left-clause-valid
 returns-then-steps-left-clause-valid c =
-    taken_valid c.args.steps.now.first.now c.args.steps.now.then.now c.args.steps.now.before c.args.steps.now.count c.args.self.now _ c.requires.valid c.requires.steps_are.first c.requires.steps_are.then (returns-then-steps-left-clause-value c)
+    taken_valid c.seconds_stay_valid.ensures.archive c.args.steps.now.first.now c.args.steps.now.then.now c.args.steps.now.before c.args.steps.now.count c.args.self.now _ c.requires.valid c.requires.steps_are.first c.requires.steps_are.then (returns-then-steps-left-clause-value c)
 
 pub returns-then-steps-left-clause-least : goal.returns-then-steps-left-clause-least
 returns-then-steps-left-clause-least c =
@@ -61,14 +61,14 @@ returns-then-steps-left-clause-least c =
 
 pub go_on-requires-else-steps-left-clause-row : goal.go_on-requires-else-steps-left-clause-row
 go_on-requires-else-steps-left-clause-row c =
-    let begin = begun c.args.steps.now.before c.args.self.now c.go_on.new.self c.args.steps.now.first.now c.args.steps.now.then.now c.requires.valid c.requires.steps_are.first c.requires.steps_are.then c.go_on.ensures.value in
+    let begin = begun c.parts_stay_bounded.ensures.one_more c.args.steps.now.before c.args.self.now c.go_on.new.self c.args.steps.now.first.now c.args.steps.now.then.now c.requires.valid c.requires.steps_are.first c.requires.steps_are.then c.go_on.ensures.value in
     begin.row
 
 pub go_on-requires-else-steps-left-clause-fits : goal.go_on-requires-else-steps-left-clause-fits
 go_on-requires-else-steps-left-clause-fits c =
     let A = c.args.self.now in
     let before : ℕ = c.args.steps.now.before in
-    let begin = begun before A c.go_on.new.self c.args.steps.now.first.now c.args.steps.now.then.now c.requires.valid c.requires.steps_are.first c.requires.steps_are.then c.go_on.ensures.value in
+    let begin = begun c.parts_stay_bounded.ensures.one_more before A c.go_on.new.self c.args.steps.now.first.now c.args.steps.now.then.now c.requires.valid c.requires.steps_are.first c.requires.steps_are.then c.go_on.ensures.value in
     let fit = row_fits before A.def.steps c.requires.valid.some_steps in
     subst (λ (d : RraDef). AllByRecursion (λ (p : Part). p.known + left_of before d ≤ 1000000) c.go_on.new.self.parts) (sym c.def-in_row.ensures)
     (begin.fits (left_of before A.def) (omega (arith, fit)))
@@ -80,7 +80,7 @@ close_row-requires-clause-places c =
     let two = c.go_on-else-steps-left.new.self in
     let then = c.args.steps.now.then.now in
     let v = subst (λ (d : RraDef). two ≡ record one { parts = fold (with_each one.def.function) one.parts (replicate (left_of c.args.steps.now.before d) then) }) c.def-in_row.ensures c.go_on-else-steps-left.ensures.value in
-    let whole = full c.args.steps.now.before A one two c.args.steps.now.first.now then c.requires.valid c.requires.steps_are.first c.requires.steps_are.then c.go_on.ensures.value v in
+    let whole = full c.parts_stay_bounded.ensures.one_more c.args.steps.now.before A one two c.args.steps.now.first.now then c.requires.valid c.requires.steps_are.first c.requires.steps_are.then c.go_on.ensures.value v in
     c.requires.places ∙ sym whole.wide
 
 pub close_row-requires-clause-fits : goal.close_row-requires-clause-fits
@@ -90,7 +90,7 @@ close_row-requires-clause-fits c =
     let two = c.go_on-else-steps-left.new.self in
     let then = c.args.steps.now.then.now in
     let v = subst (λ (d : RraDef). two ≡ record one { parts = fold (with_each one.def.function) one.parts (replicate (left_of c.args.steps.now.before d) then) }) c.def-in_row.ensures c.go_on-else-steps-left.ensures.value in
-    let whole = full c.args.steps.now.before A one two c.args.steps.now.first.now then c.requires.valid c.requires.steps_are.first c.requires.steps_are.then c.go_on.ensures.value v in
+    let whole = full c.parts_stay_bounded.ensures.one_more c.args.steps.now.before A one two c.args.steps.now.first.now then c.requires.valid c.requires.steps_are.first c.requires.steps_are.then c.go_on.ensures.value v in
     whole.known
 
 pub push-requires-clause-wide : goal.push-requires-clause-wide
@@ -129,7 +129,7 @@ go_on-requires-else-steps-left-2-clause-fits c =
     let parts : c.push.new.self.parts ≡ replicate m nothing = ap (λ (x : Archive). x.parts) c.push.ensures.value ∙ ap (λ (x : Archive). x.parts) c.close_row.ensures.value in
     subst (λ (d : RraDef). AllByRecursion (λ (p : Part). p.known + (count - left_of before d) % d.steps ≤ 1000000) c.push.new.self.parts) (sym c.def-in_row.ensures)
     (subst (λ ps. AllByRecursion (λ (p : Part). p.known + (count - left_of before A.def) % A.def.steps ≤ 1000000) ps) (sym parts)
-    (still_fit f 0 ((count - left_of before A.def) % A.def.steps) 1000000 (replicate m nothing) (omega (arith, mod_below (count - left_of before A.def) A.def.steps c.requires.valid.some_steps, c.requires.valid.few_steps)) (let empty = no_parts f m in empty.each)))
+    (still_fit f 0 ((count - left_of before A.def) % A.def.steps) 1000000 (replicate m nothing) (omega (arith, mod_below (count - left_of before A.def) A.def.steps c.requires.valid.some_steps, c.requires.valid.few_steps)) (let empty = c.parts_stay_bounded.ensures.none f m in empty.each)))
 
 pub go_on-requires-else-steps-left-2-clause-turns : goal.go_on-requires-else-steps-left-2-clause-turns
 go_on-requires-else-steps-left-2-clause-turns c =
@@ -169,7 +169,7 @@ returns-else-steps-left-clause-value c =
     let rest = (count - left) % m in
     let long = subst (λ (d : RraDef). left_of before d ≤ count) c.def-in_row.ensures c.if-steps-left.false in
     let v2 = subst (λ (d : RraDef). two ≡ record one { parts = fold (with_each one.def.function) one.parts (replicate (left_of before d) then) }) c.def-in_row.ensures c.go_on-else-steps-left.ensures.value in
-    let whole = full before A one two first then is c.requires.steps_are.first c.requires.steps_are.then c.go_on.ensures.value v2 in
+    let whole = full c.parts_stay_bounded.ensures.one_more before A one two first then is c.requires.steps_are.first c.requires.steps_are.then c.go_on.ensures.value v2 in
     let cells : c.close_row.new.row ≡ map (row_cell A.def.function A.def.xff m) (filled A first then left)
     = c.close_row.ensures.cells ∙ ap (λ (x : Archive). map (row_cell x.def.function x.def.xff x.def.steps) x.parts) whole.is in
     let v3 : three ≡ record A { parts = replicate n nothing }
@@ -182,11 +182,11 @@ returns-else-steps-left-clause-value c =
     c.go_on-else-steps-left-2.ensures.value
     ∙ ap (λ (d : RraDef). let y : Archive = record four { parts = fold (with_each four.def.function) four.parts (replicate ((count - left_of before d) % d.steps) then) } in y) c.def-in_row.ensures
     ∙ ap (λ (x : Archive). let y : Archive = record x { parts = fold (with_each x.def.function) x.parts (replicate rest then) } in y) v4
-    ∙ taken_over n before count A first then is.some_steps is.xff_low is.xff_high c.requires.steps_are.then.one_each long
+    ∙ sym (c.steps_pass_at_once.ensures.over n before count A first then is.some_steps is.xff_low is.xff_high c.requires.steps_are.then.one_each long)
 
 pub returns-else-steps-left-clause-valid : goal.returns-else-steps-left-clause-valid
 returns-else-steps-left-clause-valid c =
-    taken_valid c.args.steps.now.first.now c.args.steps.now.then.now c.args.steps.now.before c.args.steps.now.count c.args.self.now _ c.requires.valid c.requires.steps_are.first c.requires.steps_are.then (returns-else-steps-left-clause-value c)
+    taken_valid c.seconds_stay_valid.ensures.archive c.args.steps.now.first.now c.args.steps.now.then.now c.args.steps.now.before c.args.steps.now.count c.args.self.now _ c.requires.valid c.requires.steps_are.first c.requires.steps_are.then (returns-else-steps-left-clause-value c)
 
 pub returns-else-steps-left-clause-least : goal.returns-else-steps-left-clause-least
 returns-else-steps-left-clause-least c =
