@@ -14,7 +14,7 @@ use Rattle.rrd_spec.specs.Turns.{rows_shown, in_all, least_of_sample, most_of_sa
 use Rattle.rrd_spec.specs.Validity.{AreAccepted, IsRow, IsValid}
 use Rattle.rrd_base.specs.Walk.{least_of_ends, least_to, most_of_ends, most_to}
 use Rattle.rrd_spec.specs.Laws.{PassesInPieces, SampledPasses}
-use Rattle.rrd_base.proofs.ManySteps.{next_ahead}
+use Rattle.rrd_base.proofs.PushedRows.{next_ahead}
 use Rattle.rrd_base.proofs.Passing.{ended_div, within_div}
 use Rattle.rrd_spec.specs.Facts.{base_of_valid}
 use Rattle.rrd_base.proofs.TurnLemmas.{Leaves, leaves_of, passed_leaves, least_by_steps, most_by_steps, least_of_none}

@@ -1,4 +1,4 @@
-pub mod ManySteps
+pub mod PushedRows
 pub mod TurnLemmas
 pub mod Taking
 pub mod Catching

@@ -8,7 +8,7 @@ use Rattle.rrd_spec.specs.declared.settings.RraDef.{RraDef}
 use Rattle.rrd_spec.specs.Changes.{PartsGrow}
 use Rattle.rrd_spec.specs.History.{Archive}
 use Rattle.rrd_spec.specs.Validity.{IsRow, IsValidArchive}
-use Rattle.rrd_base.proofs.ManySteps.{filled, row_fits}
+use Rattle.rrd_base.proofs.PushedRows.{row_fits}
 use Rattle.rrd_base.proofs.Passing.{few_known, parts_more, still_fit}
 
 -- how many steps of the row are missing after the next one
@@ -32,6 +32,10 @@ begun grow before archive now first then is one many e =
       row = subst (λ k. IsRow k then) (sym parts.one_each) many;
       fits = λ k h. still_fit f (j + 1) k 1000000 (fold (with_each f) archive.parts (replicate 1 first)) (omega arith) parts.each;
     })
+
+-- what the row's preparations hold, once it has all its steps
+abbrev pub filled : Archive → List Cell → List Cell → ℕ → List Part
+filled archive first then left = fold (with_each archive.def.function) (fold (with_each archive.def.function) archive.parts (replicate 1 first)) (replicate left then)
 
 -- once the row has all its steps
 pub record Full (archive now : Archive) (first then : List Cell) (left : ℕ) : Type 0 where

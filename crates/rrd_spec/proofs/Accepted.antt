@@ -11,8 +11,8 @@ use Rattle.rrd_spec.specs.History.{Content, Sampled, Moment, moment_after, momen
 use Rattle.rrd_spec.specs.Commands.{Command, Updating, TuningBy, Resizing, settings_of, sample_of, tuned, rows_changed, events}
 use Rattle.rrd_spec.specs.Settings.{names}
 use Rattle.rrd_spec.specs.Verdict.{Check, first_refusal, is_bad_rows, grows_too_far, shrinks_too_far, checks, verdict, verdict_within}
-pub use Rattle.rrd_spec.specs.Facts.{readings_rise}
-pub use Rattle.rrd_spec.specs.Laws.{Passes}
+use Rattle.rrd_spec.specs.Facts.{readings_rise}
+use Rattle.rrd_spec.specs.Laws.{Passes}
 use Rattle.rrd_spec.specs.declared.update.Sample.{Sample}
 use Rattle.rrd_spec.specs.declared.resize.Change.{Change}
 use Rattle.rrd_spec.specs.declared.resize.Change.TheVariants.{Grow, Shrink}

@@ -16,7 +16,7 @@ use Rattle.rrd_fold.specs.declared.function.Function.TheVariants.{Average, Min, 
 use Rattle.rrd_spec.specs.declared.settings.RraDef.{RraDef}
 use Rattle.rrd_fold.specs.Parts.{Part, nothing, with_value, with_cell, with_each, step_cell, consolidated, row_cell}
 use Rattle.rrd_spec.specs.Lists.{All-map}
-pub use Rattle.rrd_spec.specs.Lists.{All-replicate}
+use Rattle.rrd_spec.specs.Lists.{All-replicate}
 use Rattle.rrd_spec.specs.Validity.{weight, IsPart, AreParts, IsRow}
 use Rattle.rrd_spec.proofs.Kept.{Keeps}
 use Rattle.rrd_fixed.specs.Rounding.{near}

@@ -12,7 +12,6 @@ use Rattle.rrd_spec.proofs.HistoryLemmas.{length-seconds_of, length-steps_of}
 use Rattle.rrd_spec.proofs.ContentLemmas.{length-kept_rows}
 use Rattle.rrd_spec.specs.Validity.{AreParts, IsRow, IsValidArchive, IsValid}
 use Rattle.rrd_spec.specs.Facts.{is_archive}
-pub use Rattle.rrd_spec.specs.Facts.{base_of_valid}
 use Rattle.rrd_spec.specs.Lists.{All-append, All-drop, All-replicate}
 use Rattle.rrd_spec.proofs.Kept.{Kept, kept}
 use Rattle.rrd_spec.proofs.Bounded.{steps_keep, rows_keep}

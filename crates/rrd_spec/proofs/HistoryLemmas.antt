@@ -80,10 +80,6 @@ seconds-append now es fs h k =
 
 -- ---- the content after the first piece, as a base
 
-pub moment_of-content : (base : Content) (es : List Event) → moment_of (content_listed base es) ≡ moment_at_end base es
-unfolding content_listed
-moment_of-content base es = refl
-
 pub length-sources : (now : Moment) (es : List Event) → IsHistory now es → length (fold moment_after now es).sources ≡ length now.sources
 length-sources now [] h = refl
 length-sources now (Sampled sample ∷ es) h = length-sources (moment_after now (Sampled sample)) es h.1

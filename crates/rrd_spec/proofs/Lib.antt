@@ -16,8 +16,6 @@ pub mod Held
 pub mod NameLemmas
 pub mod Staying
 pub mod Fitting
-pub mod AllLemmas
-pub mod EachLemmas
 pub mod Created
 pub mod CellLemmas
 pub mod ShownLemmas

@@ -15,7 +15,7 @@ use Rattle.rrd_spec.specs.Passing.{archive_passed, passed}
 use Rattle.rrd_spec.proofs.GroupLemmas.{finished_nil, unfinished_nil, finished_within, unfinished_within, goes_on, length-finished, reached_before}
 use Rattle.rrd_spec.proofs.RowLemmas.{filled_already}
 use Rattle.rrd_spec.specs.Lists.{keep_all, length-keep_last}
-pub use Rattle.rrd_spec.specs.Lists.{keep_last-append}
+use Rattle.rrd_spec.specs.Lists.{keep_last-append}
 
 pub archive_passed-append : (sources before middle : ℕ) (archive : Archive) (xs ys : List (List Cell)) → 0 < archive.def.steps → before + length xs ≡ middle → archive_passed sources before (xs ++ ys) archive ≡ archive_passed sources middle ys (archive_passed sources before xs archive)
 unfolding archive_passed

@@ -6,7 +6,7 @@ use Rattle.std.specs.List.{fold}
 use Rattle.rrd_spec.specs.History.{Event, Sampled, Tuned, Resized, Moment, moment_after, rows_after, IsHistory}
 use Rattle.rrd_spec.specs.Listed.{rows_never_lost, keep_last, filled_up}
 use Rattle.rrd_spec.proofs.HistoryLemmas.{last_rises}
-pub use Rattle.rrd_spec.specs.Lists.{keep_all, keep_last_past, length-keep_last, split_last}
+use Rattle.rrd_spec.specs.Lists.{keep_all, keep_last_past, length-keep_last, split_last}
 
 -- ---- lists
 

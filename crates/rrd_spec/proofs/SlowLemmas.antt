@@ -20,7 +20,7 @@ use Rattle.rrd_spec.specs.History as history
 use Rattle.rrd_spec.specs.History.{Taken, Sampled, moment_after, rates, samples, second, seconds, IsHistory}
 use Rattle.rrd_spec.specs.Slow.{event_of, reading_of, taken_of, AreInOrder, latest, size_of, function_of, cell_of, rule_of, IsGroup}
 use Rattle.rrd_spec.specs.Validity.{AreAccepted, AreParts, IsPart}
-use Rattle.rrd_spec.proofs.EachLemmas.{rate_of}
+use Rattle.rrd_spec.specs.Preparations.{rate_of}
 use Rattle.rrd_spec.specs.Lists.{All-weaker}
 use Rattle.rrd_spec.proofs.GroupLemmas.{map_range_same}
 

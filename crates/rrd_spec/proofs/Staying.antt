@@ -33,7 +33,6 @@ use Rattle.rrd_spec.specs.Laws.{StaysValid}
 use Rattle.rrd_spec.proofs.Rates.{seconds_rows}
 use Rattle.rrd_spec.proofs.Held.{LeavesGoodRows, parts_valid, archives_valid}
 use Rattle.rrd_spec.specs.Facts.{sound}
-pub use Rattle.rrd_spec.specs.Facts.{length-accepted}
 use Rattle.rrd_spec.proofs.NameLemmas.{names_differ, names_tuned}
 use Rattle.rrd_fixed.specs.Rounding.{floor_of}
 use Rattle.rrd_spec.specs.declared.update.Given.{Given}

@@ -2,7 +2,7 @@ use Rattle.std.proofs.Common.{◌≡◌, ◌∙◌, ap, ◌+◌, ◌++◌, take,
 use Rattle.rrd_fixed.specs.declared.cell.Cell.TheVariants.{Unknown}
 use Rattle.rrd_fold.specs.Parts.{with_cell}
 use Rattle.rrd_spec.specs.Each.{map_each}
-use Rattle.rrd_spec.proofs.EachLemmas.{map_each_more, map_each_next}
+use Rattle.rrd_spec.specs.Lists.{map_each_more, map_each_next}
 use Rattle.rrd_spec.proofs.slow.add_each.Goals as goal
 
 pub loop-i-preserved : goal.loop-i-preserved

@@ -3,7 +3,7 @@ use Rattle.rrd_fixed.specs.declared.raw.Raw.TheVariants.{Unknown}
 use Rattle.rrd_fixed.specs.Rate.{IsAccepted}
 use Rattle.rrd_spec.specs.declared.settings.DsDef.{DsDef}
 use Rattle.rrd_spec.specs.History.{rates}
-use Rattle.rrd_spec.proofs.EachLemmas.{accepted_at, rate_of}
+use Rattle.rrd_spec.specs.Preparations.{accepted_at, rate_of}
 use Rattle.rrd_spec.proofs.SlowLemmas.{rates_push, rates_whole}
 use Rattle.rrd_spec.specs.Facts.{length-accepted}
 use Rattle.rrd_spec.proofs.slow.rates.Goals as goal

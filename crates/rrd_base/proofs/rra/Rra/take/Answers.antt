@@ -8,11 +8,11 @@ use Rattle.rrd_ring.specs.Rows.{HasWidth}
 use Rattle.rrd_spec.specs.declared.settings.RraDef.{RraDef}
 use Rattle.rrd_spec.specs.History.{Archive}
 use Rattle.rrd_spec.specs.Listed.{keep_last}
-use Rattle.rrd_base.proofs.ManySteps.{ended_none, ended_some, filled, row_fits}
+use Rattle.rrd_base.proofs.PushedRows.{ended_none, ended_some, row_fits}
 use Rattle.rrd_base.proofs.Passing.{still_fit}
 use Rattle.rrd_base.proofs.StoreLemmas.{taken_valid}
 use Rattle.rrd_spec.specs.Facts.{rows_wide}
-use Rattle.rrd_base.proofs.Taking.{begun, full, left_of}
+use Rattle.rrd_base.proofs.Taking.{begun, filled, full, left_of}
 use Rattle.rrd_base.proofs.rra.Rra.take.Goals as goal
 
 -- ---- the row stays unfinished

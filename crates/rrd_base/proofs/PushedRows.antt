@@ -3,10 +3,6 @@ use Rattle.std.proofs.Common.{◌≡◌, sym, ◌∙◌, ap, ℕ, ◌+◌, ◌-�
 use Rattle.std.proofs.lemmas.Bool.{cases_lt}
 use Rattle.std.proofs.lemmas.List.{length-replicate, replicate-append-replicate, length-drop}
 use Rattle.std.proofs.lemmas.Nat.{div-add-mod', div-mul-add, mod_below}
-use Rattle.std.specs.List.{fold}
-use Rattle.rrd_fixed.specs.declared.cell.Cell.{Cell}
-use Rattle.rrd_fold.specs.Parts.{Part, with_each}
-use Rattle.rrd_spec.specs.History.{Archive}
 use Rattle.rrd_spec.specs.Listed.{keep_last}
 use Rattle.rrd_spec.specs.Lists.{keep_last-append, keep_last_past, length-keep_last}
 
@@ -65,9 +61,6 @@ pub next_ahead : (n size : ℕ) → 0 < size → n < (n / size + 1) * size
 next_ahead n size some = omega (arith, div-add-mod' n size, mod_below n size some)
 
 -- the row's end, and what goes past it
-pub row_end : (before m : ℕ) → 0 < m → before + 1 + ((before / m + 1) * m - (before + 1)) ≡ (before / m + 1) * m
-row_end before m some = omega (arith, next_ahead before m some)
-
 pub row_fits : (before m : ℕ) → 0 < m → before % m + 1 + ((before / m + 1) * m - (before + 1)) ≡ m
 row_fits before m some = omega (arith, div-add-mod' before m, next_ahead before m some)
 
@@ -88,7 +81,3 @@ ended_some before count m some h =
     let more = count - ((before / m + 1) * m - (before + 1)) in
     let at : (before + (1 + count)) / m ≡ before / m + 1 + more / m = ap (λ x. x / m) (past_end before count m some h) ∙ div-mul-add (before / m + 1 + more / m) m (more % m) (mod_below more m some) in
     omega arith
-
--- what the row's preparations hold, once it has all its steps
-abbrev pub filled : Archive → List Cell → List Cell → ℕ → List Part
-filled archive first then left = fold (with_each archive.def.function) (fold (with_each archive.def.function) archive.parts (replicate 1 first)) (replicate left then)
