@@ -1,4 +1,4 @@
--- A database with its journal, as its fields hold them.
+-- Glue: a database with its journal, as its fields hold them.
 use Rattle.std.specs.Prelude.{◌≡◌}
 use Rattle.rrd_spec.specs.Survivors.{Stored}
 use Rattle.rrd_base.specs.Journal.{journal_of}

@@ -1,4 +1,4 @@
--- The journal that a database's fields hold.
+-- Definition: an entry as the definitions have it; and, as glue, the journal that a database's fields hold.
 use Rattle.std.specs.Prelude.{◌<◌, List, length, map, reverse}
 use Rattle.rrd_spec.specs.History.{Archive}
 use Rattle.rrd_spec.specs.Entries as entries

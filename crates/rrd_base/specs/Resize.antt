@@ -1,4 +1,4 @@
--- An archive's number of rows, and those of all.
+-- Glue: an archive's number of rows, and those of all.
 use Rattle.std.specs.Prelude.{◌≤◌, List}
 use Rattle.rrd_spec.specs.declared.settings.DsDef.{DsDef}
 use Rattle.rrd_spec.specs.History.{Archive}

@@ -1,4 +1,4 @@
--- What is kept of archives, for the steps that they take to be undone.
+-- Glue: an archive of a database, and what can be put back into one.
 use Rattle.std.specs.Prelude.{◌≡◌, ◌<◌, ◌≤◌, List, [], ◌∷◌, length}
 use Rattle.rrd_ring.specs.Rows.{HasWidth, width}
 use Rattle.rrd_spec.specs.Limits.{version_one}

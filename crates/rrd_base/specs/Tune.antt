@@ -1,4 +1,4 @@
--- The sources that a tune's entry puts back.
+-- Glue: the sources that a tune's entry puts back.
 use Rattle.std.specs.Prelude.{List, slice_set}
 use Rattle.std.specs.List.{fold}
 use Rattle.rrd_fixed.specs.declared.raw.Raw.{Raw}

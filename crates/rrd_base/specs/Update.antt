@@ -1,4 +1,4 @@
--- The template of an update, and its last time.
+-- Glue: the template of an update, and its last time.
 use Rattle.std.specs.Prelude.{ℕ, List, [], ◌∷◌}
 use Rattle.rrd_spec.specs.declared.update.Sample.{Sample}
 use Rattle.rrd_spec.specs.declared.update.Update.{Update}

@@ -1,4 +1,4 @@
--- What a call answers, by the verdict.
+-- Definition: what a call answers, by the verdict.
 use Rattle.std.specs.Prelude.{◌≡◌, ◌⊎◌, Option, Some, None, Result, Ok, Err}
 use Rattle.rrd_spec.specs.declared.refusal.Refusal.{Refusal}
 use Rattle.rrd_spec.specs.declared.refusal.Refusal.TheVariants.{OutOfMemory}

@@ -1,4 +1,5 @@
--- Which archive a fetch reads, and which span of it (rrdfetch; the order of the archives is this project's).
+-- Definition: which archive a fetch reads, and which span of it (rrdfetch; the order of the archives is this
+-- project's).
 use Rattle.std.specs.Prelude.{ℕ, ◌+◌, ◌-◌, ◌*◌, ◌/◌, ◌^◌, ◌<◌, ◌≤◌, IfSome, pos, int_lt, int_le, nat_lt, Bool, true, false, not, ◌&&◌, ◌||◌, if◌then◌else◌, Option, Some, None, Result, Ok, Err, List, [], ◌∷◌, map}
 use Rattle.std.specs.Int.{abs_diff}
 use Rattle.std.specs.List.{find, filter, list_any, enumerate_from}

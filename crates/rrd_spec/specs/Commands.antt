@@ -1,4 +1,4 @@
--- The commands that change a database, and what happens to it by them (rrdupdate, rrdtune, rrdresize).
+-- Definition: the commands that change a database, and what happens to it by them (rrdupdate, rrdtune, rrdresize).
 use Rattle.std.specs.Prelude.{ℕ, ◌+◌, ◌-◌, if◌then◌else◌, Option, Some, None, List, [], ◌∷◌, ◌++◌, map, slice_index_or}
 use Rattle.std.specs.List.{fold, enumerate_from}
 use Rattle.std.specs.Option.{option_map_or, unwrap_or}

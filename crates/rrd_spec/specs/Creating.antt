@@ -1,4 +1,4 @@
--- Which databases can be made, and how a new one stands (rrdcreate).
+-- Definition: which databases can be made, and how a new one stands (rrdcreate).
 use Rattle.std.specs.Prelude.{ℕ, ℤ, pos, int_lt, nat_lt, ◌==◌, Bool, not, ◌||◌, Option, List, [], ◌∷◌, ◌++◌, length, map, replicate}
 use Rattle.std.specs.List.{list_any}
 use Rattle.rrd_fixed.specs.declared.cell.Cell.{Cell}

@@ -1,4 +1,4 @@
--- A database as the lists that a file has of it.
+-- Definition: a database as the lists that a file has of it.
 use Rattle.std.specs.Prelude.{ℕ, List, [], ◌∷◌, map, length}
 use Rattle.rrd_fixed.specs.declared.cell.Cell.{Cell}
 use Rattle.rrd_fixed.specs.declared.raw.Raw.{Raw}

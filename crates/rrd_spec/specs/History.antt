@@ -1,5 +1,5 @@
--- What a history of commands makes of a database, second by second. Where no manual page is named, the rule is this
--- project's.
+-- Definition: what a history of commands makes of a database, second by second. Where no manual page is named, the
+-- rule is this project's.
 use Rattle.std.specs.Prelude.{◌≡◌, ℕ, ◌+◌, ◌-◌, ◌<◌, nat_le, ◌==◌, if◌then◌else◌, Bool, List, [], ◌∷◌, map, length}
 use Rattle.std.specs.List.{fold, find, range_with_len, AllByRecursion}
 use Rattle.std.specs.Option.{option_map_or}

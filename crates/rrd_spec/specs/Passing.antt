@@ -1,4 +1,4 @@
--- What seconds leave of a content: steps and rows, one after another.
+-- Law: what seconds leave of a content: steps and rows, one after another.
 use Rattle.std.specs.Prelude.{ℕ, ◌+◌, ◌/◌, List, ◌++◌, map, length}
 use Rattle.rrd_fixed.specs.declared.cell.Cell.{Cell}
 use Rattle.rrd_spec.specs.Steps.{rows_rule, seconds_to_steps}

@@ -1,6 +1,5 @@
--- In which order a file has an archive's rows (own). Each stands in a slot that its time alone decides, so it keeps
--- its
--- slot while others come and go.
+-- Definition: in which order a file has an archive's rows (own). Each stands in a slot that its time alone decides,
+-- so it keeps its slot while others come and go.
 use Rattle.std.specs.Prelude.{ℕ, ◌+◌, ◌-◌, ◌/◌, ◌%◌, ℤ, pos, unsigned_abs, ◌==◌, Bool, List, [], length}
 use Rattle.std.specs.List.{find, flat_map, enumerate_from, range_with_len}
 use Rattle.std.specs.Option.{option_map_or}

@@ -1,4 +1,4 @@
--- Commands that are accepted, refused and reverted, and which of them count in the end (own).
+-- Definition: commands that are accepted, refused and reverted, and which of them count in the end (own).
 use Rattle.std.specs.Prelude.{◌≡◌, ℕ, zero, suc, ◌+◌, ◌-◌, ◌≤◌, ◌<◌, min, Bool, if◌then◌else◌, None, is_none, List, [], ◌∷◌, ◌++◌, length, take, reverse}
 use Rattle.rrd_spec.specs.History.{Content}
 use Rattle.rrd_spec.specs.Commands.{Command, content_of, moved}

@@ -1,4 +1,4 @@
--- How many turns an update takes (own).
+-- Definition: how many turns an update takes (own).
 use Rattle.std.specs.Prelude.{ℕ, ◌+◌, ◌-◌, ◌*◌, ◌/◌, ◌≤◌, min, List, [], ◌∷◌, map, sum, length}
 use Rattle.rrd_spec.specs.declared.settings.RraDef.{RraDef}
 use Rattle.rrd_spec.specs.declared.update.Sample.{Sample}

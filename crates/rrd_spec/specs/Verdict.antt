@@ -1,5 +1,5 @@
--- Which commands are accepted, and what refuses the others. What can be wrong is that of rrdupdate, rrdtune and
--- rrdresize; the limits and the order of the refusals are this project's.
+-- Definition: which commands are accepted, and what refuses the others. What can be wrong is that of rrdupdate,
+-- rrdtune and rrdresize; the limits and the order of the refusals are this project's.
 use Rattle.std.specs.Prelude.{ℕ, ◌+◌, ℤ, int_lt, unsigned_abs, nat_lt, nat_le, ◌==◌, if◌then◌else◌, Bool, true, false, not, ◌&&◌, ◌||◌, Option, Some, None, is_none, List, [], ◌∷◌, ◌++◌, length, slice_index_or}
 use Rattle.std.specs.List.{fold, list_any, list_all}
 use Rattle.std.specs.Option.{option_map_or, unwrap_or}

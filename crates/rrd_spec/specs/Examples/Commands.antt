@@ -1,4 +1,4 @@
--- Worked examples of commands.
+-- Example: worked examples of commands.
 use Rattle.std.specs.Prelude.{◌≡◌, ℕ, ◌*◌, ◌^◌, pos, false, Some, None, List, [], ◌∷◌, map}
 use Rattle.std.specs.List.{fold}
 use Rattle.rrd_fixed.specs.declared.raw.Raw.{Raw}

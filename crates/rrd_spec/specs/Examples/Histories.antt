@@ -1,4 +1,4 @@
--- Worked examples.
+-- Example: worked examples.
 use Rattle.std.specs.Prelude.{◌≡◌, ℕ, ◌^◌, ◌*◌, pos, negsuc, None, List, [], ◌∷◌, map, replicate, drop}
 use Rattle.rrd_fixed.specs.declared.cell.Cell.{Cell}
 use Rattle.rrd_fixed.specs.declared.raw.Raw.{Raw}

@@ -1,4 +1,4 @@
--- Worked examples of new databases, of rows by their times, and of what a fetch reads.
+-- Example: worked examples of new databases, of rows by their times, and of what a fetch reads.
 use Rattle.std.specs.Prelude.{◌≡◌, ℕ, pos, negsuc, Some, None, Ok, Err, List, [], ◌∷◌, map}
 use Rattle.rrd_fold.specs.declared.function.Function.TheVariants.{Min, Last}
 use Rattle.rrd_spec.specs.declared.create.CreateSpec.{CreateSpec}
