@@ -15,6 +15,8 @@ pub mod Answers
 pub mod Turns
 pub mod Slots
 pub mod Filed
+pub mod Outlines
+pub mod Rebuilding
 pub mod Listed
 pub mod Passing
 pub mod Laws

@@ -3,11 +3,13 @@
 #![tactic(auto)]
 
 mod create;
+mod due;
 mod entry;
 mod fetch;
 pub mod laws;
 pub mod limits;
 mod list;
+mod outline;
 mod refusal;
 mod resize;
 mod settings;
@@ -16,9 +18,11 @@ mod tune;
 mod update;
 
 pub use create::CreateSpec;
+pub use due::Due;
 pub use entry::SourceBefore;
 pub use fetch::{Candidate, Chosen, Request};
 pub use list::List;
+pub use outline::Outline;
 pub use refusal::Refusal;
 pub use resize::Change;
 pub use settings::{DsDef, RraDef};

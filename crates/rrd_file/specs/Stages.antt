@@ -1,0 +1,158 @@
+-- Definition: how far a file has come: which piece is due there, how many bytes it has, which piece may come, and what
+-- stage it leads to.
+use Rattle.std.specs.Prelude.{◌≡◌, ℕ, zero, suc, ◌+◌, ◌*◌, ◌%◌, ◌<◌, ◌≤◌, min, List, [], ◌∷◌, ◌++◌, length, map, replicate}
+use Rattle.std.specs.List.{flat_map}
+use Rattle.rrd_fixed.specs.Rate.{IsAccepted, IsBounded}
+use Rattle.rrd_fold.specs.declared.function.Function.TheVariants.{Average}
+use Rattle.rrd_spec.specs.declared.settings.DsDef.{DsDef}
+use Rattle.rrd_spec.specs.declared.settings.RraDef.{RraDef}
+use Rattle.rrd_spec.specs.declared.outline.Outline.{Outline}
+use Rattle.rrd_spec.specs.declared.due.Due.{Due}
+use Rattle.rrd_spec.specs.declared.due.Due.TheVariants.{SourceDue, HeadDue, PrepDue, CellDue, EntryDue, NothingDue}
+use Rattle.rrd_spec.specs.Limits.{Limits}
+use Rattle.rrd_spec.specs.Entries.{Entry, rows_between}
+use Rattle.rrd_spec.specs.Filed.{Filed, Version, One}
+use Rattle.rrd_spec.specs.Outlines.{AreOldRows, IsSourceBefore}
+use Rattle.rrd_spec.specs.Rebuilding.{IsHeader, MaySource, MayHead, MayPrep, MayCell, MayEntry, IsRowPart, begun, due, limits, outline_left, with_source, with_head, with_prep, with_cell, with_entry}
+use Rattle.rrd_spec.specs.Validity.{IsPart}
+use Rattle.rrd_file.specs.Pieces.{Piece, Mark, OfVersion, OfHeader, OfSource, OfArchive, OfPrep, OfCell, Tag, OfTag, OfTime, OfRawAndPart, OfRows, OfCount, OfSourceBefore, OfNumber, AnUpdate, ATune, AResize}
+use Rattle.rrd_file.specs.Layout.{entry_pieces}
+
+-- ---- within an entry
+
+-- a piece of an entry that is due, with what its rule speaks of
+pub data DueInEntry : Type 0 where
+  -- an update's last time; then for each source, under that time
+  TimeDue : DueInEntry
+  BeforeDue : ℕ → DsDef → DueInEntry
+  -- for each archive a preparation for each source, under that time, and this number of rows
+  RowPrepDue : ℕ → RraDef → DueInEntry
+  RowsDue : ℕ → DueInEntry
+  RowCellDue : DueInEntry
+  -- how many sources a tune named; then each, from the lowest number that it may have
+  CountDue : DueInEntry
+  NamedDue : ℕ → ℕ → DueInEntry
+  -- a resized archive's number; then its old number of rows
+  NumberDue : DueInEntry
+  OldRowsDue : ℕ → DueInEntry
+
+-- its bytes
+abbrev pub size_due : DueInEntry → ℕ
+size_due TimeDue = 8
+size_due (BeforeDue last def) = 36
+size_due (RowPrepDue last def) = 20
+size_due (RowsDue rows) = 4
+size_due RowCellDue = 16
+size_due CountDue = 2
+size_due (NamedDue lowest more) = 79
+size_due NumberDue = 2
+size_due (OldRowsDue archive) = 4
+
+-- the cells of so many rows
+abbrev pub cells_due : ℕ → Outline → List DueInEntry
+cells_due rows now = replicate (rows * length now.sources) RowCellDue
+
+-- what an update to the present last time keeps of an archive
+abbrev pub archive_due : ℕ → Outline → ℕ → RraDef → List DueInEntry
+archive_due step now last def =
+    let rows = min (rows_between step def last now.last) def.rows in
+    replicate (length now.sources) (RowPrepDue last def) ++ RowsDue rows ∷ cells_due rows now
+
+-- what is due first in an entry, by its tag
+abbrev pub first_due : Tag → List DueInEntry
+first_due AnUpdate = TimeDue ∷ []
+first_due ATune = CountDue ∷ []
+first_due AResize = NumberDue ∷ []
+
+-- what a piece makes due right behind itself
+abbrev pub named_due : ℕ → ℕ → List DueInEntry
+named_due lowest zero = []
+named_due lowest (suc more) = NamedDue lowest more ∷ []
+
+abbrev pub behind : ℕ → Outline → DueInEntry → Piece → List DueInEntry
+behind step now TimeDue (OfTime last) =
+    map (BeforeDue last) now.sources ++ flat_map (archive_due step now last) now.archives
+behind step now CountDue (OfCount count) = named_due 0 count
+behind step now (NamedDue lowest more) (OfSourceBefore old) = named_due (old.number + 1) more
+behind step now NumberDue (OfNumber archive) = OldRowsDue archive ∷ []
+behind step now (OldRowsDue archive) (OfRows rows) = cells_due rows now
+behind step now due piece = []
+
+-- which piece may come where one is due, by itself
+abbrev pub Keeps : Limits → ℕ → Outline → DueInEntry → Piece → Type 0
+Keeps limits step now TimeDue (OfTime last) = last < now.last
+Keeps limits step now (BeforeDue last def) (OfRawAndPart raw part) =
+    IsAccepted def.kind raw × IsPart Average (last % step) part
+Keeps limits step now (RowPrepDue last def) (OfPrep part) = IsRowPart step last def part
+Keeps limits step now (RowsDue rows) (OfRows count) = count ≡ rows
+Keeps limits step now RowCellDue (OfCell cell) = IsBounded cell
+Keeps limits step now CountDue (OfCount count) = (0 < count) × (count ≤ 5)
+Keeps limits step now (NamedDue lowest more) (OfSourceBefore old) =
+    (lowest ≤ old.number) × (old.number < length now.sources) × IsSourceBefore limits old
+Keeps limits step now NumberDue (OfNumber archive) = archive < length now.archives
+Keeps limits step now (OldRowsDue archive) (OfRows rows) = AreOldRows limits now archive rows
+Keeps limits step now due piece = ⊥
+
+-- ---- the whole file
+
+pub data Stage : Type 0 where
+  -- nothing has come; the mark; the version
+  Start : Stage
+  Marked : Stage
+  Versioned : Version → Stage
+  -- the header, and so much of the body, entries that are whole among it
+  Body : Filed → Stage
+  -- and an entry that is begun, with its pieces so far and what is still due of it
+  Within : Filed → List Piece → List DueInEntry → Stage
+
+-- the bytes of a header
+abbrev pub header_size : Version → ℕ
+header_size One = 20
+
+abbrev pub body_size : Due → ℕ
+body_size SourceDue = 97
+body_size HeadDue = 13
+body_size (PrepDue def) = 20
+body_size CellDue = 16
+body_size EntryDue = 1
+body_size NothingDue = 0
+
+abbrev pub within_size : List DueInEntry → ℕ
+within_size [] = 0
+within_size (due ∷ later) = size_due due
+
+-- how many bytes the piece has that is due; none where no piece is
+unfoldable pub size : Stage → ℕ
+size Start = 4
+size Marked = 2
+size (Versioned version) = header_size version
+size (Body f) = body_size (due f)
+size (Within f pieces due) = within_size due
+
+-- where an entry goes on once these pieces of it have come: what is due, or, after its last piece, the body with it.
+-- That last piece must make an entry that may come: so a tune's names differ once it is undone
+abbrev pub GoesOn : Filed → List Piece → List DueInEntry → Stage → Type 0
+GoesOn f pieces (due ∷ later) next = next ≡ Within f pieces (due ∷ later)
+GoesOn f pieces [] next =
+    (entry : Entry) × (entry_pieces entry ≡ pieces) × MayEntry f entry × (next ≡ Body (with_entry f entry))
+
+-- that a piece may come at a stage, and the stage that it leads to
+unfoldable pub Takes : Stage → Piece → Stage → Type 0
+Takes Start Mark next = next ≡ Marked
+Takes Marked (OfVersion version) next = next ≡ Versioned version
+Takes (Versioned version) (OfHeader h) next = (h.version ≡ version) × IsHeader h × (next ≡ Body (begun h))
+Takes (Body f) (OfSource s) next = MaySource f s × (next ≡ Body (with_source f s))
+Takes (Body f) (OfArchive def) next = MayHead f def × (next ≡ Body (with_head f def))
+Takes (Body f) (OfPrep part) next = MayPrep f part × (next ≡ Body (with_prep f part))
+Takes (Body f) (OfCell cell) next = MayCell f cell × (next ≡ Body (with_cell f cell))
+Takes (Body f) (OfTag tag) next = (due f ≡ EntryDue) × GoesOn f (OfTag tag ∷ []) (first_due tag) next
+Takes (Within f pieces (due ∷ later)) piece next =
+    let now = outline_left f in
+    Keeps (limits f) f.header.step now due piece
+    × GoesOn f (pieces ++ piece ∷ []) (behind f.header.step now due piece ++ later) next
+Takes stage piece next = ⊥
+
+-- pieces that may come one after another, from a stage to a stage
+abbrev pub Runs : Stage → List Piece → Stage → Type 0
+Runs from [] to = from ≡ to
+Runs from (piece ∷ pieces) to = (next : Stage) × Takes from piece next × Runs next pieces to
