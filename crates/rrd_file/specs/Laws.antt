@@ -4,10 +4,10 @@ use Rattle.rrd_fixed.specs.declared.cell.Cell.{Cell}
 use Rattle.rrd_fixed.specs.declared.raw.Raw.{Raw}
 use Rattle.rrd_fold.specs.Parts.{Part}
 use Rattle.rrd_spec.specs.declared.settings.RraDef.{RraDef}
-use Rattle.rrd_spec.specs.Entries.{SourceBefore}
+use Rattle.rrd_spec.specs.declared.entry.SourceBefore.{SourceBefore}
 use Rattle.rrd_spec.specs.Filed.{Source}
 use Rattle.rrd_file.specs.Pieces.{Piece, OfSource, OfArchive, OfPrep, OfCell, OfRawAndPart, OfSourceBefore, spell}
-use Rattle.rrd_file.specs.Values.{FitsArchive, FitsCell, FitsHeld, FitsPart, FitsRaw, FitsSource}
+use Rattle.rrd_file.specs.Values.{FitsArchive, FitsCell, FitsSourceBefore, FitsPart, FitsRaw, FitsSource}
 use Rattle.rrd_file.specs.Stages.{Runs, Stage, Start, Takes, size}
 
 -- a piece that may come has as many bytes as are due
@@ -24,5 +24,5 @@ pub record ValuesHaveOneSpelling : Type 0 where
   pub archive : (a b : RraDef) → FitsArchive a → FitsArchive b → spell (OfArchive a) ≡ spell (OfArchive b) → a ≡ b
   pub prep : (a b : Part) → FitsPart a → FitsPart b → spell (OfPrep a) ≡ spell (OfPrep b) → a ≡ b
   pub cell : (a b : Cell) → FitsCell a → FitsCell b → spell (OfCell a) ≡ spell (OfCell b) → a ≡ b
-  pub before : (r s : Raw) (a b : Part) → FitsRaw r → FitsRaw s → FitsPart a → FitsPart b → spell (OfRawAndPart r a) ≡ spell (OfRawAndPart s b) → (r ≡ s) × (a ≡ b)
-  pub held : (a b : SourceBefore) → FitsHeld a → FitsHeld b → spell (OfSourceBefore a) ≡ spell (OfSourceBefore b) → a ≡ b
+  pub raw_and_part : (r s : Raw) (a b : Part) → FitsRaw r → FitsRaw s → FitsPart a → FitsPart b → spell (OfRawAndPart r a) ≡ spell (OfRawAndPart s b) → (r ≡ s) × (a ≡ b)
+  pub source_before : (a b : SourceBefore) → FitsSourceBefore a → FitsSourceBefore b → spell (OfSourceBefore a) ≡ spell (OfSourceBefore b) → a ≡ b

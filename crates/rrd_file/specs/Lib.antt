@@ -1,6 +1,10 @@
 pub mod Spelling
 pub mod Pieces
 pub mod Layout
+pub mod Stages
+pub mod Faults
+pub mod Laws
+pub mod Values
 pub mod Gathered
 pub mod Entered
 pub mod Worked

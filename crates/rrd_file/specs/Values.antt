@@ -8,7 +8,7 @@ use Rattle.rrd_fixed.specs.Names.{fits}
 use Rattle.rrd_fold.specs.Parts.{Part}
 use Rattle.rrd_spec.specs.declared.settings.DsDef.{DsDef}
 use Rattle.rrd_spec.specs.declared.settings.RraDef.{RraDef}
-use Rattle.rrd_spec.specs.Entries.{SourceBefore}
+use Rattle.rrd_spec.specs.declared.entry.SourceBefore.{SourceBefore}
 use Rattle.rrd_spec.specs.Filed.{Header, Source}
 
 -- a number other than the least, which stands for none
@@ -56,7 +56,7 @@ pub record FitsHeader (h : Header) : Type 0 where
   pub archives : h.archives < 2 ^ 16
   pub entries : h.entries < 2 ^ 16
 
-pub record FitsHeld (old : SourceBefore) : Type 0 where
+pub record FitsSourceBefore (old : SourceBefore) : Type 0 where
   pub number : old.number < 2 ^ 16
   pub source : FitsDef old.source
   pub raw : FitsRaw old.raw

@@ -6,7 +6,9 @@ mod body;
 mod cells;
 mod encoding;
 mod entries;
+mod fault;
 pub mod laws;
 mod pieces;
 
 pub use encoding::encode;
+pub use fault::FileFault;
