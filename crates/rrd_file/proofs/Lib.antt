@@ -4,3 +4,6 @@ pub mod Told
 pub mod Entering
 pub mod Slotted
 pub mod CellsFiled
+pub mod SignedBytes
+pub mod Lengths
+pub mod Spelled
