@@ -7,3 +7,7 @@ pub mod CellsFiled
 pub mod SignedBytes
 pub mod Lengths
 pub mod Spelled
+pub mod Sizes
+pub mod Order
+pub mod Sound
+pub mod OneSpelling

@@ -8,6 +8,16 @@ pub fn examples()
     ensures sampled { worked.SampledFile }
 {}
 
+/// A piece that may come has as many bytes as are due.
+pub fn sizes()
+    ensures { laws.PiecesHaveTheirSize }
+{}
+
+/// Of the pieces that may come at a stage that a file reaches, no two are spelled alike.
+pub fn one_spelling()
+    ensures { laws.PiecesHaveOneSpelling }
+{}
+
 /// Values that fit their bytes and have the same bytes are one.
 pub fn one_value()
     ensures { laws.ValuesHaveOneSpelling }
