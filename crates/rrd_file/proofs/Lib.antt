@@ -3,3 +3,10 @@ pub mod Gathering
 pub mod Told
 pub mod Entering
 pub mod CellsFiled
+pub mod SignedBytes
+pub mod Lengths
+pub mod Spelled
+pub mod Sizes
+pub mod Order
+pub mod Sound
+pub mod OneSpelling
