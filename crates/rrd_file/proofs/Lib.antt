@@ -7,3 +7,5 @@ pub mod CellsFiled
 pub mod SignedBytes
 pub mod Lengths
 pub mod Spelled
+pub mod SignedBack
+pub mod ReadBack
