@@ -10,3 +10,5 @@ pub mod Sizes
 pub mod Order
 pub mod Sound
 pub mod OneSpelling
+pub mod SignedBack
+pub mod ReadBack
