@@ -26,3 +26,4 @@ pub mod PassedValid
 pub mod ManySteps
 pub mod Slotted
 pub mod SlotCells
+pub mod Outlined

@@ -18,6 +18,7 @@ pub mod Placed
 pub mod Filed
 pub mod Outlines
 pub mod Rebuilding
+pub mod Journals
 pub mod Listed
 pub mod Passing
 pub mod Laws
