@@ -89,23 +89,22 @@ archives_filed_once step last sources (archive ∷ archives) (other ∷ others) 
 
 -- ---- sources
 
-defs_in : List Source → List DsDef
+abbrev defs_in : List Source → List DsDef
 defs_in sources = map (λ (source : Source). source.def) sources
 
-raws_in : List Source → List Raw
+abbrev raws_in : List Source → List Raw
 raws_in sources = map (λ (source : Source). source.raw) sources
 
-parts_in : List Source → List Part
+abbrev parts_in : List Source → List Part
 parts_in sources = map (λ (source : Source). source.part) sources
 
 -- sources give back the lists that they are made of
-record GivesBack (defs : List DsDef) (raws : List Raw) (parts : List Part) : Type 0 where
+pub record GivesBack (defs : List DsDef) (raws : List Raw) (parts : List Part) : Type 0 where
   pub defs_are : defs_in (sources_of defs raws parts) ≡ defs
   pub raws_are : raws_in (sources_of defs raws parts) ≡ raws
   pub parts_are : parts_in (sources_of defs raws parts) ≡ parts
 
-gives_back : (defs : List DsDef) (raws : List Raw) (parts : List Part) → length raws ≡ length defs → length parts ≡ length defs → GivesBack defs raws parts
-unfolding defs_in raws_in parts_in
+pub gives_back : (defs : List DsDef) (raws : List Raw) (parts : List Part) → length raws ≡ length defs → length parts ≡ length defs → GivesBack defs raws parts
 gives_back [] [] [] a b = record { defs_are = refl; raws_are = refl; parts_are = refl }
 gives_back [] [] (part ∷ parts) a b = absurd (omega arith)
 gives_back [] (raw ∷ raws) parts a b = absurd (omega arith)
