@@ -2,5 +2,4 @@ pub mod Joined
 pub mod Gathering
 pub mod Told
 pub mod Entering
-pub mod Slotted
 pub mod CellsFiled

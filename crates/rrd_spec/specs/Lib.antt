@@ -14,6 +14,7 @@ pub mod Validity
 pub mod Answers
 pub mod Turns
 pub mod Slots
+pub mod Placed
 pub mod Filed
 pub mod Outlines
 pub mod Rebuilding

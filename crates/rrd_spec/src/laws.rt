@@ -11,6 +11,7 @@ ghost use Rattle.rrd_spec.specs.History.{Archive, Content, Event, Reading};
 ghost use Rattle.rrd_spec.specs.Laws.{PassesInPieces, SampledPasses, RowsComeBack, ShowsByAge};
 ghost use Rattle.rrd_spec.specs.Commands.{Command};
 ghost use Rattle.rrd_spec.specs.Entries.{Entry};
+ghost use Rattle.rrd_spec.specs.Placed.{AsManyCells, CellStandsInSlot, KeepsRow, PlaceHasSlot, PlacesDiffer, PutsBlock, PutsCell, PutsRow, ShowsInPlace, SlotHasPlace, StandsInPlace};
 ghost use Rattle.rrd_spec.specs.Laws.{ComesBack};
 ghost use Rattle.rrd_spec.specs.EqualSteps.{SecondsOver, StepsInPieces, StepsOver, StepsWithin};
 ghost use Rattle.rrd_spec.specs.Survivors.{Action, Stored, State};
@@ -125,6 +126,34 @@ pub fn rows_by_age()
 pub fn cells_by_time()
     ensures rows { (base : Content) (events : List Event) → ShowsByTime base events }
     ensures cells { (base : Content) (events : List Event) → ShowsCells base events }
+{}
+
+/// Each slot has one place and each place one slot, so that a row put into its place is in its slot and
+/// leaves the others as they are. By its time a content shows the row of each place.
+pub fn rows_stand_in_slots()
+    ensures place { (resolution last rows slot : ℕ) → SlotHasPlace resolution last rows slot }
+    ensures slot { (resolution last rows place : ℕ) → PlaceHasSlot resolution last rows place }
+    ensures differ { (resolution last rows slot other : ℕ) → PlacesDiffer resolution last rows slot other }
+    ensures row { (resolution last : ℕ) (rows : List (List Cell)) (slot : ℕ) →
+        StandsInPlace resolution last rows slot }
+    ensures shown { (content : Content) (archive : Archive) (place : ℕ) → ShowsInPlace content archive place }
+    ensures put { (resolution last : ℕ) (rows : List (List Cell)) (slot : ℕ) (row : List Cell) →
+        PutsRow resolution last rows slot row }
+    ensures kept { (resolution last : ℕ) (rows : List (List Cell)) (slot : ℕ) (row : List Cell) (other : ℕ) →
+        KeepsRow resolution last rows slot row other }
+{}
+
+/// The cells of an archive, slot by slot, are as many as its rows and sources, each that of its row. A
+/// row put into its place changes one block of them, and a cell that cell alone.
+pub fn cells_stand_in_slots()
+    ensures as_many { (resolution last sources : ℕ) (rows : List (List Cell)) →
+        AsManyCells resolution last sources rows }
+    ensures cell { (resolution last sources : ℕ) (rows : List (List Cell)) (slot source : ℕ) (or : Cell) →
+        CellStandsInSlot resolution last sources rows slot source or }
+    ensures row_put { (resolution last sources : ℕ) (rows : List (List Cell)) (slot : ℕ) (row : List Cell) →
+        PutsBlock resolution last sources rows slot row }
+    ensures cell_put { (resolution last sources : ℕ) (rows : List (List Cell)) (slot source : ℕ) (cell : Cell) →
+        PutsCell resolution last sources rows slot source cell }
 {}
 
 /// A content's rows, by list and by time, are the same; so they are after an accepted command.
