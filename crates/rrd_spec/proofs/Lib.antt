@@ -26,3 +26,5 @@ pub mod PassedValid
 pub mod ManySteps
 pub mod Slotted
 pub mod SlotCells
+pub mod Outlined
+pub mod ReadBack

@@ -11,6 +11,10 @@ ghost use Rattle.rrd_spec.specs.History.{Archive, Content, Event, Reading};
 ghost use Rattle.rrd_spec.specs.Laws.{PassesInPieces, SampledPasses, RowsComeBack, ShowsByAge};
 ghost use Rattle.rrd_spec.specs.Commands.{Command};
 ghost use Rattle.rrd_spec.specs.Entries.{Entry};
+ghost use Rattle.rrd_spec.specs.Filed.{Version};
+ghost use Rattle.rrd_spec.specs.FiledOnce.{FiledOnce, RowsFiledOnce};
+ghost use Rattle.rrd_spec.specs.Journals.{FiledOutline, JournalLeavesValid, JournalParts, JournalTakes, JournalTook, JournalsJoin, OutlineFollows, OutlineIsNeeded, OutlineSuffices, OutlinesAreNeeded, OutlinesSuffice};
+ghost use Rattle.rrd_spec.specs.Limits.{Limits};
 ghost use Rattle.rrd_spec.specs.Placed.{AsManyCells, CellStandsInSlot, KeepsRow, PlaceHasSlot, PlacesDiffer, PutsBlock, PutsCell, PutsRow, ShowsInPlace, SlotHasPlace, StandsInPlace};
 ghost use Rattle.rrd_spec.specs.Laws.{ComesBack};
 ghost use Rattle.rrd_spec.specs.EqualSteps.{SecondsOver, StepsInPieces, StepsOver, StepsWithin};
@@ -156,6 +160,14 @@ pub fn cells_stand_in_slots()
         PutsCell resolution last sources rows slot source cell }
 {}
 
+/// Rows are told by their cells, slot by slot, and so is a database by the lists that a file has of it.
+pub fn databases_are_filed_once()
+    ensures rows { (resolution last sources : ℕ) (rows others : List (List Cell)) →
+        RowsFiledOnce resolution last sources rows others }
+    ensures databases { (limits : Limits) (version : Version) (d other : Stored) →
+        FiledOnce limits version d other }
+{}
+
 /// A content's rows, by list and by time, are the same; so they are after an accepted command.
 pub fn content_is_listed()
     ensures events { (base : Content) (events : List Event) → IsListed base events }
@@ -243,6 +255,37 @@ pub fn database_begins()
 /// it.
 pub fn action_goes_on()
     ensures { (state : State) (kept : Stored) (action : Action) → ActsOn state kept action }
+{}
+
+/// Undoing entries changes a content's outline by the entries alone; a database's lists say that outline.
+pub fn outlines_follow()
+    ensures undone { (now : Content) (journal : List Entry) → OutlineFollows now journal }
+    ensures filed { (version : Version) (d : Stored) → FiledOutline version d }
+{}
+
+/// The outline of a valid content alone decides which entry fits it and leaves a valid content.
+pub fn outlines_judge_entries()
+    ensures suffices { (limits : Limits) (now : Content) (entry : Entry) → OutlineSuffices limits now entry }
+    ensures needed { (limits : Limits) (now : Content) (entry : Entry) → OutlineIsNeeded limits now entry }
+{}
+
+/// Older entries are a journal of the content that the newer ones leave, which is valid.
+pub fn journals_in_pieces()
+    ensures leaves { (limits : Limits) (now : Content) (journal : List Entry) → JournalLeavesValid limits now journal }
+    ensures join { (limits : Limits) (now : Content) (newer older : List Entry) → JournalsJoin limits now newer older }
+    ensures parts { (limits : Limits) (now : Content) (newer older : List Entry) → JournalParts limits now newer older }
+{}
+
+/// So outlines alone decide which entry a valid content's journal takes behind all others, and which
+/// lists are such a journal.
+pub fn outlines_judge_journals()
+    ensures takes { (limits : Limits) (now : Content) (journal : List Entry) (entry : Entry) →
+        JournalTakes limits now journal entry }
+    ensures took { (limits : Limits) (now : Content) (journal : List Entry) (entry : Entry) →
+        JournalTook limits now journal entry }
+    ensures suffice { (limits : Limits) (now : Content) (journal : List Entry) → OutlinesSuffice limits now journal }
+    ensures needed { (limits : Limits) (now : Content) (journal : List Entry) →
+        OutlinesAreNeeded limits now journal }
 {}
 
 /// A run from a valid database is what its survivors make, and stays valid.
