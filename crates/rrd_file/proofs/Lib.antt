@@ -11,3 +11,6 @@ pub mod Sizes
 pub mod Order
 pub mod Sound
 pub mod OneSpelling
+pub mod Ways
+pub mod OneEntry
+pub mod Came
