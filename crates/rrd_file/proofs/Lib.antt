@@ -2,7 +2,6 @@ pub mod Joined
 pub mod Gathering
 pub mod Told
 pub mod Entering
-pub mod Slotted
 pub mod CellsFiled
 pub mod SignedBytes
 pub mod Lengths
