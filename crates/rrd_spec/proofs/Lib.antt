@@ -27,3 +27,4 @@ pub mod ManySteps
 pub mod Slotted
 pub mod SlotCells
 pub mod Outlined
+pub mod ReadBack

@@ -6,7 +6,6 @@ use Rattle.rrd_fixed.specs.declared.cell.Cell.{Cell}
 use Rattle.rrd_fixed.specs.declared.raw.Raw.{Raw}
 use Rattle.rrd_fixed.specs.Rate.{IsAccepted}
 use Rattle.rrd_fold.specs.declared.function.Function.TheVariants.{Average}
-use Rattle.rrd_fold.specs.Parts.{Part}
 use Rattle.rrd_spec.specs.declared.entry.SourceBefore.{SourceBefore}
 use Rattle.rrd_spec.specs.declared.outline.Outline.{Outline}
 use Rattle.rrd_spec.specs.declared.settings.DsDef.{DsDef}
@@ -17,11 +16,12 @@ use Rattle.rrd_spec.specs.Commands.{rows_of_archives, settings_of}
 use Rattle.rrd_spec.specs.History.{Archive, Content, definitions}
 use Rattle.rrd_spec.specs.Entries.{BeforeUpdate, Entry, ResizeEntry, SavedArchive, TuneEntry, UpdateEntry, put_back, put_back_each, rows_at, undone, with_rows_at, with_source}
 use Rattle.rrd_spec.specs.Facts.{length-accepted, rows_wide}
-use Rattle.rrd_spec.specs.Filed.{Head, Source, Version, head_of, sources_of}
+use Rattle.rrd_spec.specs.Filed.{Head, Version, head_of}
 use Rattle.rrd_spec.specs.Journals.{FiledOutline, JournalLeavesValid, JournalParts, JournalTakes, JournalTook, JournalsJoin, MayUndoEach, OutlineFollows, OutlineIsNeeded, OutlineSuffices, OutlinesAreNeeded, OutlinesSuffice}
 use Rattle.rrd_spec.specs.Lists.{All-append, All-at, All-take}
 use Rattle.rrd_spec.specs.Outlines.{IsSourceBefore, MaySave, MaySaveEach, MayUndo, outline_of, outline_undone, rows_of, with_row_number, with_sources}
 use Rattle.rrd_spec.specs.Survivors.{Stored}
+use Rattle.rrd_spec.proofs.ReadBack.{gives_back}
 use Rattle.rrd_spec.specs.Validity.{AreAccepted, AreParts, FitEach, FitsArchive, IsRow, IsSourceWithin, IsValidArchiveWithin, IsValidWithin, Rise}
 
 -- ---- lists
@@ -395,12 +395,6 @@ follows now (entry ∷ journal) =
       outline_is = rest.outline_is ∙ ap (λ outline. fold outline_undone outline journal) (outline_stays now entry);
     }
 
-filed_sources : (defs : List DsDef) (raws : List Raw) (parts : List Part) → length raws ≡ length defs → length parts ≡ length defs → map (λ (source : Source). source.def) (sources_of defs raws parts) ≡ defs
-filed_sources [] raws parts a b = refl
-filed_sources (def ∷ defs) [] parts a b = absurd (omega arith)
-filed_sources (def ∷ defs) (raw ∷ raws) [] a b = absurd (omega arith)
-filed_sources (def ∷ defs) (raw ∷ raws) (part ∷ parts) a b = ap (λ ds. def ∷ ds) (filed_sources defs raws parts (omega arith) (omega arith))
-
 filed_heads : (archives : List Archive) → map (λ (head : Head). head.def) (map head_of archives) ≡ definitions archives
 filed_heads [] = refl
 filed_heads (archive ∷ archives) = ap (λ defs. archive.def ∷ defs) (filed_heads archives)
@@ -411,7 +405,7 @@ outline_with last sources archives = record { last = last; sources = sources; ar
 pub filed_outline : (version : Version) (d : Stored) → FiledOutline version d
 unfolding outline_with
 filed_outline version d a b =
-    (λ i. outline_with d.content.last (filed_sources d.content.sources d.content.raws d.content.parts a b i) (filed_heads d.content.archives i))
+    (λ i. outline_with d.content.last ((gives_back d.content.sources d.content.raws d.content.parts a b).defs_are i) (filed_heads d.content.archives i))
 
 -- ---- journals
 

@@ -84,7 +84,7 @@ another f g w n s inside wide same =
 -- ---- an archive's
 
 -- each row of a place has its cells
-wide_rows : (sources : ℕ) (rows : List (List Cell)) (place : ℕ) → AllByRecursion (HasOneEach sources) rows → place < length rows → length (get_or rows place []) ≡ sources
+pub wide_rows : (sources : ℕ) (rows : List (List Cell)) (place : ℕ) → AllByRecursion (HasOneEach sources) rows → place < length rows → length (get_or rows place []) ≡ sources
 wide_rows sources [] place all inside = absurd (omega arith)
 wide_rows sources (row ∷ rows) zero all inside = all.0
 wide_rows sources (row ∷ rows) (suc place) all inside = wide_rows sources rows place all.1 (omega arith)

@@ -67,7 +67,8 @@ JournalTakes limits now journal entry =
 abbrev pub JournalTook : Limits → Content → List Entry → Entry → Type 0
 JournalTook limits now journal entry =
     IsValidWithin limits now → IsValidJournalWithin limits now (journal ++ entry ∷ [])
-    → IsValidJournalWithin limits now journal × MayUndo limits now.step (fold outline_undone (outline_of now) journal) entry
+    → IsValidJournalWithin limits now journal
+    × MayUndo limits now.step (fold outline_undone (outline_of now) journal) entry
 
 -- the entries that outlines let through one after another, newest first
 abbrev pub MayUndoEach : Limits → ℕ → Outline → List Entry → Type 0

@@ -16,6 +16,7 @@ pub mod Turns
 pub mod Slots
 pub mod Placed
 pub mod Filed
+pub mod FiledOnce
 pub mod Outlines
 pub mod Rebuilding
 pub mod Journals

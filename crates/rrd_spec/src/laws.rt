@@ -12,6 +12,7 @@ ghost use Rattle.rrd_spec.specs.Laws.{PassesInPieces, SampledPasses, RowsComeBac
 ghost use Rattle.rrd_spec.specs.Commands.{Command};
 ghost use Rattle.rrd_spec.specs.Entries.{Entry};
 ghost use Rattle.rrd_spec.specs.Filed.{Version};
+ghost use Rattle.rrd_spec.specs.FiledOnce.{FiledOnce, RowsFiledOnce};
 ghost use Rattle.rrd_spec.specs.Journals.{FiledOutline, JournalLeavesValid, JournalParts, JournalTakes, JournalTook, JournalsJoin, OutlineFollows, OutlineIsNeeded, OutlineSuffices, OutlinesAreNeeded, OutlinesSuffice};
 ghost use Rattle.rrd_spec.specs.Limits.{Limits};
 ghost use Rattle.rrd_spec.specs.Placed.{AsManyCells, CellStandsInSlot, KeepsRow, PlaceHasSlot, PlacesDiffer, PutsBlock, PutsCell, PutsRow, ShowsInPlace, SlotHasPlace, StandsInPlace};
@@ -157,6 +158,14 @@ pub fn cells_stand_in_slots()
         PutsBlock resolution last sources rows slot row }
     ensures cell_put { (resolution last sources : ℕ) (rows : List (List Cell)) (slot source : ℕ) (cell : Cell) →
         PutsCell resolution last sources rows slot source cell }
+{}
+
+/// Rows are told by their cells, slot by slot, and so is a database by the lists that a file has of it.
+pub fn databases_are_filed_once()
+    ensures rows { (resolution last sources : ℕ) (rows others : List (List Cell)) →
+        RowsFiledOnce resolution last sources rows others }
+    ensures databases { (limits : Limits) (version : Version) (d other : Stored) →
+        FiledOnce limits version d other }
 {}
 
 /// A content's rows, by list and by time, are the same; so they are after an accepted command.
