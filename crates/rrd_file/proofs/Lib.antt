@@ -12,3 +12,6 @@ pub mod Sound
 pub mod OneSpelling
 pub mod SignedBack
 pub mod ReadBack
+pub mod Ways
+pub mod OneEntry
+pub mod Came

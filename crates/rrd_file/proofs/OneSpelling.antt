@@ -29,6 +29,7 @@ use Rattle.rrd_file.specs.Pieces.{Piece, Mark, OfVersion, OfHeader, OfSource, Of
 use Rattle.rrd_file.specs.Stages.{Stage, Start, Marked, Versioned, Body, Within, DueInEntry, TimeDue, BeforeDue, RowPrepDue, RowsDue, RowCellDue, CountDue, NamedDue, NumberDue, OldRowsDue, Keeps, Runs, Takes}
 use Rattle.rrd_file.specs.Values.{FitsArchive, FitsBound, FitsCell, FitsDef, FitsHeader, FitsSourceBefore, FitsPart, FitsRaw, FitsSource}
 use Rattle.rrd_file.proofs.Order.{prep_before}
+use Rattle.rrd_file.proofs.Ways.{Step, ToMark, ToVersion, ToHeader, ToSource, ToHead, ToPrep, ToCell, ToEntry, ToPiece, Way, ByTime, ByRawAndPart, ByRowPrep, ByRows, ByRowCell, ByCount, ByNamed, ByNumber, ByOldRows, step_of}
 use Rattle.rrd_file.proofs.Sound.{AreSmall, AreSound, HasSomeSteps, IsSound, IsSoundDue, IsSoundStage, now_sound, reached_sound, small_limits}
 use Rattle.rrd_file.proofs.Spelled.{archive_one, raw_and_part_one, cell_one, eight_one, four_one, header_one, source_before_one, head_same, part_one, source_one, two_one}
 
@@ -164,407 +165,24 @@ record IsHere (l : Limits) (step : ℕ) (now : Outline) : Type 0 where
   pub some_step : 0 < step
   pub small_step : step ≤ 1000000
 
-one_time_due : (limits : Limits) (step : ℕ) (now : Outline) → IsHere limits step now → IsSoundDue TimeDue → (x : ℕ) (q : Piece) → Keeps limits step now TimeDue (OfTime x) → Keeps limits step now TimeDue q → spell (OfTime x) ≡ spell q → OfTime x ≡ q
+-- two pieces where one is due
+one_way : (l : Limits) (step : ℕ) (now : Outline) {due : DueInEntry} {p q : Piece} → IsHere l step now → IsSoundDue due → Way l step now due p → Way l step now due q → spell p ≡ spell q → p ≡ q
 unfolding spell
-one_time_due limits step now h d x Mark k l e = absurd l
-one_time_due limits step now h d x (OfVersion y) k l e = absurd l
-one_time_due limits step now h d x (OfHeader y) k l e = absurd l
-one_time_due limits step now h d x (OfSource y) k l e = absurd l
-one_time_due limits step now h d x (OfArchive y) k l e = absurd l
-one_time_due limits step now h d x (OfPrep y) k l e = absurd l
-one_time_due limits step now h d x (OfCell y) k l e = absurd l
-one_time_due limits step now h d x (OfTag y) k l e = absurd l
-one_time_due limits step now h d x (OfTime y) k l e = ap OfTime (eight_one x y (omega (arith, k, h.sound.last)) (omega (arith, l, h.sound.last)) e)
-one_time_due limits step now h d x (OfRawAndPart y0 y1) k l e = absurd l
-one_time_due limits step now h d x (OfRows y) k l e = absurd l
-one_time_due limits step now h d x (OfCount y) k l e = absurd l
-one_time_due limits step now h d x (OfSourceBefore y) k l e = absurd l
-one_time_due limits step now h d x (OfNumber y) k l e = absurd l
+one_way l step now h d (ByTime x k) (ByTime y m) e = ap OfTime (eight_one x y (omega (arith, k, h.sound.last)) (omega (arith, m, h.sound.last)) e)
+one_way l step now h d (ByRawAndPart last def r x kr kx) (ByRawAndPart _ _ s y mr my) e =
+    let few : last % step < 2 ^ 32 = omega (arith, nat.mod-lt last h.some_step, h.small_step) in
+    let both = raw_and_part_one r s x y (raw_fits def.kind r kr) (raw_fits def.kind s mr) (part_fits Average (last % step) x few kx) (part_fits Average (last % step) y few my) e in
+    λ i. OfRawAndPart (both.0 i) (both.1 i)
+one_way l step now h d (ByRowPrep last def x k) (ByRowPrep _ _ y m) e = ap OfPrep (part_one x y (row_part_fits step last def x d k) (row_part_fits step last def y d m) e)
+one_way l step now h d (ByRows rows x k) (ByRows _ y m) e = ap OfRows (k ∙ sym m)
+one_way l step now h d (ByRowCell x k) (ByRowCell y m) e = ap OfCell (cell_one x y (cell_fits x k) (cell_fits y m) e)
+one_way l step now h d (ByCount x kx k) (ByCount y my m) e = ap OfCount (two_one x y (omega (arith, k)) (omega (arith, m)) e)
+one_way l step now h d (ByNamed lowest more x kl k kx) (ByNamed _ _ y ml m my) e =
+    ap OfSourceBefore (source_before_one x y (source_before_fits l x now h.small h.sound k kx) (source_before_fits l y now h.small h.sound m my) e)
+one_way l step now h d (ByNumber x k) (ByNumber y m) e = ap OfNumber (two_one x y (omega (arith, k, h.sound.archives)) (omega (arith, m, h.sound.archives)) e)
+one_way l step now h d (ByOldRows archive x k) (ByOldRows _ y m) e = ap OfRows (four_one x y (omega (arith, k.few, h.small.rows)) (omega (arith, m.few, h.small.rows)) e)
 
-one_before_due : (limits : Limits) (step : ℕ) (now : Outline) → IsHere limits step now → (u : ℕ) (v : DsDef) → IsSoundDue (BeforeDue u v) → (x0 : Raw) (x1 : Part) (q : Piece) → Keeps limits step now (BeforeDue u v) (OfRawAndPart x0 x1) → Keeps limits step now (BeforeDue u v) q → spell (OfRawAndPart x0 x1) ≡ spell q → OfRawAndPart x0 x1 ≡ q
-unfolding spell
-one_before_due limits step now h u v d x0 x1 Mark k l e = absurd l
-one_before_due limits step now h u v d x0 x1 (OfVersion y) k l e = absurd l
-one_before_due limits step now h u v d x0 x1 (OfHeader y) k l e = absurd l
-one_before_due limits step now h u v d x0 x1 (OfSource y) k l e = absurd l
-one_before_due limits step now h u v d x0 x1 (OfArchive y) k l e = absurd l
-one_before_due limits step now h u v d x0 x1 (OfPrep y) k l e = absurd l
-one_before_due limits step now h u v d x0 x1 (OfCell y) k l e = absurd l
-one_before_due limits step now h u v d x0 x1 (OfTag y) k l e = absurd l
-one_before_due limits step now h u v d x0 x1 (OfTime y) k l e = absurd l
-one_before_due limits step now h u v d x0 x1 (OfRawAndPart y0 y1) k l e = let s : u % step < 2 ^ 32 = omega (arith, nat.mod-lt u h.some_step, h.small_step) in let both = raw_and_part_one x0 y0 x1 y1 (raw_fits v.kind x0 k.0) (raw_fits v.kind y0 l.0) (part_fits Average (u % step) x1 s k.1) (part_fits Average (u % step) y1 s l.1) e in λ i. OfRawAndPart (both.0 i) (both.1 i)
-one_before_due limits step now h u v d x0 x1 (OfRows y) k l e = absurd l
-one_before_due limits step now h u v d x0 x1 (OfCount y) k l e = absurd l
-one_before_due limits step now h u v d x0 x1 (OfSourceBefore y) k l e = absurd l
-one_before_due limits step now h u v d x0 x1 (OfNumber y) k l e = absurd l
-
-one_rowprep_due : (limits : Limits) (step : ℕ) (now : Outline) → IsHere limits step now → (u : ℕ) (v : RraDef) → IsSoundDue (RowPrepDue u v) → (x : Part) (q : Piece) → Keeps limits step now (RowPrepDue u v) (OfPrep x) → Keeps limits step now (RowPrepDue u v) q → spell (OfPrep x) ≡ spell q → OfPrep x ≡ q
-unfolding spell
-one_rowprep_due limits step now h u v d x Mark k l e = absurd l
-one_rowprep_due limits step now h u v d x (OfVersion y) k l e = absurd l
-one_rowprep_due limits step now h u v d x (OfHeader y) k l e = absurd l
-one_rowprep_due limits step now h u v d x (OfSource y) k l e = absurd l
-one_rowprep_due limits step now h u v d x (OfArchive y) k l e = absurd l
-one_rowprep_due limits step now h u v d x (OfPrep y) k l e = ap OfPrep (part_one x y (row_part_fits step u v x d k) (row_part_fits step u v y d l) e)
-one_rowprep_due limits step now h u v d x (OfCell y) k l e = absurd l
-one_rowprep_due limits step now h u v d x (OfTag y) k l e = absurd l
-one_rowprep_due limits step now h u v d x (OfTime y) k l e = absurd l
-one_rowprep_due limits step now h u v d x (OfRawAndPart y0 y1) k l e = absurd l
-one_rowprep_due limits step now h u v d x (OfRows y) k l e = absurd l
-one_rowprep_due limits step now h u v d x (OfCount y) k l e = absurd l
-one_rowprep_due limits step now h u v d x (OfSourceBefore y) k l e = absurd l
-one_rowprep_due limits step now h u v d x (OfNumber y) k l e = absurd l
-
-one_rows_due : (limits : Limits) (step : ℕ) (now : Outline) → IsHere limits step now → (u : ℕ) → IsSoundDue (RowsDue u) → (x : ℕ) (q : Piece) → Keeps limits step now (RowsDue u) (OfRows x) → Keeps limits step now (RowsDue u) q → spell (OfRows x) ≡ spell q → OfRows x ≡ q
-unfolding spell
-one_rows_due limits step now h u d x Mark k l e = absurd l
-one_rows_due limits step now h u d x (OfVersion y) k l e = absurd l
-one_rows_due limits step now h u d x (OfHeader y) k l e = absurd l
-one_rows_due limits step now h u d x (OfSource y) k l e = absurd l
-one_rows_due limits step now h u d x (OfArchive y) k l e = absurd l
-one_rows_due limits step now h u d x (OfPrep y) k l e = absurd l
-one_rows_due limits step now h u d x (OfCell y) k l e = absurd l
-one_rows_due limits step now h u d x (OfTag y) k l e = absurd l
-one_rows_due limits step now h u d x (OfTime y) k l e = absurd l
-one_rows_due limits step now h u d x (OfRawAndPart y0 y1) k l e = absurd l
-one_rows_due limits step now h u d x (OfRows y) k l e = ap OfRows (k ∙ sym l)
-one_rows_due limits step now h u d x (OfCount y) k l e = absurd l
-one_rows_due limits step now h u d x (OfSourceBefore y) k l e = absurd l
-one_rows_due limits step now h u d x (OfNumber y) k l e = absurd l
-
-one_rowcell_due : (limits : Limits) (step : ℕ) (now : Outline) → IsHere limits step now → IsSoundDue RowCellDue → (x : Cell) (q : Piece) → Keeps limits step now RowCellDue (OfCell x) → Keeps limits step now RowCellDue q → spell (OfCell x) ≡ spell q → OfCell x ≡ q
-unfolding spell
-one_rowcell_due limits step now h d x Mark k l e = absurd l
-one_rowcell_due limits step now h d x (OfVersion y) k l e = absurd l
-one_rowcell_due limits step now h d x (OfHeader y) k l e = absurd l
-one_rowcell_due limits step now h d x (OfSource y) k l e = absurd l
-one_rowcell_due limits step now h d x (OfArchive y) k l e = absurd l
-one_rowcell_due limits step now h d x (OfPrep y) k l e = absurd l
-one_rowcell_due limits step now h d x (OfCell y) k l e = ap OfCell (cell_one x y (cell_fits x k) (cell_fits y l) e)
-one_rowcell_due limits step now h d x (OfTag y) k l e = absurd l
-one_rowcell_due limits step now h d x (OfTime y) k l e = absurd l
-one_rowcell_due limits step now h d x (OfRawAndPart y0 y1) k l e = absurd l
-one_rowcell_due limits step now h d x (OfRows y) k l e = absurd l
-one_rowcell_due limits step now h d x (OfCount y) k l e = absurd l
-one_rowcell_due limits step now h d x (OfSourceBefore y) k l e = absurd l
-one_rowcell_due limits step now h d x (OfNumber y) k l e = absurd l
-
-one_count_due : (limits : Limits) (step : ℕ) (now : Outline) → IsHere limits step now → IsSoundDue CountDue → (x : ℕ) (q : Piece) → Keeps limits step now CountDue (OfCount x) → Keeps limits step now CountDue q → spell (OfCount x) ≡ spell q → OfCount x ≡ q
-unfolding spell
-one_count_due limits step now h d x Mark k l e = absurd l
-one_count_due limits step now h d x (OfVersion y) k l e = absurd l
-one_count_due limits step now h d x (OfHeader y) k l e = absurd l
-one_count_due limits step now h d x (OfSource y) k l e = absurd l
-one_count_due limits step now h d x (OfArchive y) k l e = absurd l
-one_count_due limits step now h d x (OfPrep y) k l e = absurd l
-one_count_due limits step now h d x (OfCell y) k l e = absurd l
-one_count_due limits step now h d x (OfTag y) k l e = absurd l
-one_count_due limits step now h d x (OfTime y) k l e = absurd l
-one_count_due limits step now h d x (OfRawAndPart y0 y1) k l e = absurd l
-one_count_due limits step now h d x (OfRows y) k l e = absurd l
-one_count_due limits step now h d x (OfCount y) k l e = ap OfCount (two_one x y (omega (arith, k.1)) (omega (arith, l.1)) e)
-one_count_due limits step now h d x (OfSourceBefore y) k l e = absurd l
-one_count_due limits step now h d x (OfNumber y) k l e = absurd l
-
-one_named_due : (limits : Limits) (step : ℕ) (now : Outline) → IsHere limits step now → (u v : ℕ) → IsSoundDue (NamedDue u v) → (x : SourceBefore) (q : Piece) → Keeps limits step now (NamedDue u v) (OfSourceBefore x) → Keeps limits step now (NamedDue u v) q → spell (OfSourceBefore x) ≡ spell q → OfSourceBefore x ≡ q
-unfolding spell
-one_named_due limits step now h u v d x Mark k l e = absurd l
-one_named_due limits step now h u v d x (OfVersion y) k l e = absurd l
-one_named_due limits step now h u v d x (OfHeader y) k l e = absurd l
-one_named_due limits step now h u v d x (OfSource y) k l e = absurd l
-one_named_due limits step now h u v d x (OfArchive y) k l e = absurd l
-one_named_due limits step now h u v d x (OfPrep y) k l e = absurd l
-one_named_due limits step now h u v d x (OfCell y) k l e = absurd l
-one_named_due limits step now h u v d x (OfTag y) k l e = absurd l
-one_named_due limits step now h u v d x (OfTime y) k l e = absurd l
-one_named_due limits step now h u v d x (OfRawAndPart y0 y1) k l e = absurd l
-one_named_due limits step now h u v d x (OfRows y) k l e = absurd l
-one_named_due limits step now h u v d x (OfCount y) k l e = absurd l
-one_named_due limits step now h u v d x (OfSourceBefore y) k l e = ap OfSourceBefore (source_before_one x y (source_before_fits limits x now h.small h.sound k.1 k.2) (source_before_fits limits y now h.small h.sound l.1 l.2) e)
-one_named_due limits step now h u v d x (OfNumber y) k l e = absurd l
-
-one_number_due : (limits : Limits) (step : ℕ) (now : Outline) → IsHere limits step now → IsSoundDue NumberDue → (x : ℕ) (q : Piece) → Keeps limits step now NumberDue (OfNumber x) → Keeps limits step now NumberDue q → spell (OfNumber x) ≡ spell q → OfNumber x ≡ q
-unfolding spell
-one_number_due limits step now h d x Mark k l e = absurd l
-one_number_due limits step now h d x (OfVersion y) k l e = absurd l
-one_number_due limits step now h d x (OfHeader y) k l e = absurd l
-one_number_due limits step now h d x (OfSource y) k l e = absurd l
-one_number_due limits step now h d x (OfArchive y) k l e = absurd l
-one_number_due limits step now h d x (OfPrep y) k l e = absurd l
-one_number_due limits step now h d x (OfCell y) k l e = absurd l
-one_number_due limits step now h d x (OfTag y) k l e = absurd l
-one_number_due limits step now h d x (OfTime y) k l e = absurd l
-one_number_due limits step now h d x (OfRawAndPart y0 y1) k l e = absurd l
-one_number_due limits step now h d x (OfRows y) k l e = absurd l
-one_number_due limits step now h d x (OfCount y) k l e = absurd l
-one_number_due limits step now h d x (OfSourceBefore y) k l e = absurd l
-one_number_due limits step now h d x (OfNumber y) k l e = ap OfNumber (two_one x y (omega (arith, k, h.sound.archives)) (omega (arith, l, h.sound.archives)) e)
-
-one_oldrows_due : (limits : Limits) (step : ℕ) (now : Outline) → IsHere limits step now → (u : ℕ) → IsSoundDue (OldRowsDue u) → (x : ℕ) (q : Piece) → Keeps limits step now (OldRowsDue u) (OfRows x) → Keeps limits step now (OldRowsDue u) q → spell (OfRows x) ≡ spell q → OfRows x ≡ q
-unfolding spell
-one_oldrows_due limits step now h u d x Mark k l e = absurd l
-one_oldrows_due limits step now h u d x (OfVersion y) k l e = absurd l
-one_oldrows_due limits step now h u d x (OfHeader y) k l e = absurd l
-one_oldrows_due limits step now h u d x (OfSource y) k l e = absurd l
-one_oldrows_due limits step now h u d x (OfArchive y) k l e = absurd l
-one_oldrows_due limits step now h u d x (OfPrep y) k l e = absurd l
-one_oldrows_due limits step now h u d x (OfCell y) k l e = absurd l
-one_oldrows_due limits step now h u d x (OfTag y) k l e = absurd l
-one_oldrows_due limits step now h u d x (OfTime y) k l e = absurd l
-one_oldrows_due limits step now h u d x (OfRawAndPart y0 y1) k l e = absurd l
-one_oldrows_due limits step now h u d x (OfRows y) k l e = ap OfRows (four_one x y (omega (arith, k.few, h.small.rows)) (omega (arith, l.few, h.small.rows)) e)
-one_oldrows_due limits step now h u d x (OfCount y) k l e = absurd l
-one_oldrows_due limits step now h u d x (OfSourceBefore y) k l e = absurd l
-one_oldrows_due limits step now h u d x (OfNumber y) k l e = absurd l
-
-one_within : (limits : Limits) (step : ℕ) (now : Outline) → IsHere limits step now → (due : DueInEntry) → IsSoundDue due → (p q : Piece) → Keeps limits step now due p → Keeps limits step now due q → spell p ≡ spell q → p ≡ q
-one_within limits step now h TimeDue d Mark q k l e = absurd k
-one_within limits step now h TimeDue d (OfVersion x) q k l e = absurd k
-one_within limits step now h TimeDue d (OfHeader x) q k l e = absurd k
-one_within limits step now h TimeDue d (OfSource x) q k l e = absurd k
-one_within limits step now h TimeDue d (OfArchive x) q k l e = absurd k
-one_within limits step now h TimeDue d (OfPrep x) q k l e = absurd k
-one_within limits step now h TimeDue d (OfCell x) q k l e = absurd k
-one_within limits step now h TimeDue d (OfTag x) q k l e = absurd k
-one_within limits step now h TimeDue d (OfTime x) q k l e = one_time_due limits step now h d x q k l e
-one_within limits step now h TimeDue d (OfRawAndPart x0 x1) q k l e = absurd k
-one_within limits step now h TimeDue d (OfRows x) q k l e = absurd k
-one_within limits step now h TimeDue d (OfCount x) q k l e = absurd k
-one_within limits step now h TimeDue d (OfSourceBefore x) q k l e = absurd k
-one_within limits step now h TimeDue d (OfNumber x) q k l e = absurd k
-one_within limits step now h (BeforeDue u v) d Mark q k l e = absurd k
-one_within limits step now h (BeforeDue u v) d (OfVersion x) q k l e = absurd k
-one_within limits step now h (BeforeDue u v) d (OfHeader x) q k l e = absurd k
-one_within limits step now h (BeforeDue u v) d (OfSource x) q k l e = absurd k
-one_within limits step now h (BeforeDue u v) d (OfArchive x) q k l e = absurd k
-one_within limits step now h (BeforeDue u v) d (OfPrep x) q k l e = absurd k
-one_within limits step now h (BeforeDue u v) d (OfCell x) q k l e = absurd k
-one_within limits step now h (BeforeDue u v) d (OfTag x) q k l e = absurd k
-one_within limits step now h (BeforeDue u v) d (OfTime x) q k l e = absurd k
-one_within limits step now h (BeforeDue u v) d (OfRawAndPart x0 x1) q k l e = one_before_due limits step now h u v d x0 x1 q k l e
-one_within limits step now h (BeforeDue u v) d (OfRows x) q k l e = absurd k
-one_within limits step now h (BeforeDue u v) d (OfCount x) q k l e = absurd k
-one_within limits step now h (BeforeDue u v) d (OfSourceBefore x) q k l e = absurd k
-one_within limits step now h (BeforeDue u v) d (OfNumber x) q k l e = absurd k
-one_within limits step now h (RowPrepDue u v) d Mark q k l e = absurd k
-one_within limits step now h (RowPrepDue u v) d (OfVersion x) q k l e = absurd k
-one_within limits step now h (RowPrepDue u v) d (OfHeader x) q k l e = absurd k
-one_within limits step now h (RowPrepDue u v) d (OfSource x) q k l e = absurd k
-one_within limits step now h (RowPrepDue u v) d (OfArchive x) q k l e = absurd k
-one_within limits step now h (RowPrepDue u v) d (OfPrep x) q k l e = one_rowprep_due limits step now h u v d x q k l e
-one_within limits step now h (RowPrepDue u v) d (OfCell x) q k l e = absurd k
-one_within limits step now h (RowPrepDue u v) d (OfTag x) q k l e = absurd k
-one_within limits step now h (RowPrepDue u v) d (OfTime x) q k l e = absurd k
-one_within limits step now h (RowPrepDue u v) d (OfRawAndPart x0 x1) q k l e = absurd k
-one_within limits step now h (RowPrepDue u v) d (OfRows x) q k l e = absurd k
-one_within limits step now h (RowPrepDue u v) d (OfCount x) q k l e = absurd k
-one_within limits step now h (RowPrepDue u v) d (OfSourceBefore x) q k l e = absurd k
-one_within limits step now h (RowPrepDue u v) d (OfNumber x) q k l e = absurd k
-one_within limits step now h (RowsDue u) d Mark q k l e = absurd k
-one_within limits step now h (RowsDue u) d (OfVersion x) q k l e = absurd k
-one_within limits step now h (RowsDue u) d (OfHeader x) q k l e = absurd k
-one_within limits step now h (RowsDue u) d (OfSource x) q k l e = absurd k
-one_within limits step now h (RowsDue u) d (OfArchive x) q k l e = absurd k
-one_within limits step now h (RowsDue u) d (OfPrep x) q k l e = absurd k
-one_within limits step now h (RowsDue u) d (OfCell x) q k l e = absurd k
-one_within limits step now h (RowsDue u) d (OfTag x) q k l e = absurd k
-one_within limits step now h (RowsDue u) d (OfTime x) q k l e = absurd k
-one_within limits step now h (RowsDue u) d (OfRawAndPart x0 x1) q k l e = absurd k
-one_within limits step now h (RowsDue u) d (OfRows x) q k l e = one_rows_due limits step now h u d x q k l e
-one_within limits step now h (RowsDue u) d (OfCount x) q k l e = absurd k
-one_within limits step now h (RowsDue u) d (OfSourceBefore x) q k l e = absurd k
-one_within limits step now h (RowsDue u) d (OfNumber x) q k l e = absurd k
-one_within limits step now h RowCellDue d Mark q k l e = absurd k
-one_within limits step now h RowCellDue d (OfVersion x) q k l e = absurd k
-one_within limits step now h RowCellDue d (OfHeader x) q k l e = absurd k
-one_within limits step now h RowCellDue d (OfSource x) q k l e = absurd k
-one_within limits step now h RowCellDue d (OfArchive x) q k l e = absurd k
-one_within limits step now h RowCellDue d (OfPrep x) q k l e = absurd k
-one_within limits step now h RowCellDue d (OfCell x) q k l e = one_rowcell_due limits step now h d x q k l e
-one_within limits step now h RowCellDue d (OfTag x) q k l e = absurd k
-one_within limits step now h RowCellDue d (OfTime x) q k l e = absurd k
-one_within limits step now h RowCellDue d (OfRawAndPart x0 x1) q k l e = absurd k
-one_within limits step now h RowCellDue d (OfRows x) q k l e = absurd k
-one_within limits step now h RowCellDue d (OfCount x) q k l e = absurd k
-one_within limits step now h RowCellDue d (OfSourceBefore x) q k l e = absurd k
-one_within limits step now h RowCellDue d (OfNumber x) q k l e = absurd k
-one_within limits step now h CountDue d Mark q k l e = absurd k
-one_within limits step now h CountDue d (OfVersion x) q k l e = absurd k
-one_within limits step now h CountDue d (OfHeader x) q k l e = absurd k
-one_within limits step now h CountDue d (OfSource x) q k l e = absurd k
-one_within limits step now h CountDue d (OfArchive x) q k l e = absurd k
-one_within limits step now h CountDue d (OfPrep x) q k l e = absurd k
-one_within limits step now h CountDue d (OfCell x) q k l e = absurd k
-one_within limits step now h CountDue d (OfTag x) q k l e = absurd k
-one_within limits step now h CountDue d (OfTime x) q k l e = absurd k
-one_within limits step now h CountDue d (OfRawAndPart x0 x1) q k l e = absurd k
-one_within limits step now h CountDue d (OfRows x) q k l e = absurd k
-one_within limits step now h CountDue d (OfCount x) q k l e = one_count_due limits step now h d x q k l e
-one_within limits step now h CountDue d (OfSourceBefore x) q k l e = absurd k
-one_within limits step now h CountDue d (OfNumber x) q k l e = absurd k
-one_within limits step now h (NamedDue u v) d Mark q k l e = absurd k
-one_within limits step now h (NamedDue u v) d (OfVersion x) q k l e = absurd k
-one_within limits step now h (NamedDue u v) d (OfHeader x) q k l e = absurd k
-one_within limits step now h (NamedDue u v) d (OfSource x) q k l e = absurd k
-one_within limits step now h (NamedDue u v) d (OfArchive x) q k l e = absurd k
-one_within limits step now h (NamedDue u v) d (OfPrep x) q k l e = absurd k
-one_within limits step now h (NamedDue u v) d (OfCell x) q k l e = absurd k
-one_within limits step now h (NamedDue u v) d (OfTag x) q k l e = absurd k
-one_within limits step now h (NamedDue u v) d (OfTime x) q k l e = absurd k
-one_within limits step now h (NamedDue u v) d (OfRawAndPart x0 x1) q k l e = absurd k
-one_within limits step now h (NamedDue u v) d (OfRows x) q k l e = absurd k
-one_within limits step now h (NamedDue u v) d (OfCount x) q k l e = absurd k
-one_within limits step now h (NamedDue u v) d (OfSourceBefore x) q k l e = one_named_due limits step now h u v d x q k l e
-one_within limits step now h (NamedDue u v) d (OfNumber x) q k l e = absurd k
-one_within limits step now h NumberDue d Mark q k l e = absurd k
-one_within limits step now h NumberDue d (OfVersion x) q k l e = absurd k
-one_within limits step now h NumberDue d (OfHeader x) q k l e = absurd k
-one_within limits step now h NumberDue d (OfSource x) q k l e = absurd k
-one_within limits step now h NumberDue d (OfArchive x) q k l e = absurd k
-one_within limits step now h NumberDue d (OfPrep x) q k l e = absurd k
-one_within limits step now h NumberDue d (OfCell x) q k l e = absurd k
-one_within limits step now h NumberDue d (OfTag x) q k l e = absurd k
-one_within limits step now h NumberDue d (OfTime x) q k l e = absurd k
-one_within limits step now h NumberDue d (OfRawAndPart x0 x1) q k l e = absurd k
-one_within limits step now h NumberDue d (OfRows x) q k l e = absurd k
-one_within limits step now h NumberDue d (OfCount x) q k l e = absurd k
-one_within limits step now h NumberDue d (OfSourceBefore x) q k l e = absurd k
-one_within limits step now h NumberDue d (OfNumber x) q k l e = one_number_due limits step now h d x q k l e
-one_within limits step now h (OldRowsDue u) d Mark q k l e = absurd k
-one_within limits step now h (OldRowsDue u) d (OfVersion x) q k l e = absurd k
-one_within limits step now h (OldRowsDue u) d (OfHeader x) q k l e = absurd k
-one_within limits step now h (OldRowsDue u) d (OfSource x) q k l e = absurd k
-one_within limits step now h (OldRowsDue u) d (OfArchive x) q k l e = absurd k
-one_within limits step now h (OldRowsDue u) d (OfPrep x) q k l e = absurd k
-one_within limits step now h (OldRowsDue u) d (OfCell x) q k l e = absurd k
-one_within limits step now h (OldRowsDue u) d (OfTag x) q k l e = absurd k
-one_within limits step now h (OldRowsDue u) d (OfTime x) q k l e = absurd k
-one_within limits step now h (OldRowsDue u) d (OfRawAndPart x0 x1) q k l e = absurd k
-one_within limits step now h (OldRowsDue u) d (OfRows x) q k l e = one_oldrows_due limits step now h u d x q k l e
-one_within limits step now h (OldRowsDue u) d (OfCount x) q k l e = absurd k
-one_within limits step now h (OldRowsDue u) d (OfSourceBefore x) q k l e = absurd k
-one_within limits step now h (OldRowsDue u) d (OfNumber x) q k l e = absurd k
-
--- ---- the body
-
-one_source : (f : Filed) → IsSound f → (x : Source) (q : Piece) (n m : Stage) → Takes (Body f) (OfSource x) n → Takes (Body f) q m → spell (OfSource x) ≡ spell q → OfSource x ≡ q
-unfolding Takes spell
-one_source f h x Mark n m t w e = absurd w
-one_source f h x (OfVersion y) n m t w e = absurd w
-one_source f h x (OfHeader y) n m t w e = absurd w
-one_source f h x (OfSource y) n m t w e = ap OfSource (source_one x y (source_fits f x h.header t.0) (source_fits f y h.header w.0) e)
-one_source f h x (OfArchive y) n m t w e = absurd (let both = sym t.0.is_due ∙ w.0.is_due in cc)
-one_source f h x (OfPrep y) n m t w e = absurd (let both = sym t.0.is_due ∙ w.0.is_due in cc)
-one_source f h x (OfCell y) n m t w e = absurd (let both = sym t.0.is_due ∙ w.0.is_due in cc)
-one_source f h x (OfTag y) n m t w e = absurd (let both = sym t.0.is_due ∙ w.0 in cc)
-one_source f h x (OfTime y) n m t w e = absurd w
-one_source f h x (OfRawAndPart y0 y1) n m t w e = absurd w
-one_source f h x (OfRows y) n m t w e = absurd w
-one_source f h x (OfCount y) n m t w e = absurd w
-one_source f h x (OfSourceBefore y) n m t w e = absurd w
-one_source f h x (OfNumber y) n m t w e = absurd w
-
-one_archive : (f : Filed) → IsSound f → (x : RraDef) (q : Piece) (n m : Stage) → Takes (Body f) (OfArchive x) n → Takes (Body f) q m → spell (OfArchive x) ≡ spell q → OfArchive x ≡ q
-unfolding Takes spell
-one_archive f h x Mark n m t w e = absurd w
-one_archive f h x (OfVersion y) n m t w e = absurd w
-one_archive f h x (OfHeader y) n m t w e = absurd w
-one_archive f h x (OfSource y) n m t w e = absurd (let both = sym t.0.is_due ∙ w.0.is_due in cc)
-one_archive f h x (OfArchive y) n m t w e = ap OfArchive (archive_one x y (archive_fits (limits f) x (small_limits f.header.version) t.0.def_is) (archive_fits (limits f) y (small_limits f.header.version) w.0.def_is) e)
-one_archive f h x (OfPrep y) n m t w e = absurd (let both = sym t.0.is_due ∙ w.0.is_due in cc)
-one_archive f h x (OfCell y) n m t w e = absurd (let both = sym t.0.is_due ∙ w.0.is_due in cc)
-one_archive f h x (OfTag y) n m t w e = absurd (let both = sym t.0.is_due ∙ w.0 in cc)
-one_archive f h x (OfTime y) n m t w e = absurd w
-one_archive f h x (OfRawAndPart y0 y1) n m t w e = absurd w
-one_archive f h x (OfRows y) n m t w e = absurd w
-one_archive f h x (OfCount y) n m t w e = absurd w
-one_archive f h x (OfSourceBefore y) n m t w e = absurd w
-one_archive f h x (OfNumber y) n m t w e = absurd w
-
-one_prep : (f : Filed) → IsSound f → (x : Part) (q : Piece) (n m : Stage) → Takes (Body f) (OfPrep x) n → Takes (Body f) q m → spell (OfPrep x) ≡ spell q → OfPrep x ≡ q
-unfolding Takes spell
-one_prep f h x Mark n m t w e = absurd w
-one_prep f h x (OfVersion y) n m t w e = absurd w
-one_prep f h x (OfHeader y) n m t w e = absurd w
-one_prep f h x (OfSource y) n m t w e = absurd (let both = sym t.0.is_due ∙ w.0.is_due in cc)
-one_prep f h x (OfArchive y) n m t w e = absurd (let both = sym t.0.is_due ∙ w.0.is_due in cc)
-one_prep f h x (OfPrep y) n m t w e = ap OfPrep (part_one x y (prep_fits f x h t.0) (prep_fits f y h w.0) e)
-one_prep f h x (OfCell y) n m t w e = absurd (let both = sym t.0.is_due ∙ w.0.is_due in cc)
-one_prep f h x (OfTag y) n m t w e = absurd (let both = sym t.0.is_due ∙ w.0 in cc)
-one_prep f h x (OfTime y) n m t w e = absurd w
-one_prep f h x (OfRawAndPart y0 y1) n m t w e = absurd w
-one_prep f h x (OfRows y) n m t w e = absurd w
-one_prep f h x (OfCount y) n m t w e = absurd w
-one_prep f h x (OfSourceBefore y) n m t w e = absurd w
-one_prep f h x (OfNumber y) n m t w e = absurd w
-
-one_cell : (f : Filed) → IsSound f → (x : Cell) (q : Piece) (n m : Stage) → Takes (Body f) (OfCell x) n → Takes (Body f) q m → spell (OfCell x) ≡ spell q → OfCell x ≡ q
-unfolding Takes spell
-one_cell f h x Mark n m t w e = absurd w
-one_cell f h x (OfVersion y) n m t w e = absurd w
-one_cell f h x (OfHeader y) n m t w e = absurd w
-one_cell f h x (OfSource y) n m t w e = absurd (let both = sym t.0.is_due ∙ w.0.is_due in cc)
-one_cell f h x (OfArchive y) n m t w e = absurd (let both = sym t.0.is_due ∙ w.0.is_due in cc)
-one_cell f h x (OfPrep y) n m t w e = absurd (let both = sym t.0.is_due ∙ w.0.is_due in cc)
-one_cell f h x (OfCell y) n m t w e = ap OfCell (cell_one x y (cell_fits x t.0.bounded) (cell_fits y w.0.bounded) e)
-one_cell f h x (OfTag y) n m t w e = absurd (let both = sym t.0.is_due ∙ w.0 in cc)
-one_cell f h x (OfTime y) n m t w e = absurd w
-one_cell f h x (OfRawAndPart y0 y1) n m t w e = absurd w
-one_cell f h x (OfRows y) n m t w e = absurd w
-one_cell f h x (OfCount y) n m t w e = absurd w
-one_cell f h x (OfSourceBefore y) n m t w e = absurd w
-one_cell f h x (OfNumber y) n m t w e = absurd w
-
-one_tag : (f : Filed) → IsSound f → (x : Tag) (q : Piece) (n m : Stage) → Takes (Body f) (OfTag x) n → Takes (Body f) q m → spell (OfTag x) ≡ spell q → OfTag x ≡ q
-unfolding Takes spell
-one_tag f h x Mark n m t w e = absurd w
-one_tag f h x (OfVersion y) n m t w e = absurd w
-one_tag f h x (OfHeader y) n m t w e = absurd w
-one_tag f h x (OfSource y) n m t w e = absurd (let both = sym t.0 ∙ w.0.is_due in cc)
-one_tag f h x (OfArchive y) n m t w e = absurd (let both = sym t.0 ∙ w.0.is_due in cc)
-one_tag f h x (OfPrep y) n m t w e = absurd (let both = sym t.0 ∙ w.0.is_due in cc)
-one_tag f h x (OfCell y) n m t w e = absurd (let both = sym t.0 ∙ w.0.is_due in cc)
-one_tag f h x (OfTag y) n m t w e = ap OfTag (tag_one x y (head_same (tag_byte x) (tag_byte y) [] [] e).0)
-one_tag f h x (OfTime y) n m t w e = absurd w
-one_tag f h x (OfRawAndPart y0 y1) n m t w e = absurd w
-one_tag f h x (OfRows y) n m t w e = absurd w
-one_tag f h x (OfCount y) n m t w e = absurd w
-one_tag f h x (OfSourceBefore y) n m t w e = absurd w
-one_tag f h x (OfNumber y) n m t w e = absurd w
-
-one_mark : (q : Piece) (m : Stage) → Takes Start q m → Mark ≡ q
-unfolding Takes
-one_mark Mark m w = refl
-one_mark (OfVersion y) m w = absurd w
-one_mark (OfHeader y) m w = absurd w
-one_mark (OfSource y) m w = absurd w
-one_mark (OfArchive y) m w = absurd w
-one_mark (OfPrep y) m w = absurd w
-one_mark (OfCell y) m w = absurd w
-one_mark (OfTag y) m w = absurd w
-one_mark (OfTime y) m w = absurd w
-one_mark (OfRawAndPart y0 y1) m w = absurd w
-one_mark (OfRows y) m w = absurd w
-one_mark (OfCount y) m w = absurd w
-one_mark (OfSourceBefore y) m w = absurd w
-one_mark (OfNumber y) m w = absurd w
-
-one_version : (x : Version) (q : Piece) (m : Stage) → Takes Marked q m → OfVersion x ≡ q
-unfolding Takes
-one_version x Mark m w = absurd w
-one_version One (OfVersion One) m w = refl
-one_version x (OfHeader y) m w = absurd w
-one_version x (OfSource y) m w = absurd w
-one_version x (OfArchive y) m w = absurd w
-one_version x (OfPrep y) m w = absurd w
-one_version x (OfCell y) m w = absurd w
-one_version x (OfTag y) m w = absurd w
-one_version x (OfTime y) m w = absurd w
-one_version x (OfRawAndPart y0 y1) m w = absurd w
-one_version x (OfRows y) m w = absurd w
-one_version x (OfCount y) m w = absurd w
-one_version x (OfSourceBefore y) m w = absurd w
-one_version x (OfNumber y) m w = absurd w
+-- ---- in the body
 
 pub is_one : (v : Version) → v ≡ One
 is_one One = refl
@@ -575,102 +193,48 @@ same_header x y a b e =
     let vy = is_one y.version in
     header_one x y vx vy (header_fits x a) (header_fits y b) (ap (λ v. header_bytes v x) (sym vx) ∙ e ∙ ap (λ v. header_bytes v y) vy)
 
-one_header : (v : Version) (x : Header) (q : Piece) (n m : Stage) → Takes (Versioned v) (OfHeader x) n → Takes (Versioned v) q m → spell (OfHeader x) ≡ spell q → OfHeader x ≡ q
-unfolding Takes spell
-one_header v x Mark n m t w e = absurd w
-one_header v x (OfVersion y) n m t w e = absurd w
-one_header v x (OfHeader y) n m t w e = ap OfHeader (same_header x y t.1 w.1 e)
-one_header v x (OfSource y) n m t w e = absurd w
-one_header v x (OfArchive y) n m t w e = absurd w
-one_header v x (OfPrep y) n m t w e = absurd w
-one_header v x (OfCell y) n m t w e = absurd w
-one_header v x (OfTag y) n m t w e = absurd w
-one_header v x (OfTime y) n m t w e = absurd w
-one_header v x (OfRawAndPart y0 y1) n m t w e = absurd w
-one_header v x (OfRows y) n m t w e = absurd w
-one_header v x (OfCount y) n m t w e = absurd w
-one_header v x (OfSourceBefore y) n m t w e = absurd w
-one_header v x (OfNumber y) n m t w e = absurd w
-
 here : (f : Filed) → IsSound f → IsHere (limits f) f.header.step (outline_left f)
 here f h =
     let small = small_limits f.header.version in
     record { small = small; sound = now_sound f h; some_step = h.header.some_step; small_step = omega (arith, h.header.small_step, small.step) }
 
-one_at : (s : Stage) (p q : Piece) (n m : Stage) → IsSoundStage s → Takes s p n → Takes s q m → spell p ≡ spell q → p ≡ q
-unfolding Takes
-one_at Start Mark q n m h t w e = one_mark q m w
-one_at Start (OfVersion x) q n m h t w e = absurd t
-one_at Start (OfHeader x) q n m h t w e = absurd t
-one_at Start (OfSource x) q n m h t w e = absurd t
-one_at Start (OfArchive x) q n m h t w e = absurd t
-one_at Start (OfPrep x) q n m h t w e = absurd t
-one_at Start (OfCell x) q n m h t w e = absurd t
-one_at Start (OfTag x) q n m h t w e = absurd t
-one_at Start (OfTime x) q n m h t w e = absurd t
-one_at Start (OfRawAndPart x0 x1) q n m h t w e = absurd t
-one_at Start (OfRows x) q n m h t w e = absurd t
-one_at Start (OfCount x) q n m h t w e = absurd t
-one_at Start (OfSourceBefore x) q n m h t w e = absurd t
-one_at Start (OfNumber x) q n m h t w e = absurd t
-one_at Marked Mark q n m h t w e = absurd t
-one_at Marked (OfVersion x) q n m h t w e = one_version x q m w
-one_at Marked (OfHeader x) q n m h t w e = absurd t
-one_at Marked (OfSource x) q n m h t w e = absurd t
-one_at Marked (OfArchive x) q n m h t w e = absurd t
-one_at Marked (OfPrep x) q n m h t w e = absurd t
-one_at Marked (OfCell x) q n m h t w e = absurd t
-one_at Marked (OfTag x) q n m h t w e = absurd t
-one_at Marked (OfTime x) q n m h t w e = absurd t
-one_at Marked (OfRawAndPart x0 x1) q n m h t w e = absurd t
-one_at Marked (OfRows x) q n m h t w e = absurd t
-one_at Marked (OfCount x) q n m h t w e = absurd t
-one_at Marked (OfSourceBefore x) q n m h t w e = absurd t
-one_at Marked (OfNumber x) q n m h t w e = absurd t
-one_at (Versioned v) Mark q n m h t w e = absurd t
-one_at (Versioned v) (OfVersion x) q n m h t w e = absurd t
-one_at (Versioned v) (OfHeader x) q n m h t w e = one_header v x q n m t w e
-one_at (Versioned v) (OfSource x) q n m h t w e = absurd t
-one_at (Versioned v) (OfArchive x) q n m h t w e = absurd t
-one_at (Versioned v) (OfPrep x) q n m h t w e = absurd t
-one_at (Versioned v) (OfCell x) q n m h t w e = absurd t
-one_at (Versioned v) (OfTag x) q n m h t w e = absurd t
-one_at (Versioned v) (OfTime x) q n m h t w e = absurd t
-one_at (Versioned v) (OfRawAndPart x0 x1) q n m h t w e = absurd t
-one_at (Versioned v) (OfRows x) q n m h t w e = absurd t
-one_at (Versioned v) (OfCount x) q n m h t w e = absurd t
-one_at (Versioned v) (OfSourceBefore x) q n m h t w e = absurd t
-one_at (Versioned v) (OfNumber x) q n m h t w e = absurd t
-one_at (Body f) Mark q n m h t w e = absurd t
-one_at (Body f) (OfVersion x) q n m h t w e = absurd t
-one_at (Body f) (OfHeader x) q n m h t w e = absurd t
-one_at (Body f) (OfSource x) q n m h t w e = one_source f h x q n m t w e
-one_at (Body f) (OfArchive x) q n m h t w e = one_archive f h x q n m t w e
-one_at (Body f) (OfPrep x) q n m h t w e = one_prep f h x q n m t w e
-one_at (Body f) (OfCell x) q n m h t w e = one_cell f h x q n m t w e
-one_at (Body f) (OfTag x) q n m h t w e = one_tag f h x q n m t w e
-one_at (Body f) (OfTime x) q n m h t w e = absurd t
-one_at (Body f) (OfRawAndPart x0 x1) q n m h t w e = absurd t
-one_at (Body f) (OfRows x) q n m h t w e = absurd t
-one_at (Body f) (OfCount x) q n m h t w e = absurd t
-one_at (Body f) (OfSourceBefore x) q n m h t w e = absurd t
-one_at (Body f) (OfNumber x) q n m h t w e = absurd t
-one_at (Within f ps []) Mark q n m h t w e = absurd t
-one_at (Within f ps []) (OfVersion x) q n m h t w e = absurd t
-one_at (Within f ps []) (OfHeader x) q n m h t w e = absurd t
-one_at (Within f ps []) (OfSource x) q n m h t w e = absurd t
-one_at (Within f ps []) (OfArchive x) q n m h t w e = absurd t
-one_at (Within f ps []) (OfPrep x) q n m h t w e = absurd t
-one_at (Within f ps []) (OfCell x) q n m h t w e = absurd t
-one_at (Within f ps []) (OfTag x) q n m h t w e = absurd t
-one_at (Within f ps []) (OfTime x) q n m h t w e = absurd t
-one_at (Within f ps []) (OfRawAndPart x0 x1) q n m h t w e = absurd t
-one_at (Within f ps []) (OfRows x) q n m h t w e = absurd t
-one_at (Within f ps []) (OfCount x) q n m h t w e = absurd t
-one_at (Within f ps []) (OfSourceBefore x) q n m h t w e = absurd t
-one_at (Within f ps []) (OfNumber x) q n m h t w e = absurd t
-one_at (Within f ps (due ∷ later)) p q n m h t w e =
-    one_within (limits f) f.header.step (outline_left f) (here f h.0) due h.1.0 p q t.0 w.0 e
+-- two pieces at a stage that a file reaches
+one_step : {s : Stage} {p q : Piece} {n m : Stage} → IsSoundStage s → Step s p n → Step s q m → spell p ≡ spell q → p ≡ q
+unfolding spell
+one_step h ToMark ToMark e = refl
+one_step h (ToVersion x) (ToVersion y) e = ap OfVersion (is_one x ∙ sym (is_one y))
+one_step h (ToHeader version x kx k) (ToHeader _ y my m) e = ap OfHeader (same_header x y k m e)
+one_step h (ToSource f x k) (ToSource _ y m) e = ap OfSource (source_one x y (source_fits f x h.header k) (source_fits f y h.header m) e)
+one_step h (ToHead f x k) (ToHead _ y m) e =
+    let small = small_limits f.header.version in
+    ap OfArchive (archive_one x y (archive_fits (limits f) x small k.def_is) (archive_fits (limits f) y small m.def_is) e)
+one_step h (ToPrep f x k) (ToPrep _ y m) e = ap OfPrep (part_one x y (prep_fits f x h k) (prep_fits f y h m) e)
+one_step h (ToCell f x k) (ToCell _ y m) e = ap OfCell (cell_one x y (cell_fits x k.bounded) (cell_fits y m.bounded) e)
+one_step h (ToEntry f x n k goes) (ToEntry _ y m j on) e = ap OfTag (tag_one x y (head_same (tag_byte x) (tag_byte y) [] [] e).0)
+one_step h (ToSource f x k) (ToHead _ y m) e = absurd (let both = sym k.is_due ∙ m.is_due in cc)
+one_step h (ToSource f x k) (ToPrep _ y m) e = absurd (let both = sym k.is_due ∙ m.is_due in cc)
+one_step h (ToSource f x k) (ToCell _ y m) e = absurd (let both = sym k.is_due ∙ m.is_due in cc)
+one_step h (ToSource f x k) (ToEntry _ y m j on) e = absurd (let both = sym k.is_due ∙ j in cc)
+one_step h (ToHead f x k) (ToSource _ y m) e = absurd (let both = sym k.is_due ∙ m.is_due in cc)
+one_step h (ToHead f x k) (ToPrep _ y m) e = absurd (let both = sym k.is_due ∙ m.is_due in cc)
+one_step h (ToHead f x k) (ToCell _ y m) e = absurd (let both = sym k.is_due ∙ m.is_due in cc)
+one_step h (ToHead f x k) (ToEntry _ y m j on) e = absurd (let both = sym k.is_due ∙ j in cc)
+one_step h (ToPrep f x k) (ToSource _ y m) e = absurd (let both = sym k.is_due ∙ m.is_due in cc)
+one_step h (ToPrep f x k) (ToHead _ y m) e = absurd (let both = sym k.is_due ∙ m.is_due in cc)
+one_step h (ToPrep f x k) (ToCell _ y m) e = absurd (let both = sym k.is_due ∙ m.is_due in cc)
+one_step h (ToPrep f x k) (ToEntry _ y m j on) e = absurd (let both = sym k.is_due ∙ j in cc)
+one_step h (ToCell f x k) (ToSource _ y m) e = absurd (let both = sym k.is_due ∙ m.is_due in cc)
+one_step h (ToCell f x k) (ToHead _ y m) e = absurd (let both = sym k.is_due ∙ m.is_due in cc)
+one_step h (ToCell f x k) (ToPrep _ y m) e = absurd (let both = sym k.is_due ∙ m.is_due in cc)
+one_step h (ToCell f x k) (ToEntry _ y m j on) e = absurd (let both = sym k.is_due ∙ j in cc)
+one_step h (ToEntry f x n k goes) (ToSource _ y m) e = absurd (let both = sym k ∙ m.is_due in cc)
+one_step h (ToEntry f x n k goes) (ToHead _ y m) e = absurd (let both = sym k ∙ m.is_due in cc)
+one_step h (ToEntry f x n k goes) (ToPrep _ y m) e = absurd (let both = sym k ∙ m.is_due in cc)
+one_step h (ToEntry f x n k goes) (ToCell _ y m) e = absurd (let both = sym k ∙ m.is_due in cc)
+one_step h (ToPiece f pieces due later p n k goes) (ToPiece _ _ _ _ q m j on) e = one_way (limits f) f.header.step (outline_left f) (here f h.0) h.1.0 k j e
+
+pub one_at : (s : Stage) (p q : Piece) (n m : Stage) → IsSoundStage s → Takes s p n → Takes s q m → spell p ≡ spell q → p ≡ q
+one_at s p q n m h t w e = one_step h (step_of s p n t) (step_of s q m w) e
 
 pub one_spelling : (before : List Piece) (s : Stage) (p q : Piece) (n m : Stage) → Runs Start before s → Takes s p n → Takes s q m → spell p ≡ spell q → p ≡ q
 one_spelling before s p q n m r t w e = one_at s p q n m (reached_sound before s r) t w e

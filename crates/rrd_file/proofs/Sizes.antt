@@ -1,213 +1,37 @@
 -- A piece that may come has the size that is due.
-use Rattle.std.proofs.Common.{◌≡◌, ◌∙◌, ◌∷◌, ℕ, [], sym, ap, refl, length, arith, length-append}
+use Rattle.std.proofs.Common.{◌≡◌, ◌∙◌, ◌++◌, ◌∷◌, ℕ, [], sym, ap, refl, length, arith, length-append}
 use Rattle.rrd_spec.specs.declared.outline.Outline.{Outline}
 use Rattle.rrd_spec.specs.Limits.{Limits}
-use Rattle.rrd_spec.specs.Rebuilding.{outline_left}
 use Rattle.rrd_file.specs.Spelling.{part_bytes, raw_bytes, raw_number, cell_number, source_bytes}
-use Rattle.rrd_file.specs.Pieces.{Piece, Mark, OfVersion, OfHeader, OfSource, OfArchive, OfPrep, OfCell, OfTag, OfTime, OfRawAndPart, OfRows, OfCount, OfSourceBefore, OfNumber, spell}
-use Rattle.rrd_file.specs.Stages.{Stage, Start, Marked, Versioned, Body, Within, DueInEntry, TimeDue, BeforeDue, RowPrepDue, RowsDue, RowCellDue, CountDue, NamedDue, NumberDue, OldRowsDue, Keeps, Takes, body_size, header_size, size, size_due}
+use Rattle.rrd_file.specs.Pieces.{Piece, spell}
+use Rattle.rrd_file.specs.Stages.{Stage, DueInEntry, Takes, body_size, header_size, size, size_due}
 use Rattle.rrd_file.proofs.SignedBytes.{signed_length}
 use Rattle.rrd_file.proofs.Lengths.{header_length, length_source, part_length, short_name, source_length}
+use Rattle.rrd_file.proofs.Ways.{Step, ToMark, ToVersion, ToHeader, ToSource, ToHead, ToPrep, ToCell, ToEntry, ToPiece, Way, ByTime, ByRawAndPart, ByRowPrep, ByRows, ByRowCell, ByCount, ByNamed, ByNumber, ByOldRows, step_of}
 
-keeps_size : (limits : Limits) (step : ℕ) (now : Outline) (due : DueInEntry) (p : Piece) → Keeps limits step now due p → length (spell p) ≡ size_due due
+way_size : (l : Limits) (step : ℕ) (now : Outline) {due : DueInEntry} {p : Piece} → Way l step now due p → length (spell p) ≡ size_due due
 unfolding spell
-keeps_size l s n TimeDue Mark k = absurd k
-keeps_size l s n TimeDue (OfVersion x) k = absurd k
-keeps_size l s n TimeDue (OfHeader x) k = absurd k
-keeps_size l s n TimeDue (OfSource x) k = absurd k
-keeps_size l s n TimeDue (OfArchive x) k = absurd k
-keeps_size l s n TimeDue (OfPrep x) k = absurd k
-keeps_size l s n TimeDue (OfCell x) k = absurd k
-keeps_size l s n TimeDue (OfTag x) k = absurd k
-keeps_size l s n TimeDue (OfTime x) k = refl
-keeps_size l s n TimeDue (OfRawAndPart x0 x1) k = absurd k
-keeps_size l s n TimeDue (OfRows x) k = absurd k
-keeps_size l s n TimeDue (OfCount x) k = absurd k
-keeps_size l s n TimeDue (OfSourceBefore x) k = absurd k
-keeps_size l s n TimeDue (OfNumber x) k = absurd k
-keeps_size l s n (BeforeDue u v) Mark k = absurd k
-keeps_size l s n (BeforeDue u v) (OfVersion x) k = absurd k
-keeps_size l s n (BeforeDue u v) (OfHeader x) k = absurd k
-keeps_size l s n (BeforeDue u v) (OfSource x) k = absurd k
-keeps_size l s n (BeforeDue u v) (OfArchive x) k = absurd k
-keeps_size l s n (BeforeDue u v) (OfPrep x) k = absurd k
-keeps_size l s n (BeforeDue u v) (OfCell x) k = absurd k
-keeps_size l s n (BeforeDue u v) (OfTag x) k = absurd k
-keeps_size l s n (BeforeDue u v) (OfTime x) k = absurd k
-keeps_size l s n (BeforeDue u v) (OfRawAndPart x0 x1) k = omega (arith, length-append (raw_bytes x0) (part_bytes x1), signed_length (raw_number x0), part_length x1)
-keeps_size l s n (BeforeDue u v) (OfRows x) k = absurd k
-keeps_size l s n (BeforeDue u v) (OfCount x) k = absurd k
-keeps_size l s n (BeforeDue u v) (OfSourceBefore x) k = absurd k
-keeps_size l s n (BeforeDue u v) (OfNumber x) k = absurd k
-keeps_size l s n (RowPrepDue u v) Mark k = absurd k
-keeps_size l s n (RowPrepDue u v) (OfVersion x) k = absurd k
-keeps_size l s n (RowPrepDue u v) (OfHeader x) k = absurd k
-keeps_size l s n (RowPrepDue u v) (OfSource x) k = absurd k
-keeps_size l s n (RowPrepDue u v) (OfArchive x) k = absurd k
-keeps_size l s n (RowPrepDue u v) (OfPrep x) k = part_length x
-keeps_size l s n (RowPrepDue u v) (OfCell x) k = absurd k
-keeps_size l s n (RowPrepDue u v) (OfTag x) k = absurd k
-keeps_size l s n (RowPrepDue u v) (OfTime x) k = absurd k
-keeps_size l s n (RowPrepDue u v) (OfRawAndPart x0 x1) k = absurd k
-keeps_size l s n (RowPrepDue u v) (OfRows x) k = absurd k
-keeps_size l s n (RowPrepDue u v) (OfCount x) k = absurd k
-keeps_size l s n (RowPrepDue u v) (OfSourceBefore x) k = absurd k
-keeps_size l s n (RowPrepDue u v) (OfNumber x) k = absurd k
-keeps_size l s n (RowsDue u) Mark k = absurd k
-keeps_size l s n (RowsDue u) (OfVersion x) k = absurd k
-keeps_size l s n (RowsDue u) (OfHeader x) k = absurd k
-keeps_size l s n (RowsDue u) (OfSource x) k = absurd k
-keeps_size l s n (RowsDue u) (OfArchive x) k = absurd k
-keeps_size l s n (RowsDue u) (OfPrep x) k = absurd k
-keeps_size l s n (RowsDue u) (OfCell x) k = absurd k
-keeps_size l s n (RowsDue u) (OfTag x) k = absurd k
-keeps_size l s n (RowsDue u) (OfTime x) k = absurd k
-keeps_size l s n (RowsDue u) (OfRawAndPart x0 x1) k = absurd k
-keeps_size l s n (RowsDue u) (OfRows x) k = refl
-keeps_size l s n (RowsDue u) (OfCount x) k = absurd k
-keeps_size l s n (RowsDue u) (OfSourceBefore x) k = absurd k
-keeps_size l s n (RowsDue u) (OfNumber x) k = absurd k
-keeps_size l s n RowCellDue Mark k = absurd k
-keeps_size l s n RowCellDue (OfVersion x) k = absurd k
-keeps_size l s n RowCellDue (OfHeader x) k = absurd k
-keeps_size l s n RowCellDue (OfSource x) k = absurd k
-keeps_size l s n RowCellDue (OfArchive x) k = absurd k
-keeps_size l s n RowCellDue (OfPrep x) k = absurd k
-keeps_size l s n RowCellDue (OfCell x) k = signed_length (cell_number x)
-keeps_size l s n RowCellDue (OfTag x) k = absurd k
-keeps_size l s n RowCellDue (OfTime x) k = absurd k
-keeps_size l s n RowCellDue (OfRawAndPart x0 x1) k = absurd k
-keeps_size l s n RowCellDue (OfRows x) k = absurd k
-keeps_size l s n RowCellDue (OfCount x) k = absurd k
-keeps_size l s n RowCellDue (OfSourceBefore x) k = absurd k
-keeps_size l s n RowCellDue (OfNumber x) k = absurd k
-keeps_size l s n CountDue Mark k = absurd k
-keeps_size l s n CountDue (OfVersion x) k = absurd k
-keeps_size l s n CountDue (OfHeader x) k = absurd k
-keeps_size l s n CountDue (OfSource x) k = absurd k
-keeps_size l s n CountDue (OfArchive x) k = absurd k
-keeps_size l s n CountDue (OfPrep x) k = absurd k
-keeps_size l s n CountDue (OfCell x) k = absurd k
-keeps_size l s n CountDue (OfTag x) k = absurd k
-keeps_size l s n CountDue (OfTime x) k = absurd k
-keeps_size l s n CountDue (OfRawAndPart x0 x1) k = absurd k
-keeps_size l s n CountDue (OfRows x) k = absurd k
-keeps_size l s n CountDue (OfCount x) k = refl
-keeps_size l s n CountDue (OfSourceBefore x) k = absurd k
-keeps_size l s n CountDue (OfNumber x) k = absurd k
-keeps_size l s n (NamedDue u v) Mark k = absurd k
-keeps_size l s n (NamedDue u v) (OfVersion x) k = absurd k
-keeps_size l s n (NamedDue u v) (OfHeader x) k = absurd k
-keeps_size l s n (NamedDue u v) (OfSource x) k = absurd k
-keeps_size l s n (NamedDue u v) (OfArchive x) k = absurd k
-keeps_size l s n (NamedDue u v) (OfPrep x) k = absurd k
-keeps_size l s n (NamedDue u v) (OfCell x) k = absurd k
-keeps_size l s n (NamedDue u v) (OfTag x) k = absurd k
-keeps_size l s n (NamedDue u v) (OfTime x) k = absurd k
-keeps_size l s n (NamedDue u v) (OfRawAndPart x0 x1) k = absurd k
-keeps_size l s n (NamedDue u v) (OfRows x) k = absurd k
-keeps_size l s n (NamedDue u v) (OfCount x) k = absurd k
-keeps_size l s n (NamedDue u v) (OfSourceBefore x) k = omega (arith, length-append (source_bytes x.source) (raw_bytes x.raw), signed_length (raw_number x.raw), source_length x.source (short_name x.source.name k.2.0.good_name))
-keeps_size l s n (NamedDue u v) (OfNumber x) k = absurd k
-keeps_size l s n NumberDue Mark k = absurd k
-keeps_size l s n NumberDue (OfVersion x) k = absurd k
-keeps_size l s n NumberDue (OfHeader x) k = absurd k
-keeps_size l s n NumberDue (OfSource x) k = absurd k
-keeps_size l s n NumberDue (OfArchive x) k = absurd k
-keeps_size l s n NumberDue (OfPrep x) k = absurd k
-keeps_size l s n NumberDue (OfCell x) k = absurd k
-keeps_size l s n NumberDue (OfTag x) k = absurd k
-keeps_size l s n NumberDue (OfTime x) k = absurd k
-keeps_size l s n NumberDue (OfRawAndPart x0 x1) k = absurd k
-keeps_size l s n NumberDue (OfRows x) k = absurd k
-keeps_size l s n NumberDue (OfCount x) k = absurd k
-keeps_size l s n NumberDue (OfSourceBefore x) k = absurd k
-keeps_size l s n NumberDue (OfNumber x) k = refl
-keeps_size l s n (OldRowsDue u) Mark k = absurd k
-keeps_size l s n (OldRowsDue u) (OfVersion x) k = absurd k
-keeps_size l s n (OldRowsDue u) (OfHeader x) k = absurd k
-keeps_size l s n (OldRowsDue u) (OfSource x) k = absurd k
-keeps_size l s n (OldRowsDue u) (OfArchive x) k = absurd k
-keeps_size l s n (OldRowsDue u) (OfPrep x) k = absurd k
-keeps_size l s n (OldRowsDue u) (OfCell x) k = absurd k
-keeps_size l s n (OldRowsDue u) (OfTag x) k = absurd k
-keeps_size l s n (OldRowsDue u) (OfTime x) k = absurd k
-keeps_size l s n (OldRowsDue u) (OfRawAndPart x0 x1) k = absurd k
-keeps_size l s n (OldRowsDue u) (OfRows x) k = refl
-keeps_size l s n (OldRowsDue u) (OfCount x) k = absurd k
-keeps_size l s n (OldRowsDue u) (OfSourceBefore x) k = absurd k
-keeps_size l s n (OldRowsDue u) (OfNumber x) k = absurd k
+way_size l step now (ByTime last h) = refl
+way_size l step now (ByRawAndPart last def raw part h k) = omega (arith, length-append (raw_bytes raw) (part_bytes part), signed_length (raw_number raw), part_length part)
+way_size l step now (ByRowPrep last def part h) = part_length part
+way_size l step now (ByRows rows count h) = refl
+way_size l step now (ByRowCell cell h) = signed_length (cell_number cell)
+way_size l step now (ByCount count h k) = refl
+way_size l step now (ByNamed lowest more old h k is) = omega (arith, length-append (source_bytes old.source) (raw_bytes old.raw), signed_length (raw_number old.raw), source_length old.source (short_name old.source.name is.0.good_name))
+way_size l step now (ByNumber archive h) = refl
+way_size l step now (ByOldRows archive rows h) = refl
+
+step_size : {s : Stage} {p : Piece} {n : Stage} → Step s p n → length (spell p) ≡ size s
+unfolding spell size
+step_size ToMark = refl
+step_size (ToVersion version) = refl
+step_size (ToHeader version h same is) = header_length h.version h ∙ ap header_size same
+step_size (ToSource f s may) = omega (arith, length_source s.def (raw_bytes s.raw) (part_bytes s.part) (short_name s.def.name may.source_is.good_name), signed_length (raw_number s.raw), part_length s.part) ∙ sym (ap body_size may.is_due)
+step_size (ToHead f def may) = sym (ap body_size may.is_due)
+step_size (ToPrep f part may) = part_length part ∙ sym (ap body_size may.is_due)
+step_size (ToCell f cell may) = signed_length (cell_number cell) ∙ sym (ap body_size may.is_due)
+step_size (ToEntry f tag next is_due goes) = sym (ap body_size is_due)
+step_size (ToPiece f pieces due later p next w goes) = way_size _ _ _ w
 
 pub sizes : (s : Stage) (p : Piece) (n : Stage) → Takes s p n → length (spell p) ≡ size s
-unfolding Takes spell size
-sizes Start Mark n t = refl
-sizes Start (OfVersion x) n t = absurd t
-sizes Start (OfHeader x) n t = absurd t
-sizes Start (OfSource x) n t = absurd t
-sizes Start (OfArchive x) n t = absurd t
-sizes Start (OfPrep x) n t = absurd t
-sizes Start (OfCell x) n t = absurd t
-sizes Start (OfTag x) n t = absurd t
-sizes Start (OfTime x) n t = absurd t
-sizes Start (OfRawAndPart x0 x1) n t = absurd t
-sizes Start (OfRows x) n t = absurd t
-sizes Start (OfCount x) n t = absurd t
-sizes Start (OfSourceBefore x) n t = absurd t
-sizes Start (OfNumber x) n t = absurd t
-sizes Marked Mark n t = absurd t
-sizes Marked (OfVersion x) n t = refl
-sizes Marked (OfHeader x) n t = absurd t
-sizes Marked (OfSource x) n t = absurd t
-sizes Marked (OfArchive x) n t = absurd t
-sizes Marked (OfPrep x) n t = absurd t
-sizes Marked (OfCell x) n t = absurd t
-sizes Marked (OfTag x) n t = absurd t
-sizes Marked (OfTime x) n t = absurd t
-sizes Marked (OfRawAndPart x0 x1) n t = absurd t
-sizes Marked (OfRows x) n t = absurd t
-sizes Marked (OfCount x) n t = absurd t
-sizes Marked (OfSourceBefore x) n t = absurd t
-sizes Marked (OfNumber x) n t = absurd t
-sizes (Versioned v) Mark n t = absurd t
-sizes (Versioned v) (OfVersion x) n t = absurd t
-sizes (Versioned v) (OfHeader x) n t = header_length x.version x ∙ ap header_size t.0
-sizes (Versioned v) (OfSource x) n t = absurd t
-sizes (Versioned v) (OfArchive x) n t = absurd t
-sizes (Versioned v) (OfPrep x) n t = absurd t
-sizes (Versioned v) (OfCell x) n t = absurd t
-sizes (Versioned v) (OfTag x) n t = absurd t
-sizes (Versioned v) (OfTime x) n t = absurd t
-sizes (Versioned v) (OfRawAndPart x0 x1) n t = absurd t
-sizes (Versioned v) (OfRows x) n t = absurd t
-sizes (Versioned v) (OfCount x) n t = absurd t
-sizes (Versioned v) (OfSourceBefore x) n t = absurd t
-sizes (Versioned v) (OfNumber x) n t = absurd t
-sizes (Body f) Mark n t = absurd t
-sizes (Body f) (OfVersion x) n t = absurd t
-sizes (Body f) (OfHeader x) n t = absurd t
-sizes (Body f) (OfSource x) n t = omega (arith, length_source x.def (raw_bytes x.raw) (part_bytes x.part) (short_name x.def.name t.0.source_is.good_name), signed_length (raw_number x.raw), part_length x.part) ∙ sym (ap body_size t.0.is_due)
-sizes (Body f) (OfArchive x) n t = sym (ap body_size t.0.is_due)
-sizes (Body f) (OfPrep x) n t = part_length x ∙ sym (ap body_size t.0.is_due)
-sizes (Body f) (OfCell x) n t = signed_length (cell_number x) ∙ sym (ap body_size t.0.is_due)
-sizes (Body f) (OfTag x) n t = sym (ap body_size t.0)
-sizes (Body f) (OfTime x) n t = absurd t
-sizes (Body f) (OfRawAndPart x0 x1) n t = absurd t
-sizes (Body f) (OfRows x) n t = absurd t
-sizes (Body f) (OfCount x) n t = absurd t
-sizes (Body f) (OfSourceBefore x) n t = absurd t
-sizes (Body f) (OfNumber x) n t = absurd t
-sizes (Within f ps []) Mark n t = absurd t
-sizes (Within f ps []) (OfVersion x) n t = absurd t
-sizes (Within f ps []) (OfHeader x) n t = absurd t
-sizes (Within f ps []) (OfSource x) n t = absurd t
-sizes (Within f ps []) (OfArchive x) n t = absurd t
-sizes (Within f ps []) (OfPrep x) n t = absurd t
-sizes (Within f ps []) (OfCell x) n t = absurd t
-sizes (Within f ps []) (OfTag x) n t = absurd t
-sizes (Within f ps []) (OfTime x) n t = absurd t
-sizes (Within f ps []) (OfRawAndPart x0 x1) n t = absurd t
-sizes (Within f ps []) (OfRows x) n t = absurd t
-sizes (Within f ps []) (OfCount x) n t = absurd t
-sizes (Within f ps []) (OfSourceBefore x) n t = absurd t
-sizes (Within f ps []) (OfNumber x) n t = absurd t
-sizes (Within f ps (due ∷ later)) p n t = keeps_size _ f.header.step (outline_left f) due p t.0
+sizes s p n t = step_size (step_of s p n t)

@@ -14,11 +14,12 @@ use Rattle.rrd_spec.specs.Limits.{Limits}
 use Rattle.rrd_spec.specs.Entries.{Entry, UpdateEntry, TuneEntry, ResizeEntry}
 use Rattle.rrd_spec.specs.Filed.{Filed, Head, Source, Version, One}
 use Rattle.rrd_spec.specs.Lists.{All-append, All-replicate}
-use Rattle.rrd_spec.specs.Rebuilding.{IsHeader, MayEntry, due, heads_with_part, limits_of, outline_left}
+use Rattle.rrd_spec.specs.Rebuilding.{IsHeader, MayEntry, due, heads_with_part, limits, limits_of, outline_left}
 use Rattle.rrd_spec.specs.Outlines.{outline_undone, with_row_number, with_sources}
 use Rattle.rrd_file.specs.Pieces.{Piece, Mark, OfVersion, OfHeader, OfSource, OfArchive, OfPrep, OfCell, Tag, OfTag, AnUpdate, ATune, AResize, OfTime, OfRawAndPart, OfRows, OfCount, OfSourceBefore, OfNumber}
 use Rattle.rrd_file.specs.Stages.{Stage, Start, Marked, Versioned, Body, Within, DueInEntry, TimeDue, BeforeDue, RowPrepDue, RowsDue, RowCellDue, CountDue, NamedDue, NumberDue, OldRowsDue, GoesOn, Runs, Takes, archive_due, behind, first_due, named_due}
 use Rattle.rrd_file.proofs.Order.{source_before, before_head}
+use Rattle.rrd_file.proofs.Ways.{Step, ToMark, ToVersion, ToHeader, ToSource, ToHead, ToPrep, ToCell, ToEntry, ToPiece, Way, ByTime, ByRawAndPart, ByRowPrep, ByRows, ByRowCell, ByCount, ByNamed, ByNumber, ByOldRows, step_of}
 
 -- limits that no version exceeds
 pub record AreSmall (l : Limits) : Type 0 where
@@ -180,209 +181,46 @@ head_steps : (heads : List Head) (head : Head) → AllByRecursion HasSomeSteps (
 head_steps [] head h k = (k, tt)
 head_steps (x ∷ heads) head h k = (h.0, head_steps heads head h.1 k)
 
-behind_sound : (step : ℕ) (now : Outline) (due : DueInEntry) (p : Piece) → AreSound now → AllByRecursion IsSoundDue (behind step now due p)
-behind_sound step now TimeDue Mark h = tt
-behind_sound step now TimeDue (OfVersion x) h = tt
-behind_sound step now TimeDue (OfHeader x) h = tt
-behind_sound step now TimeDue (OfSource x) h = tt
-behind_sound step now TimeDue (OfArchive x) h = tt
-behind_sound step now TimeDue (OfPrep x) h = tt
-behind_sound step now TimeDue (OfCell x) h = tt
-behind_sound step now TimeDue (OfTag x) h = tt
-behind_sound step now TimeDue (OfTime x) h = All-append IsSoundDue (map (BeforeDue x) now.sources) (flat_map (archive_due step now x) now.archives) (sources_sound x now.sources) (archives_sound step now x now.archives h.steps)
-behind_sound step now TimeDue (OfRawAndPart x0 x1) h = tt
-behind_sound step now TimeDue (OfRows x) h = tt
-behind_sound step now TimeDue (OfCount x) h = tt
-behind_sound step now TimeDue (OfSourceBefore x) h = tt
-behind_sound step now TimeDue (OfNumber x) h = tt
-behind_sound step now (BeforeDue u v) Mark h = tt
-behind_sound step now (BeforeDue u v) (OfVersion x) h = tt
-behind_sound step now (BeforeDue u v) (OfHeader x) h = tt
-behind_sound step now (BeforeDue u v) (OfSource x) h = tt
-behind_sound step now (BeforeDue u v) (OfArchive x) h = tt
-behind_sound step now (BeforeDue u v) (OfPrep x) h = tt
-behind_sound step now (BeforeDue u v) (OfCell x) h = tt
-behind_sound step now (BeforeDue u v) (OfTag x) h = tt
-behind_sound step now (BeforeDue u v) (OfTime x) h = tt
-behind_sound step now (BeforeDue u v) (OfRawAndPart x0 x1) h = tt
-behind_sound step now (BeforeDue u v) (OfRows x) h = tt
-behind_sound step now (BeforeDue u v) (OfCount x) h = tt
-behind_sound step now (BeforeDue u v) (OfSourceBefore x) h = tt
-behind_sound step now (BeforeDue u v) (OfNumber x) h = tt
-behind_sound step now (RowPrepDue u v) Mark h = tt
-behind_sound step now (RowPrepDue u v) (OfVersion x) h = tt
-behind_sound step now (RowPrepDue u v) (OfHeader x) h = tt
-behind_sound step now (RowPrepDue u v) (OfSource x) h = tt
-behind_sound step now (RowPrepDue u v) (OfArchive x) h = tt
-behind_sound step now (RowPrepDue u v) (OfPrep x) h = tt
-behind_sound step now (RowPrepDue u v) (OfCell x) h = tt
-behind_sound step now (RowPrepDue u v) (OfTag x) h = tt
-behind_sound step now (RowPrepDue u v) (OfTime x) h = tt
-behind_sound step now (RowPrepDue u v) (OfRawAndPart x0 x1) h = tt
-behind_sound step now (RowPrepDue u v) (OfRows x) h = tt
-behind_sound step now (RowPrepDue u v) (OfCount x) h = tt
-behind_sound step now (RowPrepDue u v) (OfSourceBefore x) h = tt
-behind_sound step now (RowPrepDue u v) (OfNumber x) h = tt
-behind_sound step now (RowsDue u) Mark h = tt
-behind_sound step now (RowsDue u) (OfVersion x) h = tt
-behind_sound step now (RowsDue u) (OfHeader x) h = tt
-behind_sound step now (RowsDue u) (OfSource x) h = tt
-behind_sound step now (RowsDue u) (OfArchive x) h = tt
-behind_sound step now (RowsDue u) (OfPrep x) h = tt
-behind_sound step now (RowsDue u) (OfCell x) h = tt
-behind_sound step now (RowsDue u) (OfTag x) h = tt
-behind_sound step now (RowsDue u) (OfTime x) h = tt
-behind_sound step now (RowsDue u) (OfRawAndPart x0 x1) h = tt
-behind_sound step now (RowsDue u) (OfRows x) h = tt
-behind_sound step now (RowsDue u) (OfCount x) h = tt
-behind_sound step now (RowsDue u) (OfSourceBefore x) h = tt
-behind_sound step now (RowsDue u) (OfNumber x) h = tt
-behind_sound step now RowCellDue Mark h = tt
-behind_sound step now RowCellDue (OfVersion x) h = tt
-behind_sound step now RowCellDue (OfHeader x) h = tt
-behind_sound step now RowCellDue (OfSource x) h = tt
-behind_sound step now RowCellDue (OfArchive x) h = tt
-behind_sound step now RowCellDue (OfPrep x) h = tt
-behind_sound step now RowCellDue (OfCell x) h = tt
-behind_sound step now RowCellDue (OfTag x) h = tt
-behind_sound step now RowCellDue (OfTime x) h = tt
-behind_sound step now RowCellDue (OfRawAndPart x0 x1) h = tt
-behind_sound step now RowCellDue (OfRows x) h = tt
-behind_sound step now RowCellDue (OfCount x) h = tt
-behind_sound step now RowCellDue (OfSourceBefore x) h = tt
-behind_sound step now RowCellDue (OfNumber x) h = tt
-behind_sound step now CountDue Mark h = tt
-behind_sound step now CountDue (OfVersion x) h = tt
-behind_sound step now CountDue (OfHeader x) h = tt
-behind_sound step now CountDue (OfSource x) h = tt
-behind_sound step now CountDue (OfArchive x) h = tt
-behind_sound step now CountDue (OfPrep x) h = tt
-behind_sound step now CountDue (OfCell x) h = tt
-behind_sound step now CountDue (OfTag x) h = tt
-behind_sound step now CountDue (OfTime x) h = tt
-behind_sound step now CountDue (OfRawAndPart x0 x1) h = tt
-behind_sound step now CountDue (OfRows x) h = tt
-behind_sound step now CountDue (OfCount x) h = named_sound 0 x
-behind_sound step now CountDue (OfSourceBefore x) h = tt
-behind_sound step now CountDue (OfNumber x) h = tt
-behind_sound step now (NamedDue u v) Mark h = tt
-behind_sound step now (NamedDue u v) (OfVersion x) h = tt
-behind_sound step now (NamedDue u v) (OfHeader x) h = tt
-behind_sound step now (NamedDue u v) (OfSource x) h = tt
-behind_sound step now (NamedDue u v) (OfArchive x) h = tt
-behind_sound step now (NamedDue u v) (OfPrep x) h = tt
-behind_sound step now (NamedDue u v) (OfCell x) h = tt
-behind_sound step now (NamedDue u v) (OfTag x) h = tt
-behind_sound step now (NamedDue u v) (OfTime x) h = tt
-behind_sound step now (NamedDue u v) (OfRawAndPart x0 x1) h = tt
-behind_sound step now (NamedDue u v) (OfRows x) h = tt
-behind_sound step now (NamedDue u v) (OfCount x) h = tt
-behind_sound step now (NamedDue u v) (OfSourceBefore x) h = named_sound (x.number + 1) v
-behind_sound step now (NamedDue u v) (OfNumber x) h = tt
-behind_sound step now NumberDue Mark h = tt
-behind_sound step now NumberDue (OfVersion x) h = tt
-behind_sound step now NumberDue (OfHeader x) h = tt
-behind_sound step now NumberDue (OfSource x) h = tt
-behind_sound step now NumberDue (OfArchive x) h = tt
-behind_sound step now NumberDue (OfPrep x) h = tt
-behind_sound step now NumberDue (OfCell x) h = tt
-behind_sound step now NumberDue (OfTag x) h = tt
-behind_sound step now NumberDue (OfTime x) h = tt
-behind_sound step now NumberDue (OfRawAndPart x0 x1) h = tt
-behind_sound step now NumberDue (OfRows x) h = tt
-behind_sound step now NumberDue (OfCount x) h = tt
-behind_sound step now NumberDue (OfSourceBefore x) h = tt
-behind_sound step now NumberDue (OfNumber x) h = (tt, tt)
-behind_sound step now (OldRowsDue u) Mark h = tt
-behind_sound step now (OldRowsDue u) (OfVersion x) h = tt
-behind_sound step now (OldRowsDue u) (OfHeader x) h = tt
-behind_sound step now (OldRowsDue u) (OfSource x) h = tt
-behind_sound step now (OldRowsDue u) (OfArchive x) h = tt
-behind_sound step now (OldRowsDue u) (OfPrep x) h = tt
-behind_sound step now (OldRowsDue u) (OfCell x) h = tt
-behind_sound step now (OldRowsDue u) (OfTag x) h = tt
-behind_sound step now (OldRowsDue u) (OfTime x) h = tt
-behind_sound step now (OldRowsDue u) (OfRawAndPart x0 x1) h = tt
-behind_sound step now (OldRowsDue u) (OfRows x) h = cells_sound _
-behind_sound step now (OldRowsDue u) (OfCount x) h = tt
-behind_sound step now (OldRowsDue u) (OfSourceBefore x) h = tt
-behind_sound step now (OldRowsDue u) (OfNumber x) h = tt
+behind_sound : (l : Limits) (step : ℕ) (now : Outline) {due : DueInEntry} {p : Piece} → AreSound now → Way l step now due p → AllByRecursion IsSoundDue (behind step now due p)
+behind_sound l step now h (ByTime last is) = All-append IsSoundDue (map (BeforeDue last) now.sources) (flat_map (archive_due step now last) now.archives) (sources_sound last now.sources) (archives_sound step now last now.archives h.steps)
+behind_sound l step now h (ByRawAndPart last def raw part is has) = tt
+behind_sound l step now h (ByRowPrep last def part is) = tt
+behind_sound l step now h (ByRows rows count is) = tt
+behind_sound l step now h (ByRowCell cell is) = tt
+behind_sound l step now h (ByCount count some few) = named_sound 0 count
+behind_sound l step now h (ByNamed lowest more old from to is) = named_sound (old.number + 1) more
+behind_sound l step now h (ByNumber archive is) = (tt, tt)
+behind_sound l step now h (ByOldRows archive rows is) = cells_sound _
 
 -- what a piece leads to
+step_sound : {s : Stage} {p : Piece} {n : Stage} → IsSoundStage s → Step s p n → IsSoundStage n
+step_sound h ToMark = tt
+step_sound h (ToVersion version) = tt
+step_sound h (ToHeader version header same is) = record { header = is; sources = omega arith; heads = omega arith; steps = tt; entries = tt }
+step_sound h (ToSource f s may) =
+    let more = source_before f may.is_due in
+    record { header = h.header; sources = omega (arith, more, length-append f.sources (s ∷ [])); heads = h.heads; steps = h.steps; entries = h.entries }
+step_sound h (ToHead f def may) =
+    let before = before_head f may.is_due in
+    let head : Head = record { def = def; parts = [] } in
+    let small = small_limits f.header.version in
+    record {
+      header = h.header;
+      sources = h.sources;
+      heads = omega (arith, before.more, length-append f.heads (head ∷ []));
+      steps = head_steps f.heads head h.steps (record { some = may.def_is.some_steps; few = omega (arith, may.def_is.few_steps, small.steps) });
+      entries = h.entries;
+    }
+step_sound h (ToPrep f part may) = record { header = h.header; sources = h.sources; heads = omega (arith, h.heads, part_length f.heads part); steps = subst (AllByRecursion HasSomeSteps) (sym (part_same f.heads part)) h.steps; entries = h.entries }
+step_sound h (ToCell f cell may) = record { header = h.header; sources = h.sources; heads = h.heads; steps = h.steps; entries = h.entries }
+step_sound h (ToEntry f tag next is_due goes) = goes_sound f (OfTag tag ∷ []) (first_due tag) next h (first_sound tag) goes
+step_sound h (ToPiece f pieces due later p next w goes) =
+    let now = outline_left f in
+    goes_sound f (pieces ++ p ∷ []) (behind f.header.step now due p ++ later) next h.0
+    (All-append IsSoundDue (behind f.header.step now due p) later (behind_sound (limits f) f.header.step now (now_sound f h.0) w) h.1.1) goes
+
 pub takes_sound : (s : Stage) (p : Piece) (n : Stage) → IsSoundStage s → Takes s p n → IsSoundStage n
-unfolding Takes
-takes_sound Start Mark n h t = subst IsSoundStage (sym t) tt
-takes_sound Start (OfVersion x) n h t = absurd t
-takes_sound Start (OfHeader x) n h t = absurd t
-takes_sound Start (OfSource x) n h t = absurd t
-takes_sound Start (OfArchive x) n h t = absurd t
-takes_sound Start (OfPrep x) n h t = absurd t
-takes_sound Start (OfCell x) n h t = absurd t
-takes_sound Start (OfTag x) n h t = absurd t
-takes_sound Start (OfTime x) n h t = absurd t
-takes_sound Start (OfRawAndPart x0 x1) n h t = absurd t
-takes_sound Start (OfRows x) n h t = absurd t
-takes_sound Start (OfCount x) n h t = absurd t
-takes_sound Start (OfSourceBefore x) n h t = absurd t
-takes_sound Start (OfNumber x) n h t = absurd t
-takes_sound Marked Mark n h t = absurd t
-takes_sound Marked (OfVersion x) n h t = subst IsSoundStage (sym t) tt
-takes_sound Marked (OfHeader x) n h t = absurd t
-takes_sound Marked (OfSource x) n h t = absurd t
-takes_sound Marked (OfArchive x) n h t = absurd t
-takes_sound Marked (OfPrep x) n h t = absurd t
-takes_sound Marked (OfCell x) n h t = absurd t
-takes_sound Marked (OfTag x) n h t = absurd t
-takes_sound Marked (OfTime x) n h t = absurd t
-takes_sound Marked (OfRawAndPart x0 x1) n h t = absurd t
-takes_sound Marked (OfRows x) n h t = absurd t
-takes_sound Marked (OfCount x) n h t = absurd t
-takes_sound Marked (OfSourceBefore x) n h t = absurd t
-takes_sound Marked (OfNumber x) n h t = absurd t
-takes_sound (Versioned v) Mark n h t = absurd t
-takes_sound (Versioned v) (OfVersion x) n h t = absurd t
-takes_sound (Versioned v) (OfHeader x) n h t = subst IsSoundStage (sym t.2) (record { header = t.1; sources = omega arith; heads = omega arith; steps = tt; entries = tt })
-takes_sound (Versioned v) (OfSource x) n h t = absurd t
-takes_sound (Versioned v) (OfArchive x) n h t = absurd t
-takes_sound (Versioned v) (OfPrep x) n h t = absurd t
-takes_sound (Versioned v) (OfCell x) n h t = absurd t
-takes_sound (Versioned v) (OfTag x) n h t = absurd t
-takes_sound (Versioned v) (OfTime x) n h t = absurd t
-takes_sound (Versioned v) (OfRawAndPart x0 x1) n h t = absurd t
-takes_sound (Versioned v) (OfRows x) n h t = absurd t
-takes_sound (Versioned v) (OfCount x) n h t = absurd t
-takes_sound (Versioned v) (OfSourceBefore x) n h t = absurd t
-takes_sound (Versioned v) (OfNumber x) n h t = absurd t
-takes_sound (Body f) Mark n h t = absurd t
-takes_sound (Body f) (OfVersion x) n h t = absurd t
-takes_sound (Body f) (OfHeader x) n h t = absurd t
-takes_sound (Body f) (OfSource x) n h t = let more = source_before f t.0.is_due in subst IsSoundStage (sym t.1) (record { header = h.header; sources = omega (arith, more, length-append f.sources (x ∷ [])); heads = h.heads; steps = h.steps; entries = h.entries })
-takes_sound (Body f) (OfArchive x) n h t = let before = before_head f t.0.is_due in subst IsSoundStage (sym t.1) (record { header = h.header; sources = h.sources; heads = omega (arith, before.more, length-append f.heads (record { def = x; parts = [] } ∷ [])); steps = head_steps f.heads (record { def = x; parts = [] }) h.steps (record { some = t.0.def_is.some_steps; few = omega (arith, t.0.def_is.few_steps, (small_limits f.header.version).steps) }); entries = h.entries })
-takes_sound (Body f) (OfPrep x) n h t = subst IsSoundStage (sym t.1) (record { header = h.header; sources = h.sources; heads = omega (arith, h.heads, part_length f.heads x); steps = subst (AllByRecursion HasSomeSteps) (sym (part_same f.heads x)) h.steps; entries = h.entries })
-takes_sound (Body f) (OfCell x) n h t = subst IsSoundStage (sym t.1) (record { header = h.header; sources = h.sources; heads = h.heads; steps = h.steps; entries = h.entries })
-takes_sound (Body f) (OfTag x) n h t = goes_sound f (OfTag x ∷ []) (first_due x) n h (first_sound x) t.1
-takes_sound (Body f) (OfTime x) n h t = absurd t
-takes_sound (Body f) (OfRawAndPart x0 x1) n h t = absurd t
-takes_sound (Body f) (OfRows x) n h t = absurd t
-takes_sound (Body f) (OfCount x) n h t = absurd t
-takes_sound (Body f) (OfSourceBefore x) n h t = absurd t
-takes_sound (Body f) (OfNumber x) n h t = absurd t
-takes_sound (Within f ps []) Mark n h t = absurd t
-takes_sound (Within f ps []) (OfVersion x) n h t = absurd t
-takes_sound (Within f ps []) (OfHeader x) n h t = absurd t
-takes_sound (Within f ps []) (OfSource x) n h t = absurd t
-takes_sound (Within f ps []) (OfArchive x) n h t = absurd t
-takes_sound (Within f ps []) (OfPrep x) n h t = absurd t
-takes_sound (Within f ps []) (OfCell x) n h t = absurd t
-takes_sound (Within f ps []) (OfTag x) n h t = absurd t
-takes_sound (Within f ps []) (OfTime x) n h t = absurd t
-takes_sound (Within f ps []) (OfRawAndPart x0 x1) n h t = absurd t
-takes_sound (Within f ps []) (OfRows x) n h t = absurd t
-takes_sound (Within f ps []) (OfCount x) n h t = absurd t
-takes_sound (Within f ps []) (OfSourceBefore x) n h t = absurd t
-takes_sound (Within f ps []) (OfNumber x) n h t = absurd t
-takes_sound (Within f ps (due ∷ later)) p n h t =
-    goes_sound f (ps ++ p ∷ []) (behind f.header.step (outline_left f) due p ++ later) n h.0 (All-append IsSoundDue (behind f.header.step (outline_left f) due p) later (behind_sound f.header.step (outline_left f) due p (now_sound f h.0)) h.1.1) t.1
+takes_sound s p n h t = step_sound h (step_of s p n t)
 
 runs_sound : (s : Stage) (pieces : List Piece) (n : Stage) → IsSoundStage s → Runs s pieces n → IsSoundStage n
 runs_sound s [] n h r = subst IsSoundStage r h

@@ -28,13 +28,15 @@ use Rattle.rrd_file.proofs.Lengths.{name_length, source_length}
 
 -- ---- lists
 
-pub append_same : (a b c d : List ℕ) → length a ≡ length c → a ++ b ≡ c ++ d → (a ≡ c) × (b ≡ d)
+pub append_same : {A : Type 0} (a b c d : List A) → length a ≡ length c → a ++ b ≡ c ++ d → (a ≡ c) × (b ≡ d)
 append_same [] b [] d l e = (refl, e)
 append_same [] b (y ∷ c) d l e = absurd (omega (arith, l))
 append_same (x ∷ a) b [] d l e = absurd (omega (arith, l))
 append_same (x ∷ a) b (y ∷ c) d l e =
-    let first : x ≡ y = ap (λ l. get_or l 0 0) e in
-    let rest = append_same a b c d (omega (arith, l)) (ap (drop 1) e) in
+    let whole : x ∷ (a ++ b) ≡ y ∷ (c ++ d) = e in
+    let first : x ≡ y = cc in
+    let later : a ++ b ≡ c ++ d = cc in
+    let rest = append_same a b c d (omega (arith, l)) later in
     (λ i. first i ∷ rest.0 i, rest.1)
 
 pub head_same : (x y : ℕ) (a b : List ℕ) → x ∷ a ≡ y ∷ b → (x ≡ y) × (a ≡ b)
