@@ -154,6 +154,20 @@ time: g\n\
     0,
 );
 
+// Twenty-one steps at 5 end five rows of four steps and leave one step of the next; three at 9 fill it,
+// and 5 + 9 + 9 + 9 is four times 8.
+const ROW_GOES_ON_AFTER_A_GAP: Case<'static> = (
+    "row_goes_on_after_a_gap",
+    "create --step 10 --start 0 DS:g:GAUGE:1000:U:U RRA:AVERAGE:0.5:4:2\n\
+update 210:5\n\
+update 240:9\n\
+fetch AVERAGE -s 160 -e 239\n",
+    "time: g\n\
+200: 5.000000\n\
+240: 8.000000\n",
+    0,
+);
+
 // Ten years in steps of one second, and back.
 const LONG_GAP: Case<'static> = (
     "long_gap",
@@ -467,6 +481,7 @@ fn what_is_printed(rt: HostRuntime) -> Result<(), Fail> {
         FOUR_FUNCTIONS,
         CATCH_UP_AND_TIES,
         CATCH_UP_OVER_ROWS,
+        ROW_GOES_ON_AFTER_A_GAP,
         LONG_GAP,
         TIES_BELOW_ZERO_IN_ROWS,
         UNKNOWN_SAMPLE_IN_A_STEP,

@@ -124,6 +124,19 @@ fn turns_of_ten_years(rt: HostRuntime) -> Result<(), Fail> {
     Ok(())
 }
 
+// Of a thousand rows in an archive of two, two cells are written: the turns are these and at most eleven
+// more, three for the source and eight for it in the archive.
+#[test]
+fn turns_of_rows_that_fall_out(rt: HostRuntime) -> Result<(), Fail> {
+    let alloc = rt.alloc();
+    let mut database = of_last_values(alloc, 16, 2)?;
+    let receipt = receipt_of(alloc, &mut database, &[(10_000, 3)])?;
+    assert_eq!(rt; receipt.cells, 2);
+    assert!(rt; receipt.turns >= 2, "{}", receipt.turns);
+    assert!(rt; receipt.turns <= 13, "{}", receipt.turns);
+    Ok(())
+}
+
 // ---- tunes
 
 // The only source has this name, type and last raw value.
