@@ -4,6 +4,7 @@ pub mod Told
 pub mod Entering
 pub mod CellsFiled
 pub mod SignedBytes
+pub mod Tests
 pub mod Lengths
 pub mod Spelled
 pub mod Sizes
@@ -13,3 +14,8 @@ pub mod OneSpelling
 pub mod Ways
 pub mod OneEntry
 pub mod Came
+pub mod OneEnd
+pub mod EntryRuns
+pub mod BodyRuns
+pub mod ValidRuns
+pub mod OneAnswer

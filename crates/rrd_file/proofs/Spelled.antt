@@ -1,6 +1,6 @@
 -- A value that its bytes can stand for has bytes that no other such value has.
-use Rattle.std.proofs.Common.{◌≡◌, ◌∙◌, ◌++◌, ◌∷◌, ◌-◌, ◌^◌, ◌<◌, ◌≤◌, ℕ, List, [], Bool, sym, ap, refl, get_or, drop, length, replicate, arith, length-append}
-use Rattle.std.specs.Prelude.{◌≤ℤ◌, ℤ, negsuc, pos, unsigned_abs, nat_lt, true, ◌&&◌, Option, Some, None}
+use Rattle.std.proofs.Common.{◌≡◌, ◌∙◌, ◌++◌, ◌∷◌, ◌-◌, ◌^◌, ◌<◌, ◌≤◌, ℕ, List, [], sym, ap, refl, get_or, drop, length, replicate, arith, length-append}
+use Rattle.std.specs.Prelude.{◌≤ℤ◌, ℤ, negsuc, pos, unsigned_abs, nat_lt, true, Option, Some, None}
 use Rattle.std.specs.List.{list_all}
 use Rattle.std.specs.Int.{w16, w32, w64, w128, from_be_bytes}
 use Rattle.std.proofs.lemmas.Bool.{leb-true}
@@ -25,6 +25,7 @@ use Rattle.rrd_file.specs.Spelling.{archive_bytes, bound_bytes, bound_number, ce
 use Rattle.rrd_file.specs.Values.{FitsArchive, FitsBound, FitsCell, FitsDef, FitsHeader, FitsSourceBefore, FitsNumber, FitsPart, FitsRaw, FitsSource}
 use Rattle.rrd_file.proofs.SignedBytes.{signed_length, signed_one}
 use Rattle.rrd_file.proofs.Lengths.{name_length, source_length}
+use Rattle.rrd_file.proofs.Tests.{and_left}
 
 -- ---- lists
 
@@ -94,10 +95,6 @@ part_one c d fc fd e =
     λ i. record { known = known i; value = value i }
 
 -- ---- settings
-
-and_left : (a b : Bool) → (a && b) ≡ true → a ≡ true
-and_left Bool.true b e = refl
-and_left Bool.false b e = e
 
 pub short_fit : (name : Name) → fits name ≡ true → length name ≤ 19
 short_fit name f = leb-true (length name) 19 (and_left _ (list_all (λ (c : ℕ). nat_lt c 128) name) f)

@@ -1,5 +1,5 @@
 -- The ways in which a file may go on: by stage and piece, and within an entry by what is due and piece.
-use Rattle.std.proofs.Common.{◌≡◌, ◌++◌, ◌∷◌, ◌+◌, ◌%◌, ◌<◌, ◌≤◌, ℕ, List, [], sym, subst, length}
+use Rattle.std.proofs.Common.{◌≡◌, ◌++◌, ◌∷◌, ◌%◌, ◌<◌, ◌≤◌, ℕ, List, [], sym, subst, length}
 use Rattle.rrd_fixed.specs.declared.cell.Cell.{Cell}
 use Rattle.rrd_fixed.specs.declared.raw.Raw.{Raw}
 use Rattle.rrd_fixed.specs.Rate.{IsAccepted, IsBounded}
