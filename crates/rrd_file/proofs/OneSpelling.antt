@@ -127,14 +127,9 @@ prep_fits f part h m = row_part_fits f.header.step f.header.last m.def part (def
 
 tag_one : (t u : Tag) → tag_byte t ≡ tag_byte u → t ≡ u
 tag_one AnUpdate AnUpdate e = refl
-tag_one AnUpdate ATune e = absurd (let bad : 1 ≡ 2 = e in omega (arith, bad))
-tag_one AnUpdate AResize e = absurd (let bad : 1 ≡ 3 = e in omega (arith, bad))
-tag_one ATune AnUpdate e = absurd (let bad : 2 ≡ 1 = e in omega (arith, bad))
 tag_one ATune ATune e = refl
-tag_one ATune AResize e = absurd (let bad : 2 ≡ 3 = e in omega (arith, bad))
-tag_one AResize AnUpdate e = absurd (let bad : 3 ≡ 1 = e in omega (arith, bad))
-tag_one AResize ATune e = absurd (let bad : 3 ≡ 2 = e in omega (arith, bad))
 tag_one AResize AResize e = refl
+tag_one t u e = absurd (omega (arith, e))
 
 -- ---- within an entry
 

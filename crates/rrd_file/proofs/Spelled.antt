@@ -106,39 +106,17 @@ name_one a b e =
 
 pub kind_one : (a b : Kind) → kind_byte a ≡ kind_byte b → a ≡ b
 kind_one Gauge Gauge e = refl
-kind_one Gauge Counter e = absurd (let bad : 0 ≡ 1 = e in omega (arith, bad))
-kind_one Gauge Derive e = absurd (let bad : 0 ≡ 2 = e in omega (arith, bad))
-kind_one Gauge Absolute e = absurd (let bad : 0 ≡ 3 = e in omega (arith, bad))
-kind_one Counter Gauge e = absurd (let bad : 1 ≡ 0 = e in omega (arith, bad))
 kind_one Counter Counter e = refl
-kind_one Counter Derive e = absurd (let bad : 1 ≡ 2 = e in omega (arith, bad))
-kind_one Counter Absolute e = absurd (let bad : 1 ≡ 3 = e in omega (arith, bad))
-kind_one Derive Gauge e = absurd (let bad : 2 ≡ 0 = e in omega (arith, bad))
-kind_one Derive Counter e = absurd (let bad : 2 ≡ 1 = e in omega (arith, bad))
 kind_one Derive Derive e = refl
-kind_one Derive Absolute e = absurd (let bad : 2 ≡ 3 = e in omega (arith, bad))
-kind_one Absolute Gauge e = absurd (let bad : 3 ≡ 0 = e in omega (arith, bad))
-kind_one Absolute Counter e = absurd (let bad : 3 ≡ 1 = e in omega (arith, bad))
-kind_one Absolute Derive e = absurd (let bad : 3 ≡ 2 = e in omega (arith, bad))
 kind_one Absolute Absolute e = refl
+kind_one a b e = absurd (omega (arith, e))
 
 pub function_one : (a b : Function) → function_byte a ≡ function_byte b → a ≡ b
 function_one Average Average e = refl
-function_one Average Min e = absurd (let bad : 0 ≡ 1 = e in omega (arith, bad))
-function_one Average Max e = absurd (let bad : 0 ≡ 2 = e in omega (arith, bad))
-function_one Average Last e = absurd (let bad : 0 ≡ 3 = e in omega (arith, bad))
-function_one Min Average e = absurd (let bad : 1 ≡ 0 = e in omega (arith, bad))
 function_one Min Min e = refl
-function_one Min Max e = absurd (let bad : 1 ≡ 2 = e in omega (arith, bad))
-function_one Min Last e = absurd (let bad : 1 ≡ 3 = e in omega (arith, bad))
-function_one Max Average e = absurd (let bad : 2 ≡ 0 = e in omega (arith, bad))
-function_one Max Min e = absurd (let bad : 2 ≡ 1 = e in omega (arith, bad))
 function_one Max Max e = refl
-function_one Max Last e = absurd (let bad : 2 ≡ 3 = e in omega (arith, bad))
-function_one Last Average e = absurd (let bad : 3 ≡ 0 = e in omega (arith, bad))
-function_one Last Min e = absurd (let bad : 3 ≡ 1 = e in omega (arith, bad))
-function_one Last Max e = absurd (let bad : 3 ≡ 2 = e in omega (arith, bad))
 function_one Last Last e = refl
+function_one a b e = absurd (omega (arith, e))
 
 pub def_one : (a b : DsDef) → FitsDef a → FitsDef b → source_bytes a ≡ source_bytes b → a ≡ b
 def_one a b fa fb e =
