@@ -1,6 +1,6 @@
 -- The pieces that have come at a stage, in their order, are those of the layout so far.
-use Rattle.std.proofs.Common.{◌≡◌, ◌∙◌, ◌++◌, ◌∷◌, ◌*◌, ◌<◌, ◌≤◌, ℕ, List, [], sym, ap, subst, refl, length, arith, map, append_assoc, append-nil, length-append}
-use Rattle.std.specs.Prelude.{nat_lt, Option, Some, None}
+use Rattle.std.proofs.Common.{◌≡◌, ◌∙◌, ◌++◌, ◌∷◌, ◌*◌, ◌<◌, ◌≤◌, ℕ, List, [], sym, ap, subst, refl, length, arith, map, append_assoc, append-nil}
+use Rattle.std.specs.Prelude.{Some, None}
 use Rattle.std.specs.List.{flat_map}
 use Rattle.std.proofs.lemmas.List.{map-append}
 use Rattle.std.proofs.lemmas.List.Concat.{flat_map-cons}
@@ -11,10 +11,10 @@ use Rattle.rrd_spec.specs.declared.settings.RraDef.{RraDef}
 use Rattle.rrd_spec.specs.Entries.{Entry}
 use Rattle.rrd_spec.specs.Filed.{Filed, Head, Header, Source}
 use Rattle.rrd_spec.specs.Rebuilding.{heads_with_part, rows_in_all, unprepared, with_entry}
-use Rattle.rrd_file.specs.Faults.{Front, IsWhole}
+use Rattle.rrd_file.specs.Faults.{IsWhole}
 use Rattle.rrd_file.specs.Layout.{entry_pieces, head_pieces, pieces_filed, spelled}
 use Rattle.rrd_file.specs.Pieces.{Piece, Mark, OfVersion, OfHeader, OfSource, OfArchive, OfPrep, OfCell, OfTag, spell}
-use Rattle.rrd_file.specs.Stages.{Stage, Start, Marked, Versioned, Body, Within, DueInEntry, GoesOn, Runs, Takes}
+use Rattle.rrd_file.specs.Stages.{Stage, Start, Marked, Versioned, Body, Within, DueInEntry, GoesOn, Runs}
 use Rattle.rrd_file.proofs.Order.{before_cell, before_entry, before_head, prep_before, source_before}
 use Rattle.rrd_file.proofs.Ways.{Step, ToMark, ToVersion, ToHeader, ToSource, ToHead, ToPrep, ToCell, ToEntry, ToPiece, step_of}
 

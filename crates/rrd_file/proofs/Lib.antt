@@ -4,6 +4,7 @@ pub mod Told
 pub mod Entering
 pub mod CellsFiled
 pub mod SignedBytes
+pub mod Tests
 pub mod Lengths
 pub mod Spelled
 pub mod Sizes
@@ -15,3 +16,8 @@ pub mod ReadBack
 pub mod Ways
 pub mod OneEntry
 pub mod Came
+pub mod OneEnd
+pub mod EntryRuns
+pub mod BodyRuns
+pub mod ValidRuns
+pub mod OneAnswer

@@ -1,5 +1,5 @@
 -- An entry that may come has pieces that no other such entry has.
-use Rattle.std.proofs.Common.{◌≡◌, ◌∙◌, ◌++◌, ◌∷◌, ◌<◌, ℕ, List, [], sym, ap, subst, refl, length, get_or, arith, map, append_assoc, append-nil}
+use Rattle.std.proofs.Common.{◌≡◌, ◌∙◌, ◌++◌, ◌∷◌, ℕ, List, [], sym, ap, subst, refl, length, get_or, arith, map, append_assoc}
 use Rattle.std.specs.List.{AllByRecursion, flat_map}
 use Rattle.std.proofs.lemmas.List.{length-map}
 use Rattle.std.proofs.lemmas.List.Concat.{flat_map-cons}
@@ -63,9 +63,6 @@ raws_one (r ∷ rs) (s ∷ ss) (x ∷ a) (y ∷ b) l m e =
     (λ i. raw i ∷ later.0 i, λ i. part i ∷ later.1 i)
 
 -- ---- rows of one width
-
-cells_of : List Cell → List Piece
-cells_of row = map OfCell row
 
 row_cut : (row : List Cell) (rows : List (List Cell)) (a : List Piece) → row_pieces (row ∷ rows) ++ a ≡ map OfCell row ++ (row_pieces rows ++ a)
 row_cut row rows a = ap (λ l. l ++ a) (flat_map-cons (λ (r : List Cell). map OfCell r) row rows) ∙ append_assoc (map OfCell row) (row_pieces rows) a

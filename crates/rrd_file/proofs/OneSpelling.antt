@@ -1,6 +1,6 @@
 -- Of the pieces that may come at a stage, no two are spelled alike.
 use Rattle.std.proofs.Common.{◌≡◌, ◌∙◌, ◌∷◌, ◌+◌, ◌/◌, ◌%◌, ◌^◌, ◌<◌, ◌≤◌, ℕ, List, [], Bool, sym, ap, refl, subst, length, arith, map}
-use Rattle.std.specs.Prelude.{ℤ, nat_lt, nat_le, true, false, ◌&&◌, ◌||◌, ◌==◌, if◌then◌else◌, unsigned_abs, Option, Some, None}
+use Rattle.std.specs.Prelude.{ℤ, nat_lt, nat_le, true, false, ◌&&◌, ◌==◌, if◌then◌else◌, unsigned_abs, Option, Some, None}
 use Rattle.std.specs.List.{AllByRecursion, list_all}
 use Rattle.std.proofs.lemmas.Bool.{lt-ltb, ltb-false}
 use Rattle.std.proofs.lemmas.Int.{ints}
@@ -25,13 +25,14 @@ use Rattle.rrd_spec.specs.Rebuilding.{IsArchiveDef, IsHeader, MaySource, MayPrep
 use Rattle.rrd_spec.specs.Validity.{IsPart, IsSourceWithin}
 use Rattle.rrd_spec.specs.Outlines.{IsSourceBefore}
 use Rattle.rrd_spec.specs.Verdict.{is_crossed, is_far}
-use Rattle.rrd_file.specs.Pieces.{Piece, Mark, OfVersion, OfHeader, OfSource, OfArchive, OfPrep, OfCell, Tag, OfTag, AnUpdate, ATune, AResize, OfTime, OfRawAndPart, OfRows, OfCount, OfSourceBefore, OfNumber, header_bytes, spell, tag_byte}
-use Rattle.rrd_file.specs.Stages.{Stage, Start, Marked, Versioned, Body, Within, DueInEntry, TimeDue, BeforeDue, RowPrepDue, RowsDue, RowCellDue, CountDue, NamedDue, NumberDue, OldRowsDue, Keeps, Runs, Takes}
+use Rattle.rrd_file.specs.Pieces.{Piece, OfVersion, OfHeader, OfSource, OfArchive, OfPrep, OfCell, Tag, OfTag, AnUpdate, ATune, AResize, OfTime, OfRawAndPart, OfRows, OfCount, OfSourceBefore, OfNumber, header_bytes, spell, tag_byte}
+use Rattle.rrd_file.specs.Stages.{Stage, Start, DueInEntry, Runs, Takes}
 use Rattle.rrd_file.specs.Values.{FitsArchive, FitsBound, FitsCell, FitsDef, FitsHeader, FitsSourceBefore, FitsPart, FitsRaw, FitsSource}
 use Rattle.rrd_file.proofs.Order.{prep_before}
 use Rattle.rrd_file.proofs.Ways.{Step, ToMark, ToVersion, ToHeader, ToSource, ToHead, ToPrep, ToCell, ToEntry, ToPiece, Way, ByTime, ByRawAndPart, ByRowPrep, ByRows, ByRowCell, ByCount, ByNamed, ByNumber, ByOldRows, step_of}
 use Rattle.rrd_file.proofs.Sound.{AreSmall, AreSound, HasSomeSteps, IsSound, IsSoundDue, IsSoundStage, now_sound, reached_sound, small_limits}
 use Rattle.rrd_file.proofs.Spelled.{archive_one, raw_and_part_one, cell_one, eight_one, four_one, header_one, source_before_one, head_same, part_one, source_one, two_one}
+use Rattle.rrd_file.proofs.Tests.{and_left, and_right, or_left, or_right}
 
 -- ---- what keeps to its rule fits its bytes
 
@@ -48,24 +49,6 @@ raw_fits Gauge (Raw.Known value) h = omega (arith, h)
 raw_fits Absolute (Raw.Known value) h = omega (arith, h)
 raw_fits Counter (Raw.Known value) h = omega (arith, ints, h.0, h.1)
 raw_fits Derive (Raw.Known value) h = omega (arith, ints, h.0, h.1)
-
-or_left : (a b : Bool) → (a || b) ≡ false → a ≡ false
-or_left Bool.true b e = e
-or_left Bool.false b e = refl
-
-or_right : (a b : Bool) → (a || b) ≡ false → b ≡ false
-or_right Bool.true Bool.true e = e
-or_right Bool.true Bool.false e = refl
-or_right Bool.false b e = e
-
-and_left : (a b : Bool) → (a && b) ≡ true → a ≡ true
-and_left Bool.true b e = refl
-and_left Bool.false b e = e
-
-and_right : (a b : Bool) → (a && b) ≡ true → b ≡ true
-and_right Bool.true b e = e
-and_right Bool.false Bool.true e = refl
-and_right Bool.false Bool.false e = e
 
 bound_fits : (l : Limits) (bound : Option ℤ) → AreSmall l → is_far l bound ≡ false → FitsBound bound
 bound_fits l None small h = tt
@@ -144,14 +127,9 @@ prep_fits f part h m = row_part_fits f.header.step f.header.last m.def part (def
 
 tag_one : (t u : Tag) → tag_byte t ≡ tag_byte u → t ≡ u
 tag_one AnUpdate AnUpdate e = refl
-tag_one AnUpdate ATune e = absurd (let bad : 1 ≡ 2 = e in omega (arith, bad))
-tag_one AnUpdate AResize e = absurd (let bad : 1 ≡ 3 = e in omega (arith, bad))
-tag_one ATune AnUpdate e = absurd (let bad : 2 ≡ 1 = e in omega (arith, bad))
 tag_one ATune ATune e = refl
-tag_one ATune AResize e = absurd (let bad : 2 ≡ 3 = e in omega (arith, bad))
-tag_one AResize AnUpdate e = absurd (let bad : 3 ≡ 1 = e in omega (arith, bad))
-tag_one AResize ATune e = absurd (let bad : 3 ≡ 2 = e in omega (arith, bad))
 tag_one AResize AResize e = refl
+tag_one t u e = absurd (omega (arith, e))
 
 -- ---- within an entry
 

@@ -9,7 +9,7 @@ use Rattle.rrd_spec.specs.declared.due.Due.TheVariants.{SourceDue, HeadDue, Prep
 use Rattle.rrd_spec.specs.Rebuilding.{due, prep_or, rows_in_all, unprepared}
 
 -- the due piece, by what is there
-abbrev in_order : Bool → Option RraDef → Bool → Bool → Bool → Due
+abbrev pub in_order : Bool → Option RraDef → Bool → Bool → Bool → Due
 in_order a u b c d = if a then SourceDue else prep_or u (if b then HeadDue else (if c then CellDue else (if d then EntryDue else NothingDue)))
 
 source_order : (a : Bool) (u : Option RraDef) (b c d : Bool) → in_order a u b c d ≡ SourceDue → a ≡ true
@@ -51,14 +51,6 @@ entry_order Bool.false None Bool.true c d e = absurd cc
 entry_order Bool.false None Bool.false Bool.true d e = absurd cc
 entry_order Bool.false None Bool.false Bool.false Bool.true e = (refl, refl, refl, refl, refl)
 entry_order Bool.false None Bool.false Bool.false Bool.false e = absurd cc
-
-nothing_order : (a : Bool) (u : Option RraDef) (b c d : Bool) → in_order a u b c d ≡ NothingDue → (a ≡ false) × (u ≡ None) × (b ≡ false) × (c ≡ false) × (d ≡ false)
-nothing_order Bool.true u b c d e = absurd cc
-nothing_order Bool.false (Some x) b c d e = absurd cc
-nothing_order Bool.false None Bool.true c d e = absurd cc
-nothing_order Bool.false None Bool.false Bool.true d e = absurd cc
-nothing_order Bool.false None Bool.false Bool.false Bool.true e = absurd cc
-nothing_order Bool.false None Bool.false Bool.false Bool.false e = (refl, refl, refl, refl, refl)
 
 pub source_before : (f : Filed) → due f ≡ SourceDue → length f.sources < f.header.sources
 unfolding due

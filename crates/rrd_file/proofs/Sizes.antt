@@ -1,5 +1,5 @@
 -- A piece that may come has the size that is due.
-use Rattle.std.proofs.Common.{◌≡◌, ◌∙◌, ◌++◌, ◌∷◌, ℕ, [], sym, ap, refl, length, arith, length-append}
+use Rattle.std.proofs.Common.{◌≡◌, ◌∙◌, ℕ, sym, ap, refl, length, arith, length-append}
 use Rattle.rrd_spec.specs.declared.outline.Outline.{Outline}
 use Rattle.rrd_spec.specs.Limits.{Limits}
 use Rattle.rrd_file.specs.Spelling.{part_bytes, raw_bytes, raw_number, cell_number, source_bytes}
