@@ -14,3 +14,7 @@ pub mod KeptLemmas
 pub mod CountLemmas
 pub mod TuneLemmas
 pub mod ResizeLemmas
+pub mod Placed
+pub mod Dues
+pub mod Rebuilt
+pub mod Comes

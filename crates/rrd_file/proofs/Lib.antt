@@ -2,5 +2,16 @@ pub mod Joined
 pub mod Gathering
 pub mod Told
 pub mod Entering
-pub mod Slotted
 pub mod CellsFiled
+pub mod SignedBytes
+pub mod Lengths
+pub mod Spelled
+pub mod Sizes
+pub mod Order
+pub mod Sound
+pub mod OneSpelling
+pub mod SignedBack
+pub mod ReadBack
+pub mod Ways
+pub mod OneEntry
+pub mod Came

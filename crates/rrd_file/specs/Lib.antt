@@ -7,4 +7,5 @@ pub mod Laws
 pub mod Values
 pub mod Gathered
 pub mod Entered
+pub mod Readings
 pub mod Worked

@@ -9,6 +9,7 @@ mod entries;
 mod fault;
 pub mod laws;
 mod pieces;
+mod reading;
 
 pub use encoding::encode;
 pub use fault::FileFault;

@@ -16,7 +16,7 @@ use Rattle.rrd_spec.specs.History.{Archive, Content}
 use Rattle.rrd_spec.specs.Choice.{best, candidate, candidates, choice, covers, is_farther, is_nearer, same_function, span, span_of, span_rows, taken, unless_refused, choice_within}
 use Rattle.rrd_spec.specs.Validity.{IsValid, IsValidArchive}
 use Rattle.rrd_spec.specs.Verdict.{◌refuses◌, first_refusal}
-use Rattle.rrd_tool.specs.Chosen.{IsReadable}
+use Rattle.rrd_tool.specs.Commands.Fetched.{IsReadable}
 use Rattle.rrd_spec.specs.Limits.{version_one}
 
 -- ---- lists

@@ -5,8 +5,8 @@ use Rattle.rrd_spec.specs.declared.settings.DsDef.{DsDef}
 use Rattle.rrd_spec.specs.declared.settings.RraDef.{RraDef}
 use Rattle.rrd_tool.specs.Commands.Create.{definitions_of}
 use Rattle.rrd_tool.specs.Commands.Create.{archives_in, definition_of, sources_in}
-use Rattle.rrd_tool.specs.Meets.{Meets}
-use Rattle.rrd_tool.specs.Unread.{each_of, or_fault}
+use Rattle.rrd_tool.specs.Fields.Answers.{Meets}
+use Rattle.rrd_tool.specs.Fields.Parts.{each_of, or_fault}
 use Rattle.rrd_tool.specs.declared.faults.LineFault.{LineFault}
 use Rattle.rrd_tool.specs.declared.faults.LineFault.TheVariants.{Usage, BadWord, OutOfMemory}
 use Rattle.rrd_tool.specs.declared.faults.Part.TheVariants as part

@@ -2,8 +2,8 @@
 use Rattle.std.proofs.Common.{◌≡◌, ◌∙◌, ◌+◌, ◌<◌, ◌++◌, ◌∷◌, ℕ, List, [], Option, Some, None, Result, Ok, Err, ap, refl, sym, length, drop, get_or, append_assoc, suc, add-one}
 use Rattle.std.proofs.Math.Seq.{drop-cons}
 use Rattle.clap.specs.Words.{Text}
-use Rattle.rrd_tool.specs.Meets.{Meets}
-use Rattle.rrd_tool.specs.Unread.{Unread, each_of, or_fault, ◌>>=◌}
+use Rattle.rrd_tool.specs.Fields.Answers.{Meets}
+use Rattle.rrd_tool.specs.Fields.Parts.{Unread, each_of, or_fault, ◌>>=◌}
 use Rattle.rrd_tool.specs.declared.faults.LineFault.{LineFault}
 use Rattle.rrd_tool.specs.declared.faults.LineFault.TheVariants.{Usage, BadWord, OutOfMemory}
 use Rattle.rrd_tool.specs.declared.faults.Part.{Part}

@@ -6,7 +6,7 @@ use Rattle.std.specs.Prelude.{slice_get}
 use Rattle.rrd_tool.proofs.Simple.{rrdi_simple, rrdi_free}
 use Rattle.clap.specs.Words.{App, Text}
 use Rattle.rrd_tool.proofs.OnLiterals.{shapes_on_literals}
-use Rattle.rrd_tool.specs.Serves.{Serves, app_with}
+use Rattle.rrd_tool.specs.Arguments.Shapes.{Serves, app_with}
 use Rattle.rrd_tool.specs.Commands.{rrdi_app}
 use Rattle.rrd_tool.specs.Commands.Create.{create_app}
 use Rattle.rrd_tool.specs.Commands.Last.{last_app}

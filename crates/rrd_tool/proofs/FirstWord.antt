@@ -9,7 +9,7 @@ use Rattle.clap.specs.Walk.{Names, Walk, after_step, answers_to, finished, idle,
 use Rattle.clap.specs.Simple.{argument_words, built, entered, label_of, names_of, rows_at}
 use Rattle.clap.proofs.WalkLemmas.{both, walk_stopped}
 use Rattle.clap.proofs.FaultLemmas.{stopped_fault}
-use Rattle.rrd_tool.specs.Serves.{Serves}
+use Rattle.rrd_tool.specs.Arguments.Shapes.{Serves}
 use Rattle.rrd_tool.specs.Commands.{rrdi_app}
 
 -- the walk over a name and the words after it

@@ -5,7 +5,7 @@ use Rattle.std.proofs.lemmas.Bool.{cases_Bool}
 use Rattle.std.proofs.lemmas.Bool.Decides.{nat_tests}
 use Rattle.std.specs.List.{list_all}
 use Rattle.rrd_tool.specs.Lines.{is_empty, is_plain, is_text, last_part, whole_lines, without_cr}
-use Rattle.rrd_tool.specs.Buffered.{BuffersBy, IsLost}
+use Rattle.rrd_tool.specs.Lines.Buffer.{BuffersBy, IsLost}
 use Rattle.rrd_tool.specs.declared.lines.Ending.{Ending}
 use Rattle.rrd_tool.specs.declared.lines.Ending.TheVariants.{Plain, Cr, Lost}
 

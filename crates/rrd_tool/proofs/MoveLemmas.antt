@@ -3,10 +3,10 @@ use Rattle.std.proofs.Common.{◌++◌, List, ℕ, Option, Result}
 use Rattle.rrd_fixed.specs.declared.streams.WriteFault.{WriteFault}
 use Rattle.rrd_spec.specs.Survivors.{State, Stored}
 use Rattle.rrd_tool.specs.Lines.{last_part, whole_lines}
-use Rattle.rrd_tool.specs.Moves.{Moves}
+use Rattle.rrd_tool.specs.Batch.States.{Moves}
 use Rattle.rrd_tool.specs.Batch.{Ran, Stopped}
 use Rattle.rrd_tool.specs.Effects.{StandsFor}
-use Rattle.rrd_tool.specs.Run.{turn}
+use Rattle.rrd_tool.specs.Batch.Turns.{turn}
 use Rattle.rrd_tool.proofs.BatchLemmas.{answers_more, stopped_front}
 
 -- all of them, or some first ones

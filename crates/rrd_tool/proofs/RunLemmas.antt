@@ -15,14 +15,14 @@ use Rattle.clap.specs.Words.{fault_of}
 use Rattle.rrd_fixed.specs.Writing.{Appends-kept}
 use Rattle.rrd_tool.specs.Batch.{Turn}
 use Rattle.rrd_tool.specs.Effects.{Effect, Makes, Changes, Reverts, Shows, StandsFor, is_change, kept_next, kept_of, next, revert_verdict, text_on, verdict_on, first_state}
-use Rattle.rrd_tool.specs.Executed.{Comes, IsFault}
-use Rattle.rrd_tool.specs.Moves.{Performs}
-use Rattle.rrd_tool.specs.Prints.{PrintsBy}
+use Rattle.rrd_tool.specs.Execution.{Comes, IsFault}
+use Rattle.rrd_tool.specs.Batch.States.{Performs}
+use Rattle.rrd_tool.specs.Execution.Printing.{PrintsBy}
 use Rattle.rrd_tool.specs.Faults.{fault_line}
 use Rattle.rrd_tool.specs.Lines.{is_empty, text_in, words_of}
-use Rattle.rrd_tool.specs.Moves.{Asks, line_turns}
-use Rattle.rrd_tool.specs.Reading.{IsReading}
-use Rattle.rrd_tool.specs.Run.{command_of, effect_turn, reading_turn, refusal_turn, text_turn, turn, unless_short, words_turn}
+use Rattle.rrd_tool.specs.Batch.States.{Asks, line_turns}
+use Rattle.rrd_tool.specs.Commands.Reading.{IsReading}
+use Rattle.rrd_tool.specs.Batch.Turns.{command_of, effect_turn, reading_turn, refusal_turn, text_turn, turn, unless_short, words_turn}
 use Rattle.rrd_tool.specs.Commands.{rrdi_app}
 use Rattle.rrd_tool.specs.declared.commands.Command.{Command}
 use Rattle.rrd_tool.specs.declared.faults.LineFault.{LineFault}

@@ -10,7 +10,7 @@ use Rattle.clap.specs.Lexer.{long_of, short_of}
 use Rattle.clap.specs.Simple.{built, entered, names_of}
 use Rattle.clap.specs.declared.error.kind.ErrorKind.TheVariants.{UnknownArgument, InvalidSubcommand}
 use Rattle.rrd_tool.proofs.OnLiterals.{shapes_on_literals}
-use Rattle.rrd_tool.specs.Serves.{IsRefused, begins_with_minus}
+use Rattle.rrd_tool.specs.Arguments.Shapes.{IsRefused, begins_with_minus}
 use Rattle.rrd_tool.specs.Commands.{rrdi_app}
 
 abbrev stray : Kinds

@@ -6,7 +6,7 @@ use Rattle.clap.specs.Words.{App, Row, Text, with_subcommand}
 use Rattle.rrd_spec.specs.Commands.{Resizing, TuningBy, Updating}
 use Rattle.rrd_tool.specs.Arguments.{bare_top}
 use Rattle.rrd_tool.specs.Effects.{Effect, Makes, Changes, Reverts, Shows}
-use Rattle.rrd_tool.specs.Unread.{Unread}
+use Rattle.rrd_tool.specs.Fields.Parts.{Unread}
 use Rattle.rrd_tool.specs.Commands.Create.{create_app, create_of}
 use Rattle.rrd_tool.specs.Commands.Update.{update_app, update_of}
 use Rattle.rrd_tool.specs.Commands.Tune.{tune_app, tune_of}
@@ -23,6 +23,8 @@ pub mod Resize
 pub mod Fetch
 pub mod Last
 pub mod Revert
+pub mod Reading
+pub mod Fetched
 
 -- all commands
 unfoldable pub rrdi_app : App

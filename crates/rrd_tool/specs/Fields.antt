@@ -8,6 +8,8 @@ use Rattle.rrd_fixed.specs.Reading.{number_of}
 use Rattle.rrd_fixed.specs.declared.kind.Kind.{Kind}
 use Rattle.rrd_fixed.specs.declared.name.Name.{Name}
 use Rattle.rrd_fold.specs.declared.function.Function.{Function}
+pub mod Parts
+pub mod Answers
 
 -- what is read next, unless something before it can't be read
 infixl 10 ◌>>?◌

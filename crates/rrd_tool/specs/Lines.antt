@@ -1,6 +1,7 @@
 -- Definition: the lines of an input, and the words of a line (own; rrdtool reads such lines by its command `-`).
 use Rattle.std.specs.Prelude.{◌==◌, ◌&&◌, ◌||◌, ◌++◌, ◌∷◌, [], ℕ, Bool, List, Option, Some, None, length, if◌then◌else◌, nat_le, true, false}
 use Rattle.std.specs.List.{list_all}
+pub mod Buffer
 
 -- a line without the CR at its end
 abbrev pub without_cr : List ℕ → List ℕ

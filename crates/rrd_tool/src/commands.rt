@@ -4,10 +4,10 @@
 ghost use Rattle.std.specs.Prelude.{◌≡◌, ◌∷◌, IfOk, IfSome, List, None, Option, Some, is_some, true, ℕ};
 ghost use Rattle.clap.specs.Words.{app_of, found_of, rows_of, subcommand_rows_of};
 ghost use Rattle.rrd_tool.specs.Commands.{line_of, rrdi_app};
-ghost use Rattle.rrd_tool.specs.Executed.{Executes};
-ghost use Rattle.rrd_tool.specs.Reading.{IsReading};
-ghost use Rattle.rrd_tool.specs.Serves.{ServesOrRefuses};
-ghost use Rattle.rrd_tool.specs.Meets.{Meets};
+ghost use Rattle.rrd_tool.specs.Execution.{Executes};
+ghost use Rattle.rrd_tool.specs.Commands.Reading.{IsReading};
+ghost use Rattle.rrd_tool.specs.Arguments.Shapes.{ServesOrRefuses};
+ghost use Rattle.rrd_tool.specs.Fields.Answers.{Meets};
 
 mod create;
 mod fetch;

@@ -2,8 +2,8 @@
 ghost use Rattle.std.specs.Prelude.{◌≡◌, ℕ, List, Option, Some, None, true, false};
 ghost use Rattle.rrd_spec.specs.Survivors.{State};
 ghost use Rattle.rrd_fixed.specs.Written.{Writes};
-ghost use Rattle.rrd_tool.specs.Executed.{Executes, RunsOn};
-ghost use Rattle.rrd_tool.specs.Prints.{Prints};
+ghost use Rattle.rrd_tool.specs.Execution.{Executes, RunsOn};
+ghost use Rattle.rrd_tool.specs.Execution.Printing.{Prints};
 ghost use Rattle.rrd_tool.specs.Effects.{StandsFor};
 
 use crate::commands::{run, run_without};

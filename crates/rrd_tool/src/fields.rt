@@ -2,8 +2,8 @@
 ghost use Rattle.std.specs.Prelude.{◌≡◌, ◌∷◌, ◌<◌, [], IfSome, length, option_map};
 ghost use Rattle.std.specs.Option.{option_map_or};
 ghost use Rattle.rrd_tool.specs.Fields.{bound_of, cut_of, each_in, function_of, kind_of, name_of, pieces};
-ghost use Rattle.rrd_tool.specs.Meets.{Meets};
-ghost use Rattle.rrd_tool.specs.Unread.{given, optional, or_fault, required};
+ghost use Rattle.rrd_tool.specs.Fields.Answers.{Meets};
+ghost use Rattle.rrd_tool.specs.Fields.Parts.{given, optional, or_fault, required};
 ghost use Rattle.rrd_fixed.specs.Reading.{whole_of};
 
 use crate::{LineFault, Part};

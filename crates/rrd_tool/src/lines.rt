@@ -36,7 +36,7 @@ fn is_plain(byte: u8) -> bool
 }
 
 impl LineBuffer {
-    ghost use Rattle.rrd_tool.specs.Buffered.{Buffers};
+    ghost use Rattle.rrd_tool.specs.Lines.Buffer.{Buffers};
     ghost use Rattle.rrd_tool.specs.declared.lines.Ending.TheVariants.{Plain};
 
     /// An empty line, with room for 65,536 bytes.

@@ -7,7 +7,7 @@ use Rattle.rrd_spec.specs.declared.settings.DsDef.{DsDef}
 use Rattle.rrd_spec.specs.declared.settings.RraDef.{RraDef}
 use Rattle.rrd_tool.specs.Arguments.{letter_rule, many_rule, option_rule, words_of}
 use Rattle.rrd_tool.specs.Fields.{◌>>?◌, bound_of, cut_of, field, function_of, kind_of, name_of}
-use Rattle.rrd_tool.specs.Unread.{Unread, ◌>>=◌, each_of, given}
+use Rattle.rrd_tool.specs.Fields.Parts.{Unread, ◌>>=◌, each_of, given}
 use Rattle.rrd_tool.specs.declared.commands.Command.{Command}
 use Rattle.rrd_tool.specs.declared.commands.Command.TheVariants as command
 use Rattle.rrd_tool.specs.declared.commands.create.Definition.{Definition}

@@ -14,7 +14,7 @@ use Rattle.rrd_spec.specs.History.{Content}
 use Rattle.rrd_spec.specs.Cells.{cell_at}
 use Rattle.rrd_tool.specs.Arguments.{letter_rule, required_rule}
 use Rattle.rrd_tool.specs.Fields.{function_of}
-use Rattle.rrd_tool.specs.Unread.{Unread, ◌>>=◌, given, optional, required}
+use Rattle.rrd_tool.specs.Fields.Parts.{Unread, ◌>>=◌, given, optional, required}
 use Rattle.rrd_tool.specs.declared.commands.Command.{Command}
 use Rattle.rrd_tool.specs.declared.commands.Command.TheVariants as command
 use Rattle.rrd_tool.specs.declared.faults.Part.TheVariants as part

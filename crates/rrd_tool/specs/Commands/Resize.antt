@@ -5,7 +5,7 @@ use Rattle.clap.specs.Words.{App, Row, Text, first_of, new_app, with_rule}
 use Rattle.rrd_fixed.specs.Reading.{whole_of}
 use Rattle.rrd_spec.specs.declared.resize.Change.{Change}
 use Rattle.rrd_tool.specs.Arguments.{required_rule}
-use Rattle.rrd_tool.specs.Unread.{Unread, ◌>>=◌, required}
+use Rattle.rrd_tool.specs.Fields.Parts.{Unread, ◌>>=◌, required}
 use Rattle.rrd_tool.specs.declared.commands.Command.{Command}
 use Rattle.rrd_tool.specs.declared.commands.Command.TheVariants as command
 use Rattle.rrd_tool.specs.declared.faults.Part.TheVariants as part

@@ -5,7 +5,7 @@ use Rattle.rrd_fixed.specs.Reading.{whole_of}
 use Rattle.rrd_fixed.specs.declared.name.Name.{Name}
 use Rattle.rrd_tool.specs.Arguments.{letter_rule, option_rule}
 use Rattle.rrd_tool.specs.Fields.{◌>>?◌, bound_of, field, kind_of, name_of}
-use Rattle.rrd_tool.specs.Unread.{Unread, ◌>>=◌, optional}
+use Rattle.rrd_tool.specs.Fields.Parts.{Unread, ◌>>=◌, optional}
 use Rattle.rrd_tool.specs.declared.commands.Command.{Command}
 use Rattle.rrd_tool.specs.declared.commands.Command.TheVariants as command
 use Rattle.rrd_tool.specs.declared.faults.Part.TheVariants as part

@@ -8,7 +8,7 @@ use Rattle.rrd_spec.specs.declared.update.Given.{Given}
 use Rattle.rrd_spec.specs.declared.update.Sample.{Sample}
 use Rattle.rrd_tool.specs.Arguments.{letter_rule, many_rule, words_of}
 use Rattle.rrd_tool.specs.Fields.{◌>>?◌, each_in, field, is_unknown, name_of, pieces}
-use Rattle.rrd_tool.specs.Unread.{Unread, ◌>>=◌, each_of, optional}
+use Rattle.rrd_tool.specs.Fields.Parts.{Unread, ◌>>=◌, each_of, optional}
 use Rattle.rrd_tool.specs.declared.commands.Command.{Command}
 use Rattle.rrd_tool.specs.declared.commands.Command.TheVariants as command
 use Rattle.rrd_tool.specs.declared.faults.Part.TheVariants as part

@@ -1,10 +1,10 @@
 //! `create`: makes a database (rrdcreate).
 ghost use Rattle.std.specs.Prelude.{IfOk, List, Option, map, ℕ};
 ghost use Rattle.clap.specs.Words.{found_of, rows_of};
-ghost use Rattle.rrd_tool.specs.Serves.{HasApp};
+ghost use Rattle.rrd_tool.specs.Arguments.Shapes.{HasApp};
 ghost use Rattle.rrd_tool.specs.Commands.Create.{archive_of, create_app, create_of, definition_of, definitions_of, share_of, source_of};
-ghost use Rattle.rrd_tool.specs.Executed.{Executes};
-ghost use Rattle.rrd_tool.specs.Meets.{Meets};
+ghost use Rattle.rrd_tool.specs.Execution.{Executes};
+ghost use Rattle.rrd_tool.specs.Fields.Answers.{Meets};
 
 use crate::arguments::{letter_arg, many_arg, option_arg, text_of, texts_of};
 use crate::execution::Outcome;

@@ -8,11 +8,11 @@ ghost use Rattle.rrd_fixed.specs.Written.{Writes};
 ghost use Rattle.rrd_fold.specs.declared.function.Function.{Function};
 ghost use Rattle.rrd_spec.specs.Choice.{choice};
 ghost use Rattle.rrd_spec.specs.Validity.{IsValid};
-ghost use Rattle.rrd_tool.specs.Serves.{HasApp};
-ghost use Rattle.rrd_tool.specs.Chosen.{IsReadable};
+ghost use Rattle.rrd_tool.specs.Arguments.Shapes.{HasApp};
+ghost use Rattle.rrd_tool.specs.Commands.Fetched.{IsReadable};
 ghost use Rattle.rrd_tool.specs.Commands.Fetch.{fetch_app, fetch_of, fetch_text, header_text, row_text, rows_text};
-ghost use Rattle.rrd_tool.specs.Executed.{Executes};
-ghost use Rattle.rrd_tool.specs.Meets.{Meets};
+ghost use Rattle.rrd_tool.specs.Execution.{Executes};
+ghost use Rattle.rrd_tool.specs.Fields.Answers.{Meets};
 
 use crate::arguments::{letter_arg, required_arg, text_of};
 use crate::execution::Outcome;

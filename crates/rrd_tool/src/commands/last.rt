@@ -1,9 +1,9 @@
 //! `last`: prints the time of the last update (rrdlast).
 ghost use Rattle.std.specs.Prelude.{Some, pos};
 ghost use Rattle.rrd_fixed.specs.Written.{Writes};
-ghost use Rattle.rrd_tool.specs.Serves.{HasApp};
+ghost use Rattle.rrd_tool.specs.Arguments.Shapes.{HasApp};
 ghost use Rattle.rrd_tool.specs.Commands.Last.{last_app, time_line};
-ghost use Rattle.rrd_tool.specs.Executed.{Executes};
+ghost use Rattle.rrd_tool.specs.Execution.{Executes};
 
 use crate::Command;
 use crate::execution::Outcome;

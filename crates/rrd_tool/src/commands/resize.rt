@@ -1,10 +1,10 @@
 //! `resize`: changes the number of rows of an archive (rrdresize).
 ghost use Rattle.std.specs.Prelude.{IfOk, List, Option, Some, ℕ};
 ghost use Rattle.clap.specs.Words.{found_of, rows_of};
-ghost use Rattle.rrd_tool.specs.Serves.{HasApp};
+ghost use Rattle.rrd_tool.specs.Arguments.Shapes.{HasApp};
 ghost use Rattle.rrd_tool.specs.Commands.Resize.{change_of, resize_app, resize_of};
-ghost use Rattle.rrd_tool.specs.Executed.{Executes};
-ghost use Rattle.rrd_tool.specs.Meets.{Meets};
+ghost use Rattle.rrd_tool.specs.Execution.{Executes};
+ghost use Rattle.rrd_tool.specs.Fields.Answers.{Meets};
 
 use crate::arguments::{required_arg, text_of};
 use crate::execution::Outcome;

@@ -1,8 +1,8 @@
 //! `revert`: takes back the newest change (this project's own).
 ghost use Rattle.std.specs.Prelude.{List, Option, Some, ℕ};
-ghost use Rattle.rrd_tool.specs.Serves.{HasApp};
+ghost use Rattle.rrd_tool.specs.Arguments.Shapes.{HasApp};
 ghost use Rattle.rrd_tool.specs.Commands.Revert.{revert_app};
-ghost use Rattle.rrd_tool.specs.Executed.{Executes};
+ghost use Rattle.rrd_tool.specs.Execution.{Executes};
 
 use crate::execution::Outcome;
 use crate::{Command, Fault};

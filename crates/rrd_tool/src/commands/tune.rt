@@ -1,10 +1,10 @@
 //! `tune`: changes the settings of sources (rrdtune).
 ghost use Rattle.std.specs.Prelude.{IfOk, List, Option, Some, ℕ};
 ghost use Rattle.clap.specs.Words.{found_of, rows_of};
-ghost use Rattle.rrd_tool.specs.Serves.{HasApp};
+ghost use Rattle.rrd_tool.specs.Arguments.Shapes.{HasApp};
 ghost use Rattle.rrd_tool.specs.Commands.Tune.{setting_of, tune_app, tune_of};
-ghost use Rattle.rrd_tool.specs.Executed.{Executes};
-ghost use Rattle.rrd_tool.specs.Meets.{Meets};
+ghost use Rattle.rrd_tool.specs.Execution.{Executes};
+ghost use Rattle.rrd_tool.specs.Fields.Answers.{Meets};
 
 use crate::arguments::{letter_arg, option_arg, text_of};
 use crate::execution::Outcome;

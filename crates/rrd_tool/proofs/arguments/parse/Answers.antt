@@ -1,8 +1,8 @@
 use Rattle.std.proofs.Common.{◌≡◌, ◌∙◌, ap, sym, true, false}
 use Rattle.clap.specs.declared.error.kind.ErrorKind.TheVariants.{OutOfMemory}
 use Rattle.clap.specs.Words.{app_of, fault_of, subcommand_of}
-use Rattle.rrd_tool.specs.Serves.{Serves}
-use Rattle.rrd_tool.specs.Parsed.{entered_of}
+use Rattle.rrd_tool.specs.Arguments.Shapes.{Serves}
+use Rattle.rrd_tool.specs.Arguments.Taken.{entered_of}
 use Rattle.rrd_tool.proofs.Simple.{refused}
 use Rattle.rrd_tool.proofs.arguments.parse.Goals as goal
 

@@ -1,5 +1,5 @@
 use Rattle.std.proofs.Common.{List, ℕ, take, ◌≤◌, ◌+◌}
-use Rattle.rrd_tool.specs.Buffered.{Buffers}
+use Rattle.rrd_tool.specs.Lines.Buffer.{Buffers}
 use Rattle.rrd_tool.specs.Lines.{last_part, whole_lines}
 use Rattle.rrd_tool.proofs.MoveLemmas.{MovesRan}
 use Rattle.rrd_tool.proofs.batch.feed.Given as goal

@@ -2,8 +2,8 @@ use Rattle.std.proofs.Common.{◌≡◌, ◌∙◌, ◌+◌, ◌<◌, subst, ◌
 use Rattle.std.proofs.lemmas.List.{append-nil, get_or-map, length-map}
 use Rattle.std.proofs.lemmas.Result.{err_from_is_err_and}
 use Rattle.rrd_tool.specs.declared.commands.create.Definition.TheVariants as Definition
-use Rattle.rrd_tool.specs.Meets.{Meets}
-use Rattle.rrd_tool.specs.Unread.{or_fault}
+use Rattle.rrd_tool.specs.Fields.Answers.{Meets}
+use Rattle.rrd_tool.specs.Fields.Parts.{or_fault}
 use Rattle.rrd_tool.specs.declared.faults.Part.TheVariants as part
 use Rattle.rrd_tool.proofs.Defined.{read_fails, read_more}
 use Rattle.rrd_tool.proofs.commands.create.definitions.Goals as goal

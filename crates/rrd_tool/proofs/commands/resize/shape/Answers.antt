@@ -2,7 +2,7 @@ use Rattle.std.proofs.Common.{◌≡◌, rules, codes}
 use Rattle.std.proofs.lemmas.Result.{IfOk-weaker}
 use Rattle.clap.specs.Words.{new_app, rule_of}
 use Rattle.rrd_tool.proofs.Added.{added}
-use Rattle.rrd_tool.specs.Serves.{HasApp}
+use Rattle.rrd_tool.specs.Arguments.Shapes.{HasApp}
 use Rattle.rrd_tool.specs.Arguments.{required_rule}
 use Rattle.rrd_tool.specs.Commands.Resize.{resize_app}
 use Rattle.rrd_tool.proofs.commands.resize.shape.Goals as goal

@@ -4,8 +4,8 @@ use Rattle.clap.specs.Words.{first_of, found_of, rows_of}
 use Rattle.rrd_fixed.specs.Reading.{whole_of}
 use Rattle.rrd_tool.specs.Commands.Tune.{setting_of, tune_of}
 use Rattle.rrd_tool.specs.Fields.{bound_of, kind_of, name_of}
-use Rattle.rrd_tool.specs.Unread.{◌>>=◌, Unread, optional}
-use Rattle.rrd_tool.specs.Meets.{Meets}
+use Rattle.rrd_tool.specs.Fields.Parts.{◌>>=◌, Unread, optional}
+use Rattle.rrd_tool.specs.Fields.Answers.{Meets}
 use Rattle.rrd_fixed.specs.declared.name.Name.{Name}
 use Rattle.rrd_tool.specs.declared.commands.Command.{Command}
 use Rattle.rrd_tool.specs.declared.commands.Command.TheVariants as command

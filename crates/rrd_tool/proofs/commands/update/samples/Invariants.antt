@@ -1,6 +1,6 @@
 use Rattle.std.proofs.Common.{◌≡◌, ◌+◌, map, drop}
 use Rattle.rrd_tool.specs.Commands.Update.{sample_of}
-use Rattle.rrd_tool.specs.Unread.{each_of}
+use Rattle.rrd_tool.specs.Fields.Parts.{each_of}
 use Rattle.rrd_tool.specs.declared.faults.Part.TheVariants.{Sample}
 use Rattle.rrd_tool.proofs.Each.{prepend}
 use Rattle.rrd_tool.proofs.commands.update.samples.Given as goal

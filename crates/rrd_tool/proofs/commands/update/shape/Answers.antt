@@ -2,7 +2,7 @@ use Rattle.std.proofs.Common.{◌≡◌, rules, codes}
 use Rattle.std.proofs.lemmas.Result.{IfOk-weaker}
 use Rattle.clap.specs.Words.{new_app, rule_of}
 use Rattle.rrd_tool.proofs.Added.{added}
-use Rattle.rrd_tool.specs.Serves.{HasApp}
+use Rattle.rrd_tool.specs.Arguments.Shapes.{HasApp}
 use Rattle.rrd_tool.specs.Arguments.{letter_rule, many_rule}
 use Rattle.rrd_tool.specs.Commands.Update.{update_app}
 use Rattle.rrd_tool.proofs.commands.update.shape.Goals as goal

@@ -1,5 +1,5 @@
 -- The row in a slot, by its time and by its number.
-use Rattle.std.proofs.Common.{◌≡◌, ◌≢◌, ◌∙◌, ◌+◌, ◌-◌, ◌*◌, ◌/◌, ◌%◌, ◌<◌, ◌≤◌, ◌⊎◌, ℕ, zero, suc, List, [], ◌∷◌, Some, pos, negsuc, ◌-ℤ◌, sym, ap, arith, inl, inr, length, get_or, Bool, true, false, Option}
+use Rattle.std.proofs.Common.{◌≡◌, ◌≢◌, ◌∙◌, ◌+◌, ◌-◌, ◌*◌, ◌/◌, ◌%◌, ◌<◌, ◌≤◌, ◌⊎◌, ℕ, zero, suc, List, [], ◌∷◌, Some, ℤ, pos, negsuc, ◌-ℤ◌, sym, ap, arith, inl, inr, length, get_or, Bool, true, false, Option}
 use Rattle.std.proofs.lemmas.Int.{ints}
 use Rattle.std.proofs.lemmas.Bool.{cases_lt, eq-eqb, ne_eqb}
 use Rattle.std.specs.Prelude.{slice_index_or, unsigned_abs}
@@ -12,74 +12,39 @@ use Rattle.rrd_spec.specs.Slots.{slot_of, stands_in, row_in, place_in}
 use Rattle.std.proofs.Math.Nat.{add-mul-mod_self_right, mod-add-div'}
 use native.Mathlib.Nat as nat
 
--- ---- the number of a row since 1970
+abbrev slot_at : ℤ → ℕ → ℕ → ℕ
+slot_at t res rows = unsigned_abs (int_rem_euclid (int_div_euclid t (pos res)) (pos rows))
 
-above : (m d size rows : ℕ) → 1 ≤ size → m ≡ d + rows → int_div_euclid (pos (m * size) -ℤ pos (rows * size)) (pos size) ≡ pos d
-above m d size rows some is =
-    let parts : m * size ≡ d * size + rows * size = ap (λ x. x * size) is ∙ nat.add-mul d rows size in
-    let diff : pos (m * size) -ℤ pos (rows * size) ≡ pos (d * size) = omega (arith, ints, parts) in
-    ap (λ t. int_div_euclid t (pos size)) diff ∙ ap (λ q. pos q) (nat.mul-div_cancel d some)
+above : (m d res rows : ℕ) → 1 ≤ res → 1 ≤ rows → m ≡ d + rows → slot_at (pos (m * res) -ℤ pos (rows * res)) res rows ≡ m % rows
+above m d res rows r k is =
+    let parts : m * res ≡ d * res + rows * res = ap (λ x. x * res) is ∙ nat.add-mul d rows res in
+    let diff : pos (m * res) -ℤ pos (rows * res) ≡ pos (d * res) = omega (arith, ints, parts) in
+    ap (λ t. slot_at t res rows) diff ∙ ap (λ q. q % rows) (nat.mul-div_cancel d r) ∙ (sym (nat.add-mod_right d rows) ∙ ap (λ x. x % rows) (sym is))
 
-below : (m e size rows : ℕ) → 1 ≤ size → rows ≡ m + suc e → int_div_euclid (pos (m * size) -ℤ pos (rows * size)) (pos size) ≡ negsuc e
-below m e size rows some is =
-    let parts : rows * size ≡ m * size + suc e * size = ap (λ x. x * size) is ∙ nat.add-mul m (suc e) size in
-    let last : suc e * size ≡ e * size + size = nat.suc-mul e size in
-    let diff : pos (m * size) -ℤ pos (rows * size) ≡ negsuc (e * size + (size - 1)) = omega (arith, ints, parts, last, some) in
-    let quotient : (e * size + (size - 1)) / size ≡ e =
-    nat.mul-add-div_right some e (size - 1) ∙ ap (λ x. e + x) (nat.div-eq_of_lt (omega (arith, some))) ∙ omega arith in
-    ap (λ t. int_div_euclid t (pos size)) diff ∙ ap (λ q. negsuc q) quotient
-
--- the time is m rows after 1970 less all rows
-number_from : (m size rows : ℕ) → 1 ≤ size → int_div_euclid (pos (m * size) -ℤ pos (rows * size)) (pos size) ≡ pos m -ℤ pos rows
-number_from m size rows some =
-    elim (cases_lt m rows) [
-      | inl lt ↦ below m (rows - m - 1) size rows some (omega (arith, lt)) ∙ omega (arith, ints, lt)
-      | inr le ↦ above m (m - rows) size rows some (omega (arith, le)) ∙ omega (arith, ints, le)
-    ]
-
-slot_above : (m d rows : ℕ) → 1 ≤ rows → m ≡ d + rows → unsigned_abs (int_rem_euclid (pos d) (pos rows)) ≡ m % rows
-slot_above m d rows some is = sym (nat.add-mod_right d rows) ∙ ap (λ x. x % rows) (sym is)
-
-slot_below : (m e rows : ℕ) → 1 ≤ rows → rows ≡ m + suc e → unsigned_abs (int_rem_euclid (negsuc e) (pos rows)) ≡ m % rows
-slot_below m e rows some is =
+below : (m e res rows : ℕ) → 1 ≤ res → 1 ≤ rows → rows ≡ m + suc e → slot_at (pos (m * res) -ℤ pos (rows * res)) res rows ≡ m % rows
+below m e res rows r k is =
+    let parts : rows * res ≡ m * res + suc e * res = ap (λ x. x * res) is ∙ nat.add-mul m (suc e) res in
+    let last : suc e * res ≡ e * res + res = nat.suc-mul e res in
+    let diff : pos (m * res) -ℤ pos (rows * res) ≡ negsuc (e * res + (res - 1)) = omega (arith, ints, parts, last, r) in
+    let quotient : (e * res + (res - 1)) / res ≡ e = nat.mul-add-div_right r e (res - 1) ∙ ap (λ x. e + x) (nat.div-eq_of_lt (omega (arith, r))) ∙ omega arith in
     let small : e % rows ≡ e = nat.mod-eq_of_lt (omega (arith, is)) in
     let same : m % rows ≡ m = nat.mod-eq_of_lt (omega (arith, is)) in
     let place : rows - 1 - e % rows ≡ m % rows = omega (arith, small, same, is) in
-    place
+    ap (λ t. slot_at t res rows) diff ∙ ap (λ q. unsigned_abs (int_rem_euclid (negsuc q) (pos rows))) quotient ∙ place
 
-slot_from : (m size rows : ℕ) → 1 ≤ size → 1 ≤ rows → slot_of size rows (pos (m * size) -ℤ pos (rows * size)) ≡ m % rows
-slot_from m size rows some k =
+slot_from : (m res rows : ℕ) → 1 ≤ res → 1 ≤ rows → slot_at (pos (m * res) -ℤ pos (rows * res)) res rows ≡ m % rows
+slot_from m res rows r k =
     elim (cases_lt m rows) [
-      | inl lt ↦
-          let e = rows - m - 1 in
-          let is : rows ≡ m + suc e = omega (arith, lt) in
-          ap (λ q. unsigned_abs (int_rem_euclid q (pos rows))) (below m e size rows some is) ∙ slot_below m e rows k is
-      | inr le ↦
-          let d = m - rows in
-          let is : m ≡ d + rows = omega (arith, le) in
-          ap (λ q. unsigned_abs (int_rem_euclid q (pos rows))) (above m d size rows some is) ∙ slot_above m d rows k is
+      | inl lt ↦ below m (rows - m - 1) res rows r k (omega (arith, lt))
+      | inr le ↦ above m (m - rows) res rows r k (omega (arith, le))
     ]
 
--- ---- the row of a place
-
-time_is : (size rows last place : ℕ) → time_of size rows last place ≡ pos ((last / size + 1 + place) * size) -ℤ pos (rows * size)
-time_is size rows last place =
-    let parts : (last / size + 1 + place) * size ≡ last / size * size + (place + 1) * size =
-    ap (λ x. x * size) (omega arith) ∙ nat.add-mul (last / size) (place + 1) size in
-    omega (arith, ints, parts)
-
--- how many rows came after it
-pub age_is : (size rows last place : ℕ) → 0 < size → place < rows → pos (last / size) -ℤ int_div_euclid (time_of size rows last place) (pos size) ≡ pos (rows - 1 - place)
-age_is size rows last place some inside =
-    let number : int_div_euclid (time_of size rows last place) (pos size) ≡ pos (last / size + 1 + place) -ℤ pos rows =
-    ap (λ t. int_div_euclid t (pos size)) (time_is size rows last place) ∙ number_from (last / size + 1 + place) size rows some in
-    ap (λ n. pos (last / size) -ℤ n) number ∙ omega (arith, ints, inside)
-
--- its slot, by its number
+-- the slot of a row by its time is that by its number
 pub slot_is : (size rows last place : ℕ) → 0 < size → 0 < rows → slot_of size rows (time_of size rows last place) ≡ (last / size + 1 + place) % rows
-slot_is size rows last place some r = ap (λ t. slot_of size rows t) (time_is size rows last place) ∙ slot_from (last / size + 1 + place) size rows some r
-
--- ---- the place in a slot
+slot_is size rows last place s r =
+    let parts : (last / size + 1 + place) * size ≡ last / size * size + (place + 1) * size = ap (λ x. x * size) (omega arith) ∙ nat.add-mul (last / size) (place + 1) size in
+    let time : time_of size rows last place ≡ pos ((last / size + 1 + place) * size) -ℤ pos (rows * size) = omega (arith, ints, parts) in
+    ap (λ t. slot_of size rows t) time ∙ slot_from (last / size + 1 + place) size rows s r
 
 mod_once : (n rows : ℕ) → 0 < rows → n < rows + rows → ((n < rows) × (n % rows ≡ n)) ⊎ ((rows ≤ n) × (n % rows ≡ n - rows))
 mod_once n rows r h = elim (cases_lt n rows) [

@@ -2,8 +2,8 @@
 use Rattle.std.specs.Prelude.{◌≡◌, ℕ, List, Option, Some, Result, Ok, Err, option_map}
 use Rattle.clap.specs.Words.{Text}
 use Rattle.rrd_tool.specs.Commands.{line_of}
-use Rattle.rrd_tool.specs.Parsed.{IsTaken, entered_of}
-use Rattle.rrd_tool.specs.Unread.{Unread}
+use Rattle.rrd_tool.specs.Arguments.Taken.{IsTaken, entered_of}
+use Rattle.rrd_tool.specs.Fields.Parts.{Unread}
 use Rattle.rrd_tool.specs.declared.commands.Command.{Command}
 use Rattle.rrd_tool.specs.declared.faults.LineFault.{LineFault}
 use Rattle.rrd_tool.specs.declared.faults.LineFault.TheVariants.{Usage, BadWord, OutOfMemory}

@@ -10,6 +10,7 @@ use Rattle.rrd_tool.specs.declared.commands.Command.{Command}
 use Rattle.rrd_tool.specs.declared.faults.Fault.{Fault}
 use Rattle.rrd_tool.specs.declared.faults.Fault.TheVariants.{Line, Refused, NoDatabase, Output}
 use Rattle.rrd_tool.specs.declared.execution.Outcome.{Outcome}
+pub mod Printing
 
 -- the verdict's fault; or memory was wanting for what is accepted
 abbrev pub IsFault : Option Fault → Effect → Fault → Type 0

@@ -6,7 +6,7 @@ use Rattle.rrd_spec.specs.Survivors.{State, Stored}
 use Rattle.rrd_tool.specs.Batch.{Turn, Ran, Stopped, Told}
 use Rattle.rrd_tool.specs.Effects.{StandsFor}
 use Rattle.rrd_tool.specs.Faults.{fault_line}
-use Rattle.rrd_tool.specs.Run.{command_turn, refusal_turn, turn, unless_short}
+use Rattle.rrd_tool.specs.Batch.Turns.{command_turn, refusal_turn, turn, unless_short}
 use Rattle.rrd_tool.specs.declared.commands.Command.{Command}
 use Rattle.rrd_tool.specs.declared.faults.LineFault.{LineFault}
 use Rattle.rrd_tool.specs.declared.faults.Fault.{Fault}

@@ -6,7 +6,7 @@ use Rattle.clap.specs.declared.builder.command.Command.TheViews.{out-Command}
 use Rattle.clap.specs.declared.parser.matches.ArgMatches.{ArgMatches}
 use Rattle.rrd_tool.specs.Arguments.{bare_top}
 use Rattle.rrd_tool.specs.Commands.{rrdi_app}
-use Rattle.rrd_tool.specs.Parsed.{IsTaken, entered_of}
+use Rattle.rrd_tool.specs.Arguments.Taken.{IsTaken, entered_of}
 use Rattle.rrd_tool.specs.declared.faults.LineFault.{LineFault}
 use Rattle.rrd_tool.specs.declared.faults.LineFault.TheVariants.{Usage, BadWord, OutOfMemory}
 

@@ -8,9 +8,9 @@ use Rattle.rrd_tool.specs.Commands.{effect}
 use Rattle.rrd_tool.specs.Effects.{Effect, kept_of, next, text_on, verdict_on}
 use Rattle.rrd_tool.specs.Faults.{fault_line}
 use Rattle.rrd_tool.specs.Lines.{is_empty, lines_of, text_in, whole_lines, words_of}
-use Rattle.rrd_tool.specs.Reading.{reading}
+use Rattle.rrd_tool.specs.Commands.Reading.{reading}
 use Rattle.rrd_tool.specs.Commands.{rrdi_app}
-use Rattle.rrd_tool.specs.Unread.{Unread}
+use Rattle.rrd_tool.specs.Fields.Parts.{Unread}
 use Rattle.rrd_tool.specs.declared.batch.StreamFault.{StreamFault}
 use Rattle.rrd_tool.specs.declared.batch.StreamFault.TheVariants as stream
 use Rattle.rrd_tool.specs.declared.commands.Command.{Command}

@@ -1,6 +1,6 @@
 -- Glue: what the functions that read parts answer.
 use Rattle.std.specs.Prelude.{◌≡◌, Result, Ok, Err}
-use Rattle.rrd_tool.specs.Unread.{Unread}
+use Rattle.rrd_tool.specs.Fields.Parts.{Unread}
 use Rattle.rrd_tool.specs.declared.faults.LineFault.{LineFault}
 use Rattle.rrd_tool.specs.declared.faults.LineFault.TheVariants.{Usage, BadWord, OutOfMemory}
 

@@ -1,0 +1,44 @@
+-- How many bytes the values of a piece have.
+use Rattle.std.proofs.Common.{◌≡◌, ◌++◌, ◌∷◌, ◌+◌, ◌-◌, ◌≤◌, ℕ, List, refl, length, replicate, arith, length-append, Bool}
+use Rattle.std.specs.Prelude.{nat_lt, true, ◌&&◌}
+use Rattle.std.specs.List.{list_all}
+use Rattle.std.proofs.lemmas.Bool.{leb-true}
+use Rattle.std.proofs.lemmas.List.{length-replicate}
+use Rattle.rrd_fixed.specs.declared.name.Name.{Name}
+use Rattle.rrd_fixed.specs.Names.{is_good, is_letter}
+use Rattle.rrd_fold.specs.Parts.{Part}
+use Rattle.rrd_spec.specs.declared.settings.DsDef.{DsDef}
+use Rattle.rrd_spec.specs.Filed.{Header, Version, One}
+use Rattle.rrd_file.specs.Spelling.{bound_bytes, eight_bytes, name_bytes, kind_byte, part_bytes, bound_number, source_bytes}
+use Rattle.rrd_file.specs.Pieces.{header_bytes}
+use Rattle.rrd_file.specs.Stages.{header_size}
+use Rattle.rrd_file.proofs.SignedBytes.{signed_length}
+
+and_left : (a b : Bool) → (a && b) ≡ true → a ≡ true
+and_left Bool.true b e = refl
+and_left Bool.false b e = e
+
+and_right : (a b : Bool) → (a && b) ≡ true → b ≡ true
+and_right Bool.true b e = e
+and_right Bool.false Bool.true e = refl
+and_right Bool.false Bool.false e = e
+
+-- a good name is at most 19 characters long
+pub short_name : (name : Name) → is_good name ≡ true → length name ≤ 19
+short_name name good = leb-true (length name) 19 (and_right (nat_lt 0 (length name)) _ (and_left _ (list_all is_letter name) good))
+
+pub name_length : (name : Name) → length name ≤ 19 → length (name_bytes name) ≡ 20
+name_length name short = omega (arith, length-append name (replicate (19 - length name) 0), length-replicate {A = ℕ} (19 - length name) 0)
+
+pub source_length : (def : DsDef) → length def.name ≤ 19 → length (source_bytes def) ≡ 61
+source_length def short =
+    omega (arith, name_length def.name short, length-append (name_bytes def.name ++ (kind_byte def.kind ∷ (eight_bytes def.heartbeat)) ++ bound_bytes def.min) (bound_bytes def.max), length-append (name_bytes def.name ++ (kind_byte def.kind ∷ eight_bytes def.heartbeat)) (bound_bytes def.min), length-append (name_bytes def.name) (kind_byte def.kind ∷ eight_bytes def.heartbeat), signed_length (bound_number def.min), signed_length (bound_number def.max))
+
+pub part_length : (part : Part) → length (part_bytes part) ≡ 20
+part_length part = omega (arith, signed_length part.value)
+
+pub header_length : (version : Version) (h : Header) → length (header_bytes version h) ≡ header_size version
+header_length One h = refl
+
+pub length_source : (def : DsDef) (a b : List ℕ) → length def.name ≤ 19 → length (source_bytes def ++ a ++ b) ≡ 61 + length a + length b
+length_source def a b short = omega (arith, source_length def short, length-append (source_bytes def ++ a) b, length-append (source_bytes def) a)

@@ -1,0 +1,199 @@
+-- Values from the bytes that they were spelled as.
+use Rattle.std.proofs.Common.{◌≡◌, ◌≢◌, ◌∙◌, ◌++◌, ◌∷◌, ◌-◌, ◌^◌, ◌<◌, ◌≤◌, ℕ, zero, suc, ◌+◌, replicate, List, [], sym, ap, refl, subst, take, drop, get_or, length, arith, length-take-le, length-drop, append_assoc, append-nil}
+use Rattle.std.specs.Prelude.{ℤ, pos, ◌==◌, true, Bool, if◌then◌else◌, Option, Some, None, IfSome}
+use Rattle.std.specs.List.{list_all}
+use Rattle.rrd_fixed.specs.declared.name.Name.{Name}
+use Rattle.rrd_fixed.specs.Names.{fits}
+use Rattle.rrd_fold.specs.declared.function.Function.{Function}
+use Rattle.rrd_spec.specs.declared.settings.RraDef.{RraDef}
+use Rattle.rrd_spec.specs.declared.entry.SourceBefore.{SourceBefore}
+use Rattle.rrd_file.specs.Pieces.{OfSourceBefore}
+use Rattle.rrd_file.specs.Values.{FitsSourceBefore}
+use Rattle.rrd_spec.specs.Filed.{One, Source}
+use Rattle.rrd_file.specs.Pieces.{OfArchive, OfHeader, OfSource, OfRawAndPart, spell}
+use Rattle.rrd_file.proofs.Spelled.{append_same, short_fit}
+use Rattle.rrd_file.proofs.Lengths.{name_length, source_length}
+use Rattle.rrd_fixed.specs.declared.raw.Raw.{Raw}
+use Rattle.rrd_fold.specs.Parts.{Part}
+use Rattle.rrd_spec.specs.declared.settings.DsDef.{DsDef}
+use Rattle.std.specs.Int.{w16, w32, w64, w128, from_be_bytes}
+use Rattle.std.proofs.lemmas.Int.{ints}
+use Rattle.std.proofs.lemmas.List.{take-append-drop}
+use Rattle.std.proofs.lemmas.Nat.{be_bytes_2, be_bytes_4, be_bytes_8}
+use mir.Val.{to_z, SFits}
+use Rattle.rrd_file.specs.Spelling.{two_bytes, four_bytes, eight_bytes, signed_bytes, least, bound_bytes, function_byte, kind_byte, name_bytes, part_bytes, raw_bytes, source_bytes}
+use Rattle.rrd_file.specs.Values.{FitsArchive, FitsDef, FitsNumber, FitsSource}
+use Rattle.rrd_file.proofs.SignedBack.{signed_back}
+
+parted : (n : ℕ) (bs spelling : List ℕ) → take n bs ≡ spelling → bs ≡ spelling ++ drop n bs
+parted n bs spelling e = sym (take-append-drop n bs) ∙ ap (λ l. l ++ drop n bs) e
+
+pub two_back : (bs front piece rest : List ℕ) (n : ℕ) → 2 ≤ length bs → front ≡ take 2 bs → piece ≡ front → rest ≡ drop 2 bs → ((i : ℕ) → get_or piece i 0 < 256) → n ≡ from_be_bytes w16 piece → bs ≡ two_bytes n ++ rest
+two_back bs front piece rest n len f p r fits is =
+    let at = p ∙ f in
+    let l : length piece ≡ 2 = ap length at ∙ length-take-le 2 bs len in
+    parted 2 bs (two_bytes n) (sym at ∙ sym (be_bytes_2 piece n l fits is)) ∙ ap (λ l. two_bytes n ++ l) (sym r)
+
+pub four_back : (bs front piece rest : List ℕ) (n : ℕ) → 4 ≤ length bs → front ≡ take 4 bs → piece ≡ front → rest ≡ drop 4 bs → ((i : ℕ) → get_or piece i 0 < 256) → n ≡ from_be_bytes w32 piece → bs ≡ four_bytes n ++ rest
+four_back bs front piece rest n len f p r fits is =
+    let at = p ∙ f in
+    let l : length piece ≡ 4 = ap length at ∙ length-take-le 4 bs len in
+    parted 4 bs (four_bytes n) (sym at ∙ sym (be_bytes_4 piece n l fits is)) ∙ ap (λ l. four_bytes n ++ l) (sym r)
+
+pub eight_back : (bs front piece rest : List ℕ) (n : ℕ) → 8 ≤ length bs → front ≡ take 8 bs → piece ≡ front → rest ≡ drop 8 bs → ((i : ℕ) → get_or piece i 0 < 256) → n ≡ from_be_bytes w64 piece → bs ≡ eight_bytes n ++ rest
+eight_back bs front piece rest n len f p r fits is =
+    let at = p ∙ f in
+    let l : length piece ≡ 8 = ap length at ∙ length-take-le 8 bs len in
+    parted 8 bs (eight_bytes n) (sym at ∙ sym (be_bytes_8 piece n l fits is)) ∙ ap (λ l. eight_bytes n ++ l) (sym r)
+
+take_fits : (n : ℕ) (bs : List ℕ) → ((i : ℕ) → get_or bs i 0 < 256) → (i : ℕ) → get_or (take n bs) i 0 < 256
+take_fits zero bs h i = omega arith
+take_fits (suc n) [] h i = omega arith
+take_fits (suc n) (b ∷ bs) h zero = h 0
+take_fits (suc n) (b ∷ bs) h (suc i) = take_fits n bs (λ j. h (suc j)) i
+
+pub signed_front : (bs front piece rest : List ℕ) (z : ℤ) → 16 ≤ length bs → front ≡ take 16 bs → piece ≡ front → rest ≡ drop 16 bs → ((i : ℕ) → get_or bs i 0 < 256) → z ≡ to_z w128 (from_be_bytes w128 piece) → bs ≡ signed_bytes z ++ rest
+signed_front bs front piece rest z len f p r fits is =
+    let at = p ∙ f in
+    let l : length piece ≡ 16 = ap length at ∙ length-take-le 16 bs len in
+    parted 16 bs (signed_bytes z) (sym at ∙ signed_back piece z l (λ i. subst (λ (p : List ℕ). get_or p i 0 < 256) (sym at) (take_fits 16 bs fits i)) is) ∙ ap (λ l. signed_bytes z ++ l) (sym r)
+
+-- a number that isn't the least one
+pub not_least : (z : ℤ) → SFits w128 z → z ≢ least → FitsNumber z
+not_least z h n = omega (arith, ints, h, n)
+
+nothing_left : (bs : List ℕ) → length bs ≡ 0 → bs ≡ []
+nothing_left [] l = refl
+nothing_left (b ∷ bs) l = absurd (omega (arith, l))
+
+pub header_back : (bs r s t u v w : List ℕ) (a b c d e f : ℕ) → length bs ≡ 20 → bs ≡ four_bytes a ++ r → r ≡ eight_bytes b ++ s → s ≡ two_bytes c ++ t → t ≡ two_bytes d ++ u → u ≡ two_bytes e ++ v → v ≡ two_bytes f ++ w → length w + 20 ≡ length bs
+    → spell (OfHeader (record { version = One; step = a; last = b; depth = c; sources = d; archives = e; entries = f })) ≡ bs
+unfolding spell
+header_back bs r s t u v w a b c d e f l p q x y z o n =
+    let none : w ≡ [] = nothing_left w (omega (arith, l, n)) in
+    sym (p ∙ ap (λ k. four_bytes a ++ k) (q ∙ ap (λ k. eight_bytes b ++ k) (x ∙ ap (λ k. two_bytes c ++ k) (y ∙ ap (λ k. two_bytes d ++ k) (z ∙ ap (λ k. two_bytes e ++ k) (o ∙ ap (λ k. two_bytes f ++ k) none))))))
+
+pub archive_back : (bs first r s t u : List ℕ) (function : Function) (a b c : ℕ) → length bs ≡ 13 → first ≡ take 1 bs → r ≡ drop 1 bs → function_byte function ≡ get_or first 0 0 → r ≡ four_bytes a ++ s → s ≡ four_bytes b ++ t → t ≡ four_bytes c ++ u → length u + 12 ≡ length r
+    → spell (OfArchive (record { function = function; xff = pos b; steps = a; rows = c })) ≡ bs
+unfolding spell
+archive_back [] first r s t u function a b c l f d k p q x n = absurd (omega (arith, l))
+archive_back (y ∷ bs) first r s t u function a b c l f d k p q x n =
+    let none : u ≡ [] = nothing_left u (omega (arith, l, n, ap length d)) in
+    let head : function_byte function ≡ y = k ∙ ap (λ m. get_or m 0 0) f in
+    λ i. head i ∷ (sym (sym d ∙ p ∙ ap (λ k. four_bytes a ++ k) (q ∙ ap (λ k. four_bytes b ++ k) (x ∙ ap (λ k. four_bytes c ++ k) none)))) i
+
+pub archive_none : (bs first : List ℕ) → first ≡ take 1 bs → ((function : Function) → function_byte function ≢ get_or first 0 0) → (def : RraDef) → spell (OfArchive def) ≢ bs
+unfolding spell
+archive_none bs first f none def e = none def.function (ap (λ l. get_or l 0 0) (ap (take 1) e ∙ sym f))
+
+-- ---- names
+
+zeros_are : (bs : List ℕ) → list_all (λ (byte : ℕ). byte == 0) bs ≡ true → bs ≡ replicate (length bs) 0
+zeros_are [] h = refl
+zeros_are (zero ∷ bs) h = ap (λ l. 0 ∷ l) (zeros_are bs h)
+zeros_are (suc b ∷ bs) h = grind (arith, h)
+
+are_zeros : (n : ℕ) → list_all (λ (byte : ℕ). byte == 0) (replicate n 0) ≡ true
+are_zeros zero = refl
+are_zeros (suc n) = are_zeros n
+
+pub name_back : (bs first rest text zeros : List ℕ) (size : ℕ) → length bs ≡ 20 → first ≡ take 1 bs → rest ≡ drop 1 bs → size ≡ get_or first 0 0 → size ≤ 19 → text ≡ take size rest → zeros ≡ drop size rest → list_all (λ (byte : ℕ). byte == 0) zeros ≡ true → name_bytes text ≡ bs
+name_back [] first rest text zeros size l f r s small t z all = absurd (omega (arith, l))
+name_back (b ∷ bs) first rest text zeros size l f r s small t z all =
+    let wide : size ≤ length rest = omega (arith, ap length r, l, small) in
+    let long : length text ≡ size = ap length t ∙ length-take-le size rest wide in
+    let head : size ≡ b = s ∙ ap (λ m. get_or m 0 0) f in
+    let count : length zeros ≡ 19 - length text = omega (arith, ap length z, length-drop size rest, ap length r, l, long) in
+    let tail : text ++ replicate (19 - length text) 0 ≡ bs =
+    ap (λ n. text ++ replicate n 0) (sym count) ∙ ap (λ m. text ++ m) (sym (zeros_are zeros all)) ∙ (λ i. t i ++ z i) ∙ take-append-drop size rest ∙ r in
+    λ i. (long ∙ head) i ∷ tail i
+
+drop_own : (a b : List ℕ) → drop (length a) (a ++ b) ≡ b
+drop_own [] b = refl
+drop_own (x ∷ a) b = drop_own a b
+
+take_own : (a b : List ℕ) → take (length a) (a ++ b) ≡ a
+take_own [] b = refl
+take_own (x ∷ a) b = ap (λ l. x ∷ l) (take_own a b)
+
+-- what a name's bytes say
+pub size_said : (bs first : List ℕ) (size : ℕ) (name : Name) → name_bytes name ≡ bs → first ≡ take 1 bs → size ≡ get_or first 0 0 → length name ≡ size
+size_said bs first size name e f s = ap (λ l. get_or l 0 0) (ap (take 1) e ∙ sym f) ∙ sym s
+
+pub text_said : (bs first rest text : List ℕ) (size : ℕ) (name : Name) → name_bytes name ≡ bs → first ≡ take 1 bs → rest ≡ drop 1 bs → size ≡ get_or first 0 0 → text ≡ take size rest → name ≡ text
+text_said bs first rest text size name e f r s t =
+    let long = size_said bs first size name e f s in
+    sym (take_own name (replicate (19 - length name) 0)) ∙ (λ i. take (long i) ((ap (drop 1) e ∙ sym r) i)) ∙ sym t
+
+pub zeros_said : (bs first rest zeros : List ℕ) (size : ℕ) (name : Name) → name_bytes name ≡ bs → first ≡ take 1 bs → rest ≡ drop 1 bs → size ≡ get_or first 0 0 → zeros ≡ drop size rest → list_all (λ (byte : ℕ). byte == 0) zeros ≡ true
+zeros_said bs first rest zeros size name e f r s z =
+    let long = size_said bs first size name e f s in
+    ap (list_all (λ (byte : ℕ). byte == 0)) (z ∙ sym (λ i. drop (long i) ((ap (drop 1) e ∙ sym r) i)) ∙ drop_own name (replicate (19 - length name) 0)) ∙ are_zeros (19 - length name)
+
+fit_some_at : (b : Bool) (text : Name) (bs : List ℕ) → fits text ≡ b → name_bytes text ≡ bs → IfSome (if b then Some text else None) (λ (name : Name). (fits name ≡ true) × (name_bytes name ≡ bs))
+fit_some_at Bool.true text bs f e = (f, e)
+fit_some_at Bool.false text bs f e = tt
+
+pub fit_some : (text : Name) (bs : List ℕ) (r : Option Name) → r ≡ (if fits text then Some text else None) → name_bytes text ≡ bs → IfSome r (λ (name : Name). (fits name ≡ true) × (name_bytes name ≡ bs))
+fit_some text bs r is e = subst (λ (o : Option Name). IfSome o (λ (name : Name). (fits name ≡ true) × (name_bytes name ≡ bs))) (sym is) (fit_some_at (fits text) text bs refl e)
+
+pub archive_some : (bs : List ℕ) (function : Function) (a b c : ℕ) (xff : ℤ) → xff ≡ pos b → a < 2 ^ 32 → b < 2 ^ 32 → c < 2 ^ 32 → spell (OfArchive (record { function = function; xff = pos b; steps = a; rows = c })) ≡ bs
+    → FitsArchive (record { function = function; xff = xff; steps = a; rows = c }) × (spell (OfArchive (record { function = function; xff = xff; steps = a; rows = c })) ≡ bs)
+archive_some bs function a b c xff is fa fb fc back =
+    rw is (record { steps = fa; xff_low = omega (arith, ints); xff_high = fb; rows = fc }, back)
+
+-- ---- settings
+
+nested : (n a b c : List ℕ) → n ++ a ++ b ++ c ≡ n ++ (a ++ (b ++ c))
+nested n a b c = append_assoc (n ++ a) b c ∙ append_assoc n a (b ++ c)
+
+pub def_back : (bs front rest first r s t u : List ℕ) (def : DsDef) → length bs ≡ 61 → front ≡ take 20 bs → rest ≡ drop 20 bs → name_bytes def.name ≡ front → first ≡ take 1 rest → r ≡ drop 1 rest → kind_byte def.kind ≡ get_or first 0 0
+    → r ≡ eight_bytes def.heartbeat ++ s → s ≡ bound_bytes def.min ++ t → t ≡ bound_bytes def.max ++ u → length u + 40 ≡ length r → source_bytes def ≡ bs
+def_back bs front [] first r s t u def l f d n h k b p q x m = absurd (omega (arith, l, ap length d, length-drop 20 bs))
+def_back bs front (y ∷ rest) first r s t u def l f d n h k b p q x m =
+    let none : u ≡ [] = nothing_left u (omega (arith, l, m, ap length k, ap length d, length-drop 20 bs)) in
+    let head : kind_byte def.kind ≡ y = b ∙ ap (λ m. get_or m 0 0) h in
+    let max : bound_bytes def.max ≡ t = sym (append-nil (bound_bytes def.max)) ∙ ap (λ m. bound_bytes def.max ++ m) (sym none) ∙ sym x in
+    let more : eight_bytes def.heartbeat ++ (bound_bytes def.min ++ bound_bytes def.max) ≡ rest = ap (λ m. eight_bytes def.heartbeat ++ (bound_bytes def.min ++ m)) max ∙ ap (λ m. eight_bytes def.heartbeat ++ m) (sym q) ∙ sym p ∙ k in
+    nested (name_bytes def.name) (kind_byte def.kind ∷ eight_bytes def.heartbeat) (bound_bytes def.min) (bound_bytes def.max)
+    ∙ (λ i. (n ∙ f) i ++ (head i ∷ more i)) ∙ ap (λ m. take 20 bs ++ m) d ∙ take-append-drop 20 bs
+
+pub def_said : (bs : List ℕ) (y : DsDef) → length bs ≡ 61 → FitsDef y → source_bytes y ≡ bs → (name_bytes y.name ≡ take 20 bs) × (kind_byte y.kind ≡ get_or (take 1 (drop 20 bs)) 0 0)
+def_said bs y l fit e =
+    let long : length (name_bytes y.name) ≡ length (take 20 bs) = name_length y.name (short_fit y.name fit.name) ∙ sym (length-take-le 20 bs (omega (arith, l))) in
+    let whole = sym (nested (name_bytes y.name) (kind_byte y.kind ∷ eight_bytes y.heartbeat) (bound_bytes y.min) (bound_bytes y.max)) ∙ e ∙ sym (take-append-drop 20 bs) in
+    let both = append_same (name_bytes y.name) (kind_byte y.kind ∷ (eight_bytes y.heartbeat ++ (bound_bytes y.min ++ bound_bytes y.max))) (take 20 bs) (drop 20 bs) long whole in
+    (both.0, ap (λ m. get_or (take 1 m) 0 0) both.1)
+
+pub before_back : (bs r s : List ℕ) (raw : Raw) (part : Part) → length bs ≡ 36 → bs ≡ raw_bytes raw ++ r → r ≡ part_bytes part ++ s → length s + 36 ≡ length bs → spell (OfRawAndPart raw part) ≡ bs
+unfolding spell
+before_back bs r s raw part l p q m =
+    let none : s ≡ [] = nothing_left s (omega (arith, l, m)) in
+    let tail : part_bytes part ≡ r = sym (append-nil (part_bytes part)) ∙ ap (λ m. part_bytes part ++ m) (sym none) ∙ sym q in
+    ap (λ m. raw_bytes raw ++ m) tail ∙ sym p
+
+pub source_back : (bs front rest : List ℕ) (source : Source) → front ≡ take 61 bs → rest ≡ drop 61 bs → source_bytes source.def ≡ front → spell (OfRawAndPart source.raw source.part) ≡ rest → spell (OfSource source) ≡ bs
+unfolding spell
+source_back bs front rest source f d p q =
+    append_assoc (source_bytes source.def) (raw_bytes source.raw) (part_bytes source.part) ∙ (λ i. (p ∙ f) i ++ (q ∙ d) i) ∙ take-append-drop 61 bs
+
+pub source_said : (bs : List ℕ) (y : Source) → length bs ≡ 97 → FitsSource y → spell (OfSource y) ≡ bs → source_bytes y.def ≡ take 61 bs
+unfolding spell
+source_said bs y l fit e =
+    let long : length (source_bytes y.def) ≡ length (take 61 bs) = source_length y.def (short_fit y.def.name fit.def.name) ∙ sym (length-take-le 61 bs (omega (arith, l))) in
+    (append_same (source_bytes y.def) (raw_bytes y.raw ++ part_bytes y.part) (take 61 bs) (drop 61 bs) long (sym (append_assoc (source_bytes y.def) (raw_bytes y.raw) (part_bytes y.part)) ∙ e ∙ sym (take-append-drop 61 bs))).0
+
+pub source_before_back : (bs more front rest last : List ℕ) (old : SourceBefore) → length bs ≡ 79 → bs ≡ two_bytes old.number ++ more → length more + 2 ≡ length bs → front ≡ take 61 more → rest ≡ drop 61 more → source_bytes old.source ≡ front → rest ≡ raw_bytes old.raw ++ last → length last + 16 ≡ length rest → spell (OfSourceBefore old) ≡ bs
+unfolding spell
+source_before_back bs more front rest last old l n s f d p q m =
+    let none : last ≡ [] = nothing_left last (omega (arith, l, s, m, ap length d, length-drop 61 more)) in
+    let tail : raw_bytes old.raw ≡ rest = sym (append-nil (raw_bytes old.raw)) ∙ ap (λ m. raw_bytes old.raw ++ m) (sym none) ∙ sym q in
+    ap (λ m. two_bytes old.number ++ m) ((λ i. (p ∙ f) i ++ (tail ∙ d) i) ∙ take-append-drop 61 more) ∙ sym n
+
+pub source_before_said : (bs more : List ℕ) (number : ℕ) (y : SourceBefore) → length bs ≡ 79 → bs ≡ two_bytes number ++ more → FitsSourceBefore y → spell (OfSourceBefore y) ≡ bs → source_bytes y.source ≡ take 61 more
+unfolding spell
+source_before_said bs more number y l n fit e =
+    let after : source_bytes y.source ++ raw_bytes y.raw ≡ more = (append_same (two_bytes y.number) (source_bytes y.source ++ raw_bytes y.raw) (two_bytes number) more refl (e ∙ n)).1 in
+    let long : 61 ≤ length more = omega (arith, l, ap length n) in
+    let same : length (source_bytes y.source) ≡ length (take 61 more) = source_length y.source (short_fit y.source.name fit.source.name) ∙ sym (length-take-le 61 more long) in
+    (append_same (source_bytes y.source) (raw_bytes y.raw) (take 61 more) (drop 61 more) same (after ∙ sym (take-append-drop 61 more))).0
