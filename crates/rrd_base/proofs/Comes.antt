@@ -25,7 +25,8 @@ use Rattle.rrd_spec.specs.Commands.{rows_of_archives}
 use Rattle.rrd_spec.specs.Filed.{Filed, Head, Source, head_of, sources_of}
 use Rattle.rrd_spec.specs.History.{Archive}
 use Rattle.rrd_spec.specs.Rebuilding.{IsArchiveDef, IsRowPart, MayHead, heads_with_part, MaySource, after_heads, due, prep_or, rows_in_all, unprepared, with_head, with_prep, with_source}
-use Rattle.rrd_base.specs.Rebuild.{AreFewer, ArePrepared, Coming, IsArchiveSoFar, IsRebuilding, cells_before, content_so_far, filed_in, IsCursor}
+use Rattle.rrd_base.specs.Rebuild.{AreFewer, ArePrepared, Coming, IsArchiveSoFar, IsRebuilding, cells_before, content_so_far, filed_in, IsCursor, KnowsPlaceIn}
+use Rattle.rrd_base.specs.Cursor.{filled_by}
 use Rattle.rrd_base.specs.Journal.{journal_of}
 use Rattle.rrd_spec.specs.Validity.{AreAccepted, IsPart, IsRow, IsSource, IsValidJournal}
 use Rattle.rrd_base.proofs.Dues.{due_source, due_then, lengths_same, none_there, split_at, unprepared_is}
@@ -103,9 +104,18 @@ plain_outline d is none =
     ∙ ap (λ (j : List Entry). outline_left (filed_in (record d { journal = j }))) none
     ∙ ap base (defs_of d.sources d.raws d.preps (lengths_same d.sources d.raws is.raws_are) is.one_part_each)
 
--- a cursor stands as well where no cell has come
-pub cursor_stays : (d e : Coming) (cursor : Cursor) → e.sources_due ≡ d.sources_due → e.filled ≡ 0 → IsCursor d cursor → IsCursor e cursor
-cursor_stays d e cursor same none is = record { source_there = omega (arith, same, is.source_there); place_is = λ some. absurd (omega (arith, some, none)) }
+pub knows_nothing : (step last : ℕ) (archives : List Archive) (sources : ℕ) (cursor : Cursor) → cursor.source < sources → filled_by sources cursor ≡ 0 → KnowsPlaceIn step last archives cursor
+knows_nothing step last [] sources cursor there none = tt
+knows_nothing step last (a ∷ archives) sources cursor there none = λ some.
+    absurd (elim (cases_zero cursor.slot) [
+      | inl zero_slot ↦ omega (arith, some, none)
+      | inr slot ↦ let p : 0 < cursor.slot * sources = nat.mul-pos slot (omega (arith, there)) in omega (arith, p, none)
+    ])
+
+-- a cursor that stands at the first cell
+pub cursor_stays : (d e : Coming) (cursor : Cursor) → e.sources_due ≡ d.sources_due → filled_by d.sources_due cursor ≡ 0 → IsCursor d cursor → IsCursor e cursor
+cursor_stays d e cursor same none is =
+    record { source_there = omega (arith, same, is.source_there); knows_place = knows_nothing e.step e.last (drop e.archive e.archives) d.sources_due cursor is.source_there none }
 
 -- ---- a source
 
@@ -188,7 +198,7 @@ names_came d name is = ap (λ ds. has_source ds name) (defs_of d.sources d.raws 
 
 -- ---- an archive
 
-rows_same : (archives : List Archive) → map (λ (head : Head). head.def.rows) (map head_of archives) ≡ rows_of_archives archives
+pub rows_same : (archives : List Archive) → map (λ (head : Head). head.def.rows) (map head_of archives) ≡ rows_of_archives archives
 rows_same [] = refl
 rows_same (a ∷ archives) = ap (λ (rows : List ℕ). a.def.rows ∷ rows) (rows_same archives)
 
@@ -333,7 +343,7 @@ head_keeps d a is none rows may =
       cells_first = λ some. absurd (omega (arith, some, ap length later.journal));
     }
 
-few_less : (s n m : ℕ) → 0 < s → s * n ≤ m → n ≤ m
+pub few_less : (s n m : ℕ) → 0 < s → s * n ≤ m → n ≤ m
 few_less zero n m some few = absurd (omega arith)
 few_less (suc s) n m some few = let p : suc s * n ≡ s * n + n = nat.suc-mul s n in omega (arith, p, few)
 

@@ -1,9 +1,9 @@
 -- Which piece is due, by what the fields hold.
 use Rattle.rrd_spec.specs.Settings.{resolution}
 use Rattle.rrd_spec.specs.declared.due.Due.TheVariants.{SourceDue, HeadDue, PrepDue, CellDue, EntryDue, NothingDue}
-use Rattle.std.proofs.Common.{◌≡◌, ◌∙◌, ◌+◌, ◌*◌, ◌/◌, ◌<◌, ◌≤◌, ℕ, zero, suc, List, [], ◌∷◌, ◌++◌, Some, None, sym, ap, subst, arith, length, map, take, drop, refl, min, get_or, length-append, length-take, length-drop}
+use Rattle.std.proofs.Common.{◌≡◌, ◌∙◌, ◌+◌, ◌*◌, ◌<◌, ◌≤◌, ℕ, zero, suc, List, [], ◌∷◌, ◌++◌, Some, None, sym, ap, subst, arith, length, map, take, drop, refl, min, get_or, length-append, length-take, length-drop}
 use Rattle.std.specs.Prelude.{sum, nat_lt, if◌then◌else◌}
-use Rattle.std.specs.List.{AllByRecursion, flat_map, range_with_len}
+use Rattle.std.specs.List.{AllByRecursion, flat_map}
 use Rattle.std.proofs.lemmas.Bool.{lt-ltb, le-ltb}
 use Rattle.std.proofs.lemmas.List.{length-map}
 use Rattle.std.proofs.lemmas.List.Concat.{flat_map-cons}
@@ -12,14 +12,14 @@ use Rattle.rrd_spec.specs.Filed.{Head, head_of, sources_of}
 use Rattle.rrd_spec.specs.History.{Archive}
 use Rattle.rrd_spec.specs.Rebuilding.{after_heads, due, prep_or, rows_in_all, unprepared}
 use Rattle.rrd_base.specs.Rebuild.{AreFewer, ArePrepared, Coming, IsArchiveSoFar, IsRebuilding, filed_in}
-use Rattle.rrd_spec.specs.Slots.{cells_by_slot, place_in, row_in}
+use Rattle.rrd_spec.specs.Slots.{cells_by_slot}
 use Rattle.rrd_spec.specs.Validity.{AreAccepted, IsRow}
 use Rattle.rrd_spec.specs.declared.settings.DsDef.{DsDef}
 use Rattle.rrd_spec.specs.declared.settings.RraDef.{RraDef}
 use Rattle.rrd_fixed.specs.declared.raw.Raw.{Raw}
 use Rattle.rrd_fold.specs.Parts.{Part}
-use Rattle.rrd_spec.specs.Lists.{All-at, All-take, All-drop}
-use Rattle.rrd_base.proofs.Placed.{is_place, row_in_is}
+use Rattle.rrd_spec.specs.Lists.{All-take, All-drop, All-weaker}
+use Rattle.rrd_spec.specs.Placed.{AsManyCells, HasOneEach}
 use Rattle.rrd_base.proofs.Rebuilt.{fold_sum, journal_length}
 use native.Mathlib.Nat as nat
 
@@ -32,33 +32,23 @@ unprepared_last sources (a ∷ b ∷ front) last is = rw (le-ltb (length a.parts
 
 -- ---- how many cells there are
 
-row_wide : (size last sources slot : ℕ) (rows : List (List Cell)) → 0 < size → slot < length rows → AllByRecursion (IsRow sources) rows → length (row_in size last rows slot) ≡ sources
-row_wide size last sources slot rows some inside all =
-    let place = place_in size last (length rows) slot in
-    let there : place < length rows = (is_place (last / size + 1) (length rows) slot inside).inside in
-    let row : IsRow sources (get_or rows place []) = All-at (IsRow sources) rows place [] all there in
-    ap length (row_in_is size last slot rows some inside) ∙ row.one_each
+-- by the law of the cells in slots
+abbrev pub AllAsMany : Type 0
+AllAsMany = (resolution last sources : ℕ) (rows : List (List Cell)) → AsManyCells resolution last sources rows
 
-slots_wide : (size last sources from count : ℕ) (rows : List (List Cell)) → 0 < size → from + count ≤ length rows → AllByRecursion (IsRow sources) rows → length (flat_map (row_in size last rows) (range_with_len from count)) ≡ sources * count
-slots_wide size last sources from zero rows some inside all = omega arith
-slots_wide size last sources from (suc count) rows some inside all =
-    let here = row_wide size last sources from rows some (omega arith) all in
-    let later = slots_wide size last sources (from + 1) count rows some (omega arith) all in
-    let more : length (flat_map (row_in size last rows) (range_with_len from (suc count))) ≡ length (row_in size last rows from) + length (flat_map (row_in size last rows) (range_with_len (from + 1) count)) =
-    ap length (flat_map-cons (row_in size last rows) from (range_with_len (from + 1) count)) ∙ length-append (row_in size last rows from) (flat_map (row_in size last rows) (range_with_len (from + 1) count)) in
-    let product : sources * suc count ≡ sources * count + sources = nat.mul-suc sources count in
-    omega (arith, here, later, more, product)
+pub one_each : (sources : ℕ) (rows : List (List Cell)) → AllByRecursion (IsRow sources) rows → AllByRecursion (HasOneEach sources) rows
+one_each sources rows all = All-weaker (IsRow sources) (HasOneEach sources) rows (λ (row : List Cell) (is : IsRow sources row). is.one_each) all
 
-pub archive_wide : (sources step last : ℕ) (a : Archive) → 0 < step → IsArchiveSoFar sources step last a → length (cells_by_slot step last a) ≡ sources * a.def.rows
-archive_wide sources step last a some is =
+pub archive_wide : AllAsMany → (sources step last : ℕ) (a : Archive) → 0 < step → IsArchiveSoFar sources step last a → length (cells_by_slot step last a) ≡ sources * a.def.rows
+archive_wide as_many sources step last a some is =
     let size : 0 < resolution step a.def = nat.mul-pos some is.def_is.some_steps in
-    slots_wide (resolution step a.def) last sources 0 (length a.rows) a.rows size (omega arith) is.each_row ∙ ap (λ n. sources * n) is.rows_are
+    as_many (resolution step a.def) last sources a.rows size (one_each sources a.rows is.each_row) ∙ (nat.mul_comm (length a.rows) sources ∙ ap (λ n. sources * n) is.rows_are)
 
-pub archives_wide : (sources step last : ℕ) (archives : List Archive) → 0 < step → AllByRecursion (IsArchiveSoFar sources step last) archives → length (flat_map (cells_by_slot step last) archives) ≡ sources * rows_in_all (map head_of archives)
-archives_wide sources step last [] some all = omega arith
-archives_wide sources step last (a ∷ archives) some all =
-    let here = archive_wide sources step last a some all.0 in
-    let later = archives_wide sources step last archives some all.1 in
+pub archives_wide : AllAsMany → (sources step last : ℕ) (archives : List Archive) → 0 < step → AllByRecursion (IsArchiveSoFar sources step last) archives → length (flat_map (cells_by_slot step last) archives) ≡ sources * rows_in_all (map head_of archives)
+archives_wide as_many sources step last [] some all = omega arith
+archives_wide as_many sources step last (a ∷ archives) some all =
+    let here = archive_wide as_many sources step last a some all.0 in
+    let later = archives_wide as_many sources step last archives some all.1 in
     let more : length (flat_map (cells_by_slot step last) (a ∷ archives)) ≡ length (cells_by_slot step last a) + length (flat_map (cells_by_slot step last) archives) =
     ap length (flat_map-cons (cells_by_slot step last) a archives) ∙ length-append (cells_by_slot step last a) (flat_map (cells_by_slot step last) archives) in
     let product : sources * (a.def.rows + rows_in_all (map head_of archives)) ≡ sources * a.def.rows + sources * rows_in_all (map head_of archives) = nat.mul-add sources a.def.rows (rows_in_all (map head_of archives)) in
@@ -128,16 +118,16 @@ after_cells : (d : Coming) → d.archives_due ≤ length d.archives → after_he
 after_cells d h = let n : d.archives_due ≤ length (map head_of d.archives) = omega (arith, h, length-map d.archives head_of) in rw (le-ltb (length (map head_of d.archives)) d.archives_due n) refl
 
 -- how many cells came
-pub cells_count : (d : Coming) → IsRebuilding d → length (filed_in d).cells ≡ d.sources_due * rows_in_all (map head_of (take d.archive d.archives)) + min d.filled (d.sources_due * rows_in_all (map head_of (drop d.archive d.archives)))
-cells_count d is =
+pub cells_count : AllAsMany → (d : Coming) → IsRebuilding d → length (filed_in d).cells ≡ d.sources_due * rows_in_all (map head_of (take d.archive d.archives)) + min d.filled (d.sources_due * rows_in_all (map head_of (drop d.archive d.archives)))
+cells_count as_many d is =
     let f = cells_by_slot d.step d.last in
     let front = flat_map f (take d.archive d.archives) in
     let back = flat_map f (drop d.archive d.archives) in
     let some = is.header_is.some_step in
     let all : length (front ++ take d.filled back) ≡ length front + length (take d.filled back) = length-append front (take d.filled back) in
     let taken : length (take d.filled back) ≡ min d.filled (length back) = length-take d.filled back in
-    let one : length front ≡ d.sources_due * rows_in_all (map head_of (take d.archive d.archives)) = archives_wide d.sources_due d.step d.last (take d.archive d.archives) some (All-take (IsArchiveSoFar d.sources_due d.step d.last) d.archive d.archives is.archives_are) in
-    let two : length back ≡ d.sources_due * rows_in_all (map head_of (drop d.archive d.archives)) = archives_wide d.sources_due d.step d.last (drop d.archive d.archives) some (All-drop (IsArchiveSoFar d.sources_due d.step d.last) d.archive d.archives is.archives_are) in
+    let one : length front ≡ d.sources_due * rows_in_all (map head_of (take d.archive d.archives)) = archives_wide as_many d.sources_due d.step d.last (take d.archive d.archives) some (All-take (IsArchiveSoFar d.sources_due d.step d.last) d.archive d.archives is.archives_are) in
+    let two : length back ≡ d.sources_due * rows_in_all (map head_of (drop d.archive d.archives)) = archives_wide as_many d.sources_due d.step d.last (drop d.archive d.archives) some (All-drop (IsArchiveSoFar d.sources_due d.step d.last) d.archive d.archives is.archives_are) in
     all ∙ (λ i. one i + (taken ∙ ap (λ n. min d.filled n) two) i)
 
 rows_split : (n : ℕ) (archives : List Archive) → rows_in_all (map head_of archives) ≡ rows_in_all (map head_of (take n archives)) + rows_in_all (map head_of (drop n archives))
@@ -161,26 +151,26 @@ few_left sources filled (a ∷ archives) some few =
     let two : sources * (a.def.rows + sum rows) ≡ sources * a.def.rows + sources * sum rows = nat.mul-add sources a.def.rows (sum rows) in
     subst (λ n. filled < sources * n) (sym one) (omega (arith, two, few))
 
-pub due_cell : (d : Coming) → IsRebuilding d → d.archives_due ≤ length d.archives → d.archive < length d.archives → after_heads (filed_in d) ≡ CellDue
-due_cell d is h there =
+pub due_cell : AllAsMany → (d : Coming) → IsRebuilding d → d.archives_due ≤ length d.archives → d.archive < length d.archives → after_heads (filed_in d) ≡ CellDue
+due_cell as_many d is h there =
     let left : 0 < length (drop d.archive d.archives) = omega (arith, there, length-drop d.archive d.archives) in
     let few = few_left d.sources_due d.filled (drop d.archive d.archives) left is.filled_few in
-    let n : length (filed_in d).cells < d.sources_due * rows_in_all (map head_of d.archives) = omega (arith, few, cells_count d is, total d) in
+    let n : length (filed_in d).cells < d.sources_due * rows_in_all (map head_of d.archives) = omega (arith, few, cells_count as_many d is, total d) in
     after_cells d h ∙ rw (lt-ltb (length (filed_in d).cells) (d.sources_due * rows_in_all (map head_of d.archives)) n) refl
 
-past_cells : (d : Coming) → IsRebuilding d → d.archives_due ≤ length d.archives → length d.archives ≤ d.archive → after_heads (filed_in d) ≡ (if nat_lt (length (filed_in d).entries) d.entries_due then EntryDue else NothingDue)
-past_cells d is h past =
+past_cells : AllAsMany → (d : Coming) → IsRebuilding d → d.archives_due ≤ length d.archives → length d.archives ≤ d.archive → after_heads (filed_in d) ≡ (if nat_lt (length (filed_in d).entries) d.entries_due then EntryDue else NothingDue)
+past_cells as_many d is h past =
     let none : drop d.archive d.archives ≡ [] = none_there (drop d.archive d.archives) (omega (arith, past, length-drop d.archive d.archives)) in
     let zero_left : d.sources_due * rows_in_all (map head_of (drop d.archive d.archives)) ≡ d.sources_due * 0 = ap (λ xs. d.sources_due * rows_in_all (map head_of xs)) none in
-    let n : d.sources_due * rows_in_all (map head_of d.archives) ≤ length (filed_in d).cells = omega (arith, cells_count d is, total d, zero_left) in
+    let n : d.sources_due * rows_in_all (map head_of d.archives) ≤ length (filed_in d).cells = omega (arith, cells_count as_many d is, total d, zero_left) in
     after_cells d h ∙ rw (le-ltb (length (filed_in d).cells) (d.sources_due * rows_in_all (map head_of d.archives)) n) refl
 
-pub due_entry : (d : Coming) → IsRebuilding d → d.archives_due ≤ length d.archives → length d.archives ≤ d.archive → length d.journal < d.entries_due → after_heads (filed_in d) ≡ EntryDue
-due_entry d is h past some =
+pub due_entry : AllAsMany → (d : Coming) → IsRebuilding d → d.archives_due ≤ length d.archives → length d.archives ≤ d.archive → length d.journal < d.entries_due → after_heads (filed_in d) ≡ EntryDue
+due_entry as_many d is h past some =
     let n : length (filed_in d).entries < d.entries_due = omega (arith, some, journal_length d) in
-    past_cells d is h past ∙ rw (lt-ltb (length (filed_in d).entries) d.entries_due n) refl
+    past_cells as_many d is h past ∙ rw (lt-ltb (length (filed_in d).entries) d.entries_due n) refl
 
-pub due_nothing : (d : Coming) → IsRebuilding d → d.archives_due ≤ length d.archives → length d.archives ≤ d.archive → d.entries_due ≤ length d.journal → after_heads (filed_in d) ≡ NothingDue
-due_nothing d is h past none =
+pub due_nothing : AllAsMany → (d : Coming) → IsRebuilding d → d.archives_due ≤ length d.archives → length d.archives ≤ d.archive → d.entries_due ≤ length d.journal → after_heads (filed_in d) ≡ NothingDue
+due_nothing as_many d is h past none =
     let n : d.entries_due ≤ length (filed_in d).entries = omega (arith, none, journal_length d) in
-    past_cells d is h past ∙ rw (le-ltb (length (filed_in d).entries) d.entries_due n) refl
+    past_cells as_many d is h past ∙ rw (le-ltb (length (filed_in d).entries) d.entries_due n) refl

@@ -116,11 +116,9 @@ entries_all d is came = omega (arith, came.entries, is.few_entries, journal_leng
 
 -- ---- the content
 
-pub content_valid : (d : Coming) → IsRebuilding d → AllCame (filed_in d) → IsValid (content_so_far d)
-content_valid d is came =
+pub content_is_valid : (d : Coming) → IsRebuilding d → length d.sources ≡ d.sources_due → length d.archives ≡ d.archives_due → unprepared d.sources_due (map head_of d.archives) ≡ None → IsValid (content_so_far d)
+content_is_valid d is sources archives prepared =
     let h = is.header_is in
-    let sources = sources_whole d is came in
-    let archives = archives_all d is came in
     record {
       some_step = h.some_step;
       small_step = h.small_step;
@@ -136,8 +134,11 @@ content_valid d is came =
       names_differ = is.names_differ;
       raws_are = is.raws_are;
       parts_are = record { one_each = is.one_part_each; each = is.parts_are };
-      archives_are = subst (λ n. AllByRecursion (IsValidArchive n (d.last / d.step)) d.archives) (sym sources) (archives_whole d.sources_due d.step d.last d.archives is.archives_are came.preps);
+      archives_are = subst (λ n. AllByRecursion (IsValidArchive n (d.last / d.step)) d.archives) (sym sources) (archives_whole d.sources_due d.step d.last d.archives is.archives_are prepared);
     }
+
+pub content_valid : (d : Coming) → IsRebuilding d → AllCame (filed_in d) → IsValid (content_so_far d)
+content_valid d is came = content_is_valid d is (sources_whole d is came) (archives_all d is came) came.preps
 
 pub database_valid : (d : Coming) → IsRebuilding d → AllCame (filed_in d) → IsValidDatabase (content_so_far d) (journal_of d.journal)
 database_valid d is came = record { content_is = content_valid d is came; journal_is = is.journal_is; few = omega (arith, entries_all d is came, is.header_is.few_entries) }

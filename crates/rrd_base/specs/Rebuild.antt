@@ -13,8 +13,9 @@ use Rattle.rrd_spec.specs.History.{Archive, Content}
 use Rattle.rrd_spec.specs.Limits.{version_one}
 use Rattle.rrd_spec.specs.Rebuilding.{IsArchiveDef, IsHeader, IsRowPart, outline_left, unprepared}
 use Rattle.rrd_spec.specs.Settings.{is_double, names, resolution}
-use Rattle.rrd_spec.specs.Slots.{cells_by_slot, place_in}
+use Rattle.rrd_spec.specs.Slots.{cells_by_slot}
 use Rattle.rrd_spec.specs.Validity.{AreAccepted, IsPart, IsRow, IsSource, IsValidJournal}
+use Rattle.rrd_base.specs.Cursor.{KnowsPlace, filled_by}
 use Rattle.rrd_base.specs.Journal.{journal_of}
 use Rattle.rrd_base.specs.declared.journal.Entry.{Entry}
 use Rattle.rrd_base.specs.declared.rebuild.Rebuild.TheInside.{Inside}
@@ -43,10 +44,6 @@ pub record Coming : Type 0 where
   pub places : ℕ
   pub journal : List Entry
   pub outline : Outline
-
--- how many cells of its archive a cursor has passed
-abbrev pub filled_by : ℕ → Cursor → ℕ
-filled_by sources cursor = cursor.slot * sources + cursor.source
 
 abbrev pub coming : Inside → Coming
 coming d = record {
@@ -150,16 +147,15 @@ pub record IsRebuilding (d : Coming) : Type 0 where
   pub filled_few : AreFewer d.sources_due (drop d.archive d.archives) d.filled
   pub cells_first : 0 < length d.journal → CellsCame d
 
--- the place of the row in a slot of the first of these archives
-abbrev pub IsPlaceIn : ℕ → ℕ → List Archive → ℕ → ℕ → Type 0
-IsPlaceIn step last [] slot place = Unit {0}
-IsPlaceIn step last (archive ∷ archives) slot place =
-    place ≡ place_in (resolution step archive.def) last archive.def.rows slot
+-- it knows its place in the first of these archives, if there is one
+abbrev pub KnowsPlaceIn : ℕ → ℕ → List Archive → Cursor → Type 0
+KnowsPlaceIn step last [] cursor = Unit {0}
+KnowsPlaceIn step last (archive ∷ archives) cursor =
+    KnowsPlace (resolution step archive.def) last archive.def.rows cursor
 
--- a cursor knows the place of its row once it has left the archive's first cell
 pub record IsCursor (d : Coming) (cursor : Cursor) : Type 0 where
   pub source_there : cursor.source < d.sources_due
-  pub place_is : 0 < d.filled → IsPlaceIn d.step d.last (drop d.archive d.archives) cursor.slot cursor.place
+  pub knows_place : KnowsPlaceIn d.step d.last (drop d.archive d.archives) cursor
 
 abbrev pub filed_of : Inside → Filed
 filed_of d = filed_in (coming d)

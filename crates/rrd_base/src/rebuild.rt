@@ -16,17 +16,22 @@ use crate::rra::Rra;
 use crate::{Database, DsDef, Due, List, Outline, RraDef};
 use circular_buffer::HeapCircularBuffer;
 use cursor::Cursor;
+use fitting::may_undo;
 use judged::{is_accepted, is_archive, is_bounded, is_part, is_source};
 use made::{made_row, made_step};
 use rrd_fixed::{Cell, Raw};
 use rrd_fold::{Function, StepPrep};
+use rrd_spec::laws;
 use rrd_spec::limits::{LATEST_TIME, MOST_ARCHIVES, MOST_SOURCES};
 use std::alloc::{AllocError, Global};
 use std::marker::Model;
+use undoing::undo;
 
 mod cursor;
+mod fitting;
 mod judged;
 mod made;
+mod undoing;
 
 /// Why a piece is not taken.
 #[derive(Clone, Copy, Debug, PartialEq, Eq)]
@@ -154,6 +159,7 @@ impl Rebuild {
     pub fn due(&self) -> Due
         ensures { result ≡ due self.now }
     {
+        laws::cells_stand_in_slots();
         if (self.sources.len() as u64) < self.sources_due {
             return Due::SourceDue;
         }
@@ -297,6 +303,72 @@ impl Rebuild {
         let Ok(()) = self.archives[last].push_prep(prep) else {
             return Err(PieceFault::OutOfMemory);
         };
+        Ok(())
+    }
+
+    // Whether a cell may come.
+    fn may_cell(&self, cell: Cell) -> bool
+        ensures good { result ≡ true → MayCell self.now cell }
+        ensures bad { MayCell self.now cell → result ≡ true }
+    {
+        let Due::CellDue = self.due() else {
+            return false;
+        };
+        is_bounded(cell)
+    }
+
+    /// Takes the next cell, in millionths: archive by archive, slot by slot, source by source. Bad
+    /// where another piece is due or it is past the greatest rate; refused, it changes nothing. It
+    /// takes no memory.
+    pub fn cell(&mut self, cell: Cell) -> Result<(), PieceFault>
+        ensures ok { OnOk result (MayCell self.old cell × (self.new ≡ with_cell self.old cell)) }
+        ensures bad { IfErr result (λ e. e ≡ Bad → MayCell self.old cell → ⊥) }
+        ensures err { OnErr result (self.new ≡ self.old) }
+    {
+        laws::rows_stand_in_slots();
+        laws::cells_stand_in_slots();
+        if !self.may_cell(cell) {
+            return Err(PieceFault::Bad);
+        }
+        let rra = &mut self.archives[self.cursor.archive];
+        let def = rra.def();
+        let place = self.cursor.place(&def, self.step, self.last);
+        rra.put(place, self.cursor.source, cell);
+        self.cursor
+            .advance(place, self.sources_due as usize, def.rows);
+        Ok(())
+    }
+
+    // Whether an entry may come.
+    fn may_entry(&self, entry: &Entry) -> bool
+        ensures good { result ≡ true → MayEntry self.now (entry_of entry.now) }
+        ensures bad { MayEntry self.now (entry_of entry.now) → result ≡ true }
+    {
+        laws::cells_stand_in_slots();
+        laws::journals_in_pieces();
+        laws::outlines_follow();
+        let Due::EntryDue = self.due() else {
+            return false;
+        };
+        may_undo(self.step, &self.outline, entry)
+    }
+
+    /// Takes the next entry, newest first. Bad where another piece is due or it doesn't fit the
+    /// outline that the entries before it leave; refused, it changes nothing. It takes no memory: the
+    /// journal has its places from the beginning.
+    pub fn entry(&mut self, entry: Entry) -> Result<(), PieceFault>
+        ensures ok { OnOk result (MayEntry self.old (entry_of entry) × (self.new ≡ with_entry self.old (entry_of entry))) }
+        ensures bad { IfErr result (λ e. e ≡ Bad → MayEntry self.old (entry_of entry) → ⊥) }
+        ensures err { OnErr result (self.new ≡ self.old) }
+    {
+        laws::cells_stand_in_slots();
+        laws::outlines_follow();
+        laws::outlines_judge_journals();
+        if !self.may_entry(&entry) {
+            return Err(PieceFault::Bad);
+        }
+        undo(&mut self.outline, &entry);
+        let _oldest = self.journal.push_front(entry);
         Ok(())
     }
 

@@ -21,16 +21,16 @@ pub returns-then-self-archives : goal.returns-then-self-archives
 returns-then-self-archives c =
     let d = coming c.self.inside in
     let after = due_after d c.self.invariant.came (omega arith) (ap (λ (f : Filed). unprepared f.header.sources f.heads) c.self.view_is ∙ sym c.unprepared.ensures ∙ c.in_default.is) in
-    sym (after ∙ due_cell d c.self.invariant.came (omega arith) (omega arith)) ∙ ap due c.self.view_is
+    sym (after ∙ due_cell c.cells_stand_in_slots.ensures.as_many d c.self.invariant.came (omega arith) (omega arith)) ∙ ap due c.self.view_is
 
 pub returns-then-len-self-2 : goal.returns-then-len-self-2
 returns-then-len-self-2 c =
     let d = coming c.self.inside in
     let after = due_after d c.self.invariant.came (omega arith) (ap (λ (f : Filed). unprepared f.header.sources f.heads) c.self.view_is ∙ sym c.unprepared.ensures ∙ c.in_default.is) in
-    sym (after ∙ due_entry d c.self.invariant.came (omega arith) (omega arith) (omega arith)) ∙ ap due c.self.view_is
+    sym (after ∙ due_entry c.cells_stand_in_slots.ensures.as_many d c.self.invariant.came (omega arith) (omega arith) (omega arith)) ∙ ap due c.self.view_is
 
 pub returns : goal.returns
 returns c =
     let d = coming c.self.inside in
     let after = due_after d c.self.invariant.came (omega arith) (ap (λ (f : Filed). unprepared f.header.sources f.heads) c.self.view_is ∙ sym c.unprepared.ensures ∙ c.in_default.is) in
-    sym (after ∙ due_nothing d c.self.invariant.came (omega arith) (omega arith) (omega arith)) ∙ ap due c.self.view_is
+    sym (after ∙ due_nothing c.cells_stand_in_slots.ensures.as_many d c.self.invariant.came (omega arith) (omega arith) (omega arith)) ∙ ap due c.self.view_is

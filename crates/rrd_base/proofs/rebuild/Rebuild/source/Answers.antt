@@ -17,7 +17,7 @@ invariant_of-self c =
     λ i. record d { sources = sym e.0 i; raws = sym e.1 i; preps = sym e.2 i; outline = record d.outline { sources = sym e.3 i } } in
     record {
       came = subst IsRebuilding path c.self.invariant.came;
-      cursor_is = record { source_there = c.self.invariant.cursor_is.source_there; place_is = c.self.invariant.cursor_is.place_is };
+      cursor_is = record { source_there = c.self.invariant.cursor_is.source_there; knows_place = c.self.invariant.cursor_is.knows_place };
     }
 
 pub invariant_of-self-2 : goal.invariant_of-self-2
@@ -32,7 +32,7 @@ invariant_of-self-2 c =
     λ i. record d { sources = sym e.0 i; raws = sym e.1 i; preps = sym (e.2 ∙ ap (λ p. d.preps ++ p ∷ []) part) i; outline = record d.outline { sources = sym e.3 i } } in
     record {
       came = subst IsRebuilding path (source_keeps d source.def source.raw source.part c.self.invariant.came may);
-      cursor_is = record { source_there = c.self.invariant.cursor_is.source_there; place_is = c.self.invariant.cursor_is.place_is };
+      cursor_is = record { source_there = c.self.invariant.cursor_is.source_there; knows_place = c.self.invariant.cursor_is.knows_place };
     }
 
 pub returns-clause-ok : goal.returns-clause-ok
