@@ -4,11 +4,13 @@
 mod block;
 mod body;
 mod cells;
+mod decoding;
 mod encoding;
 mod entries;
 mod fault;
 pub mod laws;
 mod pieces;
 
+pub use decoding::decode;
 pub use encoding::encode;
 pub use fault::FileFault;
