@@ -3,6 +3,7 @@ pub mod Pieces
 pub mod Layout
 pub mod Stages
 pub mod Faults
+pub mod FaultTexts
 pub mod Laws
 pub mod Values
 pub mod Gathered

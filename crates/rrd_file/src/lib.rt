@@ -4,6 +4,7 @@
 mod block;
 mod body;
 mod cells;
+mod decoding;
 mod encoding;
 mod entries;
 mod fault;
@@ -11,5 +12,6 @@ pub mod laws;
 mod pieces;
 mod reading;
 
+pub use decoding::decode;
 pub use encoding::encode;
 pub use fault::FileFault;

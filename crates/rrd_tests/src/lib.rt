@@ -29,3 +29,5 @@ mod shared;
 mod slow;
 #[cfg(test)]
 mod streams;
+#[cfg(test)]
+mod tasks;

@@ -1,0 +1,41 @@
+-- Definition: what a batch over the database in a place comes to (own).
+use Rattle.std.specs.Prelude.{◌==◌, ℕ, List, Option, Some, None, Result, Ok, Err, if◌then◌else◌}
+use Rattle.std.specs.Io.KnownBytes.{Consumes, Keeps}
+use Rattle.rrd_spec.specs.Survivors.{State, Stored}
+use Rattle.rrd_tool.specs.Effects.{StandsFor}
+use Rattle.rrd_tool.specs.Run.{RunOver}
+use Rattle.rrd_tool.specs.declared.batch.StreamFault.{StreamFault}
+use Rattle.rrd_store.specs.Places.{Finds, Leaves}
+use Rattle.rrd_store.specs.declared.batch.FileBatchEnd.{FileBatchEnd}
+use Rattle.rrd_store.specs.declared.faults.TaskFault.{TaskFault}
+
+-- the end of writing the database, by its fault
+abbrev pub written : Option TaskFault → Result (Unit {0}) TaskFault
+written None = Ok (tt {0})
+written (Some fault) = Err fault
+
+-- the lines were run from the database that was found: whatever state it stands for, the run leads to one that the
+-- database in the end stands for. That one is left in the place
+pub record RunsLines (now : ℕ) (found : Option Stored) (old new r0 r1 c0 c1 : Option (List ℕ)) (end : FileBatchEnd)
+    : Type 0 where
+  pub last : Option Stored
+  pub runs : (s0 : Option State) → StandsFor found s0
+      → (seen : List ℕ) × Consumes r0 r1 seen
+      × (s1 : Option State) × StandsFor last s1
+      × RunOver now seen r1 s0 s1 end.refused c0 c1 end.stream
+  pub left : Leaves last old new (written end.unstored)
+
+-- `old` and `new` are the place's bytes before and after, `r0` and `r1` what is left of the input, `c0` and `c1` the
+-- output
+abbrev pub IsFileBatch : ℕ → Option (List ℕ) → Option (List ℕ) → Option (List ℕ) → Option (List ℕ)
+    → Option (List ℕ) → Option (List ℕ) → Result FileBatchEnd TaskFault → Type 0
+IsFileBatch now old new r0 r1 c0 c1 (Err fault) =
+    Finds old (Err fault) × Keeps old new × Keeps r0 r1 × Keeps c0 c1
+IsFileBatch now old new r0 r1 c0 c1 (Ok end) =
+    (found : Option Stored) × Finds old (Ok found) × RunsLines now found old new r0 r1 c0 c1 end
+
+-- 0 if no line was refused and nothing failed
+abbrev pub batch_status : ℕ → Option StreamFault → Option TaskFault → ℕ
+batch_status refused None None = if refused == 0 then 0 else 1
+batch_status refused None (Some fault) = 1
+batch_status refused (Some fault) unstored = 1

@@ -1,0 +1,47 @@
+-- Definition: the texts of the faults of tasks, and what is written for them (own).
+use Rattle.std.specs.Prelude.{◌++◌, [], ℕ, Bool, List, codes, false, true, if◌then◌else◌}
+use Rattle.rrd_file.specs.FaultTexts.{file_fault_text}
+use Rattle.rrd_tool.specs.Faults.{error_line, fault_text}
+use Rattle.rrd_tool.specs.declared.batch.StreamFault.{StreamFault}
+use Rattle.rrd_tool.specs.declared.batch.StreamFault.TheVariants as stream
+use Rattle.rrd_tool.specs.declared.faults.Fault.{Fault}
+use Rattle.rrd_tool.specs.declared.faults.Fault.TheVariants as fault
+use Rattle.rrd_tool.specs.declared.faults.LineFault.{LineFault}
+use Rattle.rrd_tool.specs.declared.faults.LineFault.TheVariants as line
+use Rattle.rrd_store.specs.declared.faults.TaskFault.{TaskFault}
+use Rattle.rrd_store.specs.declared.faults.TaskFault.TheVariants.{Command, Stream, File, CannotOpen, CannotWrite}
+
+abbrev pub stream_text : StreamFault → List ℕ
+stream_text stream.Write = codes "write failed"
+stream_text stream.Read = codes "read failed"
+stream_text stream.OutOfMemory = codes "out of memory"
+
+abbrev pub task_fault_text : TaskFault → List ℕ
+task_fault_text (Command fault) = fault_text fault
+task_fault_text (Stream fault) = stream_text fault
+task_fault_text (File fault) = file_fault_text fault
+task_fault_text CannotOpen = codes "cannot open"
+task_fault_text CannotWrite = codes "cannot write"
+
+-- words that are no command
+abbrev pub is_misuse_line : LineFault → Bool
+is_misuse_line line.Usage = true
+is_misuse_line (line.BadWord part number) = false
+is_misuse_line line.OutOfMemory = false
+
+abbrev pub is_misuse_command : Fault → Bool
+is_misuse_command (fault.Line f) = is_misuse_line f
+is_misuse_command (fault.Refused refusal) = false
+is_misuse_command fault.NoDatabase = false
+is_misuse_command fault.Output = false
+
+abbrev pub is_misuse : TaskFault → Bool
+is_misuse (Command fault) = is_misuse_command fault
+is_misuse (Stream fault) = false
+is_misuse (File fault) = false
+is_misuse CannotOpen = false
+is_misuse CannotWrite = false
+
+-- what is written for a fault: its line, and the usage text where the words were no command
+abbrev pub report_of : List ℕ → TaskFault → List ℕ
+report_of usage fault = error_line (task_fault_text fault) ++ (if is_misuse fault then usage else [])

@@ -1,0 +1,5 @@
+pub mod Tasks
+pub mod Faults
+pub mod Places
+pub mod Single
+pub mod Batch

@@ -1,0 +1,81 @@
+-- Definition: what one command over the database in a place comes to (own).
+use Rattle.std.specs.Prelude.{◌≡◌, ℕ, Bool, List, Option, Some, None, Result, Ok, Err, false, true, if◌then◌else◌}
+use Rattle.std.specs.Io.KnownBytes.{Keeps}
+use Rattle.rrd_spec.specs.Survivors.{Stored}
+use Rattle.rrd_tool.specs.Executed.{Executes}
+use Rattle.rrd_tool.specs.Reading.{IsReading}
+use Rattle.rrd_tool.specs.declared.commands.Command.{Command}
+use Rattle.rrd_tool.specs.declared.commands.Command.TheVariants as command
+use Rattle.rrd_tool.specs.declared.execution.Outcome.{Outcome}
+use Rattle.rrd_tool.specs.declared.faults.Fault.{Fault}
+use Rattle.rrd_tool.specs.declared.faults.Fault.TheVariants.{Line, Output}
+use Rattle.rrd_tool.specs.declared.faults.LineFault.{LineFault}
+use Rattle.rrd_store.specs.Faults.{is_misuse}
+use Rattle.rrd_store.specs.Places.{Finds, Leaves}
+use Rattle.rrd_store.specs.declared.faults.TaskFault.{TaskFault}
+use Rattle.rrd_store.specs.declared.faults.TaskFault.TheVariants as task
+
+-- ---- the database before the command
+
+-- a place where nothing is can't be opened
+abbrev pub FindsOne : Option (List ℕ) → Result (Option Stored) TaskFault → Type 0
+FindsOne held (Ok None) = ⊥
+FindsOne held (Ok (Some database)) = Finds held (Ok (Some database))
+FindsOne held (Err fault) = Finds held (Err fault)
+
+-- a create asks for none, whatever is there
+abbrev pub StartsFrom : Command → Option (List ℕ) → Result (Option Stored) TaskFault → Type 0
+StartsFrom (command.Create spec) held start = start ≡ Ok None
+StartsFrom (command.Update update) held start = FindsOne held start
+StartsFrom (command.Tune tuning) held start = FindsOne held start
+StartsFrom (command.Resize index change rows) held start = FindsOne held start
+StartsFrom (command.Fetch function asked from to) held start = FindsOne held start
+StartsFrom command.Last held start = FindsOne held start
+StartsFrom command.Revert held start = FindsOne held start
+
+-- ---- what is left of it
+
+-- after a refused command and one that printed the place is as it was; a change is written. What was printed may fail
+-- to be handed on
+abbrev pub EndsBy : Option Fault → Bool → Option Stored → Option (List ℕ) → Option (List ℕ) → Result (Unit {0}) TaskFault
+    → Type 0
+EndsBy (Some fault) changed database old new end = (end ≡ Err (task.Command fault)) × Keeps old new
+EndsBy None true database old new end = Leaves database old new end
+EndsBy None false database old new (Ok x) = Keeps old new
+EndsBy None false database old new (Err fault) = (fault ≡ task.Command Output) × Keeps old new
+
+abbrev pub Ends : Outcome → Option (List ℕ) → Option (List ℕ) → Result (Unit {0}) TaskFault → Type 0
+Ends outcome old new end = EndsBy outcome.fault outcome.changed outcome.database old new end
+
+-- ---- the whole: `old` and `new` are the place's bytes before and after, `c0` and `c1` those of the output
+
+-- the place is not written, and nothing is printed
+abbrev pub Stops : TaskFault → Option (List ℕ) → Option (List ℕ) → Option (List ℕ) → Option (List ℕ)
+    → Result (Unit {0}) TaskFault → Type 0
+Stops fault old new c0 c1 end = (end ≡ Err fault) × Keeps old new × Keeps c0 c1
+
+-- the command runs over what was found, and what it leaves is written
+abbrev pub RunsFrom : Command → Result (Option Stored) TaskFault → Option (List ℕ) → Option (List ℕ)
+    → Option (List ℕ) → Option (List ℕ) → Result (Unit {0}) TaskFault → Type 0
+RunsFrom command (Err fault) old new c0 c1 end = Stops fault old new c0 c1 end
+RunsFrom command (Ok kept) old new c0 c1 end =
+    (outcome : Outcome) × Executes kept command c0 c1 outcome × Ends outcome old new end
+
+-- what was read of the words is looked for in the place, if it is a command
+abbrev pub RunsAs : Result Command LineFault → Option (List ℕ) → Option (List ℕ) → Option (List ℕ)
+    → Option (List ℕ) → Result (Unit {0}) TaskFault → Type 0
+RunsAs (Err fault) old new c0 c1 end = Stops (task.Command (Line fault)) old new c0 c1 end
+RunsAs (Ok command) old new c0 c1 end =
+    (start : Result (Option Stored) TaskFault)
+    × StartsFrom command old start
+    × RunsFrom command start old new c0 c1 end
+
+abbrev pub IsSingle : List (List ℕ) → ℕ → Option (List ℕ) → Option (List ℕ) → Option (List ℕ) → Option (List ℕ)
+    → Result (Unit {0}) TaskFault → Type 0
+IsSingle words now old new c0 c1 end =
+    (read : Result Command LineFault) × IsReading words now read × RunsAs read old new c0 c1 end
+
+-- 2 if the words were no command, 1 after any other fault
+abbrev pub single_status : Result (Unit {0}) TaskFault → ℕ
+single_status (Ok x) = 0
+single_status (Err fault) = if is_misuse fault then 2 else 1

@@ -1,0 +1,42 @@
+-- Definition: what the program's words ask for (own).
+use Rattle.std.specs.Prelude.{◌==◌, [], ◌∷◌, ℕ, Bool, List, codes, false, if◌then◌else◌}
+use Rattle.std.specs.Str.{bytes_eq}
+use Rattle.rrd_store.specs.declared.task.Task.{Task}
+use Rattle.rrd_store.specs.declared.task.Task.TheVariants as task
+
+-- nothing that the program does, or help; a batch over no file, or over the file of this name; or one command over
+-- one, with the command's words
+pub data Asked : Type 0 where
+  ForUsage : Asked
+  ForBatch : Asked
+  ForFileBatch : List ℕ → Asked
+  ForCommand : List ℕ → List (List ℕ) → Asked
+
+abbrev pub begins_with_minus : List ℕ → Bool
+begins_with_minus [] = false
+begins_with_minus (b ∷ bs) = b == 45
+
+-- a file, where no word stands behind its name
+abbrev pub asked_of_batch : List (List ℕ) → Asked
+asked_of_batch [] = ForBatch
+asked_of_batch (file ∷ []) = if begins_with_minus file then ForUsage else ForFileBatch file
+asked_of_batch (file ∷ word ∷ words) = ForUsage
+
+abbrev pub asked_of_command : List ℕ → List (List ℕ) → Asked
+asked_of_command command [] = ForUsage
+asked_of_command command (file ∷ words) =
+    if begins_with_minus file then ForUsage else ForCommand file (command ∷ words)
+
+-- the program's name comes first; without a command there is nothing to do
+abbrev pub asked : List (List ℕ) → Asked
+asked [] = ForUsage
+asked (name ∷ []) = ForUsage
+asked (name ∷ command ∷ words) =
+    if bytes_eq command (codes "batch") then asked_of_batch words else asked_of_command command words
+
+-- what a task says of that
+abbrev pub told_by : Task → Asked
+told_by task.Usage = ForUsage
+told_by task.Batch = ForBatch
+told_by (task.FileBatch file) = ForFileBatch file.now
+told_by (task.Single file words) = ForCommand file.now words

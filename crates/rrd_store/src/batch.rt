@@ -1,0 +1,55 @@
+//! A batch over the database in a place.
+ghost use Rattle.std.specs.Prelude.{◌≡◌};
+ghost use Rattle.rrd_store.specs.Batch.{IsFileBatch, batch_status};
+
+use crate::stored::{load, store};
+use crate::{Place, TaskFault};
+use rrd_tool::{StreamFault, run_batch};
+use std::alloc::Global;
+use std::io::{Read, Write};
+
+/// How a batch over a place ended, after its lines.
+#[derive(Clone, Copy, Debug, PartialEq, Eq)]
+pub struct FileBatchEnd {
+    /// How many fault lines were written whole.
+    pub refused: u64,
+    /// Why the batch ended before its input did.
+    pub stream: Option<StreamFault>,
+    /// Why the database isn't in its place.
+    pub unstored: Option<TaskFault>,
+}
+
+/// Runs each line of the reader over the database in a place, or over none where nothing is there, as
+/// `run_batch` does, and writes the database, where there is one in the end, in place of what is there.
+///
+/// Errors: `File` and `CannotOpen` where the place has no database that can be read. Nothing was read
+/// of the lines then, nothing written, and the place is as it was.
+pub fn run_file_batch<P: Place, R: Read, W: Write>(
+    alloc: Global,
+    now: u64,
+    place: &mut P,
+    reader: &mut R,
+    out: &mut W,
+) -> Result<FileBatchEnd, TaskFault>
+    ensures { IsFileBatch now (P.contents place.old) (P.contents place.new)
+        (R.remaining reader.old) (R.remaining reader.new) (W.contents out.old) (W.contents out.new) result }
+{
+    let database = load(alloc, place)?;
+    let end = run_batch(alloc, database, now, reader, out);
+    let unstored = store(place, end.database.as_ref()).err();
+    Ok(FileBatchEnd {
+        refused: end.refused,
+        stream: end.stream,
+        unstored,
+    })
+}
+
+/// The status after a batch: 0 if no line was refused and nothing failed, else 1.
+pub fn batch_status(refused: u64, stream: Option<StreamFault>, unstored: Option<TaskFault>) -> u8
+    ensures { result ≡ batch_status refused stream unstored }
+{
+    match (stream, unstored) {
+        (None, None) if refused == 0 => 0,
+        _ => 1,
+    }
+}

@@ -1,0 +1,86 @@
+//! Why a task wasn't done, and the lines that say so.
+ghost use Rattle.std.specs.Prelude.{◌≡◌, ◌≤◌, length};
+ghost use Rattle.rrd_fixed.specs.Written.{Writes};
+ghost use Rattle.rrd_tool.specs.Faults.{error_line};
+ghost use Rattle.rrd_store.specs.Faults.{is_misuse, report_of, stream_text, task_fault_text};
+
+use crate::usage::USAGE;
+use arrayvec::ArrayString;
+use rrd_file::FileFault;
+use rrd_fixed::{WriteFault, short_text, write_bytes};
+use rrd_tool::{Fault, LineFault, StreamFault};
+use std::io::Write;
+use thiserror::Error;
+
+/// Why a task wasn't done, or not whole.
+#[derive(Clone, Copy, Debug, PartialEq, Eq, Error)]
+#[error("{}", self.text().as_str())]
+pub enum TaskFault {
+    /// The command was refused, or its output failed.
+    Command(Fault),
+    /// A stream of the batch failed.
+    Stream(StreamFault),
+    /// The file keeps no database, or its end could not be reached.
+    File(FileFault),
+    /// The file is not there, or can't be opened to be read.
+    CannotOpen,
+    /// The file can't be opened to be written, or a write of it failed.
+    CannotWrite,
+}
+
+// The text of a stream's fault.
+fn stream_string(fault: StreamFault) -> ArrayString<96>
+    ensures text { result.bytes ≡ stream_text fault }
+    ensures short { length result.bytes ≤ 60 }
+{
+    match fault {
+        StreamFault::Write => short_text("write failed"),
+        StreamFault::Read => short_text("read failed"),
+        StreamFault::OutOfMemory => short_text("out of memory"),
+    }
+}
+
+impl TaskFault {
+    /// The text that says why, without the mark before it: at most 60 bytes.
+    pub fn text(self) -> ArrayString<96>
+        ensures text { result.bytes ≡ task_fault_text self }
+        ensures short { length result.bytes ≤ 60 }
+    {
+        match self {
+            TaskFault::Command(fault) => fault.text(),
+            TaskFault::Stream(fault) => stream_string(fault),
+            TaskFault::File(fault) => fault.text(),
+            TaskFault::CannotOpen => short_text("cannot open"),
+            TaskFault::CannotWrite => short_text("cannot write"),
+        }
+    }
+
+    /// Whether the words were no command, which the usage text answers.
+    pub fn is_misuse(self) -> bool
+        ensures { result ≡ is_misuse self }
+    {
+        matches!(self, TaskFault::Command(Fault::Line(LineFault::Usage)))
+    }
+}
+
+// Writes the line of a fault.
+fn write_line<W: Write>(err: &mut W, fault: &TaskFault) -> Result<(), WriteFault>
+    ensures { Writes (W.contents err.old) (W.contents err.new) (error_line (task_fault_text fault.now)) result }
+{
+    let mut line = ArrayString::<96>::new();
+    line.push_str("ERROR: ");
+    line.push_str(fault.text().as_str());
+    line.push_str("\n");
+    write_bytes(err, line.as_str().as_bytes())
+}
+
+/// Writes the line of a fault: `ERROR: `, its text and LF. The usage text follows where the words were no command.
+pub fn write_task_fault<W: Write>(err: &mut W, fault: &TaskFault) -> Result<(), WriteFault>
+    ensures { Writes (W.contents err.old) (W.contents err.new) (report_of USAGE.now fault.now) result }
+{
+    write_line(err, fault)?;
+    if fault.is_misuse() {
+        return write_bytes(err, USAGE.as_bytes());
+    }
+    Ok(())
+}

@@ -1,0 +1,17 @@
+//! The tasks of the program: a batch, or one command, over a database that a file keeps.
+#![tactic(auto)]
+
+mod batch;
+mod faults;
+mod place;
+mod single;
+mod stored;
+mod task;
+mod usage;
+
+pub use batch::{FileBatchEnd, batch_status, run_file_batch};
+pub use faults::{TaskFault, write_task_fault};
+pub use place::Place;
+pub use single::{run_single, single_status};
+pub use task::{Task, asked_for};
+pub use usage::USAGE;

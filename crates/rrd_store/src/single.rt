@@ -1,0 +1,86 @@
+//! One command over the database in a place.
+ghost use Rattle.std.specs.Prelude.{◌≡◌, Result};
+ghost use Rattle.std.specs.Io.KnownBytes.{Keeps};
+ghost use Rattle.rrd_store.specs.Single.{Ends, IsSingle, StartsFrom, single_status};
+
+use crate::stored::{load, store};
+use crate::{Place, TaskFault};
+use rrd_base::Database;
+use rrd_fixed::flush;
+use rrd_tool::{Command, Fault, Outcome, Words, execute, read_command};
+use std::alloc::Global;
+use std::io::Write;
+
+// The database that a command runs over. One that makes a database doesn't ask what the place has.
+fn start<P: Place>(
+    alloc: Global,
+    command: &Command,
+    place: &P,
+) -> Result<Option<Database>, TaskFault>
+    ensures { StartsFrom command.now (P.contents place.now) result }
+{
+    if let Command::Create(_) = command {
+        return Ok(None);
+    }
+    match load(alloc, place)? {
+        Some(database) => Ok(Some(database)),
+        None => Err(TaskFault::CannotOpen),
+    }
+}
+
+// Hands on what a command printed, or writes what it changed.
+fn finish<P: Place, W: Write>(outcome: Outcome, place: &mut P, out: &mut W) -> Result<(), TaskFault>
+    ensures place { Ends outcome (P.contents place.old) (P.contents place.new) result }
+    ensures out { Keeps (W.contents out.old) (W.contents out.new) }
+{
+    if let Some(fault) = outcome.fault {
+        return Err(TaskFault::Command(fault));
+    }
+    if outcome.changed {
+        return store(place, outcome.database.as_ref());
+    }
+    match flush(out) {
+        Ok(()) => Ok(()),
+        Err(_) => Err(TaskFault::Command(Fault::Output)),
+    }
+}
+
+/// Runs the command that the words are over the database in a place, and writes what it prints. The
+/// words are read first, then the place, unless the command is a create; then the command runs, and
+/// if it changed the database this is written in place of what is there. `now` is the present time in
+/// seconds since 1970.
+///
+/// Errors: `Command` where the words are no command, the command is refused or its output fails; `File`
+/// and `CannotOpen` where the place has no database that can be read. At each of them the place is as
+/// it was. `CannotWrite`, after an accepted change: the place is as it was, or has a front of the new
+/// bytes and not all.
+pub fn run_single<P: Place, W: Write>(
+    alloc: Global,
+    words: &Words,
+    now: u64,
+    place: &mut P,
+    out: &mut W,
+) -> Result<(), TaskFault>
+    ensures { IsSingle words.now now (P.contents place.old) (P.contents place.new)
+        (W.contents out.old) (W.contents out.new) result }
+{
+    let command = match read_command(alloc, words, now) {
+        Ok(command) => command,
+        Err(fault) => return Err(TaskFault::Command(Fault::Line(fault))),
+    };
+    let database = start(alloc, &command, place)?;
+    let outcome = execute(alloc, database, command, out);
+    finish(outcome, place, out)
+}
+
+/// The status after a command: 0 if nothing was refused and nothing failed, 2 if the words were no
+/// command, else 1.
+pub fn single_status(end: Result<(), TaskFault>) -> u8
+    ensures { result ≡ single_status end }
+{
+    match end {
+        Ok(()) => 0,
+        Err(fault) if fault.is_misuse() => 2,
+        Err(_) => 1,
+    }
+}

@@ -1,0 +1,48 @@
+//! Reading a database from a place, and writing it there.
+ghost use Rattle.std.specs.Prelude.{option_map};
+ghost use Rattle.rrd_store.specs.Places.{Finds, Leaves, Replaces};
+ghost use Rattle.rrd_file.specs.Layout.{layout};
+
+use crate::{Place, TaskFault};
+use rrd_base::Database;
+use rrd_file::{decode, encode};
+use std::alloc::Global;
+
+/// The database in a place; none where nothing is there.
+pub(crate) fn load<P: Place>(alloc: Global, place: &P) -> Result<Option<Database>, TaskFault>
+    ensures { Finds (P.contents place.now) result }
+{
+    let Ok(found) = place.open() else {
+        return Err(TaskFault::CannotOpen);
+    };
+    let Some(reader) = found else {
+        return Ok(None);
+    };
+    match decode(alloc, reader) {
+        Ok(database) => Ok(Some(database)),
+        Err(fault) => Err(TaskFault::File(fault)),
+    }
+}
+
+// Writes a database in place of what is there.
+fn replace<P: Place>(place: &mut P, database: &Database) -> Result<(), TaskFault>
+    ensures { Replaces (P.contents place.old) (P.contents place.new) (layout database.now) result }
+{
+    if place.empty().is_err() {
+        return Err(TaskFault::CannotWrite);
+    }
+    if encode(database, place).is_err() {
+        return Err(TaskFault::CannotWrite);
+    }
+    Ok(())
+}
+
+/// Writes a database, where there is one, in place of what is there.
+pub(crate) fn store<P: Place>(place: &mut P, database: Option<&Database>) -> Result<(), TaskFault>
+    ensures { Leaves (option_map (λ d. d.now) database.entry) (P.contents place.old) (P.contents place.new) result }
+{
+    match database {
+        None => Ok(()),
+        Some(database) => replace(place, database),
+    }
+}
