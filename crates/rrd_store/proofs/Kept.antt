@@ -6,7 +6,7 @@ use Rattle.rrd_fixed.specs.Writing.{Appends-kept}
 use Rattle.rrd_spec.specs.Survivors.{Stored}
 use Rattle.rrd_tool.specs.Commands.{effect}
 use Rattle.rrd_tool.specs.Effects.{Effect}
-use Rattle.rrd_tool.specs.Executed.{Comes, Executes}
+use Rattle.rrd_tool.specs.Execution.{Comes, Executes}
 use Rattle.rrd_tool.specs.declared.commands.Command.{Command}
 use Rattle.rrd_tool.specs.declared.execution.Outcome.{Outcome}
 use Rattle.rrd_tool.specs.declared.faults.Fault.{Fault}

@@ -3,7 +3,7 @@ use Rattle.std.specs.Prelude.{◌==◌, ℕ, List, Option, Some, None, Result, O
 use Rattle.std.specs.Io.KnownBytes.{Consumes, Keeps}
 use Rattle.rrd_spec.specs.Survivors.{State, Stored}
 use Rattle.rrd_tool.specs.Effects.{StandsFor}
-use Rattle.rrd_tool.specs.Run.{RunOver}
+use Rattle.rrd_tool.specs.Batch.Turns.{RunOver}
 use Rattle.rrd_tool.specs.declared.batch.StreamFault.{StreamFault}
 use Rattle.rrd_store.specs.Places.{Finds, Leaves}
 use Rattle.rrd_store.specs.declared.batch.FileBatchEnd.{FileBatchEnd}

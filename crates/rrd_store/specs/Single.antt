@@ -2,8 +2,8 @@
 use Rattle.std.specs.Prelude.{◌≡◌, ℕ, Bool, List, Option, Some, None, Result, Ok, Err, false, true, if◌then◌else◌}
 use Rattle.std.specs.Io.KnownBytes.{Keeps}
 use Rattle.rrd_spec.specs.Survivors.{Stored}
-use Rattle.rrd_tool.specs.Executed.{Executes}
-use Rattle.rrd_tool.specs.Reading.{IsReading}
+use Rattle.rrd_tool.specs.Execution.{Executes}
+use Rattle.rrd_tool.specs.Commands.Reading.{IsReading}
 use Rattle.rrd_tool.specs.declared.commands.Command.{Command}
 use Rattle.rrd_tool.specs.declared.commands.Command.TheVariants as command
 use Rattle.rrd_tool.specs.declared.execution.Outcome.{Outcome}
