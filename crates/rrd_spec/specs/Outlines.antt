@@ -1,6 +1,6 @@
 -- Definition: the outline of a database, which decides what journal entry fits it, and what is left of it once the
 -- entry is undone (own).
-use Rattle.std.specs.Prelude.{◌≡◌, ◌≢◌, ℕ, zero, suc, ◌*◌, ◌/◌, ◌%◌, ◌<◌, ◌≤◌, min, false, List, [], ◌∷◌, length, map, sum, slice_set, slice_index_or}
+use Rattle.std.specs.Prelude.{◌≡◌, ◌≢◌, ℕ, zero, suc, ◌/◌, ◌%◌, ◌<◌, ◌≤◌, min, false, List, [], ◌∷◌, length, map, slice_set, slice_index_or}
 use Rattle.std.specs.List.{AllByRecursion, fold}
 use Rattle.rrd_fixed.specs.declared.cell.Cell.{Cell}
 use Rattle.rrd_fixed.specs.Rate.{IsAccepted}

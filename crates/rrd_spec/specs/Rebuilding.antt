@@ -9,7 +9,6 @@ use Rattle.rrd_fold.specs.Parts.{Part}
 use Rattle.rrd_spec.specs.declared.due.Due.{Due}
 use Rattle.rrd_spec.specs.declared.due.Due.TheVariants.{SourceDue, HeadDue, PrepDue, CellDue, EntryDue, NothingDue}
 use Rattle.rrd_spec.specs.declared.outline.Outline.{Outline}
-use Rattle.rrd_spec.specs.declared.settings.DsDef.{DsDef}
 use Rattle.rrd_spec.specs.declared.settings.RraDef.{RraDef}
 use Rattle.rrd_spec.specs.Limits.{Limits, version_one}
 use Rattle.rrd_spec.specs.Settings.{has_source}
