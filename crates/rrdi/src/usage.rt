@@ -19,7 +19,10 @@ commands:
   resize ARCHIVE GROW|SHRINK ROWS
   fetch AVERAGE|MIN|MAX|LAST [-r|--resolution SECONDS] [-s|--start TIME]
          [-e|--end TIME]
+  first [--rraindex ARCHIVE]
   last
+  lastupdate
+  info
   revert
 
 Times are seconds since 1970. Status: 0 if no line was refused and nothing
