@@ -6,7 +6,7 @@ ghost use Rattle.rrd_spec.specs.Limits.{version_one};
 ghost use Rattle.rrd_spec.specs.Choice.{choice_of};
 ghost use Rattle.rrd_spec.specs.Commands.{Resizing, TuningBy, Updating, moved, rows_changed, rows_of_archives};
 ghost use Rattle.rrd_spec.specs.Creating.{create_verdict, created};
-ghost use Rattle.rrd_spec.specs.Cells.{cell_at, prep_at};
+ghost use Rattle.rrd_spec.specs.Cells.{cell_at, oldest, oldest_time, prep_at};
 ghost use Rattle.rrd_spec.specs.History.{definitions};
 ghost use Rattle.rrd_fixed.specs.declared.cell.Cell.TheVariants.{Unknown as CellUnknown};
 ghost use Rattle.rrd_fixed.specs.declared.raw.Raw.TheVariants.{Unknown};
@@ -21,7 +21,7 @@ use crate::resize::{check_resize, rows_changed};
 use crate::rra::{Rra, new_all};
 use crate::tune::{check_tune, keep_sources, tune_all};
 use crate::update::check_update;
-use crate::{Change, Chosen, CreateSpec, DsDef, Refusal, SourceBefore, Tuning, Update};
+use crate::{Change, Chosen, CreateSpec, DsDef, Refusal, RraDef, SourceBefore, Tuning, Update};
 use arrayvec::ArrayVec;
 use rrd_fixed::{Cell, Raw};
 use rrd_fold::{RowPrep, StepPrep};
@@ -111,6 +111,16 @@ impl Content {
             search.offer(number as u64, &rra.def());
         }
         search.finish()
+    }
+
+    /// The time of an archive's oldest row.
+    pub(crate) fn first(&self, archive: u64) -> Result<i64, Refusal>
+        ensures { result ≡ oldest_time self.now archive }
+    {
+        let Some(rra) = self.archives.get(archive as usize) else {
+            return Err(Refusal::NoSuchArchive);
+        };
+        Ok(oldest(self.step, self.last, &rra.def()))
     }
 
     /// A data source's last raw value.
@@ -210,4 +220,20 @@ fn age(last: u64, resolution: u64, time: i64) -> i128
     ensures { result ≡ pos (last / resolution) -ℤ int_div_euclid time (pos resolution) }
 {
     i128::from(last / resolution) - i128::from(time.div_euclid(resolution as i64))
+}
+
+/// The time of an archive's oldest row.
+fn oldest(step: u64, last: u64, def: &RraDef) -> i64
+    requires some_step { 0 < step }
+    requires small_step { step ≤ version_one.longest_step }
+    requires good_last { last ≤ version_one.latest_time }
+    requires some_steps { 0 < def.now.steps }
+    requires few_steps { def.now.steps ≤ version_one.most_steps }
+    requires some_rows { 0 < def.now.rows }
+    requires few_rows { def.now.rows ≤ version_one.most_rows }
+    ensures { result ≡ oldest step last def.now }
+{
+    let resolution = def.resolution(step);
+    let newest = last / resolution * resolution;
+    newest as i64 - ((def.rows - 1) * resolution) as i64
 }

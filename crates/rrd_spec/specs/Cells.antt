@@ -3,12 +3,15 @@ use Rattle.std.specs.Prelude.{ℕ, ◌+◌, ◌-◌, ◌*◌, ◌/◌, ℤ, pos,
 use Rattle.std.specs.List.{fold, enumerate_from, range_with_len}
 use Rattle.std.specs.Int.{int_max}
 use Rattle.rrd_fixed.specs.declared.cell.Cell.{Cell}
+use Rattle.rrd_spec.specs.declared.refusal.Refusal.{Refusal}
+use Rattle.rrd_spec.specs.declared.refusal.Refusal.TheVariants.{NoSuchArchive}
+use Rattle.rrd_spec.specs.declared.settings.RraDef.{RraDef}
 use Rattle.rrd_spec.specs.Settings.{resolution}
-use Rattle.rrd_spec.specs.History.{Archive, Content, Event, moment_at_end, rows_at_end}
+use Rattle.rrd_spec.specs.History.{Archive, Content, Event, definitions, moment_at_end, rows_at_end}
 use Rattle.rrd_spec.specs.Steps.{parts_of, row_parts_of}
 use Rattle.std.specs.Prelude.{negsuc, nat_lt}
 use Rattle.std.specs.Int.{int_div_euclid}
-use Rattle.std.specs.Prelude.{zero, suc}
+use Rattle.std.specs.Prelude.{zero, suc, Result, ok_or, option_map, slice_get}
 use Rattle.rrd_fixed.specs.declared.cell.Cell.TheVariants.{Unknown}
 use Rattle.rrd_fold.specs.declared.function.Function.TheVariants.{Average}
 use Rattle.rrd_fold.specs.Bounds.{Consolidating}
@@ -107,6 +110,16 @@ cell base index archive events time source =
 -- the time of the row of a place, 0 the oldest, among so many rows
 abbrev pub time_of : ℕ → ℕ → ℕ → ℕ → ℤ
 time_of resolution rows last place = reach resolution rows last +ℤ pos ((place + 1) * resolution)
+
+-- the time of an archive's oldest row. It may be negative
+abbrev pub oldest : ℕ → ℕ → RraDef → ℤ
+oldest step last def = time_of (resolution step def) def.rows last 0
+
+-- that of the archive of this number, or the refusal where there is none (rrdfirst)
+abbrev pub oldest_time : Content → ℕ → Result ℤ Refusal
+oldest_time content number =
+    ok_or (option_map (oldest content.step content.last) (slice_get (definitions content.archives) number))
+    NoSuchArchive
 
 -- an archive's rows, oldest first: those at the last multiples of the resolution up to the end
 abbrev pub rows_by_time : Content → ℕ → Archive → List Event → List (List Cell)

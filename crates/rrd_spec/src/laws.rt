@@ -308,9 +308,10 @@ pub fn examples()
     ensures bounded { commands.Bounded }
 {}
 
-/// So they do for new databases, rows by their times, and fetches.
+/// So they do for new databases, rows by their times, fetches, and the oldest rows' times.
 pub fn examples_by_time()
     ensures created { times.Created }
     ensures resizing { times.Resizing }
     ensures fetched { times.Fetched }
+    ensures oldest { times.Oldest }
 {}

@@ -2,10 +2,11 @@
 use Rattle.std.specs.Prelude.{◌≡◌, ℕ, Bool, List, Option, Some, None, Result, Ok, Err, false, true, if◌then◌else◌}
 use Rattle.std.specs.Io.KnownBytes.{Keeps}
 use Rattle.rrd_spec.specs.Survivors.{Stored}
+use Rattle.rrd_tool.specs.Commands.{effect}
+use Rattle.rrd_tool.specs.Effects.{Effect, Makes, Changes, Reverts, Shows}
 use Rattle.rrd_tool.specs.Execution.{Executes}
 use Rattle.rrd_tool.specs.Commands.Reading.{IsReading}
 use Rattle.rrd_tool.specs.declared.commands.Command.{Command}
-use Rattle.rrd_tool.specs.declared.commands.Command.TheVariants as command
 use Rattle.rrd_tool.specs.declared.execution.Outcome.{Outcome}
 use Rattle.rrd_tool.specs.declared.faults.Fault.{Fault}
 use Rattle.rrd_tool.specs.declared.faults.Fault.TheVariants.{Line, Output}
@@ -23,15 +24,15 @@ FindsOne held (Ok None) = ⊥
 FindsOne held (Ok (Some database)) = Finds held (Ok (Some database))
 FindsOne held (Err fault) = Finds held (Err fault)
 
--- a create asks for none, whatever is there
+-- what makes a database asks for none, whatever is there
+abbrev pub StartsBy : Effect → Option (List ℕ) → Result (Option Stored) TaskFault → Type 0
+StartsBy (Makes spec) held start = start ≡ Ok None
+StartsBy (Changes command) held start = FindsOne held start
+StartsBy Reverts held start = FindsOne held start
+StartsBy (Shows show) held start = FindsOne held start
+
 abbrev pub StartsFrom : Command → Option (List ℕ) → Result (Option Stored) TaskFault → Type 0
-StartsFrom (command.Create spec) held start = start ≡ Ok None
-StartsFrom (command.Update update) held start = FindsOne held start
-StartsFrom (command.Tune tuning) held start = FindsOne held start
-StartsFrom (command.Resize index change rows) held start = FindsOne held start
-StartsFrom (command.Fetch function asked from to) held start = FindsOne held start
-StartsFrom command.Last held start = FindsOne held start
-StartsFrom command.Revert held start = FindsOne held start
+StartsFrom command held start = StartsBy (effect command) held start
 
 -- ---- what is left of it
 

@@ -22,7 +22,10 @@ commands:
   resize FILE ARCHIVE GROW|SHRINK ROWS
   fetch  FILE AVERAGE|MIN|MAX|LAST [-r|--resolution SECONDS] [-s|--start TIME]
          [-e|--end TIME]
+  first  FILE [--rraindex ARCHIVE]
   last   FILE
+  lastupdate FILE
+  info   FILE
   revert FILE
 
 FILE doesn't begin with '-'. Times are seconds since 1970. Status: 0 if nothing

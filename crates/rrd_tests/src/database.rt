@@ -43,6 +43,8 @@ fn assert_settings(rt: &impl Abort, database: &Database) {
 
 fn assert_unfinished(rt: &impl Abort, database: &Database) {
     assert_eq!(rt; (database.last(), database.undoable()), (24, 1));
+    assert_eq!(rt; (database.first(0), database.first(1)), (Ok(-10), Ok(-120)));
+    assert_eq!(rt; database.first(2), Err(Refusal::NoSuchArchive));
     assert_eq!(rt; (database.sources(), database.archives()), (1, 2));
     assert_eq!(rt; database.last_raw(0), Raw::Known(6_000_000));
     let step = database.step_prep(0);

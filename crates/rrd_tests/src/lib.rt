@@ -18,6 +18,8 @@ mod fixed;
 #[cfg(test)]
 mod fold;
 #[cfg(test)]
+mod printing;
+#[cfg(test)]
 mod reading;
 #[cfg(test)]
 mod retries;

@@ -42,7 +42,10 @@ fn tell<W: fmt::Write>(f: &mut Formatter<W>, command: &Command) -> fmt::Result {
             start,
             stop,
         } => write!(f, "fetch {function:?} {asked} {start} {stop}"),
+        Command::First { index } => write!(f, "first {index}"),
         Command::Last => write!(f, "last"),
+        Command::Lastupdate => write!(f, "lastupdate"),
+        Command::Info => write!(f, "info"),
         Command::Revert => write!(f, "revert"),
     }
 }
@@ -170,7 +173,11 @@ const COMMANDS: &[(&str, &str)] = &[
     ("fetch -e 100000 AVERAGE", "fetch Average 1 13600 100000"),
     ("fetch MAX -r 300 -s 5 --end 4", "fetch Max 300 5 4"),
     ("fetch MIN -s 5", "fetch Min 1 5 1000"),
+    ("first", "first 0"),
+    ("first --rraindex 3", "first 3"),
     ("last", "last"),
+    ("lastupdate", "lastupdate"),
+    ("info", "info"),
     ("revert", "revert"),
 ];
 
@@ -227,6 +234,8 @@ const UNREADABLE: &[(&str, &str)] = &[
     ("fetch LAST -s x -r y", "unreadable resolution"),
     ("fetch LAST -e y -s x", "unreadable start"),
     ("fetch LAST -e -", "unreadable end"),
+    ("first --rraindex x", "unreadable archive"),
+    ("first --rraindex -", "unreadable archive"),
 ];
 
 #[test]
@@ -260,7 +269,13 @@ const TAKEN: &[(&str, &str)] = &[
     ("resize 0 GROW 4 5", "usage"),
     ("fetch", "usage"),
     ("fetch LAST LAST", "usage"),
+    ("first --rraindex=7", "first 7"),
+    ("first --rraindex -7", "usage"),
+    ("first --rraindex", "usage"),
+    ("first 0", "usage"),
     ("last 1", "usage"),
+    ("lastupdate 1", "usage"),
+    ("info --last", "usage"),
     ("revert --last", "usage"),
     ("help", "usage"),
     ("-h", "usage"),
@@ -270,9 +285,9 @@ const TAKEN: &[(&str, &str)] = &[
     ("", "usage"),
     ("frobnicate", "usage"),
     ("creat", "usage"),
-    ("first", "usage"),
-    ("lastupdate", "usage"),
-    ("info", "usage"),
+    ("firs", "usage"),
+    ("dump", "usage"),
+    ("graph", "usage"),
 ];
 
 #[test]

@@ -9,7 +9,10 @@ use Rattle.rrd_tool.proofs.OnLiterals.{shapes_on_literals}
 use Rattle.rrd_tool.specs.Arguments.Shapes.{Serves, app_with}
 use Rattle.rrd_tool.specs.Commands.{rrdi_app}
 use Rattle.rrd_tool.specs.Commands.Create.{create_app}
+use Rattle.rrd_tool.specs.Commands.First.{first_app}
+use Rattle.rrd_tool.specs.Commands.Info.{info_app}
 use Rattle.rrd_tool.specs.Commands.Last.{last_app}
+use Rattle.rrd_tool.specs.Commands.Lastupdate.{lastupdate_app}
 use Rattle.rrd_tool.specs.Commands.Revert.{revert_app}
 use Rattle.rrd_tool.specs.Commands.Update.{update_app}
 use Rattle.rrd_tool.specs.Commands.Fetch.{fetch_app}
@@ -37,9 +40,21 @@ pub resize_serves : (rest : List Text) → Serves (app_with resize_app) (codes "
 unfolding shapes_on_literals
 resize_serves = serves (app_with resize_app) (codes "resize") (refl, refl, refl, refl, refl, refl, refl)
 
+pub first_serves : (rest : List Text) → Serves (app_with first_app) (codes "first" ∷ rest)
+unfolding shapes_on_literals
+first_serves = serves (app_with first_app) (codes "first") (refl, refl, refl, refl, refl, refl, refl)
+
 pub last_serves : (rest : List Text) → Serves (app_with last_app) (codes "last" ∷ rest)
 unfolding shapes_on_literals
 last_serves = serves (app_with last_app) (codes "last") (refl, refl, refl, refl, refl, refl, refl)
+
+pub lastupdate_serves : (rest : List Text) → Serves (app_with lastupdate_app) (codes "lastupdate" ∷ rest)
+unfolding shapes_on_literals
+lastupdate_serves = serves (app_with lastupdate_app) (codes "lastupdate") (refl, refl, refl, refl, refl, refl, refl)
+
+pub info_serves : (rest : List Text) → Serves (app_with info_app) (codes "info" ∷ rest)
+unfolding shapes_on_literals
+info_serves = serves (app_with info_app) (codes "info") (refl, refl, refl, refl, refl, refl, refl)
 
 pub revert_serves : (rest : List Text) → Serves (app_with revert_app) (codes "revert" ∷ rest)
 unfolding shapes_on_literals

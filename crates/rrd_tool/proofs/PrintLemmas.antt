@@ -1,11 +1,15 @@
 -- Texts one after another.
-use Rattle.std.proofs.Common.{◌≡◌, ◌∙◌, ◌+◌, ◌-◌, ◌*◌, ◌/◌, ◌++◌, ℕ, List, Option, sym, ap, refl, append_assoc, append-nil, add-one, zero, suc, [], ◌∷◌, ◌≤◌, ◌<◌, arith, inl, inr, codes, take, length, get_or}
+use Rattle.std.proofs.Common.{◌≡◌, ◌∙◌, Ok, Err, ◌+◌, ◌-◌, ◌*◌, ◌/◌, ◌++◌, ℕ, List, Option, sym, ap, refl, append_assoc, append-nil, add-one, zero, suc, [], ◌∷◌, ◌≤◌, ◌<◌, arith, inl, inr, codes, take, length, get_or}
 use Rattle.std.proofs.Math.Nat.{mul-le-mul_left}
 use Rattle.std.proofs.lemmas.List.{take_more}
 use Rattle.std.proofs.lemmas.Bool.{cases_lt}
+use Rattle.std.proofs.lemmas.Option.{slice_get_read}
+use Rattle.std.specs.Io.KnownBytes.{Appends}
+use Rattle.std.specs.Option.{option_map_or}
+use Rattle.std.specs.Prelude.{slice_get}
 use Rattle.rrd_spec.specs.declared.settings.DsDef.{DsDef}
 use Rattle.rrd_fixed.specs.Written.{AppendsFront}
-use Rattle.rrd_fixed.specs.Writing.{writes_stop}
+use Rattle.rrd_fixed.specs.Writing.{writes_stop, writes_then}
 use Rattle.rrd_tool.specs.Commands.Fetch.{names_text, texts_below}
 
 pub below_more : (f : ℕ → List ℕ) (n : ℕ) → texts_below f (n + 1) ≡ texts_below f n ++ f n
@@ -25,6 +29,21 @@ pub front_below : (a b : Option (List ℕ)) (f : ℕ → List ℕ) (k n : ℕ) �
 front_below a b f k n le p =
     let split = below_split f n k le in
     rw split.1 (writes_stop a b (texts_below f k) split.0 p)
+
+-- one more of them is written
+pub one_more : (a b c : Option (List ℕ)) (f : ℕ → List ℕ) (k : ℕ) → Appends a b (texts_below f k) → Appends b c (f k) → Appends a c (texts_below f (k + 1))
+one_more a b c f k p q = rw (below_more f k) (writes_then {T = Unit {0}} a b c (texts_below f k) (f k) (Ok (tt {0})) p q)
+
+-- writing the next of them fails
+pub one_stops : (a b c : Option (List ℕ)) (f : ℕ → List ℕ) (k n : ℕ) → k < n → Appends a b (texts_below f k) → AppendsFront b c (f k) → AppendsFront a c (texts_below f n)
+one_stops a b c f k n less p q =
+    let both : AppendsFront a c (texts_below f k ++ f k) = writes_then {T = Unit {0}} a b c (texts_below f k) (f k) (Err (record {})) p q in
+    let more : AppendsFront a c (texts_below f (k + 1)) = rw (below_more f k) both in
+    front_below a c f (k + 1) n (omega (arith, less)) more
+
+-- the text of what stands in a place
+pub at_place : {A : Type 0} (f : A → List ℕ) (items : List A) (i : ℕ) (x : A) → i < length items → x ≡ get_or items i x → option_map_or f (slice_get items i) [] ≡ f x
+at_place f items i x inside is = rw (slice_get_read items (length items) i x refl inside is) refl
 
 names-append : (xs ys : List DsDef) → names_text (xs ++ ys) ≡ names_text xs ++ names_text ys
 names-append [] ys = refl

@@ -15,9 +15,9 @@ use Rattle.clap.specs.Words.{fault_of}
 use Rattle.rrd_fixed.specs.Writing.{Appends-kept}
 use Rattle.rrd_tool.specs.Batch.{Turn}
 use Rattle.rrd_tool.specs.Effects.{Effect, Makes, Changes, Reverts, Shows, StandsFor, is_change, kept_next, kept_of, next, revert_verdict, text_on, verdict_on, first_state}
-use Rattle.rrd_tool.specs.Execution.{Comes, IsFault}
+use Rattle.rrd_tool.specs.Execution.{Affects, Comes, IsFault}
 use Rattle.rrd_tool.specs.Batch.States.{Performs}
-use Rattle.rrd_tool.specs.Execution.Printing.{PrintsBy}
+use Rattle.rrd_tool.specs.Execution.Printing.{Prints, PrintsBy}
 use Rattle.rrd_tool.specs.Faults.{fault_line}
 use Rattle.rrd_tool.specs.Lines.{is_empty, text_in, words_of}
 use Rattle.rrd_tool.specs.Batch.States.{Asks, line_turns}
@@ -28,6 +28,7 @@ use Rattle.rrd_tool.specs.declared.commands.Command.{Command}
 use Rattle.rrd_tool.specs.declared.faults.LineFault.{LineFault}
 use Rattle.rrd_tool.specs.declared.faults.LineFault.TheVariants.{Usage, BadWord, OutOfMemory}
 use Rattle.rrd_tool.specs.declared.faults.Part.{Part}
+use Rattle.rrd_tool.specs.declared.execution.Outcome.{Outcome}
 use Rattle.rrd_tool.specs.declared.faults.Fault.{Fault}
 use Rattle.rrd_tool.specs.declared.faults.Fault.TheVariants.{Line, Refused, NoDatabase, Output}
 
@@ -198,13 +199,21 @@ some_length (word ∷ words) h = refl
 -- ---- what prints
 
 -- a text that was printed, or a front of it
-pub prints_comes : (verdict : Option Fault) (text : List ℕ) (effect : Effect) (Moved Same : Type 0) (c0 c1 : Option (List ℕ)) (changed : Bool) (fault : Option Fault)
+prints_comes : (verdict : Option Fault) (text : List ℕ) (effect : Effect) (Moved Same : Type 0) (c0 c1 : Option (List ℕ)) (changed : Bool) (fault : Option Fault)
     → verdict ≡ None → Moved → changed ≡ is_change effect → PrintsBy c0 c1 text fault → Comes verdict text effect Moved Same c0 c1 changed fault
 prints_comes verdict text effect Moved Same c0 c1 changed None v m e p = (v, m, e, p)
 prints_comes verdict text effect Moved Same c0 c1 changed (Some Output) v m e p = (v, m, e, p)
 prints_comes verdict text effect Moved Same c0 c1 changed (Some (Line fault)) v m e p = absurd p
 prints_comes verdict text effect Moved Same c0 c1 changed (Some (Refused fault)) v m e p = absurd p
 prints_comes verdict text effect Moved Same c0 c1 changed (Some NoDatabase) v m e p = absurd p
+
+-- a command that shows a text which was printed
+pub shown_comes : (kept : Stored) (show : Stored → Result (List ℕ) Refusal) (text : List ℕ) (c0 c1 : Option (List ℕ)) (outcome : Outcome)
+    → show kept ≡ Ok text → Prints kept c0 c1 text outcome → Affects (Some kept) (Shows show) c0 c1 outcome
+shown_comes kept show text c0 c1 outcome e p =
+    prints_comes (verdict_on (Some kept) (Shows show)) (text_on (Some kept) (Shows show)) (Shows show)
+    (outcome.database ≡ kept_next (Some kept) (Shows show)) (outcome.database ≡ Some kept) c0 c1 outcome.changed outcome.fault
+    (rw e refl) p.0 p.1 (rw e p.2)
 
 -- ---- what prints nothing
 

@@ -64,11 +64,14 @@ none_met : (word : Text)
     → bytes_eq word (codes "fetch") ≡ false
     → bytes_eq word (codes "tune") ≡ false
     → bytes_eq word (codes "resize") ≡ false
+    → bytes_eq word (codes "first") ≡ false
     → bytes_eq word (codes "last") ≡ false
+    → bytes_eq word (codes "lastupdate") ≡ false
+    → bytes_eq word (codes "info") ≡ false
     → bytes_eq word (codes "revert") ≡ false
     → subcommand_met (names_of (built rrdi_app)) idle word ≡ None
 unfolding shapes_on_literals
-none_met word e1 e2 e3 e4 e5 e6 e7 = rw (other_way word _ e1, other_way word _ e2, other_way word _ e3, other_way word _ e4, other_way word _ e5, other_way word _ e6, other_way word _ e7) refl
+none_met word e1 e2 e3 e4 e5 e6 e7 e8 e9 e10 = rw (other_way word _ e1, other_way word _ e2, other_way word _ e3, other_way word _ e4, other_way word _ e5, other_way word _ e6, other_way word _ e7, other_way word _ e8, other_way word _ e9, other_way word _ e10) refl
 
 rrdi_index : arg_by_index (built rrdi_app).top.rules 1 ≡ None
 unfolding shapes_on_literals
@@ -88,10 +91,13 @@ pub unknown_refused : (word : Text) (rest : List Text) → begins_with_minus wor
     → bytes_eq word (codes "fetch") ≡ false
     → bytes_eq word (codes "tune") ≡ false
     → bytes_eq word (codes "resize") ≡ false
+    → bytes_eq word (codes "first") ≡ false
     → bytes_eq word (codes "last") ≡ false
+    → bytes_eq word (codes "lastupdate") ≡ false
+    → bytes_eq word (codes "info") ≡ false
     → bytes_eq word (codes "revert") ≡ false
     → IsRefused (word ∷ rest)
-unknown_refused word rest b e1 e2 e3 e4 e5 e6 e7 none =
+unknown_refused word rest b e1 e2 e3 e4 e5 e6 e7 e8 e9 e10 none =
     let stands = stray_refused (built rrdi_app) word rest
-    (stray_first (built rrdi_app).top (names_of (built rrdi_app)) word rest (none_met word e1 e2 e3 e4 e5 e6 e7) b rrdi_index rrdi_leaf) in
+    (stray_first (built rrdi_app).top (names_of (built rrdi_app)) word rest (none_met word e1 e2 e3 e4 e5 e6 e7 e8 e9 e10) b rrdi_index rrdi_leaf) in
     let bad : stray ≡ [] = sym stands ∙ (sym (rrdi_words (word ∷ rest)) ∙ none) in cc

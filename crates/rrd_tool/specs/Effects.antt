@@ -19,7 +19,7 @@ pub data Effect : Type 0 where
   Makes : CreateSpec → Effect
   Changes : Command → Effect
   Reverts : Effect
-  Shows : (Content → Result (List ℕ) Refusal) → Effect
+  Shows : (Stored → Result (List ℕ) Refusal) → Effect
 
 -- ---- over a database
 
@@ -34,7 +34,7 @@ verdict_on kept (Makes spec) = option_map Refused (create_verdict spec)
 verdict_on None effect = Some NoDatabase
 verdict_on (Some kept) (Changes command) = option_map Refused (verdict kept.content command)
 verdict_on (Some kept) Reverts = option_map Refused (revert_verdict kept.journal)
-verdict_on (Some kept) (Shows show) = option_map Refused (result_err (show kept.content))
+verdict_on (Some kept) (Shows show) = option_map Refused (result_err (show kept))
 
 -- what is printed, where it is accepted
 abbrev pub text_on : Option Stored → Effect → List ℕ
@@ -42,7 +42,7 @@ text_on kept (Makes spec) = []
 text_on kept (Changes command) = []
 text_on kept Reverts = []
 text_on None (Shows show) = []
-text_on (Some kept) (Shows show) = unwrap_or (result_ok (show kept.content)) []
+text_on (Some kept) (Shows show) = unwrap_or (result_ok (show kept)) []
 
 -- whether it changes the database, where it is accepted
 abbrev pub is_change : Effect → Bool

@@ -11,7 +11,10 @@ ghost use Rattle.rrd_tool.specs.Fields.Answers.{Meets};
 
 mod create;
 mod fetch;
+mod first;
+mod info;
 mod last;
+mod lastupdate;
 mod resize;
 mod revert;
 mod tune;
@@ -49,8 +52,16 @@ pub enum Command {
         start: u64,
         stop: u64,
     },
+    /// Print the time of the oldest row of the archive with this number (rrdfirst).
+    First {
+        index: u64,
+    },
     /// Print the time of the last update (rrdlast).
     Last,
+    /// Print the last raw value of each source (rrdlastupdate).
+    Lastupdate,
+    /// Print the settings, and how many changes can be reverted (rrdinfo).
+    Info,
     /// Take back the newest change.
     Revert,
 }
@@ -65,7 +76,10 @@ pub(crate) fn rrdi_command<'a>(alloc: Global) -> Result<clap::Command<'a>, Alloc
         .subcommand(fetch::shape(alloc)?)?
         .subcommand(tune::shape(alloc)?)?
         .subcommand(resize::shape(alloc)?)?
+        .subcommand(first::shape(alloc)?)?
         .subcommand(last::shape(alloc))?
+        .subcommand(lastupdate::shape(alloc))?
+        .subcommand(info::shape(alloc))?
         .subcommand(revert::shape(alloc))
 }
 
@@ -91,8 +105,17 @@ pub(crate) fn command_named<'a>(
     if name == "resize" {
         return Ok(Some(command_with(alloc, resize::shape(alloc)?)?));
     }
+    if name == "first" {
+        return Ok(Some(command_with(alloc, first::shape(alloc)?)?));
+    }
     if name == "last" {
         return Ok(Some(command_with(alloc, last::shape(alloc))?));
+    }
+    if name == "lastupdate" {
+        return Ok(Some(command_with(alloc, lastupdate::shape(alloc))?));
+    }
+    if name == "info" {
+        return Ok(Some(command_with(alloc, info::shape(alloc))?));
     }
     if name == "revert" {
         return Ok(Some(command_with(alloc, revert::shape(alloc))?));
@@ -122,8 +145,14 @@ fn read_named(
         resize::read(matches)
     } else if name == "fetch" {
         fetch::read(matches, now)
+    } else if name == "first" {
+        first::read(matches)
     } else if name == "last" {
         Ok(Command::Last)
+    } else if name == "lastupdate" {
+        Ok(Command::Lastupdate)
+    } else if name == "info" {
+        Ok(Command::Info)
     } else {
         Ok(Command::Revert)
     }
@@ -150,8 +179,8 @@ fn read_entered(alloc: Global, matches: &ArgMatches<'_>, now: u64) -> Result<Com
 /// Errors: `Usage` where clap refuses the words, a request for help included. `BadWord` names the
 /// first part that can't be read, in this order: of create step, start, journal, definitions; of
 /// update template, samples; of tune heartbeat, minimum, maximum, type, rename; of resize archive,
-/// change, rows; of fetch function, resolution, start, end. `OutOfMemory` where a growth was
-/// refused.
+/// change, rows; of fetch function, resolution, start, end; of first archive. `OutOfMemory` where a
+/// growth was refused.
 pub fn read_command(alloc: Global, words: &Words, now: u64) -> Result<Command, LineFault>
     ensures { IsReading words.now now result }
 {
@@ -177,7 +206,10 @@ pub(crate) fn run<W: Write>(
             start,
             stop,
         } => fetch::run(database, function, asked, start, stop, out),
+        Command::First { index } => first::run(database, index, out),
         Command::Last => last::run(database, out),
+        Command::Lastupdate => lastupdate::run(database, out),
+        Command::Info => info::run(database, out),
         Command::Revert => revert::run(database),
         Command::Tune(tuning) => tune::run(database, &tuning),
         Command::Resize {

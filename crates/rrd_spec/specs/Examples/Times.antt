@@ -4,11 +4,11 @@ use Rattle.rrd_fold.specs.declared.function.Function.TheVariants.{Min, Last}
 use Rattle.rrd_spec.specs.declared.create.CreateSpec.{CreateSpec}
 use Rattle.rrd_spec.specs.declared.settings.DsDef.{DsDef}
 use Rattle.rrd_spec.specs.declared.settings.RraDef.{RraDef}
-use Rattle.rrd_spec.specs.declared.refusal.Refusal.TheVariants.{BadStep, NoSource, NoArchive, BadXff, BadRows, TooLarge, BadSpan, BadTime, NoArchiveForFunction, SpanTooLong}
+use Rattle.rrd_spec.specs.declared.refusal.Refusal.TheVariants.{BadStep, NoSource, NoArchive, BadXff, BadRows, TooLarge, BadSpan, BadTime, NoArchiveForFunction, SpanTooLong, NoSuchArchive}
 use Rattle.rrd_spec.specs.History.{Content, Event, Resized}
 use Rattle.rrd_spec.specs.Listed.{content_listed}
 use Rattle.rrd_spec.specs.Creating.{create_verdict, created as made}
-use Rattle.rrd_spec.specs.Cells.{horizon, row_by_time}
+use Rattle.rrd_spec.specs.Cells.{horizon, oldest_time, row_by_time}
 use Rattle.rrd_spec.specs.Choice.{choice}
 use Rattle.rrd_spec.specs.Examples.Histories.{created, gauge, archive, at, known, nan}
 use Rattle.rrd_spec.specs.Steps.{step}
@@ -71,3 +71,11 @@ Fetched =
     × (choice two_archives Last 1 20 10 ≡ Err BadSpan)
     × (choice two_archives Last 1 0 10000000000 ≡ Err BadTime)
     × (choice two_archives Last 1 0 9999999999 ≡ Err SpanTooLong)
+
+-- where the rows of each archive begin, also before 1970; and no third archive
+abbrev pub Oldest : Type 0
+Oldest =
+    (oldest_time two_archives 0 ≡ Ok (pos 80))
+    × (oldest_time two_archives 1 ≡ Ok (pos 60))
+    × (oldest_time two_archives 2 ≡ Err NoSuchArchive)
+    × (oldest_time (created 10 5 (gauge 100) (archive Last 1 4 ∷ [])) 0 ≡ Ok (negsuc 29))

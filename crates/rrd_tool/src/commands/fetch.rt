@@ -102,8 +102,8 @@ fn push_name(line: &mut ArrayString<2048>, name: &Name)
     line.push_str(name.as_str());
 }
 
-// The line of the sources' names.
-fn header_string(database: &Database) -> ArrayString<2048>
+/// The line of the sources' names. That the content is valid can be told here.
+pub(crate) fn header_string(database: &Database) -> ArrayString<2048>
     ensures text { result.bytes ≡ header_text database.now.content.sources }
     ensures valid { IsValid database.now.content }
 {

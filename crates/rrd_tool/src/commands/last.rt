@@ -1,8 +1,8 @@
 //! `last`: prints the time of the last update (rrdlast).
-ghost use Rattle.std.specs.Prelude.{Some, pos};
+ghost use Rattle.std.specs.Prelude.{Some, ◌++◌, ◌≤◌, codes, length};
 ghost use Rattle.rrd_fixed.specs.Written.{Writes};
 ghost use Rattle.rrd_tool.specs.Arguments.Shapes.{HasApp};
-ghost use Rattle.rrd_tool.specs.Commands.Last.{last_app, time_line};
+ghost use Rattle.rrd_tool.specs.Commands.Last.{last_app};
 ghost use Rattle.rrd_tool.specs.Execution.{Executes};
 
 use crate::Command;
@@ -21,13 +21,13 @@ pub(crate) fn shape<'a>(alloc: Global) -> clap::Command<'a>
     clap::Command::new(alloc, "last")
 }
 
-// Writes a time in seconds since 1970, on a line.
-fn write_time_line<W: Write>(out: &mut W, time: u64) -> Result<(), WriteFault>
-    ensures { Writes (W.contents out.old) (W.contents out.new) (time_line (pos time)) result }
+/// Writes a line of this text, of at most 40 bytes.
+pub(crate) fn write_line<W: Write>(out: &mut W, text: &str) -> Result<(), WriteFault>
+    requires { length text.now ≤ 40 }
+    ensures { Writes (W.contents out.old) (W.contents out.new) (text.now ++ codes "\n") result }
 {
     let mut line = ArrayString::<48>::new();
-    let mut buffer = Buffer::new();
-    line.push_str(buffer.format(time));
+    line.push_str(text);
     line.push_str("\n");
     write_bytes(out, line.as_str().as_bytes())
 }
@@ -36,6 +36,7 @@ fn write_time_line<W: Write>(out: &mut W, time: u64) -> Result<(), WriteFault>
 pub(crate) fn run<W: Write>(database: Database, out: &mut W) -> Outcome
     ensures { Executes (Some database) Command.Last (W.contents out.old) (W.contents out.new) result }
 {
-    let written = write_time_line(out, database.last());
+    let mut buffer = Buffer::new();
+    let written = write_line(out, buffer.format(database.last()));
     Outcome::of_text(database, written)
 }

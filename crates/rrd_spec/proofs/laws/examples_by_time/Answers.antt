@@ -13,4 +13,5 @@ returns c = record {
   created = (refl, refl, refl, refl, refl, refl, refl, refl);
   resizing = (refl, refl);
   fetched = (refl, refl, refl, refl, refl, refl, refl, refl);
+  oldest = (refl, refl, refl, refl);
 }

@@ -11,5 +11,8 @@ returns c =
     let three = nested _ _ _ _ _ c.in_ok-subcommand-3.ensures two c.in_ok-shape-3.ensures in
     let four = nested _ _ _ _ _ c.in_ok-subcommand-4.ensures three c.in_ok-shape-4.ensures in
     let five = nested _ _ _ _ _ c.in_ok-subcommand-5.ensures four c.in_ok-shape-5.ensures in
-    let six = nested _ _ _ _ _ c.in_ok-subcommand-6.ensures five c.shape-6.ensures in
-    IfOk-weaker c.subcommand-7.result _ _ (λ r h. (nested _ _ r _ _ h six c.shape-7.ensures).0) c.subcommand-7.ensures
+    let six = nested _ _ _ _ _ c.in_ok-subcommand-6.ensures five c.in_ok-shape-6.ensures in
+    let seven = nested _ _ _ _ _ c.in_ok-subcommand-7.ensures six c.shape-7.ensures in
+    let eight = nested _ _ _ _ _ c.in_ok-subcommand-8.ensures seven c.shape-8.ensures in
+    let nine = nested _ _ _ _ _ c.in_ok-subcommand-9.ensures eight c.shape-9.ensures in
+    IfOk-weaker c.subcommand-10.result _ _ (λ r h. (nested _ _ r _ _ h nine c.shape-10.ensures).0) c.subcommand-10.ensures

@@ -9,8 +9,17 @@ returns-in-Update g c = rw c.in-Update.is (c.run-in-Update.ensures (g.W.Write.co
 pub returns-in-Revert : goal.returns-in-Revert
 returns-in-Revert g c = rw c.in-Revert.is (c.run-in-Revert.ensures (g.W.Write.contents c.args.out.now))
 
+pub returns-in-First : goal.returns-in-First
+returns-in-First g c = rw c.in-First.is c.run-in-First.ensures
+
 pub returns-in-Last : goal.returns-in-Last
 returns-in-Last g c = rw c.in-Last.is c.run-in-Last.ensures
+
+pub returns-in-Lastupdate : goal.returns-in-Lastupdate
+returns-in-Lastupdate g c = rw c.in-Lastupdate.is c.run-in-Lastupdate.ensures
+
+pub returns-in-Info : goal.returns-in-Info
+returns-in-Info g c = rw c.in-Info.is c.run-in-Info.ensures
 
 pub returns-in-Tune : goal.returns-in-Tune
 returns-in-Tune g c = rw c.in-Tune.is (c.run-in-Tune.ensures (g.W.Write.contents c.args.out.now))

@@ -1,0 +1,10 @@
+use Rattle.std.proofs.Common.{◌≡◌, ◌≤◌, ◌+◌, ◌*◌, ◌++◌, codes, length, pos}
+use Rattle.rrd_fixed.specs.Text.{time_text}
+use Rattle.rrd_tool.specs.Commands.Fetch.{texts_below}
+use Rattle.rrd_tool.specs.Commands.Lastupdate.{raw_at}
+use Rattle.rrd_tool.proofs.commands.lastupdate.raws_string.Given as goal
+
+abbrev pub invariant-loop-source : goal.invariant-loop-source
+invariant-loop-source l =
+    (l.line.bytes ≡ time_text (pos l.database.content.last) ++ codes ":" ++ texts_below (raw_at l.database.content) l.source)
+    × (length l.line.bytes ≤ 41 + 49 * l.source)

@@ -1,0 +1,27 @@
+-- Definition: first: its shape, what its value is read as, and what it prints (rrdfirst).
+use Rattle.std.specs.Prelude.{ℕ, List, Result, Ok, codes}
+use Rattle.std.specs.Result.{result_map_both}
+use Rattle.clap.specs.Words.{App, Row, first_of, new_app, with_rule}
+use Rattle.rrd_fixed.specs.Reading.{whole_of}
+use Rattle.rrd_spec.specs.declared.refusal.Refusal.{Refusal}
+use Rattle.rrd_spec.specs.Cells.{oldest_time}
+use Rattle.rrd_spec.specs.History.{Content}
+use Rattle.rrd_tool.specs.Arguments.{option_rule}
+use Rattle.rrd_tool.specs.Commands.Last.{time_line}
+use Rattle.rrd_tool.specs.Fields.Parts.{Unread, ◌>>=◌, given}
+use Rattle.rrd_tool.specs.declared.commands.Command.{Command}
+use Rattle.rrd_tool.specs.declared.commands.Command.TheVariants as command
+use Rattle.rrd_tool.specs.declared.faults.Part.TheVariants as part
+
+unfoldable pub first_app : App
+first_app = with_rule (new_app (codes "first")) (option_rule (codes "rraindex") (codes "rraindex"))
+
+-- the archive is the one of number 0 by default (rrdfirst)
+abbrev pub first_from : List Row → Result Command Unread
+first_from rows =
+    given whole_of part.Archive (first_of (codes "rraindex") rows) 0
+    >>= (λ index. Ok (command.First index))
+
+-- the time of the archive's oldest row, or the refusal
+abbrev pub first_text : Content → ℕ → Result (List ℕ) Refusal
+first_text content index = result_map_both time_line (λ refusal. refusal) (oldest_time content index)

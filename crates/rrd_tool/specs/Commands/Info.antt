@@ -1,0 +1,93 @@
+-- Definition: info: its shape, and what it prints (rrdinfo, with values in plain digits; `journal`, `undoable` and
+-- `last_raw` are own).
+use Rattle.std.specs.Prelude.{◌++◌, [], ℕ, ℤ, List, Option, Some, None, Result, Ok, codes, decimal, length, pos, slice_get, slice_index_or}
+use Rattle.std.specs.Option.{option_map_or}
+use Rattle.clap.specs.Words.{App, new_app}
+use Rattle.rrd_fixed.specs.declared.kind.Kind.{Kind}
+use Rattle.rrd_fixed.specs.declared.raw.Raw.{Raw}
+use Rattle.rrd_fixed.specs.Text.{raw_text, signed_text, time_text}
+use Rattle.rrd_fold.specs.declared.function.Function.{Function}
+use Rattle.rrd_spec.specs.declared.refusal.Refusal.{Refusal}
+use Rattle.rrd_spec.specs.declared.settings.DsDef.{DsDef}
+use Rattle.rrd_spec.specs.declared.settings.RraDef.{RraDef}
+use Rattle.rrd_spec.specs.History.{Content, definitions}
+use Rattle.rrd_spec.specs.Survivors.{Stored}
+use Rattle.rrd_tool.specs.Commands.Fetch.{texts_below}
+
+unfoldable pub info_app : App
+info_app = new_app (codes "info")
+
+-- ---- values
+
+abbrev pub kind_text : Kind → List ℕ
+kind_text Kind.Gauge = codes "GAUGE"
+kind_text Kind.Counter = codes "COUNTER"
+kind_text Kind.Derive = codes "DERIVE"
+kind_text Kind.Absolute = codes "ABSOLUTE"
+
+abbrev pub function_text : Function → List ℕ
+function_text Function.Average = codes "AVERAGE"
+function_text Function.Min = codes "MIN"
+function_text Function.Max = codes "MAX"
+function_text Function.Last = codes "LAST"
+
+-- a bound in millionths, or `U` for none
+abbrev pub bound_text : Option ℤ → List ℕ
+bound_text None = codes "U"
+bound_text (Some bound) = signed_text bound
+
+-- ---- lines
+
+-- a line: what it is of, the name, and the value
+abbrev pub setting : List ℕ → List ℕ → List ℕ → List ℕ
+setting of name value = of ++ name ++ codes " = " ++ value ++ codes "\n"
+
+-- what the lines of the source or archive of a number are of: `ds[0].`
+abbrev pub numbered : List ℕ → ℕ → List ℕ
+numbered items number = items ++ codes "[" ++ decimal number ++ codes "]."
+
+-- the step, the last time, the journal's depth, and how many changes can be reverted
+abbrev pub head_text : Stored → List ℕ
+head_text kept =
+    setting [] (codes "step") (decimal kept.content.step)
+    ++ setting [] (codes "last_update") (time_text (pos kept.content.last))
+    ++ setting [] (codes "journal") (decimal kept.content.depth)
+    ++ setting [] (codes "undoable") (decimal (length kept.journal))
+
+-- a source, with its raw value
+abbrev pub source_text : ℕ → DsDef → Raw → List ℕ
+source_text number source raw =
+    let of = numbered (codes "ds") number in
+    setting of (codes "name") source.name
+    ++ setting of (codes "type") (kind_text source.kind)
+    ++ setting of (codes "minimal_heartbeat") (decimal source.heartbeat)
+    ++ setting of (codes "min") (bound_text source.min)
+    ++ setting of (codes "max") (bound_text source.max)
+    ++ setting of (codes "last_raw") (raw_text source.kind raw)
+
+abbrev pub archive_text : ℕ → RraDef → List ℕ
+archive_text number def =
+    let of = numbered (codes "rra") number in
+    setting of (codes "cf") (function_text def.function)
+    ++ setting of (codes "xff") (signed_text def.xff)
+    ++ setting of (codes "steps") (decimal def.steps)
+    ++ setting of (codes "rows") (decimal def.rows)
+
+-- ---- all of them
+
+-- the source of this number
+abbrev pub source_at : Content → ℕ → List ℕ
+source_at content number =
+    option_map_or (λ (source : DsDef). source_text number source (slice_index_or content.raws number Raw.Unknown))
+    (slice_get content.sources number) []
+
+-- the archive of this number, with its present number of rows
+abbrev pub archive_at : Content → ℕ → List ℕ
+archive_at content number =
+    option_map_or (archive_text number) (slice_get (definitions content.archives) number) []
+
+abbrev pub info_text : Stored → Result (List ℕ) Refusal
+info_text kept = Ok (
+    head_text kept
+    ++ texts_below (source_at kept.content) (length kept.content.sources)
+    ++ texts_below (archive_at kept.content) (length kept.content.archives))

@@ -1,0 +1,46 @@
+//! `first`: prints the time of an archive's oldest row (rrdfirst).
+ghost use Rattle.std.specs.Prelude.{IfOk, Some};
+ghost use Rattle.clap.specs.Words.{found_of, rows_of};
+ghost use Rattle.rrd_tool.specs.Arguments.Shapes.{HasApp};
+ghost use Rattle.rrd_tool.specs.Commands.First.{first_app, first_from};
+ghost use Rattle.rrd_tool.specs.Execution.{Executes};
+ghost use Rattle.rrd_tool.specs.Fields.Answers.{Meets};
+
+use super::last::write_line;
+use crate::arguments::{option_arg, text_of};
+use crate::execution::Outcome;
+use crate::fields::read_or;
+use crate::{Command, Fault, LineFault, Part};
+use clap::ArgMatches;
+use rrd_base::Database;
+use rrd_fixed::time_string;
+use std::alloc::{AllocError, Global};
+use std::io::Write;
+
+/// The command's shape for clap.
+pub(crate) fn shape<'a>(alloc: Global) -> Result<clap::Command<'a>, AllocError>
+    ensures { IfOk result (HasApp first_app) }
+{
+    clap::Command::new(alloc, "first").arg(option_arg(alloc, "rraindex", "rraindex"))
+}
+
+/// The command that the values are.
+pub(crate) fn read(matches: &ArgMatches<'_>) -> Result<Command, LineFault>
+    ensures { Meets (first_from (rows_of (found_of matches.now))) result }
+{
+    let index = read_or(Part::Archive, text_of(matches, "rraindex"), 0)?;
+    Ok(Command::First { index })
+}
+
+/// Prints the time.
+pub(crate) fn run<W: Write>(database: Database, index: u64, out: &mut W) -> Outcome
+    ensures { Executes (Some database) (Command.First index) (W.contents out.old) (W.contents out.new) result }
+{
+    match database.first(index) {
+        Ok(time) => {
+            let written = write_line(out, time_string(time).as_str());
+            Outcome::of_text(database, written)
+        }
+        Err(refusal) => Outcome::of_refusal(Some(database), Fault::Refused(refusal)),
+    }
+}

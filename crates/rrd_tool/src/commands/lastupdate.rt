@@ -1,0 +1,72 @@
+//! `lastupdate`: prints the last raw value of each source (rrdlastupdate). Each line is built without memory, and then
+//! written at once.
+ghost use Rattle.std.specs.Prelude.{◌≡◌, ◌≤◌, ◌+◌, ◌++◌, Some, codes, length};
+ghost use Rattle.rrd_fixed.specs.Text.{raw_text};
+ghost use Rattle.rrd_fixed.specs.Written.{Writes};
+ghost use Rattle.rrd_tool.specs.Arguments.Shapes.{HasApp};
+ghost use Rattle.rrd_tool.specs.Commands.Fetch.{header_text};
+ghost use Rattle.rrd_tool.specs.Commands.Lastupdate.{lastupdate_app, raws_text};
+ghost use Rattle.rrd_tool.specs.Execution.{Executes};
+
+use super::fetch::header_string;
+use crate::Command;
+use crate::execution::Outcome;
+use arrayvec::ArrayString;
+use itoa::Buffer;
+use rrd_base::Database;
+use rrd_fixed::{Kind, Raw, WriteFault, raw_string, write_bytes};
+use std::alloc::Global;
+use std::io::Write;
+
+/// The command's shape for clap.
+pub(crate) fn shape<'a>(alloc: Global) -> clap::Command<'a>
+    ensures { HasApp lastupdate_app result }
+{
+    clap::Command::new(alloc, "lastupdate")
+}
+
+// A space, and the text of a raw value.
+fn push_raw(line: &mut ArrayString<4096>, kind: Kind, raw: Raw)
+    requires { length line.old.bytes + 49 ≤ 4096 }
+    ensures text { line.new.bytes ≡ line.old.bytes ++ codes " " ++ raw_text kind raw }
+    ensures room { length line.new.bytes ≤ length line.old.bytes + 49 }
+{
+    line.push_str(" ");
+    line.push_str(raw_string(kind, raw).as_str());
+}
+
+// The line of the last time and the raw values.
+fn raws_string(database: &Database) -> ArrayString<4096>
+    ensures { result.bytes ≡ raws_text database.now.content }
+{
+    let mut line = ArrayString::new();
+    let mut buffer = Buffer::new();
+    line.push_str(buffer.format(database.last()));
+    line.push_str(":");
+    for source in 0..database.sources() {
+        push_raw(
+            &mut line,
+            database.source(source).kind,
+            database.last_raw(source),
+        );
+    }
+    line.push_str("\n");
+    line
+}
+
+// Writes that line below the line of the sources' names.
+fn write_raws<W: Write>(out: &mut W, database: &Database) -> Result<(), WriteFault>
+    ensures { Writes (W.contents out.old) (W.contents out.new)
+        (header_text database.now.content.sources ++ raws_text database.now.content) result }
+{
+    write_bytes(out, header_string(database).as_str().as_bytes())?;
+    write_bytes(out, raws_string(database).as_str().as_bytes())
+}
+
+/// Prints the raw values.
+pub(crate) fn run<W: Write>(database: Database, out: &mut W) -> Outcome
+    ensures { Executes (Some database) Command.Lastupdate (W.contents out.old) (W.contents out.new) result }
+{
+    let written = write_raws(out, &database);
+    Outcome::of_text(database, written)
+}
