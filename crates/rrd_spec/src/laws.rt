@@ -32,7 +32,9 @@ ghost use Rattle.rrd_spec.specs.Laws.{CreatedIsValid};
 ghost use Rattle.rrd_spec.specs.Laws.{GoesOnFromContent, IsListed, ListsByNumber, ShowsByTime, ShowsCells, StaysBase};
 ghost use Rattle.rrd_spec.specs.Examples.Histories as worked;
 ghost use Rattle.rrd_spec.specs.Examples.Commands as commands;
-ghost use Rattle.rrd_spec.specs.Examples.Times as times;
+ghost use Rattle.rrd_spec.specs.Examples.Creates as creates;
+ghost use Rattle.rrd_spec.specs.Examples.Fetches as fetches;
+ghost use Rattle.rrd_spec.specs.Examples.Resizes as resizes;
 
 use rrd_fold::laws::one_cell_alone;
 
@@ -310,8 +312,8 @@ pub fn examples()
 
 /// So they do for new databases, rows by their times, fetches, and the oldest rows' times.
 pub fn examples_by_time()
-    ensures created { times.Created }
-    ensures resizing { times.Resizing }
-    ensures fetched { times.Fetched }
-    ensures oldest { times.Oldest }
+    ensures created { creates.Created }
+    ensures resizing { resizes.Resizing }
+    ensures fetched { fetches.Fetched }
+    ensures oldest { fetches.Oldest }
 {}

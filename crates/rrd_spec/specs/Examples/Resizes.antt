@@ -1,0 +1,23 @@
+-- Example: a worked example of the rows, by their times, of an archive that was resized.
+use Rattle.std.specs.Prelude.{◌≡◌, pos, negsuc, List, [], ◌∷◌, map}
+use Rattle.rrd_fold.specs.declared.function.Function.TheVariants.{Last}
+use Rattle.rrd_spec.specs.History.{Event, Resized}
+use Rattle.rrd_spec.specs.Cells.{horizon, row_by_time}
+use Rattle.rrd_spec.specs.Examples.Histories.{created, gauge, archive, at, known, nan}
+
+-- an archive of six rows that shrinks to two and grows to six again
+abbrev pub shrunk : List Event
+shrunk = at 10 1 ∷ at 20 2 ∷ at 30 3 ∷ at 40 4 ∷ at 50 5 ∷ at 60 6 ∷ Resized 0 2 ∷ Resized 0 6 ∷ []
+
+-- its horizon is where the two rows began, and it ends at its last time
+abbrev pub Resizing : Type 0
+Resizing =
+    (map (λ a. horizon (created 10 0 (gauge 100) (archive Last 1 6 ∷ [])) 0 a shrunk)
+    (created 10 0 (gauge 100) (archive Last 1 6 ∷ [])).archives
+    ≡ pos 40 ∷ [])
+    × (map (λ t. map
+    (λ a. row_by_time (created 10 0 (gauge 100) (archive Last 1 6 ∷ [])) 0 a shrunk t)
+    (created 10 0 (gauge 100) (archive Last 1 6 ∷ [])).archives)
+    (negsuc 9 ∷ pos 0 ∷ pos 30 ∷ pos 40 ∷ pos 50 ∷ pos 60 ∷ pos 70 ∷ [])
+    ≡ (nan ∷ []) ∷ (nan ∷ []) ∷ (nan ∷ []) ∷ (nan ∷ [])
+    ∷ (known 5000000 ∷ []) ∷ (known 6000000 ∷ []) ∷ (nan ∷ []) ∷ [])
