@@ -18,7 +18,7 @@ use Rattle.rrd_spec.specs.Listed.{moved_listed}
 use Rattle.rrd_spec.specs.Settings.{has_source, is_double}
 use Rattle.rrd_spec.specs.Verdict.{is_bad_rows, grows_too_far, shrinks_too_far, no_sample, asks_nothing, names_no_source, verdict}
 use Rattle.rrd_spec.specs.Entries.{Entry, rows_between, saved, is_asked, is_named, sources_before, rows_at, entry, undone}
-use Rattle.rrd_spec.specs.Survivors.{Action, Changed, Reverted, Stored, is_accepted, changed, reverted, step, AllUndo}
+use Rattle.rrd_spec.specs.Survivors.{Action, Changed, Reverted, Stored, is_accepted, changed, reverted, stored_after, AllUndo}
 use Rattle.rrd_spec.proofs.Accepted.{accepted_passes, accepted_history}
 use Rattle.rrd_spec.proofs.Undoing.{comes_back}
 use Rattle.rrd_spec.specs.Facts.{length-accepted, rows_wide, sound, undone_depth}
@@ -303,16 +303,16 @@ revert_takes_back now journal command is h = places now.depth is.content_is.some
       ap (λ c. let k : Stored = record { content = c; journal = take n journal } in k) (comes_back now command (sound now is.content_is) h)
       ∙ ap (λ m. let k : Stored = record { content = now; journal = take m journal } in k) {x = n} {y = suc n - 1} (omega arith)
 
-step_valid : (kept : Stored) (action : Action) → IsValidDatabase kept.content kept.journal → let next = step kept action in IsValidDatabase next.content next.journal
+step_valid : (kept : Stored) (action : Action) → IsValidDatabase kept.content kept.journal → let next = stored_after kept action in IsValidDatabase next.content next.journal
 step_valid kept (Changed command) h =
     cond_both (is_accepted kept.content command) (changed kept command) kept (λ (next : Stored). IsValidDatabase next.content next.journal)
     (λ e. database_stays kept.content kept.journal command h (is_none-true (verdict kept.content command) e))
     (λ e. h)
 step_valid kept Reverted h = revert_valid kept.content kept.journal h
 
-run_valid : (actions : List Action) (kept : Stored) → IsValidDatabase kept.content kept.journal → let end = fold step kept actions in IsValidDatabase end.content end.journal
+run_valid : (actions : List Action) (kept : Stored) → IsValidDatabase kept.content kept.journal → let end = fold stored_after kept actions in IsValidDatabase end.content end.journal
 run_valid [] kept h = h
-run_valid (action ∷ actions) kept h = run_valid actions (step kept action) (step_valid kept action h)
+run_valid (action ∷ actions) kept h = run_valid actions (stored_after kept action) (step_valid kept action h)
 
 pub database_begins : (base : Content) (brought : List Entry) → Begins base brought
 database_begins base brought is = runs_agree base brought [] (sound base is.content_is) (undo_all base brought is.journal_is) is.few

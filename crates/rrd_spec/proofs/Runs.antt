@@ -8,7 +8,7 @@ use Rattle.rrd_spec.specs.History.{Content}
 use Rattle.rrd_spec.specs.Commands.{Command, content_of, moved}
 use Rattle.rrd_spec.specs.Verdict.{verdict}
 use Rattle.rrd_spec.specs.Entries.{Entry, entry, undone, IsSound}
-use Rattle.rrd_spec.specs.Survivors.{Action, Changed, Reverted, State, Stored, survived, is_accepted, entries, with_change, without_last, after, reverted, changed, step, AllAccepted, AllUndo, Stands}
+use Rattle.rrd_spec.specs.Survivors.{Action, Changed, Reverted, State, Stored, survived, is_accepted, entries, with_change, without_last, after, reverted, changed, stored_after, AllAccepted, AllUndo, Stands}
 use Rattle.rrd_spec.specs.Laws.{CommandsGoOn, RunsAgree}
 use Rattle.rrd_spec.proofs.CellLemmas.{is_listed}
 use Rattle.rrd_spec.proofs.Moving.{moves, moved_sound}
@@ -170,7 +170,7 @@ change_stands state kept command passes h =
       undo = undo_taken base (base.depth - (state.revertible + 1)) state.brought h.undo;
     }
 
-pub step_stands : (state : State) (kept : Stored) (action : Action) → Stands state kept → Stands (after state action) (step kept action)
+pub step_stands : (state : State) (kept : Stored) (action : Action) → Stands state kept → Stands (after state action) (stored_after kept action)
 step_stands state kept (Changed command) h =
     let same : is_accepted kept.content command ≡ is_accepted (survived state.base state.survivors) command = ap (λ now. is_accepted now command) h.content_is in
     ⊎_elim
@@ -179,9 +179,9 @@ step_stands state kept (Changed command) h =
     (cases_Bool (is_accepted (survived state.base state.survivors) command))
 step_stands state kept Reverted h = revert_stands state.base state.brought state.survivors state.revertible kept h
 
-runs_stand : (actions : List Action) (state : State) (kept : Stored) → Stands state kept → Stands (fold after state actions) (fold step kept actions)
+runs_stand : (actions : List Action) (state : State) (kept : Stored) → Stands state kept → Stands (fold after state actions) (fold stored_after kept actions)
 runs_stand [] state kept h = h
-runs_stand (action ∷ actions) state kept h = runs_stand actions (after state action) (step kept action) (step_stands state kept action h)
+runs_stand (action ∷ actions) state kept h = runs_stand actions (after state action) (stored_after kept action) (step_stands state kept action h)
 
 pub runs_agree : (base : Content) (brought : List Entry) (actions : List Action) → RunsAgree base brought actions
 runs_agree base brought actions sound undo fits = runs_stand actions (record { base = base; brought = brought; survivors = []; revertible = 0 }) (record { content = base; journal = brought }) (record {

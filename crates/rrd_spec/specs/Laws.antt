@@ -12,7 +12,7 @@ use Rattle.rrd_spec.specs.History.{Archive}
 use Rattle.rrd_spec.specs.Commands.{moved}
 use Rattle.rrd_spec.specs.Verdict.{verdict}
 use Rattle.rrd_spec.specs.Entries.{Entry, entry, undone}
-use Rattle.rrd_spec.specs.Survivors.{Action, changed, reverted, step, after, Stands, State, Stored}
+use Rattle.rrd_spec.specs.Survivors.{Action, changed, reverted, stored_after, after, Stands, State, Stored}
 use Rattle.std.specs.Prelude.{replicate, slice_get}
 use Rattle.std.specs.Int.{int_rem_euclid}
 use Rattle.rrd_spec.specs.Settings.{resolution}
@@ -78,7 +78,7 @@ Begins base brought =
 
 -- one action leads from a database that stands for a state to one that stands for the state after it
 abbrev pub ActsOn : State → Stored → Action → Type 0
-ActsOn state kept action = Stands state kept → Stands (after state action) (step kept action)
+ActsOn state kept action = Stands state kept → Stands (after state action) (stored_after kept action)
 
 -- what a history in two pieces comes to is what its second piece makes of the first one's content
 abbrev pub GoesOnFromContent : Content → List Event → List Event → Type 0
@@ -177,7 +177,7 @@ RunsAgree base brought actions =
       brought = brought;
       survivors = [];
       revertible = 0;
-    }) actions) (fold step (record { content = base; journal = brought }) actions)
+    }) actions) (fold stored_after (record { content = base; journal = brought }) actions)
 
 -- a database that isn't refused is valid
 abbrev pub CreatedIsValid : CreateSpec → Type 0
@@ -206,11 +206,11 @@ RevertTakesBack now journal command =
 -- a run from a valid database keeps to the definition of the survivors, and stays valid
 pub record RunStays (base : Content) (brought : List Entry) (actions : List Action) : Type 0 where
   pub stands :
-      let stored = fold step (record { content = base; journal = brought }) actions in
+      let stored = fold stored_after (record { content = base; journal = brought }) actions in
       Stands
       (fold after (record { base = base; brought = brought; survivors = []; revertible = 0 }) actions) stored
   pub valid :
-      let stored = fold step (record { content = base; journal = brought }) actions in
+      let stored = fold stored_after (record { content = base; journal = brought }) actions in
       IsValidDatabase stored.content stored.journal
 
 abbrev pub RunsStay : Content → List Entry → List Action → Type 0

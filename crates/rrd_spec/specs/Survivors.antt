@@ -79,9 +79,9 @@ changed stored command =
       journal = take stored.content.depth (entry stored.content command ∷ stored.journal);
     }
 
-abbrev pub step : Stored → Action → Stored
-step stored (Changed command) = if is_accepted stored.content command then changed stored command else stored
-step stored Reverted = reverted stored.content stored.journal
+abbrev pub stored_after : Stored → Action → Stored
+stored_after stored (Changed command) = if is_accepted stored.content command then changed stored command else stored
+stored_after stored Reverted = reverted stored.content stored.journal
 
 -- ---- that both agree
 

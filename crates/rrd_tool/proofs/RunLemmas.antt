@@ -8,7 +8,7 @@ use Rattle.rrd_spec.specs.Creating.{create_verdict, created}
 use Rattle.rrd_spec.specs.Laws.{CreatedIsValid}
 use Rattle.rrd_spec.specs.History.{Content}
 use Rattle.rrd_spec.specs.Entries.{Entry}
-use Rattle.rrd_spec.specs.Survivors.{State, Stored, Changed, Reverted, Stands, step, Action}
+use Rattle.rrd_spec.specs.Survivors.{State, Stored, Changed, Reverted, Stands, stored_after, Action}
 use Rattle.rrd_spec.specs.Verdict.{verdict}
 use Rattle.rrd_spec.specs.Laws.{ActsOn, Begins}
 use Rattle.clap.specs.Words.{fault_of}
@@ -70,7 +70,7 @@ module _ (created_is_valid : (spec : CreateSpec) → CreatedIsValid spec) (datab
   stands_next (Changes command) (Some kept) None h s = absurd s
   stands_next (Changes command) (Some kept) (Some state) h s =
       let accepted : verdict kept.content command ≡ None = no_refusal (verdict kept.content command) h in
-      let moved : Stands _ (step kept (Changed command)) = action_goes_on state kept (Changed command) s in
+      let moved : Stands _ (stored_after kept (Changed command)) = action_goes_on state kept (Changed command) s in
       rw accepted at moved
   stands_next Reverts (Some kept) None h s = absurd s
   stands_next Reverts (Some kept) (Some state) h s = action_goes_on state kept Reverted s

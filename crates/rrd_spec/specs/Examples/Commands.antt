@@ -15,7 +15,7 @@ use Rattle.rrd_spec.specs.declared.resize.Change.TheVariants.{Grow, Shrink}
 use Rattle.rrd_spec.specs.Commands.{Command, Updating, TuningBy, Resizing}
 use Rattle.rrd_spec.specs.declared.refusal.Refusal.TheVariants.{NotLater, NoSample, BadTime, WrongCount, ShrinkTooFar, NoSuchArchive, BadRows, NothingToTune, BadBounds, NoSuchSource}
 use Rattle.rrd_spec.specs.Verdict.{verdict}
-use Rattle.rrd_spec.specs.Survivors.{Action, Changed, Reverted, Stored, step}
+use Rattle.rrd_spec.specs.Survivors.{Action, Changed, Reverted, Stored, stored_after}
 
 abbrev pub letter : ℕ → Name
 letter c = c ∷ []
@@ -37,7 +37,7 @@ abbrev pub small : ℕ → Content
 small rows = created 10 0 (record (gauge 100) { name = letter 103 }) (archive Last 1 rows ∷ [])
 
 abbrev pub run : Content → List Action → Stored
-run base actions = fold step (record { content = base; journal = [] }) actions
+run base actions = fold stored_after (record { content = base; journal = [] }) actions
 
 abbrev pub six : Command
 six = update (reading 10 1 ∷ reading 20 2 ∷ reading 30 3 ∷ reading 40 4 ∷ reading 50 5 ∷ reading 60 6 ∷ [])
@@ -48,7 +48,7 @@ shrunk = run (small 6) (Changed six ∷ Changed (Resizing 0 Shrink 4) ∷ Change
 -- an archive made smaller shows no old row when it grows again; two reverts bring them back
 abbrev pub ShrinkAndGrow : Type 0
 ShrinkAndGrow = (rows shrunk.content ≡ (nan ∷ nan ∷ nan ∷ nan ∷ known 5000000 ∷ known 6000000 ∷ []) ∷ [])
-    × (rows (fold step shrunk (Reverted ∷ Reverted ∷ [])).content
+    × (rows (fold stored_after shrunk (Reverted ∷ Reverted ∷ [])).content
     ≡ (known 1000000 ∷ known 2000000 ∷ known 3000000 ∷ known 4000000 ∷ known 5000000 ∷ known 6000000 ∷ []) ∷ [])
     × (verdict shrunk.content (Resizing 0 Shrink 6) ≡ Some ShrinkTooFar)
     × (verdict shrunk.content (Resizing 1 Grow 1) ≡ Some NoSuchArchive)
@@ -80,7 +80,7 @@ to_gauge = record no_tuning { kind = Some ((letter 99, Gauge)); rename = Some ((
 abbrev pub Retyped : Type 0
 Retyped = let base = created 10 0 (record (counter 100) { name = letter 99 }) (archive Last 1 4 ∷ []) in
     let tuned = run base (Changed (update (reading 10 7 ∷ [])) ∷ Changed (TuningBy to_gauge) ∷ []) in
-    let back = step tuned Reverted in
+    let back = stored_after tuned Reverted in
     (tuned.content.raws ≡ Raw.Unknown ∷ [])
     × (map (λ (s : DsDef). s.name) tuned.content.sources ≡ letter 103 ∷ [])
     × (back.content.raws ≡ Raw.Known (pos 7) ∷ [])
@@ -97,7 +97,7 @@ Bounded =
     ∷ Changed (TuningBy with_maximum)
     ∷ Changed (update (reading 20 9 ∷ [])) ∷ []) in
     (rows tuned.content ≡ (nan ∷ nan ∷ known 9000000 ∷ nan ∷ []) ∷ [])
-    × (rows (fold step tuned (Reverted ∷ Reverted ∷ Changed (update (reading 20 9 ∷ [])) ∷ [])).content
+    × (rows (fold stored_after tuned (Reverted ∷ Reverted ∷ Changed (update (reading 20 9 ∷ [])) ∷ [])).content
     ≡ (nan ∷ nan ∷ known 9000000 ∷ known 9000000 ∷ []) ∷ [])
     × (verdict (small 4) (TuningBy no_tuning) ≡ Some NothingToTune)
     × (verdict (small 4) (TuningBy (record with_maximum { minimum = Some ((letter 103, Some (pos 6000000))) }))
