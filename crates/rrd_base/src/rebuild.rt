@@ -323,6 +323,7 @@ impl Rebuild {
     pub fn cell(&mut self, cell: Cell) -> Result<(), PieceFault>
         ensures ok { OnOk result (MayCell self.old cell × (self.new ≡ with_cell self.old cell)) }
         ensures bad { IfErr result (λ e. e ≡ Bad → MayCell self.old cell → ⊥) }
+        ensures fault { IfErr result (λ e. e ≡ Bad) }
         ensures err { OnErr result (self.new ≡ self.old) }
     {
         laws::rows_stand_in_slots();
@@ -357,8 +358,10 @@ impl Rebuild {
     /// outline that the entries before it leave; refused, it changes nothing. It takes no memory: the
     /// journal has its places from the beginning.
     pub fn entry(&mut self, entry: Entry) -> Result<(), PieceFault>
-        ensures ok { OnOk result (MayEntry self.old (entry_of entry) × (self.new ≡ with_entry self.old (entry_of entry))) }
+        ensures ok { OnOk result (MayEntry self.old (entry_of entry)
+            × (self.new ≡ with_entry self.old (entry_of entry))) }
         ensures bad { IfErr result (λ e. e ≡ Bad → MayEntry self.old (entry_of entry) → ⊥) }
+        ensures fault { IfErr result (λ e. e ≡ Bad) }
         ensures err { OnErr result (self.new ≡ self.old) }
     {
         laws::cells_stand_in_slots();

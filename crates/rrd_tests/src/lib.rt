@@ -22,6 +22,8 @@ mod printing;
 #[cfg(test)]
 mod reading;
 #[cfg(test)]
+mod rebuild;
+#[cfg(test)]
 mod retries;
 #[cfg(test)]
 mod ring;

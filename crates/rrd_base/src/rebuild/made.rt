@@ -17,7 +17,8 @@ fn added_two(high: i128, left: u64, low: i128, rest: u64) -> StepPrep
     requires few { left + rest ≤ 1000000 }
     requires high_bounded { IsBounded (Known high) }
     requires low_bounded { IsBounded (Known low) }
-    ensures { result ≡ fold (with_cell Average) (fold (with_cell Average) nothing (replicate left (Known high))) (replicate rest (Known low)) }
+    ensures { let first = fold (with_cell Average) nothing (replicate left (Known high)) in
+        result ≡ fold (with_cell Average) first (replicate rest (Known low)) }
 {
     let mut meter = Meter::new();
     let mut prep = StepPrep::new();
