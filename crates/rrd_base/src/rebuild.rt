@@ -6,6 +6,7 @@ ghost use Rattle.rrd_base.specs.declared.rebuild.PieceFault.TheVariants.{Bad};
 ghost use Rattle.rrd_spec.specs.declared.due.Due.TheVariants.{NothingDue};
 ghost use Rattle.rrd_spec.specs.Filed.{Header, One, Source, filed};
 ghost use Rattle.rrd_spec.specs.Rebuilding.{IsHeader, MayCell, MayEntry, MayHead, MayPrep, MaySource, begun, due, outline_left, unprepared, with_cell, with_entry, with_head, with_prep, with_source};
+ghost use Rattle.rrd_spec.specs.Validity.{IsValidDatabase};
 
 use crate::content::Content;
 use crate::create::{has_too_many_cells, is_bad_depth, is_bad_step};
@@ -378,7 +379,8 @@ impl Rebuild {
     /// The database, once all announced pieces came. It takes no memory.
     pub fn finish(self) -> Database
         requires { due self ≡ NothingDue }
-        ensures { filed One result ≡ self }
+        ensures filed { filed One result ≡ self }
+        ensures valid { IsValidDatabase result.content result.journal }
     {
         let Rebuild {
             step,

@@ -102,13 +102,13 @@ OneDatabase = (d e : Stored) → FiledOnce version_one One d e
 one_filed : OneDatabase → (v w : Version) (d e : Stored) → IsValidStored d → IsValidStored e → filed v d ≡ filed w e → d ≡ e
 one_filed one v w d e a b same = one d e a.content_is b.content_is (ap (λ x. filed x d) (sym (is_one v)) ∙ same ∙ ap (λ x. filed x e) (is_one w))
 
-one_file : OneDatabase → (bytes : List ℕ) (d e : Stored) → IsValidStored d → IsValidStored e → IsFile bytes d → IsFile bytes e → d ≡ e
-one_file one bytes d e a b f g =
+one_file : OneDatabase → (bytes : List ℕ) (d e : Stored) → IsFile bytes d → IsFile bytes e → d ≡ e
+one_file one bytes d e f g =
     let same = same_end bytes (Body (filed f.version d)) (Body (filed g.version e)) [] [] f.whole.front g.whole.front (ends_done (Body (filed f.version d)) [] f.whole.done) (ends_done (Body (filed g.version e)) [] g.whole.done) in
-    one_filed one f.version g.version d e a b (same_body (filed f.version d) (filed g.version e) same.0)
+    one_filed one f.version g.version d e f.valid g.valid (same_body (filed f.version d) (filed g.version e) same.0)
 
 pub one_answer : OneDatabase → (bytes : List ℕ) (x y : Result Stored FileFault) → IsAnswer bytes x → IsAnswer bytes y → IsOfFile x → IsOfFile y → x ≡ y
-one_answer one bytes (Ok d) (Ok e) h k a b = ap Ok (one_file one bytes d e a b h k)
+one_answer one bytes (Ok d) (Ok e) h k a b = ap Ok (one_file one bytes d e h k)
 one_answer one bytes (Ok d) (Err y) h k a b = absurd (no_fault bytes (filed h.version d) y h.whole (stops bytes y k b))
 one_answer one bytes (Err x) (Ok e) h k a b = absurd (no_fault bytes (filed k.version e) x k.whole (stops bytes x h a))
 one_answer one bytes (Err x) (Err y) h k a b = ap Err (one_fault bytes x y (stops bytes x h a) (stops bytes y k b))
@@ -116,10 +116,10 @@ one_answer one bytes (Err x) (Err y) h k a b = ap Err (one_fault bytes x y (stop
 -- ---- layouts
 
 pub layout_is_file : Outlining → (d : Stored) → IsValidStored d → IsAnswer (layout d) (Ok d)
-layout_is_file laws d v = record { version = One; whole = valid_is_whole laws d.content d.journal v }
+layout_is_file laws d v = record { version = One; whole = valid_is_whole laws d.content d.journal v; valid = v }
 
 pub layout_is_no_other : Outlining → OneDatabase → (d : Stored) → IsValidStored d → (x : Result Stored FileFault) → IsAnswer (layout d) x → IsOfFile x → x ≡ Ok d
-layout_is_no_other laws one d v x h a = one_answer one (layout d) x (Ok d) h (layout_is_file laws d v) a v
+layout_is_no_other laws one d v x h a = one_answer one (layout d) x (Ok d) h (layout_is_file laws d v) a tt
 
 pub file_is_layout : (bytes : List ℕ) (d : Stored) (file : IsFile bytes d) → bytes ≡ layout_in file.version d
 file_is_layout bytes d file = whole_is_layout bytes (filed file.version d) file.whole

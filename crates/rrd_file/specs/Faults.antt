@@ -6,6 +6,7 @@ use Rattle.rrd_spec.specs.declared.due.Due.TheVariants.{SourceDue, HeadDue, Prep
 use Rattle.rrd_spec.specs.Rebuilding.{due}
 use Rattle.rrd_spec.specs.declared.due.Due.{Due}
 use Rattle.rrd_spec.specs.Survivors.{Stored}
+use Rattle.rrd_spec.specs.Validity.{IsValidDatabase}
 use Rattle.rrd_file.specs.declared.fault.FileFault.{FileFault}
 use Rattle.rrd_file.specs.declared.fault.FileFault.TheVariants.{NotOurs, Version as WrongVersion, Truncated, BadBlock, BadEntry, Trailing, Read, OutOfMemory}
 use Rattle.rrd_file.specs.Pieces.{Piece, spell}
@@ -68,10 +69,11 @@ pub record IsWhole (bytes : List ℕ) (f : Filed) : Type 0 where
   pub front : Front bytes (Body f) []
   pub done : size (Body f) ≡ 0
 
--- the input is the file of a database, in a version
+-- the input is the file of a valid database, in a version
 pub record IsFile (bytes : List ℕ) (d : Stored) : Type 0 where
   pub version : Version
   pub whole : IsWhole bytes (filed version d)
+  pub valid : IsValidDatabase d.content d.journal
 
 abbrev pub IsFault : List ℕ → FileFault → Type 0
 IsFault bytes NotOurs = IsBad bytes NotOurs

@@ -54,10 +54,9 @@ EntriesHaveOneSpelling =
 abbrev pub IsValidStored : Stored → Type 0
 IsValidStored d = IsValidDatabase d.content d.journal
 
--- an answer that says what the input is: a valid database or a fault, and not that the reader failed or a growth was
--- refused
+-- an answer that says what the input is: a database or a fault, and not that the reader failed or a growth was refused
 abbrev pub IsOfFile : Result Stored FileFault → Type 0
-IsOfFile (Ok d) = IsValidStored d
+IsOfFile (Ok d) = Unit {0}
 IsOfFile (Err NotOurs) = Unit {0}
 IsOfFile (Err WrongVersion) = Unit {0}
 IsOfFile (Err (Truncated at)) = Unit {0}
