@@ -31,4 +31,4 @@ pub mod Facts
 pub mod Slow
 pub mod Examples
 pub mod Preparations
-pub mod Refusals
+pub mod RefusalTexts
