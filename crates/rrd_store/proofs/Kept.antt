@@ -1,6 +1,6 @@
 -- What a command came to stays so where its output is only handed on.
-use Rattle.std.proofs.Common.{◌∙◌, refl, ℕ, Bool, List, Option, Some, None}
-use Rattle.std.specs.Io.KnownBytes.{Keeps}
+use Rattle.std.proofs.Common.{◌∙◌, refl, ℕ, Bool, List, Option, Some, None, [], append-nil, sym}
+use Rattle.std.specs.Io.KnownBytes.{Appends, Keeps}
 use Rattle.rrd_fixed.specs.Written.{AppendsFront}
 use Rattle.rrd_fixed.specs.Writing.{Appends-kept}
 use Rattle.rrd_spec.specs.Survivors.{Stored}
@@ -11,6 +11,10 @@ use Rattle.rrd_tool.specs.declared.commands.Command.{Command}
 use Rattle.rrd_tool.specs.declared.execution.Outcome.{Outcome}
 use Rattle.rrd_tool.specs.declared.faults.Fault.{Fault}
 use Rattle.rrd_tool.specs.declared.faults.Fault.TheVariants.{Line, NoDatabase, Output, Refused}
+
+pub appends_nothing : (a : Option (List ℕ)) → Appends a a []
+appends_nothing None = tt
+appends_nothing (Some x) = sym (append-nil x)
 
 pub keeps_same : (a : Option (List ℕ)) → Keeps a a
 keeps_same None = tt

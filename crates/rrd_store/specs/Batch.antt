@@ -1,10 +1,9 @@
 -- Definition: what a batch over the database in a place comes to (own).
-use Rattle.std.specs.Prelude.{◌==◌, ℕ, List, Option, Some, None, Result, Ok, Err, if◌then◌else◌}
+use Rattle.std.specs.Prelude.{ℕ, List, Option, Some, None, Result, Ok, Err}
 use Rattle.std.specs.Io.KnownBytes.{Consumes, Keeps}
 use Rattle.rrd_spec.specs.Survivors.{State, Stored}
 use Rattle.rrd_tool.specs.Effects.{StandsFor}
 use Rattle.rrd_tool.specs.Batch.Turns.{RunOver}
-use Rattle.rrd_tool.specs.declared.batch.StreamFault.{StreamFault}
 use Rattle.rrd_store.specs.Places.{Finds, Leaves}
 use Rattle.rrd_store.specs.declared.batch.FileBatchEnd.{FileBatchEnd}
 use Rattle.rrd_store.specs.declared.faults.TaskFault.{TaskFault}
@@ -33,9 +32,3 @@ IsFileBatch now old new r0 r1 c0 c1 (Err fault) =
     Finds old (Err fault) × Keeps old new × Keeps r0 r1 × Keeps c0 c1
 IsFileBatch now old new r0 r1 c0 c1 (Ok end) =
     (found : Option Stored) × Finds old (Ok found) × RunsLines now found old new r0 r1 c0 c1 end
-
--- 0 if no line was refused and nothing failed
-abbrev pub batch_status : ℕ → Option StreamFault → Option TaskFault → ℕ
-batch_status refused None None = if refused == 0 then 0 else 1
-batch_status refused None (Some fault) = 1
-batch_status refused (Some fault) unstored = 1

@@ -1,5 +1,5 @@
 -- Definition: what one command over the database in a place comes to (own).
-use Rattle.std.specs.Prelude.{◌≡◌, ℕ, Bool, List, Option, Some, None, Result, Ok, Err, false, true, if◌then◌else◌}
+use Rattle.std.specs.Prelude.{◌≡◌, ℕ, Bool, List, Option, Some, None, Result, Ok, Err, false, true}
 use Rattle.std.specs.Io.KnownBytes.{Keeps}
 use Rattle.rrd_spec.specs.Survivors.{Stored}
 use Rattle.rrd_tool.specs.Commands.{effect}
@@ -11,7 +11,6 @@ use Rattle.rrd_tool.specs.declared.execution.Outcome.{Outcome}
 use Rattle.rrd_tool.specs.declared.faults.Fault.{Fault}
 use Rattle.rrd_tool.specs.declared.faults.Fault.TheVariants.{Line, Output}
 use Rattle.rrd_tool.specs.declared.faults.LineFault.{LineFault}
-use Rattle.rrd_store.specs.Faults.{is_misuse}
 use Rattle.rrd_store.specs.Places.{Finds, Leaves}
 use Rattle.rrd_store.specs.declared.faults.TaskFault.{TaskFault}
 use Rattle.rrd_store.specs.declared.faults.TaskFault.TheVariants as task
@@ -75,8 +74,3 @@ abbrev pub IsSingle : List (List ℕ) → ℕ → Option (List ℕ) → Option (
     → Result (Unit {0}) TaskFault → Type 0
 IsSingle words now old new c0 c1 end =
     (read : Result Command LineFault) × IsReading words now read × RunsAs read old new c0 c1 end
-
--- 2 if the words were no command, 1 after any other fault
-abbrev pub single_status : Result (Unit {0}) TaskFault → ℕ
-single_status (Ok x) = 0
-single_status (Err fault) = if is_misuse fault then 2 else 1

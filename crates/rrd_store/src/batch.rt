@@ -1,6 +1,6 @@
 //! A batch over the database in a place.
 ghost use Rattle.std.specs.Prelude.{◌≡◌};
-ghost use Rattle.rrd_store.specs.Batch.{IsFileBatch, batch_status};
+ghost use Rattle.rrd_store.specs.Batch.{IsFileBatch};
 
 use crate::stored::{load, store};
 use crate::{Place, TaskFault};
@@ -42,14 +42,4 @@ pub fn run_file_batch<P: Place, R: Read, W: Write>(
         stream: end.stream,
         unstored,
     })
-}
-
-/// The status after a batch: 0 if no line was refused and nothing failed, else 1.
-pub fn batch_status(refused: u64, stream: Option<StreamFault>, unstored: Option<TaskFault>) -> u8
-    ensures { result ≡ batch_status refused stream unstored }
-{
-    match (stream, unstored) {
-        (None, None) if refused == 0 => 0,
-        _ => 1,
-    }
 }

@@ -2,6 +2,7 @@
 #![tactic(auto)]
 
 mod batch;
+mod ending;
 mod faults;
 mod place;
 mod single;
@@ -9,9 +10,10 @@ mod stored;
 mod task;
 mod usage;
 
-pub use batch::{FileBatchEnd, batch_status, run_file_batch};
+pub use batch::{FileBatchEnd, run_file_batch};
+pub use ending::{end_batch, end_file_batch, end_single};
 pub use faults::{TaskFault, write_task_fault};
 pub use place::Place;
-pub use single::{run_single, single_status};
+pub use single::run_single;
 pub use task::{Task, asked_for};
 pub use usage::USAGE;

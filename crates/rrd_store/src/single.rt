@@ -1,7 +1,7 @@
 //! One command over the database in a place.
 ghost use Rattle.std.specs.Prelude.{◌≡◌, Result};
 ghost use Rattle.std.specs.Io.KnownBytes.{Keeps};
-ghost use Rattle.rrd_store.specs.Single.{Ends, IsSingle, StartsFrom, single_status};
+ghost use Rattle.rrd_store.specs.Single.{Ends, IsSingle, StartsFrom};
 
 use crate::stored::{load, store};
 use crate::{Place, TaskFault};
@@ -71,16 +71,4 @@ pub fn run_single<P: Place, W: Write>(
     let database = start(alloc, &command, place)?;
     let outcome = execute(alloc, database, command, out);
     finish(outcome, place, out)
-}
-
-/// The status after a command: 0 if nothing was refused and nothing failed, 2 if the words were no
-/// command, else 1.
-pub fn single_status(end: Result<(), TaskFault>) -> u8
-    ensures { result ≡ single_status end }
-{
-    match end {
-        Ok(()) => 0,
-        Err(fault) if fault.is_misuse() => 2,
-        Err(_) => 1,
-    }
 }

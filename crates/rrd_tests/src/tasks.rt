@@ -5,8 +5,8 @@ use crate::shared::{Sink, words_of};
 use rrd_base::Refusal;
 use rrd_file::FileFault;
 use rrd_store::{
-    FileBatchEnd, Place, Task, TaskFault, USAGE, asked_for, batch_status, run_file_batch,
-    run_single, single_status, write_task_fault,
+    FileBatchEnd, Place, Task, TaskFault, USAGE, asked_for, end_batch, end_file_batch, end_single,
+    run_file_batch, run_single, write_task_fault,
 };
 use rrd_tool::{Fault, LineFault, Part, StreamFault};
 use std::alloc::{AllocError, Global};
@@ -441,14 +441,46 @@ fn faults_of_tasks(rt: HostRuntime) -> Result<(), Fail> {
     assert_told(&rt, alloc, MISUSE, "usage", USAGE)
 }
 
+// A task ends with the status, and tells the text.
+fn assert_ends(rt: &impl Abort, ended: (u8, Vec<u8>), status: u8, text: &str) {
+    let (got, told) = ended;
+    assert_eq!(rt; got, status, "{text}");
+    assert_eq!(rt; told.as_slice(), text.as_bytes());
+}
+
+fn told_of_single(alloc: Global, end: Result<(), TaskFault>) -> (u8, Vec<u8>) {
+    let mut err = Vec::new(alloc);
+    (end_single(&mut err, end), err)
+}
+
+fn told_of_batch(
+    alloc: Global,
+    refused: u64,
+    stream: Option<StreamFault>,
+    unstored: Option<TaskFault>,
+) -> (u8, Vec<u8>) {
+    let mut err = Vec::new(alloc);
+    (end_batch(&mut err, refused, stream, unstored), err)
+}
+
 #[test]
-fn statuses(rt: HostRuntime) {
-    assert_eq!(&rt; single_status(Ok(())), 0);
-    assert_eq!(&rt; single_status(Err(MISUSE)), 2);
-    assert_eq!(&rt; single_status(Err(NO_SAMPLE_READ)), 1);
-    assert_eq!(&rt; single_status(Err(TaskFault::CannotOpen)), 1);
-    assert_eq!(&rt; batch_status(0, None, None), 0);
-    assert_eq!(&rt; batch_status(1, None, None), 1);
-    assert_eq!(&rt; batch_status(0, Some(StreamFault::Write), None), 1);
-    assert_eq!(&rt; batch_status(0, None, Some(TaskFault::CannotWrite)), 1);
+fn ends_of_tasks(rt: HostRuntime) -> Result<(), Fail> {
+    let alloc = rt.alloc();
+    let misused = format!(in alloc; "ERROR: usage\n{USAGE}")?;
+    assert_ends(&rt, told_of_single(alloc, Ok(())), 0, "");
+    assert_ends(&rt, told_of_single(alloc, Err(MISUSE)), 2, misused.as_str());
+    let unread = told_of_single(alloc, Err(NO_SAMPLE_READ));
+    assert_ends(&rt, unread, 1, "ERROR: unreadable sample 1\n");
+    let read = Some(StreamFault::Read);
+    let unstored = Some(TaskFault::CannotWrite);
+    assert_ends(&rt, told_of_batch(alloc, 0, None, None), 0, "");
+    assert_ends(&rt, told_of_batch(alloc, 1, None, None), 1, "");
+    let one = "ERROR: cannot write\n";
+    assert_ends(&rt, told_of_batch(alloc, 0, None, unstored), 1, one);
+    let both = "ERROR: read failed\nERROR: cannot write\n";
+    assert_ends(&rt, told_of_batch(alloc, 0, read, unstored), 1, both);
+    let mut err = Vec::new(alloc);
+    let status = end_file_batch(&mut err, Err(TaskFault::CannotOpen));
+    assert_ends(&rt, (status, err), 1, "ERROR: cannot open\n");
+    Ok(())
 }

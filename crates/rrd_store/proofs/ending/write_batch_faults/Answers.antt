@@ -1,0 +1,24 @@
+use Rattle.std.proofs.lemmas.Result.{err_from_is_err_and}
+use Rattle.rrd_fixed.specs.Writing.{writes_stop, writes_then}
+use Rattle.rrd_store.specs.Ending.{report_if}
+use Rattle.rrd_store.specs.Faults.{report_of}
+use Rattle.rrd_store.specs.declared.faults.TaskFault.TheVariants.{Stream}
+use Rattle.rrd_store.specs.declared.usage.TheConstants.{USAGE}
+use Rattle.rrd_store.proofs.ending.write_batch_faults.Goals as goal
+
+pub returns-in_default : goal.returns-in_default
+returns-in_default g c = rw c.in_default.is c.write_if.ensures
+
+pub returns-in_err-write_task_fault : goal.returns-in_err-write_task_fault
+returns-in_err-write_task_fault g c =
+    let p = err_from_is_err_and c.from_residual.result c.from_residual.ensures.1 in
+    let old = g.W.Write.contents c.args.err.now in
+    let new = g.W.Write.contents c.write_task_fault.new.err in
+    rw (c.in-Some.is, p.1) (writes_stop old new (report_of USAGE.now (Stream c.in-Some.fault)) (report_if USAGE.now c.args.unstored) c.in_err-write_task_fault.ensures)
+
+pub returns : goal.returns
+returns g c =
+    let old = g.W.Write.contents c.args.err.now in
+    let mid = g.W.Write.contents c.write_task_fault.new.err in
+    let new = g.W.Write.contents c.write_if-2.new.err in
+    rw c.in-Some.is (writes_then {T = Unit {0}} old mid new (report_of USAGE.now (Stream c.in-Some.fault)) (report_if USAGE.now c.args.unstored) c.write_if-2.result c.in_ok-write_task_fault.ensures c.write_if-2.ensures)
