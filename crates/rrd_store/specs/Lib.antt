@@ -3,3 +3,4 @@ pub mod Faults
 pub mod Places
 pub mod Single
 pub mod Batch
+pub mod Runs

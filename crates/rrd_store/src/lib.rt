@@ -3,6 +3,7 @@
 
 mod batch;
 mod faults;
+pub mod laws;
 mod place;
 mod single;
 mod stored;
