@@ -1,5 +1,5 @@
 -- What is found in the file of a state, and what is left in it.
-use Rattle.std.proofs.Common.{◌≡◌, ◌∙◌, ◌++◌, ◌∷◌, [], ℕ, List, Option, Some, None, Result, Ok, Err, sym, ap, refl, subst, arith, length, length-append, option_map}
+use Rattle.std.proofs.Common.{◌≡◌, ◌∙◌, ◌++◌, ◌∷◌, [], ℕ, List, Option, Some, None, Result, Ok, Err, sym, ap, refl, subst, arith, inl, inr, length, length-append, option_map}
 use Rattle.std.proofs.lemmas.List.Concat.{flat_map-cons}
 use Rattle.rrd_spec.specs.Filed.{Version, One, filed}
 use Rattle.rrd_spec.specs.Survivors.{State, Stored}
@@ -11,9 +11,10 @@ use Rattle.rrd_file.specs.Layout.{body_pieces, entry_pieces, layout, layout_in}
 use Rattle.rrd_file.specs.Pieces.{Piece, Mark, OfHeader, OfVersion, spell}
 use Rattle.rrd_file.specs.Stages.{Start, size}
 use Rattle.std.specs.List.{flat_map}
+use Rattle.std.specs.Result.{result_err}
 use Rattle.rrd_tool.specs.Effects.{StandsFor, kept_of}
 use Rattle.rrd_store.specs.Places.{Finds, Leaves}
-use Rattle.rrd_store.specs.Runs.{Holds, IsUnread, MayStop}
+use Rattle.rrd_store.specs.Runs.{Holds, IsCut, IsLeft, IsUnread, MayStop}
 use Rattle.rrd_store.specs.declared.faults.TaskFault.{TaskFault}
 use Rattle.rrd_store.specs.declared.faults.TaskFault.TheVariants.{Command, Stream, File, CannotOpen, CannotWrite}
 use Rattle.rrd_store.proofs.ValidStates.{Valid, is_kept}
@@ -108,6 +109,15 @@ module _ (old new : List ℕ) where
   left_held (Some d) None x h v k = absurd h
   left_held (Some d) (Some s) x h v k = (ap (bytes_or []) k ∙ ap layout (is_kept s d h), v)
 
+  -- where a write failed a front of it is
+  pub left_cut : (last : Option Stored) (s : Option State) → StandsFor last s → Leaves {T = Unit {0}} last (Some old) (Some new) (Err CannotWrite) → IsCut old new s
+  left_cut None s h k = absurd k
+  left_cut (Some d) None h k = absurd h
+  left_cut (Some d) (Some s) h k = elim k [
+    | inl same ↦ inl same
+    | inr cut ↦ inr (cut.0, cut.1, cut.2, ap layout (sym (is_kept s d h)) ∙ cut.3, ap (bytes_or []) cut.4)
+  ]
+
   -- only a failed write leaves it elsewhere
   pub unleft : (last : Option Stored) (fault : TaskFault) → Leaves {T = Unit {0}} last (Some old) (Some new) (Err fault) → fault ≡ CannotWrite
   unleft None fault k = absurd k
@@ -116,3 +126,12 @@ module _ (old new : List ℕ) where
   unleft (Some d) (File fault) k = absurd k
   unleft (Some d) (Command fault) k = absurd k
   unleft (Some d) (Stream fault) k = absurd k
+
+  -- the file after a write of the database, by its end
+  pub left_after : (last : Option Stored) (s : Option State) (end : Result (Unit {0}) TaskFault) → StandsFor last s → Valid (old ≡ []) s → Leaves last (Some old) (Some new) end → IsLeft old new s (result_err end)
+  left_after last s (Ok x) h v k = left_held last s x h v k
+  left_after last s (Err CannotWrite) h v k = left_cut last s h k
+  left_after last s (Err CannotOpen) h v k = absurd (let e = unleft last CannotOpen k in cc)
+  left_after last s (Err (File fault)) h v k = absurd (let e = unleft last (File fault) k in cc)
+  left_after last s (Err (Command fault)) h v k = absurd (let e = unleft last (Command fault) k in cc)
+  left_after last s (Err (Stream fault)) h v k = absurd (let e = unleft last (Stream fault) k in cc)

@@ -1,5 +1,5 @@
 -- Law: after any list of runs over one file, its bytes and all that was printed are what the definitions compute.
-use Rattle.std.specs.Prelude.{◌≡◌, ◌≢◌, ◌++◌, ◌∷◌, [], ℕ, List, Option, Some, None, Result, Ok, Err, option_map}
+use Rattle.std.specs.Prelude.{◌≡◌, ◌≢◌, ◌⊎◌, ◌++◌, ◌∷◌, [], ℕ, List, Option, Some, None, Result, Ok, Err, option_map}
 use Rattle.std.specs.List.{AllByRecursion}
 use Rattle.std.specs.Result.{result_err}
 use Rattle.std.specs.Io.KnownBytes.{Appends, Consumes, Keeps}
@@ -84,6 +84,22 @@ abbrev pub Holds : List ℕ → Option State → Type 0
 Holds bytes None = bytes ≡ []
 Holds bytes (Some s) = (bytes ≡ layout (kept_of s)) × IsValidState s
 
+-- the file after a write that failed: its bytes are those from before, or a front of the new ones and not all
+abbrev pub IsCut : List ℕ → List ℕ → Option State → Type 0
+IsCut old new None = ⊥
+IsCut old new (Some s) =
+    (new ≡ old)
+    ⊎ ((front : List ℕ) × (next : ℕ) × (rest : List ℕ) × (layout (kept_of s) ≡ front ++ next ∷ rest) × (new ≡ front))
+
+-- the file after a run that led to this state, by the fault that it ended with
+abbrev pub IsLeft : List ℕ → List ℕ → Option State → Option TaskFault → Type 0
+IsLeft old new s None = Holds new s
+IsLeft old new s (Some task.CannotWrite) = IsCut old new s
+IsLeft old new s (Some task.CannotOpen) = Holds new s
+IsLeft old new s (Some (task.File fault)) = Holds new s
+IsLeft old new s (Some (task.Command fault)) = Holds new s
+IsLeft old new s (Some (task.Stream fault)) = Holds new s
+
 -- ---- what the definitions compute of a run: the next state, what is printed, and how it ends
 
 -- what is in the way of reading the file of a state. The bytes of a database are never at fault, so the reader failed
@@ -133,14 +149,14 @@ Fails s e (Line fault) s1 c0 c1 = IsRefused s e (Line fault) s1 c0 c1
 abbrev pub Stops : Option State → Effect → TaskFault → Option State → Option (List ℕ) → Option (List ℕ) → Type 0
 Stops s e fault s1 c0 c1 = ReadsFile e × MayStop s fault × IsNothing s s1 c0 c1
 
--- a command of this effect in any of its ends
+-- a command of this effect in any of its ends. Where the file could not be written it was done too
 abbrev pub Answers : Option State → Effect → Option State → Option (List ℕ) → Option (List ℕ)
     → Result (Unit {0}) TaskFault → Type 0
 Answers s e s1 c0 c1 (Ok x) = IsDone s e s1 × Appends c0 c1 (text_on (option_map kept_of s) e)
 Answers s e s1 c0 c1 (Err (task.Command fault)) = Fails s e fault s1 c0 c1
 Answers s e s1 c0 c1 (Err (task.File fault)) = Stops s e (task.File fault) s1 c0 c1
 Answers s e s1 c0 c1 (Err task.CannotOpen) = Stops s e task.CannotOpen s1 c0 c1
-Answers s e s1 c0 c1 (Err task.CannotWrite) = ⊥
+Answers s e s1 c0 c1 (Err task.CannotWrite) = IsDone s e s1 × Appends c0 c1 (text_on (option_map kept_of s) e)
 Answers s e s1 c0 c1 (Err (task.Stream fault)) = ⊥
 
 -- what was read of the words; nothing comes of words that are no command
@@ -170,10 +186,11 @@ ComputesAll s (run ∷ runs) s1 = (between : Option State) × Computes s run bet
 
 -- ---- the laws
 
--- a run over the file of a state leaves the file of the state that the definitions compute, and prints what they do
+-- a run over the file of a state leads to the state that the definitions compute, and prints what they do. The file is
+-- that of the new state, unless it could not be written
 abbrev pub RunIsComputed : List ℕ → Option State → Run → List ℕ → Type 0
 RunIsComputed old s run new =
-    Holds old s → Did old run new → IsWritten run → (s1 : Option State) × Computes s run s1 × Holds new s1
+    Holds old s → Did old run new → (s1 : Option State) × Computes s run s1 × IsLeft old new s1 (fault_of run)
 
 -- the first file: no byte, or the file of a valid database
 abbrev pub IsFirst : List ℕ → Option Stored → Type 0
