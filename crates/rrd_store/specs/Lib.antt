@@ -4,3 +4,4 @@ pub mod Places
 pub mod Single
 pub mod Batch
 pub mod Ending
+pub mod Runs

@@ -4,6 +4,7 @@
 mod batch;
 mod ending;
 mod faults;
+pub mod laws;
 mod place;
 mod single;
 mod stored;

@@ -1,0 +1,222 @@
+-- Law: after any list of runs over one file, its bytes and all that was printed are what the definitions compute.
+use Rattle.std.specs.Prelude.{◌≡◌, ◌≢◌, ◌⊎◌, ◌++◌, ◌∷◌, [], ℕ, List, Option, Some, None, Result, Ok, Err, option_map}
+use Rattle.std.specs.List.{AllByRecursion}
+use Rattle.std.specs.Result.{result_err}
+use Rattle.std.specs.Io.KnownBytes.{Appends, Consumes, Keeps}
+use Rattle.rrd_file.specs.declared.fault.FileFault.{FileFault}
+use Rattle.rrd_file.specs.declared.fault.FileFault.TheVariants.{Truncated}
+use Rattle.rrd_file.specs.Faults.{IsFile}
+use Rattle.rrd_file.specs.Laws.{IsOfFile, IsValidStored}
+use Rattle.rrd_file.specs.Layout.{layout}
+use Rattle.rrd_spec.specs.Survivors.{State, Stored, Stands}
+use Rattle.rrd_tool.specs.Batch.Turns.{RunOver}
+use Rattle.rrd_tool.specs.Commands.{effect}
+use Rattle.rrd_tool.specs.Commands.Reading.{IsReading}
+use Rattle.rrd_tool.specs.Effects.{Effect, Makes, Changes, Reverts, Shows, kept_of, next, text_on, verdict_on}
+use Rattle.rrd_tool.specs.Execution.{IsFault}
+use Rattle.rrd_tool.specs.declared.commands.Command.{Command}
+use Rattle.rrd_tool.specs.declared.faults.Fault.{Fault}
+use Rattle.rrd_tool.specs.declared.faults.Fault.TheVariants.{Line, NoDatabase, Output, Refused}
+use Rattle.rrd_tool.specs.declared.faults.LineFault.{LineFault}
+use Rattle.rrd_store.specs.Batch.{IsFileBatch}
+use Rattle.rrd_store.specs.Single.{IsSingle}
+use Rattle.rrd_store.specs.declared.batch.FileBatchEnd.{FileBatchEnd}
+use Rattle.rrd_store.specs.declared.faults.TaskFault.{TaskFault}
+use Rattle.rrd_store.specs.declared.faults.TaskFault.TheVariants as task
+
+-- ---- runs, as they were seen from outside
+
+-- one command: its words, the present time in seconds since 1970, what the output held before and after it where that
+-- is known, and how it ended
+pub record CommandRun : Type 0 where
+  pub words : List (List ℕ)
+  pub now : ℕ
+  pub out_before : Option (List ℕ)
+  pub out_after : Option (List ℕ)
+  pub end : Result (Unit {0}) TaskFault
+
+-- a batch: the present time, what was left of the input before and after it, the same of the output, and how it ended
+pub record BatchRun : Type 0 where
+  pub now : ℕ
+  pub in_before : Option (List ℕ)
+  pub in_after : Option (List ℕ)
+  pub out_before : Option (List ℕ)
+  pub out_after : Option (List ℕ)
+  pub end : Result FileBatchEnd TaskFault
+
+pub data Run : Type 0 where
+  ByCommand : CommandRun → Run
+  ByBatch : BatchRun → Run
+
+-- the run took the file from its old bytes to the new ones: just what `run_single`, or `run_file_batch`, ensures
+abbrev pub Did : List ℕ → Run → List ℕ → Type 0
+Did old (ByCommand r) new = IsSingle r.words r.now (Some old) (Some new) r.out_before r.out_after r.end
+Did old (ByBatch r) new = IsFileBatch r.now (Some old) (Some new) r.in_before r.in_after r.out_before r.out_after r.end
+
+-- one after another, and nobody else wrote the file in between
+abbrev pub DidAll : List ℕ → List Run → List ℕ → Type 0
+DidAll old [] new = new ≡ old
+DidAll old (run ∷ runs) new = (between : List ℕ) × Did old run between × DidAll between runs new
+
+-- the fault that a run ended with before it touched the file, or at its write
+abbrev pub fault_of_batch : Result FileBatchEnd TaskFault → Option TaskFault
+fault_of_batch (Ok end) = end.unstored
+fault_of_batch (Err fault) = Some fault
+
+abbrev pub fault_of : Run → Option TaskFault
+fault_of (ByCommand r) = result_err r.end
+fault_of (ByBatch r) = fault_of_batch r.end
+
+-- no write of the file failed
+abbrev pub IsWritten : Run → Type 0
+IsWritten run = fault_of run ≢ Some task.CannotWrite
+
+-- ---- the file of a state
+
+-- the database that a state's survivors make, with the journal of those that can be reverted and of what was brought,
+-- stands for the state, and is within the limits
+abbrev pub IsValidState : State → Type 0
+IsValidState s = Stands s (kept_of s) × IsValidStored (kept_of s)
+
+-- the file has the layout of that database, and no byte where there is none. What survived, how many of these can be
+-- reverted and what was brought say every byte of it
+abbrev pub Holds : List ℕ → Option State → Type 0
+Holds bytes None = bytes ≡ []
+Holds bytes (Some s) = (bytes ≡ layout (kept_of s)) × IsValidState s
+
+-- the file after a write that failed: its bytes are those from before, or a front of the new ones and not all
+abbrev pub IsCut : List ℕ → List ℕ → Option State → Type 0
+IsCut old new None = ⊥
+IsCut old new (Some s) =
+    (new ≡ old)
+    ⊎ ((front : List ℕ) × (next : ℕ) × (rest : List ℕ) × (layout (kept_of s) ≡ front ++ next ∷ rest) × (new ≡ front))
+
+-- the file after a run that led to this state, by the fault that it ended with
+abbrev pub IsLeft : List ℕ → List ℕ → Option State → Option TaskFault → Type 0
+IsLeft old new s None = Holds new s
+IsLeft old new s (Some task.CannotWrite) = IsCut old new s
+IsLeft old new s (Some task.CannotOpen) = Holds new s
+IsLeft old new s (Some (task.File fault)) = Holds new s
+IsLeft old new s (Some (task.Command fault)) = Holds new s
+IsLeft old new s (Some (task.Stream fault)) = Holds new s
+
+-- ---- what the definitions compute of a run: the next state, what is printed, and how it ends
+
+-- what is in the way of reading the file of a state. The bytes of a database are never at fault, so the reader failed
+-- or memory was wanting; without a database the file isn't there, or has no byte; and any file may not open
+abbrev pub IsUnread : Option State → FileFault → Type 0
+IsUnread None fault = IsOfFile (Err fault) → fault ≡ Truncated 0
+IsUnread (Some s) fault = ¬ IsOfFile (Err fault)
+
+abbrev pub MayStop : Option State → TaskFault → Type 0
+MayStop state (task.File fault) = IsUnread state fault
+MayStop state task.CannotOpen = Unit {0}
+MayStop state task.CannotWrite = ⊥
+MayStop state (task.Command fault) = ⊥
+MayStop state (task.Stream fault) = ⊥
+
+-- what makes a database reads none
+abbrev pub ReadsFile : Effect → Type 0
+ReadsFile (Makes spec) = ⊥
+ReadsFile (Changes command) = Unit {0}
+ReadsFile Reverts = Unit {0}
+ReadsFile (Shows show) = Unit {0}
+
+-- nothing came of it
+abbrev pub IsNothing : Option State → Option State → Option (List ℕ) → Option (List ℕ) → Type 0
+IsNothing s s1 c0 c1 = (s1 ≡ s) × Keeps c0 c1
+
+-- a front of the text was printed, or all of it
+abbrev pub PrintsFront : Option (List ℕ) → Option (List ℕ) → List ℕ → Type 0
+PrintsFront c0 c1 text = (front : List ℕ) × (unwritten : List ℕ) × (text ≡ front ++ unwritten) × Appends c0 c1 front
+
+-- the command is accepted, and leads to the next state
+abbrev pub IsDone : Option State → Effect → Option State → Type 0
+IsDone s e s1 = (verdict_on (option_map kept_of s) e ≡ None) × (s1 ≡ next s e)
+
+-- refused by the verdict, or accepted and memory was wanting
+abbrev pub IsRefused : Option State → Effect → Fault → Option State → Option (List ℕ) → Option (List ℕ) → Type 0
+IsRefused s e fault s1 c0 c1 = IsFault (verdict_on (option_map kept_of s) e) e fault × IsNothing s s1 c0 c1
+
+-- a command of this effect that ends by a fault of its own. Where its output failed it was done
+abbrev pub Fails : Option State → Effect → Fault → Option State → Option (List ℕ) → Option (List ℕ) → Type 0
+Fails s e Output s1 c0 c1 = IsDone s e s1 × PrintsFront c0 c1 (text_on (option_map kept_of s) e)
+Fails s e (Refused refusal) s1 c0 c1 = IsRefused s e (Refused refusal) s1 c0 c1
+Fails s e NoDatabase s1 c0 c1 = IsRefused s e NoDatabase s1 c0 c1
+Fails s e (Line fault) s1 c0 c1 = IsRefused s e (Line fault) s1 c0 c1
+
+-- or by one of the file
+abbrev pub Stops : Option State → Effect → TaskFault → Option State → Option (List ℕ) → Option (List ℕ) → Type 0
+Stops s e fault s1 c0 c1 = ReadsFile e × MayStop s fault × IsNothing s s1 c0 c1
+
+-- a command of this effect in any of its ends. Where the file could not be written it was done too
+abbrev pub Answers : Option State → Effect → Option State → Option (List ℕ) → Option (List ℕ)
+    → Result (Unit {0}) TaskFault → Type 0
+Answers s e s1 c0 c1 (Ok x) = IsDone s e s1 × Appends c0 c1 (text_on (option_map kept_of s) e)
+Answers s e s1 c0 c1 (Err (task.Command fault)) = Fails s e fault s1 c0 c1
+Answers s e s1 c0 c1 (Err (task.File fault)) = Stops s e (task.File fault) s1 c0 c1
+Answers s e s1 c0 c1 (Err task.CannotOpen) = Stops s e task.CannotOpen s1 c0 c1
+Answers s e s1 c0 c1 (Err task.CannotWrite) = IsDone s e s1 × Appends c0 c1 (text_on (option_map kept_of s) e)
+Answers s e s1 c0 c1 (Err (task.Stream fault)) = ⊥
+
+-- what was read of the words; nothing comes of words that are no command
+abbrev pub AnswersRead : Option State → Result Command LineFault → Option State → Option (List ℕ) → Option (List ℕ)
+    → Result (Unit {0}) TaskFault → Type 0
+AnswersRead s (Ok command) s1 c0 c1 end = Answers s (effect command) s1 c0 c1 end
+AnswersRead s (Err fault) s1 c0 c1 end = (end ≡ Err (task.Command (Line fault))) × IsNothing s s1 c0 c1
+
+-- the run over the lines that were read; or the file could not be read, and no line was
+abbrev pub AnswersLines : ℕ → Option State → Option State → Option (List ℕ) → Option (List ℕ) → Option (List ℕ)
+    → Option (List ℕ) → Result FileBatchEnd TaskFault → Type 0
+AnswersLines now s s1 r0 r1 c0 c1 (Ok end) =
+    (seen : List ℕ) × Consumes r0 r1 seen × RunOver now seen r1 s s1 end.refused c0 c1 end.stream
+AnswersLines now s s1 r0 r1 c0 c1 (Err fault) = MayStop s fault × IsNothing s s1 c0 c1 × Keeps r0 r1
+
+-- from this state the run leads to that one
+abbrev pub Computes : Option State → Run → Option State → Type 0
+Computes s (ByCommand r) s1 =
+    (read : Result Command LineFault)
+    × IsReading r.words r.now read
+    × AnswersRead s read s1 r.out_before r.out_after r.end
+Computes s (ByBatch r) s1 = AnswersLines r.now s s1 r.in_before r.in_after r.out_before r.out_after r.end
+
+abbrev pub ComputesAll : Option State → List Run → Option State → Type 0
+ComputesAll s [] s1 = s1 ≡ s
+ComputesAll s (run ∷ runs) s1 = (between : Option State) × Computes s run between × ComputesAll between runs s1
+
+-- ---- the laws
+
+-- a run over the file of a state leads to the state that the definitions compute, and prints what they do. The file is
+-- that of the new state, unless it could not be written
+abbrev pub RunIsComputed : List ℕ → Option State → Run → List ℕ → Type 0
+RunIsComputed old s run new =
+    Holds old s → Did old run new → (s1 : Option State) × Computes s run s1 × IsLeft old new s1 (fault_of run)
+
+-- the first file: no byte, or the file of a valid database
+abbrev pub IsFirst : List ℕ → Option Stored → Type 0
+IsFirst bytes None = bytes ≡ []
+IsFirst bytes (Some d) = IsFile bytes d
+
+-- its content is the base, its journal is brought along, and nothing survives on it yet
+abbrev pub first_of : Option Stored → Option State
+first_of None = None
+first_of (Some d) = Some (record { base = d.content; brought = d.journal; survivors = []; revertible = 0 })
+
+-- the headline: after any list of runs, batches and single commands, with any outcome of memory, the file has the
+-- bytes, and the outputs have the texts, that the definitions compute from the first file
+abbrev pub RunsAreComputed : List ℕ → Option Stored → List Run → List ℕ → Type 0
+RunsAreComputed old first runs new =
+    IsFirst old first → DidAll old runs new → AllByRecursion IsWritten runs
+    → (last : Option State) × ComputesAll (first_of first) runs last × Holds new last
+
+-- what the output held before and after
+abbrev pub OutputStays : Run → Type 0
+OutputStays (ByCommand r) = Keeps r.out_before r.out_after
+OutputStays (ByBatch r) = Keeps r.out_before r.out_after
+
+-- a run that ends with a fault, of the command or of the file, and not because the file could not be written, leaves
+-- the bytes as they were, whatever they are; it printed nothing unless its output failed
+abbrev pub FaultChangesNothing : List ℕ → Run → TaskFault → List ℕ → Type 0
+FaultChangesNothing old run fault new =
+    Did old run new → fault_of run ≡ Some fault → fault ≢ task.CannotWrite
+    → (new ≡ old) × (fault ≢ task.Command Output → OutputStays run)
