@@ -88,7 +88,7 @@ module _ (laws : Staying) where
   stands_next (Changes command) (Some d) None h k = absurd k
   stands_next (Changes command) (Some d) (Some s) h k =
       let accepted : verdict d.content command ≡ None = no_refusal (verdict d.content command) h in
-      let moved : Stands _ (step d (Changed command)) = laws.acts s d (Changed command) k in
+      let moved : Stands _ (stored_after d (Changed command)) = laws.acts s d (Changed command) k in
       rw accepted at moved
   stands_next Reverts (Some d) None h k = absurd k
   stands_next Reverts (Some d) (Some s) h k = laws.acts s d Reverted k
