@@ -1,25 +1,22 @@
 -- Cells in the order of a file, as a database shows them.
-use Rattle.std.proofs.Common.{◌≡◌, ◌∙◌, ◌+◌, ◌-◌, ◌*◌, ◌/◌, ◌<◌, ◌≤◌, ◌++◌, ℕ, zero, suc, ℤ, List, [], ◌∷◌, Some, sym, ap, subst, arith, length, get_or, map, pos, ◌-ℤ◌, replicate, refl}
+use Rattle.std.proofs.Common.{◌≡◌, ◌∙◌, ◌*◌, ◌<◌, ◌≤◌, ◌++◌, ℕ, zero, suc, ℤ, List, [], ◌∷◌, Some, sym, ap, subst, arith, length, get_or, map, refl}
 use Rattle.std.specs.Prelude.{slice_get, slice_index_or}
 use Rattle.std.specs.List.{flat_map, range_with_len}
-use Rattle.std.specs.Int.{int_div_euclid}
-use Rattle.std.proofs.lemmas.Bool.{lt-ltb}
 use Rattle.std.proofs.lemmas.Grind.{flat_map-append}
 use Rattle.std.proofs.lemmas.List.Concat.{flat_map-cons}
 use Rattle.std.proofs.lemmas.Nat.{mul-le}
-use Rattle.std.proofs.lemmas.Option.{get_or_from_slice_get, slice_get-get_or}
+use Rattle.std.proofs.lemmas.Option.{slice_get-get_or}
 use Rattle.rrd_fixed.specs.declared.cell.Cell.{Cell}
 use Rattle.rrd_spec.specs.declared.settings.RraDef.{RraDef}
 use Rattle.rrd_spec.specs.Settings.{resolution}
 use Rattle.rrd_spec.specs.Cells.{time_of}
 use Rattle.rrd_spec.specs.History.{Archive, Content}
-use Rattle.rrd_spec.specs.Cells.{row_at, row_of_age}
+use Rattle.rrd_spec.specs.Cells.{row_at}
 use Rattle.rrd_spec.specs.Cells.{cell_at}
 use Rattle.rrd_spec.specs.Validity.{IsRow, IsValid}
 use Rattle.std.proofs.lemmas.List.FromFn.{get_or-range_with_len, length-range_with_len}
-use Rattle.rrd_spec.specs.Slots.{place_in, row_in}
+use Rattle.rrd_spec.specs.Placed.{ShowsInPlace}
 use Rattle.rrd_file.proofs.Told.{all_of, archive_at, cell_told, some_is}
-use Rattle.rrd_file.proofs.Slotted.{age_is, is_place, row_in_is}
 use Rattle.rrd_file.specs.Layout.{spelled}
 use Rattle.rrd_file.specs.Pieces.{OfCell, spell}
 
@@ -29,32 +26,20 @@ product a b p q = omega (arith, mul-le 1 1 a b (omega (arith, p)) (omega (arith,
 pub some_size : (d : Content) (n : ℕ) (a : Archive) → IsValid d → slice_get d.archives n ≡ Some a → 0 < resolution d.step a.def
 some_size d n a v e = product d.step a.def.steps v.some_step (archive_at d n a v e).some_steps
 
--- the row at the time of a place
-row_at_place : (d : Content) (a : Archive) (place : ℕ) (time : ℤ) → 0 < resolution d.step a.def → place < length a.rows → time ≡ time_of (resolution d.step a.def) (length a.rows) d.last place → row_at d a time ≡ get_or a.rows place []
-row_at_place d a place time some inside is =
-    let size = resolution d.step a.def in
-    let unknown = replicate (length d.sources) Cell.Unknown in
-    let age : pos (d.last / size) -ℤ int_div_euclid time (pos size) ≡ pos (length a.rows - 1 - place) =
-    ap (λ t. pos (d.last / size) -ℤ int_div_euclid t (pos size)) is ∙ age_is size (length a.rows) d.last place some inside in
-    let back : length a.rows - 1 - (length a.rows - 1 - place) ≡ place = omega (arith, inside) in
-    ap (row_of_age a.rows unknown) age
-    ∙ rw (lt-ltb (length a.rows - 1 - place) (length a.rows) (omega (arith, inside))) (ap (λ k. slice_index_or a.rows k unknown) back
-    ∙ get_or_from_slice_get a.rows place (get_or a.rows place []) unknown (slice_get-get_or a.rows place [] inside))
-
 pub row_width : (d : Content) (n : ℕ) (a : Archive) (place : ℕ) → IsValid d → slice_get d.archives n ≡ Some a → place < length a.rows → length (get_or a.rows place []) ≡ length d.sources
 row_width d n a place v e inside =
     (all_of (IsRow (length d.sources)) a.rows place (get_or a.rows place []) (archive_at d n a v e).each_row (slice_get-get_or a.rows place [] inside)).one_each
 
 -- the cell of a source in the row of a place
-pub cell_is : (d : Content) (n : ℕ) (a : Archive) (place source : ℕ) (time : ℤ) → IsValid d → slice_get d.archives n ≡ Some a → place < length a.rows → source < length d.sources → time ≡ time_of (resolution d.step a.def) (length a.rows) d.last place
+pub cell_is : ((content : Content) (archive : Archive) (place : ℕ) → ShowsInPlace content archive place) → (d : Content) (n : ℕ) (a : Archive) (place source : ℕ) (time : ℤ) → IsValid d → slice_get d.archives n ≡ Some a → place < length a.rows → source < length d.sources → time ≡ time_of (resolution d.step a.def) (length a.rows) d.last place
     → slice_get (slice_index_or a.rows place []) source ≡ Some (cell_at d n time source)
-cell_is d n a place source time v e inside within is =
+cell_is shown d n a place source time v e inside within is =
     let row = get_or a.rows place [] in
     let wide : source < length row = omega (arith, within, row_width d n a place v e inside) in
-    let shown : get_or row source Cell.Unknown ≡ cell_at d n time source =
-    ap (λ r. get_or r source Cell.Unknown) (sym (row_at_place d a place time (some_size d n a v e) inside is))
-    ∙ sym (cell_told d d.archives n a time source e) in
-    slice_get-get_or row source Cell.Unknown wide ∙ ap (λ c. Some c) shown
+    let row_is : row_at d a time ≡ row = ap (row_at d a) is ∙ shown d a place (some_size d n a v e) inside in
+    let cell : get_or row source Cell.Unknown ≡ cell_at d n time source =
+    ap (λ r. get_or r source Cell.Unknown) (sym row_is) ∙ sym (cell_told d d.archives n a time source e) in
+    slice_get-get_or row source Cell.Unknown wide ∙ ap (λ c. Some c) cell
 
 -- ---- cells, list by list
 
@@ -101,11 +86,3 @@ rows_are d n def a v f e = (archive_at d n a v e).rows_are ∙ ap (λ (x : RraDe
 
 pub number_there : (n i : ℕ) → i < n → slice_get (range_with_len 0 n) i ≡ Some i
 number_there n i h = slice_get-get_or (range_with_len 0 n) i 0 (omega (arith, length-range_with_len 0 n, h)) ∙ ap (λ k. Some k) (get_or-range_with_len 0 n i 0 h ∙ omega arith)
-
--- the row in a slot, by the time that it has
-pub slot_row : (d : Content) (n : ℕ) (a : Archive) (slot : ℕ) → IsValid d → slice_get d.archives n ≡ Some a → slot < length a.rows
-    → row_in (resolution d.step a.def) d.last a.rows slot ≡ slice_index_or a.rows (place_in (resolution d.step a.def) d.last (length a.rows) slot) []
-slot_row d n a slot v e h = row_in_is (resolution d.step a.def) d.last slot a.rows (some_size d n a v e) h
-
-pub slot_place : (d : Content) (a : Archive) (slot : ℕ) → slot < length a.rows → place_in (resolution d.step a.def) d.last (length a.rows) slot < length a.rows
-slot_place d a slot h = (is_place (d.last / resolution d.step a.def + 1) (length a.rows) slot h).inside

@@ -1,6 +1,6 @@
 -- How many bytes the values of a piece have.
-use Rattle.std.proofs.Common.{◌≡◌, ◌++◌, ◌∷◌, ◌+◌, ◌-◌, ◌≤◌, ℕ, List, refl, length, replicate, arith, length-append, Bool}
-use Rattle.std.specs.Prelude.{nat_lt, true, ◌&&◌}
+use Rattle.std.proofs.Common.{◌≡◌, ◌++◌, ◌∷◌, ◌+◌, ◌-◌, ◌≤◌, ℕ, List, refl, length, replicate, arith, length-append}
+use Rattle.std.specs.Prelude.{nat_lt, true}
 use Rattle.std.specs.List.{list_all}
 use Rattle.std.proofs.lemmas.Bool.{leb-true}
 use Rattle.std.proofs.lemmas.List.{length-replicate}
@@ -13,15 +13,7 @@ use Rattle.rrd_file.specs.Spelling.{bound_bytes, eight_bytes, name_bytes, kind_b
 use Rattle.rrd_file.specs.Pieces.{header_bytes}
 use Rattle.rrd_file.specs.Stages.{header_size}
 use Rattle.rrd_file.proofs.SignedBytes.{signed_length}
-
-and_left : (a b : Bool) → (a && b) ≡ true → a ≡ true
-and_left Bool.true b e = refl
-and_left Bool.false b e = e
-
-and_right : (a b : Bool) → (a && b) ≡ true → b ≡ true
-and_right Bool.true b e = e
-and_right Bool.false Bool.true e = refl
-and_right Bool.false Bool.false e = e
+use Rattle.rrd_file.proofs.Tests.{and_left, and_right}
 
 -- a good name is at most 19 characters long
 pub short_name : (name : Name) → is_good name ≡ true → length name ≤ 19

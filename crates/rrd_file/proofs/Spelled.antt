@@ -1,6 +1,6 @@
 -- A value that its bytes can stand for has bytes that no other such value has.
-use Rattle.std.proofs.Common.{◌≡◌, ◌∙◌, ◌++◌, ◌∷◌, ◌-◌, ◌^◌, ◌<◌, ◌≤◌, ℕ, List, [], Bool, sym, ap, refl, get_or, drop, length, replicate, arith, length-append}
-use Rattle.std.specs.Prelude.{◌≤ℤ◌, ℤ, negsuc, pos, unsigned_abs, nat_lt, true, ◌&&◌, Option, Some, None}
+use Rattle.std.proofs.Common.{◌≡◌, ◌∙◌, ◌++◌, ◌∷◌, ◌-◌, ◌^◌, ◌<◌, ◌≤◌, ℕ, List, [], sym, ap, refl, get_or, drop, length, replicate, arith, length-append}
+use Rattle.std.specs.Prelude.{◌≤ℤ◌, ℤ, negsuc, pos, unsigned_abs, nat_lt, true, Option, Some, None}
 use Rattle.std.specs.List.{list_all}
 use Rattle.std.specs.Int.{w16, w32, w64, w128, from_be_bytes}
 use Rattle.std.proofs.lemmas.Bool.{leb-true}
@@ -25,16 +25,19 @@ use Rattle.rrd_file.specs.Spelling.{archive_bytes, bound_bytes, bound_number, ce
 use Rattle.rrd_file.specs.Values.{FitsArchive, FitsBound, FitsCell, FitsDef, FitsHeader, FitsSourceBefore, FitsNumber, FitsPart, FitsRaw, FitsSource}
 use Rattle.rrd_file.proofs.SignedBytes.{signed_length, signed_one}
 use Rattle.rrd_file.proofs.Lengths.{name_length, source_length}
+use Rattle.rrd_file.proofs.Tests.{and_left}
 
 -- ---- lists
 
-pub append_same : (a b c d : List ℕ) → length a ≡ length c → a ++ b ≡ c ++ d → (a ≡ c) × (b ≡ d)
+pub append_same : {A : Type 0} (a b c d : List A) → length a ≡ length c → a ++ b ≡ c ++ d → (a ≡ c) × (b ≡ d)
 append_same [] b [] d l e = (refl, e)
 append_same [] b (y ∷ c) d l e = absurd (omega (arith, l))
 append_same (x ∷ a) b [] d l e = absurd (omega (arith, l))
 append_same (x ∷ a) b (y ∷ c) d l e =
-    let first : x ≡ y = ap (λ l. get_or l 0 0) e in
-    let rest = append_same a b c d (omega (arith, l)) (ap (drop 1) e) in
+    let whole : x ∷ (a ++ b) ≡ y ∷ (c ++ d) = e in
+    let first : x ≡ y = cc in
+    let later : a ++ b ≡ c ++ d = cc in
+    let rest = append_same a b c d (omega (arith, l)) later in
     (λ i. first i ∷ rest.0 i, rest.1)
 
 pub head_same : (x y : ℕ) (a b : List ℕ) → x ∷ a ≡ y ∷ b → (x ≡ y) × (a ≡ b)
@@ -93,10 +96,6 @@ part_one c d fc fd e =
 
 -- ---- settings
 
-and_left : (a b : Bool) → (a && b) ≡ true → a ≡ true
-and_left Bool.true b e = refl
-and_left Bool.false b e = e
-
 pub short_fit : (name : Name) → fits name ≡ true → length name ≤ 19
 short_fit name f = leb-true (length name) 19 (and_left _ (list_all (λ (c : ℕ). nat_lt c 128) name) f)
 
@@ -107,39 +106,17 @@ name_one a b e =
 
 pub kind_one : (a b : Kind) → kind_byte a ≡ kind_byte b → a ≡ b
 kind_one Gauge Gauge e = refl
-kind_one Gauge Counter e = absurd (let bad : 0 ≡ 1 = e in omega (arith, bad))
-kind_one Gauge Derive e = absurd (let bad : 0 ≡ 2 = e in omega (arith, bad))
-kind_one Gauge Absolute e = absurd (let bad : 0 ≡ 3 = e in omega (arith, bad))
-kind_one Counter Gauge e = absurd (let bad : 1 ≡ 0 = e in omega (arith, bad))
 kind_one Counter Counter e = refl
-kind_one Counter Derive e = absurd (let bad : 1 ≡ 2 = e in omega (arith, bad))
-kind_one Counter Absolute e = absurd (let bad : 1 ≡ 3 = e in omega (arith, bad))
-kind_one Derive Gauge e = absurd (let bad : 2 ≡ 0 = e in omega (arith, bad))
-kind_one Derive Counter e = absurd (let bad : 2 ≡ 1 = e in omega (arith, bad))
 kind_one Derive Derive e = refl
-kind_one Derive Absolute e = absurd (let bad : 2 ≡ 3 = e in omega (arith, bad))
-kind_one Absolute Gauge e = absurd (let bad : 3 ≡ 0 = e in omega (arith, bad))
-kind_one Absolute Counter e = absurd (let bad : 3 ≡ 1 = e in omega (arith, bad))
-kind_one Absolute Derive e = absurd (let bad : 3 ≡ 2 = e in omega (arith, bad))
 kind_one Absolute Absolute e = refl
+kind_one a b e = absurd (omega (arith, e))
 
 pub function_one : (a b : Function) → function_byte a ≡ function_byte b → a ≡ b
 function_one Average Average e = refl
-function_one Average Min e = absurd (let bad : 0 ≡ 1 = e in omega (arith, bad))
-function_one Average Max e = absurd (let bad : 0 ≡ 2 = e in omega (arith, bad))
-function_one Average Last e = absurd (let bad : 0 ≡ 3 = e in omega (arith, bad))
-function_one Min Average e = absurd (let bad : 1 ≡ 0 = e in omega (arith, bad))
 function_one Min Min e = refl
-function_one Min Max e = absurd (let bad : 1 ≡ 2 = e in omega (arith, bad))
-function_one Min Last e = absurd (let bad : 1 ≡ 3 = e in omega (arith, bad))
-function_one Max Average e = absurd (let bad : 2 ≡ 0 = e in omega (arith, bad))
-function_one Max Min e = absurd (let bad : 2 ≡ 1 = e in omega (arith, bad))
 function_one Max Max e = refl
-function_one Max Last e = absurd (let bad : 2 ≡ 3 = e in omega (arith, bad))
-function_one Last Average e = absurd (let bad : 3 ≡ 0 = e in omega (arith, bad))
-function_one Last Min e = absurd (let bad : 3 ≡ 1 = e in omega (arith, bad))
-function_one Last Max e = absurd (let bad : 3 ≡ 2 = e in omega (arith, bad))
 function_one Last Last e = refl
+function_one a b e = absurd (omega (arith, e))
 
 pub def_one : (a b : DsDef) → FitsDef a → FitsDef b → source_bytes a ≡ source_bytes b → a ≡ b
 def_one a b fa fb e =

@@ -60,7 +60,7 @@ small_numbers sources passed (a ∷ archives) (suc i) def all e = small_numbers 
 
 -- ---- lengths
 
-accepted_length : (defs : List DsDef) (raws : List Raw) → AreAccepted defs raws → length raws ≡ length defs
+pub accepted_length : (defs : List DsDef) (raws : List Raw) → AreAccepted defs raws → length raws ≡ length defs
 accepted_length [] [] h = refl
 accepted_length [] (raw ∷ raws) h = absurd h
 accepted_length (def ∷ defs) [] h = absurd h

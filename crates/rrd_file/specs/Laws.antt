@@ -1,22 +1,35 @@
 -- Law: laws of the layout, for any file.
-use Rattle.std.specs.Prelude.{◌≡◌, List, length}
+use Rattle.std.specs.Prelude.{◌≡◌, ℕ, ◌-◌, ◌<◌, List, [], ◌++◌, length, take, None, Result, Ok, Err}
 use Rattle.rrd_fixed.specs.declared.cell.Cell.{Cell}
 use Rattle.rrd_fixed.specs.declared.raw.Raw.{Raw}
 use Rattle.rrd_fold.specs.Parts.{Part}
 use Rattle.rrd_spec.specs.declared.settings.RraDef.{RraDef}
 use Rattle.rrd_spec.specs.declared.entry.SourceBefore.{SourceBefore}
-use Rattle.rrd_spec.specs.Filed.{Source}
+use Rattle.rrd_spec.specs.Commands.{Command}
+use Rattle.rrd_spec.specs.Entries.{Entry}
+use Rattle.rrd_spec.specs.Filed.{Filed, Source}
+use Rattle.rrd_spec.specs.Rebuilding.{MayEntry}
+use Rattle.rrd_spec.specs.Survivors.{Stored, changed, reverted}
+use Rattle.rrd_spec.specs.Validity.{IsValidDatabase}
+use Rattle.rrd_spec.specs.Verdict.{verdict}
+use Rattle.rrd_file.specs.declared.fault.FileFault.{FileFault}
+use Rattle.rrd_file.specs.declared.fault.FileFault.TheVariants.{NotOurs, Version as WrongVersion, Truncated, BadBlock, BadEntry, Trailing, Read, OutOfMemory}
+use Rattle.rrd_file.specs.Faults.{IsAnswer, IsFile}
+use Rattle.rrd_file.specs.Layout.{entry_pieces, layout, layout_in}
 use Rattle.rrd_file.specs.Pieces.{Piece, OfSource, OfArchive, OfPrep, OfCell, OfRawAndPart, OfSourceBefore, spell}
 use Rattle.rrd_file.specs.Values.{FitsArchive, FitsCell, FitsSourceBefore, FitsPart, FitsRaw, FitsSource}
 use Rattle.rrd_file.specs.Stages.{Runs, Stage, Start, Takes, size}
 
 -- a piece that may come has as many bytes as are due
 abbrev pub PiecesHaveTheirSize : Type 0
-PiecesHaveTheirSize = (stage : Stage) (piece : Piece) (next : Stage) → Takes stage piece next → length (spell piece) ≡ size stage
+PiecesHaveTheirSize =
+    (stage : Stage) (piece : Piece) (next : Stage) → Takes stage piece next → length (spell piece) ≡ size stage
 
 -- of the pieces that may come at a stage that a file reaches, no two are spelled alike
 abbrev pub PiecesHaveOneSpelling : Type 0
-PiecesHaveOneSpelling = (before : List Piece) (stage : Stage) (p q : Piece) (n m : Stage) → Runs Start before stage → Takes stage p n → Takes stage q m → spell p ≡ spell q → p ≡ q
+PiecesHaveOneSpelling =
+    (before : List Piece) (stage : Stage) (p q : Piece) (n m : Stage) → Runs Start before stage
+    → Takes stage p n → Takes stage q m → spell p ≡ spell q → p ≡ q
 
 -- values that fit their bytes and have the same bytes are one
 pub record ValuesHaveOneSpelling : Type 0 where
@@ -24,5 +37,68 @@ pub record ValuesHaveOneSpelling : Type 0 where
   pub archive : (a b : RraDef) → FitsArchive a → FitsArchive b → spell (OfArchive a) ≡ spell (OfArchive b) → a ≡ b
   pub prep : (a b : Part) → FitsPart a → FitsPart b → spell (OfPrep a) ≡ spell (OfPrep b) → a ≡ b
   pub cell : (a b : Cell) → FitsCell a → FitsCell b → spell (OfCell a) ≡ spell (OfCell b) → a ≡ b
-  pub raw_and_part : (r s : Raw) (a b : Part) → FitsRaw r → FitsRaw s → FitsPart a → FitsPart b → spell (OfRawAndPart r a) ≡ spell (OfRawAndPart s b) → (r ≡ s) × (a ≡ b)
-  pub source_before : (a b : SourceBefore) → FitsSourceBefore a → FitsSourceBefore b → spell (OfSourceBefore a) ≡ spell (OfSourceBefore b) → a ≡ b
+  pub raw_and_part :
+      (r s : Raw) (a b : Part) → FitsRaw r → FitsRaw s → FitsPart a → FitsPart b
+      → spell (OfRawAndPart r a) ≡ spell (OfRawAndPart s b) → (r ≡ s) × (a ≡ b)
+  pub source_before :
+      (a b : SourceBefore) → FitsSourceBefore a → FitsSourceBefore b
+      → spell (OfSourceBefore a) ≡ spell (OfSourceBefore b) → a ≡ b
+
+-- of the entries that may come behind a front of a body, no two have the same pieces
+abbrev pub EntriesHaveOneSpelling : Type 0
+EntriesHaveOneSpelling =
+    (f : Filed) (x y : Entry) → MayEntry f x → MayEntry f y → entry_pieces x ≡ entry_pieces y → x ≡ y
+
+-- ---- databases
+
+abbrev pub IsValidStored : Stored → Type 0
+IsValidStored d = IsValidDatabase d.content d.journal
+
+-- an answer that says what the input is: a valid database or a fault, and not that the reader failed or a growth was
+-- refused
+abbrev pub IsOfFile : Result Stored FileFault → Type 0
+IsOfFile (Ok d) = IsValidStored d
+IsOfFile (Err NotOurs) = Unit {0}
+IsOfFile (Err WrongVersion) = Unit {0}
+IsOfFile (Err (Truncated at)) = Unit {0}
+IsOfFile (Err (BadBlock at)) = Unit {0}
+IsOfFile (Err (BadEntry number)) = Unit {0}
+IsOfFile (Err (Trailing at)) = Unit {0}
+IsOfFile (Err Read) = ⊥
+IsOfFile (Err OutOfMemory) = ⊥
+
+-- an input has one such answer
+abbrev pub HasOneAnswer : List ℕ → Type 0
+HasOneAnswer bytes =
+    (x y : Result Stored FileFault) → IsAnswer bytes x → IsAnswer bytes y → IsOfFile x → IsOfFile y → x ≡ y
+
+-- the layout of a valid database is the file of it, and of nothing else
+abbrev pub LayoutIsItsFile : Stored → Type 0
+LayoutIsItsFile d = IsValidStored d → IsAnswer (layout d) (Ok d)
+
+abbrev pub LayoutIsNoOther : Stored → Type 0
+LayoutIsNoOther d =
+    IsValidStored d → (x : Result Stored FileFault) → IsAnswer (layout d) x → IsOfFile x → x ≡ Ok d
+
+-- a database's file is its layout, in the file's version
+abbrev pub FileIsLayout : List ℕ → Stored → Type 0
+FileIsLayout bytes d = (file : IsFile bytes d) → bytes ≡ layout_in file.version d
+
+-- different valid databases have different layouts, and none is the front of another
+abbrev pub NoFrontOfAnother : Stored → Stored → List ℕ → Type 0
+NoFrontOfAnother d e more =
+    IsValidStored d → IsValidStored e → layout d ++ more ≡ layout e → (d ≡ e) × (more ≡ [])
+
+-- a revert of an accepted command gives the file back, byte by byte, but for the oldest entry of a full journal
+abbrev pub BytesComeBack : Stored → Command → Type 0
+BytesComeBack d command =
+    let after = changed d command in
+    let back = reverted after.content after.journal in
+    IsValidStored d → verdict d.content command ≡ None → length d.journal < d.content.depth → layout back ≡ layout d
+
+abbrev pub BytesComeBackButOldest : Stored → Command → Type 0
+BytesComeBackButOldest d command =
+    let after = changed d command in
+    let back = reverted after.content after.journal in
+    IsValidStored d → verdict d.content command ≡ None
+    → layout back ≡ layout (record d { journal = take (d.content.depth - 1) d.journal })

@@ -13,6 +13,7 @@ use crate::block::Block;
 use crate::pieces::write_cell;
 use rrd_base::Database;
 use rrd_fixed::WriteFault;
+use rrd_spec::laws::rows_stand_in_slots;
 use std::io::Write;
 
 // The time of the row in a slot, in seconds since 1970; it may be negative. There are `rows` rows of
@@ -49,6 +50,7 @@ fn write_row_at<W: Write>(
         → Gathers (W.contents out.old) block.old (W.contents out.new) block.new
         (spelled (map OfCell (slice_index_or a.rows place []))) result }
 {
+    rows_stand_in_slots();
     for source in 0..database.sources() {
         write_cell(out, block, database.cell(archive, time, source))?;
     }
@@ -67,6 +69,7 @@ fn write_slots<W: Write>(
         → Gathers (W.contents out.old) block.old (W.contents out.new) block.new
         (spelled (map OfCell (cells_by_slot database.now.content.step database.now.content.last a))) result }
 {
+    rows_stand_in_slots();
     // Its clause says that the content is valid, so that times and numbers of rows are small.
     let _sources = database.sources();
     let def = database.archive(archive);

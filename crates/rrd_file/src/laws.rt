@@ -1,6 +1,14 @@
 //! Laws of the layout alone. Each is the contract of a function that does nothing.
+ghost use Rattle.std.specs.Prelude.{ℕ, List};
+ghost use Rattle.rrd_spec.specs.Commands.{Command};
+ghost use Rattle.rrd_spec.specs.Survivors.{Stored};
 ghost use Rattle.rrd_file.specs.Laws as laws;
 ghost use Rattle.rrd_file.specs.Worked as worked;
+
+use rrd_spec::laws::{
+    cells_stand_in_slots, databases_are_filed_once, outlines_follow, outlines_judge_journals,
+    revert_takes_back,
+};
 
 /// The definition gives two files that are known byte by byte.
 pub fn examples()
@@ -8,7 +16,64 @@ pub fn examples()
     ensures sampled { worked.SampledFile }
 {}
 
+/// A piece that may come has as many bytes as are due.
+pub fn sizes()
+    ensures { laws.PiecesHaveTheirSize }
+{}
+
+/// Of the pieces that may come at a stage that a file reaches, no two are spelled alike.
+pub fn one_spelling()
+    ensures { laws.PiecesHaveOneSpelling }
+{}
+
+/// Of the entries that may come behind a front of a body, no two have the same pieces.
+pub fn one_entry()
+    ensures { laws.EntriesHaveOneSpelling }
+{}
+
 /// Values that fit their bytes and have the same bytes are one.
 pub fn one_value()
     ensures { laws.ValuesHaveOneSpelling }
 {}
+
+/// A database's file is its layout.
+pub fn file_is_layout()
+    ensures { (bytes : List ℕ) (d : Stored) → laws.FileIsLayout bytes d }
+{}
+
+/// An input has one answer, but for failures of the reader and of memory.
+pub fn one_answer()
+    ensures { (bytes : List ℕ) → laws.HasOneAnswer bytes }
+{
+    databases_are_filed_once();
+}
+
+/// The layout of a valid database is the file of that database, and of no other.
+pub fn layout_is_file()
+    ensures read { (d : Stored) → laws.LayoutIsItsFile d }
+    ensures no_other { (d : Stored) → laws.LayoutIsNoOther d }
+{
+    cells_stand_in_slots();
+    databases_are_filed_once();
+    outlines_follow();
+    outlines_judge_journals();
+}
+
+/// Different valid databases have different layouts, and none is the front of another.
+pub fn layouts_differ()
+    ensures { (d e : Stored) (more : List ℕ) → laws.NoFrontOfAnother d e more }
+{
+    cells_stand_in_slots();
+    databases_are_filed_once();
+    outlines_follow();
+    outlines_judge_journals();
+}
+
+/// A revert of an accepted command gives the file back, byte by byte, but for the oldest entry of a
+/// full journal.
+pub fn bytes_come_back()
+    ensures whole { (d : Stored) (command : Command) → laws.BytesComeBack d command }
+    ensures full { (d : Stored) (command : Command) → laws.BytesComeBackButOldest d command }
+{
+    revert_takes_back();
+}

@@ -24,3 +24,7 @@ pub mod SlowRows
 pub mod Changing
 pub mod PassedValid
 pub mod ManySteps
+pub mod Slotted
+pub mod SlotCells
+pub mod Outlined
+pub mod ReadBack

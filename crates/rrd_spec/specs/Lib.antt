@@ -14,9 +14,12 @@ pub mod Validity
 pub mod Answers
 pub mod Turns
 pub mod Slots
+pub mod Placed
 pub mod Filed
+pub mod FiledOnce
 pub mod Outlines
 pub mod Rebuilding
+pub mod Journals
 pub mod Listed
 pub mod Passing
 pub mod Laws

@@ -11,6 +11,11 @@ ghost use Rattle.rrd_spec.specs.History.{Archive, Content, Event, Reading};
 ghost use Rattle.rrd_spec.specs.Laws.{PassesInPieces, SampledPasses, RowsComeBack, ShowsByAge};
 ghost use Rattle.rrd_spec.specs.Commands.{Command};
 ghost use Rattle.rrd_spec.specs.Entries.{Entry};
+ghost use Rattle.rrd_spec.specs.Filed.{Version};
+ghost use Rattle.rrd_spec.specs.FiledOnce.{FiledOnce, RowsFiledOnce};
+ghost use Rattle.rrd_spec.specs.Journals.{FiledOutline, JournalLeavesValid, JournalParts, JournalTakes, JournalTook, JournalsJoin, OutlineFollows, OutlineIsNeeded, OutlineSuffices, OutlinesAreNeeded, OutlinesSuffice};
+ghost use Rattle.rrd_spec.specs.Limits.{Limits};
+ghost use Rattle.rrd_spec.specs.Placed.{AsManyCells, CellStandsInSlot, KeepsRow, PlaceHasSlot, PlacesDiffer, PutsBlock, PutsCell, PutsRow, ShowsInPlace, SlotHasPlace, StandsInPlace};
 ghost use Rattle.rrd_spec.specs.Laws.{ComesBack};
 ghost use Rattle.rrd_spec.specs.EqualSteps.{SecondsOver, StepsInPieces, StepsOver, StepsWithin};
 ghost use Rattle.rrd_spec.specs.Survivors.{Action, Stored, State};
@@ -127,6 +132,42 @@ pub fn cells_by_time()
     ensures cells { (base : Content) (events : List Event) → ShowsCells base events }
 {}
 
+/// Each slot has one place and each place one slot, so that a row put into its place is in its slot and
+/// leaves the others as they are. By its time a content shows the row of each place.
+pub fn rows_stand_in_slots()
+    ensures place { (resolution last rows slot : ℕ) → SlotHasPlace resolution last rows slot }
+    ensures slot { (resolution last rows place : ℕ) → PlaceHasSlot resolution last rows place }
+    ensures differ { (resolution last rows slot other : ℕ) → PlacesDiffer resolution last rows slot other }
+    ensures row { (resolution last : ℕ) (rows : List (List Cell)) (slot : ℕ) →
+        StandsInPlace resolution last rows slot }
+    ensures shown { (content : Content) (archive : Archive) (place : ℕ) → ShowsInPlace content archive place }
+    ensures put { (resolution last : ℕ) (rows : List (List Cell)) (slot : ℕ) (row : List Cell) →
+        PutsRow resolution last rows slot row }
+    ensures kept { (resolution last : ℕ) (rows : List (List Cell)) (slot : ℕ) (row : List Cell) (other : ℕ) →
+        KeepsRow resolution last rows slot row other }
+{}
+
+/// The cells of an archive, slot by slot, are as many as its rows and sources, each that of its row. A
+/// row put into its place changes one block of them, and a cell that cell alone.
+pub fn cells_stand_in_slots()
+    ensures as_many { (resolution last sources : ℕ) (rows : List (List Cell)) →
+        AsManyCells resolution last sources rows }
+    ensures cell { (resolution last sources : ℕ) (rows : List (List Cell)) (slot source : ℕ) (or : Cell) →
+        CellStandsInSlot resolution last sources rows slot source or }
+    ensures row_put { (resolution last sources : ℕ) (rows : List (List Cell)) (slot : ℕ) (row : List Cell) →
+        PutsBlock resolution last sources rows slot row }
+    ensures cell_put { (resolution last sources : ℕ) (rows : List (List Cell)) (slot source : ℕ) (cell : Cell) →
+        PutsCell resolution last sources rows slot source cell }
+{}
+
+/// Rows are told by their cells, slot by slot, and so is a database by the lists that a file has of it.
+pub fn databases_are_filed_once()
+    ensures rows { (resolution last sources : ℕ) (rows others : List (List Cell)) →
+        RowsFiledOnce resolution last sources rows others }
+    ensures databases { (limits : Limits) (version : Version) (d other : Stored) →
+        FiledOnce limits version d other }
+{}
+
 /// A content's rows, by list and by time, are the same; so they are after an accepted command.
 pub fn content_is_listed()
     ensures events { (base : Content) (events : List Event) → IsListed base events }
@@ -214,6 +255,37 @@ pub fn database_begins()
 /// it.
 pub fn action_goes_on()
     ensures { (state : State) (kept : Stored) (action : Action) → ActsOn state kept action }
+{}
+
+/// Undoing entries changes a content's outline by the entries alone; a database's lists say that outline.
+pub fn outlines_follow()
+    ensures undone { (now : Content) (journal : List Entry) → OutlineFollows now journal }
+    ensures filed { (version : Version) (d : Stored) → FiledOutline version d }
+{}
+
+/// The outline of a valid content alone decides which entry fits it and leaves a valid content.
+pub fn outlines_judge_entries()
+    ensures suffices { (limits : Limits) (now : Content) (entry : Entry) → OutlineSuffices limits now entry }
+    ensures needed { (limits : Limits) (now : Content) (entry : Entry) → OutlineIsNeeded limits now entry }
+{}
+
+/// Older entries are a journal of the content that the newer ones leave, which is valid.
+pub fn journals_in_pieces()
+    ensures leaves { (limits : Limits) (now : Content) (journal : List Entry) → JournalLeavesValid limits now journal }
+    ensures join { (limits : Limits) (now : Content) (newer older : List Entry) → JournalsJoin limits now newer older }
+    ensures parts { (limits : Limits) (now : Content) (newer older : List Entry) → JournalParts limits now newer older }
+{}
+
+/// So outlines alone decide which entry a valid content's journal takes behind all others, and which
+/// lists are such a journal.
+pub fn outlines_judge_journals()
+    ensures takes { (limits : Limits) (now : Content) (journal : List Entry) (entry : Entry) →
+        JournalTakes limits now journal entry }
+    ensures took { (limits : Limits) (now : Content) (journal : List Entry) (entry : Entry) →
+        JournalTook limits now journal entry }
+    ensures suffice { (limits : Limits) (now : Content) (journal : List Entry) → OutlinesSuffice limits now journal }
+    ensures needed { (limits : Limits) (now : Content) (journal : List Entry) →
+        OutlinesAreNeeded limits now journal }
 {}
 
 /// A run from a valid database is what its survivors make, and stays valid.

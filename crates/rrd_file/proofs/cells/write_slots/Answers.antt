@@ -9,7 +9,7 @@ use Rattle.rrd_spec.specs.Slots.{place_in, row_in}
 use Rattle.rrd_file.specs.Layout.{spelled}
 use Rattle.rrd_file.specs.Pieces.{OfCell}
 use Rattle.rrd_file.specs.Gathered.{Adds}
-use Rattle.rrd_file.proofs.CellsFiled.{cells_spelled, def_of, number_there, rows_are, same_def, slot_place, slot_row, small_def}
+use Rattle.rrd_file.proofs.CellsFiled.{cells_spelled, def_of, number_there, rows_are, same_def, small_def, some_size}
 use Rattle.std.proofs.lemmas.Result.{err_from_is_err_and}
 use Rattle.rrd_file.proofs.Gathering.{all_added, item_added, item_broken}
 use Rattle.rrd_file.proofs.cells.write_slots.Goals as goal
@@ -53,8 +53,10 @@ returns-in_err-write_row_at g c = λ a e.
     let size : c.resolution-resolution.result ≡ resolution d.step a.def = ◌∙◌ {b = resolution c.step.result c.archive-def.result} c.resolution-resolution.ensures.value (λ i. resolution (c.step.ensures i) (sym same i)) in
     let time : c.time_in-time.result ≡ time_of (resolution d.step a.def) (length a.rows) d.last place =
     c.time_in-time.ensures ∙ (λ i. time_of (size i) (sym rows i) (c.last-last.ensures i) (place_in (size i) (c.last-last.ensures i) (sym rows i) slot)) in
-    let row = slot_row d c.args.archive a slot valid e inside in
-    rw (p.1, cells_spelled (row_in (resolution d.step a.def) d.last a.rows) (range_with_len 0 (length a.rows))) (item_broken (λ (slot : ℕ). spelled (map OfCell (row_in (resolution d.step a.def) d.last a.rows slot))) (range_with_len 0 (length a.rows)) c.loop-slot.slot (slot) (number_there (length a.rows) slot inside) (c.loop-slot.invariant a e) (rw (← row) at (c.in_err-write_row_at.ensures a place e (slot_place d a slot inside) (to_z-of_z {w = w64} (record { sfits = c.time_in-time.type_inv }) ∙ time))))
+    let some = some_size d c.args.archive a valid e in
+    let row = c.rows_stand_in_slots.ensures.row (resolution d.step a.def) d.last a.rows slot some inside in
+    let there = (c.rows_stand_in_slots.ensures.place (resolution d.step a.def) d.last (length a.rows) slot some inside).there in
+    rw (p.1, cells_spelled (row_in (resolution d.step a.def) d.last a.rows) (range_with_len 0 (length a.rows))) (item_broken (λ (slot : ℕ). spelled (map OfCell (row_in (resolution d.step a.def) d.last a.rows slot))) (range_with_len 0 (length a.rows)) c.loop-slot.slot (slot) (number_there (length a.rows) slot inside) (c.loop-slot.invariant a e) (rw (← row) at (c.in_err-write_row_at.ensures a place e there (to_z-of_z {w = w64} (record { sfits = c.time_in-time.type_inv }) ∙ time))))
 
 pub loop-slot-preserved : goal.loop-slot-preserved
 loop-slot-preserved g c = λ a e.
@@ -70,8 +72,10 @@ loop-slot-preserved g c = λ a e.
     let size : c.resolution-resolution.result ≡ resolution d.step a.def = ◌∙◌ {b = resolution c.step.result c.archive-def.result} c.resolution-resolution.ensures.value (λ i. resolution (c.step.ensures i) (sym same i)) in
     let time : c.time_in-time.result ≡ time_of (resolution d.step a.def) (length a.rows) d.last place =
     c.time_in-time.ensures ∙ (λ i. time_of (size i) (sym rows i) (c.last-last.ensures i) (place_in (size i) (c.last-last.ensures i) (sym rows i) slot)) in
-    let row = slot_row d c.args.archive a slot valid e inside in
-    item_added (λ (slot : ℕ). spelled (map OfCell (row_in (resolution d.step a.def) d.last a.rows slot))) (range_with_len 0 (length a.rows)) c.loop-slot.slot (slot) (number_there (length a.rows) slot inside) (c.loop-slot.invariant a e) (rw (← row) at (c.in_ok-write_row_at.ensures a place e (slot_place d a slot inside) (to_z-of_z {w = w64} (record { sfits = c.time_in-time.type_inv }) ∙ time)))
+    let some = some_size d c.args.archive a valid e in
+    let row = c.rows_stand_in_slots.ensures.row (resolution d.step a.def) d.last a.rows slot some inside in
+    let there = (c.rows_stand_in_slots.ensures.place (resolution d.step a.def) d.last (length a.rows) slot some inside).there in
+    item_added (λ (slot : ℕ). spelled (map OfCell (row_in (resolution d.step a.def) d.last a.rows slot))) (range_with_len 0 (length a.rows)) c.loop-slot.slot (slot) (number_there (length a.rows) slot inside) (c.loop-slot.invariant a e) (rw (← row) at (c.in_ok-write_row_at.ensures a place e there (to_z-of_z {w = w64} (record { sfits = c.time_in-time.type_inv }) ∙ time)))
 
 pub returns : goal.returns
 returns g c = λ a e.

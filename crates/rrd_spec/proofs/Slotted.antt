@@ -1,14 +1,18 @@
--- The row in a slot, by its time and by its number.
-use Rattle.std.proofs.Common.{◌≡◌, ◌≢◌, ◌∙◌, ◌+◌, ◌-◌, ◌*◌, ◌/◌, ◌%◌, ◌<◌, ◌≤◌, ◌⊎◌, ℕ, zero, suc, List, [], ◌∷◌, Some, pos, negsuc, ◌-ℤ◌, sym, ap, arith, inl, inr, length, get_or, Bool, true, false, Option}
+-- Slots and places, by time and by number.
+use Rattle.std.proofs.Common.{◌≡◌, ◌≢◌, ◌∙◌, ◌+◌, ◌-◌, ◌*◌, ◌/◌, ◌%◌, ◌<◌, ◌≤◌, ◌⊎◌, ℕ, zero, suc, List, [], ◌∷◌, Some, pos, negsuc, ◌-ℤ◌, sym, ap, arith, inl, inr, length, get_or, replicate, Bool, true, false, Option}
 use Rattle.std.proofs.lemmas.Int.{ints}
-use Rattle.std.proofs.lemmas.Bool.{cases_lt, eq-eqb, ne_eqb}
-use Rattle.std.specs.Prelude.{slice_index_or, unsigned_abs}
+use Rattle.std.proofs.lemmas.Bool.{cases_lt, eq-eqb, lt-ltb, ne_eqb}
+use Rattle.std.proofs.lemmas.List.{get_or_default, get_or-set_other, get_or-set_same, length-set}
+use Rattle.std.specs.Prelude.{unsigned_abs}
 use Rattle.std.specs.List.{find, enumerate_from}
 use Rattle.std.specs.Option.{option_map_or}
 use Rattle.std.specs.Int.{int_rem_euclid, int_div_euclid}
 use Rattle.rrd_fixed.specs.declared.cell.Cell.{Cell}
-use Rattle.rrd_spec.specs.Cells.{time_of}
+use Rattle.rrd_spec.specs.Settings.{resolution}
+use Rattle.rrd_spec.specs.Cells.{row_of_age, time_of}
+use Rattle.rrd_spec.specs.History.{Archive, Content}
 use Rattle.rrd_spec.specs.Slots.{slot_of, stands_in, row_in, place_in}
+use Rattle.rrd_spec.specs.Placed.{KeepsRow, PlaceHasSlot, PlacesDiffer, PutsRow, ShowsInPlace, SlotHasPlace, StandsInPlace, with_row_in}
 use Rattle.std.proofs.Math.Nat.{add-mul-mod_self_right, mod-add-div'}
 use native.Mathlib.Nat as nat
 
@@ -69,14 +73,14 @@ time_is size rows last place =
     omega (arith, ints, parts)
 
 -- how many rows came after it
-pub age_is : (size rows last place : ℕ) → 0 < size → place < rows → pos (last / size) -ℤ int_div_euclid (time_of size rows last place) (pos size) ≡ pos (rows - 1 - place)
+age_is : (size rows last place : ℕ) → 0 < size → place < rows → pos (last / size) -ℤ int_div_euclid (time_of size rows last place) (pos size) ≡ pos (rows - 1 - place)
 age_is size rows last place some inside =
     let number : int_div_euclid (time_of size rows last place) (pos size) ≡ pos (last / size + 1 + place) -ℤ pos rows =
     ap (λ t. int_div_euclid t (pos size)) (time_is size rows last place) ∙ number_from (last / size + 1 + place) size rows some in
     ap (λ n. pos (last / size) -ℤ n) number ∙ omega (arith, ints, inside)
 
 -- its slot, by its number
-pub slot_is : (size rows last place : ℕ) → 0 < size → 0 < rows → slot_of size rows (time_of size rows last place) ≡ (last / size + 1 + place) % rows
+slot_is : (size rows last place : ℕ) → 0 < size → 0 < rows → slot_of size rows (time_of size rows last place) ≡ (last / size + 1 + place) % rows
 slot_is size rows last place some r = ap (λ t. slot_of size rows t) (time_is size rows last place) ∙ slot_from (last / size + 1 + place) size rows some r
 
 -- ---- the place in a slot
@@ -96,7 +100,7 @@ mod_sum q i rows =
     ap (λ x. x % rows) is ∙ add-mul-mod_self_right (q % rows + i) (q / rows) rows
 
 -- the slot of the row in it, and no row before it stands there
-pub record IsPlace (q rows slot place : ℕ) : Type 0 where
+record IsPlace (q rows slot place : ℕ) : Type 0 where
   pub inside : place < rows
   pub here : (q + place) % rows ≡ slot
   pub first : (i : ℕ) → i < place → (q + i) % rows ≢ slot
@@ -117,28 +121,33 @@ placed r rows slot a b = elim (mod_once (slot + rows - r) rows (omega arith) (om
       (omega (arith, place, large.0), ap (λ x. (r + x) % rows) place ∙ (ap (λ x. x % rows) (omega (arith, large.0)) ∙ nat.mod-eq_of_lt b))
 ]
 
-pub is_place : (q rows slot : ℕ) → slot < rows → IsPlace q rows slot ((slot + rows - q % rows) % rows)
-is_place q rows slot b =
+-- different places have different slots
+same_place : (q i j rows : ℕ) → i < rows → j < rows → (q + i) % rows ≡ (q + j) % rows → i ≡ j
+same_place q i j rows a b h =
     let r = q % rows in
-    let a : r < rows = omega arith in
-    let p = placed r rows slot a b in
-    let place = (slot + rows - r) % rows in
+    let slot = (q + j) % rows in
+    let r_below : r < rows = omega arith in
+    let slot_below : slot < rows = omega arith in
+    elim (turned r i rows slot r_below a slot_below (sym (mod_sum q i rows) ∙ h)) [
+      | inl m ↦ elim (turned r j rows slot r_below b slot_below (sym (mod_sum q j rows))) [
+        | inl o ↦ omega (arith, m.1, o.1)
+        | inr o ↦ omega (arith, m.0, m.1, o.0, o.1)
+      ]
+      | inr m ↦ elim (turned r j rows slot r_below b slot_below (sym (mod_sum q j rows))) [
+        | inl o ↦ omega (arith, m.0, m.1, o.0, o.1)
+        | inr o ↦ omega (arith, m.1, o.1)
+      ]
+    ]
+
+is_place : (q rows slot : ℕ) → slot < rows → IsPlace q rows slot ((slot + rows - q % rows) % rows)
+is_place q rows slot b =
+    let p = placed (q % rows) rows slot (omega arith) b in
+    let place = (slot + rows - q % rows) % rows in
+    let here : (q + place) % rows ≡ slot = mod_sum q place rows ∙ p.1 in
     record {
       inside = p.0;
-      here = mod_sum q place rows ∙ p.1;
-      first = λ i below same.
-          let mine = turned r place rows slot a p.0 b p.1 in
-          let other = turned r i rows slot a (omega (arith, p.0)) b (sym (mod_sum q i rows) ∙ same) in
-          elim (mine) [
-            | inl m ↦ elim (other) [
-              | inl o ↦ omega (arith, m.1, o.1)
-              | inr o ↦ omega (arith, m.1, o.1)
-            ]
-            | inr m ↦ elim (other) [
-              | inl o ↦ omega (arith, m.0, m.1, o.0, o.1)
-              | inr o ↦ omega (arith, m.1, o.1)
-            ]
-          ];
+      here = here;
+      first = λ i below same. omega (arith, below, same_place q i place rows (omega (arith, p.0, below)) p.0 (same ∙ sym here));
     }
 
 -- the first item whose number gives the slot
@@ -154,8 +163,8 @@ find_first test n (suc k) (row ∷ rows) d inside before fits =
     rw now (later ∙ ap (λ m. Some (m, get_or rows k d)) (omega arith))
 
 -- the row in a slot
-pub row_in_is : (size last slot : ℕ) (rows : List (List Cell)) → 0 < size → slot < length rows → row_in size last rows slot ≡ slice_index_or rows (place_in size last (length rows) slot) []
-row_in_is size last slot rows some inside =
+pub stands_in_place : (size last : ℕ) (rows : List (List Cell)) (slot : ℕ) → StandsInPlace size last rows slot
+stands_in_place size last rows slot some inside =
     let n = length rows in
     let p = is_place (last / size + 1) n slot inside in
     let k = place_in size last n slot in
@@ -164,3 +173,55 @@ row_in_is size last slot rows some inside =
     (λ i below x. ne_eqb (slot_of size n (time_of size n last (0 + i))) slot (λ same. p.first i below (sym (slot_is size n last i some (omega (arith, inside))) ∙ (ap (λ m. slot_of size n (time_of size n last m)) (omega arith) ∙ same))))
     (λ x. eq-eqb (slot_of size n (time_of size n last (0 + k))) slot (ap (λ m. slot_of size n (time_of size n last m)) (omega arith) ∙ (slot_is size n last k some (omega (arith, inside)) ∙ p.here))) in
     ap (λ (o : Option (ℕ × List Cell)). option_map_or (λ found. found.1) o []) found
+
+-- ---- slots and places, each by the other
+
+pub slot_has_place : (size last rows slot : ℕ) → SlotHasPlace size last rows slot
+slot_has_place size last rows slot some inside =
+    let p = is_place (last / size + 1) rows slot inside in
+    record { there = p.inside; back = slot_is size rows last (place_in size last rows slot) some (omega (arith, inside)) ∙ p.here }
+
+pub place_has_slot : (size last rows place : ℕ) → PlaceHasSlot size last rows place
+place_has_slot size last rows place some inside =
+    let q = last / size + 1 in
+    let slot = slot_of size rows (time_of size rows last place) in
+    let is : slot ≡ (q + place) % rows = slot_is size rows last place some (omega (arith, inside)) in
+    let there : slot < rows = omega (arith, is, inside) in
+    let p = is_place q rows slot there in
+    record { there = there; back = same_place q (place_in size last rows slot) place rows p.inside inside (p.here ∙ is) }
+
+pub places_differ : (size last rows slot other : ℕ) → PlacesDiffer size last rows slot other
+places_differ size last rows slot other a b apart same =
+    let q = last / size + 1 in
+    apart (sym (is_place q rows slot a).here ∙ (ap (λ k. (q + k) % rows) same ∙ (is_place q rows other b).here))
+
+-- ---- the row of a place, shown at its time
+
+pub shows_in_place : (content : Content) (archive : Archive) (place : ℕ) → ShowsInPlace content archive place
+shows_in_place content archive place some inside =
+    let size = resolution content.step archive.def in
+    let rows = archive.rows in
+    let unknown = replicate (length content.sources) Cell.Unknown in
+    let back : length rows - 1 - (length rows - 1 - place) ≡ place = omega (arith, inside) in
+    ap (row_of_age rows unknown) (age_is size (length rows) content.last place some inside)
+    ∙ rw (lt-ltb (length rows - 1 - place) (length rows) (omega (arith, inside))) (ap (λ k. get_or rows k unknown) back ∙ get_or_default rows place unknown [] inside)
+
+-- ---- one row put into its place
+
+-- a row of the rows with another one in a slot's place
+row_then : (size last : ℕ) (rows : List (List Cell)) (slot : ℕ) (row : List Cell) (other : ℕ) → 0 < size → other < length rows → row_in size last (with_row_in size last rows slot row) other ≡ get_or (with_row_in size last rows slot row) (place_in size last (length rows) other) []
+row_then size last rows slot row other some inside =
+    let then = with_row_in size last rows slot row in
+    let same : length then ≡ length rows = length-set rows (place_in size last (length rows) slot) row in
+    stands_in_place size last then other some (omega (arith, inside, same)) ∙ ap (λ n. get_or then (place_in size last n other) []) same
+
+pub puts_row : (size last : ℕ) (rows : List (List Cell)) (slot : ℕ) (row : List Cell) → PutsRow size last rows slot row
+puts_row size last rows slot row some inside =
+    row_then size last rows slot row slot some inside
+    ∙ get_or-set_same rows (place_in size last (length rows) slot) row [] (is_place (last / size + 1) (length rows) slot inside).inside
+
+pub keeps_row : (size last : ℕ) (rows : List (List Cell)) (slot : ℕ) (row : List Cell) (other : ℕ) → KeepsRow size last rows slot row other
+keeps_row size last rows slot row other some inside within apart =
+    row_then size last rows slot row other some within
+    ∙ (get_or-set_other rows (place_in size last (length rows) slot) (place_in size last (length rows) other) row [] (places_differ size last (length rows) other slot within inside apart)
+    ∙ sym (stands_in_place size last rows other some within))

@@ -1,0 +1,217 @@
+-- The pieces that have come at a stage, in their order, are those of the layout so far.
+use Rattle.std.proofs.Common.{◌≡◌, ◌∙◌, ◌++◌, ◌∷◌, ◌*◌, ◌<◌, ◌≤◌, ℕ, List, [], sym, ap, subst, refl, length, arith, map, append_assoc, append-nil}
+use Rattle.std.specs.Prelude.{Some, None}
+use Rattle.std.specs.List.{flat_map}
+use Rattle.std.proofs.lemmas.List.{map-append}
+use Rattle.std.proofs.lemmas.List.Concat.{flat_map-cons}
+use Rattle.std.proofs.lemmas.Grind.{flat_map-append}
+use Rattle.rrd_fixed.specs.declared.cell.Cell.{Cell}
+use Rattle.rrd_fold.specs.Parts.{Part}
+use Rattle.rrd_spec.specs.declared.settings.RraDef.{RraDef}
+use Rattle.rrd_spec.specs.Entries.{Entry}
+use Rattle.rrd_spec.specs.Filed.{Filed, Head, Header, Source}
+use Rattle.rrd_spec.specs.Rebuilding.{heads_with_part, rows_in_all, unprepared, with_entry}
+use Rattle.rrd_file.specs.Faults.{IsWhole}
+use Rattle.rrd_file.specs.Layout.{entry_pieces, head_pieces, pieces_filed, spelled}
+use Rattle.rrd_file.specs.Pieces.{Piece, Mark, OfVersion, OfHeader, OfSource, OfArchive, OfPrep, OfCell, OfTag, spell}
+use Rattle.rrd_file.specs.Stages.{Stage, Start, Marked, Versioned, Body, Within, DueInEntry, GoesOn, Runs}
+use Rattle.rrd_file.proofs.Order.{before_cell, before_entry, before_head, prep_before, source_before}
+use Rattle.rrd_file.proofs.Ways.{Step, ToMark, ToVersion, ToHeader, ToSource, ToHead, ToPrep, ToCell, ToEntry, ToPiece, step_of}
+
+-- ---- the order of a body's pieces
+
+-- all sources and all heads with their preparations have come
+pub record AreHeadsIn (f : Filed) : Type 0 where
+  pub sources : f.header.sources ≤ length f.sources
+  pub prepared : unprepared f.header.sources f.heads ≡ None
+  pub heads : f.header.archives ≤ length f.heads
+
+-- no head before the last source, no cell before the last head, no entry before the last cell
+pub record IsInOrder (f : Filed) : Type 0 where
+  pub heads_late : 0 < length f.heads → f.header.sources ≤ length f.sources
+  pub cells_late : 0 < length f.cells → AreHeadsIn f
+  pub entries_late : 0 < length f.entries → AreHeadsIn f × (f.header.sources * rows_in_all f.heads ≤ length f.cells)
+
+abbrev pub IsOrdered : Stage → Type 0
+IsOrdered Start = Unit {0}
+IsOrdered Marked = Unit {0}
+IsOrdered (Versioned version) = Unit {0}
+IsOrdered (Body f) = IsInOrder f
+IsOrdered (Within f pieces due) = IsInOrder f
+
+entry_ordered : (f : Filed) (pieces : List Piece) (due : List DueInEntry) (next : Stage) → IsInOrder f → GoesOn f pieces due next → IsOrdered next
+entry_ordered f pieces (due ∷ later) next h g = subst IsOrdered (sym g) h
+entry_ordered f pieces [] next h g =
+    let before = before_entry f g.2.is_due in
+    subst IsOrdered (sym g.3) (record {
+      heads_late = h.heads_late;
+      cells_late = λ some. record { sources = before.sources; prepared = before.prepared; heads = before.heads };
+      entries_late = λ some. (record { sources = before.sources; prepared = before.prepared; heads = before.heads }, before.cells);
+    })
+
+not_both : {A : Type 0} (x : A) → None ≡ Some x → ⊥
+not_both x e = absurd cc
+
+step_ordered : {s : Stage} {p : Piece} {n : Stage} → IsOrdered s → Step s p n → IsOrdered n
+step_ordered h ToMark = tt
+step_ordered h (ToVersion version) = tt
+step_ordered h (ToHeader version header same is) = record { heads_late = λ some. absurd (omega (arith, some)); cells_late = λ some. absurd (omega (arith, some)); entries_late = λ some. absurd (omega (arith, some)) }
+step_ordered h (ToSource f s may) =
+    let more = source_before f may.is_due in
+    record {
+      heads_late = λ some. absurd (omega (arith, more, h.heads_late some));
+      cells_late = λ some. absurd (omega (arith, more, (h.cells_late some).sources));
+      entries_late = λ some. absurd (omega (arith, more, (h.entries_late some).0.sources));
+    }
+step_ordered h (ToHead f def may) =
+    let before = before_head f may.is_due in
+    record {
+      heads_late = λ some. before.sources;
+      cells_late = λ some. absurd (omega (arith, before.more, (h.cells_late some).heads));
+      entries_late = λ some. absurd (omega (arith, before.more, (h.entries_late some).0.heads));
+    }
+step_ordered h (ToPrep f part may) =
+    let before = prep_before f may.def may.is_due in
+    record {
+      heads_late = λ some. before.0;
+      cells_late = λ some. absurd (not_both may.def (sym (h.cells_late some).prepared ∙ before.1));
+      entries_late = λ some. absurd (not_both may.def (sym (h.entries_late some).0.prepared ∙ before.1));
+    }
+step_ordered h (ToCell f cell may) =
+    let before = before_cell f may.is_due in
+    record {
+      heads_late = h.heads_late;
+      cells_late = λ some. record { sources = before.sources; prepared = before.prepared; heads = before.heads };
+      entries_late = λ some. absurd (omega (arith, before.more, (h.entries_late some).1));
+    }
+step_ordered h (ToEntry f tag next is_due goes) = entry_ordered f _ _ next h goes
+step_ordered h (ToPiece f pieces due later p next w goes) = entry_ordered f _ _ next h goes
+
+-- ---- what has come
+
+-- the pieces so far
+abbrev pub came : Stage → List Piece
+came Start = []
+came Marked = Mark ∷ []
+came (Versioned version) = Mark ∷ OfVersion version ∷ []
+came (Body f) = pieces_filed f
+came (Within f pieces due) = pieces_filed f ++ pieces
+
+-- a header's pieces, and four runs of pieces
+abbrev run : Header → List Piece → List Piece → List Piece → List Piece → List Piece
+run h a b c d = Mark ∷ OfVersion h.version ∷ OfHeader h ∷ ((a ++ b ++ c) ++ d)
+
+more_entries : (h : Header) (a b c d x : List Piece) → run h a b c (d ++ x) ≡ run h a b c d ++ x
+more_entries h a b c d x = ap (λ l. Mark ∷ OfVersion h.version ∷ OfHeader h ∷ l) (sym (append_assoc (a ++ b ++ c) d x))
+
+-- what comes before runs that are empty yet
+more_cells : (h : Header) (a b c x : List Piece) → run h a b (c ++ x) [] ≡ run h a b c [] ++ x
+more_cells h a b c x = ap (λ l. Mark ∷ OfVersion h.version ∷ OfHeader h ∷ l) (append-nil (a ++ b ++ (c ++ x)) ∙ sym (append_assoc (a ++ b) c x) ∙ ap (λ l. l ++ x) (sym (append-nil (a ++ b ++ c))))
+
+no_cells : (h : Header) (a b : List Piece) → run h a b [] [] ≡ Mark ∷ OfVersion h.version ∷ OfHeader h ∷ (a ++ b)
+no_cells h a b = ap (λ l. Mark ∷ OfVersion h.version ∷ OfHeader h ∷ l) (append-nil (a ++ b ++ []) ∙ append-nil (a ++ b))
+
+more_heads : (h : Header) (a b x : List Piece) → run h a (b ++ x) [] [] ≡ run h a b [] [] ++ x
+more_heads h a b x = no_cells h a (b ++ x) ∙ ap (λ l. Mark ∷ OfVersion h.version ∷ OfHeader h ∷ l) (sym (append_assoc a b x)) ∙ ap (λ l. l ++ x) (sym (no_cells h a b))
+
+no_heads : (h : Header) (a : List Piece) → run h a [] [] [] ≡ Mark ∷ OfVersion h.version ∷ OfHeader h ∷ a
+no_heads h a = no_cells h a [] ∙ ap (λ l. Mark ∷ OfVersion h.version ∷ OfHeader h ∷ l) (append-nil a)
+
+more_sources : (h : Header) (a x : List Piece) → run h (a ++ x) [] [] [] ≡ run h a [] [] [] ++ x
+more_sources h a x = no_heads h (a ++ x) ∙ ap (λ l. l ++ x) (sym (no_heads h a))
+
+-- a file's four runs
+abbrev runs_filed : Header → List Source → List Head → List Cell → List Entry → List Piece
+runs_filed h sources heads cells entries = run h (map OfSource sources) (flat_map head_pieces heads) (map OfCell cells) (flat_map entry_pieces entries)
+
+none_of : {A : Type 0} (xs : List A) → (0 < length xs → ⊥) → xs ≡ []
+none_of [] h = refl
+none_of (x ∷ xs) h = absurd (h (omega arith))
+
+-- ---- what a piece adds
+
+source_came : (f : Filed) (s : Source) → f.heads ≡ [] → f.cells ≡ [] → f.entries ≡ [] → runs_filed f.header (f.sources ++ s ∷ []) f.heads f.cells f.entries ≡ runs_filed f.header f.sources f.heads f.cells f.entries ++ OfSource s ∷ []
+source_came f s no_head no_cell no_entry =
+    (λ i. runs_filed f.header (f.sources ++ s ∷ []) (no_head i) (no_cell i) (no_entry i))
+    ∙ ap (λ l. run f.header l [] [] []) (map-append OfSource f.sources (s ∷ []))
+    ∙ more_sources f.header (map OfSource f.sources) (OfSource s ∷ [])
+    ∙ sym (λ i. runs_filed f.header f.sources (no_head i) (no_cell i) (no_entry i) ++ OfSource s ∷ [])
+
+head_came : (f : Filed) (def : RraDef) → f.cells ≡ [] → f.entries ≡ [] → runs_filed f.header f.sources (f.heads ++ record { def = def; parts = [] } ∷ []) f.cells f.entries ≡ runs_filed f.header f.sources f.heads f.cells f.entries ++ OfArchive def ∷ []
+head_came f def no_cell no_entry =
+    let head : Head = record { def = def; parts = [] } in
+    (λ i. runs_filed f.header f.sources (f.heads ++ head ∷ []) (no_cell i) (no_entry i))
+    ∙ ap (λ l. run f.header (map OfSource f.sources) l [] []) (flat_map-append head_pieces f.heads (head ∷ []))
+    ∙ more_heads f.header (map OfSource f.sources) (flat_map head_pieces f.heads) (OfArchive def ∷ [])
+    ∙ sym (λ i. runs_filed f.header f.sources f.heads (no_cell i) (no_entry i) ++ OfArchive def ∷ [])
+
+-- the newest head has one piece more
+part_came : (head : Head) (heads : List Head) (part : Part) → flat_map head_pieces (heads_with_part (head ∷ heads) part) ≡ flat_map head_pieces (head ∷ heads) ++ OfPrep part ∷ []
+part_came head [] part =
+    let made : Head = record head { parts = head.parts ++ part ∷ [] } in
+    flat_map-cons head_pieces made [] ∙ append-nil (head_pieces made)
+    ∙ ap (λ l. OfArchive head.def ∷ l) (map-append OfPrep head.parts (part ∷ []))
+    ∙ ap (λ l. l ++ OfPrep part ∷ []) (sym (flat_map-cons head_pieces head [] ∙ append-nil (head_pieces head)))
+part_came head (next ∷ heads) part =
+    flat_map-cons head_pieces head (heads_with_part (next ∷ heads) part)
+    ∙ ap (λ l. head_pieces head ++ l) (part_came next heads part)
+    ∙ sym (append_assoc (head_pieces head) (flat_map head_pieces (next ∷ heads)) (OfPrep part ∷ []))
+    ∙ ap (λ l. l ++ OfPrep part ∷ []) (sym (flat_map-cons head_pieces head (next ∷ heads)))
+
+-- where a preparation is due there is a head
+heads_came : (sources : ℕ) (heads : List Head) (def : RraDef) (part : Part) → unprepared sources heads ≡ Some def → flat_map head_pieces (heads_with_part heads part) ≡ flat_map head_pieces heads ++ OfPrep part ∷ []
+heads_came sources [] def part e = absurd (not_both def e)
+heads_came sources (head ∷ heads) def part e = part_came head heads part
+
+prep_came : (f : Filed) (def : RraDef) (part : Part) → unprepared f.header.sources f.heads ≡ Some def → f.cells ≡ [] → f.entries ≡ [] → runs_filed f.header f.sources (heads_with_part f.heads part) f.cells f.entries ≡ runs_filed f.header f.sources f.heads f.cells f.entries ++ OfPrep part ∷ []
+prep_came f def part due no_cell no_entry =
+    (λ i. runs_filed f.header f.sources (heads_with_part f.heads part) (no_cell i) (no_entry i))
+    ∙ ap (λ l. run f.header (map OfSource f.sources) l [] []) (heads_came f.header.sources f.heads def part due)
+    ∙ more_heads f.header (map OfSource f.sources) (flat_map head_pieces f.heads) (OfPrep part ∷ [])
+    ∙ sym (λ i. runs_filed f.header f.sources f.heads (no_cell i) (no_entry i) ++ OfPrep part ∷ [])
+
+cell_came : (f : Filed) (cell : Cell) → f.entries ≡ [] → runs_filed f.header f.sources f.heads (f.cells ++ cell ∷ []) f.entries ≡ runs_filed f.header f.sources f.heads f.cells f.entries ++ OfCell cell ∷ []
+cell_came f cell no_entry =
+    (λ i. runs_filed f.header f.sources f.heads (f.cells ++ cell ∷ []) (no_entry i))
+    ∙ ap (λ l. run f.header (map OfSource f.sources) (flat_map head_pieces f.heads) l []) (map-append OfCell f.cells (cell ∷ []))
+    ∙ more_cells f.header (map OfSource f.sources) (flat_map head_pieces f.heads) (map OfCell f.cells) (OfCell cell ∷ [])
+    ∙ sym (λ i. runs_filed f.header f.sources f.heads f.cells (no_entry i) ++ OfCell cell ∷ [])
+
+entry_came : (f : Filed) (entry : Entry) → pieces_filed (with_entry f entry) ≡ pieces_filed f ++ entry_pieces entry
+entry_came f entry =
+    ap (run f.header (map OfSource f.sources) (flat_map head_pieces f.heads) (map OfCell f.cells)) (flat_map-append entry_pieces f.entries (entry ∷ []) ∙ ap (λ l. flat_map entry_pieces f.entries ++ l) (flat_map-cons entry_pieces entry [] ∙ append-nil (entry_pieces entry)))
+    ∙ more_entries f.header (map OfSource f.sources) (flat_map head_pieces f.heads) (map OfCell f.cells) (flat_map entry_pieces f.entries) (entry_pieces entry)
+
+within_came : (f : Filed) (pieces : List Piece) (due : List DueInEntry) (next : Stage) → GoesOn f pieces due next → came next ≡ pieces_filed f ++ pieces
+within_came f pieces (due ∷ later) next g = ap came g
+within_came f pieces [] next g = ap came g.3 ∙ entry_came f g.0 ∙ ap (λ l. pieces_filed f ++ l) g.1
+
+step_came : {s : Stage} {p : Piece} {n : Stage} → IsOrdered s → Step s p n → came n ≡ came s ++ p ∷ []
+step_came h ToMark = refl
+step_came h (ToVersion version) = refl
+step_came h (ToHeader version header same is) = ap (λ v. Mark ∷ OfVersion v ∷ OfHeader header ∷ []) same
+step_came h (ToSource f s may) =
+    let more = source_before f may.is_due in
+    source_came f s (none_of f.heads (λ some. absurd (omega (arith, more, h.heads_late some)))) (none_of f.cells (λ some. absurd (omega (arith, more, (h.cells_late some).sources)))) (none_of f.entries (λ some. absurd (omega (arith, more, (h.entries_late some).0.sources))))
+step_came h (ToHead f def may) =
+    let before = before_head f may.is_due in
+    head_came f def (none_of f.cells (λ some. absurd (omega (arith, before.more, (h.cells_late some).heads)))) (none_of f.entries (λ some. absurd (omega (arith, before.more, (h.entries_late some).0.heads))))
+step_came h (ToPrep f part may) =
+    let before = prep_before f may.def may.is_due in
+    prep_came f may.def part before.1 (none_of f.cells (λ some. not_both may.def (sym (h.cells_late some).prepared ∙ before.1))) (none_of f.entries (λ some. not_both may.def (sym (h.entries_late some).0.prepared ∙ before.1)))
+step_came h (ToCell f cell may) =
+    let before = before_cell f may.is_due in
+    cell_came f cell (none_of f.entries (λ some. absurd (omega (arith, before.more, (h.entries_late some).1))))
+step_came h (ToEntry f tag next is_due goes) = within_came f (OfTag tag ∷ []) _ next goes
+step_came h (ToPiece f pieces due later p next w goes) = within_came f (pieces ++ p ∷ []) _ next goes ∙ sym (append_assoc (pieces_filed f) pieces (p ∷ []))
+
+-- ---- runs
+
+runs_came : (s : Stage) (pieces : List Piece) (n : Stage) → IsOrdered s → Runs s pieces n → came n ≡ came s ++ pieces
+runs_came s [] n h r = ap came (sym r) ∙ sym (append-nil (came s))
+runs_came s (p ∷ pieces) n h r =
+    let step = step_of s p r.0 r.1 in
+    runs_came r.0 pieces n (step_ordered h step) r.2 ∙ ap (λ l. l ++ pieces) (step_came h step) ∙ append_assoc (came s) (p ∷ []) pieces
+
+pub whole_is_layout : (bytes : List ℕ) (f : Filed) → IsWhole bytes f → bytes ≡ spelled (pieces_filed f)
+whole_is_layout bytes f w = w.front.parts ∙ append-nil (flat_map spell w.front.pieces) ∙ ap spelled (sym (runs_came Start w.front.pieces (Body f) tt w.front.runs))

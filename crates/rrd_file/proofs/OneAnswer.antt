@@ -1,0 +1,142 @@
+-- An input has one answer, but for failures of the reader and of memory.
+use Rattle.std.proofs.Common.{◌≡◌, ◌∙◌, ◌++◌, ◌+◌, ◌-◌, ◌<◌, ℕ, List, [], Bool, sym, ap, subst, length, arith, take}
+use Rattle.std.specs.Prelude.{if◌then◌else◌, nat_lt, Result, Ok, Err}
+use Rattle.std.proofs.lemmas.Bool.{lt-ltb, le-ltb}
+use Rattle.std.proofs.lemmas.List.{take_all}
+use Rattle.rrd_spec.specs.Filed.{Filed, Version, One, filed}
+use Rattle.rrd_spec.specs.Commands.{Command}
+use Rattle.rrd_spec.specs.Entries.{Entry}
+use Rattle.rrd_spec.specs.FiledOnce.{FiledOnce}
+use Rattle.rrd_spec.specs.History.{Content}
+use Rattle.rrd_spec.specs.Laws.{RevertTakesBack}
+use Rattle.rrd_spec.specs.Limits.{version_one}
+use Rattle.rrd_spec.specs.Survivors.{Stored}
+use Rattle.rrd_file.specs.declared.fault.FileFault.{FileFault}
+use Rattle.rrd_file.specs.declared.fault.FileFault.TheVariants.{NotOurs, Version as WrongVersion, Truncated, BadBlock, BadEntry, Trailing, Read, OutOfMemory}
+use Rattle.rrd_file.specs.Faults.{Front, IsAnswer, IsBad, IsFault, IsFile, IsTrailing, IsTruncated, IsWhole, bad_at}
+use Rattle.rrd_file.specs.Laws.{BytesComeBack, BytesComeBackButOldest, IsOfFile, IsValidStored}
+use Rattle.rrd_file.specs.Layout.{layout, layout_in}
+use Rattle.rrd_file.specs.Stages.{Stage, Start, Body, size}
+use Rattle.rrd_file.proofs.Came.{whole_is_layout}
+use Rattle.rrd_file.proofs.OneEnd.{EndsAt, ends_bad, ends_done, ends_short, one_end, one_layout, same_body}
+use Rattle.rrd_file.proofs.OneSpelling.{is_one}
+use Rattle.rrd_file.proofs.ValidRuns.{Outlining, valid_is_whole}
+
+-- ---- faults
+
+abbrev choose : Bool → Bool → FileFault → FileFault → FileFault → FileFault
+choose some short cut bad more = if some then (if short then cut else bad) else more
+
+-- the fault of an input of so many bytes that ends at a stage, with the rest
+abbrev fault_of : Stage → List ℕ → ℕ → FileFault
+fault_of s rest total = choose (nat_lt 0 (size s)) (nat_lt (length rest) (size s)) (Truncated total) (bad_at s (total - length rest)) (Trailing (total - length rest))
+
+-- the input goes on to a stage, no further, and not to its end
+record Stops (bytes : List ℕ) (fault : FileFault) : Type 0 where
+  pub stage : Stage
+  pub rest : List ℕ
+  pub front : Front bytes stage rest
+  pub ends : EndsAt stage rest
+  pub more : 0 < size stage + length rest
+  pub fault_is : fault ≡ fault_of stage rest (length bytes)
+
+bad_stops : (bytes : List ℕ) (fault : FileFault) → IsBad bytes fault → Stops bytes fault
+bad_stops bytes fault h =
+    let some = lt-ltb 0 (size h.stage) h.is_due in
+    let whole = le-ltb (length h.rest) (size h.stage) h.whole in
+    let at : h.at ≡ length bytes - length h.rest = omega (arith, h.place) in
+    let cut = Truncated (length bytes) in
+    let more = Trailing (length bytes - length h.rest) in
+    let is : choose (nat_lt 0 (size h.stage)) (nat_lt (length h.rest) (size h.stage)) cut (bad_at h.stage (length bytes - length h.rest)) more ≡ bad_at h.stage h.at = λ i. choose (some i) (whole i) cut (bad_at h.stage (sym at i)) more in
+    record { stage = h.stage; rest = h.rest; front = h.front; ends = ends_bad h.stage h.rest h.none; more = omega (arith, h.is_due); fault_is = h.fault_is ∙ sym is }
+
+truncated_stops : (bytes : List ℕ) (at : ℕ) → IsTruncated bytes at → Stops bytes (Truncated at)
+truncated_stops bytes at h =
+    let some = lt-ltb 0 (size h.stage) (omega (arith, h.short)) in
+    let short = lt-ltb (length h.rest) (size h.stage) h.short in
+    let bad = bad_at h.stage (length bytes - length h.rest) in
+    let more = Trailing (length bytes - length h.rest) in
+    let is : choose (nat_lt 0 (size h.stage)) (nat_lt (length h.rest) (size h.stage)) (Truncated (length bytes)) bad more ≡ Truncated at = λ i. choose (some i) (short i) (Truncated (sym h.at_is i)) bad more in
+    record { stage = h.stage; rest = h.rest; front = h.front; ends = ends_short h.stage h.rest h.short; more = omega (arith, h.short); fault_is = sym is }
+
+trailing_stops : (bytes : List ℕ) (at : ℕ) → IsTrailing bytes at → Stops bytes (Trailing at)
+trailing_stops bytes at h =
+    let none = le-ltb 0 (size h.stage) (omega (arith, h.done)) in
+    let place : at ≡ length bytes - length h.rest = omega (arith, h.place) in
+    let short = nat_lt (length h.rest) (size h.stage) in
+    let cut = Truncated (length bytes) in
+    let bad = bad_at h.stage (length bytes - length h.rest) in
+    let is : choose (nat_lt 0 (size h.stage)) (nat_lt (length h.rest) (size h.stage)) cut bad (Trailing (length bytes - length h.rest)) ≡ Trailing at = λ i. choose (none i) short cut bad (Trailing (sym place i)) in
+    record { stage = h.stage; rest = h.rest; front = h.front; ends = ends_done h.stage h.rest h.done; more = omega (arith, h.some); fault_is = sym is }
+
+stops : (bytes : List ℕ) (x : FileFault) → IsFault bytes x → IsOfFile (Err x) → Stops bytes x
+stops bytes NotOurs h k = bad_stops bytes NotOurs h
+stops bytes WrongVersion h k = bad_stops bytes WrongVersion h
+stops bytes (Truncated at) h k = truncated_stops bytes at h
+stops bytes (BadBlock at) h k = bad_stops bytes (BadBlock at) h
+stops bytes (BadEntry number) h k = bad_stops bytes (BadEntry number) h
+stops bytes (Trailing at) h k = trailing_stops bytes at h
+stops bytes Read h k = absurd k
+stops bytes OutOfMemory h k = absurd k
+
+-- ---- two answers
+
+-- two fronts that end
+same_end : (bytes : List ℕ) (s t : Stage) (a b : List ℕ) → Front bytes s a → Front bytes t b → EndsAt s a → EndsAt t b → (s ≡ t) × (a ≡ b)
+same_end bytes s t a b f g ends end = one_end Start f.pieces g.pieces s t a b tt f.runs g.runs ends end (sym f.parts ∙ g.parts)
+
+one_fault : (bytes : List ℕ) (x y : FileFault) → Stops bytes x → Stops bytes y → x ≡ y
+one_fault bytes x y h k =
+    let same = same_end bytes h.stage k.stage h.rest k.rest h.front k.front h.ends k.ends in
+    h.fault_is ∙ (λ i. fault_of (same.0 i) (same.1 i) (length bytes)) ∙ sym k.fault_is
+
+no_fault : (bytes : List ℕ) (f : Filed) (x : FileFault) → IsWhole bytes f → Stops bytes x → ⊥
+no_fault bytes f x w h =
+    let same = same_end bytes (Body f) h.stage [] h.rest w.front h.front (ends_done (Body f) [] w.done) h.ends in
+    absurd (omega (arith, h.more, w.done, ap size same.0, ap length same.1))
+
+-- no two valid databases have the same lists
+abbrev pub OneDatabase : Type 0
+OneDatabase = (d e : Stored) → FiledOnce version_one One d e
+
+one_filed : OneDatabase → (v w : Version) (d e : Stored) → IsValidStored d → IsValidStored e → filed v d ≡ filed w e → d ≡ e
+one_filed one v w d e a b same = one d e a.content_is b.content_is (ap (λ x. filed x d) (sym (is_one v)) ∙ same ∙ ap (λ x. filed x e) (is_one w))
+
+one_file : OneDatabase → (bytes : List ℕ) (d e : Stored) → IsValidStored d → IsValidStored e → IsFile bytes d → IsFile bytes e → d ≡ e
+one_file one bytes d e a b f g =
+    let same = same_end bytes (Body (filed f.version d)) (Body (filed g.version e)) [] [] f.whole.front g.whole.front (ends_done (Body (filed f.version d)) [] f.whole.done) (ends_done (Body (filed g.version e)) [] g.whole.done) in
+    one_filed one f.version g.version d e a b (same_body (filed f.version d) (filed g.version e) same.0)
+
+pub one_answer : OneDatabase → (bytes : List ℕ) (x y : Result Stored FileFault) → IsAnswer bytes x → IsAnswer bytes y → IsOfFile x → IsOfFile y → x ≡ y
+one_answer one bytes (Ok d) (Ok e) h k a b = ap Ok (one_file one bytes d e a b h k)
+one_answer one bytes (Ok d) (Err y) h k a b = absurd (no_fault bytes (filed h.version d) y h.whole (stops bytes y k b))
+one_answer one bytes (Err x) (Ok e) h k a b = absurd (no_fault bytes (filed k.version e) x k.whole (stops bytes x h a))
+one_answer one bytes (Err x) (Err y) h k a b = ap Err (one_fault bytes x y (stops bytes x h a) (stops bytes y k b))
+
+-- ---- layouts
+
+pub layout_is_file : Outlining → (d : Stored) → IsValidStored d → IsAnswer (layout d) (Ok d)
+layout_is_file laws d v = record { version = One; whole = valid_is_whole laws d.content d.journal v }
+
+pub layout_is_no_other : Outlining → OneDatabase → (d : Stored) → IsValidStored d → (x : Result Stored FileFault) → IsAnswer (layout d) x → IsOfFile x → x ≡ Ok d
+layout_is_no_other laws one d v x h a = one_answer one (layout d) x (Ok d) h (layout_is_file laws d v) a v
+
+pub file_is_layout : (bytes : List ℕ) (d : Stored) (file : IsFile bytes d) → bytes ≡ layout_in file.version d
+file_is_layout bytes d file = whole_is_layout bytes (filed file.version d) file.whole
+
+pub layouts_differ : Outlining → OneDatabase → (d e : Stored) (more : List ℕ) → IsValidStored d → IsValidStored e → layout d ++ more ≡ layout e → (d ≡ e) × (more ≡ [])
+layouts_differ laws one d e more a b same =
+    let w = valid_is_whole laws d.content d.journal a in
+    let v = subst (λ (bytes : List ℕ). IsWhole bytes (filed One e)) (sym same) (valid_is_whole laws e.content e.journal b) in
+    let both = one_layout (layout d) more (filed One d) (filed One e) w v in
+    (one d e a.content_is b.content_is both.0, both.1)
+
+-- ---- reverts
+
+pub bytes_come_back_but_oldest : ((now : Content) (journal : List Entry) (command : Command) → RevertTakesBack now journal command) → (d : Stored) (command : Command) → BytesComeBackButOldest d command
+bytes_come_back_but_oldest back d command v accepted = ap layout (back d.content d.journal command v accepted)
+
+pub bytes_come_back : ((now : Content) (journal : List Entry) (command : Command) → RevertTakesBack now journal command) → (d : Stored) (command : Command) → BytesComeBack d command
+bytes_come_back back d command v accepted room =
+    let all : take (d.content.depth - 1) d.journal ≡ d.journal = take_all (d.content.depth - 1) d.journal (omega (arith, room)) in
+    bytes_come_back_but_oldest back d command v accepted ∙ (λ i. layout (record d { journal = all i }))

@@ -1,0 +1,174 @@
+-- An entry that may come has pieces that no other such entry has.
+use Rattle.std.proofs.Common.{◌≡◌, ◌∙◌, ◌++◌, ◌∷◌, ℕ, List, [], sym, ap, subst, refl, length, get_or, arith, map, append_assoc}
+use Rattle.std.specs.List.{AllByRecursion, flat_map}
+use Rattle.std.proofs.lemmas.List.{length-map}
+use Rattle.std.proofs.lemmas.List.Concat.{flat_map-cons}
+use Rattle.rrd_fixed.specs.declared.cell.Cell.{Cell}
+use Rattle.rrd_fixed.specs.declared.raw.Raw.{Raw}
+use Rattle.rrd_fold.specs.Parts.{Part}
+use Rattle.rrd_spec.specs.declared.entry.SourceBefore.{SourceBefore}
+use Rattle.rrd_spec.specs.declared.outline.Outline.{Outline}
+use Rattle.rrd_spec.specs.declared.settings.RraDef.{RraDef}
+use Rattle.rrd_spec.specs.Entries.{BeforeUpdate, Entry, SavedArchive, UpdateEntry, TuneEntry, ResizeEntry}
+use Rattle.rrd_spec.specs.Filed.{Filed}
+use Rattle.rrd_spec.specs.Limits.{Limits}
+use Rattle.rrd_spec.specs.Outlines.{MayResize, MaySaveEach, MayUndo, MayUpdate}
+use Rattle.rrd_spec.specs.Rebuilding.{MayEntry, limits, outline_left, with_entry}
+use Rattle.rrd_spec.specs.Validity.{IsRow}
+use Rattle.rrd_file.specs.Layout.{entry_pieces, raws_and_parts, row_pieces, saved_pieces}
+use Rattle.rrd_file.specs.Pieces.{Piece, Mark, OfCell, OfCount, OfNumber, OfPrep, OfRawAndPart, OfRows, OfSourceBefore, OfTag, OfTime, AnUpdate, ATune, AResize}
+use Rattle.rrd_file.specs.Stages.{Stage, Body, DueInEntry, GoesOn, Takes}
+use Rattle.rrd_file.proofs.Spelled.{append_same}
+use Rattle.rrd_file.proofs.Told.{accepted_length, length_before}
+use Rattle.rrd_file.proofs.Ways.{Step, ToMark, ToVersion, ToHeader, ToSource, ToHead, ToPrep, ToCell, ToEntry, ToPiece, step_of}
+
+-- ---- lists of one kind of piece
+
+map_one : {A : Type 0} (f : A → Piece) → ((x y : A) → f x ≡ f y → x ≡ y) → (a b : List A) → map f a ≡ map f b → a ≡ b
+map_one f one [] [] e = refl
+map_one f one [] (y ∷ b) e = absurd (let bad : [] ≡ f y ∷ map f b = e in cc)
+map_one f one (x ∷ a) [] e = absurd (let bad : f x ∷ map f a ≡ [] = e in cc)
+map_one f one (x ∷ a) (y ∷ b) e =
+    let both : f x ∷ map f a ≡ f y ∷ map f b = e in
+    let first : f x ≡ f y = cc in
+    let later : map f a ≡ map f b = cc in
+    λ i. one x y first i ∷ map_one f one a b later i
+
+prep_same : (x y : Part) → OfPrep x ≡ OfPrep y → x ≡ y
+prep_same x y e = cc
+
+cell_same : (x y : Cell) → OfCell x ≡ OfCell y → x ≡ y
+cell_same x y e = cc
+
+before_same : (x y : SourceBefore) → OfSourceBefore x ≡ OfSourceBefore y → x ≡ y
+before_same x y e = cc
+
+raws_one : (r s : List Raw) (a b : List Part) → length r ≡ length a → length s ≡ length b → raws_and_parts r a ≡ raws_and_parts s b → (r ≡ s) × (a ≡ b)
+raws_one [] [] [] [] l m e = (refl, refl)
+raws_one [] [] [] (y ∷ b) l m e = absurd (omega (arith, m))
+raws_one [] [] (x ∷ a) b l m e = absurd (omega (arith, l))
+raws_one [] (s ∷ ss) [] [] l m e = absurd (omega (arith, m))
+raws_one [] (s ∷ ss) [] (y ∷ b) l m e = absurd (let bad : [] ≡ OfRawAndPart s y ∷ raws_and_parts ss b = e in cc)
+raws_one [] (s ∷ ss) (x ∷ a) b l m e = absurd (omega (arith, l))
+raws_one (r ∷ rs) ss [] b l m e = absurd (omega (arith, l))
+raws_one (r ∷ rs) [] (x ∷ a) [] l m e = absurd (let bad : OfRawAndPart r x ∷ raws_and_parts rs a ≡ [] = e in cc)
+raws_one (r ∷ rs) [] (x ∷ a) (y ∷ b) l m e = absurd (omega (arith, m))
+raws_one (r ∷ rs) (s ∷ ss) (x ∷ a) [] l m e = absurd (omega (arith, m))
+raws_one (r ∷ rs) (s ∷ ss) (x ∷ a) (y ∷ b) l m e =
+    let both : OfRawAndPart r x ∷ raws_and_parts rs a ≡ OfRawAndPart s y ∷ raws_and_parts ss b = e in
+    let raw : r ≡ s = cc in
+    let part : x ≡ y = cc in
+    let rest : raws_and_parts rs a ≡ raws_and_parts ss b = cc in
+    let later = raws_one rs ss a b (omega (arith, l)) (omega (arith, m)) rest in
+    (λ i. raw i ∷ later.0 i, λ i. part i ∷ later.1 i)
+
+-- ---- rows of one width
+
+row_cut : (row : List Cell) (rows : List (List Cell)) (a : List Piece) → row_pieces (row ∷ rows) ++ a ≡ map OfCell row ++ (row_pieces rows ++ a)
+row_cut row rows a = ap (λ l. l ++ a) (flat_map-cons (λ (r : List Cell). map OfCell r) row rows) ∙ append_assoc (map OfCell row) (row_pieces rows) a
+
+rows_one : (width : ℕ) (rows olds : List (List Cell)) (a b : List Piece) → AllByRecursion (IsRow width) rows → AllByRecursion (IsRow width) olds → length rows ≡ length olds → row_pieces rows ++ a ≡ row_pieces olds ++ b → (rows ≡ olds) × (a ≡ b)
+rows_one width [] [] a b h k l e = (refl, e)
+rows_one width [] (y ∷ olds) a b h k l e = absurd (omega (arith, l))
+rows_one width (x ∷ rows) [] a b h k l e = absurd (omega (arith, l))
+rows_one width (x ∷ rows) (y ∷ olds) a b h k l e =
+    let same : length (map OfCell x) ≡ length (map OfCell y) = length-map x OfCell ∙ h.0.one_each ∙ sym k.0.one_each ∙ sym (length-map y OfCell) in
+    let both = append_same (map OfCell x) (row_pieces rows ++ a) (map OfCell y) (row_pieces olds ++ b) same (sym (row_cut x rows a) ∙ e ∙ row_cut y olds b) in
+    let first = map_one OfCell cell_same x y both.0 in
+    let later = rows_one width rows olds a b h.1 k.1 (omega (arith, l)) both.1 in
+    (λ i. first i ∷ later.0 i, later.1)
+
+-- ---- what an update saved
+
+saved_cut : (old : SavedArchive) (olds : List SavedArchive) → flat_map saved_pieces (old ∷ olds) ≡ map OfPrep old.parts ++ (OfRows (length old.rows) ∷ (row_pieces old.rows ++ flat_map saved_pieces olds))
+saved_cut old olds = flat_map-cons saved_pieces old olds ∙ append_assoc (map OfPrep old.parts) (OfRows (length old.rows) ∷ row_pieces old.rows) (flat_map saved_pieces olds)
+
+saved_one : (step from to sources : ℕ) (defs : List RraDef) (olds news : List SavedArchive) → MaySaveEach step from to sources defs olds → MaySaveEach step from to sources defs news → flat_map saved_pieces olds ≡ flat_map saved_pieces news → olds ≡ news
+saved_one step from to sources [] [] [] h k e = refl
+saved_one step from to sources [] [] (new ∷ news) h k e = absurd k
+saved_one step from to sources [] (old ∷ olds) news h k e = absurd h
+saved_one step from to sources (def ∷ defs) [] news h k e = absurd h
+saved_one step from to sources (def ∷ defs) (old ∷ olds) [] h k e = absurd k
+saved_one step from to sources (def ∷ defs) (old ∷ olds) (new ∷ news) h k e =
+    let x = OfRows (length old.rows) ∷ (row_pieces old.rows ++ flat_map saved_pieces olds) in
+    let y = OfRows (length new.rows) ∷ (row_pieces new.rows ++ flat_map saved_pieces news) in
+    let same : length (map OfPrep old.parts) ≡ length (map OfPrep new.parts) = length-map old.parts OfPrep ∙ h.0.parts_are.one_each ∙ sym k.0.parts_are.one_each ∙ sym (length-map new.parts OfPrep) in
+    let both = append_same (map OfPrep old.parts) x (map OfPrep new.parts) y same (sym (saved_cut old olds) ∙ e ∙ saved_cut new news) in
+    let behind : OfRows (length old.rows) ∷ (row_pieces old.rows ++ flat_map saved_pieces olds) ≡ OfRows (length new.rows) ∷ (row_pieces new.rows ++ flat_map saved_pieces news) = both.1 in
+    let rest : row_pieces old.rows ++ flat_map saved_pieces olds ≡ row_pieces new.rows ++ flat_map saved_pieces news = cc in
+    let function : old.function ≡ new.function = h.0.same_function ∙ sym k.0.same_function in
+    let parts = map_one OfPrep prep_same old.parts new.parts both.0 in
+    let rows = rows_one sources old.rows new.rows (flat_map saved_pieces olds) (flat_map saved_pieces news) h.0.each_row k.0.each_row (h.0.as_many ∙ sym k.0.as_many) rest in
+    let later = saved_one step from to sources defs olds news h.1 k.1 rows.1 in
+    λ i. record { function = function i; parts = parts i; rows = rows.0 i } ∷ later i
+
+-- ---- entries
+
+update_one : (step : ℕ) (now : Outline) (old new : BeforeUpdate) → MayUpdate step now old → MayUpdate step now new → entry_pieces (UpdateEntry old) ≡ entry_pieces (UpdateEntry new) → old ≡ new
+update_one step now old new h k e =
+    let x = raws_and_parts old.raws old.parts in
+    let y = raws_and_parts new.raws new.parts in
+    let whole : OfTag AnUpdate ∷ OfTime old.last ∷ (raws_and_parts old.raws old.parts ++ flat_map saved_pieces old.archives) ≡ OfTag AnUpdate ∷ OfTime new.last ∷ (raws_and_parts new.raws new.parts ++ flat_map saved_pieces new.archives) = e in
+    let last : old.last ≡ new.last = cc in
+    let rest : raws_and_parts old.raws old.parts ++ flat_map saved_pieces old.archives ≡ raws_and_parts new.raws new.parts ++ flat_map saved_pieces new.archives = cc in
+    let ro = accepted_length now.sources old.raws h.raws_are in
+    let rn = accepted_length now.sources new.raws k.raws_are in
+    let po : length old.raws ≡ length old.parts = ro ∙ sym h.parts_are.one_each in
+    let pn : length new.raws ≡ length new.parts = rn ∙ sym k.parts_are.one_each in
+    let same : length x ≡ length y = length_before old.raws old.parts po ∙ ro ∙ sym rn ∙ sym (length_before new.raws new.parts pn) in
+    let both = append_same x (flat_map saved_pieces old.archives) y (flat_map saved_pieces new.archives) same rest in
+    let values = raws_one old.raws new.raws old.parts new.parts po pn both.0 in
+    let may : MaySaveEach step old.last now.last (length now.sources) now.archives new.archives = subst (λ (t : ℕ). MaySaveEach step t now.last (length now.sources) now.archives new.archives) (sym last) k.archives_are in
+    let archives = saved_one step old.last now.last (length now.sources) now.archives old.archives new.archives h.archives_are may both.1 in
+    λ i. record { last = last i; raws = values.0 i; parts = values.1 i; archives = archives i }
+
+resize_one : (l : Limits) (now : Outline) (x y : ℕ) (rows olds : List (List Cell)) → MayResize l now x rows → MayResize l now y olds → entry_pieces (ResizeEntry x rows) ≡ entry_pieces (ResizeEntry y olds) → ResizeEntry x rows ≡ ResizeEntry y olds
+resize_one l now x y rows olds h k e =
+    let whole : OfTag AResize ∷ OfNumber x ∷ OfRows (length rows) ∷ row_pieces rows ≡ OfTag AResize ∷ OfNumber y ∷ OfRows (length olds) ∷ row_pieces olds = e in
+    let number : x ≡ y = cc in
+    let count : length rows ≡ length olds = cc in
+    let rest : row_pieces rows ≡ row_pieces olds = cc in
+    let both = rows_one (length now.sources) rows olds [] [] h.each_row k.each_row count (ap (λ l. l ++ []) rest) in
+    λ i. ResizeEntry (number i) (both.0 i)
+
+tune_one : (x y : List SourceBefore) → entry_pieces (TuneEntry x) ≡ entry_pieces (TuneEntry y) → TuneEntry x ≡ TuneEntry y
+tune_one x y e =
+    let whole : OfTag ATune ∷ OfCount (length x) ∷ map OfSourceBefore x ≡ OfTag ATune ∷ OfCount (length y) ∷ map OfSourceBefore y = e in
+    let rest : map OfSourceBefore x ≡ map OfSourceBefore y = cc in
+    ap TuneEntry (map_one OfSourceBefore before_same x y rest)
+
+undo_one : (l : Limits) (step : ℕ) (now : Outline) (x y : Entry) → MayUndo l step now x → MayUndo l step now y → entry_pieces x ≡ entry_pieces y → x ≡ y
+undo_one l step now (UpdateEntry x) (UpdateEntry y) h k e = ap UpdateEntry (update_one step now x y h k e)
+undo_one l step now (TuneEntry x) (TuneEntry y) h k e = tune_one x y e
+undo_one l step now (ResizeEntry x rows) (ResizeEntry y olds) h k e = resize_one l now x y rows olds h k e
+undo_one l step now (UpdateEntry x) (TuneEntry y) h k e = absurd (let bad : OfTag AnUpdate ≡ OfTag ATune = ap (λ l. get_or l 0 Mark) e in cc)
+undo_one l step now (UpdateEntry x) (ResizeEntry y olds) h k e = absurd (let bad : OfTag AnUpdate ≡ OfTag AResize = ap (λ l. get_or l 0 Mark) e in cc)
+undo_one l step now (TuneEntry x) (UpdateEntry y) h k e = absurd (let bad : OfTag ATune ≡ OfTag AnUpdate = ap (λ l. get_or l 0 Mark) e in cc)
+undo_one l step now (TuneEntry x) (ResizeEntry y olds) h k e = absurd (let bad : OfTag ATune ≡ OfTag AResize = ap (λ l. get_or l 0 Mark) e in cc)
+undo_one l step now (ResizeEntry x rows) (UpdateEntry y) h k e = absurd (let bad : OfTag AResize ≡ OfTag AnUpdate = ap (λ l. get_or l 0 Mark) e in cc)
+undo_one l step now (ResizeEntry x rows) (TuneEntry y) h k e = absurd (let bad : OfTag AResize ≡ OfTag ATune = ap (λ l. get_or l 0 Mark) e in cc)
+
+pub one_entry : (f : Filed) (x y : Entry) → MayEntry f x → MayEntry f y → entry_pieces x ≡ entry_pieces y → x ≡ y
+one_entry f x y h k e = undo_one (limits f) f.header.step (outline_left f) x y h.fits k.fits e
+
+-- ---- so a piece leads to one stage
+
+goes_one : (f : Filed) (pieces : List Piece) (due : List DueInEntry) (n m : Stage) → GoesOn f pieces due n → GoesOn f pieces due m → n ≡ m
+goes_one f pieces (due ∷ later) n m g k = g ∙ sym k
+goes_one f pieces [] n m g k =
+    let same : g.0 ≡ k.0 = one_entry f g.0 k.0 g.2 k.2 (g.1 ∙ sym k.1) in
+    g.3 ∙ ap (λ (e : Entry). Body (with_entry f e)) same ∙ sym k.3
+
+step_one : {s : Stage} {p : Piece} {n m : Stage} → Step s p n → Step s p m → n ≡ m
+step_one ToMark ToMark = refl
+step_one (ToVersion v) (ToVersion _) = refl
+step_one (ToHeader v h same is) (ToHeader _ _ also has) = refl
+step_one (ToSource f x h) (ToSource _ _ k) = refl
+step_one (ToHead f x h) (ToHead _ _ k) = refl
+step_one (ToPrep f x h) (ToPrep _ _ k) = refl
+step_one (ToCell f x h) (ToCell _ _ k) = refl
+step_one (ToEntry f tag n is_due goes) (ToEntry _ _ m due_is on) = goes_one f _ _ n m goes on
+step_one (ToPiece f pieces due later p n w goes) (ToPiece _ _ _ _ _ m u on) = goes_one f _ _ n m goes on
+
+pub one_next : (s : Stage) (p : Piece) (n m : Stage) → Takes s p n → Takes s p m → n ≡ m
+one_next s p n m t w = step_one (step_of s p n t) (step_of s p m w)

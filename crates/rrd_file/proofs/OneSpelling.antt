@@ -1,0 +1,218 @@
+-- Of the pieces that may come at a stage, no two are spelled alike.
+use Rattle.std.proofs.Common.{◌≡◌, ◌∙◌, ◌∷◌, ◌+◌, ◌/◌, ◌%◌, ◌^◌, ◌<◌, ◌≤◌, ℕ, List, [], Bool, sym, ap, refl, subst, length, arith, map}
+use Rattle.std.specs.Prelude.{ℤ, nat_lt, nat_le, true, false, ◌&&◌, ◌==◌, if◌then◌else◌, unsigned_abs, Option, Some, None}
+use Rattle.std.specs.List.{AllByRecursion, list_all}
+use Rattle.std.proofs.lemmas.Bool.{lt-ltb, ltb-false}
+use Rattle.std.proofs.lemmas.Int.{ints}
+use native.Mathlib.Nat as nat
+use Rattle.rrd_fixed.specs.declared.cell.Cell.{Cell}
+use Rattle.rrd_fixed.specs.declared.raw.Raw.{Raw}
+use Rattle.rrd_fixed.specs.declared.kind.Kind.{Kind}
+use Rattle.rrd_fixed.specs.declared.kind.Kind.TheVariants.{Gauge, Counter, Derive, Absolute}
+use Rattle.rrd_fixed.specs.Names.{fits, is_good, is_letter}
+use Rattle.rrd_fixed.specs.Rate.{IsAccepted, IsBounded}
+use Rattle.rrd_fold.specs.Bounds.{weight}
+use Rattle.rrd_fold.specs.declared.function.Function.{Function}
+use Rattle.rrd_fold.specs.declared.function.Function.TheVariants.{Average, Min, Max, Last}
+use Rattle.rrd_fold.specs.Parts.{Part}
+use Rattle.rrd_spec.specs.declared.settings.DsDef.{DsDef}
+use Rattle.rrd_spec.specs.declared.settings.RraDef.{RraDef}
+use Rattle.rrd_spec.specs.declared.outline.Outline.{Outline}
+use Rattle.rrd_spec.specs.declared.entry.SourceBefore.{SourceBefore}
+use Rattle.rrd_spec.specs.Limits.{Limits}
+use Rattle.rrd_spec.specs.Filed.{Filed, Head, Header, Source, Version, One}
+use Rattle.rrd_spec.specs.Rebuilding.{IsArchiveDef, IsHeader, MaySource, MayPrep, due, limits, outline_left, unprepared}
+use Rattle.rrd_spec.specs.Validity.{IsPart, IsSourceWithin}
+use Rattle.rrd_spec.specs.Outlines.{IsSourceBefore}
+use Rattle.rrd_spec.specs.Verdict.{is_crossed, is_far}
+use Rattle.rrd_file.specs.Pieces.{Piece, OfVersion, OfHeader, OfSource, OfArchive, OfPrep, OfCell, Tag, OfTag, AnUpdate, ATune, AResize, OfTime, OfRawAndPart, OfRows, OfCount, OfSourceBefore, OfNumber, header_bytes, spell, tag_byte}
+use Rattle.rrd_file.specs.Stages.{Stage, Start, DueInEntry, Runs, Takes}
+use Rattle.rrd_file.specs.Values.{FitsArchive, FitsBound, FitsCell, FitsDef, FitsHeader, FitsSourceBefore, FitsPart, FitsRaw, FitsSource}
+use Rattle.rrd_file.proofs.Order.{prep_before}
+use Rattle.rrd_file.proofs.Ways.{Step, ToMark, ToVersion, ToHeader, ToSource, ToHead, ToPrep, ToCell, ToEntry, ToPiece, Way, ByTime, ByRawAndPart, ByRowPrep, ByRows, ByRowCell, ByCount, ByNamed, ByNumber, ByOldRows, step_of}
+use Rattle.rrd_file.proofs.Sound.{AreSmall, AreSound, HasSomeSteps, IsSound, IsSoundDue, IsSoundStage, now_sound, reached_sound, small_limits}
+use Rattle.rrd_file.proofs.Spelled.{archive_one, raw_and_part_one, cell_one, eight_one, four_one, header_one, source_before_one, head_same, part_one, source_one, two_one}
+use Rattle.rrd_file.proofs.Tests.{and_left, and_right, or_left, or_right}
+
+-- ---- what keeps to its rule fits its bytes
+
+pub cell_fits : (cell : Cell) → IsBounded cell → FitsCell cell
+cell_fits Cell.Unknown h = tt
+cell_fits (Cell.Known value) h = omega (arith, h)
+
+pub raw_fits : (kind : Kind) (raw : Raw) → IsAccepted kind raw → FitsRaw raw
+raw_fits Gauge Raw.Unknown h = tt
+raw_fits Counter Raw.Unknown h = tt
+raw_fits Derive Raw.Unknown h = tt
+raw_fits Absolute Raw.Unknown h = tt
+raw_fits Gauge (Raw.Known value) h = omega (arith, h)
+raw_fits Absolute (Raw.Known value) h = omega (arith, h)
+raw_fits Counter (Raw.Known value) h = omega (arith, ints, h.0, h.1)
+raw_fits Derive (Raw.Known value) h = omega (arith, ints, h.0, h.1)
+
+bound_fits : (l : Limits) (bound : Option ℤ) → AreSmall l → is_far l bound ≡ false → FitsBound bound
+bound_fits l None small h = tt
+bound_fits l (Some value) small h = omega (arith, small.bound, ltb-false l.greatest_bound (unsigned_abs value) h)
+
+letter_small : (c : ℕ) → is_letter c ≡ true → c < 128
+letter_small c h = grind (arith, h)
+
+letters_small : (name : List ℕ) → list_all is_letter name ≡ true → list_all (λ (c : ℕ). nat_lt c 128) name ≡ true
+letters_small [] h = refl
+letters_small (c ∷ name) h = rw (lt-ltb c 128 (letter_small c (and_left (is_letter c) _ h))) (letters_small name (and_right (is_letter c) (list_all is_letter name) h))
+
+name_fits : (name : List ℕ) → is_good name ≡ true → fits name ≡ true
+name_fits name h =
+    let short = and_right (nat_lt 0 (length name)) (nat_le (length name) 19) (and_left _ (list_all is_letter name) h) in
+    rw short (letters_small name (and_right (nat_lt 0 (length name) && nat_le (length name) 19) (list_all is_letter name) h))
+
+pub def_fits : (l : Limits) (def : DsDef) → AreSmall l → IsSourceWithin l def → FitsDef def
+def_fits l def small h = record {
+  name = name_fits def.name h.good_name;
+  heartbeat = omega (arith, small.heartbeat, ltb-false l.longest_heartbeat def.heartbeat (or_right (def.heartbeat == 0) _ h.good_heartbeat));
+  min = bound_fits l def.min small (or_left (is_far l def.min) (is_far l def.max) (or_left _ (is_crossed def.min def.max) h.good_bounds));
+  max = bound_fits l def.max small (or_right (is_far l def.min) (is_far l def.max) (or_left _ (is_crossed def.min def.max) h.good_bounds));
+}
+
+small_weight : (function : Function) (known : ℕ) → weight function known ≤ known + 1
+small_weight Average known = omega arith
+small_weight Min known = omega arith
+small_weight Max known = omega arith
+small_weight Last known = omega arith
+
+pub part_fits : (function : Function) (passed : ℕ) (part : Part) → passed < 2 ^ 32 → IsPart function passed part → FitsPart part
+part_fits function passed part few h =
+    let small = small_weight function part.known in
+    record { known = omega (arith, h.few); value = omega (arith, ints, h.few, h.bounded, small) }
+
+pub source_fits : (f : Filed) (s : Source) → IsHeader f.header → MaySource f s → FitsSource s
+source_fits f s h m = record {
+  def = def_fits (limits f) s.def (small_limits f.header.version) m.source_is;
+  raw = raw_fits s.def.kind s.raw m.raw_is;
+  part = part_fits Average (f.header.last % f.header.step) s.part (omega (arith, nat.mod-lt f.header.last h.some_step, h.small_step, (small_limits f.header.version).step)) m.part_is;
+}
+
+pub archive_fits : (l : Limits) (def : RraDef) → AreSmall l → IsArchiveDef l def → FitsArchive def
+archive_fits l def small h = record { steps = omega (arith, h.few_steps, small.steps); xff_low = h.xff_low; xff_high = omega (arith, ints, h.xff_low, h.xff_high, small.share); rows = omega (arith, h.few_rows, small.rows) }
+
+pub header_fits : (h : Header) → IsHeader h → FitsHeader h
+header_fits h is =
+    let small = small_limits h.version in
+    record { step = omega (arith, is.small_step, small.step); last = omega (arith, is.good_time, small.last); depth = omega (arith, is.small_depth, small.depth); sources = omega (arith, is.few_sources, small.sources); archives = omega (arith, is.few_archives, small.archives); entries = omega (arith, is.few_entries, is.small_depth, small.depth) }
+
+row_part_fits : (step last : ℕ) (def : RraDef) (part : Part) → HasSomeSteps def → IsPart def.function (last / step % def.steps) part → FitsPart part
+row_part_fits step last def part h p = part_fits def.function (last / step % def.steps) part (omega (arith, nat.mod-lt (last / step) h.some, h.few)) p
+
+some_is : (x y : RraDef) → Some x ≡ Some y → x ≡ y
+some_is x y e = cc
+
+abbrev HasSomeOr : Option RraDef → Type 0
+HasSomeOr None = Unit {0}
+HasSomeOr (Some def) = HasSomeSteps def
+
+either : (b : Bool) (x y : Option RraDef) → HasSomeOr x → HasSomeOr y → HasSomeOr (if b then x else y)
+either Bool.true x y h k = h
+either Bool.false x y h k = k
+
+unprepared_has : (sources : ℕ) (heads : List Head) → AllByRecursion HasSomeSteps (map (λ (head : Head). head.def) heads) → HasSomeOr (unprepared sources heads)
+unprepared_has sources [] h = tt
+unprepared_has sources (head ∷ heads) h = either (nat_lt (length head.parts) sources) (Some head.def) (unprepared sources heads) h.0 (unprepared_has sources heads h.1)
+
+def_among : (sources : ℕ) (heads : List Head) (def : RraDef) → unprepared sources heads ≡ Some def → AllByRecursion HasSomeSteps (map (λ (head : Head). head.def) heads) → HasSomeSteps def
+def_among sources heads def e h = subst HasSomeOr e (unprepared_has sources heads h)
+
+-- a preparation of the archive that it is due for
+pub prep_fits : (f : Filed) (part : Part) → IsSound f → MayPrep f part → FitsPart part
+prep_fits f part h m = row_part_fits f.header.step f.header.last m.def part (def_among f.header.sources f.heads m.def (prep_before f m.def m.is_due).1 h.steps) m.part_is
+
+tag_one : (t u : Tag) → tag_byte t ≡ tag_byte u → t ≡ u
+tag_one AnUpdate AnUpdate e = refl
+tag_one ATune ATune e = refl
+tag_one AResize AResize e = refl
+tag_one t u e = absurd (omega (arith, e))
+
+-- ---- within an entry
+
+source_before_fits : (l : Limits) (old : SourceBefore) (now : Outline) → AreSmall l → AreSound now → old.number < length now.sources → IsSourceBefore l old → FitsSourceBefore old
+source_before_fits l old now small h n k = record { number = omega (arith, n, h.sources); source = def_fits l old.source small k.0; raw = raw_fits old.source.kind old.raw k.1 }
+
+-- the limits, the step and the outline at a stage that a file reaches
+record IsHere (l : Limits) (step : ℕ) (now : Outline) : Type 0 where
+  pub small : AreSmall l
+  pub sound : AreSound now
+  pub some_step : 0 < step
+  pub small_step : step ≤ 1000000
+
+-- two pieces where one is due
+one_way : (l : Limits) (step : ℕ) (now : Outline) {due : DueInEntry} {p q : Piece} → IsHere l step now → IsSoundDue due → Way l step now due p → Way l step now due q → spell p ≡ spell q → p ≡ q
+unfolding spell
+one_way l step now h d (ByTime x k) (ByTime y m) e = ap OfTime (eight_one x y (omega (arith, k, h.sound.last)) (omega (arith, m, h.sound.last)) e)
+one_way l step now h d (ByRawAndPart last def r x kr kx) (ByRawAndPart _ _ s y mr my) e =
+    let few : last % step < 2 ^ 32 = omega (arith, nat.mod-lt last h.some_step, h.small_step) in
+    let both = raw_and_part_one r s x y (raw_fits def.kind r kr) (raw_fits def.kind s mr) (part_fits Average (last % step) x few kx) (part_fits Average (last % step) y few my) e in
+    λ i. OfRawAndPart (both.0 i) (both.1 i)
+one_way l step now h d (ByRowPrep last def x k) (ByRowPrep _ _ y m) e = ap OfPrep (part_one x y (row_part_fits step last def x d k) (row_part_fits step last def y d m) e)
+one_way l step now h d (ByRows rows x k) (ByRows _ y m) e = ap OfRows (k ∙ sym m)
+one_way l step now h d (ByRowCell x k) (ByRowCell y m) e = ap OfCell (cell_one x y (cell_fits x k) (cell_fits y m) e)
+one_way l step now h d (ByCount x kx k) (ByCount y my m) e = ap OfCount (two_one x y (omega (arith, k)) (omega (arith, m)) e)
+one_way l step now h d (ByNamed lowest more x kl k kx) (ByNamed _ _ y ml m my) e =
+    ap OfSourceBefore (source_before_one x y (source_before_fits l x now h.small h.sound k kx) (source_before_fits l y now h.small h.sound m my) e)
+one_way l step now h d (ByNumber x k) (ByNumber y m) e = ap OfNumber (two_one x y (omega (arith, k, h.sound.archives)) (omega (arith, m, h.sound.archives)) e)
+one_way l step now h d (ByOldRows archive x k) (ByOldRows _ y m) e = ap OfRows (four_one x y (omega (arith, k.few, h.small.rows)) (omega (arith, m.few, h.small.rows)) e)
+
+-- ---- in the body
+
+pub is_one : (v : Version) → v ≡ One
+is_one One = refl
+
+same_header : (x y : Header) → IsHeader x → IsHeader y → header_bytes x.version x ≡ header_bytes y.version y → x ≡ y
+same_header x y a b e =
+    let vx = is_one x.version in
+    let vy = is_one y.version in
+    header_one x y vx vy (header_fits x a) (header_fits y b) (ap (λ v. header_bytes v x) (sym vx) ∙ e ∙ ap (λ v. header_bytes v y) vy)
+
+here : (f : Filed) → IsSound f → IsHere (limits f) f.header.step (outline_left f)
+here f h =
+    let small = small_limits f.header.version in
+    record { small = small; sound = now_sound f h; some_step = h.header.some_step; small_step = omega (arith, h.header.small_step, small.step) }
+
+-- two pieces at a stage that a file reaches
+one_step : {s : Stage} {p q : Piece} {n m : Stage} → IsSoundStage s → Step s p n → Step s q m → spell p ≡ spell q → p ≡ q
+unfolding spell
+one_step h ToMark ToMark e = refl
+one_step h (ToVersion x) (ToVersion y) e = ap OfVersion (is_one x ∙ sym (is_one y))
+one_step h (ToHeader version x kx k) (ToHeader _ y my m) e = ap OfHeader (same_header x y k m e)
+one_step h (ToSource f x k) (ToSource _ y m) e = ap OfSource (source_one x y (source_fits f x h.header k) (source_fits f y h.header m) e)
+one_step h (ToHead f x k) (ToHead _ y m) e =
+    let small = small_limits f.header.version in
+    ap OfArchive (archive_one x y (archive_fits (limits f) x small k.def_is) (archive_fits (limits f) y small m.def_is) e)
+one_step h (ToPrep f x k) (ToPrep _ y m) e = ap OfPrep (part_one x y (prep_fits f x h k) (prep_fits f y h m) e)
+one_step h (ToCell f x k) (ToCell _ y m) e = ap OfCell (cell_one x y (cell_fits x k.bounded) (cell_fits y m.bounded) e)
+one_step h (ToEntry f x n k goes) (ToEntry _ y m j on) e = ap OfTag (tag_one x y (head_same (tag_byte x) (tag_byte y) [] [] e).0)
+one_step h (ToSource f x k) (ToHead _ y m) e = absurd (let both = sym k.is_due ∙ m.is_due in cc)
+one_step h (ToSource f x k) (ToPrep _ y m) e = absurd (let both = sym k.is_due ∙ m.is_due in cc)
+one_step h (ToSource f x k) (ToCell _ y m) e = absurd (let both = sym k.is_due ∙ m.is_due in cc)
+one_step h (ToSource f x k) (ToEntry _ y m j on) e = absurd (let both = sym k.is_due ∙ j in cc)
+one_step h (ToHead f x k) (ToSource _ y m) e = absurd (let both = sym k.is_due ∙ m.is_due in cc)
+one_step h (ToHead f x k) (ToPrep _ y m) e = absurd (let both = sym k.is_due ∙ m.is_due in cc)
+one_step h (ToHead f x k) (ToCell _ y m) e = absurd (let both = sym k.is_due ∙ m.is_due in cc)
+one_step h (ToHead f x k) (ToEntry _ y m j on) e = absurd (let both = sym k.is_due ∙ j in cc)
+one_step h (ToPrep f x k) (ToSource _ y m) e = absurd (let both = sym k.is_due ∙ m.is_due in cc)
+one_step h (ToPrep f x k) (ToHead _ y m) e = absurd (let both = sym k.is_due ∙ m.is_due in cc)
+one_step h (ToPrep f x k) (ToCell _ y m) e = absurd (let both = sym k.is_due ∙ m.is_due in cc)
+one_step h (ToPrep f x k) (ToEntry _ y m j on) e = absurd (let both = sym k.is_due ∙ j in cc)
+one_step h (ToCell f x k) (ToSource _ y m) e = absurd (let both = sym k.is_due ∙ m.is_due in cc)
+one_step h (ToCell f x k) (ToHead _ y m) e = absurd (let both = sym k.is_due ∙ m.is_due in cc)
+one_step h (ToCell f x k) (ToPrep _ y m) e = absurd (let both = sym k.is_due ∙ m.is_due in cc)
+one_step h (ToCell f x k) (ToEntry _ y m j on) e = absurd (let both = sym k.is_due ∙ j in cc)
+one_step h (ToEntry f x n k goes) (ToSource _ y m) e = absurd (let both = sym k ∙ m.is_due in cc)
+one_step h (ToEntry f x n k goes) (ToHead _ y m) e = absurd (let both = sym k ∙ m.is_due in cc)
+one_step h (ToEntry f x n k goes) (ToPrep _ y m) e = absurd (let both = sym k ∙ m.is_due in cc)
+one_step h (ToEntry f x n k goes) (ToCell _ y m) e = absurd (let both = sym k ∙ m.is_due in cc)
+one_step h (ToPiece f pieces due later p n k goes) (ToPiece _ _ _ _ q m j on) e = one_way (limits f) f.header.step (outline_left f) (here f h.0) h.1.0 k j e
+
+pub one_at : (s : Stage) (p q : Piece) (n m : Stage) → IsSoundStage s → Takes s p n → Takes s q m → spell p ≡ spell q → p ≡ q
+one_at s p q n m h t w e = one_step h (step_of s p n t) (step_of s q m w) e
+
+pub one_spelling : (before : List Piece) (s : Stage) (p q : Piece) (n m : Stage) → Runs Start before s → Takes s p n → Takes s q m → spell p ≡ spell q → p ≡ q
+one_spelling before s p q n m r t w e = one_at s p q n m (reached_sound before s r) t w e

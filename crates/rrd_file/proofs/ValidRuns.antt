@@ -1,0 +1,197 @@
+-- The layout of a valid database is a whole file, which says that database.
+use Rattle.std.proofs.Common.{◌≡◌, ◌∙◌, ◌++◌, ◌∷◌, ◌+◌, ◌*◌, ◌/◌, ◌%◌, ◌<◌, ◌≤◌, ℕ, List, [], Bool, sym, ap, subst, refl, length, arith, map, append_assoc, append-nil, length-append}
+use Rattle.std.proofs.Math.Nat.{mul-add, mul_comm}
+use Rattle.std.specs.Prelude.{cond, false, sum, Option, Some}
+use Rattle.std.specs.List.{AllByRecursion, enumerate_from, find, flat_map, range_with_len}
+use Rattle.std.specs.Option.{option_map_or}
+use Rattle.std.proofs.lemmas.List.{length-map}
+use Rattle.std.proofs.lemmas.List.Concat.{flat_map-cons}
+use Rattle.std.proofs.lemmas.List.Sums.{fold-append}
+use Rattle.std.proofs.lemmas.Nat.{mul-le}
+use Rattle.rrd_fixed.specs.declared.cell.Cell.{Cell}
+use Rattle.rrd_fixed.specs.declared.raw.Raw.{Raw}
+use Rattle.rrd_fixed.specs.Rate.{IsBounded}
+use Rattle.rrd_fold.specs.declared.function.Function.TheVariants.{Average}
+use Rattle.rrd_fold.specs.Parts.{Part}
+use Rattle.rrd_spec.specs.declared.outline.Outline.{Outline}
+use Rattle.rrd_spec.specs.declared.settings.DsDef.{DsDef}
+use Rattle.rrd_spec.specs.Entries.{Entry}
+use Rattle.rrd_spec.specs.Filed.{Head, Header, Source, One, filed, head_of, header_of, sources_of}
+use Rattle.rrd_spec.specs.History.{Archive, Content}
+use Rattle.rrd_spec.specs.Journals.{FiledOutline, MayUndoEach, OutlinesAreNeeded}
+use Rattle.rrd_spec.specs.Limits.{version_one}
+use Rattle.rrd_spec.specs.Lists.{All-append}
+use Rattle.rrd_spec.specs.Outlines.{outline_of, outline_undone}
+use Rattle.rrd_spec.specs.Placed.{AsManyCells, HasOneEach}
+use Rattle.rrd_spec.specs.Rebuilding.{IsArchiveDef, IsHeader, limits_of, outline_filed, outline_left, rows_in_all}
+use Rattle.rrd_spec.specs.Settings.{is_double, names, resolution}
+use Rattle.rrd_spec.specs.Slots.{all_cells, cells_by_slot, row_in, stands_in}
+use Rattle.rrd_spec.specs.Survivors.{Stored}
+use Rattle.rrd_spec.specs.Validity.{AreAccepted, IsPart, IsRow, IsSourceWithin, IsValid, IsValidArchive, IsValidDatabase}
+use Rattle.rrd_file.specs.Faults.{IsWhole}
+use Rattle.rrd_file.specs.Layout.{body_pieces, entry_pieces, head_pieces, layout, pieces_filed, spelled}
+use Rattle.rrd_file.specs.Pieces.{Piece, Mark, OfVersion, OfHeader, OfSource, OfCell}
+use Rattle.rrd_file.specs.Stages.{Start, Marked, Versioned, Body, Runs, Takes, body_size, size}
+use Rattle.rrd_file.proofs.BodyRuns.{AreHeadsThere, IsBodyIn, IsFiledHead, IsFiledSource, body, cells_run, defs_of, entry_due, heads_run, heads_there, nothing_due, rows_first, runs_append, sources_run}
+use Rattle.rrd_file.proofs.EntryRuns.{entry_runs}
+use Rattle.rrd_file.proofs.Told.{lengths}
+
+-- ---- entries
+
+body_in : (h : Header) (sources : List Source) (heads : List Head) (cells : List Cell) (entries : List Entry) → AreHeadsThere h sources heads → length cells ≡ h.sources * rows_in_all heads → IsBodyIn (body h sources heads cells entries)
+body_in h sources heads cells entries there many = record { sources = there.sources_are; prepared = there.prepared; heads = there.heads_are; cells = omega (arith, many) }
+
+entries_run : (h : Header) (sources : List Source) (heads : List Head) (cells : List Cell) (xs ys all : List Entry) → xs ++ ys ≡ all → AreHeadsThere h sources heads → length cells ≡ h.sources * rows_in_all heads → length all ≡ h.entries → MayUndoEach (limits_of h.version) h.step (outline_left (body h sources heads cells xs)) ys → Runs (Body (body h sources heads cells xs)) (flat_map entry_pieces ys) (Body (body h sources heads cells all))
+entries_run h sources heads cells xs [] all e there many long may = ap (λ l. Body (body h sources heads cells l)) (sym (append-nil xs) ∙ e)
+entries_run h sources heads cells xs (y ∷ ys) all e there many long may =
+    let f = body h sources heads cells xs in
+    let next = body h sources heads cells (xs ++ y ∷ []) in
+    let more : length xs < h.entries = omega (arith, long, ap length e, length-append xs (y ∷ ys)) in
+    let is_due = entry_due f (body_in h sources heads cells xs there many) more in
+    let first = entry_runs f y (record { is_due = is_due; fits = may.0 }) in
+    let left : outline_left next ≡ outline_undone (outline_left f) y = fold-append outline_undone (outline_filed f) xs (y ∷ []) in
+    let later = entries_run h sources heads cells (xs ++ y ∷ []) ys all (append_assoc xs (y ∷ []) ys ∙ e) there many long (subst (λ (o : Outline). MayUndoEach (limits_of h.version) h.step o ys) (sym left) may.1) in
+    subst (λ (l : List Piece). Runs (Body f) l (Body (body h sources heads cells all))) (sym (flat_map-cons entry_pieces y ys))
+    (runs_append (Body f) (Body next) (Body (body h sources heads cells all)) (entry_pieces y) (flat_map entry_pieces ys) first later)
+
+-- ---- what a valid content has
+
+sources_filed : (h : Header) (defs : List DsDef) (raws : List Raw) (parts : List Part) → AllByRecursion (IsSourceWithin (limits_of h.version)) defs → AreAccepted defs raws → length parts ≡ length defs → AllByRecursion (IsPart Average (h.last % h.step)) parts → AllByRecursion (IsFiledSource h) (sources_of defs raws parts)
+sources_filed h [] raws parts a b e c = tt
+sources_filed h (def ∷ defs) [] parts a b e c = absurd b
+sources_filed h (def ∷ defs) (raw ∷ raws) [] a b e c = absurd (omega (arith, e))
+sources_filed h (def ∷ defs) (raw ∷ raws) (part ∷ parts) a b e c =
+    (record { source_is = a.0; raw_is = b.0; part_is = c.0 }, sources_filed h defs raws parts a.1 b.1 (omega (arith, e)) c.1)
+
+heads_filed : (h : Header) (archives : List Archive) → AllByRecursion (IsValidArchive h.sources (h.last / h.step)) archives → h.version ≡ One → AllByRecursion (IsFiledHead h) (map head_of archives)
+heads_filed h [] a v = tt
+heads_filed h (archive ∷ archives) a v =
+    let def_is : IsArchiveDef version_one archive.def = record { some_steps = a.0.some_steps; few_steps = a.0.few_steps; some_rows = a.0.some_rows; few_rows = a.0.few_rows; xff_low = a.0.xff_low; xff_high = a.0.xff_high } in
+    (record { def_is = subst (λ v. IsArchiveDef (limits_of v) archive.def) (sym v) def_is; parts_are = a.0.parts_are }, heads_filed h archives a.1 v)
+
+rows_same : (archives : List Archive) → rows_in_all (map head_of archives) ≡ sum (map (λ (archive : Archive). archive.def.rows) archives)
+rows_same archives = ap sum (each archives)
+  where
+    each : (archives : List Archive) → map (λ (head : Head). head.def.rows) (map head_of archives) ≡ map (λ (archive : Archive). archive.def.rows) archives
+    each [] = refl
+    each (archive ∷ archives) = ap (λ l. archive.def.rows ∷ l) (each archives)
+
+-- ---- cells
+
+all_flat : {A : Type 0} (P : A → Type 0) (f : A → List Cell) (xs : List A) → ((x : A) → P x → AllByRecursion IsBounded (f x)) → AllByRecursion P xs → AllByRecursion IsBounded (flat_map f xs)
+all_flat P f [] h k = tt
+all_flat P f (x ∷ xs) h k = subst (AllByRecursion IsBounded) (sym (flat_map-cons f x xs)) (All-append IsBounded (f x) (flat_map f xs) (h x k.0) (all_flat P f xs h k.1))
+
+-- the cells of the row that is found, if one is
+abbrev AreFound : Option (ℕ × List Cell) → Type 0
+AreFound found = AllByRecursion IsBounded (option_map_or (λ (found : ℕ × List Cell). found.1) found [])
+
+either : (b : Bool) (x y : Option (ℕ × List Cell)) → AreFound x → AreFound y → AreFound (cond b x y)
+either Bool.true x y h k = h
+either Bool.false x y h k = k
+
+found_bounded : (sources : ℕ) (test : ℕ × List Cell → Bool) (n : ℕ) (rows : List (List Cell)) → AllByRecursion (IsRow sources) rows → AreFound (find test (enumerate_from n rows))
+found_bounded sources test n [] h = tt
+found_bounded sources test n (row ∷ rows) h = either (test (n, row)) (Some (n, row)) (find test (enumerate_from (n + 1) rows)) h.0.each (found_bounded sources test (n + 1) rows h.1)
+
+trivial : (xs : List ℕ) → AllByRecursion (λ (x : ℕ). Unit {0}) xs
+trivial [] = tt
+trivial (x ∷ xs) = (tt, trivial xs)
+
+archive_bounded : (sources step last : ℕ) (archive : Archive) → AllByRecursion (IsRow sources) archive.rows → AllByRecursion IsBounded (cells_by_slot step last archive)
+archive_bounded sources step last archive h =
+    let size = resolution step archive.def in
+    let slots = range_with_len 0 (length archive.rows) in
+    all_flat (λ (x : ℕ). Unit {0}) (row_in size last archive.rows) slots
+    (λ slot k. found_bounded sources (stands_in size (length archive.rows) last slot) 0 archive.rows h) (trivial slots)
+
+cells_bounded : (d : Content) → IsValid d → AllByRecursion IsBounded (all_cells d)
+cells_bounded d v =
+    all_flat (IsValidArchive (length d.sources) (d.last / d.step)) (cells_by_slot d.step d.last) d.archives
+    (λ archive is. archive_bounded (length d.sources) d.step d.last archive is.each_row) v.archives_are
+
+one_each : (sources : ℕ) (rows : List (List Cell)) → AllByRecursion (IsRow sources) rows → AllByRecursion (HasOneEach sources) rows
+one_each sources [] h = tt
+one_each sources (row ∷ rows) h = (h.0.one_each, one_each sources rows h.1)
+
+-- an archive has as many cells as rows and sources
+abbrev pub ManyCells : Type 0
+ManyCells = (resolution last sources : ℕ) (rows : List (List Cell)) → AsManyCells resolution last sources rows
+
+product : (a b : ℕ) → 0 < a → 0 < b → 0 < a * b
+product a b p q = omega (arith, mul-le 1 1 a b (omega (arith, p)) (omega (arith, q)))
+
+archives_cells : ManyCells → (sources step last steps : ℕ) (archives : List Archive) → 0 < step → AllByRecursion (IsValidArchive sources steps) archives → length (flat_map (cells_by_slot step last) archives) ≡ sources * rows_in_all (map head_of archives)
+archives_cells many sources step last steps [] some h = omega arith
+archives_cells many sources step last steps (archive ∷ archives) some h =
+    let size = resolution step archive.def in
+    let first : length (cells_by_slot step last archive) ≡ length archive.rows * sources = many size last sources archive.rows (product step archive.def.steps some h.0.some_steps) (one_each sources archive.rows h.0.each_row) in
+    let later = archives_cells many sources step last steps archives some h.1 in
+    let all : length (flat_map (cells_by_slot step last) (archive ∷ archives)) ≡ length (cells_by_slot step last archive) + length (flat_map (cells_by_slot step last) archives) = ap length (flat_map-cons (cells_by_slot step last) archive archives) ∙ length-append (cells_by_slot step last archive) (flat_map (cells_by_slot step last) archives) in
+    let rows : length archive.rows * sources ≡ sources * archive.def.rows = ap (λ n. n * sources) h.0.rows_are ∙ mul_comm archive.def.rows sources in
+    let sum_is : rows_in_all (map head_of (archive ∷ archives)) ≡ archive.def.rows + rows_in_all (map head_of archives) = rows_first (head_of archive) (map head_of archives) in
+    all ∙ (λ i. (first ∙ rows) i + later i) ∙ sym (mul-add sources archive.def.rows (rows_in_all (map head_of archives))) ∙ ap (λ n. sources * n) (sym sum_is)
+
+-- ---- the whole
+
+header_is : (c : Content) (j : List Entry) → IsValidDatabase c j → IsHeader (header_of One (record { content = c; journal = j }))
+header_is c j v = record {
+  some_step = v.content_is.some_step;
+  small_step = v.content_is.small_step;
+  good_time = v.content_is.good_time;
+  some_depth = v.content_is.some_depth;
+  small_depth = v.content_is.small_depth;
+  some_source = v.content_is.some_source;
+  few_sources = v.content_is.few_sources;
+  some_archive = v.content_is.some_archive;
+  few_archives = v.content_is.few_archives;
+  few_entries = v.few;
+}
+
+begin_runs : (h : Header) → h.version ≡ One → IsHeader h → Runs Start (Mark ∷ OfVersion h.version ∷ OfHeader h ∷ []) (Body (body h [] [] [] []))
+unfolding Takes
+begin_runs h v is = (Marked, refl, (Versioned h.version, refl, (Body (body h [] [] [] []), (refl, is, refl), refl)))
+
+-- what the laws of outlines and slots say
+pub record Outlining : Type 0 where
+  pub needed : (now : Content) (journal : List Entry) → OutlinesAreNeeded version_one now journal
+  pub filed_is : (d : Stored) → FiledOutline One d
+  pub many : ManyCells
+
+pub valid_is_whole : Outlining → (c : Content) (j : List Entry) → IsValidDatabase c j → let d : Stored = record { content = c; journal = j } in IsWhole (layout d) (filed One d)
+unfolding size
+valid_is_whole laws c j v =
+    let d : Stored = record { content = c; journal = j } in
+    let h = header_of One d in
+    let f = filed One d in
+    let long = lengths c v.content_is in
+    let outline : outline_filed f ≡ outline_of c = laws.filed_is d long.raws_are long.parts_are in
+    let defs : defs_of f.sources ≡ c.sources = ap (λ (o : Outline). o.sources) outline in
+    let count : length f.sources ≡ h.sources = sym (length-map f.sources (λ (source : Source). source.def)) ∙ ap length defs in
+    let sources_are = sources_filed h c.sources c.raws c.parts v.content_is.sources_are v.content_is.raws_are v.content_is.parts_are.one_each v.content_is.parts_are.each in
+    let once : is_double (names (defs_of f.sources)) ≡ false = ap (λ (l : List DsDef). is_double (names l)) defs ∙ v.content_is.names_differ in
+    let heads_are = heads_filed h c.archives v.content_is.archives_are refl in
+    let heads_count : length f.heads ≡ h.archives = length-map c.archives head_of in
+    let few : h.sources * rows_in_all f.heads ≤ version_one.most_cells = omega (arith, v.content_is.few_cells, ap (λ n. h.sources * n) (rows_same c.archives)) in
+    let there = heads_there h f.sources f.heads (omega (arith, count)) heads_count heads_are in
+    let many : length f.cells ≡ h.sources * rows_in_all f.heads = archives_cells laws.many h.sources c.step c.last (c.last / c.step) c.archives v.content_is.some_step v.content_is.archives_are in
+    let may = subst (λ (o : Outline). MayUndoEach version_one c.step o j) (sym outline) (laws.needed c j v.content_is v.journal_is) in
+    let a = sources_run h [] f.sources f.sources refl count once sources_are in
+    let b = heads_run h f.sources [] f.heads f.heads refl (omega (arith, count)) heads_count few tt heads_are in
+    let e = cells_run h f.sources f.heads [] f.cells f.cells refl there many (cells_bounded c v.content_is) in
+    let g = entries_run h f.sources f.heads f.cells [] j j refl there many refl may in
+    let s0 = Body (body h [] [] [] []) in
+    let s1 = Body (body h f.sources [] [] []) in
+    let s2 = Body (body h f.sources f.heads [] []) in
+    let s3 = Body (body h f.sources f.heads f.cells []) in
+    let ab = runs_append s0 s1 s2 (map OfSource f.sources) (flat_map head_pieces f.heads) a b in
+    let abe = runs_append s0 s2 s3 (map OfSource f.sources ++ flat_map head_pieces f.heads) (map OfCell f.cells) ab e in
+    let all = runs_append s0 s3 (Body f) (body_pieces f) (flat_map entry_pieces j) abe g in
+    record {
+      front = record {
+        pieces = pieces_filed f;
+        runs = runs_append Start s0 (Body f) (Mark ∷ OfVersion One ∷ OfHeader h ∷ []) (body_pieces f ++ flat_map entry_pieces j) (begin_runs h refl (header_is c j v)) all;
+        parts = sym (append-nil (spelled (pieces_filed f)));
+      };
+      done = ap body_size (nothing_due f (body_in h f.sources f.heads f.cells j there many) (omega arith));
+    }

@@ -1,0 +1,5 @@
+use Rattle.rrd_file.proofs.OneAnswer.{file_is_layout}
+use Rattle.rrd_file.proofs.laws.file_is_layout.Goals as goal
+
+pub returns : goal.returns
+returns c = file_is_layout

@@ -1,0 +1,454 @@
+-- Which entry a valid content can undo, by its outline alone.
+use Rattle.std.proofs.Common.{◌≡◌, ◌∙◌, ◌+◌, ◌-◌, ◌*◌, ◌/◌, ◌%◌, ◌<◌, ◌≤◌, ℕ, zero, suc, List, [], ◌∷◌, ◌++◌, refl, sym, ap, subst, arith, length, map, take, get_or, set, sum, length-append, length-take}
+use Rattle.std.specs.List.{AllByRecursion, fold}
+use Rattle.std.proofs.lemmas.List.{get_or-set_other, get_or-set_same, length-map, length-set}
+use Rattle.rrd_fixed.specs.declared.cell.Cell.{Cell}
+use Rattle.rrd_fixed.specs.declared.raw.Raw.{Raw}
+use Rattle.rrd_fixed.specs.Rate.{IsAccepted}
+use Rattle.rrd_fold.specs.declared.function.Function.TheVariants.{Average}
+use Rattle.rrd_spec.specs.declared.entry.SourceBefore.{SourceBefore}
+use Rattle.rrd_spec.specs.declared.outline.Outline.{Outline}
+use Rattle.rrd_spec.specs.declared.settings.DsDef.{DsDef}
+use Rattle.rrd_spec.specs.declared.settings.RraDef.{RraDef}
+use Rattle.rrd_spec.specs.Limits.{Limits}
+use Rattle.rrd_spec.specs.Settings.{cells}
+use Rattle.rrd_spec.specs.Commands.{rows_of_archives, settings_of}
+use Rattle.rrd_spec.specs.History.{Archive, Content, definitions}
+use Rattle.rrd_spec.specs.Entries.{BeforeUpdate, Entry, ResizeEntry, SavedArchive, TuneEntry, UpdateEntry, put_back, put_back_each, rows_at, undone, with_rows_at, with_source}
+use Rattle.rrd_spec.specs.Facts.{length-accepted, rows_wide}
+use Rattle.rrd_spec.specs.Filed.{Head, Version, head_of}
+use Rattle.rrd_spec.specs.Journals.{FiledOutline, JournalLeavesValid, JournalParts, JournalTakes, JournalTook, JournalsJoin, MayUndoEach, OutlineFollows, OutlineIsNeeded, OutlineSuffices, OutlinesAreNeeded, OutlinesSuffice}
+use Rattle.rrd_spec.specs.Lists.{All-append, All-at, All-take}
+use Rattle.rrd_spec.specs.Outlines.{IsSourceBefore, MaySave, MaySaveEach, MayUndo, outline_of, outline_undone, rows_of, with_row_number, with_sources}
+use Rattle.rrd_spec.specs.Survivors.{Stored}
+use Rattle.rrd_spec.proofs.ReadBack.{gives_back}
+use Rattle.rrd_spec.specs.Validity.{AreAccepted, AreParts, FitEach, FitsArchive, IsRow, IsSourceWithin, IsValidArchiveWithin, IsValidWithin, Rise}
+
+-- ---- lists
+
+All-front : {A : Type 0} (P : A → Type 0) (xs ys : List A) → AllByRecursion P (xs ++ ys) → AllByRecursion P xs
+All-front P [] ys all = tt
+All-front P (x ∷ xs) ys all = (all.0, All-front P xs ys all.1)
+
+All-set : {A : Type 0} (P : A → Type 0) (xs : List A) (i : ℕ) (x : A) → AllByRecursion P xs → P x → AllByRecursion P (set xs i x)
+All-set P [] i x all here = tt
+All-set P (y ∷ xs) zero x all here = (here, all.1)
+All-set P (y ∷ xs) (suc i) x all here = (all.0, All-set P xs i x all.1 here)
+
+-- the numbers of rows, by the archives and by their settings
+rows_by_settings : (archives : List Archive) → rows_of (definitions archives) ≡ rows_of_archives archives
+rows_by_settings [] = refl
+rows_by_settings (archive ∷ archives) = ap (λ rows. archive.def.rows ∷ rows) (rows_by_settings archives)
+
+-- ---- an update
+
+put_back_settings : (archives : List Archive) (olds : List SavedArchive) → definitions (put_back_each archives olds) ≡ definitions archives
+put_back_settings [] olds = refl
+put_back_settings (archive ∷ archives) [] = refl
+put_back_settings (archive ∷ archives) (old ∷ olds) = ap (λ defs. archive.def ∷ defs) (put_back_settings archives olds)
+
+put_back_count : (archives : List Archive) (olds : List SavedArchive) → length (put_back_each archives olds) ≡ length archives
+put_back_count [] olds = refl
+put_back_count (archive ∷ archives) [] = refl
+put_back_count (archive ∷ archives) (old ∷ olds) = ap suc (put_back_count archives olds)
+
+put_back_rows : (archives : List Archive) (olds : List SavedArchive) → rows_of_archives (put_back_each archives olds) ≡ rows_of_archives archives
+put_back_rows [] olds = refl
+put_back_rows (archive ∷ archives) [] = refl
+put_back_rows (archive ∷ archives) (old ∷ olds) = ap (λ rows. archive.def.rows ∷ rows) (put_back_rows archives olds)
+
+saved_fits : (step from to sources : ℕ) (archive : Archive) (old : SavedArchive) → MaySave step from to sources archive.def old → FitsArchive step sources from to archive old
+saved_fits step from to sources archive old may = record {
+  same_function = may.same_function;
+  one_part_each = may.parts_are.one_each;
+  as_many = may.as_many;
+  one_cell_each = rows_wide sources old.rows may.each_row;
+}
+
+saved_valid : (limits : Limits) (step from to sources : ℕ) (archive : Archive) (old : SavedArchive) → IsValidArchiveWithin limits sources (to / step) archive → MaySave step from to sources archive.def old
+    → IsValidArchiveWithin limits sources (from / step) (put_back archive old)
+saved_valid limits step from to sources archive old is may =
+    let rest = take (length archive.rows - length old.rows) archive.rows in
+    record {
+      some_steps = is.some_steps;
+      few_steps = is.few_steps;
+      some_rows = is.some_rows;
+      few_rows = is.few_rows;
+      xff_low = is.xff_low;
+      xff_high = is.xff_high;
+      parts_are = may.parts_are;
+      rows_are = omega (arith, length-append old.rows rest, length-take (length archive.rows - length old.rows) archive.rows, may.as_many, is.rows_are);
+      each_row = All-append (IsRow sources) old.rows rest may.each_row (All-take (IsRow sources) (length archive.rows - length old.rows) archive.rows is.each_row);
+    }
+
+saved_may : (limits : Limits) (step from to sources : ℕ) (archive : Archive) (old : SavedArchive) → FitsArchive step sources from to archive old → IsValidArchiveWithin limits sources (from / step) (put_back archive old)
+    → MaySave step from to sources archive.def old
+saved_may limits step from to sources archive old fits is = record {
+  same_function = fits.same_function;
+  parts_are = is.parts_are;
+  as_many = fits.as_many;
+  each_row = All-front (IsRow sources) old.rows (take (length archive.rows - length old.rows) archive.rows) is.each_row;
+}
+
+each_saved : (limits : Limits) (step from to sources : ℕ) (archives : List Archive) (olds : List SavedArchive) → AllByRecursion (IsValidArchiveWithin limits sources (to / step)) archives → MaySaveEach step from to sources (definitions archives) olds
+    → FitEach step sources from to archives olds × AllByRecursion (IsValidArchiveWithin limits sources (from / step)) (put_back_each archives olds)
+each_saved limits step from to sources [] [] is may = (tt, tt)
+each_saved limits step from to sources [] (old ∷ olds) is may = absurd may
+each_saved limits step from to sources (archive ∷ archives) [] is may = absurd may
+each_saved limits step from to sources (archive ∷ archives) (old ∷ olds) is may =
+    let rest = each_saved limits step from to sources archives olds is.1 may.1 in
+    ((saved_fits step from to sources archive old may.0, rest.0), (saved_valid limits step from to sources archive old is.0 may.0, rest.1))
+
+each_may : (limits : Limits) (step from to sources : ℕ) (archives : List Archive) (olds : List SavedArchive) → FitEach step sources from to archives olds → AllByRecursion (IsValidArchiveWithin limits sources (from / step)) (put_back_each archives olds)
+    → MaySaveEach step from to sources (definitions archives) olds
+each_may limits step from to sources [] [] fits is = tt
+each_may limits step from to sources [] (old ∷ olds) fits is = absurd fits
+each_may limits step from to sources (archive ∷ archives) [] fits is = absurd fits
+each_may limits step from to sources (archive ∷ archives) (old ∷ olds) fits is =
+    (saved_may limits step from to sources archive old fits.0 is.0, each_may limits step from to sources archives olds fits.1 is.1)
+
+update_suffices : (limits : Limits) (now : Content) (old : BeforeUpdate) → OutlineSuffices limits now (UpdateEntry old)
+update_suffices limits now old is may =
+    let each = each_saved limits now.step old.last now.last (length now.sources) now.archives old.archives is.archives_are may.archives_are in
+    let count = put_back_count now.archives old.archives in
+    let all_cells : cells (settings_of (undone now (UpdateEntry old))) ≡ cells (settings_of now) = ap (λ rows. length now.sources * sum rows) (put_back_rows now.archives old.archives) in (
+      record {
+        earlier = may.earlier;
+        one_raw_each = length-accepted now.sources old.raws may.raws_are;
+        one_part_each = may.parts_are.one_each;
+        archives_fit = each.0;
+      },
+      record {
+        some_step = is.some_step;
+        small_step = is.small_step;
+        good_time = omega (arith, is.good_time, may.earlier);
+        some_depth = is.some_depth;
+        small_depth = is.small_depth;
+        some_source = is.some_source;
+        few_sources = is.few_sources;
+        some_archive = omega (arith, count, is.some_archive);
+        few_archives = omega (arith, count, is.few_archives);
+        few_cells = subst (λ n. n ≤ limits.most_cells) (sym all_cells) is.few_cells;
+        sources_are = is.sources_are;
+        names_differ = is.names_differ;
+        raws_are = may.raws_are;
+        parts_are = may.parts_are;
+        archives_are = each.1;
+      },
+    )
+
+update_needed : (limits : Limits) (now : Content) (old : BeforeUpdate) → OutlineIsNeeded limits now (UpdateEntry old)
+update_needed limits now old is fits then = record {
+  earlier = fits.earlier;
+  raws_are = then.raws_are;
+  parts_are = then.parts_are;
+  archives_are = each_may limits now.step old.last now.last (length now.sources) now.archives old.archives fits.archives_fit then.archives_are;
+}
+
+-- ---- a tune
+
+with_raws : List Raw → List SourceBefore → List Raw
+with_raws raws olds = fold (λ rs (old : SourceBefore). set rs old.number old.raw) raws olds
+
+with_both : Content → List DsDef → List Raw → Content
+with_both now sources raws = record now { sources = sources; raws = raws }
+
+sources_undone : (now : Content) (olds : List SourceBefore) → fold with_source now olds ≡ with_both now (with_sources now.sources olds) (with_raws now.raws olds)
+unfolding with_raws with_both
+sources_undone now [] = refl
+sources_undone now (old ∷ olds) = sources_undone (with_source now old) olds
+
+sources_count : (sources : List DsDef) (olds : List SourceBefore) → length (with_sources sources olds) ≡ length sources
+sources_count sources [] = refl
+sources_count sources (old ∷ olds) = sources_count (set sources old.number old.source) olds ∙ length-set sources old.number old.source
+
+accepted_set : (sources : List DsDef) (raws : List Raw) (i : ℕ) (source : DsDef) (raw : Raw) → AreAccepted sources raws → IsAccepted source.kind raw → AreAccepted (set sources i source) (set raws i raw)
+accepted_set [] [] i source raw all here = tt
+accepted_set [] (r ∷ raws) i source raw all here = absurd all
+accepted_set (s ∷ sources) [] i source raw all here = absurd all
+accepted_set (s ∷ sources) (r ∷ raws) zero source raw all here = (here, all.1)
+accepted_set (s ∷ sources) (r ∷ raws) (suc i) source raw all here = (all.0, accepted_set sources raws i source raw all.1 here)
+
+accepted_at : (sources : List DsDef) (raws : List Raw) (i : ℕ) (source : DsDef) (raw : Raw) → AreAccepted sources raws → i < length sources → IsAccepted (get_or sources i source).kind (get_or raws i raw)
+accepted_at [] raws i source raw all inside = absurd (omega arith)
+accepted_at (s ∷ sources) [] i source raw all inside = absurd all
+accepted_at (s ∷ sources) (r ∷ raws) zero source raw all inside = all.0
+accepted_at (s ∷ sources) (r ∷ raws) (suc i) source raw all inside = accepted_at sources raws i source raw all.1 (omega arith)
+
+accepted_then : (limits : Limits) (sources : List DsDef) (raws : List Raw) (olds : List SourceBefore) → AreAccepted sources raws → AllByRecursion (IsSourceBefore limits) olds → AreAccepted (with_sources sources olds) (with_raws raws olds)
+unfolding with_raws
+accepted_then limits sources raws [] all each = all
+accepted_then limits sources raws (old ∷ olds) all each =
+    accepted_then limits (set sources old.number old.source) (set raws old.number old.raw) olds (accepted_set sources raws old.number old.source old.raw all each.0.1) each.1
+
+sources_then : (limits : Limits) (sources : List DsDef) (olds : List SourceBefore) → AllByRecursion (IsSourceWithin limits) sources → AllByRecursion (IsSourceBefore limits) olds → AllByRecursion (IsSourceWithin limits) (with_sources sources olds)
+sources_then limits sources [] all each = all
+sources_then limits sources (old ∷ olds) all each =
+    sources_then limits (set sources old.number old.source) olds (All-set (IsSourceWithin limits) sources old.number old.source all each.0.0) each.1
+
+-- numbers rise, so those below the lowest keep their source and raw value
+source_below : (lowest limit i : ℕ) (sources : List DsDef) (olds : List SourceBefore) (d : DsDef) → Rise lowest limit olds → i < lowest → get_or (with_sources sources olds) i d ≡ get_or sources i d
+source_below lowest limit i sources [] d rise below = refl
+source_below lowest limit i sources (old ∷ olds) d rise below =
+    source_below (old.number + 1) limit i (set sources old.number old.source) olds d rise.2 (omega (arith, rise.0, below))
+    ∙ get_or-set_other sources old.number i old.source d (λ e. omega (arith, rise.0, below, e))
+
+raw_below : (lowest limit i : ℕ) (raws : List Raw) (olds : List SourceBefore) (d : Raw) → Rise lowest limit olds → i < lowest → get_or (with_raws raws olds) i d ≡ get_or raws i d
+unfolding with_raws
+raw_below lowest limit i raws [] d rise below = refl
+raw_below lowest limit i raws (old ∷ olds) d rise below =
+    raw_below (old.number + 1) limit i (set raws old.number old.raw) olds d rise.2 (omega (arith, rise.0, below))
+    ∙ get_or-set_other raws old.number i old.raw d (λ e. omega (arith, rise.0, below, e))
+
+-- each source that comes back stands among all in the end
+each_source : (limits : Limits) (lowest : ℕ) (sources : List DsDef) (raws : List Raw) (olds : List SourceBefore) → length raws ≡ length sources → Rise lowest (length sources) olds
+    → AllByRecursion (IsSourceWithin limits) (with_sources sources olds) → AreAccepted (with_sources sources olds) (with_raws raws olds) → AllByRecursion (IsSourceBefore limits) olds
+unfolding with_raws
+each_source limits lowest sources raws [] same rise all accepted = tt
+each_source limits lowest sources raws (old ∷ olds) same rise all accepted =
+    let i = old.number in
+    let next = set sources i old.source in
+    let next_raws = set raws i old.raw in
+    let count : length next ≡ length sources = length-set sources i old.source in
+    let raw_count : length next_raws ≡ length raws = length-set raws i old.raw in
+    let after : Rise (i + 1) (length next) olds = subst (λ n. Rise (i + 1) n olds) (sym count) rise.2 in
+    let inside : i < length (with_sources next olds) = omega (arith, rise.1, count, sources_count next olds) in
+    let source : get_or (with_sources next olds) i old.source ≡ old.source =
+    source_below (i + 1) (length next) i next olds old.source after (omega arith) ∙ get_or-set_same sources i old.source old.source (omega (arith, rise.1)) in
+    let raw : get_or (with_raws next_raws olds) i old.raw ≡ old.raw =
+    raw_below (i + 1) (length next) i next_raws olds old.raw after (omega arith) ∙ get_or-set_same raws i old.raw old.raw (omega (arith, rise.1, same)) in
+    let is : IsSourceWithin limits old.source = subst (IsSourceWithin limits) source (All-at (IsSourceWithin limits) (with_sources next olds) i old.source all inside) in
+    let takes = accepted_at (with_sources next olds) (with_raws next_raws olds) i old.source old.raw accepted inside in
+    let took : IsAccepted old.source.kind old.raw =
+    subst (λ r. IsAccepted old.source.kind r) raw (subst (λ (s : DsDef). IsAccepted s.kind (get_or (with_raws next_raws olds) i old.raw)) source takes) in
+    ((is, took), each_source limits (i + 1) next next_raws olds (omega (arith, same, count, raw_count)) after all accepted)
+
+tune_suffices : (limits : Limits) (now : Content) (olds : List SourceBefore) → OutlineSuffices limits now (TuneEntry olds)
+unfolding with_both
+tune_suffices limits now olds is may =
+    let sources = with_sources now.sources olds in
+    let count : length sources ≡ length now.sources = sources_count now.sources olds in (
+      record { some = may.some; few = may.few; rise = may.rise },
+      subst (IsValidWithin limits) (sym (sources_undone now olds)) (record {
+        some_step = is.some_step;
+        small_step = is.small_step;
+        good_time = is.good_time;
+        some_depth = is.some_depth;
+        small_depth = is.small_depth;
+        some_source = omega (arith, count, is.some_source);
+        few_sources = omega (arith, count, is.few_sources);
+        some_archive = is.some_archive;
+        few_archives = is.few_archives;
+        few_cells = subst (λ n. n * sum (rows_of_archives now.archives) ≤ limits.most_cells) (sym count) is.few_cells;
+        sources_are = sources_then limits now.sources olds is.sources_are may.each;
+        names_differ = may.names_differ;
+        raws_are = accepted_then limits now.sources now.raws olds is.raws_are may.each;
+        parts_are = subst (λ n. AreParts Average n (now.last % now.step) now.parts) (sym count) is.parts_are;
+        archives_are = subst (λ n. AllByRecursion (IsValidArchiveWithin limits n (now.last / now.step)) now.archives) (sym count) is.archives_are;
+      }),
+    )
+
+tune_needed : (limits : Limits) (now : Content) (olds : List SourceBefore) → OutlineIsNeeded limits now (TuneEntry olds)
+unfolding with_both
+tune_needed limits now olds is fits then =
+    let valid : IsValidWithin limits (with_both now (with_sources now.sources olds) (with_raws now.raws olds)) = subst (IsValidWithin limits) (sources_undone now olds) then in
+    record {
+      some = fits.some;
+      few = fits.few;
+      rise = fits.rise;
+      each = each_source limits 0 now.sources now.raws olds (length-accepted now.sources now.raws is.raws_are) fits.rise valid.sources_are valid.raws_are;
+      names_differ = valid.names_differ;
+    }
+
+-- ---- a resize
+
+resized_settings : (archives : List Archive) (index : ℕ) (rows : List (List Cell)) → definitions (with_rows_at archives index rows) ≡ with_row_number (definitions archives) index (length rows)
+resized_settings [] index rows = refl
+resized_settings (archive ∷ archives) zero rows = refl
+resized_settings (archive ∷ archives) (suc index) rows = ap (λ defs. archive.def ∷ defs) (resized_settings archives index rows)
+
+resized_count : (archives : List Archive) (index : ℕ) (rows : List (List Cell)) → length (with_rows_at archives index rows) ≡ length archives
+resized_count [] index rows = refl
+resized_count (archive ∷ archives) zero rows = refl
+resized_count (archive ∷ archives) (suc index) rows = ap suc (resized_count archives index rows)
+
+-- the numbers of rows then
+resized_rows : (archives : List Archive) (index : ℕ) (rows : List (List Cell)) → rows_of (with_row_number (definitions archives) index (length rows)) ≡ rows_of_archives (with_rows_at archives index rows)
+resized_rows archives index rows = ap rows_of (sym (resized_settings archives index rows)) ∙ rows_by_settings (with_rows_at archives index rows)
+
+-- the number of rows now
+row_count : (limits : Limits) (sources steps : ℕ) (archives : List Archive) (index : ℕ) → AllByRecursion (IsValidArchiveWithin limits sources steps) archives → length (rows_at archives index) ≡ get_or (rows_of (definitions archives)) index 0
+row_count limits sources steps [] index is = refl
+row_count limits sources steps (archive ∷ archives) zero is = is.0.rows_are
+row_count limits sources steps (archive ∷ archives) (suc index) is = row_count limits sources steps archives index is.1
+
+resized_valid : (limits : Limits) (sources steps : ℕ) (archives : List Archive) (index : ℕ) (rows : List (List Cell)) → AllByRecursion (IsValidArchiveWithin limits sources steps) archives → 0 < length rows → length rows ≤ limits.most_rows → AllByRecursion (IsRow sources) rows
+    → AllByRecursion (IsValidArchiveWithin limits sources steps) (with_rows_at archives index rows)
+resized_valid limits sources steps [] index rows is some few each = tt
+resized_valid limits sources steps (archive ∷ archives) zero rows is some few each = (
+  record {
+    some_steps = is.0.some_steps;
+    few_steps = is.0.few_steps;
+    some_rows = some;
+    few_rows = few;
+    xff_low = is.0.xff_low;
+    xff_high = is.0.xff_high;
+    parts_are = is.0.parts_are;
+    rows_are = refl;
+    each_row = each;
+  },
+  is.1,
+)
+resized_valid limits sources steps (archive ∷ archives) (suc index) rows is some few each = (is.0, resized_valid limits sources steps archives index rows is.1 some few each)
+
+-- the rows of the resized archive
+record AreRows (limits : Limits) (sources : ℕ) (rows : List (List Cell)) : Type 0 where
+  pub some : 0 < length rows
+  pub few : length rows ≤ limits.most_rows
+  pub each : AllByRecursion (IsRow sources) rows
+
+resized_here : (limits : Limits) (sources steps : ℕ) (archives : List Archive) (index : ℕ) (rows : List (List Cell)) → index < length archives → AllByRecursion (IsValidArchiveWithin limits sources steps) (with_rows_at archives index rows) → AreRows limits sources rows
+resized_here limits sources steps [] index rows there is = absurd (omega arith)
+resized_here limits sources steps (archive ∷ archives) zero rows there is = record { some = is.0.some_rows; few = is.0.few_rows; each = is.0.each_row }
+resized_here limits sources steps (archive ∷ archives) (suc index) rows there is = resized_here limits sources steps archives index rows (omega arith) is.1
+
+resize_suffices : (limits : Limits) (now : Content) (archive : ℕ) (rows : List (List Cell)) → OutlineSuffices limits now (ResizeEntry archive rows)
+resize_suffices limits now archive rows is may =
+    let count = resized_count now.archives archive rows in
+    let defs : length (definitions now.archives) ≡ length now.archives = length-map now.archives (λ (a : Archive). a.def) in
+    let was = row_count limits (length now.sources) (now.last / now.step) now.archives archive is.archives_are in (
+      record {
+        there = omega (arith, defs, may.there);
+        one_cell_each = rows_wide (length now.sources) rows may.each_row;
+        another = λ same. may.old_rows.another (same ∙ was);
+      },
+      record {
+        some_step = is.some_step;
+        small_step = is.small_step;
+        good_time = is.good_time;
+        some_depth = is.some_depth;
+        small_depth = is.small_depth;
+        some_source = is.some_source;
+        few_sources = is.few_sources;
+        some_archive = omega (arith, count, is.some_archive);
+        few_archives = omega (arith, count, is.few_archives);
+        few_cells = subst (λ all. length now.sources * sum all ≤ limits.most_cells) (resized_rows now.archives archive rows) may.old_rows.few_cells;
+        sources_are = is.sources_are;
+        names_differ = is.names_differ;
+        raws_are = is.raws_are;
+        parts_are = is.parts_are;
+        archives_are = resized_valid limits (length now.sources) (now.last / now.step) now.archives archive rows is.archives_are may.old_rows.some may.old_rows.few may.each_row;
+      },
+    )
+
+resize_needed : (limits : Limits) (now : Content) (archive : ℕ) (rows : List (List Cell)) → OutlineIsNeeded limits now (ResizeEntry archive rows)
+resize_needed limits now archive rows is fits then =
+    let defs : length (definitions now.archives) ≡ length now.archives = length-map now.archives (λ (a : Archive). a.def) in
+    let was = row_count limits (length now.sources) (now.last / now.step) now.archives archive is.archives_are in
+    let here = resized_here limits (length now.sources) (now.last / now.step) now.archives archive rows fits.there then.archives_are in
+    record {
+      there = omega (arith, defs, fits.there);
+      old_rows = record {
+        some = here.some;
+        few = here.few;
+        another = λ same. fits.another (same ∙ sym was);
+        few_cells = subst (λ all. length now.sources * sum all ≤ limits.most_cells) (sym (resized_rows now.archives archive rows)) then.few_cells;
+      };
+      each_row = here.each;
+    }
+
+-- ---- one entry
+
+pub suffices : (limits : Limits) (now : Content) (entry : Entry) → OutlineSuffices limits now entry
+suffices limits now (UpdateEntry old) = update_suffices limits now old
+suffices limits now (TuneEntry olds) = tune_suffices limits now olds
+suffices limits now (ResizeEntry archive rows) = resize_suffices limits now archive rows
+
+pub needed : (limits : Limits) (now : Content) (entry : Entry) → OutlineIsNeeded limits now entry
+needed limits now (UpdateEntry old) = update_needed limits now old
+needed limits now (TuneEntry olds) = tune_needed limits now olds
+needed limits now (ResizeEntry archive rows) = resize_needed limits now archive rows
+
+-- ---- outlines
+
+with_defs : Outline → List RraDef → Outline
+with_defs outline defs = record outline { archives = defs }
+
+step_stays : (now : Content) (entry : Entry) → (undone now entry).step ≡ now.step
+unfolding with_both
+step_stays now (UpdateEntry old) = refl
+step_stays now (TuneEntry olds) = ap (λ (content : Content). content.step) (sources_undone now olds)
+step_stays now (ResizeEntry archive rows) = refl
+
+outline_stays : (now : Content) (entry : Entry) → outline_of (undone now entry) ≡ outline_undone (outline_of now) entry
+unfolding with_both with_defs
+outline_stays now (UpdateEntry old) = ap (with_defs (record (outline_of now) { last = old.last })) (put_back_settings now.archives old.archives)
+outline_stays now (TuneEntry olds) = ap outline_of (sources_undone now olds)
+outline_stays now (ResizeEntry archive rows) = ap (with_defs (outline_of now)) (resized_settings now.archives archive rows)
+
+pub follows : (now : Content) (journal : List Entry) → OutlineFollows now journal
+follows now [] = record { step_stays = refl; outline_is = refl }
+follows now (entry ∷ journal) =
+    let rest = follows (undone now entry) journal in
+    record {
+      step_stays = rest.step_stays ∙ step_stays now entry;
+      outline_is = rest.outline_is ∙ ap (λ outline. fold outline_undone outline journal) (outline_stays now entry);
+    }
+
+filed_heads : (archives : List Archive) → map (λ (head : Head). head.def) (map head_of archives) ≡ definitions archives
+filed_heads [] = refl
+filed_heads (archive ∷ archives) = ap (λ defs. archive.def ∷ defs) (filed_heads archives)
+
+outline_with : ℕ → List DsDef → List RraDef → Outline
+outline_with last sources archives = record { last = last; sources = sources; archives = archives }
+
+pub filed_outline : (version : Version) (d : Stored) → FiledOutline version d
+unfolding outline_with
+filed_outline version d a b =
+    (λ i. outline_with d.content.last ((gives_back d.content.sources d.content.raws d.content.parts a b).defs_are i) (filed_heads d.content.archives i))
+
+-- ---- journals
+
+pub leaves_valid : (limits : Limits) (now : Content) (journal : List Entry) → JournalLeavesValid limits now journal
+leaves_valid limits now [] is valid = is
+leaves_valid limits now (entry ∷ journal) is valid = leaves_valid limits (undone now entry) journal valid.1 valid.2
+
+pub joins : (limits : Limits) (now : Content) (newer older : List Entry) → JournalsJoin limits now newer older
+joins limits now [] older one two = two
+joins limits now (entry ∷ newer) older one two = (one.0, one.1, joins limits (undone now entry) newer older one.2 two)
+
+pub parts : (limits : Limits) (now : Content) (newer older : List Entry) → JournalParts limits now newer older
+parts limits now [] older valid = (tt, valid)
+parts limits now (entry ∷ newer) older valid =
+    let rest = parts limits (undone now entry) newer older valid.2 in
+    ((valid.0, valid.1, rest.0), rest.1)
+
+-- the entry is judged by what is left
+left : (limits : Limits) (now : Content) (journal : List Entry) (entry : Entry) → MayUndo limits (fold undone now journal).step (outline_of (fold undone now journal)) entry ≡ MayUndo limits now.step (fold outline_undone (outline_of now) journal) entry
+left limits now journal entry = let f = follows now journal in (λ i. MayUndo limits (f.step_stays i) (f.outline_is i) entry)
+
+pub takes : (limits : Limits) (now : Content) (journal : List Entry) (entry : Entry) → JournalTakes limits now journal entry
+takes limits now journal entry is valid may =
+    let end = fold undone now journal in
+    let one = suffices limits end entry (leaves_valid limits now journal is valid) (subst (λ (P : Type 0). P) (sym (left limits now journal entry)) may) in
+    joins limits now journal (entry ∷ []) valid (one.0, one.1, tt)
+
+pub took : (limits : Limits) (now : Content) (journal : List Entry) (entry : Entry) → JournalTook limits now journal entry
+took limits now journal entry is valid =
+    let p = parts limits now journal (entry ∷ []) valid in
+    let end = fold undone now journal in
+    (p.0, subst (λ (P : Type 0). P) (left limits now journal entry) (needed limits end entry (leaves_valid limits now journal is p.0) p.1.0 p.1.1))
+
+each_left : (limits : Limits) (now : Content) (entry : Entry) (journal : List Entry) → MayUndoEach limits (undone now entry).step (outline_of (undone now entry)) journal ≡ MayUndoEach limits now.step (outline_undone (outline_of now) entry) journal
+each_left limits now entry journal = (λ i. MayUndoEach limits (step_stays now entry i) (outline_stays now entry i) journal)
+
+pub all_suffice : (limits : Limits) (now : Content) (journal : List Entry) → OutlinesSuffice limits now journal
+all_suffice limits now [] is may = tt
+all_suffice limits now (entry ∷ journal) is may =
+    let one = suffices limits now entry is may.0 in
+    (one.0, one.1, all_suffice limits (undone now entry) journal one.1 (subst (λ (P : Type 0). P) (sym (each_left limits now entry journal)) may.1))
+
+pub all_needed : (limits : Limits) (now : Content) (journal : List Entry) → OutlinesAreNeeded limits now journal
+all_needed limits now [] is valid = tt
+all_needed limits now (entry ∷ journal) is valid =
+    (needed limits now entry is valid.0 valid.1, subst (λ (P : Type 0). P) (each_left limits now entry journal) (all_needed limits (undone now entry) journal valid.1 valid.2))
