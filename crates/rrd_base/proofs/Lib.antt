@@ -14,3 +14,9 @@ pub mod KeptLemmas
 pub mod CountLemmas
 pub mod TuneLemmas
 pub mod ResizeLemmas
+pub mod Dues
+pub mod Rebuilt
+pub mod Comes
+pub mod CellComes
+pub mod FittingLemmas
+pub mod EntryComes

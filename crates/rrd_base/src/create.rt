@@ -89,13 +89,15 @@ fn check_size(spec: &CreateSpec) -> Result<(), Refusal>
     Ok(())
 }
 
-fn is_bad_step(seconds: u64) -> bool
+/// Whether a step is not 1 to 1,000,000 seconds.
+pub(crate) fn is_bad_step(seconds: u64) -> bool
     ensures { result ≡ creating.is_bad_step version_one seconds }
 {
     seconds == 0 || seconds > LONGEST_STEP
 }
 
-fn is_bad_depth(depth: u64) -> bool
+/// Whether a journal's depth is not 1 to 1,000.
+pub(crate) fn is_bad_depth(depth: u64) -> bool
     ensures { result ≡ creating.is_bad_depth version_one depth }
 {
     depth == 0 || depth > DEEPEST_JOURNAL
@@ -175,14 +177,15 @@ fn any_bad_rows(archives: &[RraDef]) -> bool
     archives.iter().any(|archive| is_bad_rows(archive.rows))
 }
 
-// Whether a share, in millionths, is not from 0 to below 1.
-fn is_bad_xff(xff: i128) -> bool
+/// Whether a share, in millionths, is not from 0 to below 1.
+pub(crate) fn is_bad_xff(xff: i128) -> bool
     ensures { result ≡ creating.is_bad_xff version_one xff }
 {
     xff < 0 || xff > GREATEST_SHARE
 }
 
-fn is_bad_steps(steps: u64) -> bool
+/// Whether a number of steps in a row is not 1 to 1,000,000.
+pub(crate) fn is_bad_steps(steps: u64) -> bool
     ensures { result ≡ creating.is_bad_steps version_one steps }
 {
     steps == 0 || steps > MOST_STEPS

@@ -7,6 +7,7 @@ mod database;
 mod fetch;
 mod journal;
 mod named;
+mod rebuild;
 mod resize;
 mod rows;
 mod rra;
@@ -17,7 +18,8 @@ mod walk;
 pub use create::check_create;
 pub use database::Database;
 pub use journal::{BeforeUpdate, Entry, SavedArchive};
+pub use rebuild::{PieceFault, Rebuild};
 pub use rrd_spec::{
-    Change, Chosen, CreateSpec, DsDef, Given, List, Receipt, Refusal, RraDef, Sample, SourceBefore,
-    Tuning, Update,
+    Change, Chosen, CreateSpec, DsDef, Due, Given, List, Outline, Receipt, Refusal, RraDef, Sample,
+    SourceBefore, Tuning, Update,
 };

@@ -1,10 +1,10 @@
 //! Archives: for each source the preparation of its unfinished row, and the rows.
-ghost use Rattle.std.specs.Prelude.{◌≡◌, List, ◌+◌, ◌*◌, ◌^◌, ◌<◌, ◌≤◌, ◌∷◌, ◌++◌, length, map, min, replicate, slice_index_or, take as first, IfNone, IfOk, IfSome, pos, ◌≤ℤ◌};
+ghost use Rattle.std.specs.Prelude.{◌≡◌, List, ◌+◌, ◌*◌, ◌^◌, ◌<◌, ◌≤◌, ◌∷◌, ◌++◌, [], length, map, min, replicate, slice_index_or, slice_set, take as first, IfNone, IfOk, IfSome, OnErr, OnOk, pos, ◌≤ℤ◌};
 ghost use Rattle.std.specs.List.{AllByRecursion, fold};
 ghost use Rattle.rrd_fixed.specs.declared.cell.Cell.{Cell};
 ghost use Rattle.rrd_fixed.specs.declared.cell.Cell.TheVariants.{Unknown};
 ghost use Rattle.rrd_fold.specs.Parts.{Part, nothing, row_cell, with_each};
-ghost use Rattle.rrd_ring.specs.Rows.{HasWidth, newest_rows};
+ghost use Rattle.rrd_ring.specs.Rows.{HasWidth, newest_rows, row_at};
 ghost use Rattle.rrd_spec.specs.Entries.{put_back as after_put_back, saved};
 ghost use Rattle.rrd_spec.specs.Limits.{version_one};
 ghost use Rattle.rrd_spec.specs.Creating.{new_archive};
@@ -72,6 +72,51 @@ impl Rra {
         let preps = vec![in alloc; RowPrep::new(def.function); sources as usize]?;
         let rows = Archive::new(alloc, def.rows, sources)?;
         Ok(Rra { def, preps, rows })
+    }
+
+    /// An archive whose preparations haven't come, so many sources having been defined: all its rows
+    /// are unknown.
+    pub(crate) fn begin(alloc: Global, def: RraDef, sources: u64) -> Result<Rra, AllocError>
+        requires some_rows { 0 < def.rows }
+        requires few_rows { def.rows ≤ version_one.most_rows }
+        requires some_sources { 0 < sources }
+        requires few_sources { sources ≤ version_one.most_sources }
+        ensures { IfOk result (λ s. s
+            ≡ record { def = def; parts = []; rows = replicate def.rows (replicate sources Unknown) }) }
+    {
+        let rows = Archive::new(alloc, def.rows, sources)?;
+        Ok(Rra {
+            def,
+            preps: Vec::new(alloc),
+            rows,
+        })
+    }
+
+    /// How many preparations there are.
+    pub(crate) fn prepared(&self) -> usize
+        ensures { result ≡ length self.now.parts }
+    {
+        self.preps.len()
+    }
+
+    /// Takes the next source's preparation.
+    pub(crate) fn push_prep(&mut self, prep: RowPrep) -> Result<(), AllocError>
+        requires { prep.function ≡ self.old.def.function }
+        ensures ok { OnOk result (self.new ≡ record self.old { parts = self.old.parts ++ prep.part ∷ [] }) }
+        ensures err { OnErr result (self.new ≡ self.old) }
+    {
+        self.preps.push(prep)?;
+        Ok(())
+    }
+
+    /// Writes the cell of a source in a row, counted from the oldest.
+    pub(crate) fn put(&mut self, row: u64, source: usize, cell: Cell)
+        requires there { row < length self.old.rows }
+        requires within { source < length (row_at self.old.rows row) }
+        ensures { let cells = slice_set (row_at self.old.rows row) source cell in
+            self.new ≡ record self.old { rows = slice_set self.old.rows row cells } }
+    {
+        self.rows.row_mut(row)[source] = cell;
     }
 
     /// The settings.

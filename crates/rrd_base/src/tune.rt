@@ -5,7 +5,8 @@ ghost use Rattle.std.specs.Result.{result_err};
 ghost use Rattle.rrd_spec.specs.Commands as commands;
 ghost use Rattle.rrd_spec.specs.Entries as entries;
 ghost use Rattle.rrd_spec.specs.History.{raws_under};
-ghost use Rattle.rrd_base.specs.Tune.{with_raws, with_sources};
+ghost use Rattle.rrd_base.specs.Tune.{with_raws};
+ghost use Rattle.rrd_spec.specs.Outlines.{with_sources};
 ghost use Rattle.rrd_spec.specs.Limits.{version_one};
 ghost use Rattle.rrd_spec.specs.Verdict as verdict;
 

@@ -1,5 +1,5 @@
 //! Lists of any length.
-ghost use Rattle.std.specs.Prelude.{◌≡◌, ◌<◌, ◌++◌, ◌∷◌, [], length, is_ok, if◌then◌else◌, slice_index_or};
+ghost use Rattle.std.specs.Prelude.{◌≡◌, ◌<◌, ◌++◌, ◌∷◌, [], length, is_ok, if◌then◌else◌, slice_index_or, slice_set};
 
 use std::alloc::{AllocError, Global};
 use std::marker::Model;
@@ -66,5 +66,14 @@ impl<T: Drop> List<T> {
     {
         self.items.push(item)?;
         Ok(())
+    }
+
+    /// Puts an item at a place, counted from 0, below the number of items; the one there goes. It takes
+    /// no memory.
+    pub fn set(&mut self, at: usize, item: T)
+        requires { at < length self.old }
+        ensures { self.new ≡ slice_set self.old at item }
+    {
+        self.items[at] = item;
     }
 }

@@ -35,7 +35,7 @@ const PADDING: [u8; 18] = [0; 18];
 const NOTHING: [u8; 20] = [0; 20];
 
 // The file of a database.
-fn file_of(alloc: Global, database: &Database) -> Result<Vec<u8>, Fail> {
+pub(crate) fn file_of(alloc: Global, database: &Database) -> Result<Vec<u8>, Fail> {
     let mut bytes = Vec::new(alloc);
     if encode(database, &mut bytes).is_err() {
         return Err(Fail::from("no file"));
@@ -80,7 +80,7 @@ fn new_file(alloc: Global) -> Result<Vec<u8>, AllocError> {
 }
 
 // The same after a sample of 1 at 10.
-fn sampled_file(alloc: Global) -> Result<Vec<u8>, AllocError> {
+pub(crate) fn sampled_file(alloc: Global) -> Result<Vec<u8>, AllocError> {
     joined(
         alloc,
         &[

@@ -20,6 +20,8 @@ mod fold;
 #[cfg(test)]
 mod reading;
 #[cfg(test)]
+mod rebuild;
+#[cfg(test)]
 mod retries;
 #[cfg(test)]
 mod ring;

@@ -1,0 +1,436 @@
+-- A cell comes: it goes into its place, and the cursor goes on.
+use Rattle.std.proofs.Common.{◌≡◌, ◌∙◌, ◌+◌, ◌-◌, ◌*◌, ◌/◌, ◌%◌, ◌<◌, ◌≤◌, ℕ, zero, suc, List, [], ◌∷◌, ◌++◌, Some, None, Option, sym, ap, subst, arith, length, map, take, drop, inl, inr, refl, get_or, set, append_assoc, append-nil, length-set, add-one}
+use Rattle.std.specs.Prelude.{sum, ◌⊎◌}
+use Rattle.std.specs.List.{AllByRecursion, flat_map, fold}
+use Rattle.std.proofs.lemmas.Bool.{cases_lt}
+use Rattle.std.proofs.lemmas.List.Concat.{flat_map-cons}
+use Rattle.std.proofs.Math.Nat.{add-mul-mod_self_right, mod-add-div'}
+use Rattle.rrd_fixed.specs.declared.cell.Cell.{Cell}
+use Rattle.rrd_fixed.specs.Rate.{IsBounded}
+use Rattle.rrd_spec.specs.declared.due.Due.{Due}
+use Rattle.rrd_spec.specs.declared.due.Due.TheVariants.{SourceDue, HeadDue, CellDue, EntryDue, NothingDue}
+use Rattle.rrd_spec.specs.declared.outline.Outline.{Outline}
+use Rattle.rrd_spec.specs.declared.settings.RraDef.{RraDef}
+use Rattle.rrd_spec.specs.Commands.{rows_of_archives}
+use Rattle.rrd_spec.specs.Filed.{Filed, Head, Source, head_of, sources_of}
+use Rattle.rrd_spec.specs.History.{Archive}
+use Rattle.rrd_spec.specs.Limits.{version_one}
+use Rattle.rrd_spec.specs.Lists.{All-at, All-drop, drop_here}
+use Rattle.rrd_spec.specs.Outlines.{outline_undone}
+use Rattle.rrd_spec.specs.Placed.{PutsCell, SlotHasPlace}
+use Rattle.rrd_spec.specs.Rebuilding.{IsArchiveDef, IsRowPart, after_heads, due, prep_or, unprepared, with_cell}
+use Rattle.rrd_spec.specs.Settings.{resolution}
+use Rattle.rrd_spec.specs.Slots.{by_slot, cells_by_slot, place_in}
+use Rattle.rrd_spec.specs.Validity.{IsRow, IsValidJournal}
+use Rattle.rrd_base.specs.declared.journal.Entry.{Entry}
+use Rattle.rrd_base.specs.declared.rebuild.cursor.Cursor.{Cursor}
+use Rattle.rrd_base.specs.Cursor.{Advances, KnowsPlace, filled_by}
+use Rattle.rrd_base.specs.Journal.{journal_of}
+use Rattle.rrd_base.specs.Rebuild.{AreFewer, ArePrepared, Coming, HeadsCame, IsArchiveSoFar, IsCursor, IsRebuilding, KnowsPlaceIn, content_so_far, filed_in}
+use Rattle.rrd_base.proofs.Comes.{knows_nothing, rows_same}
+use Rattle.rrd_base.proofs.Dues.{AllAsMany, archive_wide, due_entry, due_head, due_nothing, due_source, due_then, none_there, one_each}
+use native.Mathlib.Nat as nat
+
+-- ---- when it is due
+
+pub record AtCell (d : Coming) : Type 0 where
+  pub heads : HeadsCame d
+  pub there : d.archive < length d.archives
+  pub none : d.journal ≡ []
+
+only_cell : (o : Option RraDef) (later : Due) → prep_or o later ≡ CellDue → (o ≡ None) × (later ≡ CellDue)
+only_cell None later e = (refl, e)
+only_cell (Some def) later e = absurd cc
+
+no_entry : (d : Coming) → IsRebuilding d → d.archive < length d.archives → d.journal ≡ []
+no_entry d is there = elim (cases_lt 0 (length d.journal)) [
+  | inl some ↦ absurd (omega (arith, (is.cells_first some).all, there))
+  | inr none ↦ none_there d.journal (omega (arith, none))
+]
+
+pub at_cell : AllAsMany → (d : Coming) → IsRebuilding d → due (filed_in d) ≡ CellDue → AtCell d
+at_cell as_many d is e = elim (cases_lt (length d.sources) d.sources_due) [
+  | inl lt ↦ absurd (let e2 : SourceDue ≡ CellDue = sym (due_source d is lt) ∙ e in cc)
+  | inr le ↦
+      let p = only_cell (unprepared d.sources_due (map head_of d.archives)) (after_heads (filed_in d)) (sym (due_then d is le) ∙ e) in
+      elim (cases_lt (length d.archives) d.archives_due) [
+        | inl lt ↦ absurd (let e2 : HeadDue ≡ CellDue = sym (due_head d is lt) ∙ p.1 in cc)
+        | inr many ↦ elim (cases_lt d.archive (length d.archives)) [
+          | inl there ↦ record { heads = record { all = omega (arith, many, is.few_archives); prepared = p.0 }; there = there; none = no_entry d is there }
+          | inr past ↦ absurd (elim (cases_lt (length d.journal) d.entries_due) [
+            | inl lt ↦ let e2 : EntryDue ≡ CellDue = sym (due_entry as_many d is many past lt) ∙ p.1 in cc
+            | inr le2 ↦ let e2 : NothingDue ≡ CellDue = sym (due_nothing as_many d is many past le2) ∙ p.1 in cc
+          ])
+        ]
+      ]
+]
+
+-- ---- lists
+
+pub All_set : {A : Type 0} (P : A → Type 0) (xs : List A) (i : ℕ) (y : A) → AllByRecursion P xs → P y → AllByRecursion P (set xs i y)
+All_set P [] i y all one = tt
+All_set P (x ∷ xs) zero y all one = (one, all.1)
+All_set P (x ∷ xs) (suc i) y all one = (all.0, All_set P xs i y all.1 one)
+
+drop_set : {A : Type 0} (xs : List A) (i : ℕ) (y : A) → drop (suc i) (set xs i y) ≡ drop (suc i) xs
+drop_set [] i y = refl
+drop_set (x ∷ xs) zero y = refl
+drop_set (x ∷ xs) (suc i) y = drop_set xs i y
+
+drop_set_here : {A : Type 0} (xs : List A) (i : ℕ) (y : A) → i < length xs → drop i (set xs i y) ≡ y ∷ drop (suc i) xs
+drop_set_here [] i y h = absurd (omega arith)
+drop_set_here (x ∷ xs) zero y h = refl
+drop_set_here (x ∷ xs) (suc i) y h = drop_set_here xs i y (omega arith)
+
+take_set_more : {A : Type 0} (xs ys : List A) (n : ℕ) (y : A) → n < length xs → take (suc n) (set xs n y ++ ys) ≡ take n (xs ++ ys) ++ y ∷ []
+take_set_more [] ys n y h = absurd (omega arith)
+take_set_more (x ∷ xs) ys zero y h = refl
+take_set_more (x ∷ xs) ys (suc n) y h = ap (λ zs. x ∷ zs) (take_set_more xs ys n y (omega arith))
+
+take_front : {A : Type 0} (xs ys : List A) → take (length xs) (xs ++ ys) ≡ xs
+take_front [] ys = refl
+take_front (x ∷ xs) ys = ap (λ zs. x ∷ zs) (take_front xs ys)
+
+-- ---- cells in the order of a file
+
+-- one more
+cells_more : (f : Archive → List Cell) (xs : List Archive) (i n : ℕ) (a b : Archive) (cell : Cell) → i < length xs → a ≡ get_or xs i a → n < length (f a) → f b ≡ set (f a) n cell
+    → flat_map f (take i (set xs i b)) ++ take (suc n) (flat_map f (drop i (set xs i b))) ≡ (flat_map f (take i xs) ++ take n (flat_map f (drop i xs))) ++ cell ∷ []
+cells_more f [] i n a b cell h e few is = absurd (omega arith)
+cells_more f (x ∷ xs) zero n a b cell h e few is =
+    let one : flat_map f (b ∷ xs) ≡ set (f a) n cell ++ flat_map f xs = flat_map-cons f b xs ∙ ap (λ (cs : List Cell). cs ++ flat_map f xs) is in
+    let two : flat_map f (x ∷ xs) ≡ f a ++ flat_map f xs = flat_map-cons f x xs ∙ ap (λ (y : Archive). f y ++ flat_map f xs) (sym e) in
+    ap (take (suc n)) one ∙ (take_set_more (f a) (flat_map f xs) n cell few ∙ ap (λ (cs : List Cell). take n cs ++ cell ∷ []) (sym two))
+cells_more f (x ∷ xs) (suc i) n a b cell h e few is =
+    let rest = cells_more f xs i n a b cell (omega arith) e few is in
+    let s = set xs i b in
+    let t = take (suc n) (flat_map f (drop i s)) in
+    let u = take n (flat_map f (drop i xs)) in
+    ap (λ (cs : List Cell). cs ++ t) (flat_map-cons f x (take i s))
+    ∙ (append_assoc (f x) (flat_map f (take i s)) t
+    ∙ (ap (λ (cs : List Cell). f x ++ cs) rest
+    ∙ (sym (append_assoc (f x) (flat_map f (take i xs) ++ u) (cell ∷ []))
+    ∙ (ap (λ (cs : List Cell). cs ++ cell ∷ []) (sym (append_assoc (f x) (flat_map f (take i xs)) u))
+    ∙ ap (λ (cs : List Cell). (cs ++ u) ++ cell ∷ []) (sym (flat_map-cons f x (take i xs)))))))
+
+-- those of a whole archive
+cells_over : (f : Archive → List Cell) (xs : List Archive) (i n : ℕ) (a : Archive) → i < length xs → a ≡ get_or xs i a → n ≡ length (f a)
+    → flat_map f (take (suc i) xs) ++ [] ≡ flat_map f (take i xs) ++ take n (flat_map f (drop i xs))
+cells_over f [] i n a h e is = absurd (omega arith)
+cells_over f (x ∷ xs) zero n a h e is =
+    let one : flat_map f (x ∷ []) ++ [] ≡ f x = append-nil (flat_map f (x ∷ [])) ∙ (flat_map-cons f x [] ∙ append-nil (f x)) in
+    let count : n ≡ length (f x) = is ∙ ap (λ (y : Archive). length (f y)) e in
+    let two : take n (flat_map f (x ∷ xs)) ≡ f x = ap (take n) (flat_map-cons f x xs) ∙ (ap (λ m. take m (f x ++ flat_map f xs)) count ∙ take_front (f x) (flat_map f xs)) in
+    one ∙ sym two
+cells_over f (x ∷ xs) (suc i) n a h e is =
+    let rest = cells_over f xs i n a (omega arith) e is in
+    let u = take n (flat_map f (drop i xs)) in
+    ap (λ (cs : List Cell). cs ++ []) (flat_map-cons f x (take (suc i) xs))
+    ∙ (append_assoc (f x) (flat_map f (take (suc i) xs)) []
+    ∙ (ap (λ (cs : List Cell). f x ++ cs) rest
+    ∙ (sym (append_assoc (f x) (flat_map f (take i xs)) u)
+    ∙ ap (λ (cs : List Cell). cs ++ u) (sym (flat_map-cons f x (take i xs))))))
+
+-- ---- the archives with one of them written to
+
+heads_set : (xs : List Archive) (i : ℕ) (a b : Archive) → i < length xs → a ≡ get_or xs i a → b.def ≡ a.def → b.parts ≡ a.parts → map head_of (set xs i b) ≡ map head_of xs
+heads_set [] i a b h e def parts = absurd (omega arith)
+heads_set (x ∷ xs) zero a b h e def parts =
+    let one : head_of b ≡ head_of a = λ j. let head : Head = record { def = def j; parts = parts j } in head in
+    ap (λ (head : Head). head ∷ map head_of xs) (one ∙ ap head_of e)
+heads_set (x ∷ xs) (suc i) a b h e def parts = ap (λ (heads : List Head). head_of x ∷ heads) (heads_set xs i a b (omega arith) e def parts)
+
+prepared_set : (sources : ℕ) (xs : List Archive) (i : ℕ) (a b : Archive) → i < length xs → a ≡ get_or xs i a → b.parts ≡ a.parts → ArePrepared sources xs → ArePrepared sources (set xs i b)
+prepared_set sources [] i a b h e parts is = absurd (omega arith)
+prepared_set sources (x ∷ []) zero a b h e parts is = tt
+prepared_set sources (x ∷ []) (suc i) a b h e parts is = absurd (omega arith)
+prepared_set sources (x ∷ y ∷ xs) zero a b h e parts is = (ap length parts ∙ (ap (λ (z : Archive). length z.parts) e ∙ is.0), is.1)
+prepared_set sources (x ∷ y ∷ xs) (suc zero) a b h e parts is = (is.0, prepared_set sources (y ∷ xs) zero a b (omega arith) e parts is.1)
+prepared_set sources (x ∷ y ∷ xs) (suc (suc i)) a b h e parts is = (is.0, prepared_set sources (y ∷ xs) (suc i) a b (omega arith) e parts is.1)
+
+fewer_none : (sources step last : ℕ) (xs : List Archive) → 0 < sources → AllByRecursion (IsArchiveSoFar sources step last) xs → AreFewer sources xs 0
+fewer_none sources step last [] some all = refl
+fewer_none sources step last (a ∷ xs) some all = nat.mul-pos some all.0.def_is.some_rows
+
+-- ---- a cell is written
+
+pub record IsPut (d : Coming) (a b : Archive) (cell : Cell) : Type 0 where
+  pub is : a ≡ get_or d.archives d.archive a
+  pub def_same : b.def ≡ a.def
+  pub parts_same : b.parts ≡ a.parts
+  pub as_many : length b.rows ≡ length a.rows
+  pub each_row : AllByRecursion (IsRow d.sources_due) b.rows
+  pub few : d.filled < length (cells_by_slot d.step d.last a)
+  pub cells : cells_by_slot d.step d.last b ≡ set (cells_by_slot d.step d.last a) d.filled cell
+
+abbrev pub cell_came : Coming → Archive → ℕ → ℕ → Coming
+cell_came d b archive filled = record d { archives = set d.archives d.archive b; archive = archive; filled = filled }
+
+pub archive_at : (d : Coming) (a : Archive) → IsRebuilding d → d.archive < length d.archives → a ≡ get_or d.archives d.archive a → IsArchiveSoFar d.sources_due d.step d.last a
+archive_at d a is there e = subst (IsArchiveSoFar d.sources_due d.step d.last) (sym e) (All-at (IsArchiveSoFar d.sources_due d.step d.last) d.archives d.archive a is.archives_are there)
+
+cell_keeps : (d : Coming) (a b : Archive) (cell : Cell) (archive filled : ℕ) → IsRebuilding d → AtCell d → IsPut d a b cell → archive ≤ length d.archives
+    → AreFewer d.sources_due (drop archive (set d.archives d.archive b)) filled → IsRebuilding (cell_came d b archive filled)
+cell_keeps d a b cell archive filled is at put there few =
+    let new = cell_came d b archive filled in
+    let same = heads_set d.archives d.archive a b at.there put.is put.def_same put.parts_same in
+    let old = archive_at d a is at.there put.is in
+    let so_far : IsArchiveSoFar d.sources_due d.step d.last b = record {
+      def_is = subst (λ (def : RraDef). IsArchiveDef version_one def) (sym put.def_same) old.def_is;
+      few_parts = omega (arith, ap length put.parts_same, old.few_parts);
+      each_part = subst (λ (def : RraDef). AllByRecursion (IsRowPart d.step d.last def) b.parts) (sym put.def_same) (subst (AllByRecursion (IsRowPart d.step d.last a.def)) (sym put.parts_same) old.each_part);
+      rows_are = put.as_many ∙ (old.rows_are ∙ ap (λ (def : RraDef). def.rows) (sym put.def_same));
+      each_row = put.each_row;
+    } in
+    let rows : sum (rows_of_archives (set d.archives d.archive b)) ≡ sum (rows_of_archives d.archives) =
+    ap sum (sym (rows_same (set d.archives d.archive b)) ∙ (ap (map (λ (head : Head). head.def.rows)) same ∙ rows_same d.archives)) in
+    let count : length (set d.archives d.archive b) ≡ length d.archives = length-set d.archives d.archive b in
+    record {
+      header_is = is.header_is;
+      few_sources = is.few_sources;
+      sources_are = is.sources_are;
+      names_differ = is.names_differ;
+      raws_are = is.raws_are;
+      one_part_each = is.one_part_each;
+      parts_are = is.parts_are;
+      few_archives = omega (arith, count, is.few_archives);
+      archives_are = All_set (IsArchiveSoFar d.sources_due d.step d.last) d.archives d.archive b is.archives_are so_far;
+      few_cells = subst (λ n. d.sources_due * n ≤ version_one.most_cells) (sym rows) is.few_cells;
+      places = is.places;
+      few_entries = is.few_entries;
+      outline_is = is.outline_is ∙ ap (λ (heads : List Head). fold outline_undone (let s : Outline = record { last = d.last; sources = map (λ (source : Source). source.def) (sources_of d.sources d.raws d.preps); archives = map (λ (head : Head). head.def) heads } in s) (journal_of d.journal)) (sym same);
+      journal_is = subst (λ (j : List Entry). IsValidJournal (content_so_far new) (journal_of j)) (sym at.none) tt;
+      sources_first = λ some. is.sources_first (omega (arith, some, count));
+      archives_prepared = prepared_set d.sources_due d.archives d.archive a b at.there put.is put.parts_same is.archives_prepared;
+      heads_first = λ some. record { all = count ∙ at.heads.all; prepared = ap (unprepared d.sources_due) same ∙ at.heads.prepared };
+      archive_there = omega (arith, there, count);
+      filled_few = few;
+      cells_first = λ some. absurd (omega (arith, some, ap length at.none));
+    }
+
+cell_within : (d : Coming) (a b : Archive) (cell : Cell) → AtCell d → IsPut d a b cell → filed_in (cell_came d b d.archive (suc d.filled)) ≡ with_cell (filed_in d) cell
+cell_within d a b cell at put =
+    let heads = heads_set d.archives d.archive a b at.there put.is put.def_same put.parts_same in
+    let cells = cells_more (cells_by_slot d.step d.last) d.archives d.archive d.filled a b cell at.there put.is put.few put.cells in
+    λ i. let f : Filed = record (filed_in d) { heads = heads i; cells = cells i } in f
+
+get_set : (xs : List Archive) (i : ℕ) (b : Archive) → i < length xs → b ≡ get_or (set xs i b) i b
+get_set [] i b h = absurd (omega arith)
+get_set (x ∷ xs) zero b h = refl
+get_set (x ∷ xs) (suc i) b h = get_set xs i b (omega arith)
+
+cell_over : (d : Coming) (a b : Archive) (cell : Cell) → AtCell d → IsPut d a b cell → suc d.filled ≡ length (cells_by_slot d.step d.last a) → filed_in (cell_came d b (suc d.archive) 0) ≡ with_cell (filed_in d) cell
+cell_over d a b cell at put all =
+    let f = cells_by_slot d.step d.last in
+    let heads = heads_set d.archives d.archive a b at.there put.is put.def_same put.parts_same in
+    let count : suc d.filled ≡ length (f b) = all ∙ sym (ap length put.cells ∙ length-set (f a) d.filled cell) in
+    let cells = cells_over f (set d.archives d.archive b) d.archive (suc d.filled) b (omega (arith, at.there, length-set d.archives d.archive b)) (get_set d.archives d.archive b at.there) count
+    ∙ cells_more f d.archives d.archive d.filled a b cell at.there put.is put.few put.cells in
+    λ i. let g : Filed = record (filed_in d) { heads = heads i; cells = cells i } in g
+
+-- ---- the cursor
+
+-- it stays in its archive
+pub record StaysIn (sources size last rows : ℕ) (old new : Cursor) : Type 0 where
+  pub archive_is : new.archive ≡ old.archive
+  pub filled_is : filled_by sources new ≡ suc (filled_by sources old)
+  pub few : filled_by sources new < sources * rows
+  pub source_there : new.source < sources
+  pub knows : KnowsPlace size last rows new
+
+-- or goes on to the next one
+pub record GoesOn (sources rows : ℕ) (old new : Cursor) : Type 0 where
+  pub archive_is : new.archive ≡ suc old.archive
+  pub filled_is : filled_by sources new ≡ 0
+  pub all : suc (filled_by sources old) ≡ sources * rows
+  pub source_there : new.source < sources
+
+mod_more : (n rows : ℕ) → (n % rows + 1) % rows ≡ (n + 1) % rows
+mod_more n rows =
+    let is : n + 1 ≡ (n % rows + 1) + n / rows * rows = omega (arith, mod-add-div' n rows) in
+    sym (ap (λ x. x % rows) is ∙ add-mul-mod_self_right (n % rows + 1) (n / rows) rows)
+
+place_next : (size last rows slot : ℕ) → 0 < rows → (place_in size last rows slot + 1) % rows ≡ place_in size last rows (slot + 1)
+place_next size last rows slot some =
+    let left = (last / size + 1) % rows in
+    mod_more (slot + rows - left) rows ∙ ap (λ n. n % rows) (let small : left < rows = omega arith in omega arith)
+
+slots_apart : (slot rows sources : ℕ) → slot < rows → slot * sources + sources ≤ sources * rows
+slots_apart slot rows sources h =
+    let left = rows - slot - 1 in
+    let is : rows ≡ (slot + 1) + left = omega arith in
+    let one : sources * rows ≡ sources * (slot + 1) + sources * left = ap (λ n. sources * n) is ∙ nat.mul-add sources (slot + 1) left in
+    let two : sources * (slot + 1) ≡ sources * slot + sources = ap (λ n. sources * n) (add-one slot) ∙ nat.mul-suc sources slot in
+    let three : slot * sources ≡ sources * slot = nat.mul_comm slot sources in
+    omega (arith, one, two, three)
+
+next_source : (sources size last rows place : ℕ) (old new : Cursor) → Advances sources rows place old new → place ≡ place_in size last rows old.slot → old.slot < rows → old.source + 1 < sources
+    → StaysIn sources size last rows old new
+next_source sources size last rows place old new goes is slot more =
+    let to : Cursor = record old { place = place; source = old.source + 1 } in
+    let here : StaysIn sources size last rows old to = record {
+      archive_is = refl;
+      filled_is = omega arith;
+      few = omega (arith, slots_apart old.slot rows sources slot, more);
+      source_there = more;
+      knows = λ _. is;
+    } in
+    subst (StaysIn sources size last rows old) (sym (goes.next_source more)) here
+
+next_slot : (sources size last rows place : ℕ) (old new : Cursor) → Advances sources rows place old new → place ≡ place_in size last rows old.slot → old.source + 1 ≡ sources → old.slot + 1 < rows
+    → StaysIn sources size last rows old new
+next_slot sources size last rows place old new goes is source more =
+    let to : Cursor = record old { slot = old.slot + 1; place = (place + 1) % rows; source = 0 } in
+    let product : (old.slot + 1) * sources ≡ old.slot * sources + sources = ap (λ n. n * sources) (add-one old.slot) ∙ nat.suc-mul old.slot sources in
+    let here : StaysIn sources size last rows old to = record {
+      archive_is = refl;
+      filled_is = omega (arith, product, source);
+      few = omega (arith, slots_apart (old.slot + 1) rows sources more, source);
+      source_there = omega (arith, source);
+      knows = λ _. ap (λ p. (p + 1) % rows) is ∙ place_next size last rows old.slot (omega (arith, more));
+    } in
+    subst (StaysIn sources size last rows old) (sym (goes.next_slot source more)) here
+
+next_archive : (sources rows place : ℕ) (old new : Cursor) → Advances sources rows place old new → old.source + 1 ≡ sources → old.slot + 1 ≡ rows → GoesOn sources rows old new
+next_archive sources rows place old new goes source slot =
+    let to : Cursor = record { archive = old.archive + 1; slot = 0; place = (place + 1) % rows; source = 0 } in
+    let product : (old.slot + 1) * sources ≡ old.slot * sources + sources = ap (λ n. n * sources) (add-one old.slot) ∙ nat.suc-mul old.slot sources in
+    let turned : rows * sources ≡ sources * rows = nat.mul_comm rows sources in
+    let here : GoesOn sources rows old to = record {
+      archive_is = omega arith;
+      filled_is = omega arith;
+      all = omega (arith, product, source, turned, ap (λ n. n * sources) slot);
+      source_there = omega (arith, source);
+    } in
+    subst (GoesOn sources rows old) (sym (goes.next_archive source slot)) here
+
+goes_on : (sources size last rows place : ℕ) (old new : Cursor) → Advances sources rows place old new → place ≡ place_in size last rows old.slot → old.source < sources → old.slot < rows
+    → StaysIn sources size last rows old new ⊎ GoesOn sources rows old new
+goes_on sources size last rows place old new goes is source slot = elim (cases_lt (old.source + 1) sources) [
+  | inl more ↦ inl (next_source sources size last rows place old new goes is slot more)
+  | inr last_source ↦ elim (cases_lt (old.slot + 1) rows) [
+    | inl more ↦ inl (next_slot sources size last rows place old new goes is (omega (arith, source, last_source)) more)
+    | inr last_slot ↦ inr (next_archive sources rows place old new goes (omega (arith, source, last_source)) (omega (arith, slot, last_slot)))
+  ]
+]
+
+-- ---- both
+
+pub record CellCame (d : Coming) (b : Archive) (cell : Cell) (new : Cursor) : Type 0 where
+  pub came : IsRebuilding (cell_came d b new.archive (filled_by d.sources_due new))
+  pub cursor_is : IsCursor (cell_came d b new.archive (filled_by d.sources_due new)) new
+  pub filed_is : filed_in (cell_came d b new.archive (filled_by d.sources_due new)) ≡ with_cell (filed_in d) cell
+
+pub cell_comes : AllAsMany → (d : Coming) (a b : Archive) (cell : Cell) (place : ℕ) (old new : Cursor) → IsRebuilding d → AtCell d → IsPut d a b cell → d.archive ≡ old.archive → d.filled ≡ filled_by d.sources_due old
+    → place ≡ place_in (resolution d.step a.def) d.last a.def.rows old.slot → old.source < d.sources_due → old.slot < a.def.rows → Advances d.sources_due a.def.rows place old new → CellCame d b cell new
+cell_comes as_many d a b cell place old new is at put archive filled place_is source slot goes =
+    let wide : length (cells_by_slot d.step d.last a) ≡ d.sources_due * a.def.rows = archive_wide as_many d.sources_due d.step d.last a is.header_is.some_step (archive_at d a is at.there put.is) in
+    elim (goes_on d.sources_due (resolution d.step a.def) d.last a.def.rows place old new goes place_is source slot) [
+      | inl stays ↦
+          let same : new.archive ≡ d.archive = stays.archive_is ∙ sym archive in
+          let one : filled_by d.sources_due new ≡ suc d.filled = stays.filled_is ∙ ap suc (sym filled) in
+          let first : drop new.archive (set d.archives d.archive b) ≡ b ∷ drop (suc d.archive) d.archives = ap (λ n. drop n (set d.archives d.archive b)) same ∙ drop_set_here d.archives d.archive b at.there in
+          let few : filled_by d.sources_due new < d.sources_due * b.def.rows = subst (λ (def : RraDef). filled_by d.sources_due new < d.sources_due * def.rows) (sym put.def_same) stays.few in
+          record {
+            came = cell_keeps d a b cell new.archive (filled_by d.sources_due new) is at put (omega (arith, same, at.there)) (subst (λ (ys : List Archive). AreFewer d.sources_due ys (filled_by d.sources_due new)) (sym first) few);
+            cursor_is = record {
+              source_there = stays.source_there;
+              knows_place = subst (λ (xs : List Archive). KnowsPlaceIn d.step d.last xs new) (sym first) (subst (λ (def : RraDef). KnowsPlace (resolution d.step def) d.last def.rows new) (sym put.def_same) stays.knows);
+            };
+            filed_is = (λ i. filed_in (cell_came d b (same i) (one i))) ∙ cell_within d a b cell at put;
+          }
+      | inr on ↦
+          let next : new.archive ≡ suc d.archive = on.archive_is ∙ ap suc (sym archive) in
+          let none : filled_by d.sources_due new ≡ 0 = on.filled_is in
+          let all : suc d.filled ≡ length (cells_by_slot d.step d.last a) = ap suc filled ∙ (on.all ∙ sym wide) in
+          let later : drop new.archive (set d.archives d.archive b) ≡ drop (suc d.archive) d.archives = ap (λ n. drop n (set d.archives d.archive b)) next ∙ drop_set d.archives d.archive b in
+          record {
+            came = cell_keeps d a b cell new.archive (filled_by d.sources_due new) is at put (omega (arith, next, at.there))
+                (subst (λ n. AreFewer d.sources_due (drop new.archive (set d.archives d.archive b)) n) (sym none)
+                (subst (λ (ys : List Archive). AreFewer d.sources_due ys 0) (sym later) (fewer_none d.sources_due d.step d.last (drop (suc d.archive) d.archives) is.header_is.some_source (All-drop (IsArchiveSoFar d.sources_due d.step d.last) (suc d.archive) d.archives is.archives_are))));
+            cursor_is = record {
+              source_there = on.source_there;
+              knows_place = knows_nothing d.step d.last (drop new.archive (set d.archives d.archive b)) d.sources_due new on.source_there none;
+            };
+            filed_is = (λ i. filed_in (cell_came d b (next i) (none i))) ∙ cell_over d a b cell at put all;
+          }
+    ]
+
+-- ---- where the cell goes
+
+-- the cursor is within the archive
+pub slot_there : (d : Coming) (a : Archive) (cursor : Cursor) → IsRebuilding d → d.archive < length d.archives → a ≡ get_or d.archives d.archive a → d.filled ≡ filled_by d.sources_due cursor → cursor.slot < a.def.rows
+slot_there d a cursor is there e filled =
+    let first = drop_here d.archives d.archive a there e in
+    let few : d.filled < d.sources_due * a.def.rows = subst (λ (ys : List Archive). AreFewer d.sources_due ys d.filled) first is.filled_few in
+    elim (cases_lt cursor.slot a.def.rows) [
+      | inl lt ↦ lt
+      | inr le ↦
+          let left = cursor.slot - a.def.rows in
+          let is : cursor.slot ≡ a.def.rows + left = omega (arith, le) in
+          let one : cursor.slot * d.sources_due ≡ a.def.rows * d.sources_due + left * d.sources_due = ap (λ n. n * d.sources_due) is ∙ nat.add-mul a.def.rows left d.sources_due in
+          let two : a.def.rows * d.sources_due ≡ d.sources_due * a.def.rows = nat.mul_comm a.def.rows d.sources_due in
+          absurd (omega (arith, few, filled, one, two))
+    ]
+
+pub knows_here : (d : Coming) (a : Archive) (cursor : Cursor) → d.archive < length d.archives → a ≡ get_or d.archives d.archive a → IsCursor d cursor → KnowsPlace (resolution d.step a.def) d.last a.def.rows cursor
+knows_here d a cursor there e is = subst (λ (xs : List Archive). KnowsPlaceIn d.step d.last xs cursor) (drop_here d.archives d.archive a there e) is.knows_place
+
+-- by the law of the cells in slots
+abbrev pub AllPut : Type 0
+AllPut = (resolution last sources : ℕ) (rows : List (List Cell)) (slot source : ℕ) (cell : Cell) → PutsCell resolution last sources rows slot source cell
+
+abbrev pub with_cell_at : Archive → ℕ → ℕ → Cell → Archive
+with_cell_at a place source cell = record a { rows = set a.rows place (set (get_or a.rows place []) source cell) }
+
+pub is_put : AllAsMany → AllPut → (d : Coming) (a : Archive) (cell : Cell) (place : ℕ) (cursor : Cursor) → IsRebuilding d → d.archive < length d.archives → a ≡ get_or d.archives d.archive a
+    → d.filled ≡ filled_by d.sources_due cursor → place ≡ place_in (resolution d.step a.def) d.last a.def.rows cursor.slot → cursor.source < d.sources_due → place < length a.rows → IsBounded cell
+    → IsPut d a (with_cell_at a place cursor.source cell) cell
+is_put as_many puts d a cell place cursor is there e filled place_is source inside bounded =
+    let so_far = archive_at d a is there e in
+    let size : 0 < resolution d.step a.def = nat.mul-pos is.header_is.some_step so_far.def_is.some_steps in
+    let row : IsRow d.sources_due (get_or a.rows place []) = All-at (IsRow d.sources_due) a.rows place [] so_far.each_row inside in
+    let slot : cursor.slot < length a.rows = omega (arith, slot_there d a cursor is there e filled, so_far.rows_are) in
+    let put = puts (resolution d.step a.def) d.last d.sources_due a.rows cursor.slot cursor.source cell size (one_each d.sources_due a.rows so_far.each_row) slot source in
+    let here : place_in (resolution d.step a.def) d.last (length a.rows) cursor.slot ≡ place = ap (λ n. place_in (resolution d.step a.def) d.last n cursor.slot) so_far.rows_are ∙ sym place_is in
+    let written : IsRow d.sources_due (set (get_or a.rows place []) cursor.source cell) = record { one_each = length-set (get_or a.rows place []) cursor.source cell ∙ row.one_each; each = All_set IsBounded (get_or a.rows place []) cursor.source cell row.each bounded } in
+    let wide : length (cells_by_slot d.step d.last a) ≡ d.sources_due * a.def.rows = archive_wide as_many d.sources_due d.step d.last a is.header_is.some_step so_far in
+    let first = drop_here d.archives d.archive a there e in
+    let few : d.filled < d.sources_due * a.def.rows = subst (λ (ys : List Archive). AreFewer d.sources_due ys d.filled) first is.filled_few in
+    record {
+      is = e;
+      def_same = refl;
+      parts_same = refl;
+      as_many = length-set a.rows place (set (get_or a.rows place []) cursor.source cell);
+      each_row = All_set (IsRow d.sources_due) a.rows place (set (get_or a.rows place []) cursor.source cell) so_far.each_row written;
+      few = omega (arith, few, wide);
+      cells = subst (λ p. by_slot (resolution d.step a.def) d.last (set a.rows p (set (get_or a.rows p []) cursor.source cell)) ≡ set (cells_by_slot d.step d.last a) (cursor.slot * d.sources_due + cursor.source) cell) here put
+          ∙ ap (λ n. set (cells_by_slot d.step d.last a) n cell) (sym filled);
+    }
+
+-- ---- what code needs to know
+
+pub record CellHere (d : Coming) (a : Archive) (cursor : Cursor) : Type 0 where
+  pub at : AtCell d
+  pub so_far : IsArchiveSoFar d.sources_due d.step d.last a
+  pub slot : cursor.slot < a.def.rows
+  pub knows : KnowsPlace (resolution d.step a.def) d.last a.def.rows cursor
+
+pub cell_here : AllAsMany → (d : Coming) (a : Archive) (cursor : Cursor) → IsRebuilding d → IsCursor d cursor → due (filed_in d) ≡ CellDue → a ≡ get_or d.archives d.archive a → d.filled ≡ filled_by d.sources_due cursor → CellHere d a cursor
+cell_here as_many d a cursor is at e here filled =
+    let cell = at_cell as_many d is e in
+    record { at = cell; so_far = archive_at d a is cell.there here; slot = slot_there d a cursor is cell.there here filled; knows = knows_here d a cursor cell.there here at }
+
+-- by the law of the rows in slots
+abbrev pub EachHasPlace : Type 0
+EachHasPlace = (resolution last rows slot : ℕ) → SlotHasPlace resolution last rows slot
+
+pub place_there : EachHasPlace → (d : Coming) (a : Archive) (cursor : Cursor) (place : ℕ) → IsRebuilding d → CellHere d a cursor → place ≡ place_in (resolution d.step a.def) d.last a.def.rows cursor.slot → place < a.def.rows
+place_there places d a cursor place is here e =
+    let there = places (resolution d.step a.def) d.last a.def.rows cursor.slot (nat.mul-pos is.header_is.some_step here.so_far.def_is.some_steps) here.slot in
+    subst (λ n. n < a.def.rows) (sym e) there.there
+
+pub row_there : (d : Coming) (a : Archive) (cursor : Cursor) (place : ℕ) → CellHere d a cursor → place < a.def.rows → length (get_or a.rows place []) ≡ d.sources_due
+row_there d a cursor place here inside =
+    let row : IsRow d.sources_due (get_or a.rows place []) = All-at (IsRow d.sources_due) a.rows place [] here.so_far.each_row (omega (arith, inside, here.so_far.rows_are)) in
+    row.one_each

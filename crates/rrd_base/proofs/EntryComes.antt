@@ -1,0 +1,153 @@
+-- An entry comes: the outline that is left judges it, and it is undone there.
+use Rattle.std.proofs.Common.{◌≡◌, ◌∙◌, ◌<◌, ◌≤◌, ℕ, List, [], ◌∷◌, ◌++◌, Some, None, Option, sym, ap, subst, arith, length, map, inl, inr, refl}
+use Rattle.std.specs.Prelude.{sum, ◌/◌}
+use Rattle.std.specs.List.{AllByRecursion, fold}
+use Rattle.std.proofs.lemmas.Bool.{cases_lt}
+use Rattle.std.proofs.lemmas.List.{reverse-append}
+use Rattle.std.proofs.lemmas.List.Sums.{fold-append}
+use Rattle.rrd_spec.specs.declared.due.Due.{Due}
+use Rattle.rrd_spec.specs.declared.due.Due.TheVariants.{SourceDue, HeadDue, CellDue, EntryDue, NothingDue}
+use Rattle.rrd_spec.specs.declared.outline.Outline.{Outline}
+use Rattle.rrd_spec.specs.declared.settings.RraDef.{RraDef}
+use Rattle.rrd_spec.specs.Commands.{rows_of_archives}
+use Rattle.rrd_spec.specs.Entries as entries
+use Rattle.rrd_spec.specs.Entries.{undone}
+use Rattle.rrd_spec.specs.Filed.{Filed, One, head_of}
+use Rattle.rrd_spec.specs.History.{Archive, Content, definitions}
+use Rattle.rrd_spec.specs.Journals.{FiledOutline, JournalLeavesValid, JournalTakes, OutlineFollows}
+use Rattle.rrd_spec.specs.Limits.{version_one}
+use Rattle.rrd_spec.specs.Outlines.{MayUndo, outline_of, outline_undone, rows_of}
+use Rattle.rrd_spec.specs.Rebuilding.{after_heads, due, outline_filed, prep_or, unprepared, with_entry}
+use Rattle.rrd_spec.specs.Survivors.{Stored}
+use Rattle.rrd_spec.specs.Validity.{IsValid, IsValidArchive, IsValidJournal}
+use Rattle.rrd_base.specs.declared.journal.Entry.{Entry}
+use Rattle.rrd_base.specs.Fitting.{HasSteps, IsOutline}
+use Rattle.rrd_base.specs.Journal.{entry_of, journal_of}
+use Rattle.rrd_base.specs.Rebuild.{Coming, HeadsCame, IsRebuilding, content_so_far, filed_in}
+use Rattle.rrd_base.proofs.Comes.{few_less}
+use Rattle.rrd_base.proofs.Dues.{AllAsMany, due_cell, due_head, due_nothing, due_source, due_then, lengths_same}
+use Rattle.rrd_base.proofs.Rebuilt.{content_is_valid}
+
+-- ---- when it is due
+
+pub record AtEntry (d : Coming) : Type 0 where
+  pub sources : length d.sources ≡ d.sources_due
+  pub heads : HeadsCame d
+  pub past : d.archive ≡ length d.archives
+  pub more : length d.journal < d.entries_due
+
+only_entry : (o : Option RraDef) (later : Due) → prep_or o later ≡ EntryDue → (o ≡ None) × (later ≡ EntryDue)
+only_entry None later e = (refl, e)
+only_entry (Some def) later e = absurd cc
+
+pub at_entry : AllAsMany → (d : Coming) → IsRebuilding d → due (filed_in d) ≡ EntryDue → AtEntry d
+at_entry as_many d is e = elim (cases_lt (length d.sources) d.sources_due) [
+  | inl lt ↦ absurd (let e2 : SourceDue ≡ EntryDue = sym (due_source d is lt) ∙ e in cc)
+  | inr le ↦
+      let p = only_entry (unprepared d.sources_due (map head_of d.archives)) (after_heads (filed_in d)) (sym (due_then d is le) ∙ e) in
+      elim (cases_lt (length d.archives) d.archives_due) [
+        | inl lt ↦ absurd (let e2 : HeadDue ≡ EntryDue = sym (due_head d is lt) ∙ p.1 in cc)
+        | inr many ↦ elim (cases_lt d.archive (length d.archives)) [
+          | inl there ↦ absurd (let e2 : CellDue ≡ EntryDue = sym (due_cell as_many d is many there) ∙ p.1 in cc)
+          | inr past ↦ elim (cases_lt (length d.journal) d.entries_due) [
+            | inl lt ↦ record {
+              sources = omega (arith, le, is.few_sources);
+              heads = record { all = omega (arith, many, is.few_archives); prepared = p.0 };
+              past = omega (arith, past, is.archive_there);
+              more = lt;
+            }
+            | inr le2 ↦ absurd (let e2 : NothingDue ≡ EntryDue = sym (due_nothing as_many d is many past le2) ∙ p.1 in cc)
+          ]
+        ]
+      ]
+]
+
+-- ---- the outline that is left
+
+-- laws of outlines
+abbrev pub AllFollow : Type 0
+AllFollow = (now : Content) (journal : List entries.Entry) → OutlineFollows now journal
+
+abbrev pub AllFiled : Type 0
+AllFiled = (d : Stored) → FiledOutline One d
+
+abbrev pub AllLeave : Type 0
+AllLeave = (now : Content) (journal : List entries.Entry) → JournalLeavesValid version_one now journal
+
+abbrev pub AllTake : Type 0
+AllTake = (now : Content) (journal : List entries.Entry) (entry : entries.Entry) → JournalTakes version_one now journal entry
+
+pub at_entry_valid : (d : Coming) → IsRebuilding d → AtEntry d → IsValid (content_so_far d)
+at_entry_valid d is at = content_is_valid d is at.sources at.heads.all at.heads.prepared
+
+-- that of the content before all changes, said by its outline now
+outline_by : AllFiled → (d : Coming) → IsRebuilding d → d.outline ≡ fold outline_undone (outline_of (content_so_far d)) (journal_of d.journal)
+outline_by filed d is =
+    let lists : outline_filed (filed_in d) ≡ outline_of (content_so_far d) = filed (record { content = content_so_far d; journal = journal_of d.journal }) (lengths_same d.sources d.raws is.raws_are) is.one_part_each in
+    is.outline_is ∙ ap (λ (o : Outline). fold outline_undone o (journal_of d.journal)) lists
+
+steps_of : (sources steps : ℕ) (archives : List Archive) → AllByRecursion (IsValidArchive sources steps) archives → AllByRecursion HasSteps (definitions archives)
+steps_of sources steps [] all = tt
+steps_of sources steps (a ∷ archives) all = (record { some_steps = all.0.some_steps; few_steps = all.0.few_steps }, steps_of sources steps archives all.1)
+
+rows_by_def : (archives : List Archive) → rows_of (definitions archives) ≡ rows_of_archives archives
+rows_by_def [] = refl
+rows_by_def (a ∷ archives) = ap (λ (rows : List ℕ). a.def.rows ∷ rows) (rows_by_def archives)
+
+outline_valid : (now : Content) → IsValid now → IsOutline (outline_of now)
+outline_valid now is = record {
+  few_sources = is.few_sources;
+  have_steps = steps_of (length now.sources) (now.last / now.step) now.archives is.archives_are;
+  few_rows = subst (λ (rows : List ℕ). sum rows ≤ version_one.most_cells) (sym (rows_by_def now.archives)) (few_less (length now.sources) (sum (rows_of_archives now.archives)) version_one.most_cells is.some_source is.few_cells);
+}
+
+pub outline_fits : AllFollow → AllFiled → AllLeave → (d : Coming) → IsRebuilding d → AtEntry d → IsOutline d.outline
+outline_fits follow filed leave d is at =
+    let now = content_so_far d in
+    let journal = journal_of d.journal in
+    let left = leave now journal (at_entry_valid d is at) is.journal_is in
+    subst IsOutline (sym (outline_by filed d is ∙ sym (follow now journal).outline_is)) (outline_valid (fold undone now journal) left)
+
+-- ---- the entry
+
+abbrev pub entry_came : Coming → Entry → Outline → Coming
+entry_came d e outline = record d { journal = e ∷ d.journal; outline = outline }
+
+journal_more : (e : Entry) (journal : List Entry) → journal_of (e ∷ journal) ≡ journal_of journal ++ entry_of e ∷ []
+journal_more e journal = reverse-append (entry_of e ∷ []) (map entry_of journal)
+
+pub entry_keeps : AllTake → AllFiled → (d : Coming) (e : Entry) → IsRebuilding d → AtEntry d → MayUndo version_one d.step d.outline (entry_of e) → IsRebuilding (entry_came d e (outline_undone d.outline (entry_of e)))
+entry_keeps take filed d e is at fits =
+    let now = content_so_far d in
+    let journal = journal_of d.journal in
+    let new = entry_came d e (outline_undone d.outline (entry_of e)) in
+    let more = journal_more e d.journal in
+    let valid : IsValidJournal now (journal ++ entry_of e ∷ []) = take now journal (entry_of e) (at_entry_valid d is at) is.journal_is (subst (λ (o : Outline). MayUndo version_one d.step o (entry_of e)) (outline_by filed d is) fits) in
+    record {
+      header_is = is.header_is;
+      few_sources = is.few_sources;
+      sources_are = is.sources_are;
+      names_differ = is.names_differ;
+      raws_are = is.raws_are;
+      one_part_each = is.one_part_each;
+      parts_are = is.parts_are;
+      few_archives = is.few_archives;
+      archives_are = is.archives_are;
+      few_cells = is.few_cells;
+      places = is.places;
+      few_entries = omega (arith, at.more);
+      outline_is =
+          ap (λ (o : Outline). outline_undone o (entry_of e)) is.outline_is
+          ∙ (sym (fold-append outline_undone (outline_filed (filed_in d)) journal (entry_of e ∷ []))
+          ∙ ap (λ (j : List entries.Entry). fold outline_undone (outline_filed (filed_in d)) j) (sym more));
+      journal_is = subst (IsValidJournal now) (sym more) valid;
+      sources_first = is.sources_first;
+      archives_prepared = is.archives_prepared;
+      heads_first = λ some. record { all = at.heads.all; prepared = at.heads.prepared };
+      archive_there = is.archive_there;
+      filled_few = is.filled_few;
+      cells_first = λ some. record { some = omega (arith, at.past, at.heads.all, is.header_is.some_archive); all = at.past };
+    }
+
+pub entry_is : (d : Coming) (e : Entry) (outline : Outline) → filed_in (entry_came d e outline) ≡ with_entry (filed_in d) (entry_of e)
+entry_is d e outline = ap (λ (j : List entries.Entry). let f : Filed = record (filed_in d) { entries = j } in f) (journal_more e d.journal)

@@ -1,0 +1,189 @@
+-- What tests of an entry find out, item by item.
+use Rattle.std.proofs.Common.{◌≡◌, ◌∙◌, ◌+◌, ◌<◌, ◌≤◌, ℕ, zero, suc, List, [], ◌∷◌, sym, ap, subst, arith, length, map, take, drop, refl, get_or, set, take_all, add-one, length-set, append-nil, ◌-◌, ◌^◌, min}
+use Rattle.std.specs.Prelude.{sum, slice_index_or, slice_set}
+use Rattle.std.specs.List.{AllByRecursion, refill}
+use Rattle.std.proofs.lemmas.List.{drop_all, map-set}
+use Rattle.rrd_fixed.specs.declared.name.Name.{Name}
+use Rattle.rrd_fixed.specs.declared.raw.Raw.{Raw}
+use Rattle.rrd_fixed.specs.Rate.{IsAccepted}
+use Rattle.rrd_fold.specs.Bounds.{Consolidating}
+use Rattle.rrd_fold.specs.Parts.{Part}
+use Rattle.rrd_spec.specs.Each.{parts_in}
+use Rattle.rrd_spec.specs.declared.entry.SourceBefore.{SourceBefore}
+use Rattle.rrd_spec.specs.declared.settings.DsDef.{DsDef}
+use Rattle.rrd_spec.specs.declared.settings.RraDef.{RraDef}
+use Rattle.rrd_spec.specs.Entries.{SavedArchive}
+use Rattle.rrd_spec.specs.Limits.{version_one}
+use Rattle.rrd_spec.specs.Lists.{All-at, drop_here}
+use Rattle.rrd_spec.specs.Outlines.{MaySave, MaySaveEach, rows_of, with_row_number, with_sources}
+use Rattle.rrd_spec.specs.Settings.{names}
+use Rattle.rrd_spec.specs.Validity.{AreAccepted, Rise}
+use Rattle.rrd_base.specs.Fitting.{with_names}
+use Rattle.rrd_base.proofs.Rebuilt.{fold_sum}
+
+-- ---- of each item
+
+All_suc : {A : Type 0} (P : A → Type 0) (xs : List A) (i : ℕ) (x : A) → i < length xs → x ≡ get_or xs i x → AllByRecursion P (take i xs) → P x → AllByRecursion P (take (suc i) xs)
+All_suc P [] i x h e all one = absurd (omega arith)
+All_suc P (y ∷ xs) zero x h e all one = (subst P e one, tt)
+All_suc P (y ∷ xs) (suc i) x h e all one = (all.0, All_suc P xs i x (omega arith) e all.1 one)
+
+pub All_more : {A : Type 0} (P : A → Type 0) (xs : List A) (i : ℕ) (x : A) → i < length xs → x ≡ get_or xs i x → AllByRecursion P (take i xs) → P x → AllByRecursion P (take (i + 1) xs)
+All_more P xs i x h e all one = subst (λ n. AllByRecursion P (take n xs)) (sym (add-one i)) (All_suc P xs i x h e all one)
+
+pub All_whole : {A : Type 0} (P : A → Type 0) (xs : List A) (i : ℕ) → length xs ≤ i → AllByRecursion P (take i xs) → AllByRecursion P xs
+All_whole P xs i h all = subst (AllByRecursion P) (take_all i xs h) all
+
+pub All_here : {A : Type 0} (P : A → Type 0) (xs : List A) (i : ℕ) (x : A) → i < length xs → x ≡ get_or xs i x → AllByRecursion P xs → P x
+All_here P xs i x h e all = subst P (sym e) (All-at P xs i x all h)
+
+-- of the part of each preparation
+pub All_here_part : (P : Part → Type 0) (preps : List Consolidating) (i : ℕ) (prep : Consolidating) → i < length preps → prep ≡ get_or preps i prep → AllByRecursion P (parts_in preps) → P prep.part
+All_here_part P [] i prep h e all = absurd (omega arith)
+All_here_part P (x ∷ preps) zero prep h e all = subst (λ (c : Consolidating). P c.part) (sym e) all.0
+All_here_part P (x ∷ preps) (suc i) prep h e all = All_here_part P preps i prep (omega arith) e all.1
+
+-- ---- raw values
+
+pub accepted_lengths : (defs : List DsDef) (raws : List Raw) → AreAccepted defs raws → length raws ≡ length defs
+accepted_lengths [] [] is = refl
+accepted_lengths [] (raw ∷ raws) is = absurd is
+accepted_lengths (def ∷ defs) [] is = absurd is
+accepted_lengths (def ∷ defs) (raw ∷ raws) is = ap suc (accepted_lengths defs raws is.1)
+
+accepted_suc : (defs : List DsDef) (raws : List Raw) (i : ℕ) (def : DsDef) (raw : Raw) → i < length defs → i < length raws → def ≡ get_or defs i def → raw ≡ get_or raws i raw
+    → AreAccepted (take i defs) (take i raws) → IsAccepted def.kind raw → AreAccepted (take (suc i) defs) (take (suc i) raws)
+accepted_suc [] raws i def raw h k d r all one = absurd (omega arith)
+accepted_suc (x ∷ defs) [] i def raw h k d r all one = absurd (omega arith)
+accepted_suc (x ∷ defs) (y ∷ raws) zero def raw h k d r all one = (subst (λ (z : DsDef). IsAccepted z.kind y) d (subst (IsAccepted def.kind) r one), tt)
+accepted_suc (x ∷ defs) (y ∷ raws) (suc i) def raw h k d r all one = (all.0, accepted_suc defs raws i def raw (omega arith) (omega arith) d r all.1 one)
+
+pub accepted_more : (defs : List DsDef) (raws : List Raw) (i : ℕ) (def : DsDef) (raw : Raw) → i < length defs → i < length raws → def ≡ get_or defs i def → raw ≡ get_or raws i raw
+    → AreAccepted (take i defs) (take i raws) → IsAccepted def.kind raw → AreAccepted (take (i + 1) defs) (take (i + 1) raws)
+accepted_more defs raws i def raw h k d r all one = subst (λ n. AreAccepted (take n defs) (take n raws)) (sym (add-one i)) (accepted_suc defs raws i def raw h k d r all one)
+
+pub accepted_here : (defs : List DsDef) (raws : List Raw) (i : ℕ) (def : DsDef) (raw : Raw) → i < length defs → i < length raws → def ≡ get_or defs i def → raw ≡ get_or raws i raw → AreAccepted defs raws → IsAccepted def.kind raw
+accepted_here [] raws i def raw h k d r all = absurd (omega arith)
+accepted_here (x ∷ defs) [] i def raw h k d r all = absurd (omega arith)
+accepted_here (x ∷ defs) (y ∷ raws) zero def raw h k d r all = subst (λ (z : DsDef). IsAccepted z.kind raw) (sym d) (subst (IsAccepted x.kind) (sym r) all.0)
+accepted_here (x ∷ defs) (y ∷ raws) (suc i) def raw h k d r all = accepted_here defs raws i def raw (omega arith) (omega arith) d r all.1
+
+pub accepted_whole : (defs : List DsDef) (raws : List Raw) (i : ℕ) → length defs ≤ i → length raws ≤ i → AreAccepted (take i defs) (take i raws) → AreAccepted defs raws
+accepted_whole defs raws i h k all = subst (λ (rs : List Raw). AreAccepted defs rs) (take_all i raws k) (subst (λ (ds : List DsDef). AreAccepted ds (take i raws)) (take_all i defs h) all)
+
+-- ---- what was saved of archives
+
+pub saves_lengths : (step from to sources : ℕ) (defs : List RraDef) (olds : List SavedArchive) → MaySaveEach step from to sources defs olds → length olds ≡ length defs
+saves_lengths step from to sources [] [] is = refl
+saves_lengths step from to sources [] (old ∷ olds) is = absurd is
+saves_lengths step from to sources (def ∷ defs) [] is = absurd is
+saves_lengths step from to sources (def ∷ defs) (old ∷ olds) is = ap suc (saves_lengths step from to sources defs olds is.1)
+
+saves_suc : (step from to sources : ℕ) (defs : List RraDef) (olds : List SavedArchive) (i : ℕ) (def : RraDef) (old : SavedArchive) → i < length defs → i < length olds → def ≡ get_or defs i def → old ≡ get_or olds i old
+    → MaySaveEach step from to sources (take i defs) (take i olds) → MaySave step from to sources def old → MaySaveEach step from to sources (take (suc i) defs) (take (suc i) olds)
+saves_suc step from to sources [] olds i def old h k d o all one = absurd (omega arith)
+saves_suc step from to sources (x ∷ defs) [] i def old h k d o all one = absurd (omega arith)
+saves_suc step from to sources (x ∷ defs) (y ∷ olds) zero def old h k d o all one = (subst (λ (z : RraDef). MaySave step from to sources z y) d (subst (MaySave step from to sources def) o one), tt)
+saves_suc step from to sources (x ∷ defs) (y ∷ olds) (suc i) def old h k d o all one = (all.0, saves_suc step from to sources defs olds i def old (omega arith) (omega arith) d o all.1 one)
+
+pub saves_more : (step from to sources : ℕ) (defs : List RraDef) (olds : List SavedArchive) (i : ℕ) (def : RraDef) (old : SavedArchive) → i < length defs → i < length olds → def ≡ get_or defs i def → old ≡ get_or olds i old
+    → MaySaveEach step from to sources (take i defs) (take i olds) → MaySave step from to sources def old → MaySaveEach step from to sources (take (i + 1) defs) (take (i + 1) olds)
+saves_more step from to sources defs olds i def old h k d o all one = subst (λ n. MaySaveEach step from to sources (take n defs) (take n olds)) (sym (add-one i)) (saves_suc step from to sources defs olds i def old h k d o all one)
+
+pub saves_here : (step from to sources : ℕ) (defs : List RraDef) (olds : List SavedArchive) (i : ℕ) (def : RraDef) (old : SavedArchive) → i < length defs → i < length olds → def ≡ get_or defs i def → old ≡ get_or olds i old
+    → MaySaveEach step from to sources defs olds → MaySave step from to sources def old
+saves_here step from to sources [] olds i def old h k d o all = absurd (omega arith)
+saves_here step from to sources (x ∷ defs) [] i def old h k d o all = absurd (omega arith)
+saves_here step from to sources (x ∷ defs) (y ∷ olds) zero def old h k d o all = subst (λ (z : RraDef). MaySave step from to sources z old) (sym d) (subst (MaySave step from to sources x) (sym o) all.0)
+saves_here step from to sources (x ∷ defs) (y ∷ olds) (suc i) def old h k d o all = saves_here step from to sources defs olds i def old (omega arith) (omega arith) d o all.1
+
+pub saves_whole : (step from to sources : ℕ) (defs : List RraDef) (olds : List SavedArchive) (i : ℕ) → length defs ≤ i → length olds ≤ i → MaySaveEach step from to sources (take i defs) (take i olds) → MaySaveEach step from to sources defs olds
+saves_whole step from to sources defs olds i h k all =
+    subst (λ (os : List SavedArchive). MaySaveEach step from to sources defs os) (take_all i olds k) (subst (λ (ds : List RraDef). MaySaveEach step from to sources ds (take i olds)) (take_all i defs h) all)
+
+-- ---- numbers that rise
+
+-- those that are left rise from a number if all do from another, and back
+pub record RiseLeft (from limit to : ℕ) (all left : List SourceBefore) : Type 0 where
+  pub back : Rise to limit left → Rise from limit all
+  pub forth : Rise from limit all → Rise to limit left
+
+pub rise_start : (from limit : ℕ) (all : List SourceBefore) → RiseLeft from limit from all (drop 0 all)
+rise_start from limit all = record { back = λ h. h; forth = λ h. h }
+
+pub rise_on : (from limit to i : ℕ) (all : List SourceBefore) (old : SourceBefore) → i < length all → old ≡ get_or all i old → to ≤ old.number → old.number < limit → RiseLeft from limit to all (drop i all)
+    → RiseLeft from limit (old.number + 1) all (drop (i + 1) all)
+rise_on from limit to i all old h e low high left =
+    let here = drop_here all i old h e in
+    record {
+      back = λ rest. left.back (subst (Rise to limit) (sym here) (low, high, rest));
+      forth = λ whole. let now = subst (Rise to limit) here (left.forth whole) in now.2;
+    }
+
+pub rise_here : (from limit to i : ℕ) (all : List SourceBefore) (old : SourceBefore) → i < length all → old ≡ get_or all i old → RiseLeft from limit to all (drop i all) → Rise from limit all → (to ≤ old.number) × (old.number < limit)
+rise_here from limit to i all old h e left whole = let now = subst (Rise to limit) (drop_here all i old h e) (left.forth whole) in (now.0, now.1)
+
+none_left : {A : Type 0} (xs : List A) (i : ℕ) → length xs ≤ i → drop i xs ≡ []
+none_left [] zero h = refl
+none_left [] (suc i) h = refl
+none_left (x ∷ xs) zero h = absurd (omega arith)
+none_left (x ∷ xs) (suc i) h = none_left xs i (omega arith)
+
+pub rise_whole : (from limit to i : ℕ) (all : List SourceBefore) → length all ≤ i → RiseLeft from limit to all (drop i all) → Rise from limit all
+rise_whole from limit to i all h left = left.back (subst (Rise to limit) (sym (none_left all i h)) tt)
+
+-- ---- names
+
+pub names_put : (sources : List DsDef) (olds : List SourceBefore) → with_names (names sources) olds ≡ names (with_sources sources olds)
+names_put sources [] = refl
+names_put sources (old ∷ olds) =
+    ap (λ (ns : List Name). with_names ns olds) (sym (map-set (λ (source : DsDef). source.name) sources old.number old.source)) ∙ names_put (slice_set sources old.number old.source) olds
+
+pub map_same : {A : Type 0} (xs : List A) → map (λ (x : A). x) xs ≡ xs
+map_same [] = refl
+map_same (x ∷ xs) = ap (λ ys. x ∷ ys) (map_same xs)
+
+put_length : (names : List Name) (olds : List SourceBefore) → length (with_names names olds) ≡ length names
+put_length names [] = refl
+put_length names (old ∷ olds) = put_length (slice_set names old.number old.source.name) olds ∙ length-set names old.number old.source.name
+
+pub put_refills : (names : List Name) (olds : List SourceBefore) → refill (length names) names (with_names names olds) ≡ with_names names olds
+put_refills names olds =
+    let all = with_names names olds in
+    rw (drop_all (length all) names (omega (arith, put_length names olds)), append-nil) (take_all (length names) all (omega (arith, put_length names olds)))
+
+-- ---- numbers of rows
+
+rows_at_is : (defs : List RraDef) (i : ℕ) (d : RraDef) → i < length defs → (get_or defs i d).rows ≡ slice_index_or (rows_of defs) i 0
+rows_at_is [] i d h = absurd (omega arith)
+rows_at_is (x ∷ defs) zero d h = refl
+rows_at_is (x ∷ defs) (suc i) d h = rows_at_is defs i d (omega arith)
+
+rows_put : (defs : List RraDef) (i rows : ℕ) → i < length defs → sum (rows_of (with_row_number defs i rows)) + slice_index_or (rows_of defs) i 0 ≡ sum (rows_of defs) + rows
+rows_put [] i rows h = absurd (omega arith)
+rows_put (x ∷ defs) zero rows h = omega (arith, fold_sum rows (rows_of defs), fold_sum x.rows (rows_of defs))
+rows_put (x ∷ defs) (suc i) rows h = omega (arith, fold_sum x.rows (rows_of (with_row_number defs i rows)), fold_sum x.rows (rows_of defs), rows_put defs i rows (omega arith))
+
+-- as code counts them
+pub record RowsPut (defs : List RraDef) (i : ℕ) (d : RraDef) (rows all : ℕ) : Type 0 where
+  pub within : (get_or defs i d).rows ≤ all
+  pub old_is : (get_or defs i d).rows ≡ slice_index_or (rows_of defs) i 0
+  pub all_is : all - (get_or defs i d).rows + rows ≡ sum (rows_of (with_row_number defs i rows))
+
+pub rows_are_put : (defs : List RraDef) (i : ℕ) (d : RraDef) (rows all : ℕ) → i < length defs → sum (rows_of defs) ≤ version_one.most_cells → all ≡ min (sum (rows_of defs)) (2 ^ 64 - 1) → RowsPut defs i d rows all
+rows_are_put defs i d rows all h few e =
+    let old = rows_at_is defs i d h in
+    let put = rows_put defs i rows h in
+    let none = rows_put defs i 0 h in
+    record { within = omega (arith, old, none, few, e); old_is = old; all_is = omega (arith, old, put, none, few, e) }
+
+-- an archive's number of rows set in its place
+pub row_number_set : (defs : List RraDef) (i rows : ℕ) (def : RraDef) → i < length defs → def ≡ get_or defs i def → set defs i (record def { rows = rows }) ≡ with_row_number defs i rows
+row_number_set [] i rows def h e = absurd (omega arith)
+row_number_set (x ∷ defs) zero rows def h e = ap (λ (d : RraDef). let new : RraDef = record d { rows = rows } in new ∷ defs) e
+row_number_set (x ∷ defs) (suc i) rows def h e = ap (λ (ds : List RraDef). x ∷ ds) (row_number_set defs i rows def (omega arith) e)
+
+pub row_number_past : (defs : List RraDef) (i rows : ℕ) → length defs ≤ i → defs ≡ with_row_number defs i rows
+row_number_past [] i rows h = refl
+row_number_past (x ∷ defs) zero rows h = absurd (omega arith)
+row_number_past (x ∷ defs) (suc i) rows h = ap (λ (ds : List RraDef). x ∷ ds) (row_number_past defs i rows (omega arith))

@@ -1,0 +1,146 @@
+use Rattle.std.proofs.Common.{◌≡◌, ◌∙◌, ◌<◌, ◌≤◌, refl, sym, ap, subst, arith}
+use Rattle.rrd_spec.specs.declared.due.Due.TheVariants.{CellDue}
+use Rattle.rrd_spec.specs.declared.settings.RraDef.{RraDef}
+use Rattle.rrd_spec.specs.History.{Archive}
+use Rattle.rrd_spec.specs.Limits.{version_one}
+use Rattle.rrd_spec.specs.Rebuilding.{IsArchiveDef, due, with_cell}
+use Rattle.rrd_spec.specs.Settings.{resolution}
+use Rattle.rrd_spec.specs.Slots.{place_in}
+use Rattle.rrd_base.specs.Cursor.{Advances, KnowsPlace, filled_by}
+use Rattle.rrd_base.specs.Rebuild.{IsCursor, IsRebuilding, coming, filed_in}
+use Rattle.rrd_base.proofs.CellComes.{at_cell, cell_came, cell_comes, cell_here, is_put, place_there, row_there, with_cell_at}
+use Rattle.rrd_base.proofs.rebuild.Rebuild.cell.Goals as goal
+
+pub index_mut-rra-requires : goal.index_mut-rra-requires
+index_mut-rra-requires c =
+    let d = coming c.self.inside in
+    let cursor = c.self.inside.cursor in
+    let may = c.may_cell.ensures.good c.if-not-may_cell.false in
+    let is_due : due (filed_in d) ≡ CellDue = ap due c.self.view_is ∙ may.is_due in
+    omega (arith, (at_cell c.cells_stand_in_slots.ensures.as_many d c.self.invariant.came is_due).there)
+
+pub place-place-requires-clause-def_is : goal.place-place-requires-clause-def_is
+place-place-requires-clause-def_is c =
+    let d = coming c.self.inside in
+    let cursor = c.self.inside.cursor in
+    let may = c.may_cell.ensures.good c.if-not-may_cell.false in
+    let is_due : due (filed_in d) ≡ CellDue = ap due c.self.view_is ∙ may.is_due in
+    let a = c.index_mut-rra.result.now in
+    let here = cell_here c.cells_stand_in_slots.ensures.as_many d a cursor c.self.invariant.came c.self.invariant.cursor_is is_due c.index_mut-rra.ensures.value refl in
+    subst (IsArchiveDef version_one) (sym c.def-def.ensures) here.so_far.def_is
+
+pub place-place-requires-clause-known : goal.place-place-requires-clause-known
+place-place-requires-clause-known c =
+    let d = coming c.self.inside in
+    let cursor = c.self.inside.cursor in
+    let may = c.may_cell.ensures.good c.if-not-may_cell.false in
+    let is_due : due (filed_in d) ≡ CellDue = ap due c.self.view_is ∙ may.is_due in
+    let a = c.index_mut-rra.result.now in
+    let here = cell_here c.cells_stand_in_slots.ensures.as_many d a cursor c.self.invariant.came c.self.invariant.cursor_is is_due c.index_mut-rra.ensures.value refl in
+    subst (λ (def : RraDef). KnowsPlace (resolution d.step def) d.last def.rows cursor) (sym c.def-def.ensures) here.knows
+
+pub put-requires-clause-there : goal.put-requires-clause-there
+put-requires-clause-there c =
+    let d = coming c.self.inside in
+    let cursor = c.self.inside.cursor in
+    let may = c.may_cell.ensures.good c.if-not-may_cell.false in
+    let is_due : due (filed_in d) ≡ CellDue = ap due c.self.view_is ∙ may.is_due in
+    let a = c.index_mut-rra.result.now in
+    let here = cell_here c.cells_stand_in_slots.ensures.as_many d a cursor c.self.invariant.came c.self.invariant.cursor_is is_due c.index_mut-rra.ensures.value refl in
+    let place = c.place-place.result in
+    let place_is : place ≡ place_in (resolution d.step a.def) d.last a.def.rows cursor.slot = c.place-place.ensures ∙ ap (λ (def : RraDef). place_in (resolution d.step def) d.last def.rows cursor.slot) c.def-def.ensures in
+    let inside = place_there c.rows_stand_in_slots.ensures.place d a cursor place c.self.invariant.came here place_is in
+    omega (arith, inside, here.so_far.rows_are)
+
+pub put-requires-clause-within : goal.put-requires-clause-within
+put-requires-clause-within c =
+    let d = coming c.self.inside in
+    let cursor = c.self.inside.cursor in
+    let may = c.may_cell.ensures.good c.if-not-may_cell.false in
+    let is_due : due (filed_in d) ≡ CellDue = ap due c.self.view_is ∙ may.is_due in
+    let a = c.index_mut-rra.result.now in
+    let here = cell_here c.cells_stand_in_slots.ensures.as_many d a cursor c.self.invariant.came c.self.invariant.cursor_is is_due c.index_mut-rra.ensures.value refl in
+    let place = c.place-place.result in
+    let place_is : place ≡ place_in (resolution d.step a.def) d.last a.def.rows cursor.slot = c.place-place.ensures ∙ ap (λ (def : RraDef). place_in (resolution d.step def) d.last def.rows cursor.slot) c.def-def.ensures in
+    let inside = place_there c.rows_stand_in_slots.ensures.place d a cursor place c.self.invariant.came here place_is in
+    omega (arith, row_there d a cursor place here inside, c.self.invariant.cursor_is.source_there)
+
+pub advance-requires-clause-archive_there : goal.advance-requires-clause-archive_there
+advance-requires-clause-archive_there c =
+    let d = coming c.self.inside in
+    let cursor = c.self.inside.cursor in
+    let may = c.may_cell.ensures.good c.if-not-may_cell.false in
+    let is_due : due (filed_in d) ≡ CellDue = ap due c.self.view_is ∙ may.is_due in
+    let a = c.index_mut-rra.result.now in
+    let here = cell_here c.cells_stand_in_slots.ensures.as_many d a cursor c.self.invariant.came c.self.invariant.cursor_is is_due c.index_mut-rra.ensures.value refl in
+    omega (arith, here.at.there, c.self.invariant.came.few_archives, c.self.invariant.came.header_is.few_archives)
+
+pub advance-requires-clause-slot_there : goal.advance-requires-clause-slot_there
+advance-requires-clause-slot_there c =
+    let d = coming c.self.inside in
+    let cursor = c.self.inside.cursor in
+    let may = c.may_cell.ensures.good c.if-not-may_cell.false in
+    let is_due : due (filed_in d) ≡ CellDue = ap due c.self.view_is ∙ may.is_due in
+    let a = c.index_mut-rra.result.now in
+    let here = cell_here c.cells_stand_in_slots.ensures.as_many d a cursor c.self.invariant.came c.self.invariant.cursor_is is_due c.index_mut-rra.ensures.value refl in
+    subst (λ (def : RraDef). cursor.slot < def.rows) (sym c.def-def.ensures) here.slot
+
+pub advance-requires-clause-place_there : goal.advance-requires-clause-place_there
+advance-requires-clause-place_there c =
+    let d = coming c.self.inside in
+    let cursor = c.self.inside.cursor in
+    let may = c.may_cell.ensures.good c.if-not-may_cell.false in
+    let is_due : due (filed_in d) ≡ CellDue = ap due c.self.view_is ∙ may.is_due in
+    let a = c.index_mut-rra.result.now in
+    let here = cell_here c.cells_stand_in_slots.ensures.as_many d a cursor c.self.invariant.came c.self.invariant.cursor_is is_due c.index_mut-rra.ensures.value refl in
+    let place = c.place-place.result in
+    let place_is : place ≡ place_in (resolution d.step a.def) d.last a.def.rows cursor.slot = c.place-place.ensures ∙ ap (λ (def : RraDef). place_in (resolution d.step def) d.last def.rows cursor.slot) c.def-def.ensures in
+    let inside = place_there c.rows_stand_in_slots.ensures.place d a cursor place c.self.invariant.came here place_is in
+    subst (λ (def : RraDef). place < def.rows) (sym c.def-def.ensures) inside
+
+pub advance-requires-clause-few_rows : goal.advance-requires-clause-few_rows
+advance-requires-clause-few_rows c =
+    let d = coming c.self.inside in
+    let cursor = c.self.inside.cursor in
+    let may = c.may_cell.ensures.good c.if-not-may_cell.false in
+    let is_due : due (filed_in d) ≡ CellDue = ap due c.self.view_is ∙ may.is_due in
+    let a = c.index_mut-rra.result.now in
+    let here = cell_here c.cells_stand_in_slots.ensures.as_many d a cursor c.self.invariant.came c.self.invariant.cursor_is is_due c.index_mut-rra.ensures.value refl in
+    subst (λ (def : RraDef). def.rows ≤ version_one.most_rows) (sym c.def-def.ensures) here.so_far.def_is.few_rows
+
+pub invariant_of-self : goal.invariant_of-self
+invariant_of-self c =
+    let d = coming c.self.inside in
+    let cursor = c.self.inside.cursor in
+    let may = c.may_cell.ensures.good c.if-not-may_cell.false in
+    let is_due : due (filed_in d) ≡ CellDue = ap due c.self.view_is ∙ may.is_due in
+    let a = c.index_mut-rra.result.now in
+    let here = cell_here c.cells_stand_in_slots.ensures.as_many d a cursor c.self.invariant.came c.self.invariant.cursor_is is_due c.index_mut-rra.ensures.value refl in
+    let place = c.place-place.result in
+    let place_is : place ≡ place_in (resolution d.step a.def) d.last a.def.rows cursor.slot = c.place-place.ensures ∙ ap (λ (def : RraDef). place_in (resolution d.step def) d.last def.rows cursor.slot) c.def-def.ensures in
+    let inside = place_there c.rows_stand_in_slots.ensures.place d a cursor place c.self.invariant.came here place_is in
+    let b = with_cell_at a place cursor.source c.args.cell in
+    let put = is_put c.cells_stand_in_slots.ensures.as_many c.cells_stand_in_slots.ensures.cell_put d a c.args.cell place cursor c.self.invariant.came here.at.there c.index_mut-rra.ensures.value refl place_is c.self.invariant.cursor_is.source_there (omega (arith, inside, here.so_far.rows_are)) may.bounded in
+    let goes : Advances d.sources_due a.def.rows place cursor c.advance.new.self = subst (λ (def : RraDef). Advances d.sources_due def.rows place cursor c.advance.new.self) c.def-def.ensures c.advance.ensures in
+    let after = cell_comes c.cells_stand_in_slots.ensures.as_many d a b c.args.cell place cursor c.advance.new.self c.self.invariant.came here.at put refl refl place_is c.self.invariant.cursor_is.source_there here.slot goes in
+    record {
+      came = subst (λ (x : Archive). IsRebuilding (cell_came d x c.advance.new.self.archive (filled_by d.sources_due c.advance.new.self))) (sym c.put.ensures) after.came;
+      cursor_is = subst (λ (x : Archive). IsCursor (cell_came d x c.advance.new.self.archive (filled_by d.sources_due c.advance.new.self)) c.advance.new.self) (sym c.put.ensures) after.cursor_is;
+    }
+
+pub returns-clause-ok : goal.returns-clause-ok
+returns-clause-ok c =
+    let d = coming c.self.inside in
+    let cursor = c.self.inside.cursor in
+    let may = c.may_cell.ensures.good c.if-not-may_cell.false in
+    let is_due : due (filed_in d) ≡ CellDue = ap due c.self.view_is ∙ may.is_due in
+    let a = c.index_mut-rra.result.now in
+    let here = cell_here c.cells_stand_in_slots.ensures.as_many d a cursor c.self.invariant.came c.self.invariant.cursor_is is_due c.index_mut-rra.ensures.value refl in
+    let place = c.place-place.result in
+    let place_is : place ≡ place_in (resolution d.step a.def) d.last a.def.rows cursor.slot = c.place-place.ensures ∙ ap (λ (def : RraDef). place_in (resolution d.step def) d.last def.rows cursor.slot) c.def-def.ensures in
+    let inside = place_there c.rows_stand_in_slots.ensures.place d a cursor place c.self.invariant.came here place_is in
+    let b = with_cell_at a place cursor.source c.args.cell in
+    let put = is_put c.cells_stand_in_slots.ensures.as_many c.cells_stand_in_slots.ensures.cell_put d a c.args.cell place cursor c.self.invariant.came here.at.there c.index_mut-rra.ensures.value refl place_is c.self.invariant.cursor_is.source_there (omega (arith, inside, here.so_far.rows_are)) may.bounded in
+    let goes : Advances d.sources_due a.def.rows place cursor c.advance.new.self = subst (λ (def : RraDef). Advances d.sources_due def.rows place cursor c.advance.new.self) c.def-def.ensures c.advance.ensures in
+    let after = cell_comes c.cells_stand_in_slots.ensures.as_many d a b c.args.cell place cursor c.advance.new.self c.self.invariant.came here.at put refl refl place_is c.self.invariant.cursor_is.source_there here.slot goes in
+    (may, ap (λ (x : Archive). filed_in (cell_came d x c.advance.new.self.archive (filled_by d.sources_due c.advance.new.self))) c.put.ensures ∙ (after.filed_is ∙ ap (λ f. with_cell f c.args.cell) c.self.view_is))

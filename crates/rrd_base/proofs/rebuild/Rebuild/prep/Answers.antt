@@ -1,0 +1,111 @@
+use Rattle.std.proofs.Common.{refl, ◌≡◌, ◌∙◌, ◌-◌, ◌*◌, ◌≤◌, ◌++◌, ◌∷◌, [], suc, length, set, unsigned_abs, sym, ap, subst, arith}
+use Rattle.std.specs.Int.{w128}
+use mir.Facts.{to_z-of_z}
+use mir.Val.{of_z, to_z}
+use Rattle.rrd_fixed.specs.Rate.{top}
+use Rattle.rrd_fold.specs.Bounds.{Consolidating}
+use Rattle.rrd_fold.specs.Parts.{Part}
+use Rattle.rrd_spec.specs.declared.settings.RraDef.{RraDef}
+use Rattle.rrd_spec.specs.History.{Archive}
+use Rattle.rrd_spec.specs.Rebuilding.{MayPrep, with_prep}
+use Rattle.rrd_base.specs.Rebuild.{IsRebuilding, coming, filed_in}
+use Rattle.rrd_spec.specs.Validity.{weight}
+use Rattle.rrd_base.proofs.Comes.{AtPrep, at_prep, cursor_stays, last_prep, prep_came, prep_is, prep_keeps, prep_later}
+use Rattle.rrd_base.proofs.rebuild.Rebuild.prep.Goals as goal
+
+pub overflow_sub-last : goal.overflow_sub-last
+overflow_sub-last c =
+    let d = coming c.self.inside in
+    let same : to_z w128 (of_z w128 c.args.value) ≡ c.args.value = to_z-of_z {w = w128} c.ranges.value in
+    let now : MayPrep c.args.self.now (record { known = c.args.known; value = c.args.value }) = subst (λ z. MayPrep c.args.self.now (record { known = c.args.known; value = z })) same (c.may_prep.ensures.good c.if-not-may_prep.false) in
+    let may : MayPrep (filed_in d) (record { known = c.args.known; value = c.args.value }) = subst (λ f. MayPrep f (record { known = c.args.known; value = c.args.value })) (sym c.self.view_is) now in
+    let at : AtPrep d may.def = at_prep d may.def c.self.invariant.came may.is_due in
+    omega (arith, at.some)
+
+pub index-requires : goal.index-requires
+index-requires c =
+    let d = coming c.self.inside in
+    let same : to_z w128 (of_z w128 c.args.value) ≡ c.args.value = to_z-of_z {w = w128} c.ranges.value in
+    let now : MayPrep c.args.self.now (record { known = c.args.known; value = c.args.value }) = subst (λ z. MayPrep c.args.self.now (record { known = c.args.known; value = z })) same (c.may_prep.ensures.good c.if-not-may_prep.false) in
+    let may : MayPrep (filed_in d) (record { known = c.args.known; value = c.args.value }) = subst (λ f. MayPrep f (record { known = c.args.known; value = c.args.value })) (sym c.self.view_is) now in
+    let at : AtPrep d may.def = at_prep d may.def c.self.invariant.came may.is_due in
+    omega (arith, at.some)
+
+pub made_row-prep-requires-clause-few : goal.made_row-prep-requires-clause-few
+made_row-prep-requires-clause-few c =
+    let d = coming c.self.inside in
+    let same : to_z w128 (of_z w128 c.args.value) ≡ c.args.value = to_z-of_z {w = w128} c.ranges.value in
+    let now : MayPrep c.args.self.now (record { known = c.args.known; value = c.args.value }) = subst (λ z. MayPrep c.args.self.now (record { known = c.args.known; value = z })) same (c.may_prep.ensures.good c.if-not-may_prep.false) in
+    let may : MayPrep (filed_in d) (record { known = c.args.known; value = c.args.value }) = subst (λ f. MayPrep f (record { known = c.args.known; value = c.args.value })) (sym c.self.view_is) now in
+    let at : AtPrep d may.def = at_prep d may.def c.self.invariant.came may.is_due in
+    omega (arith, may.part_is.few, at.def_is.some_steps, at.def_is.few_steps)
+
+pub made_row-prep-requires-clause-bounded : goal.made_row-prep-requires-clause-bounded
+made_row-prep-requires-clause-bounded c =
+    let d = coming c.self.inside in
+    let same : to_z w128 (of_z w128 c.args.value) ≡ c.args.value = to_z-of_z {w = w128} c.ranges.value in
+    let now : MayPrep c.args.self.now (record { known = c.args.known; value = c.args.value }) = subst (λ z. MayPrep c.args.self.now (record { known = c.args.known; value = z })) same (c.may_prep.ensures.good c.if-not-may_prep.false) in
+    let may : MayPrep (filed_in d) (record { known = c.args.known; value = c.args.value }) = subst (λ f. MayPrep f (record { known = c.args.known; value = c.args.value })) (sym c.self.view_is) now in
+    let at : AtPrep d may.def = at_prep d may.def c.self.invariant.came may.is_due in
+    let one = last_prep d c.index.result.now (c.len-last.result - 1) may.def c.self.invariant.came (omega (arith, at.some)) c.index.ensures at.is in
+    let function : c.def-function.result.function ≡ may.def.function = ap (λ (def : RraDef). def.function) (c.def-function.ensures ∙ one.1) in
+    subst (λ z. unsigned_abs z ≤ weight c.def-function.result.function c.args.known * top) (sym same)
+    (subst (λ f. unsigned_abs c.args.value ≤ weight f c.args.known * top) (sym function) may.part_is.bounded)
+
+pub index_mut-requires : goal.index_mut-requires
+index_mut-requires c =
+    let d = coming c.self.inside in
+    let same : to_z w128 (of_z w128 c.args.value) ≡ c.args.value = to_z-of_z {w = w128} c.ranges.value in
+    let now : MayPrep c.args.self.now (record { known = c.args.known; value = c.args.value }) = subst (λ z. MayPrep c.args.self.now (record { known = c.args.known; value = z })) same (c.may_prep.ensures.good c.if-not-may_prep.false) in
+    let may : MayPrep (filed_in d) (record { known = c.args.known; value = c.args.value }) = subst (λ f. MayPrep f (record { known = c.args.known; value = c.args.value })) (sym c.self.view_is) now in
+    let at : AtPrep d may.def = at_prep d may.def c.self.invariant.came may.is_due in
+    omega (arith, at.some)
+
+pub push_prep-requires : goal.push_prep-requires
+push_prep-requires c =
+    let d = coming c.self.inside in
+    let same : to_z w128 (of_z w128 c.args.value) ≡ c.args.value = to_z-of_z {w = w128} c.ranges.value in
+    let now : MayPrep c.args.self.now (record { known = c.args.known; value = c.args.value }) = subst (λ z. MayPrep c.args.self.now (record { known = c.args.known; value = z })) same (c.may_prep.ensures.good c.if-not-may_prep.false) in
+    let may : MayPrep (filed_in d) (record { known = c.args.known; value = c.args.value }) = subst (λ f. MayPrep f (record { known = c.args.known; value = c.args.value })) (sym c.self.view_is) now in
+    let at : AtPrep d may.def = at_prep d may.def c.self.invariant.came may.is_due in
+    let one = last_prep d c.index.result.now (c.len-last.result - 1) may.def c.self.invariant.came (omega (arith, at.some)) c.index.ensures at.is in
+    let function : c.def-function.result.function ≡ may.def.function = ap (λ (def : RraDef). def.function) (c.def-function.ensures ∙ one.1) in
+    let x = c.index_mut.result.now in
+    let count : length d.archives ≡ suc (c.len-last.result - 1) = omega (arith, at.some) in
+    let two = last_prep d x (c.len-last.result - 1) may.def c.self.invariant.came count c.index_mut.ensures.value at.is in
+    ap (λ (p : Consolidating). p.function) c.made_row-prep.ensures ∙ (function ∙ ap (λ (def : RraDef). def.function) (sym two.1))
+
+pub invariant_of-self-2 : goal.invariant_of-self-2
+invariant_of-self-2 c =
+    let d = coming c.self.inside in
+    let same : to_z w128 (of_z w128 c.args.value) ≡ c.args.value = to_z-of_z {w = w128} c.ranges.value in
+    let now : MayPrep c.args.self.now (record { known = c.args.known; value = c.args.value }) = subst (λ z. MayPrep c.args.self.now (record { known = c.args.known; value = z })) same (c.may_prep.ensures.good c.if-not-may_prep.false) in
+    let may : MayPrep (filed_in d) (record { known = c.args.known; value = c.args.value }) = subst (λ f. MayPrep f (record { known = c.args.known; value = c.args.value })) (sym c.self.view_is) now in
+    let at : AtPrep d may.def = at_prep d may.def c.self.invariant.came may.is_due in
+    let x = c.index_mut.result.now in
+    let count : length d.archives ≡ suc (c.len-last.result - 1) = omega (arith, at.some) in
+    let two = last_prep d x (c.len-last.result - 1) may.def c.self.invariant.came count c.index_mut.ensures.value at.is in
+    let part : Part = record { known = c.args.known; value = c.args.value } in
+    let made : c.made_row-prep.result.part ≡ part = ap (λ (p : Consolidating). p.part) c.made_row-prep.ensures ∙ ap (λ z. let p : Part = record { known = c.args.known; value = z } in p) same in
+    let pushed : c.push_prep.new.self ≡ record x { parts = x.parts ++ part ∷ [] } = c.in-Ok.ensures.ok ∙ ap (λ (p : Part). let a : Archive = record x { parts = x.parts ++ p ∷ [] } in a) made in
+    let path : prep_came d (c.len-last.result - 1) x part ≡ record d { archives = set d.archives (c.len-last.result - 1) c.push_prep.new.self } = λ i. record d { archives = set d.archives (c.len-last.result - 1) (sym pushed i) } in
+    record {
+      came = subst IsRebuilding path (prep_keeps d (c.len-last.result - 1) x may.def part c.self.invariant.came count c.index_mut.ensures.value at.is may.part_is);
+      cursor_is = cursor_stays d (record d { archives = set d.archives (c.len-last.result - 1) c.push_prep.new.self }) c.self.inside.cursor refl (prep_later d may.def c.self.invariant.came at.is).filled c.self.invariant.cursor_is;
+    }
+
+pub returns-clause-ok : goal.returns-clause-ok
+returns-clause-ok c =
+    let d = coming c.self.inside in
+    let same : to_z w128 (of_z w128 c.args.value) ≡ c.args.value = to_z-of_z {w = w128} c.ranges.value in
+    let now : MayPrep c.args.self.now (record { known = c.args.known; value = c.args.value }) = subst (λ z. MayPrep c.args.self.now (record { known = c.args.known; value = z })) same (c.may_prep.ensures.good c.if-not-may_prep.false) in
+    let may : MayPrep (filed_in d) (record { known = c.args.known; value = c.args.value }) = subst (λ f. MayPrep f (record { known = c.args.known; value = c.args.value })) (sym c.self.view_is) now in
+    let at : AtPrep d may.def = at_prep d may.def c.self.invariant.came may.is_due in
+    let x = c.index_mut.result.now in
+    let count : length d.archives ≡ suc (c.len-last.result - 1) = omega (arith, at.some) in
+    let two = last_prep d x (c.len-last.result - 1) may.def c.self.invariant.came count c.index_mut.ensures.value at.is in
+    let part : Part = record { known = c.args.known; value = c.args.value } in
+    let made : c.made_row-prep.result.part ≡ part = ap (λ (p : Consolidating). p.part) c.made_row-prep.ensures ∙ ap (λ z. let p : Part = record { known = c.args.known; value = z } in p) same in
+    let pushed : c.push_prep.new.self ≡ record x { parts = x.parts ++ part ∷ [] } = c.in-Ok.ensures.ok ∙ ap (λ (p : Part). let a : Archive = record x { parts = x.parts ++ p ∷ [] } in a) made in
+    let path : prep_came d (c.len-last.result - 1) x part ≡ record d { archives = set d.archives (c.len-last.result - 1) c.push_prep.new.self } = λ i. record d { archives = set d.archives (c.len-last.result - 1) (sym pushed i) } in
+    (now, ap filed_in (sym path) ∙ (prep_is d (c.len-last.result - 1) x may.def part c.self.invariant.came count c.index_mut.ensures.value at.is ∙ ap (λ f. with_prep f part) c.self.view_is))

@@ -1,0 +1,165 @@
+-- Glue: what the fields of a database that comes piece by piece hold.
+use Rattle.std.specs.Prelude.{◌≡◌, ℕ, ◌+◌, ◌*◌, ◌%◌, ◌<◌, ◌≤◌, List, [], ◌∷◌, ◌++◌, length, map, take, drop, sum, false, None}
+use Rattle.std.specs.List.{AllByRecursion, flat_map}
+use Rattle.rrd_fixed.specs.declared.cell.Cell.{Cell}
+use Rattle.rrd_fixed.specs.declared.raw.Raw.{Raw}
+use Rattle.rrd_fold.specs.Parts.{Part}
+use Rattle.rrd_fold.specs.declared.function.Function.TheVariants.{Average}
+use Rattle.rrd_spec.specs.declared.outline.Outline.{Outline}
+use Rattle.rrd_spec.specs.declared.settings.DsDef.{DsDef}
+use Rattle.rrd_spec.specs.Commands.{rows_of_archives}
+use Rattle.rrd_spec.specs.Filed.{Filed, One, head_of, sources_of}
+use Rattle.rrd_spec.specs.History.{Archive, Content}
+use Rattle.rrd_spec.specs.Limits.{version_one}
+use Rattle.rrd_spec.specs.Rebuilding.{IsArchiveDef, IsHeader, IsRowPart, outline_left, unprepared}
+use Rattle.rrd_spec.specs.Settings.{is_double, names, resolution}
+use Rattle.rrd_spec.specs.Slots.{cells_by_slot}
+use Rattle.rrd_spec.specs.Validity.{AreAccepted, IsPart, IsRow, IsSource, IsValidJournal}
+use Rattle.rrd_base.specs.Cursor.{KnowsPlace, filled_by}
+use Rattle.rrd_base.specs.Journal.{journal_of}
+use Rattle.rrd_base.specs.declared.journal.Entry.{Entry}
+use Rattle.rrd_base.specs.declared.rebuild.Rebuild.TheInside.{Inside}
+use Rattle.rrd_base.specs.declared.rebuild.cursor.Cursor.{Cursor}
+
+-- the cells of the archives before one, and so many of its own, in the order of a file
+abbrev pub cells_before : ℕ → ℕ → List Archive → ℕ → ℕ → List Cell
+cells_before step last archives archive filled =
+    flat_map (cells_by_slot step last) (take archive archives)
+    ++ take filled (flat_map (cells_by_slot step last) (drop archive archives))
+
+-- what has come, as the fields hold it: so many cells of the archive of this number, and those before it
+pub record Coming : Type 0 where
+  pub step : ℕ
+  pub last : ℕ
+  pub depth : ℕ
+  pub sources_due : ℕ
+  pub archives_due : ℕ
+  pub entries_due : ℕ
+  pub sources : List DsDef
+  pub raws : List Raw
+  pub preps : List Part
+  pub archives : List Archive
+  pub archive : ℕ
+  pub filled : ℕ
+  pub places : ℕ
+  pub journal : List Entry
+  pub outline : Outline
+
+abbrev pub coming : Inside → Coming
+coming d = record {
+  step = d.step;
+  last = d.last;
+  depth = d.depth;
+  sources_due = d.sources_due;
+  archives_due = d.archives_due;
+  entries_due = d.entries_due;
+  sources = d.sources.items;
+  raws = d.raws.items;
+  preps = d.preps.items;
+  archives = d.archives.items;
+  archive = d.cursor.archive;
+  filled = filled_by d.sources_due d.cursor;
+  places = d.journal.capacity;
+  journal = d.journal.items;
+  outline = d.outline;
+}
+
+-- what has come
+abbrev pub filed_in : Coming → Filed
+filed_in d = record {
+  header =
+      record {
+        version = One;
+        step = d.step;
+        last = d.last;
+        depth = d.depth;
+        sources = d.sources_due;
+        archives = d.archives_due;
+        entries = d.entries_due;
+      };
+  sources = sources_of d.sources d.raws d.preps;
+  heads = map head_of d.archives;
+  cells = cells_before d.step d.last d.archives d.archive d.filled;
+  entries = journal_of d.journal;
+}
+
+-- the content that the pieces make, rows that haven't come being unknown
+abbrev pub content_so_far : Coming → Content
+content_so_far d = record {
+  step = d.step;
+  depth = d.depth;
+  sources = d.sources;
+  last = d.last;
+  raws = d.raws;
+  parts = d.preps;
+  archives = d.archives;
+}
+
+-- an archive whose preparations may still come
+pub record IsArchiveSoFar (sources step last : ℕ) (archive : Archive) : Type 0 where
+  pub def_is : IsArchiveDef version_one archive.def
+  pub few_parts : length archive.parts ≤ sources
+  pub each_part : AllByRecursion (IsRowPart step last archive.def) archive.parts
+  pub rows_are : length archive.rows ≡ archive.def.rows
+  pub each_row : AllByRecursion (IsRow sources) archive.rows
+
+-- all archives but the last have a preparation for each source
+abbrev pub ArePrepared : ℕ → List Archive → Type 0
+ArePrepared sources [] = Unit {0}
+ArePrepared sources (archive ∷ []) = Unit {0}
+ArePrepared sources (archive ∷ next ∷ archives) =
+    (length archive.parts ≡ sources) × ArePrepared sources (next ∷ archives)
+
+-- so many cells are fewer than the first of these archives has, and none if there is no archive
+abbrev pub AreFewer : ℕ → List Archive → ℕ → Type 0
+AreFewer sources [] filled = filled ≡ 0
+AreFewer sources (archive ∷ archives) filled = filled < sources * archive.def.rows
+
+-- all heads came, with all preparations
+pub record HeadsCame (d : Coming) : Type 0 where
+  pub all : length d.archives ≡ d.archives_due
+  pub prepared : unprepared d.sources_due (map head_of d.archives) ≡ None
+
+-- the archive whose cells come is the one after all
+pub record CellsCame (d : Coming) : Type 0 where
+  pub some : 0 < d.archive
+  pub all : d.archive ≡ length d.archives
+
+pub record IsRebuilding (d : Coming) : Type 0 where
+  pub header_is : IsHeader (filed_in d).header
+  pub few_sources : length d.sources ≤ d.sources_due
+  pub sources_are : AllByRecursion IsSource d.sources
+  pub names_differ : is_double (names d.sources) ≡ false
+  pub raws_are : AreAccepted d.sources d.raws
+  pub one_part_each : length d.preps ≡ length d.sources
+  pub parts_are : AllByRecursion (IsPart Average (d.last % d.step)) d.preps
+  pub few_archives : length d.archives ≤ d.archives_due
+  pub archives_are : AllByRecursion (IsArchiveSoFar d.sources_due d.step d.last) d.archives
+  pub few_cells : d.sources_due * sum (rows_of_archives d.archives) ≤ version_one.most_cells
+  pub places : d.places ≡ d.depth
+  pub few_entries : length d.journal ≤ d.entries_due
+  pub outline_is : d.outline ≡ outline_left (filed_in d)
+  pub journal_is : IsValidJournal (content_so_far d) (journal_of d.journal)
+  pub sources_first : 0 < length d.archives → length d.sources ≡ d.sources_due
+  pub archives_prepared : ArePrepared d.sources_due d.archives
+  pub heads_first : 0 < d.archive + d.filled → HeadsCame d
+  pub archive_there : d.archive ≤ length d.archives
+  pub filled_few : AreFewer d.sources_due (drop d.archive d.archives) d.filled
+  pub cells_first : 0 < length d.journal → CellsCame d
+
+-- it knows its place in the first of these archives, if there is one
+abbrev pub KnowsPlaceIn : ℕ → ℕ → List Archive → Cursor → Type 0
+KnowsPlaceIn step last [] cursor = Unit {0}
+KnowsPlaceIn step last (archive ∷ archives) cursor =
+    KnowsPlace (resolution step archive.def) last archive.def.rows cursor
+
+pub record IsCursor (d : Coming) (cursor : Cursor) : Type 0 where
+  pub source_there : cursor.source < d.sources_due
+  pub knows_place : KnowsPlaceIn d.step d.last (drop d.archive d.archives) cursor
+
+abbrev pub filed_of : Inside → Filed
+filed_of d = filed_in (coming d)
+
+pub record AreRebuilding (d : Inside) : Type 0 where
+  pub came : IsRebuilding (coming d)
+  pub cursor_is : IsCursor (coming d) d.cursor

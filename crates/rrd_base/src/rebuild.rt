@@ -1,0 +1,451 @@
+//! A database from the pieces of a file, in the order of its layout.
+ghost use Rattle.std.specs.Prelude.{◌≡◌, ◌++◌, ◌∷◌, [], true, IfOk, IfErr, OnOk, OnErr};
+ghost use Rattle.rrd_base.specs.Journal.{entry_of};
+ghost use Rattle.rrd_fold.specs.Parts.{Part};
+ghost use Rattle.rrd_base.specs.declared.rebuild.PieceFault.TheVariants.{Bad};
+ghost use Rattle.rrd_spec.specs.declared.due.Due.TheVariants.{NothingDue};
+ghost use Rattle.rrd_spec.specs.Filed.{Header, One, Source, filed};
+ghost use Rattle.rrd_spec.specs.Rebuilding.{IsHeader, MayCell, MayEntry, MayHead, MayPrep, MaySource, begun, due, outline_left, unprepared, with_cell, with_entry, with_head, with_prep, with_source};
+
+use crate::content::Content;
+use crate::create::{has_too_many_cells, is_bad_depth, is_bad_step};
+use crate::journal::Entry;
+use crate::named::has_source;
+use crate::rows::all_rows;
+use crate::rra::Rra;
+use crate::{Database, DsDef, Due, List, Outline, RraDef};
+use circular_buffer::HeapCircularBuffer;
+use cursor::Cursor;
+use fitting::may_undo;
+use judged::{is_accepted, is_archive, is_bounded, is_part, is_source};
+use made::{made_row, made_step};
+use rrd_fixed::{Cell, Raw};
+use rrd_fold::{Function, StepPrep};
+use rrd_spec::laws;
+use rrd_spec::limits::{LATEST_TIME, MOST_ARCHIVES, MOST_SOURCES};
+use std::alloc::{AllocError, Global};
+use std::marker::Model;
+use undoing::undo;
+
+mod cursor;
+mod fitting;
+mod judged;
+mod made;
+mod undoing;
+
+/// Why a piece is not taken.
+#[derive(Clone, Copy, Debug, PartialEq, Eq)]
+pub enum PieceFault {
+    /// It breaks a rule, or another piece is due.
+    Bad,
+    /// There is no memory for it.
+    OutOfMemory,
+}
+
+/// A database of which a file's pieces came so far. Contracts see the lists of those pieces.
+#[derive(Drop)]
+pub struct Rebuild {
+    alloc: Global,
+    step: u64,
+    last: u64,
+    depth: u64,
+    // How many were announced.
+    sources_due: u64,
+    archives_due: u64,
+    entries_due: u64,
+    sources: Vec<DsDef>,
+    raws: Vec<Raw>,
+    preps: Vec<StepPrep>,
+    archives: Vec<Rra>,
+    cursor: Cursor,
+    journal: HeapCircularBuffer<Entry>,
+    // Once the entries that came have been undone.
+    outline: Outline,
+}
+
+impl Model for Rebuild {
+    ghost use Rattle.rrd_base.specs.Rebuild.{filed_of, AreRebuilding};
+    ghost use Rattle.rrd_spec.specs.Filed.{Filed};
+
+    ghost Value = { Filed };
+
+    ghost view = { filed_of };
+
+    ghost invariant = { AreRebuilding };
+}
+
+impl Rebuild {
+    /// Begins with a header: seconds in a step (1 to 1,000,000), the last time (seconds since 1970, up
+    /// to 9,999,999,999), the journal's depth (1 to 1,000), and how many sources (1 to 64), archives
+    /// (1 to 64) and entries (at most the depth) will come. Bad where a number is none of these.
+    pub fn begin(
+        alloc: Global,
+        step: u64,
+        last: u64,
+        depth: u64,
+        sources: u64,
+        archives: u64,
+        entries: u64,
+    ) -> Result<Rebuild, PieceFault>
+        ensures ok { let header : Header = record {
+          version = One;
+          step = step;
+          last = last;
+          depth = depth;
+          sources = sources;
+          archives = archives;
+          entries = entries;
+        } in IfOk result (λ r. IsHeader header × (r ≡ begun header)) }
+        ensures bad { let header : Header = record {
+          version = One;
+          step = step;
+          last = last;
+          depth = depth;
+          sources = sources;
+          archives = archives;
+          entries = entries;
+        } in IfErr result (λ e. e ≡ Bad → IsHeader header → ⊥) }
+    {
+        if is_bad_step(step) || last > LATEST_TIME || is_bad_depth(depth) || entries > depth {
+            return Err(PieceFault::Bad);
+        }
+        if sources == 0 || sources > MOST_SOURCES as u64 {
+            return Err(PieceFault::Bad);
+        }
+        if archives == 0 || archives > MOST_ARCHIVES as u64 {
+            return Err(PieceFault::Bad);
+        }
+        let Ok(journal) = HeapCircularBuffer::with_capacity(alloc, depth as usize) else {
+            return Err(PieceFault::OutOfMemory);
+        };
+        Ok(Rebuild {
+            alloc,
+            step,
+            last,
+            depth,
+            sources_due: sources,
+            archives_due: archives,
+            entries_due: entries,
+            sources: Vec::new(alloc),
+            raws: Vec::new(alloc),
+            preps: Vec::new(alloc),
+            archives: Vec::new(alloc),
+            cursor: Cursor::new(),
+            journal,
+            outline: Outline {
+                last,
+                sources: List::new(alloc),
+                archives: List::new(alloc),
+            },
+        })
+    }
+
+    // The settings of the archive that hasn't all preparations.
+    fn unprepared(&self) -> Option<RraDef>
+        ensures { result ≡ unprepared self.now.header.sources self.now.heads }
+    {
+        let archives = self.archives.len();
+        if archives == 0 {
+            return None;
+        }
+        let rra = &self.archives[archives - 1];
+        if (rra.prepared() as u64) < self.sources_due {
+            return Some(rra.def());
+        }
+        None
+    }
+
+    /// Which piece is due.
+    pub fn due(&self) -> Due
+        ensures { result ≡ due self.now }
+    {
+        laws::cells_stand_in_slots();
+        if (self.sources.len() as u64) < self.sources_due {
+            return Due::SourceDue;
+        }
+        if let Some(def) = self.unprepared() {
+            return Due::PrepDue(def);
+        }
+        let archives = self.archives.len();
+        if (archives as u64) < self.archives_due {
+            return Due::HeadDue;
+        }
+        if self.cursor.archive < archives {
+            return Due::CellDue;
+        }
+        if (self.journal.len() as u64) < self.entries_due {
+            return Due::EntryDue;
+        }
+        Due::NothingDue
+    }
+
+    /// The outline of the database once all entries that came have been undone: it decides which
+    /// entry fits next. It takes no memory.
+    pub fn undone(&self) -> &Outline
+        ensures { result.now ≡ outline_left self.now }
+    {
+        &self.outline
+    }
+
+    // Whether a data source may come.
+    fn may_source(&self, def: &DsDef, raw: Raw, known: u64, sum: i128) -> bool
+        ensures good { let source : Source =
+            record { def = def.now; raw = raw; part = record { known = known; value = sum } } in
+            result ≡ true → MaySource self.now source }
+        ensures bad { let source : Source =
+            record { def = def.now; raw = raw; part = record { known = known; value = sum } } in
+            MaySource self.now source → result ≡ true }
+    {
+        let Due::SourceDue = self.due() else {
+            return false;
+        };
+        if !is_source(def) || !is_accepted(def.kind, raw) {
+            return false;
+        }
+        if !is_part(Function::Average, self.last % self.step, known, sum) {
+            return false;
+        }
+        !has_source(&self.sources, &def.name)
+    }
+
+    /// Takes the next data source, with its last raw value, and how many seconds of its unfinished
+    /// step are known and their sum in millionths. Bad where another piece is due or a rule is
+    /// broken; refused, it changes nothing.
+    pub fn source(&mut self, def: DsDef, raw: Raw, known: u64, sum: i128) -> Result<(), PieceFault>
+        ensures ok { let source : Source =
+            record { def = def; raw = raw; part = record { known = known; value = sum } } in
+            OnOk result (MaySource self.old source × (self.new ≡ with_source self.old source)) }
+        ensures bad { let source : Source =
+            record { def = def; raw = raw; part = record { known = known; value = sum } } in
+            IfErr result (λ e. e ≡ Bad → MaySource self.old source → ⊥) }
+        ensures err { OnErr result (self.new ≡ self.old) }
+    {
+        if !self.may_source(&def, raw, known, sum) {
+            return Err(PieceFault::Bad);
+        }
+        let prep = made_step(known, sum);
+        let Ok(()) = push_source(
+            &mut self.sources,
+            &mut self.raws,
+            &mut self.preps,
+            &mut self.outline.sources,
+            def,
+            raw,
+            prep,
+        ) else {
+            return Err(PieceFault::OutOfMemory);
+        };
+        Ok(())
+    }
+
+    // Whether an archive's settings may come.
+    fn may_head(&self, def: &RraDef) -> bool
+        ensures good { result ≡ true → MayHead self.now def.now }
+        ensures bad { MayHead self.now def.now → result ≡ true }
+    {
+        let Due::HeadDue = self.due() else {
+            return false;
+        };
+        if !is_archive(def) {
+            return false;
+        }
+        let rows = all_rows(&self.archives) + def.rows;
+        !has_too_many_cells(self.sources_due as usize, rows)
+    }
+
+    /// Takes the next archive's settings. Bad where another piece is due or a rule is broken;
+    /// refused, it changes nothing. It takes memory for the archive's rows once its settings are good
+    /// and all cells are at most 4,000,000.
+    pub fn archive(&mut self, def: RraDef) -> Result<(), PieceFault>
+        ensures ok { OnOk result (MayHead self.old def × (self.new ≡ with_head self.old def)) }
+        ensures bad { IfErr result (λ e. e ≡ Bad → MayHead self.old def → ⊥) }
+        ensures err { OnErr result (self.new ≡ self.old) }
+    {
+        if !self.may_head(&def) {
+            return Err(PieceFault::Bad);
+        }
+        let Ok(rra) = Rra::begin(self.alloc, def, self.sources_due) else {
+            return Err(PieceFault::OutOfMemory);
+        };
+        let Ok(()) = push_archive(&mut self.archives, &mut self.outline.archives, rra, def) else {
+            return Err(PieceFault::OutOfMemory);
+        };
+        Ok(())
+    }
+
+    // Whether a preparation may come.
+    fn may_prep(&self, known: u64, value: i128) -> bool
+        ensures good { result ≡ true → MayPrep self.now (record { known = known; value = value }) }
+        ensures bad { MayPrep self.now (record { known = known; value = value }) → result ≡ true }
+    {
+        let Due::PrepDue(def) = self.due() else {
+            return false;
+        };
+        let passed = self.last / self.step % def.steps;
+        is_part(def.function, passed, known, value)
+    }
+
+    /// Takes the next source's preparation in the archive that came last: how many steps are known,
+    /// and what they come to in millionths. Bad where another piece is due or a rule is broken;
+    /// refused, it changes nothing.
+    pub fn prep(&mut self, known: u64, value: i128) -> Result<(), PieceFault>
+        ensures ok { let part : Part = record { known = known; value = value } in
+            OnOk result (MayPrep self.old part × (self.new ≡ with_prep self.old part)) }
+        ensures bad { IfErr result (λ e. e ≡ Bad → MayPrep self.old (record { known = known; value = value }) → ⊥) }
+        ensures err { OnErr result (self.new ≡ self.old) }
+    {
+        if !self.may_prep(known, value) {
+            return Err(PieceFault::Bad);
+        }
+        let last = self.archives.len() - 1;
+        let function = self.archives[last].def().function;
+        let prep = made_row(function, known, value);
+        let Ok(()) = self.archives[last].push_prep(prep) else {
+            return Err(PieceFault::OutOfMemory);
+        };
+        Ok(())
+    }
+
+    // Whether a cell may come.
+    fn may_cell(&self, cell: Cell) -> bool
+        ensures good { result ≡ true → MayCell self.now cell }
+        ensures bad { MayCell self.now cell → result ≡ true }
+    {
+        let Due::CellDue = self.due() else {
+            return false;
+        };
+        is_bounded(cell)
+    }
+
+    /// Takes the next cell, in millionths: archive by archive, slot by slot, source by source. Bad
+    /// where another piece is due or it is past the greatest rate; refused, it changes nothing. It
+    /// takes no memory.
+    pub fn cell(&mut self, cell: Cell) -> Result<(), PieceFault>
+        ensures ok { OnOk result (MayCell self.old cell × (self.new ≡ with_cell self.old cell)) }
+        ensures bad { IfErr result (λ e. e ≡ Bad → MayCell self.old cell → ⊥) }
+        ensures fault { IfErr result (λ e. e ≡ Bad) }
+        ensures err { OnErr result (self.new ≡ self.old) }
+    {
+        laws::rows_stand_in_slots();
+        laws::cells_stand_in_slots();
+        if !self.may_cell(cell) {
+            return Err(PieceFault::Bad);
+        }
+        let rra = &mut self.archives[self.cursor.archive];
+        let def = rra.def();
+        let place = self.cursor.place(&def, self.step, self.last);
+        rra.put(place, self.cursor.source, cell);
+        self.cursor
+            .advance(place, self.sources_due as usize, def.rows);
+        Ok(())
+    }
+
+    // Whether an entry may come.
+    fn may_entry(&self, entry: &Entry) -> bool
+        ensures good { result ≡ true → MayEntry self.now (entry_of entry.now) }
+        ensures bad { MayEntry self.now (entry_of entry.now) → result ≡ true }
+    {
+        laws::cells_stand_in_slots();
+        laws::journals_in_pieces();
+        laws::outlines_follow();
+        let Due::EntryDue = self.due() else {
+            return false;
+        };
+        may_undo(self.step, &self.outline, entry)
+    }
+
+    /// Takes the next entry, newest first. Bad where another piece is due or it doesn't fit the
+    /// outline that the entries before it leave; refused, it changes nothing. It takes no memory: the
+    /// journal has its places from the beginning.
+    pub fn entry(&mut self, entry: Entry) -> Result<(), PieceFault>
+        ensures ok { OnOk result (MayEntry self.old (entry_of entry)
+            × (self.new ≡ with_entry self.old (entry_of entry))) }
+        ensures bad { IfErr result (λ e. e ≡ Bad → MayEntry self.old (entry_of entry) → ⊥) }
+        ensures fault { IfErr result (λ e. e ≡ Bad) }
+        ensures err { OnErr result (self.new ≡ self.old) }
+    {
+        laws::cells_stand_in_slots();
+        laws::outlines_follow();
+        laws::outlines_judge_journals();
+        if !self.may_entry(&entry) {
+            return Err(PieceFault::Bad);
+        }
+        undo(&mut self.outline, &entry);
+        let _oldest = self.journal.push_front(entry);
+        Ok(())
+    }
+
+    /// The database, once all announced pieces came. It takes no memory.
+    pub fn finish(self) -> Database
+        requires { due self ≡ NothingDue }
+        ensures { filed One result ≡ self }
+    {
+        let Rebuild {
+            step,
+            last,
+            depth,
+            sources,
+            raws,
+            preps,
+            archives,
+            journal,
+            ..
+        } = self;
+        let content = Content {
+            step,
+            depth,
+            last,
+            sources,
+            raws,
+            preps,
+            archives,
+        };
+        Database::of(content, journal)
+    }
+}
+
+// Takes a source's settings, twice, its raw value and its preparation; all or none.
+fn push_source(
+    sources: &mut Vec<DsDef>,
+    raws: &mut Vec<Raw>,
+    preps: &mut Vec<StepPrep>,
+    defs: &mut List<DsDef>,
+    def: DsDef,
+    raw: Raw,
+    prep: StepPrep,
+) -> Result<(), AllocError>
+    ensures ok { OnOk result ((sources.new.items ≡ sources.old.items ++ def ∷ [])
+        × (raws.new.items ≡ raws.old.items ++ raw ∷ [])
+        × (preps.new.items ≡ preps.old.items ++ prep ∷ [])
+        × (defs.new ≡ defs.old ++ def ∷ [])) }
+    ensures err { OnErr result ((sources.new.items ≡ sources.old.items)
+        × (raws.new.items ≡ raws.old.items)
+        × (preps.new.items ≡ preps.old.items)
+        × (defs.new ≡ defs.old)) }
+{
+    sources.reserve(1)?;
+    raws.reserve(1)?;
+    preps.reserve(1)?;
+    defs.push(def.duplicate())?;
+    sources.push_reserved(def);
+    raws.push_reserved(raw);
+    preps.push_reserved(prep);
+    Ok(())
+}
+
+// Takes an archive, and its settings once more; both or none.
+fn push_archive(
+    archives: &mut Vec<Rra>,
+    defs: &mut List<RraDef>,
+    rra: Rra,
+    def: RraDef,
+) -> Result<(), AllocError>
+    ensures ok { OnOk result ((archives.new.items ≡ archives.old.items ++ rra ∷ [])
+        × (defs.new ≡ defs.old ++ def ∷ [])) }
+    ensures err { OnErr result ((archives.new.items ≡ archives.old.items) × (defs.new ≡ defs.old)) }
+{
+    archives.reserve(1)?;
+    defs.push(def)?;
+    archives.push_reserved(rra);
+    Ok(())
+}
