@@ -21,3 +21,12 @@ pub mod EntryRuns
 pub mod BodyRuns
 pub mod ValidRuns
 pub mod OneAnswer
+pub mod Filled
+pub mod Reached
+pub mod OneShape
+pub mod Coming
+pub mod Judged
+pub mod Kept
+pub mod Whole
+pub mod Turns
+pub mod Rowed
