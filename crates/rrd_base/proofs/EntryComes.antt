@@ -81,7 +81,7 @@ pub at_entry_valid : (d : Coming) → IsRebuilding d → AtEntry d → IsValid (
 at_entry_valid d is at = content_is_valid d is at.sources at.heads.all at.heads.prepared
 
 -- that of the content before all changes, said by its outline now
-outline_by : AllFiled → (d : Coming) → IsRebuilding d → d.outline ≡ fold outline_undone (outline_of (content_so_far d)) (journal_of d.journal)
+pub outline_by : AllFiled → (d : Coming) → IsRebuilding d → d.outline ≡ fold outline_undone (outline_of (content_so_far d)) (journal_of d.journal)
 outline_by filed d is =
     let lists : outline_filed (filed_in d) ≡ outline_of (content_so_far d) = filed (record { content = content_so_far d; journal = journal_of d.journal }) (lengths_same d.sources d.raws is.raws_are) is.one_part_each in
     is.outline_is ∙ ap (λ (o : Outline). fold outline_undone o (journal_of d.journal)) lists

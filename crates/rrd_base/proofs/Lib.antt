@@ -20,3 +20,4 @@ pub mod Comes
 pub mod CellComes
 pub mod FittingLemmas
 pub mod EntryComes
+pub mod Entering

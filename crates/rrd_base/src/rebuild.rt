@@ -18,7 +18,7 @@ use crate::{Database, DsDef, Due, List, Outline, RraDef};
 use circular_buffer::HeapCircularBuffer;
 use cursor::Cursor;
 use fitting::may_undo;
-use judged::{is_accepted, is_archive, is_bounded, is_part, is_source};
+use judged::{is_archive, is_part};
 use made::{made_row, made_step};
 use rrd_fixed::{Cell, Raw};
 use rrd_fold::{Function, StepPrep};
@@ -29,10 +29,13 @@ use std::marker::Model;
 use undoing::undo;
 
 mod cursor;
+mod entering;
 mod fitting;
 mod judged;
 mod made;
 mod undoing;
+
+pub use judged::{is_accepted, is_bounded, is_source};
 
 /// Why a piece is not taken.
 #[derive(Clone, Copy, Debug, PartialEq, Eq)]

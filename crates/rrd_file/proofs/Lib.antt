@@ -7,12 +7,12 @@ pub mod SignedBytes
 pub mod Tests
 pub mod Lengths
 pub mod Spelled
+pub mod SignedBack
+pub mod ReadBack
 pub mod Sizes
 pub mod Order
 pub mod Sound
 pub mod OneSpelling
-pub mod SignedBack
-pub mod ReadBack
 pub mod Ways
 pub mod OneEntry
 pub mod Came
@@ -21,3 +21,12 @@ pub mod EntryRuns
 pub mod BodyRuns
 pub mod ValidRuns
 pub mod OneAnswer
+pub mod Filled
+pub mod Reached
+pub mod OneShape
+pub mod Coming
+pub mod Judged
+pub mod Kept
+pub mod Whole
+pub mod Turns
+pub mod Rowed

@@ -10,3 +10,7 @@ pub mod Gathered
 pub mod Entered
 pub mod Readings
 pub mod Worked
+pub mod Waited
+pub mod Inputs
+pub mod Standing
+pub mod Shapes

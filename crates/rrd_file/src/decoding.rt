@@ -1,15 +1,142 @@
-//! A database read from bytes.
-ghost use Rattle.std.specs.Prelude.{◌≡◌, List, Some, ℕ};
+//! A database from its bytes.
+ghost use Rattle.std.specs.Prelude.{◌≡◌, ◌+◌, ◌⊎◌, ◌<◌, ℕ, List, [], Some, IfOk, OnOk};
+ghost use Rattle.rrd_spec.specs.Filed.{Filed, One};
+ghost use Rattle.rrd_spec.specs.Rebuilding.{due};
+ghost use Rattle.rrd_spec.specs.declared.due.Due.TheVariants.{EntryDue, NothingDue};
 ghost use Rattle.rrd_file.specs.Faults.{IsAnswer};
+ghost use Rattle.rrd_file.specs.Stages.{Body, Marked, Start, Versioned};
+ghost use Rattle.rrd_file.specs.Standing.{Ends, Reaches, Stands};
 
 use crate::FileFault;
-use rrd_base::Database;
+use crate::input::PieceReader;
+use crate::reading::{four_of, header_of, two_of};
+use blocks::{cell, head, prep, source};
+use faults::block_fault;
+use journal::entry;
+use rrd_base::{Database, Due, Rebuild};
 use std::alloc::Global;
 use std::io::Read;
 
-/// Reads the database of a layout, its journal with it, from a reader that has nothing else.
+mod blocks;
+mod faults;
+mod journal;
+mod resize;
+mod rows;
+mod tune;
+mod update;
+
+/// The letters RRDI, as a number.
+const MARK: u64 = 0x5252_4449;
+
+// Reads the mark.
+fn mark<R: Read + Drop>(input: &mut PieceReader<R>) -> Result<(), FileFault>
+    ensures { (bytes : List ℕ) → Stands bytes Start input.old → Reaches bytes (λ x. Marked) input.new result }
+{
+    let mut piece = [0u8; 4];
+    input.piece(&mut piece)?;
+    let (letters, _) = four_of(&piece);
+    if letters != MARK {
+        return Err(FileFault::NotOurs);
+    }
+    Ok(())
+}
+
+// Reads the version, which is 1.
+fn version<R: Read + Drop>(input: &mut PieceReader<R>) -> Result<(), FileFault>
+    ensures { (bytes : List ℕ) → Stands bytes Marked input.old
+        → Reaches bytes (λ x. Versioned One) input.new result }
+{
+    let mut piece = [0u8; 2];
+    input.piece(&mut piece)?;
+    let (number, _) = two_of(&piece);
+    if number != 1 {
+        return Err(FileFault::Version);
+    }
+    Ok(())
+}
+
+// Reads the header, and begins the database.
+fn header<R: Read + Drop>(alloc: Global, input: &mut PieceReader<R>) -> Result<Rebuild, FileFault>
+    ensures { (bytes : List ℕ) → Stands bytes (Versioned One) input.old → Reaches bytes Body input.new result }
+{
+    let at = input.at();
+    let mut piece = [0u8; 20];
+    input.piece(&mut piece)?;
+    let said = header_of(&piece);
+    let begun = Rebuild::begin(
+        alloc,
+        said.step,
+        said.last,
+        said.depth,
+        said.sources,
+        said.archives,
+        said.entries,
+    );
+    match begun {
+        Ok(build) => Ok(build),
+        Err(fault) => Err(block_fault(fault, at)),
+    }
+}
+
+// Reads what comes between the header and the entries.
+fn body<R: Read + Drop>(input: &mut PieceReader<R>, build: &mut Rebuild) -> Result<(), FileFault>
+    ensures steps { (bytes : List ℕ) → Stands bytes (Body build.old) input.old
+        → Reaches bytes (λ x. Body build.new) input.new result }
+    ensures done { OnOk result ((due build.new ≡ EntryDue) ⊎ (due build.new ≡ NothingDue)) }
+{
+    loop {
+        match build.due() {
+            Due::SourceDue => source(input, build)?,
+            Due::HeadDue => head(input, build)?,
+            Due::PrepDue(_) => prep(input, build)?,
+            Due::CellDue => cell(input, build)?,
+            Due::EntryDue | Due::NothingDue => return Ok(()),
+        }
+    }
+}
+
+// Reads the entries.
+fn entries<R: Read + Drop>(
+    alloc: Global,
+    input: &mut PieceReader<R>,
+    build: &mut Rebuild,
+) -> Result<(), FileFault>
+    requires { (due build.old ≡ EntryDue) ⊎ (due build.old ≡ NothingDue) }
+    ensures steps { (bytes : List ℕ) → Stands bytes (Body build.old) input.old
+        → Reaches bytes (λ x. Body build.new) input.new result }
+    ensures done { OnOk result (due build.new ≡ NothingDue) }
+{
+    while let Due::EntryDue = build.due() {
+        entry(alloc, input, build)?;
+    }
+    Ok(())
+}
+
+// Wants the end of the input.
+fn end<R: Read + Drop>(input: &mut PieceReader<R>) -> Result<(), FileFault>
+    ensures { (bytes : List ℕ) (f : Filed) → due f ≡ NothingDue → Stands bytes (Body f) input.old
+        → Ends bytes f result }
+{
+    let at = input.at();
+    if !input.is_at_end()? {
+        return Err(FileFault::Trailing { at });
+    }
+    Ok(())
+}
+
+/// The database whose layout the input is, or the first fault in file order. It reads 65,536 bytes at
+/// a time; a read that is interrupted is tried again, at most 1,000 times in a row.
 pub fn decode<R: Read + Drop>(alloc: Global, reader: R) -> Result<Database, FileFault>
     ensures { (bytes : List ℕ) → R.remaining reader ≡ Some bytes → IsAnswer bytes result }
 {
-    Err(FileFault::Read)
+    let Ok(mut input) = PieceReader::new(alloc, reader) else {
+        return Err(FileFault::OutOfMemory);
+    };
+    mark(&mut input)?;
+    version(&mut input)?;
+    let mut build = header(alloc, &mut input)?;
+    body(&mut input, &mut build)?;
+    entries(alloc, &mut input, &mut build)?;
+    end(&mut input)?;
+    Ok(build.finish())
 }

@@ -1,4 +1,4 @@
-//! The bytes of a database in a file: their definition, and how they are written.
+//! The bytes of a database in a file: their definition, how they are written, and how they are read.
 #![tactic(auto)]
 
 mod block;
@@ -8,6 +8,7 @@ mod decoding;
 mod encoding;
 mod entries;
 mod fault;
+mod input;
 pub mod laws;
 mod pieces;
 mod reading;

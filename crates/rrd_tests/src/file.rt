@@ -44,7 +44,7 @@ pub(crate) fn file_of(alloc: Global, database: &Database) -> Result<Vec<u8>, Fai
 }
 
 // The file of a new database with the gauge `g` and an archive of four rows.
-fn new_file(alloc: Global) -> Result<Vec<u8>, AllocError> {
+pub(crate) fn new_file(alloc: Global) -> Result<Vec<u8>, AllocError> {
     joined(
         alloc,
         &[
@@ -126,7 +126,7 @@ pub(crate) fn sampled_file(alloc: Global) -> Result<Vec<u8>, AllocError> {
 
 // Steps of 10 seconds from 0 on, two archives and two sources: a gauge, and one that counts up and down
 // and has bounds.
-fn created_with_two(alloc: Global) -> Result<Database, Fail> {
+pub(crate) fn created_with_two(alloc: Global) -> Result<Database, Fail> {
     let mut sources = List::new(alloc);
     sources.push(source(b"a", Kind::Gauge, 100)?)?;
     sources.push(DsDef {

@@ -8,6 +8,8 @@ mod changes;
 #[cfg(test)]
 mod database;
 #[cfg(test)]
+mod decoding;
+#[cfg(test)]
 mod entries;
 #[cfg(test)]
 mod faults;

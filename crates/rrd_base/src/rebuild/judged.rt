@@ -15,7 +15,7 @@ use rrd_fold::Function;
 const TOP: u128 = 18_446_744_073_709_551_615_000_000;
 
 /// Whether a source's settings are good.
-pub(super) fn is_source(source: &DsDef) -> bool
+pub fn is_source(source: &DsDef) -> bool
     ensures good { result ≡ true → IsSource source.now }
     ensures bad { IsSource source.now → result ≡ true }
 {
@@ -23,7 +23,7 @@ pub(super) fn is_source(source: &DsDef) -> bool
 }
 
 /// Whether a source of this kind accepts a raw value.
-pub(super) fn is_accepted(kind: Kind, raw: Raw) -> bool
+pub fn is_accepted(kind: Kind, raw: Raw) -> bool
     ensures good { result ≡ true → IsAccepted kind raw }
     ensures bad { IsAccepted kind raw → result ≡ true }
 {
@@ -69,7 +69,7 @@ pub(super) fn is_archive(def: &RraDef) -> bool
 }
 
 /// Whether a cell is not past the greatest rate.
-pub(super) fn is_bounded(cell: Cell) -> bool
+pub fn is_bounded(cell: Cell) -> bool
     ensures good { result ≡ true → IsBounded cell }
     ensures bad { IsBounded cell → result ≡ true }
 {

@@ -1,0 +1,167 @@
+-- The pieces of an entry, one after another.
+use Rattle.std.proofs.Common.{◌≡◌, ◌≢◌, ◌∙◌, ◌++◌, ◌∷◌, ◌+◌, ◌-◌, ◌<◌, ◌≤◌, ℕ, suc, List, [], sym, ap, subst, refl, take, append_assoc, length, length-append, arith, take_at, get_or}
+use Rattle.std.specs.Prelude.{Some, ◌==◌}
+use Rattle.std.specs.List.{flat_map}
+use Rattle.rrd_spec.specs.declared.due.Due.TheVariants.{EntryDue}
+use Rattle.rrd_spec.specs.Entries.{Entry}
+use Rattle.rrd_spec.specs.Filed.{Filed}
+use Rattle.rrd_spec.specs.Rebuilding.{MayEntry, due, limits, outline_left, with_entry}
+use Rattle.rrd_file.specs.declared.fault.FileFault.{FileFault}
+use Rattle.rrd_file.specs.declared.fault.FileFault.TheVariants.{BadEntry}
+use Rattle.rrd_file.specs.Faults.{Front, IsBad, IsFault, bad_at, bad_in_body}
+use Rattle.rrd_file.specs.Inputs.{Gives, Input, IsCut, left}
+use Rattle.rrd_file.specs.Layout.{entry_pieces}
+use Rattle.rrd_file.specs.Pieces.{AResize, ATune, AnUpdate, OfTag, Piece, Tag, spell, tag_byte}
+use Rattle.rrd_file.specs.Shapes.{IsShaped}
+use Rattle.rrd_file.specs.Stages.{BeforeDue, Body, CountDue, DueInEntry, NamedDue, NumberDue, OldRowsDue, RowCellDue, RowPrepDue, RowsDue, TimeDue, GoesOn, Keeps, Stage, Takes, Within, behind, body_size, first_due, size, size_due}
+use Rattle.rrd_file.specs.Standing.{Comes, Stands}
+use Rattle.rrd_file.proofs.OneShape.{shaped_one, undo_shaped}
+use Rattle.rrd_file.proofs.Reached.{cut, front_more, gives_rest, refused}
+use Rattle.rrd_file.proofs.Ways.{Step, ToMark, ToVersion, ToHeader, ToSource, ToHead, ToPrep, ToCell, ToEntry, ToPiece, step_of}
+
+some_due : (d : DueInEntry) → 0 < size_due d
+some_due TimeDue = omega arith
+some_due (BeforeDue last def) = omega arith
+some_due (RowPrepDue last def) = omega arith
+some_due (RowsDue rows) = omega arith
+some_due RowCellDue = omega arith
+some_due CountDue = omega arith
+some_due (NamedDue lowest more) = omega arith
+some_due NumberDue = omega arith
+some_due (OldRowsDue archive) = omega arith
+
+-- the stage, where something is due
+pub inside : (bytes : List ℕ) (f : Filed) (pieces : List Piece) (d : DueInEntry) (later : List DueInEntry) (input : Input) → Comes bytes f pieces (d ∷ later) input → Stands bytes (Within f pieces (d ∷ later)) input
+inside bytes f pieces d later input c = record {
+  rest = c.rest;
+  front = front_more bytes c.stage (Within f pieces (d ∷ later)) c.last c.rest c.front (c.goes_on (Within f pieces (d ∷ later)) refl);
+  left_is = c.left_is;
+  place = c.place;
+}
+
+-- ---- a piece that came
+
+-- it keeps to its rule, and no other that does is spelled so
+pub came : (bytes : List ℕ) (f : Filed) (pieces : List Piece) (d : DueInEntry) (later : List DueInEntry) (old new : Input) (p : Piece) (piece : List ℕ)
+    → Comes bytes f pieces (d ∷ later) old → Gives old piece new → spell p ≡ piece → size_due d ≡ length piece → Keeps (limits f) f.header.step (outline_left f) d p
+    → ((q : Piece) → Keeps (limits f) f.header.step (outline_left f) d q → spell q ≡ spell p → q ≡ p)
+    → Comes bytes f (pieces ++ p ∷ []) (behind f.header.step (outline_left f) d p ++ later) new
+unfolding Takes size
+came bytes f pieces d later old new p piece c g e len k one =
+    let st = inside bytes f pieces d later old c in
+    let after = gives_rest (left old) (left new) piece st.rest st.left_is g.consumed in
+    let is : st.rest ≡ spell p ++ after.0 = after.2 ∙ ap (λ l. l ++ after.0) (sym e) in
+    record {
+      rest = after.0;
+      stage = Within f pieces (d ∷ later);
+      last = p;
+      some = omega (arith, ap length e, len, some_due d);
+      front = subst (Front bytes (Within f pieces (d ∷ later))) is st.front;
+      whole = ap length e ∙ sym len;
+      goes_on = λ next goes. (k, goes);
+      only = λ q next t same. subst (λ (x : Piece). GoesOn f (pieces ++ x ∷ []) (behind f.header.step (outline_left f) d x ++ later) next) (one q t.0 same) t.1;
+      fault_is = λ at. refl;
+      left_is = after.1;
+      place = omega (arith, st.place, g.moved, ap length after.2, length-append piece after.0);
+    }
+
+-- none that keeps to the rule is spelled so
+pub wrong : (bytes : List ℕ) (f : Filed) (pieces : List Piece) (d : DueInEntry) (later : List DueInEntry) (old new : Input) (piece : List ℕ)
+    → Comes bytes f pieces (d ∷ later) old → Gives old piece new → size_due d ≡ length piece
+    → ((q : Piece) → Keeps (limits f) f.header.step (outline_left f) d q → spell q ≢ piece) → IsBad bytes (BadEntry (suc (length f.entries)))
+unfolding Takes size
+wrong bytes f pieces d later old new piece c g len none =
+    refused bytes (Within f pieces (d ∷ later)) piece old new (BadEntry (suc (length f.entries))) (inside bytes f pieces d later old c) g len (omega (arith, len, some_due d)) (λ q n t. none q t.0) refl
+
+-- it did not come whole
+pub cut_within : (bytes : List ℕ) (f : Filed) (pieces : List Piece) (d : DueInEntry) (later : List DueInEntry) (old : Input) (n : ℕ) (fault : FileFault) → Comes bytes f pieces (d ∷ later) old → size_due d ≡ n → IsCut old n fault → IsFault bytes fault
+unfolding size
+cut_within bytes f pieces d later old n fault c len is = cut bytes (Within f pieces (d ∷ later)) n old fault (inside bytes f pieces d later old c) len is
+
+-- ---- the tag
+
+tag_same : (t u : Tag) → tag_byte t ≡ tag_byte u → t ≡ u
+tag_same AnUpdate AnUpdate e = refl
+tag_same ATune ATune e = refl
+tag_same AResize AResize e = refl
+tag_same AnUpdate ATune e = absurd (let bad : 1 ≡ 2 = e in omega (arith, bad))
+tag_same AnUpdate AResize e = absurd (let bad : 1 ≡ 3 = e in omega (arith, bad))
+tag_same ATune AnUpdate e = absurd (let bad : 2 ≡ 1 = e in omega (arith, bad))
+tag_same ATune AResize e = absurd (let bad : 2 ≡ 3 = e in omega (arith, bad))
+tag_same AResize AnUpdate e = absurd (let bad : 3 ≡ 1 = e in omega (arith, bad))
+tag_same AResize ATune e = absurd (let bad : 3 ≡ 2 = e in omega (arith, bad))
+
+-- where an entry is due, a piece is its tag
+tag_step : {f : Filed} {q : Piece} {next : Stage} → due f ≡ EntryDue → Step (Body f) q next → (u : Tag) × (q ≡ OfTag u) × GoesOn f (OfTag u ∷ []) (first_due u) next
+tag_step e (ToSource f s k) = absurd (let both = sym e ∙ k.is_due in cc)
+tag_step e (ToHead f def k) = absurd (let both = sym e ∙ k.is_due in cc)
+tag_step e (ToPrep f part k) = absurd (let both = sym e ∙ k.is_due in cc)
+tag_step e (ToCell f cell k) = absurd (let both = sym e ∙ k.is_due in cc)
+tag_step e (ToEntry f u next is goes) = (u, refl, goes)
+
+byte_of : (t u : Tag) → spell (OfTag u) ≡ spell (OfTag t) → tag_byte u ≡ tag_byte t
+unfolding spell
+byte_of t u e = ap (λ l. get_or l 0 0) e
+
+pub came_first : (bytes : List ℕ) (f : Filed) (t : Tag) (old new : Input) (piece : List ℕ) → due f ≡ EntryDue → Stands bytes (Body f) old → Gives old piece new → spell (OfTag t) ≡ piece → length piece ≡ 1 → Comes bytes f (OfTag t ∷ []) (first_due t) new
+unfolding Takes size
+came_first bytes f t old new piece is_due st g e len =
+    let after = gives_rest (left old) (left new) piece st.rest st.left_is g.consumed in
+    let is : st.rest ≡ spell (OfTag t) ++ after.0 = after.2 ∙ ap (λ l. l ++ after.0) (sym e) in
+    record {
+      rest = after.0;
+      stage = Body f;
+      last = OfTag t;
+      some = omega (arith, ap length e, len);
+      front = subst (Front bytes (Body f)) is st.front;
+      whole = ap length e ∙ len ∙ sym (ap body_size is_due);
+      goes_on = λ next goes. (is_due, goes);
+      only = λ q next taken same.
+          let it = tag_step is_due (step_of (Body f) q next taken) in
+          let byte : tag_byte it.0 ≡ tag_byte t = byte_of t it.0 (sym (ap spell it.1) ∙ same) in
+          subst (λ (u : Tag). GoesOn f (OfTag u ∷ []) (first_due u) next) (tag_same it.0 t byte) it.2;
+      fault_is = λ at. sym (ap (bad_in_body f at) is_due);
+      left_is = after.1;
+      place = omega (arith, st.place, g.moved, ap length after.2, length-append piece after.0);
+    }
+
+-- no tag is spelled so
+pub wrong_tag : (bytes : List ℕ) (f : Filed) (old new : Input) (piece : List ℕ) → due f ≡ EntryDue → Stands bytes (Body f) old → Gives old piece new → length piece ≡ 1 → ((u : Tag) → spell (OfTag u) ≢ piece) → IsBad bytes (BadEntry (suc (length f.entries)))
+unfolding size
+wrong_tag bytes f old new piece is_due st g len none =
+    refused bytes (Body f) piece old new (BadEntry (suc (length f.entries))) st g (ap body_size is_due ∙ sym len) (omega (arith, len))
+    (λ q n t e. let it = tag_step is_due (step_of (Body f) q n t) in none it.0 (sym (ap spell it.1) ∙ e)) (sym (ap (bad_in_body f old.at) is_due))
+
+pub cut_tag : (bytes : List ℕ) (f : Filed) (old : Input) (n : ℕ) (fault : FileFault) → due f ≡ EntryDue → Stands bytes (Body f) old → n ≡ 1 → IsCut old n fault → IsFault bytes fault
+unfolding size
+cut_tag bytes f old n fault is_due st len is = cut bytes (Body f) n old fault st (ap body_size is_due ∙ sym len) is
+
+-- ---- after the last piece
+
+-- the entry may come
+pub closed : (bytes : List ℕ) (f new : Filed) (input : Input) (e : Entry) → Comes bytes f (entry_pieces e) [] input → MayEntry f e × (new ≡ with_entry f e) → Stands bytes (Body new) input
+closed bytes f new input e c m = record {
+  rest = c.rest;
+  front = front_more bytes c.stage (Body new) c.last c.rest c.front (c.goes_on (Body new) (e, refl, m.0, ap Body m.1));
+  left_is = c.left_is;
+  place = c.place;
+}
+
+-- it may not: no entry with these pieces may
+pub denied : (bytes : List ℕ) (f : Filed) (input : Input) (e : Entry) → Comes bytes f (entry_pieces e) [] input → IsShaped (outline_left f) e → (MayEntry f e → ⊥) → IsBad bytes (BadEntry (suc (length f.entries)))
+denied bytes f input e c shaped never =
+    let before = flat_map spell c.front.pieces in
+    let long : length bytes ≡ length before + (length (spell c.last) + length c.rest) = ap length c.front.parts ∙ length-append before (spell c.last ++ c.rest) ∙ ap (λ n. length before + n) (length-append (spell c.last) c.rest) in
+    record {
+      stage = c.stage;
+      rest = spell c.last ++ c.rest;
+      front = c.front;
+      is_due = omega (arith, c.some, c.whole);
+      whole = omega (arith, c.whole, length-append (spell c.last) c.rest);
+      none = λ q n t same.
+          let goes = c.only q n t (same ∙ take_at (spell c.last) c.rest (size c.stage) c.whole) in
+          never (subst (MayEntry f) (shaped_one (outline_left f) goes.0 e (undo_shaped f goes.0 goes.2) shaped goes.1) goes.2);
+      at = length before;
+      place = omega (arith, long, length-append (spell c.last) c.rest);
+      fault_is = c.fault_is (length before);
+    }

@@ -1,0 +1,55 @@
+-- Bytes that came behind those that wait in a buffer.
+use Rattle.std.proofs.Common.{◌≡◌, ◌∙◌, ◌++◌, ◌+◌, ◌-◌, ◌<◌, ◌≤◌, ℕ, List, [], sym, ap, refl, length, take, drop, slice_range, arith, append_assoc, append-nil, length-append, length-drop}
+use Rattle.std.specs.Prelude.{Option, Some, None, true, false, Bool, ◌==◌, IfSome}
+use Rattle.std.proofs.lemmas.List.Edits.{take-paste}
+use Rattle.std.specs.List.{copy_within}
+use Rattle.std.specs.Io.KnownBytes.{Consumes, IsAtEnd, Keeps, prepend_known}
+use Rattle.std.proofs.lemmas.List.{take-append-le}
+use Rattle.std.proofs.lemmas.Slice.{take-put_mid_below}
+use borrow.Rule.Slice.PartMut.{put_mid, post_of}
+use Rattle.std.proofs.lemmas.List.{drop_at, length-take-le, take_at}
+use lib.Seq.{take-add}
+
+-- the waiting bytes at the front
+front_is : (xs : List ℕ) (from end : ℕ) → from ≤ end → end ≤ length xs
+    → take (end - from) (copy_within xs from end 0) ≡ slice_range xs from end
+front_is xs from end ordered within =
+    let m = end - from in
+    let same : m ≡ 0 + m = omega arith in
+    ap (λ k. take k (copy_within xs from end 0)) same ∙ take-paste xs 0 (drop from xs) m (omega arith) (omega (arith, length-drop from xs))
+
+-- and those that came behind them
+pub filled : (xs ys buffer : List ℕ) (from end k n : ℕ) → from ≤ end → end ≤ length xs → length ys ≡ length xs
+    → ys ≡ copy_within xs from end 0 → n ≤ length buffer
+    → slice_range (put_mid (end - from) k ys buffer) 0 (end - from + n) ≡ slice_range xs from end ++ take n buffer
+filled xs ys buffer from end k n ordered within same is fits =
+    let m = end - from in
+    let short : m ≤ length ys = omega (arith, same) in
+    let front = take m ys in
+    let after = post_of m k ys in
+    let long : length front ≡ m = length-take-le m ys short in
+    let room : m + n - 0 ≡ m + n = omega arith in
+    ap (λ k. take k (front ++ (buffer ++ after))) room ∙ take-add m n (front ++ (buffer ++ after))
+    ∙ (rw (take_at front (buffer ++ after) m long, drop_at front (buffer ++ after) m long, take-append-le n buffer after fits) refl)
+    ∙ ap (λ l. l ++ take n buffer) (ap (take m) is ∙ front_is xs from end ordered within)
+
+-- what was read moves to those that wait
+pub waited : (old new : Option (List ℕ)) (before after came : List ℕ) → Consumes old new came → after ≡ before ++ came
+    → Keeps (prepend_known before old) (prepend_known after new)
+waited None new before after came c e = tt
+waited (Some xs) None before after came c e = absurd c
+waited (Some xs) (Some ys) before after came c e =
+    ap (λ l. l ++ ys) e ∙ append_assoc before came ys ∙ ap (λ l. before ++ l) (sym c)
+
+-- nothing was read
+pub waited_still : (old new : Option (List ℕ)) (before after : List ℕ) → Keeps old new → after ≡ before
+    → Keeps (prepend_known before old) (prepend_known after new)
+waited_still None new before after k e = tt
+waited_still (Some xs) None before after k e = absurd k
+waited_still (Some xs) (Some ys) before after k e = λ i. e i ++ k i
+
+-- a part of a buffer that was filled keeps the buffer's length
+pub refilled : (all buffer : List ℕ) (m : ℕ) → m ≤ length all → length buffer ≡ length all - m → length (put_mid m (length all - m) all buffer) ≡ length all
+refilled all buffer m short size =
+    let after = post_of m (length all - m) all in
+    omega (arith, length-append (take m all) (buffer ++ after), length-append buffer after, length-take-le m all short, size, length-drop (length all - m) (drop m all), length-drop m all)

@@ -1,0 +1,249 @@
+-- Pieces of the body that came whole: taken, or refused.
+use Rattle.std.proofs.Common.{◌≡◌, ◌≢◌, ◌∙◌, ◌++◌, ◌∷◌, ◌+◌, ◌^◌, ◌<◌, ◌≤◌, ℕ, List, [], sym, ap, subst, refl, length, arith}
+use Rattle.rrd_fixed.specs.declared.cell.Cell.{Cell}
+use Rattle.rrd_fold.specs.Parts.{Part}
+use Rattle.rrd_base.specs.declared.rebuild.PieceFault.{PieceFault}
+use Rattle.rrd_base.specs.declared.rebuild.PieceFault.TheVariants as refusal
+use Rattle.rrd_spec.specs.declared.due.Due.TheVariants.{SourceDue, HeadDue, PrepDue, CellDue, EntryDue, NothingDue}
+use Rattle.rrd_spec.specs.declared.settings.RraDef.{RraDef}
+use Rattle.rrd_spec.specs.Filed.{Filed, Header, Source, One}
+use Rattle.rrd_spec.specs.Rebuilding.{IsHeader, MayCell, MayHead, MayPrep, MaySource, begun, due, limits, with_cell, with_head, with_prep, with_source}
+use Rattle.rrd_file.specs.declared.fault.FileFault.{FileFault}
+use Rattle.rrd_file.specs.declared.fault.FileFault.TheVariants.{NotOurs, Version as WrongVersion, BadBlock, BadEntry, Trailing}
+use Rattle.std.specs.Prelude.{Some}
+use Rattle.rrd_file.specs.Faults.{Front, IsBad, IsFault, IsTrailing, IsWhole, bad_in_body}
+use Rattle.rrd_file.specs.Inputs.{Gives, Input, IsCut, left}
+use Rattle.rrd_file.specs.Pieces.{Mark, OfArchive, OfCell, OfHeader, OfPrep, OfSource, OfVersion, Piece, header_bytes, spell}
+use Rattle.rrd_file.specs.Spelling.{four_bytes, two_bytes}
+use Rattle.rrd_file.specs.Stages.{Body, Marked, Stage, Start, Takes, Versioned, body_size, size}
+use Rattle.rrd_file.specs.Standing.{Stands, fault_in_block, fault_in_entry}
+use Rattle.rrd_file.specs.Values.{FitsArchive, FitsCell, FitsHeader, FitsPart, FitsSource}
+use Rattle.rrd_file.proofs.OneSpelling.{archive_fits, cell_fits, header_fits, is_one, prep_fits, source_fits}
+use Rattle.rrd_file.proofs.Reached.{cut, refused, taken}
+use Rattle.rrd_file.proofs.Sound.{IsSound, reached_sound, small_limits}
+use Rattle.rrd_file.proofs.Spelled.{archive_one, cell_one, four_one, header_one, part_one, source_one, two_one}
+use Rattle.rrd_file.proofs.Ways.{Step, ToMark, ToVersion, ToHeader, ToSource, ToHead, ToPrep, ToCell, ToEntry, ToPiece, step_of}
+
+-- ---- refusals
+
+pub refusal_is : (bytes : List ℕ) (at : ℕ) (fault : PieceFault) → (fault ≡ refusal.Bad → IsBad bytes (BadBlock at)) → IsFault bytes (fault_in_block at fault)
+refusal_is bytes at refusal.Bad h = h refl
+refusal_is bytes at refusal.OutOfMemory h = tt
+
+pub entry_refusal_is : (bytes : List ℕ) (number : ℕ) (fault : PieceFault) → (fault ≡ refusal.Bad → IsBad bytes (BadEntry number)) → IsFault bytes (fault_in_entry number fault)
+entry_refusal_is bytes number refusal.Bad h = h refl
+entry_refusal_is bytes number refusal.OutOfMemory h = tt
+
+-- ---- the mark
+
+pub cut_mark : (bytes : List ℕ) (old : Input) (n : ℕ) (fault : FileFault) → n ≡ 4 → Stands bytes Start old → IsCut old n fault → IsFault bytes fault
+unfolding size
+cut_mark bytes old n fault len st c = cut bytes Start n old fault st (sym len) c
+
+mark_is : spell Mark ≡ four_bytes 1381123145
+unfolding spell
+mark_is = refl
+
+pub mark_taken : (bytes piece : List ℕ) (old new : Input) (letters : ℕ) → Stands bytes Start old → Gives old piece new → four_bytes letters ≡ piece → letters ≡ 1381123145 → Stands bytes Marked new
+unfolding Takes
+mark_taken bytes piece old new letters st g is same = taken bytes Start Marked Mark piece old new st g (mark_is ∙ ap (λ n. four_bytes n) (sym same) ∙ is) refl
+
+mark_step : {q : Piece} {n : Stage} → Step Start q n → q ≡ Mark
+mark_step ToMark = refl
+
+pub mark_refused : (bytes piece : List ℕ) (old new : Input) (letters : ℕ) → Stands bytes Start old → Gives old piece new → length piece ≡ 4 → four_bytes letters ≡ piece → letters < 2 ^ 32 → letters ≢ 1381123145 → IsBad bytes NotOurs
+unfolding size
+mark_refused bytes piece old new letters st g len is small never =
+    refused bytes Start piece old new NotOurs st g (sym len) (omega (arith, len))
+    (λ q n t e. never (four_one letters 1381123145 small (omega arith) (is ∙ sym e ∙ ap spell (mark_step (step_of Start q n t)) ∙ mark_is))) refl
+
+-- ---- the version
+
+pub cut_version : (bytes : List ℕ) (old : Input) (n : ℕ) (fault : FileFault) → n ≡ 2 → Stands bytes Marked old → IsCut old n fault → IsFault bytes fault
+unfolding size
+cut_version bytes old n fault len st c = cut bytes Marked n old fault st (sym len) c
+
+version_is : spell (OfVersion One) ≡ two_bytes 1
+unfolding spell
+version_is = refl
+
+pub version_taken : (bytes piece : List ℕ) (old new : Input) (number : ℕ) → Stands bytes Marked old → Gives old piece new → two_bytes number ≡ piece → number ≡ 1 → Stands bytes (Versioned One) new
+unfolding Takes
+version_taken bytes piece old new number st g is same = taken bytes Marked (Versioned One) (OfVersion One) piece old new st g (version_is ∙ ap (λ n. two_bytes n) (sym same) ∙ is) refl
+
+version_step : {q : Piece} {n : Stage} → Step Marked q n → q ≡ OfVersion One
+version_step (ToVersion v) = ap OfVersion (is_one v)
+
+pub version_refused : (bytes piece : List ℕ) (old new : Input) (number : ℕ) → Stands bytes Marked old → Gives old piece new → length piece ≡ 2 → two_bytes number ≡ piece → number < 2 ^ 16 → number ≢ 1 → IsBad bytes WrongVersion
+unfolding size
+version_refused bytes piece old new number st g len is small never =
+    refused bytes Marked piece old new WrongVersion st g (sym len) (omega (arith, len))
+    (λ q n t e. never (two_one number 1 small (omega arith) (is ∙ sym e ∙ ap spell (version_step (step_of Marked q n t)) ∙ version_is))) refl
+
+-- ---- the header
+
+pub cut_header : (bytes : List ℕ) (old : Input) (n : ℕ) (fault : FileFault) → n ≡ 20 → Stands bytes (Versioned One) old → IsCut old n fault → IsFault bytes fault
+unfolding size
+cut_header bytes old n fault len st c = cut bytes (Versioned One) n old fault st (sym len) c
+
+pub header_taken : (bytes piece : List ℕ) (old new : Input) (h : Header) (f : Filed) → Stands bytes (Versioned One) old → Gives old piece new → spell (OfHeader h) ≡ piece → IsHeader h × (f ≡ begun h) → Stands bytes (Body f) new
+unfolding Takes
+header_taken bytes piece old new h f st g is m = taken bytes (Versioned One) (Body f) (OfHeader h) piece old new st g is (is_one h.version, m.0, ap Body m.1)
+
+header_step : {q : Piece} {n : Stage} → Step (Versioned One) q n → (h : Header) × (q ≡ OfHeader h) × IsHeader h
+header_step (ToHeader v h same is) = (h, refl, is)
+
+header_same : (x y : Header) → FitsHeader x → FitsHeader y → spell (OfHeader x) ≡ spell (OfHeader y) → x ≡ y
+unfolding spell
+header_same x y a b e =
+    let vx = is_one x.version in
+    let vy = is_one y.version in
+    header_one x y vx vy a b (ap (λ v. header_bytes v x) (sym vx) ∙ e ∙ ap (λ v. header_bytes v y) vy)
+
+pub header_refused : (bytes piece : List ℕ) (old new : Input) (h : Header) → Stands bytes (Versioned One) old → Gives old piece new → length piece ≡ 20 → spell (OfHeader h) ≡ piece → FitsHeader h → (IsHeader h → ⊥) → IsBad bytes (BadBlock old.at)
+unfolding size
+header_refused bytes piece old new h st g len is fits never =
+    refused bytes (Versioned One) piece old new (BadBlock old.at) st g (sym len) (omega (arith, len))
+    (λ q n t e.
+    let it = header_step (step_of (Versioned One) q n t) in
+    never (subst IsHeader (header_same it.0 h (header_fits it.0 it.2) fits (sym (ap spell it.1) ∙ e ∙ sym is)) it.2)) refl
+
+-- ---- pieces of the body
+
+pub cut_body : (bytes : List ℕ) (f : Filed) (old : Input) (n : ℕ) (fault : FileFault) → body_size (due f) ≡ n → Stands bytes (Body f) old → IsCut old n fault → IsFault bytes fault
+unfolding size
+cut_body bytes f old n fault len st c = cut bytes (Body f) n old fault st len c
+
+sound_body : (bytes : List ℕ) (f : Filed) (old : Input) → Stands bytes (Body f) old → IsSound f
+sound_body bytes f old st = reached_sound st.front.pieces (Body f) st.front.runs
+
+pub source_taken : (bytes piece : List ℕ) (old new : Input) (f to : Filed) (s : Source) → Stands bytes (Body f) old → Gives old piece new → spell (OfSource s) ≡ piece → MaySource f s × (to ≡ with_source f s) → Stands bytes (Body to) new
+unfolding Takes
+source_taken bytes piece old new f to s st g is m = taken bytes (Body f) (Body to) (OfSource s) piece old new st g is (m.0, ap Body m.1)
+
+source_step : {f : Filed} {q : Piece} {n : Stage} → due f ≡ SourceDue → Step (Body f) q n → (s : Source) × (q ≡ OfSource s) × MaySource f s
+source_step e (ToSource f s k) = (s, refl, k)
+source_step e (ToHead f def k) = absurd (let both = sym e ∙ k.is_due in cc)
+source_step e (ToPrep f part k) = absurd (let both = sym e ∙ k.is_due in cc)
+source_step e (ToCell f cell k) = absurd (let both = sym e ∙ k.is_due in cc)
+source_step e (ToEntry f u next k goes) = absurd (let both = sym e ∙ k in cc)
+
+source_same : (x y : Source) → FitsSource x → FitsSource y → spell (OfSource x) ≡ spell (OfSource y) → x ≡ y
+unfolding spell
+source_same x y a b e = source_one x y a b e
+
+pub source_unread : (bytes piece : List ℕ) (old new : Input) (f : Filed) → due f ≡ SourceDue → Stands bytes (Body f) old → Gives old piece new → length piece ≡ 97 → ((s : Source) → FitsSource s → spell (OfSource s) ≢ piece) → IsBad bytes (BadBlock old.at)
+unfolding size
+source_unread bytes piece old new f d st g len none =
+    let sound = sound_body bytes f old st in
+    refused bytes (Body f) piece old new (BadBlock old.at) st g (ap body_size d ∙ sym len) (omega (arith, len))
+    (λ q n t e.
+    let it = source_step d (step_of (Body f) q n t) in
+    none it.0 (source_fits f it.0 sound.header it.2) (sym (ap spell it.1) ∙ e)) (sym (ap (bad_in_body f old.at) d))
+
+pub source_refused : (bytes piece : List ℕ) (old new : Input) (f : Filed) (s : Source) → due f ≡ SourceDue → Stands bytes (Body f) old → Gives old piece new → length piece ≡ 97 → spell (OfSource s) ≡ piece → FitsSource s → (MaySource f s → ⊥) → IsBad bytes (BadBlock old.at)
+unfolding size
+source_refused bytes piece old new f s d st g len is fits never =
+    let sound = sound_body bytes f old st in
+    refused bytes (Body f) piece old new (BadBlock old.at) st g (ap body_size d ∙ sym len) (omega (arith, len))
+    (λ q n t e.
+    let it = source_step d (step_of (Body f) q n t) in
+    never (subst (MaySource f) (source_same it.0 s (source_fits f it.0 sound.header it.2) fits (sym (ap spell it.1) ∙ e ∙ sym is)) it.2)) (sym (ap (bad_in_body f old.at) d))
+
+pub head_taken : (bytes piece : List ℕ) (old new : Input) (f to : Filed) (def : RraDef) → Stands bytes (Body f) old → Gives old piece new → spell (OfArchive def) ≡ piece → MayHead f def × (to ≡ with_head f def) → Stands bytes (Body to) new
+unfolding Takes
+head_taken bytes piece old new f to def st g is m = taken bytes (Body f) (Body to) (OfArchive def) piece old new st g is (m.0, ap Body m.1)
+
+head_step : {f : Filed} {q : Piece} {n : Stage} → due f ≡ HeadDue → Step (Body f) q n → (def : RraDef) × (q ≡ OfArchive def) × MayHead f def
+head_step e (ToHead f def k) = (def, refl, k)
+head_step e (ToSource f s k) = absurd (let both = sym e ∙ k.is_due in cc)
+head_step e (ToPrep f part k) = absurd (let both = sym e ∙ k.is_due in cc)
+head_step e (ToCell f cell k) = absurd (let both = sym e ∙ k.is_due in cc)
+head_step e (ToEntry f u next k goes) = absurd (let both = sym e ∙ k in cc)
+
+archive_same : (x y : RraDef) → FitsArchive x → FitsArchive y → spell (OfArchive x) ≡ spell (OfArchive y) → x ≡ y
+unfolding spell
+archive_same x y a b e = archive_one x y a b e
+
+pub head_unread : (bytes piece : List ℕ) (old new : Input) (f : Filed) → due f ≡ HeadDue → Stands bytes (Body f) old → Gives old piece new → length piece ≡ 13 → ((def : RraDef) → spell (OfArchive def) ≢ piece) → IsBad bytes (BadBlock old.at)
+unfolding size
+head_unread bytes piece old new f d st g len none =
+    refused bytes (Body f) piece old new (BadBlock old.at) st g (ap body_size d ∙ sym len) (omega (arith, len))
+    (λ q n t e.
+    let it = head_step d (step_of (Body f) q n t) in
+    none it.0 (sym (ap spell it.1) ∙ e)) (sym (ap (bad_in_body f old.at) d))
+
+pub head_refused : (bytes piece : List ℕ) (old new : Input) (f : Filed) (def : RraDef) → due f ≡ HeadDue → Stands bytes (Body f) old → Gives old piece new → length piece ≡ 13 → spell (OfArchive def) ≡ piece → FitsArchive def → (MayHead f def → ⊥) → IsBad bytes (BadBlock old.at)
+unfolding size
+head_refused bytes piece old new f def d st g len is fits never =
+    refused bytes (Body f) piece old new (BadBlock old.at) st g (ap body_size d ∙ sym len) (omega (arith, len))
+    (λ q n t e.
+    let it = head_step d (step_of (Body f) q n t) in
+    never (subst (MayHead f) (archive_same it.0 def (archive_fits (limits f) it.0 (small_limits f.header.version) it.2.def_is) fits (sym (ap spell it.1) ∙ e ∙ sym is)) it.2)) (sym (ap (bad_in_body f old.at) d))
+
+pub prep_taken : (bytes piece : List ℕ) (old new : Input) (f to : Filed) (part : Part) → Stands bytes (Body f) old → Gives old piece new → spell (OfPrep part) ≡ piece → MayPrep f part × (to ≡ with_prep f part) → Stands bytes (Body to) new
+unfolding Takes
+prep_taken bytes piece old new f to part st g is m = taken bytes (Body f) (Body to) (OfPrep part) piece old new st g is (m.0, ap Body m.1)
+
+prep_step : {f : Filed} {q : Piece} {n : Stage} (def : RraDef) → due f ≡ PrepDue def → Step (Body f) q n → (part : Part) × (q ≡ OfPrep part) × MayPrep f part
+prep_step def e (ToPrep f part k) = (part, refl, k)
+prep_step def e (ToSource f s k) = absurd (let both = sym e ∙ k.is_due in cc)
+prep_step def e (ToHead f x k) = absurd (let both = sym e ∙ k.is_due in cc)
+prep_step def e (ToCell f cell k) = absurd (let both = sym e ∙ k.is_due in cc)
+prep_step def e (ToEntry f u next k goes) = absurd (let both = sym e ∙ k in cc)
+
+prep_same : (x y : Part) → FitsPart x → FitsPart y → spell (OfPrep x) ≡ spell (OfPrep y) → x ≡ y
+unfolding spell
+prep_same x y a b e = part_one x y a b e
+
+pub prep_refused : (bytes piece : List ℕ) (old new : Input) (f : Filed) (part : Part) → (def : RraDef) × (due f ≡ PrepDue def) → Stands bytes (Body f) old → Gives old piece new → length piece ≡ 20 → spell (OfPrep part) ≡ piece → FitsPart part → (MayPrep f part → ⊥) → IsBad bytes (BadBlock old.at)
+unfolding size
+prep_refused bytes piece old new f part d st g len is fits never =
+    let sound = sound_body bytes f old st in
+    refused bytes (Body f) piece old new (BadBlock old.at) st g (ap body_size d.1 ∙ sym len) (omega (arith, len))
+    (λ q n t e.
+    let it = prep_step d.0 d.1 (step_of (Body f) q n t) in
+    never (subst (MayPrep f) (prep_same it.0 part (prep_fits f it.0 sound it.2) fits (sym (ap spell it.1) ∙ e ∙ sym is)) it.2)) (sym (ap (bad_in_body f old.at) d.1))
+
+pub cell_taken : (bytes piece : List ℕ) (old new : Input) (f to : Filed) (cell : Cell) → Stands bytes (Body f) old → Gives old piece new → spell (OfCell cell) ≡ piece → MayCell f cell × (to ≡ with_cell f cell) → Stands bytes (Body to) new
+unfolding Takes
+cell_taken bytes piece old new f to cell st g is m = taken bytes (Body f) (Body to) (OfCell cell) piece old new st g is (m.0, ap Body m.1)
+
+cell_step : {f : Filed} {q : Piece} {n : Stage} → due f ≡ CellDue → Step (Body f) q n → (cell : Cell) × (q ≡ OfCell cell) × MayCell f cell
+cell_step e (ToCell f cell k) = (cell, refl, k)
+cell_step e (ToSource f s k) = absurd (let both = sym e ∙ k.is_due in cc)
+cell_step e (ToHead f x k) = absurd (let both = sym e ∙ k.is_due in cc)
+cell_step e (ToPrep f part k) = absurd (let both = sym e ∙ k.is_due in cc)
+cell_step e (ToEntry f u next k goes) = absurd (let both = sym e ∙ k in cc)
+
+cell_same : (x y : Cell) → FitsCell x → FitsCell y → spell (OfCell x) ≡ spell (OfCell y) → x ≡ y
+unfolding spell
+cell_same x y a b e = cell_one x y a b e
+
+pub cell_refused : (bytes piece : List ℕ) (old new : Input) (f : Filed) (cell : Cell) → due f ≡ CellDue → Stands bytes (Body f) old → Gives old piece new → length piece ≡ 16 → spell (OfCell cell) ≡ piece → FitsCell cell → (MayCell f cell → ⊥) → IsBad bytes (BadBlock old.at)
+unfolding size
+cell_refused bytes piece old new f cell d st g len is fits never =
+    refused bytes (Body f) piece old new (BadBlock old.at) st g (ap body_size d ∙ sym len) (omega (arith, len))
+    (λ q n t e.
+    let it = cell_step d (step_of (Body f) q n t) in
+    never (subst (MayCell f) (cell_same it.0 cell (cell_fits it.0 it.2.bounded) fits (sym (ap spell it.1) ∙ e ∙ sym is)) it.2)) (sym (ap (bad_in_body f old.at) d))
+
+-- ---- the end
+
+pub ended : (bytes : List ℕ) (f : Filed) (old : Input) → due f ≡ NothingDue → Stands bytes (Body f) old → ((rest : List ℕ) → left old ≡ Some rest → rest ≡ []) → IsWhole bytes f
+unfolding size
+ended bytes f old d st none = record {
+  front = subst (Front bytes (Body f)) (none st.rest st.left_is) st.front;
+  done = ap body_size d;
+}
+
+pub trails : (bytes : List ℕ) (f : Filed) (old : Input) → due f ≡ NothingDue → Stands bytes (Body f) old → ((rest : List ℕ) → left old ≡ Some rest → 0 < length rest) → IsTrailing bytes old.at
+unfolding size
+trails bytes f old d st some = record {
+  stage = Body f;
+  rest = st.rest;
+  front = st.front;
+  done = ap body_size d;
+  some = some st.rest st.left_is;
+  place = st.place;
+}

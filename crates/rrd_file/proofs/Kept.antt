@@ -1,0 +1,116 @@
+-- Pieces of an entry that came whole: kept, or refused.
+use Rattle.std.proofs.Common.{◌≡◌, ◌≢◌, ◌∙◌, ◌++◌, ◌∷◌, ◌+◌, ◌/◌, ◌%◌, ◌^◌, ◌<◌, ◌≤◌, ℕ, suc, List, [], sym, ap, subst, refl, length, arith}
+use native.Mathlib.Nat as nat
+use Rattle.rrd_fixed.specs.declared.cell.Cell.{Cell}
+use Rattle.rrd_fixed.specs.declared.raw.Raw.{Raw}
+use Rattle.rrd_fold.specs.declared.function.Function.TheVariants.{Average}
+use Rattle.rrd_fold.specs.Parts.{Part}
+use Rattle.rrd_spec.specs.declared.entry.SourceBefore.{SourceBefore}
+use Rattle.rrd_spec.specs.declared.outline.Outline.{Outline}
+use Rattle.rrd_spec.specs.declared.settings.DsDef.{DsDef}
+use Rattle.rrd_spec.specs.declared.settings.RraDef.{RraDef}
+use Rattle.rrd_spec.specs.Filed.{Filed}
+use Rattle.rrd_spec.specs.Limits.{Limits}
+use Rattle.rrd_spec.specs.Outlines.{IsSourceBefore}
+use Rattle.rrd_spec.specs.Validity.{IsPart}
+use Rattle.rrd_spec.specs.Rebuilding.{limits, outline_left}
+use Rattle.rrd_file.specs.declared.fault.FileFault.TheVariants.{BadEntry}
+use Rattle.rrd_file.specs.Faults.{IsBad}
+use Rattle.rrd_file.specs.Inputs.{Gives, Input}
+use Rattle.rrd_file.specs.Pieces.{OfCell, OfCount, OfNumber, OfPrep, OfRawAndPart, OfRows, OfSourceBefore, OfTime, Piece, spell}
+use Rattle.rrd_file.specs.Stages.{BeforeDue, CountDue, DueInEntry, Keeps, NamedDue, NumberDue, OldRowsDue, RowCellDue, RowPrepDue, RowsDue, TimeDue, Within, behind, size_due}
+use Rattle.rrd_file.specs.Standing.{Comes}
+use Rattle.rrd_file.specs.Values.{FitsCell, FitsPart, FitsRaw, FitsSourceBefore}
+use Rattle.rrd_file.proofs.Coming.{came, inside, wrong}
+use Rattle.rrd_file.proofs.OneSpelling.{cell_fits, def_fits, part_fits, raw_fits}
+use Rattle.rrd_file.proofs.Sound.{AreSmall, AreSound, HasSomeSteps, IsSound, IsSoundDue, now_sound, reached_sound, small_limits}
+use Rattle.rrd_file.proofs.Spelled.{cell_one, eight_one, four_one, part_one, raw_and_part_one, source_before_one, two_one}
+use Rattle.rrd_file.proofs.Ways.{Way, ByTime, ByRawAndPart, ByRowPrep, ByRows, ByRowCell, ByCount, ByNamed, ByNumber, ByOldRows, way}
+
+-- a piece of the kind that is due, whose values fit their bytes
+pub data Read : DueInEntry → Piece → Type 0 where
+  ReadTime : (last : ℕ) → last < 2 ^ 64 → Read TimeDue (OfTime last)
+  ReadRawAndPart : (last : ℕ) (def : DsDef) (raw : Raw) (part : Part) → FitsRaw raw → FitsPart part → Read (BeforeDue last def) (OfRawAndPart raw part)
+  ReadRowPrep : (last : ℕ) (def : RraDef) (part : Part) → FitsPart part → Read (RowPrepDue last def) (OfPrep part)
+  ReadRows : (rows count : ℕ) → rows < 2 ^ 32 → count < 2 ^ 32 → Read (RowsDue rows) (OfRows count)
+  ReadRowCell : (cell : Cell) → FitsCell cell → Read RowCellDue (OfCell cell)
+  ReadCount : (count : ℕ) → count < 2 ^ 16 → Read CountDue (OfCount count)
+  ReadNamed : (lowest more : ℕ) (old : SourceBefore) → FitsSourceBefore old → Read (NamedDue lowest more) (OfSourceBefore old)
+  ReadNumber : (archive : ℕ) → archive < 2 ^ 16 → Read NumberDue (OfNumber archive)
+  ReadOldRows : (archive rows : ℕ) → rows < 2 ^ 32 → Read (OldRowsDue archive) (OfRows rows)
+
+-- the limits, the step and the outline at a stage that a file reaches
+record IsHere (l : Limits) (step : ℕ) (now : Outline) : Type 0 where
+  small : AreSmall l
+  sound : AreSound now
+  some_step : 0 < step
+  small_step : step ≤ 1000000
+
+here : (f : Filed) → IsSound f → IsHere (limits f) f.header.step (outline_left f)
+here f h =
+    let small = small_limits f.header.version in
+    record { small = small; sound = now_sound f h; some_step = h.header.some_step; small_step = omega (arith, h.header.small_step, small.step) }
+
+row_part_fits : (step last : ℕ) (def : RraDef) (part : Part) → HasSomeSteps def → IsPart def.function (last / step % def.steps) part → FitsPart part
+row_part_fits step last def part h p = part_fits def.function (last / step % def.steps) part (omega (arith, nat.mod-lt (last / step) h.some, h.few)) p
+
+source_before_fits : (l : Limits) (old : SourceBefore) (now : Outline) → AreSmall l → AreSound now → old.number < length now.sources → IsSourceBefore l old → FitsSourceBefore old
+source_before_fits l old now small h n k = record { number = omega (arith, n, h.sources); source = def_fits l old.source small k.0; raw = raw_fits old.source.kind old.raw k.1 }
+
+-- no other piece that keeps to the rule is spelled so
+read_one : (l : Limits) (step : ℕ) (now : Outline) {d : DueInEntry} {p q : Piece} → IsHere l step now → IsSoundDue d → Read d p → Way l step now d q → spell q ≡ spell p → q ≡ p
+unfolding spell
+read_one l step now h s (ReadTime t f) (ByTime u k) e = ap OfTime (eight_one u t (omega (arith, k, h.sound.last)) f e)
+read_one l step now h s (ReadRawAndPart last def r x fr fx) (ByRawAndPart _ _ v y kr ky) e =
+    let few : last % step < 2 ^ 32 = omega (arith, nat.mod-lt last h.some_step, h.small_step) in
+    let both = raw_and_part_one v r y x (raw_fits def.kind v kr) fr (part_fits Average (last % step) y few ky) fx e in
+    λ i. OfRawAndPart (both.0 i) (both.1 i)
+read_one l step now h s (ReadRowPrep last def x f) (ByRowPrep _ _ y k) e = ap OfPrep (part_one y x (row_part_fits step last def y s k) f e)
+read_one l step now h s (ReadRows rows x small f) (ByRows _ y k) e = ap OfRows (four_one y x (omega (arith, k, small)) f e)
+read_one l step now h s (ReadRowCell x f) (ByRowCell y k) e = ap OfCell (cell_one y x (cell_fits y k) f e)
+read_one l step now h s (ReadCount x f) (ByCount y some few) e = ap OfCount (two_one y x (omega (arith, few)) f e)
+read_one l step now h s (ReadNamed lowest more x f) (ByNamed _ _ y low there is) e = ap OfSourceBefore (source_before_one y x (source_before_fits l y now h.small h.sound there is) f e)
+read_one l step now h s (ReadNumber x f) (ByNumber y k) e = ap OfNumber (two_one y x (omega (arith, k, h.sound.archives)) f e)
+read_one l step now h s (ReadOldRows archive x f) (ByOldRows _ y k) e = ap OfRows (four_one y x (omega (arith, k.few, h.small.rows)) f e)
+
+record IsHereNow (f : Filed) (d : DueInEntry) : Type 0 where
+  here_is : IsHere (limits f) f.header.step (outline_left f)
+  due_is : IsSoundDue d
+
+sound_within : (bytes : List ℕ) (f : Filed) (pieces : List Piece) (d : DueInEntry) (later : List DueInEntry) (input : Input) → Comes bytes f pieces (d ∷ later) input → IsHereNow f d
+sound_within bytes f pieces d later input c =
+    let front = (inside bytes f pieces d later input c).front in
+    let sound = reached_sound front.pieces (Within f pieces (d ∷ later)) front.runs in
+    record { here_is = here f sound.0; due_is = sound.1.0 }
+
+-- it keeps to its rule
+pub kept : (bytes : List ℕ) (f : Filed) (pieces : List Piece) (d : DueInEntry) (later : List DueInEntry) (old new : Input) (p : Piece) (piece : List ℕ)
+    → Comes bytes f pieces (d ∷ later) old → Gives old piece new → spell p ≡ piece → size_due d ≡ length piece → Read d p → Keeps (limits f) f.header.step (outline_left f) d p
+    → Comes bytes f (pieces ++ p ∷ []) (behind f.header.step (outline_left f) d p ++ later) new
+kept bytes f pieces d later old new p piece c g e len r k =
+    let s = sound_within bytes f pieces d later old c in
+    came bytes f pieces d later old new p piece c g e len k
+    (λ q m same. read_one (limits f) f.header.step (outline_left f) s.here_is s.due_is r (way (limits f) f.header.step (outline_left f) d q m) same)
+
+-- it does not
+pub broken : (bytes : List ℕ) (f : Filed) (pieces : List Piece) (d : DueInEntry) (later : List DueInEntry) (old new : Input) (p : Piece) (piece : List ℕ)
+    → Comes bytes f pieces (d ∷ later) old → Gives old piece new → spell p ≡ piece → size_due d ≡ length piece → Read d p → (Keeps (limits f) f.header.step (outline_left f) d p → ⊥)
+    → IsBad bytes (BadEntry (suc (length f.entries)))
+broken bytes f pieces d later old new p piece c g e len r never =
+    let s = sound_within bytes f pieces d later old c in
+    wrong bytes f pieces d later old new piece c g len
+    (λ q m same. never (subst (Keeps (limits f) f.header.step (outline_left f) d) (read_one (limits f) f.header.step (outline_left f) s.here_is s.due_is r (way (limits f) f.header.step (outline_left f) d q m) (same ∙ sym e)) m))
+
+-- a source before a tune that can't be read
+named_way : (l : Limits) (step : ℕ) (now : Outline) {lowest more : ℕ} {q : Piece} → IsHere l step now → Way l step now (NamedDue lowest more) q → (old : SourceBefore) × (q ≡ OfSourceBefore old) × FitsSourceBefore old
+named_way l step now h (ByNamed lowest more old low there is) = (old, refl, source_before_fits l old now h.small h.sound there is)
+
+pub unread : (bytes : List ℕ) (f : Filed) (pieces : List Piece) (lowest more : ℕ) (later : List DueInEntry) (old new : Input) (piece : List ℕ)
+    → Comes bytes f pieces (NamedDue lowest more ∷ later) old → Gives old piece new → 79 ≡ length piece → ((source : SourceBefore) → FitsSourceBefore source → spell (OfSourceBefore source) ≢ piece)
+    → IsBad bytes (BadEntry (suc (length f.entries)))
+unread bytes f pieces lowest more later old new piece c g len none =
+    let s = sound_within bytes f pieces (NamedDue lowest more) later old c in
+    wrong bytes f pieces (NamedDue lowest more) later old new piece c g len
+    (λ q m same.
+    let it = named_way (limits f) f.header.step (outline_left f) s.here_is (way (limits f) f.header.step (outline_left f) (NamedDue lowest more) q m) in
+    none it.0 it.2 (sym (ap spell it.1) ∙ same))

@@ -1,0 +1,188 @@
+-- Entries with the same pieces are one, where their lists are as long as the outline says.
+use Rattle.std.proofs.Common.{◌≡◌, ◌∙◌, ◌++◌, ◌∷◌, ◌<◌, ℕ, suc, List, [], sym, ap, subst, refl, length, get_or, arith, map, append_assoc, append-nil}
+use Rattle.std.specs.List.{AllByRecursion, flat_map}
+use Rattle.std.proofs.lemmas.List.{length-map}
+use Rattle.std.proofs.lemmas.List.Concat.{flat_map-cons}
+use Rattle.rrd_fixed.specs.declared.cell.Cell.{Cell}
+use Rattle.rrd_fixed.specs.declared.raw.Raw.{Raw}
+use Rattle.rrd_fold.specs.Parts.{Part}
+use Rattle.rrd_ring.specs.Rows.{HasWidth}
+use Rattle.rrd_spec.specs.declared.entry.SourceBefore.{SourceBefore}
+use Rattle.rrd_spec.specs.declared.outline.Outline.{Outline}
+use Rattle.rrd_spec.specs.declared.settings.DsDef.{DsDef}
+use Rattle.rrd_spec.specs.declared.settings.RraDef.{RraDef}
+use Rattle.rrd_spec.specs.Entries.{BeforeUpdate, Entry, SavedArchive, UpdateEntry, TuneEntry, ResizeEntry}
+use Rattle.rrd_spec.specs.Filed.{Filed}
+use Rattle.rrd_spec.specs.Limits.{Limits}
+use Rattle.rrd_spec.specs.Outlines.{MaySaveEach, MayUndo}
+use Rattle.rrd_spec.specs.Rebuilding.{MayEntry, limits, outline_left}
+use Rattle.rrd_spec.specs.Validity.{AreAccepted, IsRow}
+use Rattle.rrd_file.specs.Layout.{entry_pieces, raws_and_parts, row_pieces, saved_pieces}
+use Rattle.rrd_file.specs.Pieces.{Piece, Mark, OfCell, OfCount, OfNumber, OfPrep, OfRawAndPart, OfRows, OfSourceBefore, OfTag, OfTime, AnUpdate, ATune, AResize}
+use Rattle.rrd_file.specs.Shapes.{AreSavedShaped, IsShaped, IsUpdateShaped}
+
+-- two lists of pieces, cut at the same place
+cut_same : (a b c d : List Piece) → length a ≡ length c → a ++ b ≡ c ++ d → (a ≡ c) × (b ≡ d)
+cut_same [] b [] d l e = (refl, e)
+cut_same [] b (y ∷ c) d l e = absurd (omega (arith, l))
+cut_same (x ∷ a) b [] d l e = absurd (omega (arith, l))
+cut_same (x ∷ a) b (y ∷ c) d l e =
+    let whole : x ∷ (a ++ b) ≡ y ∷ (c ++ d) = e in
+    let first : x ≡ y = cc in
+    let later : a ++ b ≡ c ++ d = cc in
+    let rest = cut_same a b c d (omega (arith, l)) later in
+    (λ i. first i ∷ rest.0 i, rest.1)
+
+map_one : {A : Type 0} (f : A → Piece) → ((x y : A) → f x ≡ f y → x ≡ y) → (a b : List A) → map f a ≡ map f b → a ≡ b
+map_one f one [] [] e = refl
+map_one f one [] (y ∷ b) e = absurd (let bad : [] ≡ f y ∷ map f b = e in cc)
+map_one f one (x ∷ a) [] e = absurd (let bad : f x ∷ map f a ≡ [] = e in cc)
+map_one f one (x ∷ a) (y ∷ b) e =
+    let both : f x ∷ map f a ≡ f y ∷ map f b = e in
+    let first : f x ≡ f y = cc in
+    let later : map f a ≡ map f b = cc in
+    λ i. one x y first i ∷ map_one f one a b later i
+
+prep_same : (x y : Part) → OfPrep x ≡ OfPrep y → x ≡ y
+prep_same x y e = cc
+
+cell_same : (x y : Cell) → OfCell x ≡ OfCell y → x ≡ y
+cell_same x y e = cc
+
+before_same : (x y : SourceBefore) → OfSourceBefore x ≡ OfSourceBefore y → x ≡ y
+before_same x y e = cc
+
+raws_length : (r : List Raw) (a : List Part) → length r ≡ length a → length (raws_and_parts r a) ≡ length r
+raws_length [] a l = refl
+raws_length (r ∷ rs) [] l = absurd (omega (arith, l))
+raws_length (r ∷ rs) (x ∷ a) l = omega (arith, raws_length rs a (omega (arith, l)))
+
+raws_one : (r s : List Raw) (a b : List Part) → length r ≡ length a → length s ≡ length b → raws_and_parts r a ≡ raws_and_parts s b → (r ≡ s) × (a ≡ b)
+raws_one [] [] [] [] l m e = (refl, refl)
+raws_one [] [] [] (y ∷ b) l m e = absurd (omega (arith, m))
+raws_one [] [] (x ∷ a) b l m e = absurd (omega (arith, l))
+raws_one [] (s ∷ ss) [] [] l m e = absurd (omega (arith, m))
+raws_one [] (s ∷ ss) [] (y ∷ b) l m e = absurd (let bad : [] ≡ OfRawAndPart s y ∷ raws_and_parts ss b = e in cc)
+raws_one [] (s ∷ ss) (x ∷ a) b l m e = absurd (omega (arith, l))
+raws_one (r ∷ rs) ss [] b l m e = absurd (omega (arith, l))
+raws_one (r ∷ rs) [] (x ∷ a) [] l m e = absurd (let bad : OfRawAndPart r x ∷ raws_and_parts rs a ≡ [] = e in cc)
+raws_one (r ∷ rs) [] (x ∷ a) (y ∷ b) l m e = absurd (omega (arith, m))
+raws_one (r ∷ rs) (s ∷ ss) (x ∷ a) [] l m e = absurd (omega (arith, m))
+raws_one (r ∷ rs) (s ∷ ss) (x ∷ a) (y ∷ b) l m e =
+    let both : OfRawAndPart r x ∷ raws_and_parts rs a ≡ OfRawAndPart s y ∷ raws_and_parts ss b = e in
+    let raw : r ≡ s = cc in
+    let part : x ≡ y = cc in
+    let rest : raws_and_parts rs a ≡ raws_and_parts ss b = cc in
+    let later = raws_one rs ss a b (omega (arith, l)) (omega (arith, m)) rest in
+    (λ i. raw i ∷ later.0 i, λ i. part i ∷ later.1 i)
+
+-- ---- rows of one width
+
+row_cut : (row : List Cell) (rows : List (List Cell)) (a : List Piece) → row_pieces (row ∷ rows) ++ a ≡ map OfCell row ++ (row_pieces rows ++ a)
+row_cut row rows a = ap (λ l. l ++ a) (flat_map-cons (λ (r : List Cell). map OfCell r) row rows) ∙ append_assoc (map OfCell row) (row_pieces rows) a
+
+rows_one : (width : ℕ) (rows olds : List (List Cell)) (a b : List Piece) → HasWidth width rows → HasWidth width olds → length rows ≡ length olds → row_pieces rows ++ a ≡ row_pieces olds ++ b → (rows ≡ olds) × (a ≡ b)
+rows_one width [] [] a b h k l e = (refl, e)
+rows_one width [] (y ∷ olds) a b h k l e = absurd (omega (arith, l))
+rows_one width (x ∷ rows) [] a b h k l e = absurd (omega (arith, l))
+rows_one width (x ∷ rows) (y ∷ olds) a b h k l e =
+    let same : length (map OfCell x) ≡ length (map OfCell y) = length-map x OfCell ∙ h.0 ∙ sym k.0 ∙ sym (length-map y OfCell) in
+    let both = cut_same (map OfCell x) (row_pieces rows ++ a) (map OfCell y) (row_pieces olds ++ b) same (sym (row_cut x rows a) ∙ e ∙ row_cut y olds b) in
+    let first = map_one OfCell cell_same x y both.0 in
+    let later = rows_one width rows olds a b h.1 k.1 (omega (arith, l)) both.1 in
+    (λ i. first i ∷ later.0 i, later.1)
+
+-- ---- what an update saved
+
+saved_cut : (old : SavedArchive) (olds : List SavedArchive) → flat_map saved_pieces (old ∷ olds) ≡ map OfPrep old.parts ++ (OfRows (length old.rows) ∷ (row_pieces old.rows ++ flat_map saved_pieces olds))
+saved_cut old olds = flat_map-cons saved_pieces old olds ∙ append_assoc (map OfPrep old.parts) (OfRows (length old.rows) ∷ row_pieces old.rows) (flat_map saved_pieces olds)
+
+saved_one : (sources : ℕ) (defs : List RraDef) (olds news : List SavedArchive) → AreSavedShaped sources defs olds → AreSavedShaped sources defs news → flat_map saved_pieces olds ≡ flat_map saved_pieces news → olds ≡ news
+saved_one sources [] [] [] h k e = refl
+saved_one sources [] [] (new ∷ news) h k e = absurd k
+saved_one sources [] (old ∷ olds) news h k e = absurd h
+saved_one sources (def ∷ defs) [] news h k e = absurd h
+saved_one sources (def ∷ defs) (old ∷ olds) [] h k e = absurd k
+saved_one sources (def ∷ defs) (old ∷ olds) (new ∷ news) h k e =
+    let same : length (map OfPrep old.parts) ≡ length (map OfPrep new.parts) = length-map old.parts OfPrep ∙ h.0.one_part_each ∙ sym k.0.one_part_each ∙ sym (length-map new.parts OfPrep) in
+    let both = cut_same (map OfPrep old.parts) (OfRows (length old.rows) ∷ (row_pieces old.rows ++ flat_map saved_pieces olds)) (map OfPrep new.parts) (OfRows (length new.rows) ∷ (row_pieces new.rows ++ flat_map saved_pieces news)) same (sym (saved_cut old olds) ∙ e ∙ saved_cut new news) in
+    let behind : OfRows (length old.rows) ∷ (row_pieces old.rows ++ flat_map saved_pieces olds) ≡ OfRows (length new.rows) ∷ (row_pieces new.rows ++ flat_map saved_pieces news) = both.1 in
+    let count : length old.rows ≡ length new.rows = cc in
+    let rest : row_pieces old.rows ++ flat_map saved_pieces olds ≡ row_pieces new.rows ++ flat_map saved_pieces news = cc in
+    let function : old.function ≡ new.function = h.0.same_function ∙ sym k.0.same_function in
+    let parts = map_one OfPrep prep_same old.parts new.parts both.0 in
+    let rows = rows_one sources old.rows new.rows (flat_map saved_pieces olds) (flat_map saved_pieces news) h.0.one_cell_each k.0.one_cell_each count rest in
+    let later = saved_one sources defs olds news h.1 k.1 rows.1 in
+    λ i. record { function = function i; parts = parts i; rows = rows.0 i } ∷ later i
+
+-- ---- entries
+
+update_one : (now : Outline) (old new : BeforeUpdate) → IsUpdateShaped now old → IsUpdateShaped now new → entry_pieces (UpdateEntry old) ≡ entry_pieces (UpdateEntry new) → old ≡ new
+update_one now old new h k e =
+    let whole : OfTag AnUpdate ∷ OfTime old.last ∷ (raws_and_parts old.raws old.parts ++ flat_map saved_pieces old.archives) ≡ OfTag AnUpdate ∷ OfTime new.last ∷ (raws_and_parts new.raws new.parts ++ flat_map saved_pieces new.archives) = e in
+    let last : old.last ≡ new.last = cc in
+    let rest : raws_and_parts old.raws old.parts ++ flat_map saved_pieces old.archives ≡ raws_and_parts new.raws new.parts ++ flat_map saved_pieces new.archives = cc in
+    let po : length old.raws ≡ length old.parts = h.one_raw_each ∙ sym h.one_part_each in
+    let pn : length new.raws ≡ length new.parts = k.one_raw_each ∙ sym k.one_part_each in
+    let same : length (raws_and_parts old.raws old.parts) ≡ length (raws_and_parts new.raws new.parts) = raws_length old.raws old.parts po ∙ h.one_raw_each ∙ sym k.one_raw_each ∙ sym (raws_length new.raws new.parts pn) in
+    let both = cut_same (raws_and_parts old.raws old.parts) (flat_map saved_pieces old.archives) (raws_and_parts new.raws new.parts) (flat_map saved_pieces new.archives) same rest in
+    let values = raws_one old.raws new.raws old.parts new.parts po pn both.0 in
+    let archives = saved_one (length now.sources) now.archives old.archives new.archives h.archives_are k.archives_are both.1 in
+    λ i. record { last = last i; raws = values.0 i; parts = values.1 i; archives = archives i }
+
+resize_one : (width x y : ℕ) (rows olds : List (List Cell)) → HasWidth width rows → HasWidth width olds → entry_pieces (ResizeEntry x rows) ≡ entry_pieces (ResizeEntry y olds) → ResizeEntry x rows ≡ ResizeEntry y olds
+resize_one width x y rows olds h k e =
+    let whole : OfTag AResize ∷ OfNumber x ∷ OfRows (length rows) ∷ row_pieces rows ≡ OfTag AResize ∷ OfNumber y ∷ OfRows (length olds) ∷ row_pieces olds = e in
+    let number : x ≡ y = cc in
+    let count : length rows ≡ length olds = cc in
+    let rest : row_pieces rows ≡ row_pieces olds = cc in
+    let both = rows_one width rows olds [] [] h k count (ap (λ l. l ++ []) rest) in
+    λ i. ResizeEntry (number i) (both.0 i)
+
+tune_one : (x y : List SourceBefore) → entry_pieces (TuneEntry x) ≡ entry_pieces (TuneEntry y) → TuneEntry x ≡ TuneEntry y
+tune_one x y e =
+    let whole : OfTag ATune ∷ OfCount (length x) ∷ map OfSourceBefore x ≡ OfTag ATune ∷ OfCount (length y) ∷ map OfSourceBefore y = e in
+    let rest : map OfSourceBefore x ≡ map OfSourceBefore y = cc in
+    ap TuneEntry (map_one OfSourceBefore before_same x y rest)
+
+pub shaped_one : (now : Outline) (x y : Entry) → IsShaped now x → IsShaped now y → entry_pieces x ≡ entry_pieces y → x ≡ y
+shaped_one now (UpdateEntry x) (UpdateEntry y) h k e = ap UpdateEntry (update_one now x y h k e)
+shaped_one now (TuneEntry x) (TuneEntry y) h k e = tune_one x y e
+shaped_one now (ResizeEntry x rows) (ResizeEntry y olds) h k e = resize_one (length now.sources) x y rows olds h k e
+shaped_one now (UpdateEntry x) (TuneEntry y) h k e = absurd (let bad : OfTag AnUpdate ≡ OfTag ATune = ap (λ l. get_or l 0 Mark) e in cc)
+shaped_one now (UpdateEntry x) (ResizeEntry y olds) h k e = absurd (let bad : OfTag AnUpdate ≡ OfTag AResize = ap (λ l. get_or l 0 Mark) e in cc)
+shaped_one now (TuneEntry x) (UpdateEntry y) h k e = absurd (let bad : OfTag ATune ≡ OfTag AnUpdate = ap (λ l. get_or l 0 Mark) e in cc)
+shaped_one now (TuneEntry x) (ResizeEntry y olds) h k e = absurd (let bad : OfTag ATune ≡ OfTag AResize = ap (λ l. get_or l 0 Mark) e in cc)
+shaped_one now (ResizeEntry x rows) (UpdateEntry y) h k e = absurd (let bad : OfTag AResize ≡ OfTag AnUpdate = ap (λ l. get_or l 0 Mark) e in cc)
+shaped_one now (ResizeEntry x rows) (TuneEntry y) h k e = absurd (let bad : OfTag AResize ≡ OfTag ATune = ap (λ l. get_or l 0 Mark) e in cc)
+
+-- ---- an entry that fits has such lists
+
+accepted_length : (defs : List DsDef) (raws : List Raw) → AreAccepted defs raws → length raws ≡ length defs
+accepted_length [] [] h = refl
+accepted_length [] (raw ∷ raws) h = absurd h
+accepted_length (def ∷ defs) [] h = absurd h
+accepted_length (def ∷ defs) (raw ∷ raws) h = ap suc (accepted_length defs raws h.1)
+
+rows_shaped : (width : ℕ) (rows : List (List Cell)) → AllByRecursion (IsRow width) rows → HasWidth width rows
+rows_shaped width [] h = tt
+rows_shaped width (row ∷ rows) h = (h.0.one_each, rows_shaped width rows h.1)
+
+saved_shaped : (step from to sources : ℕ) (defs : List RraDef) (olds : List SavedArchive) → MaySaveEach step from to sources defs olds → AreSavedShaped sources defs olds
+saved_shaped step from to sources [] [] h = tt
+saved_shaped step from to sources [] (old ∷ olds) h = absurd h
+saved_shaped step from to sources (def ∷ defs) [] h = absurd h
+saved_shaped step from to sources (def ∷ defs) (old ∷ olds) h =
+    (record { same_function = h.0.same_function; one_part_each = h.0.parts_are.one_each; one_cell_each = rows_shaped sources old.rows h.0.each_row }, saved_shaped step from to sources defs olds h.1)
+
+fits_shaped : (l : Limits) (step : ℕ) (now : Outline) (e : Entry) → MayUndo l step now e → IsShaped now e
+fits_shaped l step now (UpdateEntry old) m = record {
+  one_raw_each = accepted_length now.sources old.raws m.raws_are;
+  one_part_each = m.parts_are.one_each;
+  archives_are = saved_shaped step old.last now.last (length now.sources) now.archives old.archives m.archives_are;
+}
+fits_shaped l step now (TuneEntry olds) m = tt
+fits_shaped l step now (ResizeEntry archive rows) m = rows_shaped (length now.sources) rows m.each_row
+
+pub undo_shaped : (f : Filed) (e : Entry) → MayEntry f e → IsShaped (outline_left f) e
+undo_shaped f e m = fits_shaped (limits f) f.header.step (outline_left f) e m.fits

@@ -1,0 +1,62 @@
+-- Rows that come one after another into a table.
+use Rattle.std.proofs.Common.{◌≡◌, ◌∙◌, ◌+◌, ◌-◌, ◌<◌, ◌++◌, ℕ, zero, suc, List, [], ◌∷◌, sym, ap, subst, refl, length, length-set, replicate, take, arith, append-nil}
+use Rattle.std.specs.Prelude.{slice_set}
+use Rattle.std.proofs.lemmas.List.{length-replicate}
+use Rattle.rrd_fixed.specs.declared.cell.Cell.{Cell}
+use Rattle.rrd_fixed.specs.declared.cell.Cell.TheVariants.{Unknown}
+use Rattle.rrd_ring.specs.Rows.{HasWidth, row_at, unknown_rows, with_row}
+use Rattle.rrd_spec.specs.Filed.{Filed}
+use Rattle.rrd_spec.specs.Rebuilding.{outline_left}
+use Rattle.rrd_file.specs.Inputs.{Input}
+use Rattle.rrd_file.specs.Layout.{row_pieces}
+use Rattle.rrd_file.specs.Pieces.{OfCell, Piece}
+use Rattle.rrd_file.specs.Stages.{DueInEntry, RowCellDue, cells_due}
+use Rattle.rrd_file.specs.Standing.{Comes}
+use Rattle.rrd_file.proofs.Turns.{more_row, row_less}
+use Rattle.std.proofs.Common.{map}
+
+pub unknown_many : (n width : ℕ) → length (unknown_rows n width) ≡ n
+unknown_many n width = length-replicate n (replicate width Unknown)
+
+pub unknown_wide : (n width : ℕ) → HasWidth width (unknown_rows n width)
+unknown_wide zero width = tt
+unknown_wide (suc n) width = (length-replicate width Unknown, unknown_wide n width)
+
+pub width_at : (width : ℕ) (rows : List (List Cell)) (i : ℕ) → HasWidth width rows → i < length rows → length (row_at rows i) ≡ width
+width_at width [] i h k = absurd (omega arith)
+width_at width (row ∷ rows) zero h k = h.0
+width_at width (row ∷ rows) (suc i) h k = width_at width rows i h.1 (omega arith)
+
+width_set : (width : ℕ) (rows : List (List Cell)) (i : ℕ) (row : List Cell) → HasWidth width rows → length row ≡ width → HasWidth width (slice_set rows i row)
+width_set width [] i row h e = h
+width_set width (x ∷ rows) zero row h e = (e, h.1)
+width_set width (x ∷ rows) (suc i) row h e = (h.0, width_set width rows i row h.1 e)
+
+pub rows_begin : (bytes : List ℕ) (f : Filed) (pieces : List Piece) (later : List DueInEntry) (count : ℕ) (rows : List (List Cell)) (input : Input) → Comes bytes f pieces (cells_due count (outline_left f) ++ later) input
+    → Comes bytes f (pieces ++ row_pieces (take 0 rows)) (cells_due (count - 0) (outline_left f) ++ later) input
+rows_begin bytes f pieces later count rows input c =
+    let same : count ≡ count - 0 = omega arith in
+    subst (λ (l : List Piece). Comes bytes f l (cells_due (count - 0) (outline_left f) ++ later) input) (sym (append-nil pieces))
+    (subst (λ (k : ℕ). Comes bytes f pieces (cells_due k (outline_left f) ++ later) input) same c)
+
+-- so many rows of a width, of which the first have come
+abbrev pub Rowed : Filed → ℕ → Input → ℕ → List (List Cell) → Input → Type 0
+Rowed f n first i rows input =
+    (length rows ≡ n) × HasWidth (length (outline_left f).sources) rows
+    × ((bytes : List ℕ) (pieces : List Piece) (later : List DueInEntry) → Comes bytes f pieces (cells_due n (outline_left f) ++ later) first
+    → Comes bytes f (pieces ++ row_pieces (take i rows)) (cells_due (n - i) (outline_left f) ++ later) input)
+
+pub rows_go_on : (f : Filed) (n i : ℕ) (rows : List (List Cell)) (row : List Cell) (old new first : Input) → Rowed f n first i rows old → i < n → with_row rows i row ≡ slice_set rows i row → length row ≡ length (outline_left f).sources
+    → ((bytes : List ℕ) (pieces : List Piece) (later : List DueInEntry) → Comes bytes f pieces (replicate (length (outline_left f).sources) RowCellDue ++ later) old → Comes bytes f (pieces ++ map OfCell row) later new)
+    → Rowed f n first (i + 1) (with_row rows i row) new
+rows_go_on f n i rows row old new first h more is wide brings =
+    let now = outline_left f in
+    let within : i < length rows = omega (arith, h.0) in
+    subst (λ (m : List (List Cell)). Rowed f n first (i + 1) m new) (sym is) (
+      omega (arith, length-set {A = List Cell}, h.0),
+      width_set (length now.sources) rows i row h.1 wide,
+      λ bytes pieces later st.
+          subst (λ (l : List Piece). Comes bytes f l (cells_due (n - (i + 1)) now ++ later) new) (more_row pieces rows i row within)
+          (brings bytes (pieces ++ row_pieces (take i rows)) (cells_due (n - (i + 1)) now ++ later)
+          (subst (λ (l : List DueInEntry). Comes bytes f (pieces ++ row_pieces (take i rows)) l old) (row_less now n i later more) (h.2 bytes pieces later st))),
+    )

@@ -1,0 +1,152 @@
+-- What one more turn of a loop over an entry's pieces adds, and what is due then.
+use Rattle.std.proofs.Common.{◌≡◌, ◌∙◌, ◌++◌, ◌∷◌, ◌+◌, ◌-◌, ◌*◌, ◌<◌, ◌≤◌, ◌⊎◌, inl, inr, ℕ, zero, suc, List, [], Bool, sym, ap, subst, refl, length, take, drop, map, arith, append_assoc, append-nil}
+use Rattle.std.specs.Prelude.{Some, None, nat_lt, if◌then◌else◌, replicate, slice_get, slice_index_or, slice_set}
+use Rattle.std.specs.List.{flat_map}
+use Rattle.std.proofs.lemmas.Bool.{le-ltb}
+use Rattle.std.proofs.lemmas.Grind.{flat_map-append}
+use Rattle.std.proofs.lemmas.List.{map-append, replicate-append-replicate, take_more_set}
+use Rattle.std.proofs.lemmas.List.Concat.{flat_map-cons}
+use native.Mathlib.Nat as nat
+use Rattle.rrd_fixed.specs.declared.cell.Cell.{Cell}
+use Rattle.rrd_fixed.specs.declared.raw.Raw.{Raw}
+use Rattle.rrd_fold.specs.Bounds.{Consolidating}
+use Rattle.rrd_fold.specs.Parts.{Part}
+use Rattle.rrd_fold.specs.declared.function.Function.{Function}
+use Rattle.rrd_spec.specs.Each.{AllOf, parts_in}
+use Rattle.rrd_spec.specs.declared.due.Due.{Due}
+use Rattle.rrd_spec.specs.declared.due.Due.TheVariants.{EntryDue, NothingDue}
+use Rattle.rrd_spec.specs.declared.outline.Outline.{Outline}
+use Rattle.rrd_spec.specs.declared.settings.RraDef.{RraDef}
+use Rattle.rrd_spec.specs.Entries.{Entry, SavedArchive}
+use Rattle.rrd_spec.specs.Filed.{Filed}
+use Rattle.rrd_spec.specs.Rebuilding.{due, prep_or, rows_in_all, unprepared, with_entry}
+use Rattle.rrd_file.specs.Layout.{raws_and_parts, row_pieces}
+use Rattle.rrd_file.specs.Pieces.{OfCell, OfPrep, OfRawAndPart, Piece}
+use Rattle.rrd_file.specs.Shapes.{AreSavedShaped, IsSavedShaped}
+use Rattle.rrd_file.specs.Stages.{DueInEntry, NamedDue, RowCellDue, cells_due, named_due}
+use Rattle.rrd_file.proofs.Order.{BeforeEntry, before_entry}
+
+-- ---- entries
+
+last_due : (b : Bool) → ((if b then EntryDue else NothingDue) ≡ EntryDue) ⊎ ((if b then EntryDue else NothingDue) ≡ NothingDue)
+last_due Bool.true = inl refl
+last_due Bool.false = inr refl
+
+-- after an entry the next one is due, or nothing
+pub after_entry : (f : Filed) (e : Entry) → due f ≡ EntryDue → (due (with_entry f e) ≡ EntryDue) ⊎ (due (with_entry f e) ≡ NothingDue)
+unfolding due
+after_entry f e d =
+    let b = before_entry f d in
+    rw (le-ltb (length f.sources) f.header.sources b.sources, b.prepared, le-ltb (length f.heads) f.header.archives b.heads, le-ltb (length f.cells) (f.header.sources * rows_in_all f.heads) b.cells)
+    (last_due (nat_lt (length (f.entries ++ e ∷ [])) f.header.entries))
+
+pub more_entries : (f : Filed) → due f ≡ EntryDue → length f.entries < f.header.entries
+more_entries f d = (before_entry f d).more
+
+-- ---- pieces
+
+pub more_map : {A : Type 0} (p : A → Piece) (pieces : List Piece) (xs : List A) (x : A) → (pieces ++ map p xs) ++ p x ∷ [] ≡ pieces ++ map p (xs ++ x ∷ [])
+more_map p pieces xs x = append_assoc pieces (map p xs) (p x ∷ []) ∙ ap (λ l. pieces ++ l) (sym (map-append p xs (x ∷ [])))
+
+pub more_flat : {A : Type 0} (p : A → List Piece) (pieces : List Piece) (xs : List A) (x : A) → (pieces ++ flat_map p xs) ++ p x ≡ pieces ++ flat_map p (xs ++ x ∷ [])
+more_flat p pieces xs x =
+    append_assoc pieces (flat_map p xs) (p x)
+    ∙ ap (λ l. pieces ++ l) (ap (λ l. flat_map p xs ++ l) (sym (flat_map-cons p x [] ∙ append-nil (p x))) ∙ sym (flat_map-append p xs (x ∷ [])))
+
+raws_end : (raws : List Raw) (parts : List Part) (raw : Raw) (part : Part) → length raws ≡ length parts → raws_and_parts raws parts ++ OfRawAndPart raw part ∷ [] ≡ raws_and_parts (raws ++ raw ∷ []) (parts ++ part ∷ [])
+raws_end [] [] raw part l = refl
+raws_end [] (p ∷ parts) raw part l = absurd (omega (arith, l))
+raws_end (r ∷ raws) [] raw part l = absurd (omega (arith, l))
+raws_end (r ∷ raws) (p ∷ parts) raw part l = ap (λ l. OfRawAndPart r p ∷ l) (raws_end raws parts raw part (omega (arith, l)))
+
+pub more_raws : (pieces : List Piece) (raws : List Raw) (parts : List Part) (raw : Raw) (part : Part) → length raws ≡ length parts
+    → (pieces ++ raws_and_parts raws parts) ++ OfRawAndPart raw part ∷ [] ≡ pieces ++ raws_and_parts (raws ++ raw ∷ []) (parts ++ part ∷ [])
+more_raws pieces raws parts raw part l = append_assoc pieces (raws_and_parts raws parts) (OfRawAndPart raw part ∷ []) ∙ ap (λ l. pieces ++ l) (raws_end raws parts raw part l)
+
+-- a cell more in a row, a row more in a table
+pub more_cell : (pieces : List Piece) (row : List Cell) (i : ℕ) (cell : Cell) → i < length row → (pieces ++ map OfCell (take i row)) ++ OfCell cell ∷ [] ≡ pieces ++ map OfCell (take (i + 1) (slice_set row i cell))
+more_cell pieces row i cell h = more_map OfCell pieces (take i row) cell ∙ ap (λ l. pieces ++ map OfCell l) (sym (take_more_set row i cell h))
+
+pub more_row : (pieces : List Piece) (rows : List (List Cell)) (i : ℕ) (row : List Cell) → i < length rows → (pieces ++ row_pieces (take i rows)) ++ map OfCell row ≡ pieces ++ row_pieces (take (i + 1) (slice_set rows i row))
+more_row pieces rows i row h = more_flat (λ (r : List Cell). map OfCell r) pieces (take i rows) row ∙ ap (λ l. pieces ++ row_pieces l) (sym (take_more_set rows i row h))
+
+-- ---- what is due
+
+less : (n i : ℕ) → i < n → n - i ≡ suc (n - (i + 1))
+less n i h = omega arith
+
+pub one_less : (d : DueInEntry) (n i : ℕ) (later : List DueInEntry) → i < n → replicate (n - i) d ++ later ≡ d ∷ (replicate (n - (i + 1)) d ++ later)
+one_less d n i later h = ap (λ k. replicate k d ++ later) (less n i h)
+
+pub row_less : (now : Outline) (n i : ℕ) (later : List DueInEntry) → i < n → cells_due (n - i) now ++ later ≡ replicate (length now.sources) RowCellDue ++ (cells_due (n - (i + 1)) now ++ later)
+row_less now n i later h =
+    let width = length now.sources in
+    let m = n - (i + 1) in
+    let parts : (n - i) * width ≡ width + m * width = ap (λ k. k * width) (less n i h) ∙ nat.suc-mul m width ∙ nat.add_comm (m * width) width in
+    ap (λ k. replicate k RowCellDue ++ later) parts ∙ ap (λ l. l ++ later) (sym (replicate-append-replicate width (m * width) RowCellDue))
+    ∙ append_assoc (replicate width RowCellDue) (replicate (m * width) RowCellDue) later
+
+pub no_cells : (now : Outline) (n i : ℕ) (later : List DueInEntry) → n ≤ i → cells_due (n - i) now ++ later ≡ later
+no_cells now n i later h =
+    let none : n - i ≡ 0 = omega arith in
+    ap (λ k. replicate (k * length now.sources) RowCellDue ++ later) none ∙ ap (λ k. replicate k RowCellDue ++ later) (nat.zero-mul (length now.sources))
+
+pub none_less : (d : DueInEntry) (n i : ℕ) (later : List DueInEntry) → n ≤ i → replicate (n - i) d ++ later ≡ later
+none_less d n i later h =
+    let none : n - i ≡ 0 = omega arith in
+    ap (λ k. replicate k d ++ later) none
+
+dropped_at : {A : Type 0} (xs : List A) (i : ℕ) (x : A) → slice_get xs i ≡ Some x → drop i xs ≡ x ∷ drop (i + 1) xs
+dropped_at [] i x e = absurd cc
+dropped_at (y ∷ xs) zero x e = let same : y ≡ x = cc in ap (λ z. z ∷ xs) same
+dropped_at (y ∷ xs) (suc i) x e = let next : suc i + 1 ≡ suc (i + 1) = omega arith in dropped_at xs i x e ∙ ap (λ l. x ∷ l) (sym (ap (λ n. drop n (y ∷ xs)) next))
+
+pub next_source : {A : Type 0} (d : A → DueInEntry) (xs : List A) (i : ℕ) (x : A) (later : List DueInEntry) → slice_get xs i ≡ Some x → map d (drop i xs) ++ later ≡ d x ∷ (map d (drop (i + 1) xs) ++ later)
+next_source d xs i x later e = ap (λ l. map d l ++ later) (dropped_at xs i x e)
+
+pub next_archive : {A : Type 0} (d : A → List DueInEntry) (xs : List A) (i : ℕ) (x : A) (later : List DueInEntry) → slice_get xs i ≡ Some x → flat_map d (drop i xs) ++ later ≡ d x ++ (flat_map d (drop (i + 1) xs) ++ later)
+next_archive d xs i x later e =
+    ap (λ l. flat_map d l ++ later) (dropped_at xs i x e) ∙ ap (λ l. l ++ later) (flat_map-cons d x (drop (i + 1) xs)) ∙ append_assoc (d x) (flat_map d (drop (i + 1) xs)) later
+
+pub dropped_all : {A : Type 0} (xs : List A) (i : ℕ) → length xs ≤ i → drop i xs ≡ []
+dropped_all [] zero h = refl
+dropped_all [] (suc i) h = refl
+dropped_all (x ∷ xs) zero h = absurd (omega arith)
+dropped_all (x ∷ xs) (suc i) h = dropped_all xs i (omega arith)
+
+pub taken_all : {A : Type 0} (xs : List A) (i : ℕ) → length xs ≤ i → take i xs ≡ xs
+taken_all [] zero h = refl
+taken_all [] (suc i) h = refl
+taken_all (x ∷ xs) zero h = absurd (omega arith)
+taken_all (x ∷ xs) (suc i) h = ap (λ l. x ∷ l) (taken_all xs i (omega arith))
+
+pub named_less : (lowest n i : ℕ) → i < n → named_due lowest (n - i) ≡ NamedDue lowest (n - (i + 1)) ∷ []
+named_less lowest n i h = ap (named_due lowest) (less n i h)
+
+pub none_named : (lowest n i : ℕ) → n ≤ i → named_due lowest (n - i) ≡ []
+none_named lowest n i h =
+    let none : n - i ≡ 0 = omega arith in
+    ap (named_due lowest) none
+
+-- ---- what was saved
+
+pub shaped_more : (sources : ℕ) (defs : List RraDef) (j : ℕ) (def : RraDef) (olds : List SavedArchive) (old : SavedArchive) → slice_get defs j ≡ Some def → AreSavedShaped sources (take j defs) olds → IsSavedShaped sources def old → AreSavedShaped sources (take (j + 1) defs) (olds ++ old ∷ [])
+shaped_more sources [] j def olds old e h k = absurd cc
+shaped_more sources (d ∷ defs) zero def [] old e h k = let same : def ≡ d = cc in (subst (λ (x : RraDef). IsSavedShaped sources x old) same k, tt)
+shaped_more sources (d ∷ defs) zero def (o ∷ olds) old e h k = absurd h
+shaped_more sources (d ∷ defs) (suc j) def [] old e h k = absurd h
+shaped_more sources (d ∷ defs) (suc j) def (o ∷ olds) old e h k =
+    let next : suc (j + 1) ≡ suc j + 1 = omega arith in
+    subst (λ (n : ℕ). AreSavedShaped sources (take n (d ∷ defs)) (o ∷ (olds ++ old ∷ []))) next (h.0, shaped_more sources defs j def olds old e h.1 k)
+
+pub got : {A : Type 0} (xs : List A) (i : ℕ) (x d : A) → slice_get xs i ≡ Some x → d ≡ slice_index_or xs i d → d ≡ x
+got [] i x d e h = absurd cc
+got (y ∷ xs) zero x d e h = cc
+got (y ∷ xs) (suc i) x d e h = got xs i x d e h
+
+pub all_more : (function : Function) (preps : List Consolidating) (prep : Consolidating) → AllOf function preps → prep.function ≡ function → AllOf function (preps ++ prep ∷ [])
+all_more function [] prep h e = (e, tt)
+all_more function (p ∷ preps) prep h e = (h.0, all_more function preps prep h.1 e)
+
+pub more_preps : (pieces : List Piece) (preps : List Consolidating) (prep : Consolidating) → (pieces ++ map OfPrep (parts_in preps)) ++ OfPrep prep.part ∷ [] ≡ pieces ++ map OfPrep (parts_in (preps ++ prep ∷ []))
+more_preps pieces preps prep = more_map OfPrep pieces (parts_in preps) prep.part ∙ ap (λ (l : List Part). pieces ++ map OfPrep l) (sym (map-append (λ (p : Consolidating). p.part) preps (prep ∷ [])))

@@ -1,0 +1,107 @@
+//! The pieces of the body, one by one.
+ghost use Rattle.std.specs.Prelude.{◌≡◌, ◌^◌, ◌<◌, ℕ, List, OnOk};
+ghost use Rattle.rrd_spec.specs.Rebuilding.{due};
+ghost use Rattle.rrd_spec.specs.declared.due.Due.TheVariants.{CellDue, HeadDue, PrepDue, SourceDue};
+ghost use Rattle.rrd_spec.specs.declared.settings.RraDef.{RraDef};
+ghost use Rattle.rrd_file.specs.Inputs.{Advances};
+ghost use Rattle.rrd_file.specs.Stages.{Body};
+ghost use Rattle.rrd_file.specs.Standing.{Reaches, Stands};
+
+use super::faults::block_fault;
+use crate::FileFault;
+use crate::input::PieceReader;
+use crate::reading::{SourceRead, archive_of, cell_of, part_of, source_of};
+use rrd_base::Rebuild;
+use std::io::Read;
+
+/// Reads a data source, with its last raw value and its preparation.
+pub(super) fn source<R: Read + Drop>(
+    input: &mut PieceReader<R>,
+    build: &mut Rebuild,
+) -> Result<(), FileFault>
+    requires { due build.old ≡ SourceDue }
+    ensures steps { (bytes : List ℕ) → Stands bytes (Body build.old) input.old
+        → Reaches bytes (λ x. Body build.new) input.new result }
+    ensures moved { OnOk result (Advances input.old input.new) }
+{
+    let at = input.at();
+    let mut piece = [0u8; 97];
+    input.piece(&mut piece)?;
+    let Some(
+        SourceRead {
+            def,
+            raw,
+            known,
+            sum,
+        },
+    ) = source_of(&piece)
+    else {
+        return Err(FileFault::BadBlock { at });
+    };
+    match build.source(def, raw, known, sum) {
+        Ok(()) => Ok(()),
+        Err(fault) => Err(block_fault(fault, at)),
+    }
+}
+
+/// Reads the settings of an archive.
+pub(super) fn head<R: Read + Drop>(
+    input: &mut PieceReader<R>,
+    build: &mut Rebuild,
+) -> Result<(), FileFault>
+    requires { due build.old ≡ HeadDue }
+    ensures steps { (bytes : List ℕ) → Stands bytes (Body build.old) input.old
+        → Reaches bytes (λ x. Body build.new) input.new result }
+    ensures moved { OnOk result (Advances input.old input.new) }
+{
+    let at = input.at();
+    let mut piece = [0u8; 13];
+    input.piece(&mut piece)?;
+    let Some(def) = archive_of(&piece) else {
+        return Err(FileFault::BadBlock { at });
+    };
+    match build.archive(def) {
+        Ok(()) => Ok(()),
+        Err(fault) => Err(block_fault(fault, at)),
+    }
+}
+
+/// Reads the preparation of a source's unfinished row.
+pub(super) fn prep<R: Read + Drop>(
+    input: &mut PieceReader<R>,
+    build: &mut Rebuild,
+) -> Result<(), FileFault>
+    requires { (def : RraDef) × (due build.old ≡ PrepDue def) }
+    ensures steps { (bytes : List ℕ) → Stands bytes (Body build.old) input.old
+        → Reaches bytes (λ x. Body build.new) input.new result }
+    ensures moved { OnOk result (Advances input.old input.new) }
+{
+    let at = input.at();
+    let mut piece = [0u8; 20];
+    input.piece(&mut piece)?;
+    let (known, value, _) = part_of(&piece);
+    match build.prep(known, value) {
+        Ok(()) => Ok(()),
+        Err(fault) => Err(block_fault(fault, at)),
+    }
+}
+
+/// Reads a cell.
+pub(super) fn cell<R: Read + Drop>(
+    input: &mut PieceReader<R>,
+    build: &mut Rebuild,
+) -> Result<(), FileFault>
+    requires { due build.old ≡ CellDue }
+    ensures steps { (bytes : List ℕ) → Stands bytes (Body build.old) input.old
+        → Reaches bytes (λ x. Body build.new) input.new result }
+    ensures moved { OnOk result (Advances input.old input.new) }
+{
+    let at = input.at();
+    let mut piece = [0u8; 16];
+    input.piece(&mut piece)?;
+    let (cell, _) = cell_of(&piece);
+    match build.cell(cell) {
+        Ok(()) => Ok(()),
+        Err(fault) => Err(block_fault(fault, at)),
+    }
+}

@@ -1,0 +1,90 @@
+//! Entries of the journal.
+ghost use Rattle.std.specs.Prelude.{◌≡◌, ◌≢◌, ◌∷◌, [], ℕ, List, IfOk, IfSome, None, OnOk};
+ghost use Rattle.rrd_base.specs.Journal.{entry_of};
+ghost use Rattle.rrd_spec.specs.Rebuilding.{due, outline_left};
+ghost use Rattle.rrd_spec.specs.declared.due.Due.TheVariants.{EntryDue};
+ghost use Rattle.rrd_file.specs.Pieces.{OfTag, Tag as TagPiece, tag_byte};
+ghost use Rattle.rrd_file.specs.Shapes.{HasOneMore, IsShaped, tag_said};
+ghost use Rattle.rrd_file.specs.Stages.{Body, first_due};
+ghost use Rattle.rrd_file.specs.Standing.{Brings, Closes, Reaches, Stands};
+
+use super::faults::{bad_entry, entry_fault};
+use super::resize::resize;
+use super::tune::tune;
+use super::update::update;
+use crate::FileFault;
+use crate::input::PieceReader;
+use rrd_base::{Entry, Rebuild};
+use std::alloc::Global;
+use std::io::Read;
+
+/// What an entry undoes.
+#[derive(Clone, Copy)]
+pub(crate) enum Tag {
+    AnUpdate,
+    ATune,
+    AResize,
+}
+
+fn tag_of(byte: u8) -> Option<Tag>
+    ensures some { IfSome result (λ tag. tag_byte (tag_said tag) ≡ byte) }
+    ensures none { result ≡ None → (tag : TagPiece) → tag_byte tag ≢ byte }
+{
+    match byte {
+        1 => Some(Tag::AnUpdate),
+        2 => Some(Tag::ATune),
+        3 => Some(Tag::AResize),
+        _ => None,
+    }
+}
+
+// Reads an entry's tag.
+fn entry_tag<R: Read + Drop>(input: &mut PieceReader<R>, build: &Rebuild) -> Result<Tag, FileFault>
+    requires { due build.now ≡ EntryDue }
+    ensures { (bytes : List ℕ) → Stands bytes (Body build.now) input.old
+        → Brings bytes build.now (λ tag. OfTag (tag_said tag) ∷ []) (λ tag. first_due (tag_said tag)) input.new result }
+{
+    let mut piece = [0u8; 1];
+    input.piece(&mut piece)?;
+    match tag_of(piece[0]) {
+        Some(tag) => Ok(tag),
+        None => Err(bad_entry(build)),
+    }
+}
+
+// Reads all pieces of an entry.
+fn pieces<R: Read + Drop>(
+    alloc: Global,
+    input: &mut PieceReader<R>,
+    build: &Rebuild,
+) -> Result<Entry, FileFault>
+    requires { due build.now ≡ EntryDue }
+    ensures closes { (bytes : List ℕ) → Stands bytes (Body build.now) input.old
+        → Closes bytes build.now input.new result }
+    ensures shaped { IfOk result (λ entry. IsShaped (outline_left build.now) (entry_of entry)) }
+{
+    match entry_tag(input, build)? {
+        Tag::AnUpdate => update(alloc, input, build),
+        Tag::ATune => tune(input, build),
+        Tag::AResize => resize(alloc, input, build),
+    }
+}
+
+/// Reads an entry.
+pub(super) fn entry<R: Read + Drop>(
+    alloc: Global,
+    input: &mut PieceReader<R>,
+    build: &mut Rebuild,
+) -> Result<(), FileFault>
+    requires { due build.old ≡ EntryDue }
+    ensures steps { (bytes : List ℕ) → Stands bytes (Body build.old) input.old
+        → Reaches bytes (λ x. Body build.new) input.new result }
+    ensures one_more { OnOk result (HasOneMore build.old build.new) }
+{
+    let number = build.entries() + 1;
+    let entry = pieces(alloc, input, build)?;
+    match build.entry(entry) {
+        Ok(()) => Ok(()),
+        Err(fault) => Err(entry_fault(fault, number)),
+    }
+}
