@@ -1,6 +1,5 @@
 -- The pieces of an entry, one after another.
-use Rattle.std.proofs.Common.{◌≡◌, ◌≢◌, ◌∙◌, ◌++◌, ◌∷◌, ◌+◌, ◌-◌, ◌<◌, ◌≤◌, ℕ, suc, List, [], sym, ap, subst, refl, take, append_assoc, length, length-append, arith, take_at, get_or}
-use Rattle.std.specs.Prelude.{Some, ◌==◌}
+use Rattle.std.proofs.Common.{◌≡◌, ◌≢◌, ◌∙◌, ◌++◌, ◌∷◌, ◌+◌, ◌<◌, ℕ, suc, List, [], sym, ap, subst, refl, length, length-append, arith, take_at, get_or}
 use Rattle.std.specs.List.{flat_map}
 use Rattle.rrd_spec.specs.declared.due.Due.TheVariants.{EntryDue}
 use Rattle.rrd_spec.specs.Entries.{Entry}
@@ -8,7 +7,7 @@ use Rattle.rrd_spec.specs.Filed.{Filed}
 use Rattle.rrd_spec.specs.Rebuilding.{MayEntry, due, limits, outline_left, with_entry}
 use Rattle.rrd_file.specs.declared.fault.FileFault.{FileFault}
 use Rattle.rrd_file.specs.declared.fault.FileFault.TheVariants.{BadEntry}
-use Rattle.rrd_file.specs.Faults.{Front, IsBad, IsFault, bad_at, bad_in_body}
+use Rattle.rrd_file.specs.Faults.{Front, IsBad, IsFault, bad_in_body}
 use Rattle.rrd_file.specs.Inputs.{Gives, Input, IsCut, left}
 use Rattle.rrd_file.specs.Layout.{entry_pieces}
 use Rattle.rrd_file.specs.Pieces.{AResize, ATune, AnUpdate, OfTag, Piece, Tag, spell, tag_byte}
@@ -17,7 +16,7 @@ use Rattle.rrd_file.specs.Stages.{BeforeDue, Body, CountDue, DueInEntry, NamedDu
 use Rattle.rrd_file.specs.Standing.{Comes, Stands}
 use Rattle.rrd_file.proofs.OneShape.{shaped_one, undo_shaped}
 use Rattle.rrd_file.proofs.Reached.{cut, front_more, gives_rest, refused}
-use Rattle.rrd_file.proofs.Ways.{Step, ToMark, ToVersion, ToHeader, ToSource, ToHead, ToPrep, ToCell, ToEntry, ToPiece, step_of}
+use Rattle.rrd_file.proofs.Ways.{Step, ToSource, ToHead, ToPrep, ToCell, ToEntry, step_of}
 
 some_due : (d : DueInEntry) → 0 < size_due d
 some_due TimeDue = omega arith

@@ -1,11 +1,10 @@
 -- Bytes that came behind those that wait in a buffer.
-use Rattle.std.proofs.Common.{◌≡◌, ◌∙◌, ◌++◌, ◌+◌, ◌-◌, ◌<◌, ◌≤◌, ℕ, List, [], sym, ap, refl, length, take, drop, slice_range, arith, append_assoc, append-nil, length-append, length-drop}
-use Rattle.std.specs.Prelude.{Option, Some, None, true, false, Bool, ◌==◌, IfSome}
+use Rattle.std.proofs.Common.{◌≡◌, ◌∙◌, ◌++◌, ◌+◌, ◌-◌, ◌≤◌, ℕ, List, sym, ap, refl, length, take, drop, slice_range, arith, append_assoc, length-append, length-drop}
+use Rattle.std.specs.Prelude.{Option, Some, None}
 use Rattle.std.proofs.lemmas.List.Edits.{take-paste}
 use Rattle.std.specs.List.{copy_within}
-use Rattle.std.specs.Io.KnownBytes.{Consumes, IsAtEnd, Keeps, prepend_known}
+use Rattle.std.specs.Io.KnownBytes.{Consumes, Keeps, prepend_known}
 use Rattle.std.proofs.lemmas.List.{take-append-le}
-use Rattle.std.proofs.lemmas.Slice.{take-put_mid_below}
 use borrow.Rule.Slice.PartMut.{put_mid, post_of}
 use Rattle.std.proofs.lemmas.List.{drop_at, length-take-le, take_at}
 use lib.Seq.{take-add}

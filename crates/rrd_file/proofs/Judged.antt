@@ -1,15 +1,15 @@
 -- Pieces of the body that came whole: taken, or refused.
-use Rattle.std.proofs.Common.{◌≡◌, ◌≢◌, ◌∙◌, ◌++◌, ◌∷◌, ◌+◌, ◌^◌, ◌<◌, ◌≤◌, ℕ, List, [], sym, ap, subst, refl, length, arith}
+use Rattle.std.proofs.Common.{◌≡◌, ◌≢◌, ◌∙◌, ◌^◌, ◌<◌, ℕ, List, [], sym, ap, subst, refl, length, arith}
 use Rattle.rrd_fixed.specs.declared.cell.Cell.{Cell}
 use Rattle.rrd_fold.specs.Parts.{Part}
 use Rattle.rrd_base.specs.declared.rebuild.PieceFault.{PieceFault}
 use Rattle.rrd_base.specs.declared.rebuild.PieceFault.TheVariants as refusal
-use Rattle.rrd_spec.specs.declared.due.Due.TheVariants.{SourceDue, HeadDue, PrepDue, CellDue, EntryDue, NothingDue}
+use Rattle.rrd_spec.specs.declared.due.Due.TheVariants.{SourceDue, HeadDue, PrepDue, CellDue, NothingDue}
 use Rattle.rrd_spec.specs.declared.settings.RraDef.{RraDef}
 use Rattle.rrd_spec.specs.Filed.{Filed, Header, Source, One}
 use Rattle.rrd_spec.specs.Rebuilding.{IsHeader, MayCell, MayHead, MayPrep, MaySource, begun, due, limits, with_cell, with_head, with_prep, with_source}
 use Rattle.rrd_file.specs.declared.fault.FileFault.{FileFault}
-use Rattle.rrd_file.specs.declared.fault.FileFault.TheVariants.{NotOurs, Version as WrongVersion, BadBlock, BadEntry, Trailing}
+use Rattle.rrd_file.specs.declared.fault.FileFault.TheVariants.{NotOurs, Version as WrongVersion, BadBlock, BadEntry}
 use Rattle.std.specs.Prelude.{Some}
 use Rattle.rrd_file.specs.Faults.{Front, IsBad, IsFault, IsTrailing, IsWhole, bad_in_body}
 use Rattle.rrd_file.specs.Inputs.{Gives, Input, IsCut, left}
@@ -22,7 +22,7 @@ use Rattle.rrd_file.proofs.OneSpelling.{archive_fits, cell_fits, header_fits, is
 use Rattle.rrd_file.proofs.Reached.{cut, refused, taken}
 use Rattle.rrd_file.proofs.Sound.{IsSound, reached_sound, small_limits}
 use Rattle.rrd_file.proofs.Spelled.{archive_one, cell_one, four_one, header_one, part_one, source_one, two_one}
-use Rattle.rrd_file.proofs.Ways.{Step, ToMark, ToVersion, ToHeader, ToSource, ToHead, ToPrep, ToCell, ToEntry, ToPiece, step_of}
+use Rattle.rrd_file.proofs.Ways.{Step, ToMark, ToVersion, ToHeader, ToSource, ToHead, ToPrep, ToCell, ToEntry, step_of}
 
 -- ---- refusals
 

@@ -1,5 +1,5 @@
 -- Pieces that came one after another, and how they lead from stage to stage.
-use Rattle.std.proofs.Common.{◌≡◌, ◌≢◌, ◌∙◌, ◌++◌, ◌∷◌, ◌+◌, ◌<◌, ◌≤◌, ℕ, List, [], sym, ap, subst, refl, take, append_assoc, append-nil, length, length-append, arith, take_at}
+use Rattle.std.proofs.Common.{◌≡◌, ◌≢◌, ◌∙◌, ◌++◌, ◌∷◌, ◌+◌, ◌<◌, ℕ, List, [], sym, ap, subst, refl, take, append_assoc, append-nil, length, length-append, arith, take_at}
 use Rattle.std.specs.Prelude.{Option, Some, None, IfSome}
 use Rattle.std.specs.List.{flat_map}
 use Rattle.std.specs.Io.KnownBytes.{Consumes}

@@ -1,5 +1,5 @@
 -- Rows that come one after another into a table.
-use Rattle.std.proofs.Common.{◌≡◌, ◌∙◌, ◌+◌, ◌-◌, ◌<◌, ◌++◌, ℕ, zero, suc, List, [], ◌∷◌, sym, ap, subst, refl, length, length-set, replicate, take, arith, append-nil}
+use Rattle.std.proofs.Common.{◌≡◌, ◌+◌, ◌-◌, ◌<◌, ◌++◌, ℕ, zero, suc, List, [], ◌∷◌, sym, subst, length, length-set, replicate, take, arith, append-nil}
 use Rattle.std.specs.Prelude.{slice_set}
 use Rattle.std.proofs.lemmas.List.{length-replicate}
 use Rattle.rrd_fixed.specs.declared.cell.Cell.{Cell}

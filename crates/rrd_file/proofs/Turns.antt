@@ -1,6 +1,6 @@
 -- What one more turn of a loop over an entry's pieces adds, and what is due then.
 use Rattle.std.proofs.Common.{◌≡◌, ◌∙◌, ◌++◌, ◌∷◌, ◌+◌, ◌-◌, ◌*◌, ◌<◌, ◌≤◌, ◌⊎◌, inl, inr, ℕ, zero, suc, List, [], Bool, sym, ap, subst, refl, length, take, drop, map, arith, append_assoc, append-nil}
-use Rattle.std.specs.Prelude.{Some, None, nat_lt, if◌then◌else◌, replicate, slice_get, slice_index_or, slice_set}
+use Rattle.std.specs.Prelude.{Some, nat_lt, if◌then◌else◌, replicate, slice_get, slice_index_or, slice_set}
 use Rattle.std.specs.List.{flat_map}
 use Rattle.std.proofs.lemmas.Bool.{le-ltb}
 use Rattle.std.proofs.lemmas.Grind.{flat_map-append}
@@ -13,18 +13,17 @@ use Rattle.rrd_fold.specs.Bounds.{Consolidating}
 use Rattle.rrd_fold.specs.Parts.{Part}
 use Rattle.rrd_fold.specs.declared.function.Function.{Function}
 use Rattle.rrd_spec.specs.Each.{AllOf, parts_in}
-use Rattle.rrd_spec.specs.declared.due.Due.{Due}
 use Rattle.rrd_spec.specs.declared.due.Due.TheVariants.{EntryDue, NothingDue}
 use Rattle.rrd_spec.specs.declared.outline.Outline.{Outline}
 use Rattle.rrd_spec.specs.declared.settings.RraDef.{RraDef}
 use Rattle.rrd_spec.specs.Entries.{Entry, SavedArchive}
 use Rattle.rrd_spec.specs.Filed.{Filed}
-use Rattle.rrd_spec.specs.Rebuilding.{due, prep_or, rows_in_all, unprepared, with_entry}
+use Rattle.rrd_spec.specs.Rebuilding.{due, rows_in_all, with_entry}
 use Rattle.rrd_file.specs.Layout.{raws_and_parts, row_pieces}
 use Rattle.rrd_file.specs.Pieces.{OfCell, OfPrep, OfRawAndPart, Piece}
 use Rattle.rrd_file.specs.Shapes.{AreSavedShaped, IsSavedShaped}
 use Rattle.rrd_file.specs.Stages.{DueInEntry, NamedDue, RowCellDue, cells_due, named_due}
-use Rattle.rrd_file.proofs.Order.{BeforeEntry, before_entry}
+use Rattle.rrd_file.proofs.Order.{before_entry}
 
 -- ---- entries
 

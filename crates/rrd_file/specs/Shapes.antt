@@ -1,7 +1,6 @@
 -- Glue: how long the lists of an entry are that was read piece by piece, and what such a piece keeps to.
 use Rattle.std.specs.Prelude.{◌≡◌, ◌<◌, ◌≤◌, ℕ, List, [], ◌∷◌, length}
 use Rattle.rrd_fixed.specs.declared.cell.Cell.{Cell}
-use Rattle.rrd_fixed.specs.Rate.{IsAccepted}
 use Rattle.rrd_ring.specs.Rows.{HasWidth}
 use Rattle.rrd_spec.specs.declared.entry.SourceBefore.{SourceBefore}
 use Rattle.rrd_spec.specs.declared.outline.Outline.{Outline}

@@ -1,5 +1,5 @@
 -- Glue: how far an input was read.
-use Rattle.std.specs.Prelude.{◌≡◌, ◌+◌, ◌<◌, ℕ, suc, List, [], ◌∷◌, ◌++◌, length, Some, Result, Ok, Err}
+use Rattle.std.specs.Prelude.{◌≡◌, ◌+◌, ◌<◌, ℕ, suc, List, [], ◌++◌, length, Some, Result, Ok, Err}
 use Rattle.rrd_spec.specs.Filed.{Filed}
 use Rattle.rrd_file.specs.declared.fault.FileFault.{FileFault}
 use Rattle.rrd_file.specs.declared.fault.FileFault.TheVariants.{BadBlock, BadEntry, OutOfMemory}

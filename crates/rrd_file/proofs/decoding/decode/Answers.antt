@@ -67,4 +67,4 @@ returns g c = λ bytes h.
     let s4 = c.in_ok-body.ensures.steps bytes s3 in
     let s5 = c.in_ok-entries.ensures.steps bytes s4 in
     let s6 = c.in_ok-end.ensures bytes _ c.in_ok-entries.ensures.done s5 in
-    record { version = One; whole = subst (IsWhole bytes) (sym c.finish.ensures) s6 }
+    record { version = One; whole = subst (IsWhole bytes) (sym c.finish.ensures.filed) s6; valid = c.finish.ensures.valid }
