@@ -37,8 +37,8 @@ StartsFrom command held start = StartsBy (effect command) held start
 
 -- after a refused command and one that printed the place is as it was; a change is written. What was printed may fail
 -- to be handed on
-abbrev pub EndsBy : Option Fault → Bool → Option Stored → Option (List ℕ) → Option (List ℕ) → Result (Unit {0}) TaskFault
-    → Type 0
+abbrev pub EndsBy : Option Fault → Bool → Option Stored → Option (List ℕ) → Option (List ℕ)
+    → Result (Unit {0}) TaskFault → Type 0
 EndsBy (Some fault) changed database old new end = (end ≡ Err (task.Command fault)) × Keeps old new
 EndsBy None true database old new end = Leaves database old new end
 EndsBy None false database old new (Ok x) = Keeps old new
