@@ -272,7 +272,8 @@ fn a_write_that_breaks_off(rt: HostRuntime) -> Result<(), Fail> {
     let mut out = Vec::new(alloc);
     let end = run_single(alloc, &words_of(alloc, CREATE)?, 0, &mut shelf, &mut out);
     assert_eq!(&rt; end.err(), Some(TaskFault::CannotWrite));
-    assert_eq!(&rt; shelf.held.as_slice(), &new[..17]);
+    let front = new.get(..17).ok_or("short")?;
+    assert_eq!(&rt; shelf.held.as_slice(), front);
     let cut = TaskFault::File(FileFault::Truncated { at: 17 });
     assert_stops(&rt, alloc, &mut shelf, "last", cut)
 }
