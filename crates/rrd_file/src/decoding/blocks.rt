@@ -1,5 +1,5 @@
 //! The pieces of the body, one by one.
-ghost use Rattle.std.specs.Prelude.{◌≡◌, ◌^◌, ◌<◌, ℕ, List, OnOk};
+ghost use Rattle.std.specs.Prelude.{◌≡◌, ◌^◌, ◌<◌, ◌≤◌, ℕ, List, length, OnOk};
 ghost use Rattle.rrd_spec.specs.Rebuilding.{due};
 ghost use Rattle.rrd_spec.specs.declared.due.Due.TheVariants.{CellDue, HeadDue, PrepDue, SourceDue};
 ghost use Rattle.rrd_spec.specs.declared.settings.RraDef.{RraDef};
@@ -89,14 +89,14 @@ pub(super) fn prep<R: Read + Drop>(
     }
 }
 
-// Reads a cell. It is looked at where it waits, and left once the database took it.
+// Reads a cell that waits. It is looked at where it waits, and left once the database took it.
 fn cell<R: Read + Drop>(input: &mut PieceReader<R>, build: &mut Rebuild) -> Result<(), FileFault>
-    requires { due build.old ≡ CellDue }
+    requires is_due { due build.old ≡ CellDue }
+    requires waits { 16 ≤ length input.old.waiting }
     ensures steps { (bytes : List ℕ) → Stands bytes (Body build.old) input.old
         → Reaches bytes (λ x. Body build.new) input.new result }
     ensures moved { OnOk result (Advances input.old input.new) }
 {
-    input.wait_for(CELL)?;
     let (cell, _) = cell_of(input.front(CELL));
     let came = build.cell(cell);
     input.skip(CELL);
@@ -106,7 +106,7 @@ fn cell<R: Read + Drop>(input: &mut PieceReader<R>, build: &mut Rebuild) -> Resu
     }
 }
 
-/// Reads a cell, and those behind it that came already.
+/// Reads a cell, and those behind it that came with it.
 pub(super) fn cells<R: Read + Drop>(
     input: &mut PieceReader<R>,
     build: &mut Rebuild,
@@ -116,7 +116,7 @@ pub(super) fn cells<R: Read + Drop>(
         → Reaches bytes (λ x. Body build.new) input.new result }
     ensures moved { OnOk result (Advances input.old input.new) }
 {
-    cell(input, build)?;
+    input.wait_for(CELL)?;
     while input.waiting() >= CELL {
         let Due::CellDue = build.due() else {
             return Ok(());
