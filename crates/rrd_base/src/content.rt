@@ -1,5 +1,5 @@
 //! What a database holds, but for its journal.
-ghost use Rattle.std.specs.Prelude.{◌≡◌, ℕ, ◌-◌, ◌/◌, ◌^◌, ◌<◌, ◌≤◌, length, slice_index_or, IfOk, IfNone, IfSome, None, pos, ◌-ℤ◌};
+ghost use Rattle.std.specs.Prelude.{◌≡◌, ℕ, ◌-◌, ◌/◌, ◌^◌, ◌<◌, ◌≤◌, [], length, replicate, slice_get, slice_index_or, take, Some, IfOk, IfNone, IfSome, None, pos, ◌-ℤ◌};
 ghost use Rattle.std.specs.Int.{int_div_euclid};
 ghost use Rattle.std.specs.Result.{result_err};
 ghost use Rattle.rrd_spec.specs.Limits.{version_one};
@@ -7,7 +7,7 @@ ghost use Rattle.rrd_spec.specs.Choice.{choice_of};
 ghost use Rattle.rrd_spec.specs.Commands.{Resizing, TuningBy, Updating, moved, rows_changed, rows_of_archives};
 ghost use Rattle.rrd_spec.specs.Creating.{create_verdict, created};
 ghost use Rattle.rrd_spec.specs.Cells.{cell_at, oldest, oldest_time, prep_at};
-ghost use Rattle.rrd_spec.specs.History.{definitions};
+ghost use Rattle.rrd_spec.specs.History.{Archive as ArchiveContent, definitions};
 ghost use Rattle.rrd_fixed.specs.declared.cell.Cell.TheVariants.{Unknown as CellUnknown};
 ghost use Rattle.rrd_fixed.specs.declared.raw.Raw.TheVariants.{Unknown};
 ghost use Rattle.rrd_fold.specs.Parts.{nothing};
@@ -161,6 +161,27 @@ impl Content {
         let rra = &self.archives[archive];
         let resolution = rra.def().resolution(self.step);
         rra.row_of_age(age(self.last, resolution, time))
+    }
+
+    /// The cells of an archive's row at a place, 0 the oldest.
+    pub(crate) fn row_at(&self, archive: usize, place: u64) -> &[Cell]
+        requires archive_there { archive < length self.now.archives }
+        requires place_there { (a : ArchiveContent) → slice_get self.now.archives archive ≡ Some a
+            → place < length a.rows }
+        ensures { (a : ArchiveContent) → slice_get self.now.archives archive ≡ Some a
+            → result.now ≡ slice_index_or a.rows place [] }
+    {
+        self.archives[archive].row(place)
+    }
+
+    /// So many of an archive's oldest rows were never written, so that all their cells are unknown.
+    pub(crate) fn unwritten_rows(&self, archive: usize) -> u64
+        requires { archive < length self.now.archives }
+        ensures few { (a : ArchiveContent) → slice_get self.now.archives archive ≡ Some a → result ≤ length a.rows }
+        ensures unknown { (a : ArchiveContent) → slice_get self.now.archives archive ≡ Some a
+            → take result a.rows ≡ replicate result (replicate (length self.now.sources) CellUnknown) }
+    {
+        self.archives[archive].unwritten_rows()
     }
 
     /// Gives the sources the settings that a tune asks.

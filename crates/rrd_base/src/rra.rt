@@ -4,7 +4,7 @@ ghost use Rattle.std.specs.List.{AllByRecursion, fold};
 ghost use Rattle.rrd_fixed.specs.declared.cell.Cell.{Cell};
 ghost use Rattle.rrd_fixed.specs.declared.cell.Cell.TheVariants.{Unknown};
 ghost use Rattle.rrd_fold.specs.Parts.{Part, nothing, row_cell, with_each};
-ghost use Rattle.rrd_ring.specs.Rows.{HasWidth, newest_rows, row_at};
+ghost use Rattle.rrd_ring.specs.Rows.{HasWidth, newest_rows, row_at, unknown_rows, width};
 ghost use Rattle.rrd_spec.specs.Entries.{put_back as after_put_back, saved};
 ghost use Rattle.rrd_spec.specs.Limits.{version_one};
 ghost use Rattle.rrd_spec.specs.Creating.{new_archive};
@@ -133,6 +133,22 @@ impl Rra {
         self.rows.rows()
     }
 
+    /// The cells of a row, counted from the oldest.
+    pub(crate) fn row(&self, place: u64) -> &[Cell]
+        requires { place < length self.now.rows }
+        ensures { result.now ≡ row_at self.now.rows place }
+    {
+        self.rows.row(place)
+    }
+
+    /// So many of the oldest rows were never written, so that all their cells are unknown.
+    pub(crate) fn unwritten_rows(&self) -> u64
+        ensures few { result ≤ length self.now.rows }
+        ensures unknown { first result self.now.rows ≡ unknown_rows result (width self.now.rows) }
+    {
+        self.rows.unwritten()
+    }
+
     /// The cells of the row of an age, 0 for the newest; none where there is no such row.
     pub(crate) fn row_of_age(&self, age: i128) -> Option<&[Cell]>
         ensures some { IfSome result (λ row. (unknown : List Cell) → row_of_age self.now.rows unknown age ≡ row.now) }
@@ -142,7 +158,7 @@ impl Rra {
         if age < 0 || age >= i128::from(rows) {
             return None;
         }
-        Some(self.rows.row(rows - 1 - age as u64))
+        Some(self.row(rows - 1 - age as u64))
     }
 
     /// The preparation of a source's unfinished row.

@@ -1,5 +1,5 @@
 -- Rows of cells in one vector, and rings of them.
-use Rattle.std.proofs.Common.{Vec, Global, ◌≡◌, ◌⊎◌, inl, inr, min, set, refl, sym, ◌∙◌, ap, subst, ℕ, zero, suc, ◌+◌, ◌-◌, ◌*◌, ◌%◌, ◌<◌, ◌≤◌, List, [], ◌∷◌, ◌++◌, length, get_or, take, drop, replicate, ⊎_elim, arith, length-append, length-drop}
+use Rattle.std.proofs.Common.{Vec, Global, ◌≡◌, ◌⊎◌, inl, inr, set, refl, sym, ◌∙◌, ap, subst, ℕ, zero, suc, ◌+◌, ◌-◌, ◌*◌, ◌%◌, ◌<◌, ◌≤◌, List, [], ◌∷◌, ◌++◌, length, get_or, take, drop, replicate, ⊎_elim, arith, length-append, length-drop}
 use Rattle.std.proofs.Math.Seq.{take-append-add}
 use Rattle.std.proofs.Math.Nat.{add-mul, mod-eq_of_lt, mod-eq-sub-mod}
 use Rattle.std.proofs.lemmas.Bool.{cases_lt}
@@ -9,7 +9,7 @@ use Rattle.std.proofs.lemmas.List.FromFn.{length-map-range_with_len, get_or-map-
 use Rattle.std.specs.Vec.{with_items_from}
 use Rattle.rrd_fixed.specs.declared.cell.Cell.{Cell}
 use Rattle.rrd_fixed.specs.declared.cell.Cell.TheVariants.{Unknown}
-use Rattle.rrd_ring.specs.Rows.{row_at, width, HasWidth, unknown_rows, newest_rows, IsArchive, AreDropped}
+use Rattle.rrd_ring.specs.Rows.{row_at, width, HasWidth, unknown_rows, IsArchive, AreDropped}
 use Rattle.rrd_ring.specs.Ring.{row_of, rows_of, ring_rows, from_place, IsRing, AreRows}
 use Rattle.rrd_ring.specs.Widths.{width_is}
 use Rattle.rrd_ring.proofs.RowLemmas.{IsArchive-from_width, AreDropped-from_width}
@@ -414,26 +414,17 @@ length-resized n kept rows w place xs h k is =
     let count : n * w ≡ (n - kept) * w + kept * w = ap (λ (m : ℕ). m * w) all_rows ∙ add-mul (n - kept) kept w in
     omega (arith, length-append (replicate ((n - kept) * w) Unknown) (take (kept * w) (from_place start xs)), length-replicate ((n - kept) * w) Unknown, part, count)
 
-pub ring_resized : (n kept rows w place : ℕ) (xs : List Cell) (all : List (List Cell)) → 0 < n → kept ≡ min n rows → IsRing rows w place xs → ring_rows rows w place xs ≡ all
-    → ring_rows n w 0 (replicate ((n - kept) * w) Unknown ++ take (kept * w) (from_place (((place + (rows - kept)) % rows) * w) xs)) ≡ newest_rows n all
-ring_resized n kept rows w place xs all some least is e =
-    let fewer : kept ≤ n = omega arith in
-    let within : kept ≤ rows = omega arith in
+pub ring_resized : (n kept rows w place : ℕ) (xs : List Cell) (all : List (List Cell)) → 0 < n → kept ≤ n → kept ≤ rows → IsRing rows w place xs → ring_rows rows w place xs ≡ all
+    → ring_rows n w 0 (replicate ((n - kept) * w) Unknown ++ take (kept * w) (from_place (((place + (rows - kept)) % rows) * w) xs)) ≡ unknown_rows (n - kept) w ++ drop (rows - kept) all
+ring_resized n kept rows w place xs all some fewer within is e =
     let unknown = replicate ((n - kept) * w) Unknown in
     let part = take (kept * w) (from_place (((place + (rows - kept)) % rows) * w) xs) in
     let all_rows : n ≡ n - kept + kept = omega arith in
-    let long = ring_len rows w place xs all e in
-    let wide = ring_width rows w place xs all is e in
-    let added : n - kept ≡ n - length all = omega arith in
-    let gone : rows - kept ≡ length all - n = omega arith in
     ring_at_front n w (unknown ++ part) some (length-resized n kept rows w place xs fewer within is)
     ∙ ap (λ (k : ℕ). rows_of k w (unknown ++ part)) all_rows
     ∙ rows_of-append (n - kept) kept w unknown part (length-replicate ((n - kept) * w) Unknown)
     ∙ ap (λ (zs : List (List Cell)). zs ++ rows_of kept w part) (rows_of_unknown (n - kept) w)
     ∙ ap (λ (zs : List (List Cell)). unknown_rows (n - kept) w ++ zs) (ring_newest kept rows w place xs within is ∙ ap (drop (rows - kept)) e)
-    ∙ ap (λ (k : ℕ). unknown_rows k w ++ drop (rows - kept) all) added
-    ∙ ap (λ (k : ℕ). unknown_rows (n - length all) k ++ drop (rows - kept) all) (sym wide)
-    ∙ ap (λ (k : ℕ). unknown_rows (n - length all) (width all) ++ drop k all) gone
 
 -- ---- a row is written over
 

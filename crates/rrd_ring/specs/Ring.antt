@@ -1,7 +1,9 @@
 -- Glue: rows of cells in one vector, one row after another, and rings of such rows.
-use Rattle.std.specs.Prelude.{◌≡◌, ℕ, ◌+◌, ◌*◌, ◌%◌, ◌<◌, ◌≤◌, List, ◌++◌, length, take, drop, map}
+use Rattle.std.specs.Prelude.{◌≡◌, ℕ, ◌+◌, ◌*◌, ◌-◌, ◌%◌, ◌<◌, ◌≤◌, ◌⊎◌, List, Vec, ◌++◌, length, take, drop, map, replicate, vec_len, vec_capacity}
+use Rattle.std.specs.Global.{Global}
 use Rattle.std.specs.List.{range_with_len}
 use Rattle.rrd_fixed.specs.declared.cell.Cell.{Cell}
+use Rattle.rrd_fixed.specs.declared.cell.Cell.TheVariants.{Unknown}
 
 -- row k of a vector whose rows have so many cells each
 abbrev pub row_of : ℕ → List Cell → ℕ → List Cell
@@ -28,6 +30,15 @@ pub record IsRing (rows sources place : ℕ) (cells : List Cell) : Type 0 where
   pub few_sources : sources ≤ 64
   pub whole : length cells ≡ rows * sources
   pub place_within : place < rows
+
+-- the cells of a ring's vector, of which the first are written and the others, up to so many, unknown
+abbrev pub with_unwritten : ℕ → List Cell → List Cell
+with_unwritten all written = written ++ replicate (all - length written) Unknown
+
+-- such a ring, of which a front is written: all of it, or as far as the place of its oldest row, with room for the rest
+pub record IsPartlyWritten (rows sources place : ℕ) (written : Vec Cell Global) : Type 0 where
+  pub ring : IsRing rows sources place (with_unwritten (rows * sources) written.items)
+  pub ends : (vec_len written ≡ rows * sources) ⊎ ((vec_len written ≡ place * sources) × (rows * sources ≤ vec_capacity written))
 
 -- at most 1,000,000 rows of at most 64 cells each, in one vector
 pub record AreRows (rows sources : ℕ) (cells : List Cell) : Type 0 where

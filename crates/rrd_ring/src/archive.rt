@@ -5,7 +5,10 @@ ghost use Rattle.rrd_fixed.specs.declared.cell.Cell.{Cell};
 ghost use Rattle.rrd_ring.specs.Rows.{row_at, width, HasWidth, with_row, unknown_rows, newest_rows};
 
 use crate::dropped::Dropped;
-use crate::table::{cells_of, push_from, row_mut, unknown_cells, wrapped, write_from, write_row};
+use crate::table::{
+    cells_of, fill_up, push_from, put_row, row_from, row_mut, rows_written, unknown_cells, wrapped,
+    write_from,
+};
 use rrd_fixed::{Cell, Meter};
 use std::alloc::{AllocError, Global};
 use std::marker::Model;
@@ -15,24 +18,28 @@ use std::mem;
 /// unknown), one for each data source. Contracts see the list of the rows, oldest first.
 #[derive(Debug, Drop)]
 pub struct Archive {
-    // The cells of the rows, one row after another.
+    // The cells of the rows, one row after another, as far as they were written: the others are unknown.
+    // There is room for all of them from the start on, so that no row takes memory later, and what isn't
+    // written costs no time.
     cells: Vec<Cell>,
     rows: usize,
     sources: usize,
     // The place of the oldest row among the vector's rows, which go on from the last to the first.
+    // Until all are written, it is the place after the last one that is.
     oldest: usize,
 }
 
 impl Model for Archive {
     ghost use Rattle.std.specs.Prelude.{List};
     ghost use Rattle.rrd_fixed.specs.declared.cell.Cell.{Cell};
-    ghost use Rattle.rrd_ring.specs.Ring.{ring_rows, IsRing};
+    ghost use Rattle.std.specs.Prelude.{◌*◌};
+    ghost use Rattle.rrd_ring.specs.Ring.{ring_rows, with_unwritten, IsPartlyWritten};
 
     ghost Value = { List (List Cell) };
 
-    ghost view = { λ a. ring_rows a.rows a.sources a.oldest a.cells.items };
+    ghost view = { λ a. ring_rows a.rows a.sources a.oldest (with_unwritten (a.rows * a.sources) a.cells.items) };
 
-    ghost invariant = { λ a. IsRing a.rows a.sources a.oldest a.cells.items };
+    ghost invariant = { λ a. IsPartlyWritten a.rows a.sources a.oldest a.cells };
 }
 
 impl Archive {
@@ -49,7 +56,7 @@ impl Archive {
     {
         let (rows, sources) = (rows as usize, sources as usize);
         let count = cells_of(rows, sources);
-        let cells = unknown_cells(alloc, count, count)?;
+        let cells = Vec::with_capacity(alloc, count)?;
         Ok(Archive {
             cells,
             rows,
@@ -77,6 +84,15 @@ impl Archive {
         self.sources as u64
     }
 
+    /// So many of the oldest rows were never written, so that all their cells are unknown.
+    pub fn unwritten(&self) -> u64
+        ensures few { result ≤ length self.now }
+        ensures unknown { take result self.now ≡ unknown_rows result (width self.now) }
+    {
+        let written = rows_written(self.cells.len(), self.rows, self.sources, self.oldest);
+        (self.rows - written) as u64
+    }
+
     /// The cells of row `i`, counted from the oldest.
     pub fn row(&self, i: u64) -> &[Cell]
         requires { i < length self.now }
@@ -84,7 +100,7 @@ impl Archive {
     {
         let place = wrapped(self.oldest + i as usize, self.rows);
         let start = cells_of(place, self.sources);
-        &self.cells[start..start + self.sources]
+        row_from(&self.cells, start, self.sources)
     }
 
     /// The cells of row `i`, counted from the oldest, to be written. The archive ends with what was
@@ -98,6 +114,7 @@ impl Archive {
     {
         let place = wrapped(self.oldest + i as usize, self.rows);
         let start = cells_of(place, self.sources);
+        fill_up(&mut self.cells, cells_of(self.rows, self.sources));
         row_mut(&mut self.cells, start, start + self.sources)
     }
 
@@ -110,7 +127,7 @@ impl Archive {
         ensures turns { meter.new ≡ meter.old + length cells.now }
     {
         let start = cells_of(self.oldest, self.sources);
-        write_row(&mut self.cells[start..start + self.sources], cells, meter);
+        put_row(&mut self.cells, start, cells, meter);
         self.oldest = wrapped(self.oldest + 1, self.rows);
     }
 
@@ -123,8 +140,9 @@ impl Archive {
         let rows = n as usize;
         let start = cells_of(self.oldest, self.sources);
         let count = cells_of(rows, self.sources);
+        let all = cells_of(self.rows, self.sources);
         let mut cells = Vec::with_capacity(alloc, count)?;
-        push_from(&mut cells, &self.cells, start, count)?;
+        push_from(&mut cells, &self.cells, all, start, count)?;
         Ok(Dropped {
             cells,
             rows,
@@ -139,6 +157,7 @@ impl Archive {
         requires one_width { HasWidth (width self.old) dropped }
         ensures { self.new ≡ dropped ++ take (length self.old - length dropped) self.old }
     {
+        fill_up(&mut self.cells, cells_of(self.rows, self.sources));
         self.oldest = wrapped(self.oldest + (self.rows - dropped.rows), self.rows);
         let start = cells_of(self.oldest, self.sources);
         write_from(&mut self.cells, start, &dropped.cells);
@@ -152,13 +171,15 @@ impl Archive {
         ensures { IfOk result (λ archive. archive ≡ newest_rows rows self.now) }
     {
         let wanted = rows as usize;
-        let kept = wanted.min(self.rows);
+        let written = rows_written(self.cells.len(), self.rows, self.sources, self.oldest);
+        let kept = wanted.min(written);
         let first = wrapped(self.oldest + (self.rows - kept), self.rows);
         let start = cells_of(first, self.sources);
         let count = cells_of(kept, self.sources);
         let room = cells_of(wanted, self.sources);
+        let all = cells_of(self.rows, self.sources);
         let mut cells = unknown_cells(alloc, room, room - count)?;
-        push_from(&mut cells, &self.cells, start, count)?;
+        push_from(&mut cells, &self.cells, all, start, count)?;
         Ok(Archive {
             cells,
             rows: wanted,

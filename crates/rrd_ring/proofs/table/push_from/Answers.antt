@@ -1,8 +1,8 @@
-use Rattle.std.proofs.Common.{◌≡◌, ◌⊎◌, inl, inr, ⊎_elim, ◌+◌, ◌-◌, ◌<◌, ◌≤◌, ◌++◌, ◌∙◌, ap, length, take, drop, arith}
-use Rattle.std.proofs.lemmas.Bool.{cases_lt}
-use Rattle.std.proofs.lemmas.List.{append_assoc}
-use Rattle.rrd_ring.specs.Ring.{from_place}
-use Rattle.rrd_ring.proofs.RingLemmas.{copied_from}
+use Rattle.std.proofs.Common.{◌≡◌, ◌+◌, ◌-◌, ◌++◌, ◌∙◌, ap, ℕ, List, take, drop, replicate, vec_len, arith}
+use Rattle.std.proofs.lemmas.List.{append_assoc, take_all}
+use Rattle.rrd_fixed.specs.declared.cell.Cell.{Cell}
+use Rattle.rrd_fixed.specs.declared.cell.Cell.TheVariants.{Unknown}
+use Rattle.rrd_ring.proofs.WrittenLemmas.{copied_pieces}
 use Rattle.rrd_ring.proofs.table.push_from.Goals as goal
 
 pub returns : goal.returns
@@ -10,14 +10,21 @@ returns c =
     let xs = c.args.ring.now in
     let old = c.args.copies.now.items in
     let start = c.args.start in
-    let count = c.args.count in
     let first = c.min-first.result in
-    let least = c.min-first.ensures in
+    let between = c.min-unwritten.result in
+    let last = c.args.count - first - between in
+    let one = c.extend_from_slice.new.self in
+    let n = c.len.result + between in
     let long : start + first - start ≡ first = omega arith in
-    let sum : first + (count - first) ≡ count = omega arith in
-    let which : (count - first ≡ 0) ⊎ (length xs - start ≤ first) =
-    ⊎_elim (λ (more : length xs - start < count). inr (omega arith)) (λ (enough : count ≤ length xs - start). inl (omega arith)) (cases_lt (length xs - start) count) in
-    rw (c.in_ok-extend_from_slice-2.ensures.items, c.in_ok-extend_from_slice.ensures.items, long)
-    (append_assoc old (take first (drop start xs)) (take (count - first) xs)
-    ∙ ap (λ zs. old ++ zs) (copied_from xs start first (count - first) c.requires.within (omega arith) (omega arith) which)
-    ∙ ap (λ k. old ++ take k (from_place start xs)) sum)
+    let added : n - vec_len one ≡ between = omega (arith, c.len.ensures) in
+    let unknown = replicate between Unknown in
+    let grown : c.resize.new.self.items ≡ one.items ++ unknown =
+    c.in_ok-resize.ensures.items
+    ∙ ap (λ (zs : List Cell). zs ++ replicate (n - vec_len one) Unknown) (take_all n one.items (omega (arith, one.ok.0, c.len.ensures)))
+    ∙ ap (λ (k : ℕ). one.items ++ replicate k Unknown) added in
+    let part = take first (drop start xs) in
+    c.in_ok-extend_from_slice-2.ensures.items
+    ∙ ap (λ (zs : List Cell). zs ++ take last xs) (grown ∙ ap (λ (zs : List Cell). zs ++ unknown) (c.in_ok-extend_from_slice.ensures.items ∙ ap (λ (k : ℕ). old ++ take k (drop start xs)) long))
+    ∙ append_assoc (old ++ part) unknown (take last xs)
+    ∙ append_assoc old part (unknown ++ take last xs)
+    ∙ ap (λ (zs : List Cell). old ++ zs) (copied_pieces c.args.all start c.args.count first between xs c.requires.within c.requires.written c.requires.few c.min-first.ensures c.min-unwritten.ensures)

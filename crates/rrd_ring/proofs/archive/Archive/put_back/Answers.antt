@@ -1,46 +1,56 @@
-use Rattle.std.proofs.Common.{◌≡◌, ◌-◌, ◌≤◌, ◌*◌, ◌++◌, ◌∙◌, sym, ap, subst, length, take, arith}
+use Rattle.std.proofs.Common.{◌≡◌, ◌-◌, ◌≤◌, ◌*◌, ◌++◌, ◌∙◌, sym, ap, subst, ℕ, List, length, take, arith}
 use Rattle.std.proofs.lemmas.List.{with_items_is}
+use Rattle.rrd_fixed.specs.declared.cell.Cell.{Cell}
 use Rattle.rrd_ring.specs.Rows.{HasWidth}
-use Rattle.rrd_ring.specs.Ring.{rows_of, ring_rows}
+use Rattle.rrd_ring.specs.Ring.{rows_of, ring_rows, with_unwritten, IsRing}
 use Rattle.rrd_ring.proofs.RingLemmas.{ring_len, rows_len, ring_width, ring_put_back, same_cells, same_rows, cells_le}
+use Rattle.rrd_ring.proofs.WrittenLemmas.{all_written}
 use Rattle.rrd_ring.proofs.archive.Archive.put_back.Goals as goal
 
 pub overflow_sub-self-inside : goal.overflow_sub-self-inside
 overflow_sub-self-inside c =
     let a = c.self.inside in
     let d = c.dropped.inside in
-    omega (arith, c.requires.fits, ring_len a.rows a.sources a.oldest a.cells.items c.args.self.now c.self.view_is, rows_len d.rows d.sources d.cells.items c.args.dropped c.dropped.view_is)
+    let xs = with_unwritten (a.rows * a.sources) a.cells.items in
+    omega (arith, c.requires.fits, ring_len a.rows a.sources a.oldest xs c.args.self.now c.self.view_is, rows_len d.rows d.sources d.cells.items c.args.dropped c.dropped.view_is)
 
 pub write_from-requires-clause-few : goal.write_from-requires-clause-few
 write_from-requires-clause-few c =
     let a = c.self.inside in
     let d = c.dropped.inside in
     let ds = d.cells.items in
-    let same = ring_width a.rows a.sources a.oldest a.cells.items c.args.self.now c.self.invariant c.self.view_is in
+    let v = c.fill_up.new.cells in
+    let xs = with_unwritten (a.rows * a.sources) a.cells.items in
+    let same = ring_width a.rows a.sources a.oldest xs c.args.self.now c.self.invariant.ring c.self.view_is in
     let wide : HasWidth a.sources (rows_of d.rows d.sources ds) = subst (λ all. HasWidth a.sources all) (sym c.dropped.view_is) (subst (λ w. HasWidth w c.args.dropped) same c.requires.one_width) in
-    let fewer : d.rows ≤ a.rows = omega (arith, c.requires.fits, ring_len a.rows a.sources a.oldest a.cells.items c.args.self.now c.self.view_is, rows_len d.rows d.sources ds c.args.dropped c.dropped.view_is) in
+    let fewer : d.rows ≤ a.rows = omega (arith, c.requires.fits, ring_len a.rows a.sources a.oldest xs c.args.self.now c.self.view_is, rows_len d.rows d.sources ds c.args.dropped c.dropped.view_is) in
     rw (c.deref.ensures.value, c.deref_mut.ensures.value)
-    (omega (arith, same_cells d.rows d.sources a.sources ds c.dropped.invariant.whole wide, c.self.invariant.whole, cells_le d.rows a.rows a.sources fewer))
+    (omega (arith, same_cells d.rows d.sources a.sources ds c.dropped.invariant.whole wide, v.ok.0, c.fill_up.ensures.len, c.cells_of.ensures.count, cells_le d.rows a.rows a.sources fewer))
 
 pub returns : goal.returns
 returns c =
     let a = c.self.inside in
     let d = c.dropped.inside in
-    let xs = a.cells.items in
+    let all = a.rows * a.sources in
+    let v = c.fill_up.new.cells in
+    let xs = v.items in
     let ds = d.cells.items in
     let new = c.write_from.new.ring in
-    let long = ring_len a.rows a.sources a.oldest xs c.args.self.now c.self.view_is in
+    let filled : xs ≡ with_unwritten all a.cells.items = c.fill_up.ensures.items ∙ ap (λ (n : ℕ). with_unwritten n a.cells.items) c.cells_of.ensures.count in
+    let is : IsRing a.rows a.sources a.oldest xs = subst (λ (ys : List Cell). IsRing a.rows a.sources a.oldest ys) (sym filled) c.self.invariant.ring in
+    let view : ring_rows a.rows a.sources a.oldest xs ≡ c.args.self.now = ap (ring_rows a.rows a.sources a.oldest) filled ∙ c.self.view_is in
+    let long = ring_len a.rows a.sources a.oldest xs c.args.self.now view in
     let count = rows_len d.rows d.sources ds c.args.dropped c.dropped.view_is in
-    let same = ring_width a.rows a.sources a.oldest xs c.args.self.now c.self.invariant c.self.view_is in
-    let wide : HasWidth a.sources (rows_of d.rows d.sources ds) = subst (λ all. HasWidth a.sources all) (sym c.dropped.view_is) (subst (λ w. HasWidth w c.args.dropped) same c.requires.one_width) in
+    let same = ring_width a.rows a.sources a.oldest xs c.args.self.now is view in
+    let wide : HasWidth a.sources (rows_of d.rows d.sources ds) = subst (λ rows. HasWidth a.sources rows) (sym c.dropped.view_is) (subst (λ w. HasWidth w c.args.dropped) same c.requires.one_width) in
     let fewer : d.rows ≤ a.rows = omega (arith, c.requires.fits) in
     let cells : length ds ≡ d.rows * a.sources = same_cells d.rows d.sources a.sources ds c.dropped.invariant.whole wide in
     let rows : rows_of d.rows d.sources ds ≡ rows_of d.rows a.sources ds = same_rows d.rows d.sources a.sources ds c.dropped.invariant.whole wide in
     let kept : a.rows - d.rows ≡ length c.args.self.now - length c.args.dropped = omega arith in
     let as_long : length new ≡ length xs = c.write_from.auto.ring ∙ ap length c.deref_mut.ensures.value in
     let written = rw (c.deref.ensures.value, c.deref_mut.ensures.value, c.cells_of-start.ensures.count, c.wrapped-self-inside.ensures) at c.write_from.ensures in
-    rw (with_items_is a.cells new (as_long ∙ sym a.cells.ok.0), c.wrapped-self-inside.ensures)
-    (ring_put_back d.rows a.rows a.sources a.oldest xs new ds fewer c.self.invariant as_long cells written
+    rw (with_items_is v new (as_long ∙ sym v.ok.0), c.wrapped-self-inside.ensures, all_written all new (as_long ∙ is.whole))
+    (ring_put_back d.rows a.rows a.sources a.oldest xs new ds fewer is as_long cells written
     ∙ ap (λ all. all ++ take (a.rows - d.rows) (ring_rows a.rows a.sources a.oldest xs)) (sym rows ∙ c.dropped.view_is)
-    ∙ ap (λ all. c.args.dropped ++ take (a.rows - d.rows) all) c.self.view_is
+    ∙ ap (λ all. c.args.dropped ++ take (a.rows - d.rows) all) view
     ∙ ap (λ k. c.args.dropped ++ take k c.args.self.now) kept)

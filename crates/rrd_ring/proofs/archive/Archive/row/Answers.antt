@@ -1,23 +1,40 @@
-use Rattle.std.proofs.Common.{◌≡◌, ◌+◌, ◌-◌, ◌<◌, ◌∙◌, sym, ap, arith}
+use Rattle.std.proofs.Common.{◌≡◌, ◌+◌, ◌*◌, ◌%◌, ◌<◌, ◌∙◌, sym, ap, length, take, drop, arith}
+use Rattle.std.proofs.lemmas.Nat.{mod_below, row_fits}
 use Rattle.rrd_ring.specs.Rows.{row_at}
+use Rattle.rrd_ring.specs.Ring.{with_unwritten}
 use Rattle.rrd_ring.proofs.RingLemmas.{ring_len, row_at-ring_rows}
+use Rattle.rrd_ring.proofs.WrittenLemmas.{whole_row}
 use Rattle.rrd_ring.proofs.archive.Archive.row.Goals as goal
 
 pub overflow_add-self-inside : goal.overflow_add-self-inside
 overflow_add-self-inside c =
     let a = c.self.inside in
-    omega (arith, ring_len a.rows a.sources a.oldest a.cells.items c.args.self.now c.self.view_is)
+    omega (arith, ring_len a.rows a.sources a.oldest (with_unwritten (a.rows * a.sources) a.cells.items) c.args.self.now c.self.view_is)
 
 pub wrapped-place-requires-clause-once : goal.wrapped-place-requires-clause-once
 wrapped-place-requires-clause-once c =
     let a = c.self.inside in
-    omega (arith, ring_len a.rows a.sources a.oldest a.cells.items c.args.self.now c.self.view_is)
+    omega (arith, ring_len a.rows a.sources a.oldest (with_unwritten (a.rows * a.sources) a.cells.items) c.args.self.now c.self.view_is)
+
+pub row_from-requires-clause-whole : goal.row_from-requires-clause-whole
+row_from-requires-clause-whole c =
+    λ below.
+    let a = c.self.inside in
+    let at = (a.oldest + c.args.i) % a.rows in
+    let begins : c.cells_of-start.result ≡ at * a.sources = c.cells_of-start.ensures.count ∙ ap (λ k. k * a.sources) c.wrapped-place.ensures in
+    rw (c.deref.ensures.value)
+    (omega (arith, begins, whole_row a.rows a.sources a.oldest at a.cells c.self.invariant (mod_below (a.oldest + c.args.i) a.rows c.self.invariant.ring.some_rows) (omega (arith, below, begins, ap length c.deref.ensures.value))))
 
 pub returns : goal.returns
 returns c =
     let a = c.self.inside in
-    let start = c.cells_of-start.result in
-    let within : c.args.i < a.rows = omega (arith, c.requires, ring_len a.rows a.sources a.oldest a.cells.items c.args.self.now c.self.view_is) in
-    let long : start + a.sources - start ≡ a.sources = omega arith in
-    rw (long, c.deref.ensures.value, c.cells_of-start.ensures.count, c.wrapped-place.ensures)
-    (sym (row_at-ring_rows a.rows a.sources a.oldest a.cells.items c.args.i within) ∙ ap (λ all. row_at all c.args.i) c.self.view_is)
+    let xs = with_unwritten (a.rows * a.sources) a.cells.items in
+    let at = (a.oldest + c.args.i) % a.rows in
+    let within : c.args.i < a.rows = omega (arith, c.requires, ring_len a.rows a.sources a.oldest xs c.args.self.now c.self.view_is) in
+    let begins : c.cells_of-start.result ≡ at * a.sources = c.cells_of-start.ensures.count ∙ ap (λ k. k * a.sources) c.wrapped-place.ensures in
+    let fits = row_fits at a.sources a.rows a.sources (mod_below (a.oldest + c.args.i) a.rows c.self.invariant.ring.some_rows) (omega arith) in
+    c.row_from.ensures (a.rows * a.sources) (omega (arith, begins, fits))
+    ∙ ap (λ ys. take a.sources (drop c.cells_of-start.result (with_unwritten (a.rows * a.sources) ys))) c.deref.ensures.value
+    ∙ ap (λ k. take a.sources (drop k xs)) begins
+    ∙ sym (row_at-ring_rows a.rows a.sources a.oldest xs c.args.i within)
+    ∙ ap (λ all. row_at all c.args.i) c.self.view_is
