@@ -96,21 +96,21 @@ module _ (laws : Staying) where
   stands_next (Shows show) (Some d) (Some s) h k = k
 
   module _ (N : Type 0) where
-    stored_next : (e : Effect) (kept : Option Stored) → verdict_on kept e ≡ None → ValidKept N kept → ValidKept N (stored_next kept e)
-    stored_next (Makes spec) kept h v = created_valid spec (no_refusal (create_verdict spec) h)
-    stored_next (Changes command) None h v = absurd cc
-    stored_next Reverts None h v = absurd cc
-    stored_next (Shows show) None h v = absurd cc
-    stored_next (Changes command) (Some d) h v = laws.changed d.content d.journal command v (no_refusal (verdict d.content command) h)
-    stored_next Reverts (Some d) h v = laws.reverted d.content d.journal v
-    stored_next (Shows show) (Some d) h v = v
+    next_is_stored : (e : Effect) (kept : Option Stored) → verdict_on kept e ≡ None → ValidKept N kept → ValidKept N (stored_next kept e)
+    next_is_stored (Makes spec) kept h v = created_valid spec (no_refusal (create_verdict spec) h)
+    next_is_stored (Changes command) None h v = absurd cc
+    next_is_stored Reverts None h v = absurd cc
+    next_is_stored (Shows show) None h v = absurd cc
+    next_is_stored (Changes command) (Some d) h v = laws.changed d.content d.journal command v (no_refusal (verdict d.content command) h)
+    next_is_stored Reverts (Some d) h v = laws.reverted d.content d.journal v
+    next_is_stored (Shows show) (Some d) h v = v
 
     -- the database of the state goes to that of the next one
     pub next_stands : (e : Effect) (s : Option State) → Valid N s → verdict_on (option_map stored_of s) e ≡ None → StandsFor (stored_next (option_map stored_of s) e) (next s e)
     next_stands e s v h = stands_next e (option_map stored_of s) s h (kept_stands N s v)
 
     pub next_valid : (e : Effect) (s : Option State) → Valid N s → verdict_on (option_map stored_of s) e ≡ None → Valid N (next s e)
-    next_valid e s v h = valid_by N (stored_next (option_map stored_of s) e) (next s e) (next_stands e s v h) (stored_next e (option_map stored_of s) h (kept_valid N s v))
+    next_valid e s v h = valid_by N (stored_next (option_map stored_of s) e) (next s e) (next_stands e s v h) (next_is_stored e (option_map stored_of s) h (kept_valid N s v))
 
     -- ---- a line
 
