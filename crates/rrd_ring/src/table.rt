@@ -103,7 +103,9 @@ pub(crate) fn fill_up(cells: &mut Vec<Cell>, all: usize)
     ensures items { cells.new.items ≡ with_unwritten all cells.old.items }
     ensures len { vec_len cells.new ≡ all }
 {
-    let _has_room = cells.resize(all, Cell::Unknown);
+    if cells.len() < all {
+        let _has_room = cells.resize(all, Cell::Unknown);
+    }
 }
 
 // Writes `cells` into a ring from the one at `start` on: at most two pieces of its vector.

@@ -10,6 +10,8 @@ pub struct CreateSpec {
     pub start: u64,
     /// How many changes can be reverted: 1 to 1,000.
     pub depth: u64,
+    /// The data sources, 1 to 64, numbered from 0.
     pub sources: List<DsDef>,
+    /// The archives, 1 to 64, numbered from 0.
     pub archives: List<RraDef>,
 }

@@ -4,6 +4,7 @@ use rrd_fold::Function;
 /// What a fetch asks for (rrdfetch).
 #[derive(Clone, Copy, Debug)]
 pub struct Request {
+    /// The function of the archives that may be read.
     pub function: Function,
     /// The seconds in a row that are wished for.
     pub asked: u64,
@@ -29,6 +30,7 @@ pub struct Chosen {
 /// An archive that can be read.
 #[derive(Clone, Copy, Debug)]
 pub struct Candidate {
+    /// The archive's number.
     pub number: u64,
     /// Seconds in a row.
     pub resolution: u64,

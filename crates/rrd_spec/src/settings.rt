@@ -12,6 +12,7 @@ use rrd_fold::Function;
 pub struct DsDef {
     /// 1 to 19 letters, digits or `_`, another for each source.
     pub name: Name,
+    /// How its values become rates.
     pub kind: Kind,
     /// The longest interval, in seconds, after which a sample's rate is known: 1 to 9,999,999,999.
     pub heartbeat: u64,
@@ -55,6 +56,7 @@ impl DsDef {
 /// An archive's settings (rrdcreate, "RRA").
 #[derive(Clone, Copy, Debug)]
 pub struct RraDef {
+    /// How a row's cells come from those of its steps.
     pub function: Function,
     /// The share of a row's steps that may be unknown, in millionths: 0 to 999,999.
     pub xff: i128,

@@ -32,6 +32,7 @@ const LEAST_REFUSED: u128 = 1_000_000_000_000_000_000_000_000;
 pub struct Reading {
     /// Seconds since 1970: 0 to 9,999,999,999.
     pub time: u64,
+    /// A raw value for each data source.
     pub raws: List<Raw>,
 }
 

@@ -23,6 +23,7 @@ pub struct Sample {
 pub struct Update {
     /// The names of the sources that get the values; without it all sources in their order.
     pub template: Option<List<Name>>,
+    /// The samples; one is needed at least, and each has to be later than the one before it.
     pub samples: List<Sample>,
 }
 

@@ -1,6 +1,5 @@
-use Rattle.std.proofs.Common.{◌≡◌, ◌∙◌, sym, ap, ◌+◌, ◌++◌, ◌∷◌, [], length, take, arith, length-append, vec_len}
-use Rattle.std.proofs.lemmas.List.{append_assoc, length-take-le, take_more}
-use Rattle.rrd_fixed.specs.declared.cell.Cell.TheVariants.{Unknown}
+use Rattle.std.proofs.Common.{ap, length, take, arith, length-append}
+use Rattle.std.proofs.lemmas.List.{length-take-le}
 use Rattle.rrd_ring.proofs.table.push_each.Goals as goal
 
 pub push_reserved-requires : goal.push_reserved-requires

@@ -1,6 +1,5 @@
-use Rattle.std.proofs.Common.{◌≡◌, ◌*◌, ◌≤◌, ◌++◌, ◌∙◌, ap, subst, sym, ℕ, List, length, take, arith}
-use Rattle.rrd_fixed.specs.declared.cell.Cell.{Cell}
-use Rattle.rrd_ring.specs.Ring.{from_place, rows_of, with_unwritten, AreRows}
+use Rattle.std.proofs.Common.{◌*◌, ◌≤◌, ◌∙◌, ap, take, arith}
+use Rattle.rrd_ring.specs.Ring.{with_unwritten}
 use Rattle.rrd_ring.proofs.RingLemmas.{ring_len, ring_take, cells_le, AreRows-take}
 use Rattle.rrd_ring.proofs.WrittenLemmas.{ring_le, oldest_le}
 use Rattle.rrd_ring.proofs.archive.Archive.oldest.Goals as goal

@@ -1,4 +1,4 @@
-use Rattle.std.proofs.Common.{◌≡◌, ◌*◌, ◌%◌, ◌+◌, ◌∷◌, [], ◌++◌, ◌∙◌, sym, ap, subst, length, drop, take, vec_len, vec_capacity, arith}
+use Rattle.std.proofs.Common.{◌*◌, ◌%◌, ◌+◌, ◌∷◌, [], ◌++◌, ◌∙◌, sym, ap, subst, length, drop, take, arith}
 use Rattle.std.proofs.lemmas.Nat.{row_fits}
 use Rattle.rrd_ring.specs.Ring.{ring_rows, with_unwritten, IsPartlyWritten}
 use Rattle.rrd_ring.proofs.RingLemmas.{ring_width, ring_push}

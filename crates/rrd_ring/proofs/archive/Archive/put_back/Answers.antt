@@ -1,4 +1,4 @@
-use Rattle.std.proofs.Common.{◌≡◌, ◌+◌, ◌-◌, ◌≤◌, ◌*◌, ◌%◌, ◌++◌, ◌∙◌, sym, ap, subst, ℕ, List, length, take, arith}
+use Rattle.std.proofs.Common.{◌≡◌, ◌-◌, ◌≤◌, ◌*◌, ◌++◌, ◌∙◌, sym, ap, subst, ℕ, List, length, take, arith}
 use Rattle.std.proofs.lemmas.List.{with_items_is}
 use Rattle.rrd_fixed.specs.declared.cell.Cell.{Cell}
 use Rattle.rrd_ring.specs.Rows.{HasWidth}

@@ -1,11 +1,11 @@
-use Rattle.std.proofs.Common.{◌≡◌, ◌+◌, ◌-◌, ◌*◌, ◌%◌, ◌<◌, ◌≤◌, ◌++◌, ◌∙◌, sym, ap, subst, min, ℕ, List, length, take, drop, replicate, refl, arith}
+use Rattle.std.proofs.Common.{◌≡◌, ◌+◌, ◌-◌, ◌*◌, ◌%◌, ◌<◌, ◌≤◌, ◌++◌, ◌∙◌, sym, ap, subst, ℕ, List, length, take, drop, replicate, refl, arith}
 use Rattle.std.proofs.Math.Nat.{add-mul}
 use Rattle.rrd_fixed.specs.declared.cell.Cell.{Cell}
 use Rattle.rrd_fixed.specs.declared.cell.Cell.TheVariants.{Unknown}
-use Rattle.rrd_ring.specs.Rows.{newest_rows, unknown_rows}
-use Rattle.rrd_ring.specs.Ring.{from_place, ring_rows, with_unwritten, IsRing}
+use Rattle.rrd_ring.specs.Rows.{unknown_rows}
+use Rattle.rrd_ring.specs.Ring.{from_place, ring_rows, with_unwritten}
 use Rattle.rrd_ring.proofs.RingLemmas.{length-resized, ring_len, ring_resized, ring_width}
-use Rattle.rrd_ring.proofs.WrittenLemmas.{AreWritten, all_written, are_few, newest_of_known, newest_within, ring_le, unwritten_rows, wholly}
+use Rattle.rrd_ring.proofs.WrittenLemmas.{AreWritten, all_written, are_few, newest_of_known, newest_within, unwritten_rows, wholly}
 use Rattle.rrd_ring.proofs.archive.Archive.resized.Goals as goal
 
 pub push_from-requires-clause-within : goal.push_from-requires-clause-within

@@ -1,4 +1,4 @@
-use Rattle.std.proofs.Common.{◌≡◌, ◌+◌, ◌*◌, ◌-◌, ◌%◌, ◌<◌, ◌∙◌, sym, ap, take, drop, arith}
+use Rattle.std.proofs.Common.{◌≡◌, ◌+◌, ◌*◌, ◌%◌, ◌<◌, ◌∙◌, sym, ap, length, take, drop, arith}
 use Rattle.std.proofs.lemmas.Nat.{mod_below, row_fits}
 use Rattle.rrd_ring.specs.Rows.{row_at}
 use Rattle.rrd_ring.specs.Ring.{with_unwritten}
@@ -23,7 +23,7 @@ row_from-requires-clause-whole c =
     let at = (a.oldest + c.args.i) % a.rows in
     let begins : c.cells_of-start.result ≡ at * a.sources = c.cells_of-start.ensures.count ∙ ap (λ k. k * a.sources) c.wrapped-place.ensures in
     rw (c.deref.ensures.value)
-    (omega (arith, begins, whole_row a.rows a.sources a.oldest at a.cells c.self.invariant (mod_below (a.oldest + c.args.i) a.rows c.self.invariant.ring.some_rows) (omega (arith, below, begins, c.deref.ensures.value))))
+    (omega (arith, begins, whole_row a.rows a.sources a.oldest at a.cells c.self.invariant (mod_below (a.oldest + c.args.i) a.rows c.self.invariant.ring.some_rows) (omega (arith, below, begins, ap length c.deref.ensures.value))))
 
 pub returns : goal.returns
 returns c =
