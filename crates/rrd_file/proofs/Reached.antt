@@ -2,7 +2,7 @@
 use Rattle.std.proofs.Common.{◌≡◌, ◌≢◌, ◌∙◌, ◌++◌, ◌∷◌, ◌+◌, ◌<◌, ℕ, List, [], sym, ap, subst, refl, take, append_assoc, append-nil, length, length-append, arith, take_at}
 use Rattle.std.specs.Prelude.{Option, Some, None, IfSome}
 use Rattle.std.specs.List.{flat_map}
-use Rattle.std.specs.Io.KnownBytes.{Consumes}
+use Rattle.std.specs.Io.KnownBytes.{Consumes, Keeps}
 use Rattle.std.proofs.lemmas.List.Concat.{flat_map-cons}
 use Rattle.rrd_file.specs.declared.fault.FileFault.{FileFault}
 use Rattle.rrd_file.specs.declared.fault.FileFault.TheVariants.{NotOurs, Version, Truncated, BadBlock, BadEntry, Trailing, Read, OutOfMemory}
@@ -47,6 +47,20 @@ gives_rest (Some xs) (Some ys) piece rest e c = (ys, refl, sym (some_is xs rest 
 
 pub if_some_at : (a : Option (List ℕ)) (x : List ℕ) (P : List ℕ → Type 0) → a ≡ Some x → IfSome a P → P x
 if_some_at a x P e h = subst (λ (o : Option (List ℕ)). IfSome o P) e h
+
+keeps_rest : (a b : Option (List ℕ)) (rest : List ℕ) → a ≡ Some rest → Keeps a b → b ≡ Some rest
+keeps_rest None b rest e k = none_is rest e
+keeps_rest (Some xs) None rest e k = absurd k
+keeps_rest (Some xs) (Some ys) rest e k = ap (λ (l : List ℕ). Some l) k ∙ e
+
+-- more came, and none was taken
+pub waited_for : (bytes : List ℕ) (s : Stage) (old new : Input) → Stands bytes s old → Keeps (left old) (left new) → new.at ≡ old.at → Stands bytes s new
+waited_for bytes s old new st keeps at = record {
+  rest = st.rest;
+  front = st.front;
+  left_is = keeps_rest (left old) (left new) st.rest st.left_is keeps;
+  place = omega (arith, st.place, at);
+}
 
 -- ---- a piece that came
 

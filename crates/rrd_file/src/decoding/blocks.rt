@@ -11,8 +11,11 @@ use super::faults::block_fault;
 use crate::FileFault;
 use crate::input::PieceReader;
 use crate::reading::{SourceRead, archive_of, cell_of, part_of, source_of};
-use rrd_base::Rebuild;
+use rrd_base::{Due, Rebuild};
 use std::io::Read;
+
+/// The bytes of a cell.
+const CELL: usize = 16;
 
 /// Reads a data source, with its last raw value and its preparation.
 pub(super) fn source<R: Read + Drop>(
@@ -86,8 +89,25 @@ pub(super) fn prep<R: Read + Drop>(
     }
 }
 
-/// Reads a cell.
-pub(super) fn cell<R: Read + Drop>(
+// Reads a cell. It is looked at where it waits, and left once the database took it.
+fn cell<R: Read + Drop>(input: &mut PieceReader<R>, build: &mut Rebuild) -> Result<(), FileFault>
+    requires { due build.old ≡ CellDue }
+    ensures steps { (bytes : List ℕ) → Stands bytes (Body build.old) input.old
+        → Reaches bytes (λ x. Body build.new) input.new result }
+    ensures moved { OnOk result (Advances input.old input.new) }
+{
+    input.wait_for(CELL)?;
+    let (cell, _) = cell_of(input.front(CELL));
+    let came = build.cell(cell);
+    input.skip(CELL);
+    match came {
+        Ok(()) => Ok(()),
+        Err(fault) => Err(block_fault(fault, input.at() - CELL as u64)),
+    }
+}
+
+/// Reads a cell, and those behind it that came already.
+pub(super) fn cells<R: Read + Drop>(
     input: &mut PieceReader<R>,
     build: &mut Rebuild,
 ) -> Result<(), FileFault>
@@ -96,12 +116,12 @@ pub(super) fn cell<R: Read + Drop>(
         → Reaches bytes (λ x. Body build.new) input.new result }
     ensures moved { OnOk result (Advances input.old input.new) }
 {
-    let at = input.at();
-    let mut piece = [0u8; 16];
-    input.piece(&mut piece)?;
-    let (cell, _) = cell_of(&piece);
-    match build.cell(cell) {
-        Ok(()) => Ok(()),
-        Err(fault) => Err(block_fault(fault, at)),
+    cell(input, build)?;
+    while input.waiting() >= CELL {
+        let Due::CellDue = build.due() else {
+            return Ok(());
+        };
+        cell(input, build)?;
     }
+    Ok(())
 }
