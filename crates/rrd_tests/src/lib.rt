@@ -28,6 +28,8 @@ mod rebuild;
 #[cfg(test)]
 mod ring;
 #[cfg(test)]
+mod scripts;
+#[cfg(test)]
 mod shared;
 #[cfg(test)]
 mod shelf;
