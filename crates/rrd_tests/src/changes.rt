@@ -1,10 +1,10 @@
 //! Tunes and resizes in batches, and what then is printed, as a table; now is 0.
-use crate::shared::{Case, assert_prints};
-use std::test::Fail;
+use crate::shared::Case;
 
-const SHRINK_AND_GROW: Case<'static> = (
-    "shrink_and_grow",
-    "create --step 10 --start 0 DS:g:GAUGE:100:U:U RRA:LAST:0.5:1:6\n\
+pub(crate) const CHANGES: &[Case<'_>] = &[
+    (
+        "shrink_and_grow",
+        "create --step 10 --start 0 DS:g:GAUGE:100:U:U RRA:LAST:0.5:1:6\n\
 update 10:1 20:2 30:3 40:4 50:5 60:6\n\
 resize 0 SHRINK 4\n\
 resize 0 GROW 4\n\
@@ -15,7 +15,7 @@ fetch LAST -s 0 -e 59\n\
 resize 0 SHRINK 6\n\
 resize 1 GROW 1\n\
 resize 0 GROW 1000000\n",
-    "time: g\n\
+        "time: g\n\
 10: nan\n\
 20: nan\n\
 30: nan\n\
@@ -32,12 +32,11 @@ time: g\n\
 ERROR: shrinks too far\n\
 ERROR: no such archive\n\
 ERROR: bad rows\n",
-    3,
-);
-
-const BOUNDS_IN_FORCE: Case<'static> = (
-    "bounds_in_force",
-    "create --step 10 --start 0 DS:g:GAUGE:100:U:U RRA:LAST:0.5:1:4\n\
+        3,
+    ),
+    (
+        "bounds_in_force",
+        "create --step 10 --start 0 DS:g:GAUGE:100:U:U RRA:LAST:0.5:1:4\n\
 update 10:9\n\
 tune --maximum g:5\n\
 update 20:9\n\
@@ -48,7 +47,7 @@ update 20:9\n\
 fetch LAST -s 0 -e 19\n\
 tune\n\
 tune --minimum g:6 --maximum g:5\n",
-    "time: g\n\
+        "time: g\n\
 10: 9.000000\n\
 20: nan\n\
 time: g\n\
@@ -56,14 +55,13 @@ time: g\n\
 20: 9.000000\n\
 ERROR: nothing to tune\n\
 ERROR: bad bounds\n",
-    2,
-);
-
-// Another type forgets the last raw value, so that the first rate after it is unknown; a name given
-// away is free again after the revert.
-const ANOTHER_TYPE_TAKEN_BACK: Case<'static> = (
-    "another_type_taken_back",
-    "create --step 10 --start 0 DS:c:COUNTER:100:U:U RRA:LAST:0.5:1:4\n\
+        2,
+    ),
+    // Another type forgets the last raw value, so that the first rate after it is unknown; a name given
+    // away is free again after the revert.
+    (
+        "another_type_taken_back",
+        "create --step 10 --start 0 DS:c:COUNTER:100:U:U RRA:LAST:0.5:1:4\n\
 update 10:10\n\
 tune --data-source-type c:DERIVE --data-source-rename c:d\n\
 update 20:30\n\
@@ -74,7 +72,7 @@ revert\n\
 update 20:30\n\
 fetch LAST -s 0 -e 19\n\
 tune --minimum d:0\n",
-    "time: d\n\
+        "time: d\n\
 10: nan\n\
 20: nan\n\
 ERROR: no such data source\n\
@@ -82,12 +80,6 @@ time: c\n\
 10: nan\n\
 20: 2.000000\n\
 ERROR: no such data source\n",
-    2,
-);
-
-#[test]
-fn what_changes_print(rt: HostRuntime) -> Result<(), Fail> {
-    let cases = [SHRINK_AND_GROW, BOUNDS_IN_FORCE, ANOTHER_TYPE_TAKEN_BACK];
-    assert_prints(&rt, rt.alloc(), &cases);
-    Ok(())
-}
+        2,
+    ),
+];

@@ -1,34 +1,19 @@
-//! Small databases, each call of rrd_base on its happy path: the readers, updates of fewer, as many and
-//! more rows than an archive has and back, and databases as large as they may be.
-use crate::shared::{
-    archive, assert_rows, many_sources, of_last_values, of_one, source, spec, take,
-};
+//! Small databases, each call of rrd_base on its happy path: the readers, lists, and updates of fewer, as
+//! many and more rows than an archive has and back.
+use crate::shared::{assert_rows, database_of, updated};
 use rrd_base::{Database, List, Refusal};
 use rrd_fixed::{Kind, Raw};
 use rrd_fold::Function;
-use std::alloc::Global;
 use std::process::Abort;
 use std::test::Fail;
-
-fn raw(rt: &impl Abort, database: &Database, source: u64) -> Raw {
-    assert!(rt; source < database.sources());
-    database.last_raw(source)
-}
 
 // ---- each call
 
 // A gauge in rows of one and of three steps: 10 seconds at 2, 10 at 5, and 4 at 6 of a step in
 // progress.
-fn of_two_archives(alloc: Global) -> Result<Database, Fail> {
-    let defs = [
-        archive(Function::Last, 1, 4),
-        archive(Function::Average, 3, 5),
-    ];
-    let g = source(b"g", Kind::Gauge, 100)?;
-    let mut database = of_one(alloc, 10, 7, g, &defs)?;
-    take(alloc, &mut database, &[(10, 2), (20, 5), (24, 6)])?;
-    Ok(database)
-}
+const TWO_ARCHIVES: &str = "create --step 10 --start 0 --journal 7 DS:g:GAUGE:100:U:U \
+RRA:LAST:0.5:1:4 RRA:AVERAGE:0.5:3:5\n\
+update 10:2 20:5 24:6\n";
 
 fn assert_settings(rt: &impl Abort, database: &Database) {
     assert_eq!(rt; (database.step(), database.depth()), (10, 7));
@@ -58,7 +43,7 @@ fn assert_unfinished(rt: &impl Abort, database: &Database) {
 
 #[test]
 fn settings_and_what_is_unfinished(rt: HostRuntime) -> Result<(), Fail> {
-    let database = of_two_archives(rt.alloc())?;
+    let database = database_of(rt.alloc(), TWO_ARCHIVES)?;
     assert_settings(&rt, &database);
     assert_unfinished(&rt, &database);
     Ok(())
@@ -80,103 +65,55 @@ fn lists(rt: HostRuntime) -> Result<(), Fail> {
 // ---- updates and what takes them back
 
 // Four rows of 10 seconds, and half a step more.
+const BEFORE: &str = "create --step 10 --start 0 DS:g:GAUGE:100:U:U RRA:LAST:0.5:1:4\n\
+update 10:1 20:2 30:3 40:4 45:7\n";
+
 fn assert_before(rt: &impl Abort, database: &Database) {
-    assert_eq!(rt; database.last(), 45);
-    assert_eq!(rt; database.undoable(), 1);
-    assert_rows(
-        rt,
-        database,
-        10,
-        10,
-        &[1_000_000, 2_000_000, 3_000_000, 4_000_000],
-    );
-    assert_eq!(rt; raw(rt, database, 0), Raw::Known(7_000_000));
+    assert_eq!(rt; (database.last(), database.undoable()), (45, 1));
+    let rows = [1_000_000, 2_000_000, 3_000_000, 4_000_000];
+    assert_rows(rt, database, 10, 10, &rows);
     assert!(rt; database.sources() == 1);
+    assert_eq!(rt; database.last_raw(0), Raw::Known(7_000_000));
     let step = database.step_prep(0);
     assert_eq!(rt; (step.known(), step.sum()), (5, 35_000_000));
 }
 
-// After one update the last four rows, from a time on, are these; then it is taken back.
-fn there_and_back(
-    rt: &impl Abort,
-    alloc: Global,
-    database: &mut Database,
-    samples: &[(u64, u32)],
-    first: i64,
-    rows: &[i128],
-) -> Result<(), Fail> {
-    take(alloc, database, samples)?;
-    assert_rows(rt, database, first, 10, rows);
-    database.revert()?;
-    assert_before(rt, database);
-    Ok(())
-}
-
-const BEFORE: &[(u64, u32)] = &[(10, 1), (20, 2), (30, 3), (40, 4), (45, 7)];
-
 // Updates, where their last four rows begin, and those rows. Of several samples that together finish
 // fewer rows than the archive has, as many, and more; and of one. The other half of the first step is
 // at 5, so its row is 6.
-const UPDATES: &[(&[(u64, u32)], i64, &[i128])] = &[
+const UPDATES: &[(&str, i64, [i128; 4])] = &[
     (
-        &[(50, 5), (60, 6)],
+        "update 50:5 60:6",
         30,
-        &[3_000_000, 4_000_000, 6_000_000, 6_000_000],
+        [3_000_000, 4_000_000, 6_000_000, 6_000_000],
     ),
     (
-        &[(50, 5), (60, 6), (80, 8)],
+        "update 50:5 60:6 80:8",
         50,
-        &[6_000_000, 6_000_000, 8_000_000, 8_000_000],
+        [6_000_000, 6_000_000, 8_000_000, 8_000_000],
     ),
     (
-        &[(50, 5), (60, 6), (80, 8), (90, 9), (100, 10)],
+        "update 50:5 60:6 80:8 90:9 100:10",
         70,
-        &[8_000_000, 8_000_000, 9_000_000, 10_000_000],
+        [8_000_000, 8_000_000, 9_000_000, 10_000_000],
     ),
     (
-        &[(145, 9)],
+        "update 145:9",
         110,
-        &[9_000_000, 9_000_000, 9_000_000, 9_000_000],
+        [9_000_000, 9_000_000, 9_000_000, 9_000_000],
     ),
 ];
 
 #[test]
 fn updates_are_taken_back(rt: HostRuntime) -> Result<(), Fail> {
     let alloc = rt.alloc();
-    let mut database = of_last_values(alloc, 16, 4)?;
-    take(alloc, &mut database, BEFORE)?;
+    let mut database = database_of(alloc, BEFORE)?;
     assert_before(&rt, &database);
-    for (samples, first, rows) in UPDATES {
-        there_and_back(&rt, alloc, &mut database, samples, *first, rows)?;
+    for (line, first, rows) in UPDATES {
+        updated(alloc, &mut database, line)?;
+        assert_rows(&rt, &database, *first, 10, rows);
+        database.revert()?;
+        assert_before(&rt, &database);
     }
-    Ok(())
-}
-
-// ---- size
-
-// 64 times 62,500 cells are 4,000,000, and so are 4 archives of a million rows; one row more is too
-// much.
-#[test]
-fn four_million_cells(rt: HostRuntime) -> Result<(), Fail> {
-    let alloc = rt.alloc();
-    let defs = [archive(Function::Last, 1, 62_500)];
-    let large = spec(alloc, 300, 1, many_sources(alloc, 64)?, &defs)?;
-    let database = Database::create(alloc, large)?;
-    assert_eq!(rt; (database.sources(), database.archives()), (64, 1));
-    let million = archive(Function::Last, 1, 1_000_000);
-    let defs = [
-        million,
-        million,
-        million,
-        million,
-        archive(Function::Last, 1, 1),
-    ];
-    let mut sources = List::new(alloc);
-    sources.push(source(b"g", Kind::Gauge, 100)?)?;
-    let larger = spec(alloc, 300, 1, sources, &defs)?;
-    let Err(refusal) = Database::create(alloc, larger) else {
-        panic!(rt; "made")
-    };
-    assert_eq!(rt; refusal, Refusal::TooLarge);
     Ok(())
 }

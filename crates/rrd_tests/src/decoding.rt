@@ -1,80 +1,11 @@
 //! Files that are read back: whole ones, cut ones, ones with a wrong byte, and readers that fail.
-ghost use Rattle.std.specs.Prelude.{Some};
-
-use crate::file::{created_with_two, file_of, new_file, sampled_file};
-use crate::shared::{archive, joined, many_sources, name_of, of_last_values, sample, spec, take};
-use rrd_base::{Change, Database, List, Tuning, Update};
+use crate::file::{DATABASES, FOUR_CHANGES, SAMPLED, THREE_CHANGES, file_of, sampled_file};
+use crate::shared::{Giver, Manner, PLAIN, database_of, joined};
 use rrd_file::{FileFault, decode};
-use rrd_fold::Function;
 use std::alloc::Global;
-use std::io::{self, Error, ErrorKind, Read};
+use std::mem;
 use std::process::Abort;
 use std::test::Fail;
-
-// ---- databases
-
-// An update, a tune of the heartbeat and a bound, and two rows more.
-fn with_three_entries(alloc: Global) -> Result<Database, Fail> {
-    let mut database = of_last_values(alloc, 16, 4)?;
-    take(alloc, &mut database, &[(10, 1)])?;
-    database.tune(&Tuning {
-        heartbeat: Some((name_of(b"g")?, 200)),
-        minimum: Some((name_of(b"g")?, Some(-2_000_000))),
-        maximum: None,
-        kind: None,
-        rename: None,
-    })?;
-    database.resize(alloc, 0, Change::Grow, 2)?;
-    Ok(database)
-}
-
-// Two sources and two archives, a long update, a renaming, a short update, and two rows less.
-fn of_two_sources(alloc: Global) -> Result<Database, Fail> {
-    let defs = [
-        archive(Function::Average, 1, 6),
-        archive(Function::Min, 2, 3),
-    ];
-    let sources = many_sources(alloc, 2)?;
-    let mut database = Database::create(alloc, spec(alloc, 10, 3, sources, &defs)?)?;
-    let mut samples = List::new(alloc);
-    for (time, first, second) in [(10, 1, 100), (35, 2, 50), (121, 7, 3)] {
-        samples.push(sample(alloc, time, &[first, second])?)?;
-    }
-    let update = Update {
-        template: None,
-        samples,
-    };
-    database.update(alloc, &update)?;
-    database.tune(&Tuning {
-        heartbeat: Some((name_of(b"s01")?, 300)),
-        minimum: None,
-        maximum: None,
-        kind: None,
-        rename: Some((name_of(b"s00")?, name_of(b"first")?)),
-    })?;
-    let mut later = List::new(alloc);
-    later.push(sample(alloc, 144, &[9, 4])?)?;
-    database.update(
-        alloc,
-        &Update {
-            template: None,
-            samples: later,
-        },
-    )?;
-    database.resize(alloc, 0, Change::Shrink, 2)?;
-    Ok(database)
-}
-
-// Files of several databases.
-fn files(alloc: Global) -> Result<[Vec<u8>; 5], Fail> {
-    Ok([
-        new_file(alloc)?,
-        sampled_file(alloc)?,
-        file_of(alloc, &created_with_two(alloc)?)?,
-        file_of(alloc, &with_three_entries(alloc)?)?,
-        file_of(alloc, &of_two_sources(alloc)?)?,
-    ])
-}
 
 // ---- what is read
 
@@ -101,18 +32,10 @@ fn changed(alloc: Global, bytes: &[u8], at: usize, byte: u8) -> Result<Vec<u8>, 
 }
 
 #[test]
-fn what_was_written_is_read(rt: HostRuntime) -> Result<(), Fail> {
-    let alloc = rt.alloc();
-    for bytes in files(alloc)? {
-        assert_eq!(&rt; again(alloc, &bytes)?.as_slice(), bytes.as_slice());
-    }
-    Ok(())
-}
-
-#[test]
 fn what_is_read_reverts_as_what_was_written(rt: HostRuntime) -> Result<(), Fail> {
     let alloc = rt.alloc();
-    for mut written in [with_three_entries(alloc)?, of_two_sources(alloc)?] {
+    for lines in [THREE_CHANGES, FOUR_CHANGES] {
+        let mut written = database_of(alloc, lines)?;
         let bytes = file_of(alloc, &written)?;
         let Ok(mut read) = decode(alloc, bytes.as_slice()) else {
             return Err(Fail::from("no database"));
@@ -128,35 +51,42 @@ fn what_is_read_reverts_as_what_was_written(rt: HostRuntime) -> Result<(), Fail>
     Ok(())
 }
 
-#[test]
-fn a_file_that_is_cut(rt: HostRuntime) -> Result<(), Fail> {
-    let alloc = rt.alloc();
-    for bytes in files(alloc)? {
-        for length in 0..bytes.len() {
-            let front = bytes.get(..length).ok_or("short")?;
-            let at = length as u64;
-            assert_eq!(&rt; fault_of(alloc, front), Some(FileFault::Truncated { at }));
-        }
+// What was written is read. Cut anywhere it is truncated, and bytes behind it are too many.
+fn assert_whole_alone(rt: &impl Abort, alloc: Global, bytes: &[u8]) -> Result<(), Fail> {
+    assert_eq!(rt; again(alloc, bytes)?.as_slice(), bytes);
+    for length in 0..bytes.len() {
+        let front = bytes.get(..length).ok_or("short")?;
+        let at = length as u64;
+        assert_eq!(rt; fault_of(alloc, front), Some(FileFault::Truncated { at }));
+    }
+    let at = bytes.len() as u64;
+    for behind in ["\0", "RRDI"] {
+        let longer = joined(alloc, &[bytes, behind.as_bytes()])?;
+        assert_eq!(rt; fault_of(alloc, &longer), Some(FileFault::Trailing { at }));
     }
     Ok(())
 }
 
 #[test]
-fn bytes_behind_the_last_entry(rt: HostRuntime) -> Result<(), Fail> {
+fn files_are_read_whole_alone(rt: HostRuntime) -> Result<(), Fail> {
     let alloc = rt.alloc();
-    for bytes in files(alloc)? {
-        let at = bytes.len() as u64;
-        let longer = joined(alloc, &[&bytes, b"\0"])?;
-        assert_eq!(&rt; fault_of(alloc, &longer), Some(FileFault::Trailing { at }));
-        let twice = joined(alloc, &[&bytes, b"RRDI"])?;
-        assert_eq!(&rt; fault_of(alloc, &twice), Some(FileFault::Trailing { at }));
+    for lines in DATABASES {
+        let bytes = file_of(alloc, &database_of(alloc, lines)?)?;
+        assert_whole_alone(&rt, alloc, &bytes)?;
     }
     Ok(())
+}
+
+#[test]
+fn a_file_with_four_entries_is_read_whole_alone(rt: HostRuntime) -> Result<(), Fail> {
+    let alloc = rt.alloc();
+    let bytes = file_of(alloc, &database_of(alloc, FOUR_CHANGES)?)?;
+    assert_whole_alone(&rt, alloc, &bytes)
 }
 
 // A byte of the file with a sample, what it is changed to, and the fault then. The source begins at 26,
 // the archive's head at 123, its cells at 156, and the entry at 220.
-const CHANGES: [(usize, u8, FileFault); 24] = [
+const CHANGES: &[(usize, u8, FileFault)] = &[
     (0, 83, FileFault::NotOurs),
     (3, 0, FileFault::NotOurs),
     (4, 1, FileFault::Version),
@@ -188,8 +118,8 @@ fn a_wrong_byte_has_its_place(rt: HostRuntime) -> Result<(), Fail> {
     let alloc = rt.alloc();
     let bytes = sampled_file(alloc)?;
     for (at, byte, fault) in CHANGES {
-        let wrong = changed(alloc, &bytes, at, byte)?;
-        assert_eq!(&rt; fault_of(alloc, &wrong), Some(fault), "{at}");
+        let wrong = changed(alloc, &bytes, *at, *byte)?;
+        assert_eq!(&rt; fault_of(alloc, &wrong), Some(*fault), "{at}");
     }
     Ok(())
 }
@@ -198,7 +128,7 @@ fn a_wrong_byte_has_its_place(rt: HostRuntime) -> Result<(), Fail> {
 #[test]
 fn names_differ_once_a_tune_is_undone(rt: HostRuntime) -> Result<(), Fail> {
     let alloc = rt.alloc();
-    let bytes = file_of(alloc, &of_two_sources(alloc)?)?;
+    let bytes = file_of(alloc, &database_of(alloc, FOUR_CHANGES)?)?;
     let mut places = Vec::new(alloc);
     for (at, three) in bytes.as_slice().windows(3).enumerate() {
         if three == b"s00".as_slice() {
@@ -215,15 +145,29 @@ fn names_differ_once_a_tune_is_undone(rt: HostRuntime) -> Result<(), Fail> {
     Ok(())
 }
 
-// Whatever a byte is changed to: what is read has just these bytes, or there is a fault.
-fn assert_one_file_each(rt: &impl Abort, alloc: Global, bytes: &[u8]) -> Result<(), Fail> {
+// Where a byte is another one, what is read has just these bytes, or there is a fault.
+fn assert_other_or_none(
+    rt: &impl Abort,
+    alloc: Global,
+    bytes: &mut [u8],
+    at: usize,
+    byte: u8,
+) -> Result<(), Fail> {
+    let place = bytes.get_mut(at).ok_or("short")?;
+    let right = mem::replace(place, byte);
+    if let Ok(database) = decode(alloc, &*bytes) {
+        let written = file_of(alloc, &database)?;
+        assert_eq!(rt; written.as_slice(), &*bytes, "{at} {byte}");
+    }
+    *bytes.get_mut(at).ok_or("short")? = right;
+    Ok(())
+}
+
+fn assert_others_or_none(rt: &impl Abort, alloc: Global, lines: &str) -> Result<(), Fail> {
+    let mut bytes = file_of(alloc, &database_of(alloc, lines)?)?;
     for at in 0..bytes.len() {
         for byte in [0, 1, 128] {
-            let other = changed(alloc, bytes, at, byte)?;
-            if let Ok(database) = decode(alloc, other.as_slice()) {
-                let written = file_of(alloc, &database)?;
-                assert_eq!(rt; written.as_slice(), other.as_slice(), "{at} {byte}");
-            }
+            assert_other_or_none(rt, alloc, &mut bytes, at, byte)?;
         }
     }
     Ok(())
@@ -232,76 +176,58 @@ fn assert_one_file_each(rt: &impl Abort, alloc: Global, bytes: &[u8]) -> Result<
 #[test]
 fn a_changed_file_is_another_or_none(rt: HostRuntime) -> Result<(), Fail> {
     let alloc = rt.alloc();
-    assert_one_file_each(&rt, alloc, &sampled_file(alloc)?)?;
-    let bytes = file_of(alloc, &with_three_entries(alloc)?)?;
-    assert_one_file_each(&rt, alloc, &bytes)
+    assert_others_or_none(&rt, alloc, SAMPLED)?;
+    assert_others_or_none(&rt, alloc, THREE_CHANGES)
+}
+
+// The other bits of each byte, one by one, and all of them.
+#[test]
+fn a_file_with_changed_bits_is_another_or_none(rt: HostRuntime) -> Result<(), Fail> {
+    let alloc = rt.alloc();
+    let mut bytes = sampled_file(alloc)?;
+    for at in 0..bytes.len() {
+        for bits in [2, 4, 8, 16, 32, 64, 255] {
+            let byte = bits ^ *bytes.get(at).ok_or("short")?;
+            assert_other_or_none(&rt, alloc, &mut bytes, at, byte)?;
+        }
+    }
+    Ok(())
 }
 
 // ---- readers
 
-// A reader that gives up to 7 bytes a call, is interrupted before each as often as said, and fails once
-// so many bytes came.
-#[derive(Drop)]
-struct Slow<'a> {
-    rest: &'a [u8],
-    interrupts: u64,
-    interrupted: u64,
-    room: usize,
-}
-
-impl<'a> Read for Slow<'a> {
-    ghost remaining = { λ r. Some r.rest.now };
-
-    fn read(&mut self, buf: &mut [u8]) -> io::Result<usize> {
-        if self.interrupted < self.interrupts {
-            self.interrupted += 1;
-            return Err(Error::from(ErrorKind::Interrupted));
-        }
-        self.interrupted = 0;
-        if self.room == 0 {
-            return Err(Error::from(ErrorKind::Other));
-        }
-        let most = buf.len().min(7).min(self.room);
-        let count = self.rest.read(&mut buf[..most])?;
-        self.room -= count;
-        Ok(count)
-    }
-}
-
-fn slowly(alloc: Global, bytes: &[u8], interrupts: u64, room: usize) -> Option<FileFault> {
-    let reader = Slow {
-        rest: bytes,
-        interrupts,
-        interrupted: 0,
-        room,
-    };
-    match decode(alloc, reader) {
-        Ok(_) => None,
-        Err(fault) => Some(fault),
-    }
-}
+// How often each read is interrupted, and after how many bytes one fails.
+const READERS: &[(u64, usize, Option<FileFault>)] = &[
+    (0, usize::MAX, None),
+    (1_000, usize::MAX, None),
+    (1_001, usize::MAX, Some(FileFault::Read)),
+    (0, 0, Some(FileFault::Read)),
+    (0, 100, Some(FileFault::Read)),
+    (0, 305, Some(FileFault::Read)),
+];
 
 #[test]
 fn short_reads_interrupts_and_failures(rt: HostRuntime) -> Result<(), Fail> {
     let alloc = rt.alloc();
     let bytes = sampled_file(alloc)?;
-    for (interrupts, room, fault) in [
-        (0u64, usize::MAX, None),
-        (1_000, usize::MAX, None),
-        (1_001, usize::MAX, Some(FileFault::Read)),
-        (0, 0, Some(FileFault::Read)),
-        (0, 100, Some(FileFault::Read)),
-        (0, 305, Some(FileFault::Read)),
-    ] {
-        assert_eq!(&rt;
-            slowly(alloc, &bytes, interrupts, room),
-            fault,
-            "{interrupts} {room}"
-        );
+    for (interrupts, room, fault) in READERS {
+        let manner = Manner {
+            at_once: 7,
+            interrupts: *interrupts,
+            room: *room,
+            ..PLAIN
+        };
+        let end = decode(alloc, Giver::new(&bytes, manner));
+        assert_eq!(&rt; end.err(), *fault, "{interrupts} {room}");
     }
     let longer = joined(alloc, &[&bytes, &[0]])?;
-    let fault = Some(FileFault::Trailing { at: 305 });
-    assert_eq!(&rt; slowly(alloc, &longer, 1, usize::MAX), fault);
+    let manner = Manner {
+        at_once: 7,
+        interrupts: 1,
+        ..PLAIN
+    };
+    let end = decode(alloc, Giver::new(&longer, manner));
+    assert_eq!(&rt; end.err(), Some(FileFault::Trailing { at: 305 }));
     Ok(())
 }
 
@@ -309,7 +235,8 @@ fn short_reads_interrupts_and_failures(rt: HostRuntime) -> Result<(), Fail> {
 #[test]
 fn a_long_file(rt: HostRuntime) -> Result<(), Fail> {
     let alloc = rt.alloc();
-    let bytes = file_of(alloc, &of_last_values(alloc, 16, 10_000)?)?;
+    let lines = "create --step 10 --start 0 DS:g:GAUGE:100:U:U RRA:LAST:0.5:1:10000\n";
+    let bytes = file_of(alloc, &database_of(alloc, lines)?)?;
     assert_eq!(&rt; bytes.len(), 160_156);
     assert_eq!(&rt; again(alloc, &bytes)?.as_slice(), bytes.as_slice());
     for length in [65_535, 65_536, 65_537, 131_072, 160_155] {

@@ -16,7 +16,7 @@ fn assert_told(rt: &impl Abort, alloc: Global, fault: Fault, text: &str) -> Resu
     Ok(())
 }
 
-const REFUSALS: [(Refusal, &str); 27] = [
+const REFUSALS: &[(Refusal, &str)] = &[
     (Refusal::BadStep, "bad step"),
     (Refusal::BadStart, "bad start"),
     (Refusal::NoSource, "no data source"),
@@ -58,14 +58,14 @@ const REFUSALS: [(Refusal, &str); 27] = [
 fn refusals(rt: HostRuntime) -> Result<(), Fail> {
     for (refusal, text) in REFUSALS {
         let shown = format!(in rt.alloc(); "{refusal}")?;
-        assert_eq!(rt; shown.as_str(), text);
-        assert_told(&rt, rt.alloc(), Fault::Refused(refusal), text)?;
+        assert_eq!(rt; shown.as_str(), *text);
+        assert_told(&rt, rt.alloc(), Fault::Refused(*refusal), text)?;
     }
     Ok(())
 }
 
 // Parts that can't be read, each as the twelfth.
-const UNREAD: [(Part, &str); 17] = [
+const UNREAD: &[(Part, &str)] = &[
     (Part::Step, "unreadable step"),
     (Part::Start, "unreadable start"),
     (Part::Journal, "unreadable journal"),
@@ -100,7 +100,10 @@ fn assert_line_told(
 #[test]
 fn words_that_are_no_command(rt: HostRuntime) -> Result<(), Fail> {
     for (part, text) in UNREAD {
-        let fault = LineFault::BadWord { part, number: 12 };
+        let fault = LineFault::BadWord {
+            part: *part,
+            number: 12,
+        };
         assert_line_told(&rt, rt.alloc(), fault, text)?;
     }
     assert_line_told(&rt, rt.alloc(), LineFault::Usage, "usage")?;

@@ -1,11 +1,12 @@
 //! Worked values and edges of cells, rates, names and numbers, and writers that fail.
 ghost use Rattle.rrd_fixed.specs.Rate.{IsAccepted};
 
-use crate::shared::{Full, Sink};
+use crate::shared::{Manner, PLAIN, Taker};
 use rrd_fixed::{
     Cell, Kind, Meter, Name, Number, Raw, admit, cell_string, near, rate, raw_string, read_number,
     read_whole, rise, time_string, write_bytes, write_cell, write_raw, write_time,
 };
+use std::io::ErrorKind;
 use std::test::Fail;
 
 const TOP: i128 = 18_446_744_073_709_551_615_000_000;
@@ -346,22 +347,33 @@ fn turns(rt: HostRuntime) {
     assert_eq!(rt; meter.turns(), 2);
 }
 
+// How often each write is interrupted, after how many bytes it fails and how, whether all is written,
+// and what is.
+const FAILING: &[(u64, usize, Option<ErrorKind>, bool, &str)] = &[
+    (0, 12, Some(ErrorKind::Other), true, "twelve bytes"),
+    (1_000, 12, Some(ErrorKind::Other), true, "twelve bytes"),
+    (1_001, 12, Some(ErrorKind::Other), false, ""),
+    (0, 9, Some(ErrorKind::Other), false, "twelve by"),
+    (0, 7, None, false, "twelve "),
+];
+
 #[test]
 fn failing_writers(rt: HostRuntime) -> Result<(), Fail> {
-    let table = [
-        (0u64, 12usize, Full::Fails, true, "twelve bytes"),
-        (1000, 12, Full::Fails, true, "twelve bytes"),
-        (1001, 12, Full::Fails, false, ""),
-        (0, 9, Full::Fails, false, "twelve by"),
-        (0, 7, Full::TakesNothing, false, "twelve "),
-    ];
-    for (interrupts, room, full, wanted, taken) in table {
-        let mut out = Sink::with_room(rt.alloc(), room);
-        out.interrupts = interrupts;
-        out.full = full;
-        let result = write_bytes(&mut out, b"twelve bytes");
-        assert_eq!(rt; result.is_ok(), wanted, "{interrupts} {room}");
-        assert_eq!(rt; out.taken.as_slice(), taken.as_bytes());
+    for (interrupts, room, fault, whole, taken) in FAILING {
+        let writing = Manner {
+            at_once: 7,
+            interrupts: *interrupts,
+            room: *room,
+            fault: *fault,
+        };
+        let mut out = Taker::new(rt.alloc(), writing, PLAIN);
+        let written = write_bytes(&mut out, b"twelve bytes");
+        assert_eq!(rt; written.is_ok(), *whole, "{interrupts} {room}");
+        assert_eq!(rt;
+            out.taken.as_slice(),
+            taken.as_bytes(),
+            "{interrupts} {room}"
+        );
     }
     Ok(())
 }

@@ -26,11 +26,13 @@ mod reading;
 #[cfg(test)]
 mod rebuild;
 #[cfg(test)]
-mod retries;
-#[cfg(test)]
 mod ring;
 #[cfg(test)]
+mod scripts;
+#[cfg(test)]
 mod shared;
+#[cfg(test)]
+mod shelf;
 #[cfg(test)]
 mod slow;
 #[cfg(test)]

@@ -1,26 +1,17 @@
-//! What `first`, `last`, `lastupdate` and `info` print, as a table.
-use crate::shared::{Case, assert_prints, assert_prints_at};
-use std::test::Fail;
+//! What `first`, `last`, `lastupdate` and `info` print, as tables.
+use crate::shared::Case;
 
-const A_SOURCE_WITHOUT_A_VALUE: Case<'static> = (
-    "a_source_without_a_value",
-    "create --step 10 --start 0 DS:a:GAUGE:100:U:U DS:b:GAUGE:100:U:U RRA:LAST:0.5:1:4\n\
-update -t b N:5\n\
-lastupdate\n",
-    "time: a b\n\
-10: U 5.000000\n",
-    0,
-);
-
-// The first session of the README.
-const FIRST_SESSION: Case<'static> = (
-    "first_session",
-    "create --step 10 --start 0 DS:g:GAUGE:100:U:U RRA:AVERAGE:0.5:1:4\n\
+// Batches at time 0.
+pub(crate) const SHOWN: &[Case<'_>] = &[
+    // The first session of the README.
+    (
+        "first_session",
+        "create --step 10 --start 0 DS:g:GAUGE:100:U:U RRA:AVERAGE:0.5:1:4\n\
 update 10:1\n\
 update 20:2\n\
 revert\n\
 info\n",
-    "step = 10\n\
+        "step = 10\n\
 last_update = 10\n\
 journal = 16\n\
 undoable = 1\n\
@@ -34,13 +25,12 @@ rra[0].cf = AVERAGE\n\
 rra[0].xff = 0.500000\n\
 rra[0].steps = 1\n\
 rra[0].rows = 4\n",
-    0,
-);
-
-// Of three changes a journal of two places takes back the last two.
-const WHAT_IS_LEFT_AFTER_REVERTS: Case<'static> = (
-    "what_is_left_after_reverts",
-    "create --step 10 --start 0 DS:g:GAUGE:100:U:U RRA:LAST:0.5:1:4 --journal 2\n\
+        0,
+    ),
+    // Of three changes a journal of two places takes back the last two.
+    (
+        "what_is_left_after_reverts",
+        "create --step 10 --start 0 DS:g:GAUGE:100:U:U RRA:LAST:0.5:1:4 --journal 2\n\
 update 10:1\n\
 update 20:2\n\
 update 30:3\n\
@@ -51,7 +41,7 @@ last\n\
 info\n\
 first\n\
 first --rraindex 1\n",
-    "ERROR: nothing to revert\n\
+        "ERROR: nothing to revert\n\
 10\n\
 step = 10\n\
 last_update = 10\n\
@@ -69,29 +59,27 @@ rra[0].steps = 1\n\
 rra[0].rows = 4\n\
 -20\n\
 ERROR: no such archive\n",
-    2,
-);
-
-const ANOTHER_TYPE_AND_BACK: Case<'static> = (
-    "another_type_and_back",
-    "create --step 10 --start 0 DS:c:COUNTER:100:U:U RRA:LAST:0.5:1:4\n\
+        2,
+    ),
+    (
+        "another_type_and_back",
+        "create --step 10 --start 0 DS:c:COUNTER:100:U:U RRA:LAST:0.5:1:4\n\
 update 10:7\n\
 tune --data-source-type c:GAUGE --data-source-rename c:g\n\
 lastupdate\n\
 revert\n\
 lastupdate\n",
-    "time: g\n\
+        "time: g\n\
 10: U\n\
 time: c\n\
 10: 7\n",
-    0,
-);
-
-// Two sources and two archives, the first of which is resized. Rows of 60 seconds end at 60, rows of
-// 10 too.
-const BOUNDS_AND_A_RESIZE: Case<'static> = (
-    "bounds_and_a_resize",
-    "create --step 10 --start 0 --journal 3 DS:g:ABSOLUTE:100:-1.5:2 DS:d:DERIVE:20:U:U \
+        0,
+    ),
+    // Two sources and two archives, the first of which is resized. Rows of 60 seconds end at 60, rows of
+    // 10 too.
+    (
+        "bounds_and_a_resize",
+        "create --step 10 --start 0 --journal 3 DS:g:ABSOLUTE:100:-1.5:2 DS:d:DERIVE:20:U:U \
 RRA:AVERAGE:0.25:6:3 RRA:MAX:0:1:4\n\
 lastupdate\n\
 update 65:1:-9223372036854775808\n\
@@ -102,7 +90,7 @@ first\n\
 first --rraindex=1\n\
 revert\n\
 first --rraindex 0\n",
-    "time: g d\n\
+        "time: g d\n\
 0: U U\n\
 time: g d\n\
 65: 1.000000 -9223372036854775808\n\
@@ -133,27 +121,25 @@ rra[1].rows = 4\n\
 -180\n\
 30\n\
 -60\n",
-    0,
-);
-
-const NOTHING_TO_SHOW: Case<'static> = (
-    "nothing_to_show",
-    "first\n\
+        0,
+    ),
+    (
+        "nothing_to_show",
+        "first\n\
 first --rraindex x\n\
 last\n\
 lastupdate\n\
 info\n",
-    "ERROR: no database\n\
+        "ERROR: no database\n\
 ERROR: unreadable archive\n\
 ERROR: no database\n\
 ERROR: no database\n\
 ERROR: no database\n",
-    5,
-);
-
-const STRANGE_WORDS: Case<'static> = (
-    "strange_words",
-    "create --step 10 --start 0 DS:g:GAUGE:100:U:U RRA:LAST:0.5:1:4\n\
+        5,
+    ),
+    (
+        "strange_words",
+        "create --step 10 --start 0 DS:g:GAUGE:100:U:U RRA:LAST:0.5:1:4\n\
 first --rraindex x\n\
 first --rraindex 18446744073709551616\n\
 first --rraindex 18446744073709551615\n\
@@ -165,7 +151,7 @@ lastupdate x\n\
 info x\n\
 firs\n\
 last\n",
-    "ERROR: unreadable archive\n\
+        "ERROR: unreadable archive\n\
 ERROR: unreadable archive\n\
 ERROR: no such archive\n\
 ERROR: usage\n\
@@ -176,25 +162,38 @@ ERROR: usage\n\
 ERROR: usage\n\
 ERROR: usage\n\
 0\n",
-    10,
-);
+        10,
+    ),
+];
 
-#[test]
-fn what_a_database_shows(rt: HostRuntime) -> Result<(), Fail> {
-    let cases = [
-        FIRST_SESSION,
-        WHAT_IS_LEFT_AFTER_REVERTS,
-        ANOTHER_TYPE_AND_BACK,
-        BOUNDS_AND_A_RESIZE,
-        NOTHING_TO_SHOW,
-        STRANGE_WORDS,
-    ];
-    assert_prints(&rt, rt.alloc(), &cases);
-    Ok(())
-}
-
-#[test]
-fn values_at_now(rt: HostRuntime) -> Result<(), Fail> {
-    assert_prints_at(&rt, rt.alloc(), 10, &[A_SOURCE_WITHOUT_A_VALUE]);
-    Ok(())
-}
+// Batches at time 10.
+pub(crate) const AT_TEN: &[Case<'_>] = &[
+    (
+        "a_source_without_a_value",
+        "create --step 10 --start 0 DS:a:GAUGE:100:U:U DS:b:GAUGE:100:U:U RRA:LAST:0.5:1:4\n\
+update -t b N:5\n\
+lastupdate\n",
+        "time: a b\n\
+10: U 5.000000\n",
+        0,
+    ),
+    // At time 10, its last line without an end.
+    (
+        "templates_and_now",
+        "\t\r\n\
+frobnicate\n\
+last\n\
+create --step 10 --start 0 DS:a:GAUGE:100:U:U DS:b:GAUGE:100:U:U RRA:LAST:0.5:1:4\n\
+update -t b N:5\n\
+last\n\
+fetch LAST -s 0 -e 9\n\
+update -t x 20:1",
+        "ERROR: usage\n\
+ERROR: no database\n\
+10\n\
+time: a b\n\
+10: nan 5.000000\n\
+ERROR: no such data source\n",
+        3,
+    ),
+];

@@ -1,11 +1,12 @@
 //! Databases from the pieces of their files, and pieces that are bad.
 use crate::file::{file_of, sampled_file};
-use crate::shared::{NONE, archive, many_sources, source};
+use crate::shared::NONE;
 use arrayvec::ArrayVec;
 use rrd_base::{
-    BeforeUpdate, Database, Due, Entry, List, PieceFault, Rebuild, SavedArchive, SourceBefore,
+    BeforeUpdate, Database, DsDef, Due, Entry, PieceFault, Rebuild, RraDef, SavedArchive,
+    SourceBefore,
 };
-use rrd_fixed::{Cell, Kind, Raw};
+use rrd_fixed::{Cell, Kind, Name, Raw};
 use rrd_fold::{Function, RowPrep, StepPrep};
 use rrd_ring::Dropped;
 use std::alloc::Global;
@@ -15,6 +16,26 @@ use std::test::Fail;
 const ONE: Cell = Cell::Known(1_000_000);
 
 const BAD: Result<(), PieceFault> = Err(PieceFault::Bad);
+
+fn gauge(name: &[u8], heartbeat: u64) -> Result<DsDef, &'static str> {
+    Ok(DsDef {
+        name: Name::fit(name).ok_or("no name")?,
+        kind: Kind::Gauge,
+        heartbeat,
+        min: None,
+        max: None,
+    })
+}
+
+// An archive of last values.
+fn archive(steps: u64, rows: u64) -> RraDef {
+    RraDef {
+        function: Function::Last,
+        xff: 500_000,
+        steps,
+        rows,
+    }
+}
 
 // A piece that must be taken.
 fn taken(taking: Result<(), PieceFault>) -> Result<(), Fail> {
@@ -29,9 +50,9 @@ fn begun(alloc: Global, sources: u64, entries: u64) -> Result<Rebuild, Fail> {
 // before its cells.
 fn with_heads(alloc: Global) -> Result<Rebuild, Fail> {
     let mut pieces = begun(alloc, 1, 1)?;
-    let g = source(b"g", Kind::Gauge, 100)?;
+    let g = gauge(b"g", 100)?;
     taken(pieces.source(g, Raw::Known(1_000_000), 0, 0))?;
-    taken(pieces.archive(archive(Function::Last, 1, 4)))?;
+    taken(pieces.archive(archive(1, 4)))?;
     taken(pieces.prep(0, 0))?;
     Ok(pieces)
 }
@@ -97,16 +118,19 @@ fn bad_headers(rt: HostRuntime) -> Result<(), Fail> {
 fn bad_sources_and_archives(rt: HostRuntime) -> Result<(), Fail> {
     let alloc = rt.alloc();
     let mut pieces = begun(alloc, 64, 0)?;
-    let sources: List<_> = many_sources(alloc, 64)?;
-    let first = source(b"s00", Kind::Gauge, 1_000)?;
-    for number in 0..sources.len() {
-        let def = sources.get(number).duplicate();
+    for number in 10..74u8 {
+        let name = [
+            b's',
+            b'0'.saturating_add(number / 10),
+            b'0'.saturating_add(number % 10),
+        ];
+        let def = gauge(&name, 1_000)?;
+        let again = def.duplicate();
         taken(pieces.source(def, Raw::Unknown, 0, 0))?;
-        let again = first.duplicate();
         assert_eq!(&rt; pieces.source(again, Raw::Unknown, 0, 0), BAD);
     }
-    assert_eq!(&rt; pieces.archive(archive(Function::Last, 1, 62_501)), BAD);
-    assert_eq!(&rt; pieces.archive(archive(Function::Last, 0, 1)), BAD);
+    assert_eq!(&rt; pieces.archive(archive(1, 62_501)), BAD);
+    assert_eq!(&rt; pieces.archive(archive(0, 1)), BAD);
     Ok(())
 }
 
@@ -115,9 +139,9 @@ fn bad_sources_and_archives(rt: HostRuntime) -> Result<(), Fail> {
 fn bad_preparations_and_cells(rt: HostRuntime) -> Result<(), Fail> {
     let alloc = rt.alloc();
     let mut pieces = begun(alloc, 1, 1)?;
-    let g = source(b"g", Kind::Gauge, 100)?;
+    let g = gauge(b"g", 100)?;
     taken(pieces.source(g, Raw::Known(1_000_000), 0, 0))?;
-    taken(pieces.archive(archive(Function::Last, 1, 4)))?;
+    taken(pieces.archive(archive(1, 4)))?;
     assert_eq!(&rt; pieces.cell(NONE), BAD);
     assert_eq!(&rt; pieces.prep(1, 1_000_000), BAD);
     let mut pieces = with_heads(alloc)?;
@@ -137,7 +161,7 @@ fn bad_entries(rt: HostRuntime) -> Result<(), Fail> {
     let mut olds = ArrayVec::new();
     olds.push(SourceBefore {
         number: 1,
-        source: source(b"h", Kind::Gauge, 100)?,
+        source: gauge(b"h", 100)?,
         raw: Raw::Unknown,
     });
     assert_eq!(&rt; pieces.entry(Entry::Tune(olds)), BAD);

@@ -1,11 +1,11 @@
 //! Worked examples, by the slow program and by the database, as the lines of batches ask for them.
 use crate::batch::{CATCH_UP_AND_TIES, FIRST_PATH, HEARTBEAT_EDGE, ROAD_COUNTER_COARSE};
-use crate::shared::{Case, NONE, cell, words_of};
+use crate::shared::{Case, NONE, cell, command_of};
 use rrd_base::{Chosen, CreateSpec, Database, Given, List, Update, check_create};
 use rrd_fixed::{Cell, Kind, Raw, admit};
 use rrd_fold::Function;
 use rrd_spec::slow::{Reading, are_in_order, rows};
-use rrd_tool::{Command, read_command};
+use rrd_tool::Command;
 use std::alloc::Global;
 use std::process::Abort;
 use std::test::Fail;
@@ -27,10 +27,6 @@ struct Example<'a> {
 struct Request {
     spec: CreateSpec,
     updates: List<Update>,
-}
-
-fn command_of(alloc: Global, line: &str) -> Result<Command, Fail> {
-    Ok(read_command(alloc, &words_of(alloc, line)?, 0)?)
 }
 
 fn asked(alloc: Global, case: Case<'_>) -> Result<Request, Fail> {
@@ -98,9 +94,10 @@ fn shown_by_slow_program(rt: &impl Abort, alloc: Global, example: Example<'_>) -
         )
     );
     let rows = rows(alloc, &asked.spec, number, readings.as_slice())?;
-    assert_eq!(rt; rows.len(), example.rows.len());
+    let name = example.case.0;
+    assert_eq!(rt; rows.len(), example.rows.len(), "{name}");
     for (place, row) in example.rows.iter().enumerate() {
-        assert_eq!(rt; rows.get(place).as_slice(), [row.1].as_slice());
+        assert_eq!(rt; rows.get(place).as_slice(), [row.1].as_slice(), "{name}");
     }
     Ok(())
 }
@@ -114,21 +111,17 @@ fn shown_by_database(rt: &impl Abort, alloc: Global, example: Example<'_>) -> Re
     }
     let last = database.last();
     let fetched = database.choose(Function::Average, example.resolution, start, last)?;
-    assert_eq!(rt; fetched, example.fetched);
+    let name = example.case.0;
+    assert_eq!(rt; fetched, example.fetched, "{name}");
     for (time, wanted) in example.rows {
-        assert_eq!(rt; cell(rt, &database, fetched.archive, *time, 0), *wanted);
+        let shown = cell(rt, &database, fetched.archive, *time, 0);
+        assert_eq!(rt; shown, *wanted, "{name} at {time}");
     }
     Ok(())
 }
 
-fn shown(rt: &impl Abort, alloc: Global, example: Example<'_>) -> Result<(), Fail> {
-    shown_by_slow_program(rt, alloc, example)?;
-    shown_by_database(rt, alloc, example)
-}
-
-#[test]
-fn first_path(rt: HostRuntime) -> Result<(), Fail> {
-    let example = Example {
+const EXAMPLES: &[Example<'_>] = &[
+    Example {
         case: FIRST_PATH,
         rows: &[(10, Cell::Known(1_000_000)), (20, Cell::Known(2_000_000))],
         resolution: 1,
@@ -138,14 +131,9 @@ fn first_path(rt: HostRuntime) -> Result<(), Fail> {
             lo: 0,
             hi: 30,
         },
-    };
-    shown(&rt, rt.alloc(), example)
-}
-
-// An interval as long as the heartbeat, and one a second longer.
-#[test]
-fn heartbeat_edge(rt: HostRuntime) -> Result<(), Fail> {
-    let example = Example {
+    },
+    // An interval as long as the heartbeat, and one a second longer.
+    Example {
         case: HEARTBEAT_EDGE,
         rows: &[
             (1100, Cell::Known(5_000_000)),
@@ -160,14 +148,9 @@ fn heartbeat_edge(rt: HostRuntime) -> Result<(), Fail> {
             lo: 1000,
             hi: 1500,
         },
-    };
-    shown(&rt, rt.alloc(), example)
-}
-
-// A step of two samples, and a sample of several steps.
-#[test]
-fn catch_up(rt: HostRuntime) -> Result<(), Fail> {
-    let example = Example {
+    },
+    // A step of two samples, and a sample of several steps.
+    Example {
         case: CATCH_UP_AND_TIES,
         rows: &[
             (10, Cell::Known(3_000_000)),
@@ -181,15 +164,10 @@ fn catch_up(rt: HostRuntime) -> Result<(), Fail> {
             lo: 0,
             hi: 40,
         },
-    };
-    shown(&rt, rt.alloc(), example)
-}
-
-// The counter of rrdtool's manual, by half hours: the first is the average of the five known steps
-// 40000, 20000, 0, 0 and 33333 millionths.
-#[test]
-fn counter_of_manual(rt: HostRuntime) -> Result<(), Fail> {
-    let example = Example {
+    },
+    // The counter of rrdtool's manual, by half hours: the first is the average of the five known steps
+    // 40000, 20000, 0, 0 and 33333 millionths.
+    Example {
         case: ROAD_COUNTER_COARSE,
         rows: &[
             (920_806_200, Cell::Known(18_667)),
@@ -202,6 +180,14 @@ fn counter_of_manual(rt: HostRuntime) -> Result<(), Fail> {
             lo: 920_804_400,
             hi: 920_809_800,
         },
-    };
-    shown(&rt, rt.alloc(), example)
+    },
+];
+
+#[test]
+fn worked_examples(rt: HostRuntime) -> Result<(), Fail> {
+    for example in EXAMPLES {
+        shown_by_slow_program(&rt, rt.alloc(), *example)?;
+        shown_by_database(&rt, rt.alloc(), *example)?;
+    }
+    Ok(())
 }
