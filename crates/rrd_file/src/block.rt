@@ -9,11 +9,13 @@ ghost use Rattle.rrd_file.specs.Spelling as spelling;
 use crate::spelling::{
     Halves, bound_number, cell_halves, function_byte, halves_of, kind_byte, raw_number,
 };
-use arrayvec::ArrayVec;
 use rrd_base::{DsDef, RraDef};
 use rrd_fixed::{Cell, Name, Raw, WriteFault, write_bytes};
 use std::io::Write;
 use std::marker::Model;
+
+/// The bytes that fit.
+const ROOM: usize = 32_768;
 
 /// The bytes of the longest piece, a data source.
 const LONGEST: usize = 97;
@@ -29,15 +31,19 @@ const FOUR_UNKNOWN: [u8; 64] = [
 /// Bytes that wait to be written, at most 32,768. Contracts see their list.
 #[derive(Drop)]
 pub(crate) struct Block {
-    bytes: ArrayVec<u8, 32768>,
+    // Of these the first `len`.
+    bytes: [u8; ROOM],
+    len: usize,
 }
 
 impl Model for Block {
-    ghost use Rattle.std.specs.Prelude.{List, ℕ};
+    ghost use Rattle.std.specs.Prelude.{List, ℕ, ◌≤◌, take};
 
     ghost Value = { List ℕ };
 
-    ghost view = { λ b. b.bytes.items };
+    ghost view = { λ b. take b.len b.bytes };
+
+    ghost invariant = { λ b. b.len ≤ 32768 };
 }
 
 impl Block {
@@ -46,7 +52,8 @@ impl Block {
         ensures { result ≡ [] }
     {
         Block {
-            bytes: ArrayVec::new(),
+            bytes: [0; ROOM],
+            len: 0,
         }
     }
 
@@ -54,7 +61,7 @@ impl Block {
     pub(crate) fn as_slice(&self) -> &[u8]
         ensures { result.now ≡ self.now }
     {
-        self.bytes.as_slice()
+        &self.bytes[..self.len]
     }
 
     /// Makes room for a piece: where it could lack, all that waits is written.
@@ -62,9 +69,9 @@ impl Block {
         ensures added { Gathers (W.contents out.old) self.old (W.contents out.new) self.new [] result }
         ensures room { OnOk result (length self.new + 97 ≤ 32768) }
     {
-        if self.bytes.remaining_capacity() < LONGEST {
-            write_bytes(out, self.bytes.as_slice())?;
-            self.bytes.clear();
+        if ROOM - self.len < LONGEST {
+            write_bytes(out, self.as_slice())?;
+            self.len = 0;
         }
         Ok(())
     }
@@ -74,7 +81,9 @@ impl Block {
         requires { length self.old + length bytes.now ≤ 32768 }
         ensures { self.new ≡ self.old ++ bytes.now }
     {
-        let _fits = self.bytes.try_extend_from_slice(bytes);
+        let end = self.len + bytes.len();
+        self.bytes[self.len..end].copy_from_slice(bytes);
+        self.len = end;
     }
 
     /// Adds a byte.
@@ -82,7 +91,7 @@ impl Block {
         requires { length self.old + 1 ≤ 32768 }
         ensures { self.new ≡ self.old ++ byte ∷ [] }
     {
-        self.bytes.push(byte);
+        self.add(&[byte]);
     }
 
     /// Adds a number of two bytes.
@@ -182,7 +191,7 @@ impl Block {
         ensures { self.new ≡ self.old ++ replicate count 0 }
     {
         for _ in 0..count {
-            self.bytes.push(0);
+            self.byte(0);
         }
     }
 
