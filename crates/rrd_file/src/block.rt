@@ -6,9 +6,11 @@ ghost use Rattle.rrd_file.specs.Layout.{spelled};
 ghost use Rattle.rrd_file.specs.Pieces.{OfCell};
 ghost use Rattle.rrd_file.specs.Spelling as spelling;
 
+use crate::spelling::{
+    Halves, bound_number, cell_halves, function_byte, halves_of, kind_byte, raw_number,
+};
 use rrd_base::{DsDef, RraDef};
-use rrd_fixed::{Cell, Kind, Name, Raw, WriteFault, write_bytes};
-use rrd_fold::Function;
+use rrd_fixed::{Cell, Name, Raw, WriteFault, write_bytes};
 use std::io::Write;
 use std::marker::Model;
 
@@ -17,9 +19,6 @@ const ROOM: usize = 32_768;
 
 /// The bytes of the longest piece, a data source.
 const LONGEST: usize = 97;
-
-/// How many numbers eight bytes can say.
-const HALF: u128 = 0x1_0000_0000_0000_0000;
 
 /// The bytes of four unknown cells.
 const FOUR_UNKNOWN: [u8; 64] = [
@@ -45,83 +44,6 @@ impl Model for Block {
     ghost view = { λ b. take b.len b.bytes };
 
     ghost invariant = { λ b. b.len ≤ 32768 };
-}
-
-/// A number of sixteen bytes, two's complement, as its higher and its lower eight. Written so, each
-/// eight bytes are one instruction of the processor's, which sixteen at once are not.
-#[derive(Clone, Copy)]
-struct Halves {
-    high: u64,
-    low: u64,
-}
-
-// The halves of the least number, which stands for an unknown cell.
-const LEAST: Halves = Halves {
-    high: 0x8000_0000_0000_0000,
-    low: 0,
-};
-
-// The halves of a number.
-fn halves_of(number: i128) -> Halves
-    ensures { spelling.eight_bytes result.high ++ spelling.eight_bytes result.low ≡ spelling.signed_bytes number }
-{
-    let bits = number.cast_unsigned();
-    Halves {
-        high: (bits / HALF) as u64,
-        low: (bits % HALF) as u64,
-    }
-}
-
-// What is written of a cell.
-fn cell_halves(cell: Cell) -> Halves
-    ensures { spelling.eight_bytes result.high ++ spelling.eight_bytes result.low ≡ spelling.cell_bytes cell }
-{
-    match cell {
-        Cell::Unknown => LEAST,
-        Cell::Known(millionths) => halves_of(millionths),
-    }
-}
-
-// The same of a raw value.
-fn raw_number(raw: Raw) -> i128
-    ensures { result ≡ spelling.raw_number raw }
-{
-    match raw {
-        Raw::Unknown => i128::MIN,
-        Raw::Known(value) => value,
-    }
-}
-
-// What is written of a bound; the least number stands for none.
-fn bound_number(bound: Option<i128>) -> i128
-    ensures { result ≡ spelling.bound_number bound }
-{
-    match bound {
-        None => i128::MIN,
-        Some(millionths) => millionths,
-    }
-}
-
-fn kind_byte(kind: Kind) -> u8
-    ensures { result ≡ spelling.kind_byte kind }
-{
-    match kind {
-        Kind::Gauge => 0,
-        Kind::Counter => 1,
-        Kind::Derive => 2,
-        Kind::Absolute => 3,
-    }
-}
-
-fn function_byte(function: Function) -> u8
-    ensures { result ≡ spelling.function_byte function }
-{
-    match function {
-        Function::Average => 0,
-        Function::Min => 1,
-        Function::Max => 2,
-        Function::Last => 3,
-    }
 }
 
 impl Block {

@@ -3,7 +3,7 @@ use Rattle.std.specs.Int.{w128, to_be_bytes}
 use mir.Facts.{to_z-of_z}
 use Rattle.rrd_file.specs.Spelling.{signed_bytes}
 use Rattle.rrd_file.proofs.SignedBytes.{halves}
-use Rattle.rrd_file.proofs.block.halves_of.Goals as goal
+use Rattle.rrd_file.proofs.spelling.halves_of.Goals as goal
 
 pub returns : goal.returns
 unfolding signed_bytes

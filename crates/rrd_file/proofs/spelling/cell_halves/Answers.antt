@@ -1,7 +1,7 @@
 use Rattle.std.proofs.Common.{ap, sym}
 use Rattle.rrd_fixed.specs.declared.cell.Cell.{Cell}
 use Rattle.rrd_file.specs.Spelling.{cell_bytes, signed_bytes}
-use Rattle.rrd_file.proofs.block.cell_halves.Goals as goal
+use Rattle.rrd_file.proofs.spelling.cell_halves.Goals as goal
 
 pub returns-in-Unknown : goal.returns-in-Unknown
 unfolding signed_bytes
