@@ -1,11 +1,14 @@
 //! Files that are read back: whole ones, cut ones, ones with a wrong byte, and readers that fail.
-use crate::file::{DATABASES, FOUR_CHANGES, SAMPLED, THREE_CHANGES, file_of, sampled_file};
+use crate::file::{
+    DATABASES, FOUR_CHANGES, SAMPLED, THREE_CHANGES, file_of, new_file, sampled_file,
+};
 use crate::shared::{Giver, Manner, PLAIN, database_of, joined};
 use rrd_file::{FileFault, decode};
 use std::alloc::Global;
 use std::mem;
 use std::process::Abort;
 use std::test::Fail;
+use std::time::CpuClock;
 
 // ---- what is read
 
@@ -180,15 +183,21 @@ fn a_changed_file_is_another_or_none(rt: HostRuntime) -> Result<(), Fail> {
     assert_others_or_none(&rt, alloc, THREE_CHANGES)
 }
 
-// The other bits of each byte, one by one, and all of them.
+// Each byte changed to each other value. A built test takes a few seconds; an unproved run, which takes
+// a hundred times as long, ends where it is after ten.
 #[test]
-fn a_file_with_changed_bits_is_another_or_none(rt: HostRuntime) -> Result<(), Fail> {
+fn each_other_byte_makes_another_file_or_none(rt: HostRuntime) -> Result<(), Fail> {
     let alloc = rt.alloc();
-    let mut bytes = sampled_file(alloc)?;
-    for at in 0..bytes.len() {
-        for bits in [2, 4, 8, 16, 32, 64, 255] {
-            let byte = bits ^ *bytes.get(at).ok_or("short")?;
-            assert_other_or_none(&rt, alloc, &mut bytes, at, byte)?;
+    let mut files = [new_file(alloc)?, sampled_file(alloc)?];
+    for change in 1..=255u8 {
+        for bytes in &mut files {
+            for at in 0..bytes.len() {
+                let byte = change ^ *bytes.get(at).ok_or("short")?;
+                assert_other_or_none(&rt, alloc, bytes, at, byte)?;
+            }
+        }
+        if rt.process_cpu_time()?.as_secs() >= 10 {
+            break;
         }
     }
     Ok(())
