@@ -1,22 +1,16 @@
 -- Cells in the order of a file, as a database shows them.
-use Rattle.std.proofs.Common.{◌≡◌, ◌∙◌, ◌*◌, ◌<◌, ◌≤◌, ◌++◌, ℕ, zero, suc, ℤ, List, [], ◌∷◌, Some, sym, ap, subst, arith, length, get_or, map, refl}
-use Rattle.std.specs.Prelude.{slice_get, slice_index_or}
-use Rattle.std.specs.List.{flat_map, range_with_len}
+use Rattle.std.proofs.Common.{◌≡◌, ◌∙◌, ◌*◌, ◌<◌, ◌≤◌, ◌++◌, ℕ, zero, suc, List, [], ◌∷◌, Some, sym, ap, subst, arith, length, map, refl}
+use Rattle.std.specs.Prelude.{slice_get}
+use Rattle.std.specs.List.{flat_map}
 use Rattle.std.proofs.lemmas.Grind.{flat_map-append}
 use Rattle.std.proofs.lemmas.List.Concat.{flat_map-cons}
 use Rattle.std.proofs.lemmas.Nat.{mul-le}
-use Rattle.std.proofs.lemmas.Option.{slice_get-get_or}
 use Rattle.rrd_fixed.specs.declared.cell.Cell.{Cell}
 use Rattle.rrd_spec.specs.declared.settings.RraDef.{RraDef}
 use Rattle.rrd_spec.specs.Settings.{resolution}
-use Rattle.rrd_spec.specs.Cells.{time_of}
 use Rattle.rrd_spec.specs.History.{Archive, Content}
-use Rattle.rrd_spec.specs.Cells.{row_at}
-use Rattle.rrd_spec.specs.Cells.{cell_at}
-use Rattle.rrd_spec.specs.Validity.{IsRow, IsValid}
-use Rattle.std.proofs.lemmas.List.FromFn.{get_or-range_with_len, length-range_with_len}
-use Rattle.rrd_spec.specs.Placed.{ShowsInPlace}
-use Rattle.rrd_file.proofs.Told.{all_of, archive_at, cell_told, some_is}
+use Rattle.rrd_spec.specs.Validity.{IsValid}
+use Rattle.rrd_file.proofs.Told.{archive_at, some_is}
 use Rattle.rrd_file.specs.Layout.{spelled}
 use Rattle.rrd_file.specs.Pieces.{OfCell, spell}
 
@@ -25,21 +19,6 @@ product a b p q = omega (arith, mul-le 1 1 a b (omega (arith, p)) (omega (arith,
 
 pub some_size : (d : Content) (n : ℕ) (a : Archive) → IsValid d → slice_get d.archives n ≡ Some a → 0 < resolution d.step a.def
 some_size d n a v e = product d.step a.def.steps v.some_step (archive_at d n a v e).some_steps
-
-pub row_width : (d : Content) (n : ℕ) (a : Archive) (place : ℕ) → IsValid d → slice_get d.archives n ≡ Some a → place < length a.rows → length (get_or a.rows place []) ≡ length d.sources
-row_width d n a place v e inside =
-    (all_of (IsRow (length d.sources)) a.rows place (get_or a.rows place []) (archive_at d n a v e).each_row (slice_get-get_or a.rows place [] inside)).one_each
-
--- the cell of a source in the row of a place
-pub cell_is : ((content : Content) (archive : Archive) (place : ℕ) → ShowsInPlace content archive place) → (d : Content) (n : ℕ) (a : Archive) (place source : ℕ) (time : ℤ) → IsValid d → slice_get d.archives n ≡ Some a → place < length a.rows → source < length d.sources → time ≡ time_of (resolution d.step a.def) (length a.rows) d.last place
-    → slice_get (slice_index_or a.rows place []) source ≡ Some (cell_at d n time source)
-cell_is shown d n a place source time v e inside within is =
-    let row = get_or a.rows place [] in
-    let wide : source < length row = omega (arith, within, row_width d n a place v e inside) in
-    let row_is : row_at d a time ≡ row = ap (row_at d a) is ∙ shown d a place (some_size d n a v e) inside in
-    let cell : get_or row source Cell.Unknown ≡ cell_at d n time source =
-    ap (λ r. get_or r source Cell.Unknown) (sym row_is) ∙ sym (cell_told d d.archives n a time source e) in
-    slice_get-get_or row source Cell.Unknown wide ∙ ap (λ c. Some c) cell
 
 -- ---- cells, list by list
 
@@ -74,15 +53,13 @@ same_def d n def a f e = let same : a ≡ f.archive = some_is a f.archive (sym e
 pub record IsSmallDef (def : RraDef) : Type 0 where
   pub some_steps : 0 < def.steps
   pub few_steps : def.steps ≤ 1000000
+  pub some_rows : 0 < def.rows
   pub few_rows : def.rows ≤ 1000000
 
 pub small_def : (d : Content) (n : ℕ) (def : RraDef) → IsValid d → IsDefOf d n def → IsSmallDef def
 small_def d n def v f =
     let archive = archive_at d n f.archive v f.there in
-    subst IsSmallDef f.def_is (record { some_steps = archive.some_steps; few_steps = archive.few_steps; few_rows = archive.few_rows })
+    subst IsSmallDef f.def_is (record { some_steps = archive.some_steps; few_steps = archive.few_steps; some_rows = archive.some_rows; few_rows = archive.few_rows })
 
 pub rows_are : (d : Content) (n : ℕ) (def : RraDef) (a : Archive) → IsValid d → IsDefOf d n def → slice_get d.archives n ≡ Some a → length a.rows ≡ def.rows
 rows_are d n def a v f e = (archive_at d n a v e).rows_are ∙ ap (λ (x : RraDef). x.rows) (same_def d n def a f e)
-
-pub number_there : (n i : ℕ) → i < n → slice_get (range_with_len 0 n) i ≡ Some i
-number_there n i h = slice_get-get_or (range_with_len 0 n) i 0 (omega (arith, length-range_with_len 0 n, h)) ∙ ap (λ k. Some k) (get_or-range_with_len 0 n i 0 h ∙ omega arith)

@@ -6,8 +6,9 @@ use Rattle.std.specs.List.{copy_within}
 use Rattle.std.specs.Io.KnownBytes.{Consumes, Keeps, prepend_known}
 use Rattle.std.proofs.lemmas.List.{take-append-le}
 use borrow.Rule.Slice.PartMut.{put_mid, post_of}
-use Rattle.std.proofs.lemmas.List.{drop_at, length-take-le, take_at}
-use lib.Seq.{take-add}
+use Rattle.std.proofs.lemmas.List.{drop-take, drop_at, length-take, length-take-le, take-append-drop, take_at}
+use Rattle.rrd_file.specs.Waited.{IsWaiting}
+use lib.Seq.{drop-drop, take-add, take-take}
 
 -- the waiting bytes at the front
 front_is : (xs : List ℕ) (from end : ℕ) → from ≤ end → end ≤ length xs
@@ -52,3 +53,25 @@ pub refilled : (all buffer : List ℕ) (m : ℕ) → m ≤ length all → length
 refilled all buffer m short size =
     let after = post_of m (length all - m) all in
     omega (arith, length-append (take m all) (buffer ++ after), length-append buffer after, length-take-le m all short, size, length-drop (length all - m) (drop m all), length-drop m all)
+
+-- ---- the first bytes that wait
+
+pub within_range : (bytes waiting : List ℕ) (from end size : ℕ) → IsWaiting bytes from end → slice_range bytes from end ≡ waiting → size ≤ length waiting → from + size ≤ end
+within_range bytes waiting from end size is same few =
+    omega (arith, is.ordered, is.within, is.room, few, ap length same, length-take (end - from) (drop from bytes), length-drop from bytes)
+
+pub front_of : (bytes : List ℕ) (from end size : ℕ) → from + size ≤ end → slice_range bytes from (from + size) ≡ take size (slice_range bytes from end)
+front_of bytes from end size within =
+    let all : from + size - from ≡ size = omega arith in
+    ap (λ k. take k (drop from bytes)) all ∙ sym (take-take size (end - from) (drop from bytes) (omega (arith, within)))
+
+pub skipped : (bytes : List ℕ) (from end size : ℕ) → from + size ≤ end → slice_range bytes (from + size) end ≡ drop size (slice_range bytes from end)
+skipped bytes from end size within =
+    let more = end - (from + size) in
+    let all : end - from ≡ size + more = omega (arith, within) in
+    sym (ap (λ k. drop size (take k (drop from bytes))) all ∙ drop-take size more (drop from bytes) ∙ ap (take more) (drop-drop size from bytes))
+
+pub consumed : (waiting : List ℕ) (behind : Option (List ℕ)) (size : ℕ) → Consumes (prepend_known waiting behind) (prepend_known (drop size waiting) behind) (take size waiting)
+consumed waiting None size = tt
+consumed waiting (Some rest) size =
+    ap (λ l. l ++ rest) (sym (take-append-drop size waiting)) ∙ append_assoc (take size waiting) (drop size waiting) rest

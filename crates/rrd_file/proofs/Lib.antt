@@ -3,6 +3,7 @@ pub mod Gathering
 pub mod Told
 pub mod Entering
 pub mod CellsFiled
+pub mod Turned
 pub mod SignedBytes
 pub mod Tests
 pub mod Lengths

@@ -1,5 +1,5 @@
 -- Entries with the same pieces are one, where their lists are as long as the outline says.
-use Rattle.std.proofs.Common.{◌≡◌, ◌∙◌, ◌++◌, ◌∷◌, ℕ, suc, List, [], sym, ap, refl, length, get_or, arith, map, append_assoc}
+use Rattle.std.proofs.Common.{◌≡◌, ◌∙◌, ◌++◌, ◌∷◌, ℕ, List, [], sym, ap, refl, length, get_or, arith, map, append_assoc}
 use Rattle.std.specs.List.{AllByRecursion, flat_map}
 use Rattle.std.proofs.lemmas.List.{length-map}
 use Rattle.std.proofs.lemmas.List.Concat.{flat_map-cons}
@@ -9,29 +9,20 @@ use Rattle.rrd_fold.specs.Parts.{Part}
 use Rattle.rrd_ring.specs.Rows.{HasWidth}
 use Rattle.rrd_spec.specs.declared.entry.SourceBefore.{SourceBefore}
 use Rattle.rrd_spec.specs.declared.outline.Outline.{Outline}
-use Rattle.rrd_spec.specs.declared.settings.DsDef.{DsDef}
 use Rattle.rrd_spec.specs.declared.settings.RraDef.{RraDef}
 use Rattle.rrd_spec.specs.Entries.{BeforeUpdate, Entry, SavedArchive, UpdateEntry, TuneEntry, ResizeEntry}
 use Rattle.rrd_spec.specs.Filed.{Filed}
 use Rattle.rrd_spec.specs.Limits.{Limits}
 use Rattle.rrd_spec.specs.Outlines.{MaySaveEach, MayUndo}
 use Rattle.rrd_spec.specs.Rebuilding.{MayEntry, limits, outline_left}
-use Rattle.rrd_spec.specs.Validity.{AreAccepted, IsRow}
+use Rattle.rrd_spec.specs.Validity.{IsRow}
 use Rattle.rrd_file.specs.Layout.{entry_pieces, raws_and_parts, row_pieces, saved_pieces}
 use Rattle.rrd_file.specs.Pieces.{Piece, Mark, OfCell, OfCount, OfNumber, OfPrep, OfRawAndPart, OfRows, OfSourceBefore, OfTag, OfTime, AnUpdate, ATune, AResize}
 use Rattle.rrd_file.specs.Shapes.{AreSavedShaped, IsShaped, IsUpdateShaped}
+use Rattle.rrd_file.proofs.Spelled.{append_same}
+use Rattle.rrd_file.proofs.Told.{accepted_length, length_before}
 
--- two lists of pieces, cut at the same place
-cut_same : (a b c d : List Piece) → length a ≡ length c → a ++ b ≡ c ++ d → (a ≡ c) × (b ≡ d)
-cut_same [] b [] d l e = (refl, e)
-cut_same [] b (y ∷ c) d l e = absurd (omega (arith, l))
-cut_same (x ∷ a) b [] d l e = absurd (omega (arith, l))
-cut_same (x ∷ a) b (y ∷ c) d l e =
-    let whole : x ∷ (a ++ b) ≡ y ∷ (c ++ d) = e in
-    let first : x ≡ y = cc in
-    let later : a ++ b ≡ c ++ d = cc in
-    let rest = cut_same a b c d (omega (arith, l)) later in
-    (λ i. first i ∷ rest.0 i, rest.1)
+-- ---- lists of one kind of piece
 
 map_one : {A : Type 0} (f : A → Piece) → ((x y : A) → f x ≡ f y → x ≡ y) → (a b : List A) → map f a ≡ map f b → a ≡ b
 map_one f one [] [] e = refl
@@ -51,11 +42,6 @@ cell_same x y e = cc
 
 before_same : (x y : SourceBefore) → OfSourceBefore x ≡ OfSourceBefore y → x ≡ y
 before_same x y e = cc
-
-raws_length : (r : List Raw) (a : List Part) → length r ≡ length a → length (raws_and_parts r a) ≡ length r
-raws_length [] a l = refl
-raws_length (r ∷ rs) [] l = absurd (omega (arith, l))
-raws_length (r ∷ rs) (x ∷ a) l = omega (arith, raws_length rs a (omega (arith, l)))
 
 raws_one : (r s : List Raw) (a b : List Part) → length r ≡ length a → length s ≡ length b → raws_and_parts r a ≡ raws_and_parts s b → (r ≡ s) × (a ≡ b)
 raws_one [] [] [] [] l m e = (refl, refl)
@@ -87,7 +73,7 @@ rows_one width [] (y ∷ olds) a b h k l e = absurd (omega (arith, l))
 rows_one width (x ∷ rows) [] a b h k l e = absurd (omega (arith, l))
 rows_one width (x ∷ rows) (y ∷ olds) a b h k l e =
     let same : length (map OfCell x) ≡ length (map OfCell y) = length-map x OfCell ∙ h.0 ∙ sym k.0 ∙ sym (length-map y OfCell) in
-    let both = cut_same (map OfCell x) (row_pieces rows ++ a) (map OfCell y) (row_pieces olds ++ b) same (sym (row_cut x rows a) ∙ e ∙ row_cut y olds b) in
+    let both = append_same (map OfCell x) (row_pieces rows ++ a) (map OfCell y) (row_pieces olds ++ b) same (sym (row_cut x rows a) ∙ e ∙ row_cut y olds b) in
     let first = map_one OfCell cell_same x y both.0 in
     let later = rows_one width rows olds a b h.1 k.1 (omega (arith, l)) both.1 in
     (λ i. first i ∷ later.0 i, later.1)
@@ -105,7 +91,7 @@ saved_one sources (def ∷ defs) [] news h k e = absurd h
 saved_one sources (def ∷ defs) (old ∷ olds) [] h k e = absurd k
 saved_one sources (def ∷ defs) (old ∷ olds) (new ∷ news) h k e =
     let same : length (map OfPrep old.parts) ≡ length (map OfPrep new.parts) = length-map old.parts OfPrep ∙ h.0.one_part_each ∙ sym k.0.one_part_each ∙ sym (length-map new.parts OfPrep) in
-    let both = cut_same (map OfPrep old.parts) (OfRows (length old.rows) ∷ (row_pieces old.rows ++ flat_map saved_pieces olds)) (map OfPrep new.parts) (OfRows (length new.rows) ∷ (row_pieces new.rows ++ flat_map saved_pieces news)) same (sym (saved_cut old olds) ∙ e ∙ saved_cut new news) in
+    let both = append_same (map OfPrep old.parts) (OfRows (length old.rows) ∷ (row_pieces old.rows ++ flat_map saved_pieces olds)) (map OfPrep new.parts) (OfRows (length new.rows) ∷ (row_pieces new.rows ++ flat_map saved_pieces news)) same (sym (saved_cut old olds) ∙ e ∙ saved_cut new news) in
     let behind : OfRows (length old.rows) ∷ (row_pieces old.rows ++ flat_map saved_pieces olds) ≡ OfRows (length new.rows) ∷ (row_pieces new.rows ++ flat_map saved_pieces news) = both.1 in
     let count : length old.rows ≡ length new.rows = cc in
     let rest : row_pieces old.rows ++ flat_map saved_pieces olds ≡ row_pieces new.rows ++ flat_map saved_pieces news = cc in
@@ -124,8 +110,8 @@ update_one now old new h k e =
     let rest : raws_and_parts old.raws old.parts ++ flat_map saved_pieces old.archives ≡ raws_and_parts new.raws new.parts ++ flat_map saved_pieces new.archives = cc in
     let po : length old.raws ≡ length old.parts = h.one_raw_each ∙ sym h.one_part_each in
     let pn : length new.raws ≡ length new.parts = k.one_raw_each ∙ sym k.one_part_each in
-    let same : length (raws_and_parts old.raws old.parts) ≡ length (raws_and_parts new.raws new.parts) = raws_length old.raws old.parts po ∙ h.one_raw_each ∙ sym k.one_raw_each ∙ sym (raws_length new.raws new.parts pn) in
-    let both = cut_same (raws_and_parts old.raws old.parts) (flat_map saved_pieces old.archives) (raws_and_parts new.raws new.parts) (flat_map saved_pieces new.archives) same rest in
+    let same : length (raws_and_parts old.raws old.parts) ≡ length (raws_and_parts new.raws new.parts) = length_before old.raws old.parts po ∙ h.one_raw_each ∙ sym k.one_raw_each ∙ sym (length_before new.raws new.parts pn) in
+    let both = append_same (raws_and_parts old.raws old.parts) (flat_map saved_pieces old.archives) (raws_and_parts new.raws new.parts) (flat_map saved_pieces new.archives) same rest in
     let values = raws_one old.raws new.raws old.parts new.parts po pn both.0 in
     let archives = saved_one (length now.sources) now.archives old.archives new.archives h.archives_are k.archives_are both.1 in
     λ i. record { last = last i; raws = values.0 i; parts = values.1 i; archives = archives i }
@@ -157,12 +143,6 @@ shaped_one now (ResizeEntry x rows) (UpdateEntry y) h k e = absurd (let bad : Of
 shaped_one now (ResizeEntry x rows) (TuneEntry y) h k e = absurd (let bad : OfTag AResize ≡ OfTag ATune = ap (λ l. get_or l 0 Mark) e in cc)
 
 -- ---- an entry that fits has such lists
-
-accepted_length : (defs : List DsDef) (raws : List Raw) → AreAccepted defs raws → length raws ≡ length defs
-accepted_length [] [] h = refl
-accepted_length [] (raw ∷ raws) h = absurd h
-accepted_length (def ∷ defs) [] h = absurd h
-accepted_length (def ∷ defs) (raw ∷ raws) h = ap suc (accepted_length defs raws h.1)
 
 rows_shaped : (width : ℕ) (rows : List (List Cell)) → AllByRecursion (IsRow width) rows → HasWidth width rows
 rows_shaped width [] h = tt

@@ -1,13 +1,16 @@
 -- Pieces that came one after another, and how they lead from stage to stage.
-use Rattle.std.proofs.Common.{◌≡◌, ◌≢◌, ◌∙◌, ◌++◌, ◌∷◌, ◌+◌, ◌<◌, ℕ, List, [], sym, ap, subst, refl, take, append_assoc, append-nil, length, length-append, arith, take_at}
+use Rattle.std.proofs.Common.{◌≡◌, ◌≢◌, ◌∙◌, ◌++◌, ◌∷◌, ◌+◌, ◌<◌, ◌≤◌, ◌⊎◌, inl, inr, ℕ, List, [], sym, ap, subst, refl, take, append_assoc, append-nil, length, length-append, arith, take_at}
 use Rattle.std.specs.Prelude.{Option, Some, None, IfSome}
 use Rattle.std.specs.List.{flat_map}
-use Rattle.std.specs.Io.KnownBytes.{Consumes}
+use Rattle.std.specs.Io.KnownBytes.{Consumes, Keeps}
 use Rattle.std.proofs.lemmas.List.Concat.{flat_map-cons}
+use Rattle.rrd_spec.specs.Filed.{Filed}
+use Rattle.rrd_spec.specs.Rebuilding.{due}
+use Rattle.rrd_spec.specs.declared.due.Due.TheVariants.{CellDue}
 use Rattle.rrd_file.specs.declared.fault.FileFault.{FileFault}
 use Rattle.rrd_file.specs.declared.fault.FileFault.TheVariants.{NotOurs, Version, Truncated, BadBlock, BadEntry, Trailing, Read, OutOfMemory}
 use Rattle.rrd_file.specs.Faults.{Front, IsBad, IsFault, bad_at}
-use Rattle.rrd_file.specs.Inputs.{Gives, Input, IsCut, left}
+use Rattle.rrd_file.specs.Inputs.{Advances, Gives, Input, IsCut, left}
 use Rattle.rrd_file.specs.Pieces.{Piece, spell}
 use Rattle.rrd_file.specs.Stages.{Runs, Stage, Start, Takes, size}
 use Rattle.rrd_file.specs.Standing.{Stands}
@@ -47,6 +50,20 @@ gives_rest (Some xs) (Some ys) piece rest e c = (ys, refl, sym (some_is xs rest 
 
 pub if_some_at : (a : Option (List ℕ)) (x : List ℕ) (P : List ℕ → Type 0) → a ≡ Some x → IfSome a P → P x
 if_some_at a x P e h = subst (λ (o : Option (List ℕ)). IfSome o P) e h
+
+keeps_rest : (a b : Option (List ℕ)) (rest : List ℕ) → a ≡ Some rest → Keeps a b → b ≡ Some rest
+keeps_rest None b rest e k = none_is rest e
+keeps_rest (Some xs) None rest e k = absurd k
+keeps_rest (Some xs) (Some ys) rest e k = ap (λ (l : List ℕ). Some l) k ∙ e
+
+-- more came, and none was taken
+pub waited_for : (bytes : List ℕ) (s : Stage) (old new : Input) → Stands bytes s old → Keeps (left old) (left new) → new.at ≡ old.at → Stands bytes s new
+waited_for bytes s old new st keeps at = record {
+  rest = st.rest;
+  front = st.front;
+  left_is = keeps_rest (left old) (left new) st.rest st.left_is keeps;
+  place = omega (arith, st.place, at);
+}
 
 -- ---- a piece that came
 
@@ -102,3 +119,34 @@ begins bytes (Some xs) e = record {
   left_is = e;
   place = omega arith;
 }
+
+-- ---- cells
+
+-- a cell is due and waits, none having come
+pub record CellWaits (f : Filed) (first now : Input) : Type 0 where
+  pub due_is : due f ≡ CellDue
+  pub waits : 16 ≤ length now.waiting
+  pub at : now.at ≡ first.at
+
+-- so it is, or one came
+abbrev pub CellCame : Filed → Input → Input → Type 0
+CellCame f first now = CellWaits f first now ⊎ Advances first now
+
+pub came_on : (f : Filed) (first old new : Input) → CellCame f first old → Advances old new → Advances first new
+came_on f first old new came moved = elim came [
+  | inl waits ↦ (omega (arith, waits.at, moved.0), moved.1)
+  | inr before ↦ (omega (arith, before.0, moved.0), moved.1)
+]
+
+-- where too few bytes wait, or no cell is due, one came
+pub came_short : (f : Filed) (first now : Input) → CellCame f first now → length now.waiting < 16 → Advances first now
+came_short f first now came short = elim came [
+  | inl waits ↦ absurd (omega (arith, waits.waits, short))
+  | inr before ↦ before
+]
+
+pub came_last : (f : Filed) (first now : Input) → CellCame f first now → (due f ≡ CellDue → ⊥) → Advances first now
+came_last f first now came other = elim came [
+  | inl waits ↦ absurd (other waits.due_is)
+  | inr before ↦ before
+]

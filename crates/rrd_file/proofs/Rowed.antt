@@ -1,5 +1,5 @@
 -- Rows that come one after another into a table.
-use Rattle.std.proofs.Common.{◌≡◌, ◌+◌, ◌-◌, ◌<◌, ◌++◌, ℕ, zero, suc, List, [], ◌∷◌, sym, subst, length, length-set, replicate, take, arith, append-nil}
+use Rattle.std.proofs.Common.{◌≡◌, ◌∙◌, ◌+◌, ◌-◌, ◌<◌, ◌≤◌, ◌++◌, ℕ, zero, suc, List, [], ◌∷◌, sym, ap, subst, length, length-set, replicate, take, arith, append-nil}
 use Rattle.std.specs.Prelude.{slice_set}
 use Rattle.std.proofs.lemmas.List.{length-replicate}
 use Rattle.rrd_fixed.specs.declared.cell.Cell.{Cell}
@@ -12,17 +12,17 @@ use Rattle.rrd_file.specs.Layout.{row_pieces}
 use Rattle.rrd_file.specs.Pieces.{OfCell, Piece}
 use Rattle.rrd_file.specs.Stages.{DueInEntry, RowCellDue, cells_due}
 use Rattle.rrd_file.specs.Standing.{Comes}
-use Rattle.rrd_file.proofs.Turns.{more_row, row_less}
+use Rattle.rrd_file.proofs.Turns.{more_row, no_cells, row_less, taken_all}
 use Rattle.std.proofs.Common.{map}
 
-pub unknown_many : (n width : ℕ) → length (unknown_rows n width) ≡ n
+unknown_many : (n width : ℕ) → length (unknown_rows n width) ≡ n
 unknown_many n width = length-replicate n (replicate width Unknown)
 
-pub unknown_wide : (n width : ℕ) → HasWidth width (unknown_rows n width)
+unknown_wide : (n width : ℕ) → HasWidth width (unknown_rows n width)
 unknown_wide zero width = tt
 unknown_wide (suc n) width = (length-replicate width Unknown, unknown_wide n width)
 
-pub width_at : (width : ℕ) (rows : List (List Cell)) (i : ℕ) → HasWidth width rows → i < length rows → length (row_at rows i) ≡ width
+width_at : (width : ℕ) (rows : List (List Cell)) (i : ℕ) → HasWidth width rows → i < length rows → length (row_at rows i) ≡ width
 width_at width [] i h k = absurd (omega arith)
 width_at width (row ∷ rows) zero h k = h.0
 width_at width (row ∷ rows) (suc i) h k = width_at width rows i h.1 (omega arith)
@@ -32,7 +32,7 @@ width_set width [] i row h e = h
 width_set width (x ∷ rows) zero row h e = (e, h.1)
 width_set width (x ∷ rows) (suc i) row h e = (h.0, width_set width rows i row h.1 e)
 
-pub rows_begin : (bytes : List ℕ) (f : Filed) (pieces : List Piece) (later : List DueInEntry) (count : ℕ) (rows : List (List Cell)) (input : Input) → Comes bytes f pieces (cells_due count (outline_left f) ++ later) input
+rows_begin : (bytes : List ℕ) (f : Filed) (pieces : List Piece) (later : List DueInEntry) (count : ℕ) (rows : List (List Cell)) (input : Input) → Comes bytes f pieces (cells_due count (outline_left f) ++ later) input
     → Comes bytes f (pieces ++ row_pieces (take 0 rows)) (cells_due (count - 0) (outline_left f) ++ later) input
 rows_begin bytes f pieces later count rows input c =
     let same : count ≡ count - 0 = omega arith in
@@ -60,3 +60,35 @@ rows_go_on f n i rows row old new first h more is wide brings =
           (brings bytes (pieces ++ row_pieces (take i rows)) (cells_due (n - (i + 1)) now ++ later)
           (subst (λ (l : List DueInEntry). Comes bytes f (pieces ++ row_pieces (take i rows)) l old) (row_less now n i later more) (h.2 bytes pieces later st))),
     )
+
+-- ---- a table that rows are read into
+
+-- a new one
+pub rows_new : (f : Filed) (count sources : ℕ) (rows : List (List Cell)) (input : Input) → sources ≡ length (outline_left f).sources → rows ≡ unknown_rows count sources → Rowed f count input 0 rows input
+rows_new f count sources rows input wide is =
+    let width = length (outline_left f).sources in
+    let new : rows ≡ unknown_rows count width = is ∙ ap (λ (n : ℕ). unknown_rows count n) wide in (
+      ap length new ∙ unknown_many count width,
+      subst (HasWidth width) (sym new) (unknown_wide count width),
+      λ bytes pieces later st. rows_begin bytes f pieces later count rows input st,
+    )
+
+-- the next row's width, and its cells, which are due
+pub next_width : (f : Filed) (n i : ℕ) (rows : List (List Cell)) (first input : Input) (row : List Cell) → Rowed f n first i rows input → i < n → row ≡ row_at rows i → length row ≡ length (outline_left f).sources
+next_width f n i rows first input row h more is =
+    ap length is ∙ width_at (length (outline_left f).sources) rows i h.1 (omega (arith, h.0, more))
+
+pub next_due : (f : Filed) (n i : ℕ) (rows : List (List Cell)) (first input : Input) (width : ℕ) → Rowed f n first i rows input → i < n → width ≡ length (outline_left f).sources
+    → (bytes : List ℕ) (pieces : List Piece) (later : List DueInEntry) → Comes bytes f pieces (cells_due n (outline_left f) ++ later) first
+    → Comes bytes f (pieces ++ row_pieces (take i rows)) (replicate width RowCellDue ++ (cells_due (n - (i + 1)) (outline_left f) ++ later)) input
+next_due f n i rows first input width h more wide bytes pieces later st =
+    let now = outline_left f in
+    let dues = row_less now n i later more ∙ ap (λ (k : ℕ). replicate k RowCellDue ++ (cells_due (n - (i + 1)) now ++ later)) (sym wide) in
+    subst (λ (l : List DueInEntry). Comes bytes f (pieces ++ row_pieces (take i rows)) l input) dues (h.2 bytes pieces later st)
+
+-- all rows
+pub rows_all : (f : Filed) (n i : ℕ) (rows : List (List Cell)) (first input : Input) → Rowed f n first i rows input → n ≤ i
+    → (bytes : List ℕ) (pieces : List Piece) (later : List DueInEntry) → Comes bytes f pieces (cells_due n (outline_left f) ++ later) first → Comes bytes f (pieces ++ row_pieces rows) later input
+rows_all f n i rows first input h past bytes pieces later st =
+    subst (λ (l : List (List Cell)). Comes bytes f (pieces ++ row_pieces l) later input) (taken_all rows i (omega (arith, h.0, past)))
+    (subst (λ (l : List DueInEntry). Comes bytes f (pieces ++ row_pieces (take i rows)) l input) (no_cells (outline_left f) n i later past) (h.2 bytes pieces later st))

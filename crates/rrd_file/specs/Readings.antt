@@ -1,7 +1,7 @@
 -- Glue: what a piece was read as.
 use Rattle.rrd_spec.specs.Filed.{Header, Source, One}
-use Rattle.rrd_file.specs.declared.reading.parts.HeaderRead.{HeaderRead}
-use Rattle.rrd_file.specs.declared.reading.parts.SourceRead.{SourceRead}
+use Rattle.rrd_file.specs.declared.reading.pieces.HeaderRead.{HeaderRead}
+use Rattle.rrd_file.specs.declared.reading.pieces.SourceRead.{SourceRead}
 
 abbrev pub header_said : HeaderRead → Header
 header_said h = record {

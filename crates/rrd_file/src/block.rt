@@ -1,22 +1,35 @@
 //! Bytes that wait to be written, so that many pieces go out in one write. It takes no memory.
-ghost use Rattle.std.specs.Prelude.{◌≡◌, ◌+◌, ◌-◌, ◌^◌, ◌<◌, ◌≤◌, ℤ, List, ℕ, [], ◌∷◌, ◌++◌, OnOk, length, replicate, unsigned_abs};
+ghost use Rattle.std.specs.Prelude.{◌≡◌, ◌+◌, ◌-◌, ◌^◌, ◌<◌, ◌≤◌, ℤ, List, ℕ, [], ◌∷◌, ◌++◌, OnOk, length, map, replicate, unsigned_abs};
+ghost use Rattle.rrd_fixed.specs.declared.cell.Cell.TheVariants.{Unknown};
 ghost use Rattle.rrd_file.specs.Gathered.{Gathers};
+ghost use Rattle.rrd_file.specs.Layout.{spelled};
+ghost use Rattle.rrd_file.specs.Pieces.{OfCell};
 ghost use Rattle.rrd_file.specs.Spelling as spelling;
 
+use crate::spelling::{
+    Halves, bound_number, cell_halves, function_byte, halves_of, kind_byte, raw_number,
+};
 use arrayvec::ArrayVec;
 use rrd_base::{DsDef, RraDef};
-use rrd_fixed::{Cell, Kind, Name, Raw, WriteFault, write_bytes};
-use rrd_fold::Function;
+use rrd_fixed::{Cell, Name, Raw, WriteFault, write_bytes};
 use std::io::Write;
 use std::marker::Model;
 
 /// The bytes of the longest piece, a data source.
 const LONGEST: usize = 97;
 
-/// Bytes that wait to be written, at most 8,192. Contracts see their list.
+/// The bytes of four unknown cells.
+const FOUR_UNKNOWN: [u8; 64] = [
+    128, 0, 0, 0, 0, 0, 0, 0, 0, 0, 0, 0, 0, 0, 0, 0, //
+    128, 0, 0, 0, 0, 0, 0, 0, 0, 0, 0, 0, 0, 0, 0, 0, //
+    128, 0, 0, 0, 0, 0, 0, 0, 0, 0, 0, 0, 0, 0, 0, 0, //
+    128, 0, 0, 0, 0, 0, 0, 0, 0, 0, 0, 0, 0, 0, 0, 0, //
+];
+
+/// Bytes that wait to be written, at most 32,768. Contracts see their list.
 #[derive(Drop)]
 pub(crate) struct Block {
-    bytes: ArrayVec<u8, 8192>,
+    bytes: ArrayVec<u8, 32768>,
 }
 
 impl Model for Block {
@@ -25,66 +38,6 @@ impl Model for Block {
     ghost Value = { List ℕ };
 
     ghost view = { λ b. b.bytes.items };
-}
-
-// The sixteen bytes of a number, two's complement.
-#[tactic(auto, unfolding(crate::specs::Spelling::signed_bytes))]
-fn signed_to(number: i128) -> [u8; 16]
-    ensures { result ≡ spelling.signed_bytes number }
-{
-    number.to_be_bytes()
-}
-
-// What is written of a cell; the least number stands for an unknown one.
-fn cell_number(cell: Cell) -> i128
-    ensures { result ≡ spelling.cell_number cell }
-{
-    match cell {
-        Cell::Unknown => i128::MIN,
-        Cell::Known(millionths) => millionths,
-    }
-}
-
-// The same of a raw value.
-fn raw_number(raw: Raw) -> i128
-    ensures { result ≡ spelling.raw_number raw }
-{
-    match raw {
-        Raw::Unknown => i128::MIN,
-        Raw::Known(value) => value,
-    }
-}
-
-// What is written of a bound; the least number stands for none.
-fn bound_number(bound: Option<i128>) -> i128
-    ensures { result ≡ spelling.bound_number bound }
-{
-    match bound {
-        None => i128::MIN,
-        Some(millionths) => millionths,
-    }
-}
-
-fn kind_byte(kind: Kind) -> u8
-    ensures { result ≡ spelling.kind_byte kind }
-{
-    match kind {
-        Kind::Gauge => 0,
-        Kind::Counter => 1,
-        Kind::Derive => 2,
-        Kind::Absolute => 3,
-    }
-}
-
-fn function_byte(function: Function) -> u8
-    ensures { result ≡ spelling.function_byte function }
-{
-    match function {
-        Function::Average => 0,
-        Function::Min => 1,
-        Function::Max => 2,
-        Function::Last => 3,
-    }
 }
 
 impl Block {
@@ -107,7 +60,7 @@ impl Block {
     /// Makes room for a piece: where it could lack, all that waits is written.
     pub(crate) fn make_room<W: Write>(&mut self, out: &mut W) -> Result<(), WriteFault>
         ensures added { Gathers (W.contents out.old) self.old (W.contents out.new) self.new [] result }
-        ensures room { OnOk result (length self.new + 97 ≤ 8192) }
+        ensures room { OnOk result (length self.new + 97 ≤ 32768) }
     {
         if self.bytes.remaining_capacity() < LONGEST {
             write_bytes(out, self.bytes.as_slice())?;
@@ -118,7 +71,7 @@ impl Block {
 
     /// Adds bytes.
     pub(crate) fn add(&mut self, bytes: &[u8])
-        requires { length self.old + length bytes.now ≤ 8192 }
+        requires { length self.old + length bytes.now ≤ 32768 }
         ensures { self.new ≡ self.old ++ bytes.now }
     {
         let _fits = self.bytes.try_extend_from_slice(bytes);
@@ -126,7 +79,7 @@ impl Block {
 
     /// Adds a byte.
     pub(crate) fn byte(&mut self, byte: u8)
-        requires { length self.old + 1 ≤ 8192 }
+        requires { length self.old + 1 ≤ 32768 }
         ensures { self.new ≡ self.old ++ byte ∷ [] }
     {
         self.bytes.push(byte);
@@ -134,7 +87,7 @@ impl Block {
 
     /// Adds a number of two bytes.
     pub(crate) fn two(&mut self, number: u64)
-        requires room { length self.old + 2 ≤ 8192 }
+        requires room { length self.old + 2 ≤ 32768 }
         requires small { number < 2 ^ 16 }
         ensures { self.new ≡ self.old ++ spelling.two_bytes number }
     {
@@ -143,7 +96,7 @@ impl Block {
 
     /// Adds a number of four bytes.
     pub(crate) fn four(&mut self, number: u64)
-        requires room { length self.old + 4 ≤ 8192 }
+        requires room { length self.old + 4 ≤ 32768 }
         requires small { number < 2 ^ 32 }
         ensures { self.new ≡ self.old ++ spelling.four_bytes number }
     {
@@ -152,33 +105,51 @@ impl Block {
 
     /// Adds a number of eight bytes.
     pub(crate) fn eight(&mut self, number: u64)
-        requires room { length self.old + 8 ≤ 8192 }
+        requires room { length self.old + 8 ≤ 32768 }
         ensures { self.new ≡ self.old ++ spelling.eight_bytes number }
     {
         self.add(&number.to_be_bytes());
     }
 
+    // Adds the halves of a number of sixteen bytes.
+    fn halves(&mut self, halves: Halves)
+        requires { length self.old + 16 ≤ 32768 }
+        ensures bytes { self.new ≡ self.old ++ spelling.eight_bytes halves.high ++ spelling.eight_bytes halves.low }
+        ensures room { length self.new ≡ length self.old + 16 }
+    {
+        self.eight(halves.high);
+        self.eight(halves.low);
+    }
+
     /// Adds a number of sixteen bytes.
     pub(crate) fn signed(&mut self, number: i128)
-        requires { length self.old + 16 ≤ 8192 }
+        requires { length self.old + 16 ≤ 32768 }
         ensures bytes { self.new ≡ self.old ++ spelling.signed_bytes number }
         ensures room { length self.new ≡ length self.old + 16 }
     {
-        self.add(&signed_to(number));
+        self.halves(halves_of(number));
     }
 
     /// Adds a cell.
     pub(crate) fn cell(&mut self, cell: Cell)
-        requires { length self.old + 16 ≤ 8192 }
+        requires { length self.old + 16 ≤ 32768 }
         ensures bytes { self.new ≡ self.old ++ spelling.cell_bytes cell }
         ensures room { length self.new ≡ length self.old + 16 }
     {
-        self.signed(cell_number(cell));
+        self.halves(cell_halves(cell));
+    }
+
+    /// Adds four unknown cells.
+    pub(crate) fn four_unknown(&mut self)
+        requires { length self.old + 64 ≤ 32768 }
+        ensures { self.new ≡ self.old ++ spelled (map OfCell (replicate 4 Unknown)) }
+    {
+        self.add(&FOUR_UNKNOWN);
     }
 
     /// Adds a raw value.
     pub(crate) fn raw(&mut self, raw: Raw)
-        requires { length self.old + 16 ≤ 8192 }
+        requires { length self.old + 16 ≤ 32768 }
         ensures bytes { self.new ≡ self.old ++ spelling.raw_bytes raw }
         ensures room { length self.new ≡ length self.old + 16 }
     {
@@ -187,7 +158,7 @@ impl Block {
 
     /// Adds a bound.
     pub(crate) fn bound(&mut self, bound: Option<i128>)
-        requires { length self.old + 16 ≤ 8192 }
+        requires { length self.old + 16 ≤ 32768 }
         ensures bytes { self.new ≡ self.old ++ spelling.bound_bytes bound }
         ensures room { length self.new ≡ length self.old + 16 }
     {
@@ -196,7 +167,7 @@ impl Block {
 
     /// Adds how many cells of a preparation are known, and what they come to.
     pub(crate) fn part(&mut self, known: u64, value: i128)
-        requires room { length self.old + 20 ≤ 8192 }
+        requires room { length self.old + 20 ≤ 32768 }
         requires few { known < 2 ^ 32 }
         ensures bytes { self.new ≡ self.old ++ spelling.part_bytes (record { known = known; value = value }) }
         ensures room { length self.new ≡ length self.old + 20 }
@@ -207,7 +178,7 @@ impl Block {
 
     // Adds so many zeros.
     fn zeros(&mut self, count: usize)
-        requires { length self.old + count ≤ 8192 }
+        requires { length self.old + count ≤ 32768 }
         ensures { self.new ≡ self.old ++ replicate count 0 }
     {
         for _ in 0..count {
@@ -217,7 +188,7 @@ impl Block {
 
     /// Adds a name.
     pub(crate) fn name(&mut self, name: &Name)
-        requires { length self.old + 20 ≤ 8192 }
+        requires { length self.old + 20 ≤ 32768 }
         ensures bytes { self.new ≡ self.old ++ spelling.name_bytes name.now }
         ensures room { length self.new ≡ length self.old + 20 }
     {
@@ -229,7 +200,7 @@ impl Block {
 
     /// Adds a data source's settings.
     pub(crate) fn source(&mut self, source: &DsDef)
-        requires { length self.old + 61 ≤ 8192 }
+        requires { length self.old + 61 ≤ 32768 }
         ensures bytes { self.new ≡ self.old ++ spelling.source_bytes source.now }
         ensures room { length self.new ≡ length self.old + 61 }
     {
@@ -242,7 +213,7 @@ impl Block {
 
     /// Adds an archive's settings.
     pub(crate) fn archive(&mut self, archive: &RraDef)
-        requires room { length self.old + 13 ≤ 8192 }
+        requires room { length self.old + 13 ≤ 32768 }
         requires steps { archive.now.steps < 2 ^ 32 }
         requires xff { unsigned_abs archive.now.xff < 2 ^ 32 }
         requires rows { archive.now.rows < 2 ^ 32 }

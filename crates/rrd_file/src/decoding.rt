@@ -10,7 +10,7 @@ ghost use Rattle.rrd_file.specs.Standing.{Ends, Reaches, Stands};
 use crate::FileFault;
 use crate::input::PieceReader;
 use crate::reading::{four_of, header_of, two_of};
-use blocks::{cell, head, prep, source};
+use blocks::{cells, head, prep, source};
 use faults::block_fault;
 use journal::entry;
 use rrd_base::{Database, Due, Rebuild};
@@ -89,7 +89,7 @@ fn body<R: Read + Drop>(input: &mut PieceReader<R>, build: &mut Rebuild) -> Resu
             Due::SourceDue => source(input, build)?,
             Due::HeadDue => head(input, build)?,
             Due::PrepDue(_) => prep(input, build)?,
-            Due::CellDue => cell(input, build)?,
+            Due::CellDue => cells(input, build)?,
             Due::EntryDue | Due::NothingDue => return Ok(()),
         }
     }

@@ -26,7 +26,7 @@ fn write_layout<W: Write>(
 /// Writes the layout of a database, its journal with it, behind what the writer has. Where a write
 /// fails, takes nothing or stays interrupted, a front of the layout is there, and not all of it; a
 /// write that is interrupted is tried again, at most 1,000 times in a row. It takes no memory, and
-/// writes up to 8,192 bytes at a time. It does not flush the writer.
+/// writes up to 32,768 bytes at a time. It does not flush the writer.
 pub fn encode<W: Write>(database: &Database, out: &mut W) -> Result<(), WriteFault>
     ensures { Writes (W.contents out.old) (W.contents out.new) (layout database.now) result }
 {

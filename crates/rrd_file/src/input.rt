@@ -1,7 +1,7 @@
 //! The pieces of an input, one after another.
-ghost use Rattle.std.specs.Prelude.{◌≡◌, ◌+◌, ◌<◌, ◌≤◌, [], length, IfErr, IfOk, IfSome, OnOk, true, false};
+ghost use Rattle.std.specs.Prelude.{◌≡◌, ◌+◌, ◌^◌, ◌<◌, ◌≤◌, [], length, take, IfErr, IfOk, IfSome, OnOk, true, false};
 ghost use Rattle.rrd_file.specs.declared.fault.FileFault.TheVariants.{Read as ReadFault};
-ghost use Rattle.std.specs.Io.KnownBytes.{Keeps};
+ghost use Rattle.std.specs.Io.KnownBytes.{Consumes, Keeps};
 ghost use Rattle.rrd_file.specs.Inputs.{FindsEnd, IsCut, ReadsPiece, left};
 
 use crate::FileFault;
@@ -74,8 +74,15 @@ impl<R: Read + Drop> PieceReader<R> {
         Ok(count)
     }
 
-    // Waits until so many bytes came.
-    fn wait_for(&mut self, size: usize) -> Result<(), FileFault>
+    /// How many bytes came and wait to be taken.
+    pub(crate) fn waiting(&self) -> usize
+        ensures { result ≡ length self.now.waiting }
+    {
+        self.waiting.len()
+    }
+
+    /// Waits until so many bytes came, at most 97.
+    pub(crate) fn wait_for(&mut self, size: usize) -> Result<(), FileFault>
         requires { size ≤ 97 }
         ensures keeps { OnOk result (Keeps (left self.old) (left self.new)) }
         ensures at { OnOk result (self.new.at ≡ self.old.at) }
@@ -88,6 +95,25 @@ impl<R: Read + Drop> PieceReader<R> {
             }
         }
         Ok(())
+    }
+
+    /// The first bytes that came, so many.
+    pub(crate) fn front(&self, size: usize) -> &[u8]
+        requires { size ≤ length self.now.waiting }
+        ensures front { result.now ≡ take size self.now.waiting }
+        ensures size { length result.now ≡ size }
+    {
+        self.waiting.front(size)
+    }
+
+    /// Goes on behind the first bytes that came, so many.
+    pub(crate) fn skip(&mut self, size: usize)
+        requires { size ≤ length self.old.waiting }
+        ensures consumed { Consumes (left self.old) (left self.new) (take size self.old.waiting) }
+        ensures moved { self.new.at ≡ self.old.at + size }
+        ensures bounded { self.new.at < 2 ^ 64 }
+    {
+        self.waiting.skip(size);
     }
 
     /// Fills the piece, of at most 97 bytes.

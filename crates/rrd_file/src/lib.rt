@@ -12,6 +12,7 @@ mod input;
 pub mod laws;
 mod pieces;
 mod reading;
+mod spelling;
 
 pub use decoding::decode;
 pub use encoding::encode;

@@ -1,5 +1,7 @@
-//! The pieces that both the body and the entries have: preparations, and cells row by row.
-ghost use Rattle.std.specs.Prelude.{map};
+//! The pieces that both the body and the entries have: preparations, and cells row by row. And cells
+//! that are unknown, many at once.
+ghost use Rattle.std.specs.Prelude.{◌*◌, map, replicate};
+ghost use Rattle.rrd_fixed.specs.declared.cell.Cell.TheVariants.{Unknown};
 ghost use Rattle.rrd_spec.specs.Each.{parts_in};
 ghost use Rattle.rrd_file.specs.Gathered.{Gathers};
 ghost use Rattle.rrd_file.specs.Layout.{spelled};
@@ -35,6 +37,34 @@ pub(crate) fn write_row<W: Write>(
 {
     for i in 0..row.len() {
         write_cell(out, block, row[i])?;
+    }
+    Ok(())
+}
+
+// Writes four unknown cells so many times.
+fn write_fours<W: Write>(out: &mut W, block: &mut Block, count: u64) -> Result<(), WriteFault>
+    ensures { Gathers (W.contents out.old) block.old (W.contents out.new) block.new
+        (spelled (map OfCell (replicate (4 * count) Unknown))) result }
+{
+    for _ in 0..count {
+        block.make_room(out)?;
+        block.four_unknown();
+    }
+    Ok(())
+}
+
+/// Writes so many unknown cells, four at a time.
+pub(crate) fn write_unknown<W: Write>(
+    out: &mut W,
+    block: &mut Block,
+    count: u64,
+) -> Result<(), WriteFault>
+    ensures { Gathers (W.contents out.old) block.old (W.contents out.new) block.new
+        (spelled (map OfCell (replicate count Unknown))) result }
+{
+    write_fours(out, block, count / 4)?;
+    for _ in 0..count % 4 {
+        write_cell(out, block, Cell::Unknown)?;
     }
     Ok(())
 }

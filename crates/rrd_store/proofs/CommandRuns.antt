@@ -5,7 +5,7 @@ use Rattle.std.specs.Result.{result_err}
 use Rattle.rrd_spec.specs.Survivors.{State, Stored}
 use Rattle.rrd_tool.specs.Commands.{effect}
 use Rattle.rrd_tool.specs.Commands.Reading.{IsReading}
-use Rattle.rrd_tool.specs.Effects.{Changes, Effect, Makes, Reverts, Shows, is_change, kept_next, kept_of, next, text_on, verdict_on, StandsFor}
+use Rattle.rrd_tool.specs.Effects.{Changes, Effect, Makes, Reverts, Shows, is_change, stored_next, stored_of, next, text_on, verdict_on, StandsFor}
 use Rattle.rrd_tool.specs.Execution.{Comes}
 use Rattle.rrd_tool.specs.declared.commands.Command.{Command}
 use Rattle.rrd_tool.specs.declared.faults.Fault.{Fault}
@@ -53,22 +53,22 @@ comes_any verdict text e Moved Same c0 c1 changed (Some NoDatabase) h = (h.0, tt
 module _ (c0 c1 : Option (List ℕ)) (db : Option Stored) (changed : Bool) (fault : Option Fault) where
   -- over this database, whatever it was
   abbrev pub ComesOver : Option Stored → Effect → Type 0
-  ComesOver kept e = Comes (verdict_on kept e) (text_on kept e) e (db ≡ kept_next kept e) (Unit {0}) c0 c1 changed fault
+  ComesOver kept e = Comes (verdict_on kept e) (text_on kept e) e (db ≡ stored_next kept e) (Unit {0}) c0 c1 changed fault
 
-  comes_over : (e : Effect) (kept found : Option Stored) → found ≡ kept → Comes (verdict_on found e) (text_on found e) e (db ≡ kept_next found e) (db ≡ found) c0 c1 changed fault → ComesOver kept e
-  comes_over e kept found same h = subst (λ (k : Option Stored). ComesOver k e) same (comes_any (verdict_on found e) (text_on found e) e (db ≡ kept_next found e) (db ≡ found) c0 c1 changed fault h)
+  comes_over : (e : Effect) (kept found : Option Stored) → found ≡ kept → Comes (verdict_on found e) (text_on found e) e (db ≡ stored_next found e) (db ≡ found) c0 c1 changed fault → ComesOver kept e
+  comes_over e kept found same h = subst (λ (k : Option Stored). ComesOver k e) same (comes_any (verdict_on found e) (text_on found e) e (db ≡ stored_next found e) (db ≡ found) c0 c1 changed fault h)
 
   module _ (laws : Reading) (old : List ℕ) (s : Option State) (held : Holds old s) where
-    found_one : (found : Option Stored) → FindsOne (Some old) (Ok found) → found ≡ option_map kept_of s
+    found_one : (found : Option Stored) → FindsOne (Some old) (Ok found) → found ≡ option_map stored_of s
     found_one None f = absurd f
     found_one (Some d) f = found_is laws old s (Some d) held f
 
     -- what was found is the database of the state, or it isn't asked for
-    pub comes_in : (e : Effect) (found : Option Stored) → StartsBy e (Some old) (Ok found) → Comes (verdict_on found e) (text_on found e) e (db ≡ kept_next found e) (db ≡ found) c0 c1 changed fault → ComesOver (option_map kept_of s) e
-    comes_in (Makes spec) found f h = comes_any (verdict_on found (Makes spec)) (text_on found (Makes spec)) (Makes spec) (db ≡ kept_next found (Makes spec)) (db ≡ found) c0 c1 changed fault h
-    comes_in (Changes command) found f h = comes_over (Changes command) (option_map kept_of s) found (found_one found f) h
-    comes_in Reverts found f h = comes_over Reverts (option_map kept_of s) found (found_one found f) h
-    comes_in (Shows show) found f h = comes_over (Shows show) (option_map kept_of s) found (found_one found f) h
+    pub comes_in : (e : Effect) (found : Option Stored) → StartsBy e (Some old) (Ok found) → Comes (verdict_on found e) (text_on found e) e (db ≡ stored_next found e) (db ≡ found) c0 c1 changed fault → ComesOver (option_map stored_of s) e
+    comes_in (Makes spec) found f h = comes_any (verdict_on found (Makes spec)) (text_on found (Makes spec)) (Makes spec) (db ≡ stored_next found (Makes spec)) (db ≡ found) c0 c1 changed fault h
+    comes_in (Changes command) found f h = comes_over (Changes command) (option_map stored_of s) found (found_one found f) h
+    comes_in Reverts found f h = comes_over Reverts (option_map stored_of s) found (found_one found f) h
+    comes_in (Shows show) found f h = comes_over (Shows show) (option_map stored_of s) found (found_one found f) h
 
 -- ---- what is left of it
 
@@ -81,7 +81,7 @@ module _ (stays : Staying) (old new : List ℕ) (s : Option State) (held : Holds
 
   -- the database after it was written, or not
   changed_answers : (db : Option Stored) (end : Result (Unit {0}) TaskFault) → Leaves db (Some old) (Some new) end
-      → IsDone s e (next s e) × Appends c0 c1 (text_on (option_map kept_of s) e) → Answers s e (next s e) c0 c1 end
+      → IsDone s e (next s e) × Appends c0 c1 (text_on (option_map stored_of s) e) → Answers s e (next s e) c0 c1 end
   changed_answers db (Ok x) k h = h
   changed_answers db (Err task.CannotWrite) k h = h
   changed_answers db (Err task.CannotOpen) k h = absurd (let e = unleft old new db task.CannotOpen k in cc)
@@ -96,7 +96,7 @@ module _ (stays : Staying) (old new : List ℕ) (s : Option State) (held : Holds
       subst (λ (r : Result (Unit {0}) TaskFault). Answered r) (sym k.0) (s1, a, stays_held s1 same k.1)
 
   -- it was done
-  done : (db : Option Stored) (changed : Bool) (end : Result (Unit {0}) TaskFault) → ComesOver c0 c1 db changed None (option_map kept_of s) e
+  done : (db : Option Stored) (changed : Bool) (end : Result (Unit {0}) TaskFault) → ComesOver c0 c1 db changed None (option_map stored_of s) e
       → EndsBy None changed db (Some old) (Some new) end → Answered end
   done db true end h k =
       let valid = valid_held old s held in
@@ -104,15 +104,15 @@ module _ (stays : Staying) (old new : List ℕ) (s : Option State) (held : Holds
       (next s e, changed_answers db end k ((h.0, refl), h.3), left_after old new db (next s e) end moved (next_valid stays (old ≡ []) e s valid h.0) k)
   done db false (Ok x) h k = (next s e, ((h.0, refl), h.3), stays_held (next s e) (same_shown e s h.2) k)
   done db false (Err fault) h k =
-      let text = text_on (option_map kept_of s) e in
+      let text = text_on (option_map stored_of s) e in
       by_fault Output (next s e) (Err fault) (same_shown e s h.2) ((h.0, refl), (text, [], sym (append-nil text), h.3)) (ap (λ (f : TaskFault). Err f) k.0, k.1)
 
-  pub ended : (db : Option Stored) (changed : Bool) (fault : Option Fault) (end : Result (Unit {0}) TaskFault) → ComesOver c0 c1 db changed fault (option_map kept_of s) e
+  pub ended : (db : Option Stored) (changed : Bool) (fault : Option Fault) (end : Result (Unit {0}) TaskFault) → ComesOver c0 c1 db changed fault (option_map stored_of s) e
       → EndsBy fault changed db (Some old) (Some new) end → Answered end
   ended db changed None end h k = done db changed end h k
   ended db changed (Some Output) end h k =
       let print = h.3 in
-      by_fault Output (next s e) end (same_printed e s (option_map kept_of s) print.0 print.1 print.2 print.3) ((h.0, refl), (print.0, print.1 ∷ print.2, print.3, print.4)) k
+      by_fault Output (next s e) end (same_printed e s (option_map stored_of s) print.0 print.1 print.2 print.3) ((h.0, refl), (print.0, print.1 ∷ print.2, print.3, print.4)) k
   ended db changed (Some (Line fault)) end h k = by_fault (Line fault) s end refl (h.0, (refl, h.3)) k
   ended db changed (Some (Refused fault)) end h k = by_fault (Refused fault) s end refl (h.0, (refl, h.3)) k
   ended db changed (Some NoDatabase) end h k = by_fault NoDatabase s end refl (h.0, (refl, h.3)) k

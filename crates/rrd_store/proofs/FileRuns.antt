@@ -4,7 +4,7 @@ use Rattle.std.specs.List.{AllByRecursion}
 use Rattle.std.specs.Result.{result_err}
 use Rattle.rrd_spec.specs.Survivors.{State, Stored}
 use Rattle.rrd_file.specs.Layout.{layout}
-use Rattle.rrd_tool.specs.Effects.{StandsFor, kept_of}
+use Rattle.rrd_tool.specs.Effects.{StandsFor, stored_of}
 use Rattle.rrd_store.specs.Batch.{IsFileBatch, RunsLines, written}
 use Rattle.rrd_store.specs.Runs.{AnswersLines, ByBatch, ByCommand, ComputesAll, DidAll, Holds, IsFirst, IsLeft, IsWritten, MayStop, Run, RunIsComputed, RunsAreComputed, fault_of, fault_of_batch, first_of}
 use Rattle.rrd_store.specs.declared.batch.FileBatchEnd.{FileBatchEnd}
@@ -21,7 +21,7 @@ result_err_written None = refl
 result_err_written (Some fault) = refl
 
 module _ (stays : Staying) (laws : Reading) (old new : List ℕ) (s : Option State) (held : Holds old s) (now : ℕ) (r0 r1 c0 c1 : Option (List ℕ)) where
-  lines_computed : (found : Option Stored) (end : FileBatchEnd) → found ≡ option_map kept_of s → RunsLines now found (Some old) (Some new) r0 r1 c0 c1 end
+  lines_computed : (found : Option Stored) (end : FileBatchEnd) → found ≡ option_map stored_of s → RunsLines now found (Some old) (Some new) r0 r1 c0 c1 end
       → (s1 : Option State) × AnswersLines now s s1 r0 r1 c0 c1 (Ok end) × IsLeft old new s1 end.unstored
   lines_computed found end same h =
       let valid = valid_held old s held in
@@ -75,7 +75,7 @@ module _ (stays : Staying) (laws : Reading) where
   first_held bytes None h = h
   first_held bytes (Some d) h =
       let s : State = record { base = d.content; brought = d.journal; survivors = []; revertible = 0 } in
-      let same : d ≡ kept_of s = is_kept s d (stays.begins d.content d.journal h.valid) in
+      let same : d ≡ stored_of s = is_kept s d (stays.begins d.content d.journal h.valid) in
       (subst (λ (k : Stored). bytes ≡ layout k) same (file_layout laws bytes d h), first_valid stays d.content d.journal h.valid)
 
   pub runs_computed : (old : List ℕ) (first : Option Stored) (runs : List Run) (new : List ℕ) → RunsAreComputed old first runs new

@@ -12,7 +12,7 @@ use Rattle.rrd_file.specs.Pieces.{Piece, Mark, OfHeader, OfVersion, spell}
 use Rattle.rrd_file.specs.Stages.{Start, size}
 use Rattle.std.specs.List.{flat_map}
 use Rattle.std.specs.Result.{result_err}
-use Rattle.rrd_tool.specs.Effects.{StandsFor, kept_of}
+use Rattle.rrd_tool.specs.Effects.{StandsFor, stored_of}
 use Rattle.rrd_store.specs.Places.{Finds, Leaves}
 use Rattle.rrd_store.specs.Runs.{Holds, IsCut, IsLeft, IsUnread, MayStop}
 use Rattle.rrd_store.specs.declared.faults.TaskFault.{TaskFault}
@@ -64,11 +64,11 @@ fault_or or (Err fault) = fault
 
 module _ (laws : Reading) (bytes : List ℕ) where
   -- the answer to the bytes of a state
-  one_database : (s : State) → Holds bytes (Some s) → (x : Result Stored FileFault) → IsAnswer bytes x → IsOfFile x → x ≡ Ok (kept_of s)
-  one_database s h x a of = laws.no_other (kept_of s) h.1.1 x (subst (λ (b : List ℕ). IsAnswer b x) h.0 a) of
+  one_database : (s : State) → Holds bytes (Some s) → (x : Result Stored FileFault) → IsAnswer bytes x → IsOfFile x → x ≡ Ok (stored_of s)
+  one_database s h x a of = laws.no_other (stored_of s) h.1.1 x (subst (λ (b : List ℕ). IsAnswer b x) h.0 a) of
 
-  pub found_same : (s : State) (d : Stored) → Holds bytes (Some s) → IsFile bytes d → d ≡ kept_of s
-  found_same s d h file = ap (database_or (kept_of s)) (one_database s h (Ok d) file tt)
+  pub found_same : (s : State) (d : Stored) → Holds bytes (Some s) → IsFile bytes d → d ≡ stored_of s
+  found_same s d h file = ap (database_or (stored_of s)) (one_database s h (Ok d) file tt)
 
   unread : (s : Option State) (fault : FileFault) → Holds bytes s → IsAnswer bytes (Err fault) → IsUnread s fault
   unread None fault h a = λ of.
@@ -85,10 +85,10 @@ module _ (laws : Reading) (bytes : List ℕ) where
   may_stop s (Stream fault) h f = absurd f
 
   -- the database that was found
-  pub found_is : (s : Option State) (found : Option Stored) → Holds bytes s → Finds (Some bytes) (Ok found) → found ≡ option_map kept_of s
+  pub found_is : (s : Option State) (found : Option Stored) → Holds bytes s → Finds (Some bytes) (Ok found) → found ≡ option_map stored_of s
   found_is None None h f = refl
   found_is None (Some d) h f = absurd (no_file laws bytes d h f)
-  found_is (Some s) None h f = absurd (some_layout One (kept_of s) (sym h.0 ∙ f))
+  found_is (Some s) None h f = absurd (some_layout One (stored_of s) (sym h.0 ∙ f))
   found_is (Some s) (Some d) h f = ap (λ (k : Stored). Some k) (found_same s d h f)
 
 -- ---- what is left

@@ -14,7 +14,7 @@ use Rattle.rrd_file.specs.Laws.{IsValidStored}
 use Rattle.rrd_tool.specs.Batch.{Ran, Stopped, Told, state_after}
 use Rattle.rrd_tool.specs.Batch.Turns.{RunOver, command_of, reading_turn, text_turn, turn, verdict_turn, words_turn}
 use Rattle.rrd_tool.specs.Commands.{effect}
-use Rattle.rrd_tool.specs.Effects.{Changes, Effect, Makes, Reverts, Shows, StandsFor, kept_next, kept_of, next, verdict_on}
+use Rattle.rrd_tool.specs.Effects.{Changes, Effect, Makes, Reverts, Shows, StandsFor, stored_next, stored_of, next, verdict_on}
 use Rattle.rrd_tool.specs.Lines.{text_in, words_of}
 use Rattle.rrd_tool.specs.declared.batch.StreamFault.{StreamFault}
 use Rattle.rrd_tool.specs.declared.batch.StreamFault.TheVariants as stream
@@ -39,7 +39,7 @@ Valid None_is (Some s) = IsValidState s
 
 -- ---- the database of a state
 
-pub is_kept : (s : State) (d : Stored) → Stands s d → d ≡ kept_of s
+pub is_kept : (s : State) (d : Stored) → Stands s d → d ≡ stored_of s
 is_kept s d h = λ i. record { content = h.content_is i; journal = h.journal_is i }
 
 pub valid_state : (s : State) (d : Stored) → Stands s d → IsValidStored d → IsValidState s
@@ -62,12 +62,12 @@ valid_by N None (Some s) h v = absurd h
 valid_by N (Some d) None h v = absurd h
 valid_by N (Some d) (Some s) h v = valid_state s d h v
 
-kept_valid : (N : Type 0) (s : Option State) → Valid N s → ValidKept N (option_map kept_of s)
+kept_valid : (N : Type 0) (s : Option State) → Valid N s → ValidKept N (option_map stored_of s)
 kept_valid N None v = v
 kept_valid N (Some s) v = v.1
 
 -- the database of a state stands for it
-pub kept_stands : (N : Type 0) (s : Option State) → Valid N s → StandsFor (option_map kept_of s) s
+pub kept_stands : (N : Type 0) (s : Option State) → Valid N s → StandsFor (option_map stored_of s) s
 kept_stands N None v = tt
 kept_stands N (Some s) v = v.0
 
@@ -80,7 +80,7 @@ module _ (laws : Staying) where
   first_valid base brought v = valid_state (record { base = base; brought = brought; survivors = []; revertible = 0 }) (record { content = base; journal = brought }) (laws.begins base brought v) v
 
   -- what is accepted leads on
-  stands_next : (e : Effect) (kept : Option Stored) (s : Option State) → verdict_on kept e ≡ None → StandsFor kept s → StandsFor (kept_next kept e) (next s e)
+  stands_next : (e : Effect) (kept : Option Stored) (s : Option State) → verdict_on kept e ≡ None → StandsFor kept s → StandsFor (stored_next kept e) (next s e)
   stands_next (Makes spec) kept s h k = laws.begins (created spec) [] (created_valid spec (no_refusal (create_verdict spec) h))
   stands_next (Changes command) None s h k = absurd cc
   stands_next Reverts None s h k = absurd cc
@@ -96,30 +96,30 @@ module _ (laws : Staying) where
   stands_next (Shows show) (Some d) (Some s) h k = k
 
   module _ (N : Type 0) where
-    stored_next : (e : Effect) (kept : Option Stored) → verdict_on kept e ≡ None → ValidKept N kept → ValidKept N (kept_next kept e)
-    stored_next (Makes spec) kept h v = created_valid spec (no_refusal (create_verdict spec) h)
-    stored_next (Changes command) None h v = absurd cc
-    stored_next Reverts None h v = absurd cc
-    stored_next (Shows show) None h v = absurd cc
-    stored_next (Changes command) (Some d) h v = laws.changed d.content d.journal command v (no_refusal (verdict d.content command) h)
-    stored_next Reverts (Some d) h v = laws.reverted d.content d.journal v
-    stored_next (Shows show) (Some d) h v = v
+    next_is_stored : (e : Effect) (kept : Option Stored) → verdict_on kept e ≡ None → ValidKept N kept → ValidKept N (stored_next kept e)
+    next_is_stored (Makes spec) kept h v = created_valid spec (no_refusal (create_verdict spec) h)
+    next_is_stored (Changes command) None h v = absurd cc
+    next_is_stored Reverts None h v = absurd cc
+    next_is_stored (Shows show) None h v = absurd cc
+    next_is_stored (Changes command) (Some d) h v = laws.changed d.content d.journal command v (no_refusal (verdict d.content command) h)
+    next_is_stored Reverts (Some d) h v = laws.reverted d.content d.journal v
+    next_is_stored (Shows show) (Some d) h v = v
 
     -- the database of the state goes to that of the next one
-    pub next_stands : (e : Effect) (s : Option State) → Valid N s → verdict_on (option_map kept_of s) e ≡ None → StandsFor (kept_next (option_map kept_of s) e) (next s e)
-    next_stands e s v h = stands_next e (option_map kept_of s) s h (kept_stands N s v)
+    pub next_stands : (e : Effect) (s : Option State) → Valid N s → verdict_on (option_map stored_of s) e ≡ None → StandsFor (stored_next (option_map stored_of s) e) (next s e)
+    next_stands e s v h = stands_next e (option_map stored_of s) s h (kept_stands N s v)
 
-    pub next_valid : (e : Effect) (s : Option State) → Valid N s → verdict_on (option_map kept_of s) e ≡ None → Valid N (next s e)
-    next_valid e s v h = valid_by N (kept_next (option_map kept_of s) e) (next s e) (next_stands e s v h) (stored_next e (option_map kept_of s) h (kept_valid N s v))
+    pub next_valid : (e : Effect) (s : Option State) → Valid N s → verdict_on (option_map stored_of s) e ≡ None → Valid N (next s e)
+    next_valid e s v h = valid_by N (stored_next (option_map stored_of s) e) (next s e) (next_stands e s v h) (next_is_stored e (option_map stored_of s) h (kept_valid N s v))
 
     -- ---- a line
 
-    verdict_valid : (s : Option State) (e : Effect) (fault : Option Fault) → verdict_on (option_map kept_of s) e ≡ fault → Valid N s → Valid N (verdict_turn s e fault).state
+    verdict_valid : (s : Option State) (e : Effect) (fault : Option Fault) → verdict_on (option_map stored_of s) e ≡ fault → Valid N s → Valid N (verdict_turn s e fault).state
     verdict_valid s e (Some fault) h v = v
     verdict_valid s e None h v = next_valid e s v h
 
     reading_valid : (s : Option State) (read : Result Command LineFault) → Valid N s → Valid N (reading_turn s read).state
-    reading_valid s (Ok command) v = verdict_valid s (effect command) (verdict_on (option_map kept_of s) (effect command)) refl v
+    reading_valid s (Ok command) v = verdict_valid s (effect command) (verdict_on (option_map stored_of s) (effect command)) refl v
     reading_valid s (Err fault) v = v
 
     words_valid : (now : ℕ) (s : Option State) (words : List (List ℕ)) (is_short : Bool) → Valid N s → Valid N (words_turn now s words is_short).state

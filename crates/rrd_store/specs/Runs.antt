@@ -12,7 +12,7 @@ use Rattle.rrd_spec.specs.Survivors.{State, Stored, Stands}
 use Rattle.rrd_tool.specs.Batch.Turns.{RunOver}
 use Rattle.rrd_tool.specs.Commands.{effect}
 use Rattle.rrd_tool.specs.Commands.Reading.{IsReading}
-use Rattle.rrd_tool.specs.Effects.{Effect, Makes, Changes, Reverts, Shows, kept_of, next, text_on, verdict_on}
+use Rattle.rrd_tool.specs.Effects.{Effect, Makes, Changes, Reverts, Shows, stored_of, next, text_on, verdict_on}
 use Rattle.rrd_tool.specs.Execution.{IsFault}
 use Rattle.rrd_tool.specs.declared.commands.Command.{Command}
 use Rattle.rrd_tool.specs.declared.faults.Fault.{Fault}
@@ -76,20 +76,20 @@ IsWritten run = fault_of run ≢ Some task.CannotWrite
 -- the database that a state's survivors make, with the journal of those that can be reverted and of what was brought,
 -- stands for the state, and is within the limits
 abbrev pub IsValidState : State → Type 0
-IsValidState s = Stands s (kept_of s) × IsValidStored (kept_of s)
+IsValidState s = Stands s (stored_of s) × IsValidStored (stored_of s)
 
 -- the file has the layout of that database, and no byte where there is none. What survived, how many of these can be
 -- reverted and what was brought say every byte of it
 abbrev pub Holds : List ℕ → Option State → Type 0
 Holds bytes None = bytes ≡ []
-Holds bytes (Some s) = (bytes ≡ layout (kept_of s)) × IsValidState s
+Holds bytes (Some s) = (bytes ≡ layout (stored_of s)) × IsValidState s
 
 -- the file after a write that failed: its bytes are those from before, or a front of the new ones and not all
 abbrev pub IsCut : List ℕ → List ℕ → Option State → Type 0
 IsCut old new None = ⊥
 IsCut old new (Some s) =
     (new ≡ old)
-    ⊎ ((front : List ℕ) × (next : ℕ) × (rest : List ℕ) × (layout (kept_of s) ≡ front ++ next ∷ rest) × (new ≡ front))
+    ⊎ ((front : List ℕ) × (next : ℕ) × (rest : List ℕ) × (layout (stored_of s) ≡ front ++ next ∷ rest) × (new ≡ front))
 
 -- the file after a run that led to this state, by the fault that it ended with
 abbrev pub IsLeft : List ℕ → List ℕ → Option State → Option TaskFault → Type 0
@@ -132,15 +132,15 @@ PrintsFront c0 c1 text = (front : List ℕ) × (unwritten : List ℕ) × (text �
 
 -- the command is accepted, and leads to the next state
 abbrev pub IsDone : Option State → Effect → Option State → Type 0
-IsDone s e s1 = (verdict_on (option_map kept_of s) e ≡ None) × (s1 ≡ next s e)
+IsDone s e s1 = (verdict_on (option_map stored_of s) e ≡ None) × (s1 ≡ next s e)
 
 -- refused by the verdict, or accepted and memory was wanting
 abbrev pub IsRefused : Option State → Effect → Fault → Option State → Option (List ℕ) → Option (List ℕ) → Type 0
-IsRefused s e fault s1 c0 c1 = IsFault (verdict_on (option_map kept_of s) e) e fault × IsNothing s s1 c0 c1
+IsRefused s e fault s1 c0 c1 = IsFault (verdict_on (option_map stored_of s) e) e fault × IsNothing s s1 c0 c1
 
 -- a command of this effect that ends by a fault of its own. Where its output failed it was done
 abbrev pub Fails : Option State → Effect → Fault → Option State → Option (List ℕ) → Option (List ℕ) → Type 0
-Fails s e Output s1 c0 c1 = IsDone s e s1 × PrintsFront c0 c1 (text_on (option_map kept_of s) e)
+Fails s e Output s1 c0 c1 = IsDone s e s1 × PrintsFront c0 c1 (text_on (option_map stored_of s) e)
 Fails s e (Refused refusal) s1 c0 c1 = IsRefused s e (Refused refusal) s1 c0 c1
 Fails s e NoDatabase s1 c0 c1 = IsRefused s e NoDatabase s1 c0 c1
 Fails s e (Line fault) s1 c0 c1 = IsRefused s e (Line fault) s1 c0 c1
@@ -152,11 +152,11 @@ Stops s e fault s1 c0 c1 = ReadsFile e × MayStop s fault × IsNothing s s1 c0 c
 -- a command of this effect in any of its ends. Where the file could not be written it was done too
 abbrev pub Answers : Option State → Effect → Option State → Option (List ℕ) → Option (List ℕ)
     → Result (Unit {0}) TaskFault → Type 0
-Answers s e s1 c0 c1 (Ok x) = IsDone s e s1 × Appends c0 c1 (text_on (option_map kept_of s) e)
+Answers s e s1 c0 c1 (Ok x) = IsDone s e s1 × Appends c0 c1 (text_on (option_map stored_of s) e)
 Answers s e s1 c0 c1 (Err (task.Command fault)) = Fails s e fault s1 c0 c1
 Answers s e s1 c0 c1 (Err (task.File fault)) = Stops s e (task.File fault) s1 c0 c1
 Answers s e s1 c0 c1 (Err task.CannotOpen) = Stops s e task.CannotOpen s1 c0 c1
-Answers s e s1 c0 c1 (Err task.CannotWrite) = IsDone s e s1 × Appends c0 c1 (text_on (option_map kept_of s) e)
+Answers s e s1 c0 c1 (Err task.CannotWrite) = IsDone s e s1 × Appends c0 c1 (text_on (option_map stored_of s) e)
 Answers s e s1 c0 c1 (Err (task.Stream fault)) = ⊥
 
 -- what was read of the words; nothing comes of words that are no command

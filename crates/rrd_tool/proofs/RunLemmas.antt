@@ -14,7 +14,7 @@ use Rattle.rrd_spec.specs.Laws.{ActsOn, Begins}
 use Rattle.clap.specs.Words.{fault_of}
 use Rattle.rrd_fixed.specs.Writing.{Appends-kept}
 use Rattle.rrd_tool.specs.Batch.{Turn}
-use Rattle.rrd_tool.specs.Effects.{Effect, Makes, Changes, Reverts, Shows, StandsFor, is_change, kept_next, kept_of, next, revert_verdict, text_on, verdict_on, first_state}
+use Rattle.rrd_tool.specs.Effects.{Effect, Makes, Changes, Reverts, Shows, StandsFor, is_change, stored_next, stored_of, next, revert_verdict, text_on, verdict_on, first_state}
 use Rattle.rrd_tool.specs.Execution.{Affects, Comes, IsFault}
 use Rattle.rrd_tool.specs.Batch.States.{Performs}
 use Rattle.rrd_tool.specs.Execution.Printing.{Prints, PrintsBy}
@@ -35,7 +35,7 @@ use Rattle.rrd_tool.specs.declared.faults.Fault.TheVariants.{Line, Refused, NoDa
 -- ---- the database
 
 -- the database is the one that the state makes
-pub stands_kept : (kept : Option Stored) (state : Option State) → StandsFor kept state → kept ≡ option_map kept_of state
+pub stands_kept : (kept : Option Stored) (state : Option State) → StandsFor kept state → kept ≡ option_map stored_of state
 stands_kept None None h = refl
 stands_kept None (Some state) h = absurd h
 stands_kept (Some kept) None h = absurd h
@@ -62,7 +62,7 @@ module _ (created_is_valid : (spec : CreateSpec) → CreatedIsValid spec) (datab
   created_stands spec h = database_begins (created spec) [] (record { content_is = created_is_valid spec h; journal_is = tt; few = omega arith })
 
   -- what is accepted keeps it so
-  pub stands_next : (effect : Effect) (kept : Option Stored) (state : Option State) → verdict_on kept effect ≡ None → StandsFor kept state → StandsFor (kept_next kept effect) (next state effect)
+  pub stands_next : (effect : Effect) (kept : Option Stored) (state : Option State) → verdict_on kept effect ≡ None → StandsFor kept state → StandsFor (stored_next kept effect) (next state effect)
   stands_next (Makes spec) kept state h s = created_stands spec (no_refusal (create_verdict spec) h)
   stands_next (Changes command) None state h s = absurd cc
   stands_next Reverts None state h s = absurd cc
@@ -79,11 +79,11 @@ module _ (created_is_valid : (spec : CreateSpec) → CreatedIsValid spec) (datab
 
   -- a command over the database is the command of the run
   pub runs_on : (effect : Effect) (kept kept1 : Option Stored) (state : Option State) (c0 c1 : Option (List ℕ)) (changed : Bool) (fault : Option Fault) → StandsFor kept state
-      → Comes (verdict_on kept effect) (text_on kept effect) effect (kept1 ≡ kept_next kept effect) (kept1 ≡ kept) c0 c1 changed fault
-      → Comes (verdict_on (option_map kept_of state) effect) (text_on (option_map kept_of state) effect) effect (StandsFor kept1 (next state effect)) (StandsFor kept1 state) c0 c1 changed fault
+      → Comes (verdict_on kept effect) (text_on kept effect) effect (kept1 ≡ stored_next kept effect) (kept1 ≡ kept) c0 c1 changed fault
+      → Comes (verdict_on (option_map stored_of state) effect) (text_on (option_map stored_of state) effect) effect (StandsFor kept1 (next state effect)) (StandsFor kept1 state) c0 c1 changed fault
   runs_on effect kept kept1 state c0 c1 changed fault s h =
       let Here : Option Stored → Type 0 = λ k. Comes (verdict_on k effect) (text_on k effect) effect (StandsFor kept1 (next state effect)) (StandsFor kept1 state) c0 c1 changed fault in
-      let here : Here kept = comes_as (verdict_on kept effect) (text_on kept effect) effect (kept1 ≡ kept_next kept effect) (StandsFor kept1 (next state effect)) (kept1 ≡ kept) (StandsFor kept1 state) c0 c1 changed fault
+      let here : Here kept = comes_as (verdict_on kept effect) (text_on kept effect) effect (kept1 ≡ stored_next kept effect) (StandsFor kept1 (next state effect)) (kept1 ≡ kept) (StandsFor kept1 state) c0 c1 changed fault
       (λ accepted moved. subst (λ (k : Option Stored). StandsFor k (next state effect)) (sym moved) (stands_next effect kept state accepted s))
       (λ same. subst (λ (k : Option Stored). StandsFor k state) (sym same) s)
       h in
@@ -96,28 +96,28 @@ effect_turns state effect is_short = unless_short state (effect_turn state effec
 
 module _ (state : Option State) (effect : Effect) (kept1 : Option Stored) (c0 c1 : Option (List ℕ)) (changed : Bool) where
   abbrev ComesTo : Option Fault → Type 0
-  ComesTo fault = Comes (verdict_on (option_map kept_of state) effect) (text_on (option_map kept_of state) effect) effect (StandsFor kept1 (next state effect)) (StandsFor kept1 state) c0 c1 changed fault
+  ComesTo fault = Comes (verdict_on (option_map stored_of state) effect) (text_on (option_map stored_of state) effect) effect (StandsFor kept1 (next state effect)) (StandsFor kept1 state) c0 c1 changed fault
 
   abbrev Performed : Option (List ℕ) → Result (Option Fault) WriteFault → Type 0
   Performed c2 r = (s1 : Option State) × StandsFor kept1 s1 × Performs fault_line (effect_turns state effect) s1 c0 c2 r
 
   -- it was done
   pub done_performs : ComesTo None → Performed c1 (Ok None)
-  done_performs h = (next state effect, h.1, (text_on (option_map kept_of state) effect, rw h.0 refl, h.3))
+  done_performs h = (next state effect, h.1, (text_on (option_map stored_of state) effect, rw h.0 refl, h.3))
 
   -- it was done, and what it printed was handed on
   pub flushed_performs : (c2 : Option (List ℕ)) → ComesTo None → Keeps c1 c2 → Performed c2 (Ok None)
-  flushed_performs c2 h k = (next state effect, h.1, (text_on (option_map kept_of state) effect, rw h.0 refl, Appends-kept c0 c1 c2 (text_on (option_map kept_of state) effect) h.3 k))
+  flushed_performs c2 h k = (next state effect, h.1, (text_on (option_map stored_of state) effect, rw h.0 refl, Appends-kept c0 c1 c2 (text_on (option_map stored_of state) effect) h.3 k))
 
   -- it was done, and handing on what it printed failed
   pub unflushed_performs : (c2 : Option (List ℕ)) (e : WriteFault) → ComesTo None → Keeps c1 c2 → Performed c2 (Err e)
-  unflushed_performs c2 e h k = (next state effect, h.1, (text_on (option_map kept_of state) effect, rw h.0 refl, (text_on (option_map kept_of state) effect, [], sym (append-nil (text_on (option_map kept_of state) effect)), Appends-kept c0 c1 c2 (text_on (option_map kept_of state) effect) h.3 k)))
+  unflushed_performs c2 e h k = (next state effect, h.1, (text_on (option_map stored_of state) effect, rw h.0 refl, (text_on (option_map stored_of state) effect, [], sym (append-nil (text_on (option_map stored_of state) effect)), Appends-kept c0 c1 c2 (text_on (option_map stored_of state) effect) h.3 k)))
 
   -- it was done, and a write failed
   pub unwritten_performs : (e : WriteFault) → ComesTo (Some Output) → Performed c1 (Err e)
-  unwritten_performs e h = (next state effect, h.1, (text_on (option_map kept_of state) effect, rw h.0 refl, (h.3.0, h.3.1 ∷ h.3.2, h.3.3, h.3.4)))
+  unwritten_performs e h = (next state effect, h.1, (text_on (option_map stored_of state) effect, rw h.0 refl, (h.3.0, h.3.1 ∷ h.3.2, h.3.3, h.3.4)))
 
-  fault_performs : (fault : Fault) → IsFault (verdict_on (option_map kept_of state) effect) effect fault → StandsFor kept1 state → Keeps c0 c1 → Performed c1 (Ok (Some fault))
+  fault_performs : (fault : Fault) → IsFault (verdict_on (option_map stored_of state) effect) effect fault → StandsFor kept1 state → Keeps c0 c1 → Performed c1 (Ok (Some fault))
   fault_performs fault h s k = elim h [
     | inl e ↦ (state, s, (false, rw e refl, k))
     | inr short ↦ (state, s, (true, ap (λ (f : Fault). refusal_turn state f) (sym short.1), k))
@@ -212,7 +212,7 @@ pub shown_comes : (kept : Stored) (show : Stored → Result (List ℕ) Refusal) 
     → show kept ≡ Ok text → Prints kept c0 c1 text outcome → Affects (Some kept) (Shows show) c0 c1 outcome
 shown_comes kept show text c0 c1 outcome e p =
     prints_comes (verdict_on (Some kept) (Shows show)) (text_on (Some kept) (Shows show)) (Shows show)
-    (outcome.database ≡ kept_next (Some kept) (Shows show)) (outcome.database ≡ Some kept) c0 c1 outcome.changed outcome.fault
+    (outcome.database ≡ stored_next (Some kept) (Shows show)) (outcome.database ≡ Some kept) c0 c1 outcome.changed outcome.fault
     (rw e refl) p.0 p.1 (rw e p.2)
 
 -- ---- what prints nothing

@@ -61,17 +61,17 @@ takes_memory Reverts = false
 takes_memory (Shows show) = false
 
 -- the database after it, where it is accepted
-abbrev pub kept_next : Option Stored → Effect → Option Stored
-kept_next kept (Makes spec) = Some (record { content = created spec; journal = [] })
-kept_next kept (Changes command) = option_map (λ (k : Stored). changed k command) kept
-kept_next kept Reverts = option_map (λ (k : Stored). reverted k.content k.journal) kept
-kept_next kept (Shows show) = kept
+abbrev pub stored_next : Option Stored → Effect → Option Stored
+stored_next kept (Makes spec) = Some (record { content = created spec; journal = [] })
+stored_next kept (Changes command) = option_map (λ (k : Stored). changed k command) kept
+stored_next kept Reverts = option_map (λ (k : Stored). reverted k.content k.journal) kept
+stored_next kept (Shows show) = kept
 
 -- ---- in a run
 
 -- the content and the journal that the survivors make
-abbrev pub kept_of : State → Stored
-kept_of state = record { content = survived state.base state.survivors; journal = journal_of state }
+abbrev pub stored_of : State → Stored
+stored_of state = record { content = survived state.base state.survivors; journal = journal_of state }
 
 -- a new base: nothing survives on it yet
 abbrev pub first_state : Content → State

@@ -5,7 +5,7 @@ use Rattle.rrd_fixed.specs.Written.{AppendsFront}
 use Rattle.rrd_spec.specs.declared.refusal.Refusal.TheVariants as refusal
 use Rattle.rrd_spec.specs.Survivors.{State, Stored}
 use Rattle.rrd_tool.specs.Commands.{effect}
-use Rattle.rrd_tool.specs.Effects.{Effect, StandsFor, is_change, kept_next, kept_of, next, takes_memory, text_on, verdict_on}
+use Rattle.rrd_tool.specs.Effects.{Effect, StandsFor, is_change, stored_next, stored_of, next, takes_memory, text_on, verdict_on}
 use Rattle.rrd_tool.specs.declared.commands.Command.{Command}
 use Rattle.rrd_tool.specs.declared.faults.Fault.{Fault}
 use Rattle.rrd_tool.specs.declared.faults.Fault.TheVariants.{Line, Refused, NoDatabase, Output}
@@ -37,7 +37,7 @@ Comes verdict text effect Moved Same c0 c1 changed (Some NoDatabase) =
 -- a command of this effect over a database of this content and journal
 abbrev pub Affects : Option Stored → Effect → Option (List ℕ) → Option (List ℕ) → Outcome → Type 0
 Affects kept effect c0 c1 outcome =
-    Comes (verdict_on kept effect) (text_on kept effect) effect (outcome.database ≡ kept_next kept effect)
+    Comes (verdict_on kept effect) (text_on kept effect) effect (outcome.database ≡ stored_next kept effect)
     (outcome.database ≡ kept) c0 c1 outcome.changed outcome.fault
 
 -- the command over a database of this content and journal
@@ -47,7 +47,7 @@ Executes kept command c0 c1 outcome = Affects kept (effect command) c0 c1 outcom
 -- a command of this effect in a run that reached this state
 abbrev pub AffectsIn : Option State → Effect → Option (List ℕ) → Option (List ℕ) → Outcome → Type 0
 AffectsIn state effect c0 c1 outcome =
-    Comes (verdict_on (option_map kept_of state) effect) (text_on (option_map kept_of state) effect) effect
+    Comes (verdict_on (option_map stored_of state) effect) (text_on (option_map stored_of state) effect) effect
     (StandsFor outcome.database (next state effect)) (StandsFor outcome.database state)
     c0 c1 outcome.changed outcome.fault
 

@@ -1,5 +1,5 @@
 //! The pieces of the body, one by one.
-ghost use Rattle.std.specs.Prelude.{◌≡◌, ◌^◌, ◌<◌, ℕ, List, OnOk};
+ghost use Rattle.std.specs.Prelude.{◌≡◌, ◌^◌, ◌<◌, ◌≤◌, ℕ, List, length, OnOk};
 ghost use Rattle.rrd_spec.specs.Rebuilding.{due};
 ghost use Rattle.rrd_spec.specs.declared.due.Due.TheVariants.{CellDue, HeadDue, PrepDue, SourceDue};
 ghost use Rattle.rrd_spec.specs.declared.settings.RraDef.{RraDef};
@@ -11,8 +11,11 @@ use super::faults::block_fault;
 use crate::FileFault;
 use crate::input::PieceReader;
 use crate::reading::{SourceRead, archive_of, cell_of, part_of, source_of};
-use rrd_base::Rebuild;
+use rrd_base::{Due, Rebuild};
 use std::io::Read;
+
+/// The bytes of a cell.
+const CELL: usize = 16;
 
 /// Reads a data source, with its last raw value and its preparation.
 pub(super) fn source<R: Read + Drop>(
@@ -86,8 +89,25 @@ pub(super) fn prep<R: Read + Drop>(
     }
 }
 
-/// Reads a cell.
-pub(super) fn cell<R: Read + Drop>(
+// Reads a cell that waits. It is looked at where it waits, and left once the database took it.
+fn cell<R: Read + Drop>(input: &mut PieceReader<R>, build: &mut Rebuild) -> Result<(), FileFault>
+    requires is_due { due build.old ≡ CellDue }
+    requires waits { 16 ≤ length input.old.waiting }
+    ensures steps { (bytes : List ℕ) → Stands bytes (Body build.old) input.old
+        → Reaches bytes (λ x. Body build.new) input.new result }
+    ensures moved { OnOk result (Advances input.old input.new) }
+{
+    let (cell, _) = cell_of(input.front(CELL));
+    let came = build.cell(cell);
+    input.skip(CELL);
+    match came {
+        Ok(()) => Ok(()),
+        Err(fault) => Err(block_fault(fault, input.at() - CELL as u64)),
+    }
+}
+
+/// Reads a cell, and those behind it that came with it.
+pub(super) fn cells<R: Read + Drop>(
     input: &mut PieceReader<R>,
     build: &mut Rebuild,
 ) -> Result<(), FileFault>
@@ -96,12 +116,12 @@ pub(super) fn cell<R: Read + Drop>(
         → Reaches bytes (λ x. Body build.new) input.new result }
     ensures moved { OnOk result (Advances input.old input.new) }
 {
-    let at = input.at();
-    let mut piece = [0u8; 16];
-    input.piece(&mut piece)?;
-    let (cell, _) = cell_of(&piece);
-    match build.cell(cell) {
-        Ok(()) => Ok(()),
-        Err(fault) => Err(block_fault(fault, at)),
+    input.wait_for(CELL)?;
+    while input.waiting() >= CELL {
+        let Due::CellDue = build.due() else {
+            return Ok(());
+        };
+        cell(input, build)?;
     }
+    Ok(())
 }

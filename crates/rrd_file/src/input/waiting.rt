@@ -1,5 +1,5 @@
 //! Bytes that came and wait to be taken.
-ghost use Rattle.std.specs.Prelude.{◌≡◌, ◌+◌, ◌++◌, ◌<◌, ◌≤◌, [], length, IfOk, OnErr};
+ghost use Rattle.std.specs.Prelude.{◌≡◌, ◌+◌, ◌++◌, ◌<◌, ◌≤◌, [], length, take, drop, IfOk, OnErr};
 ghost use Rattle.std.specs.Io.KnownBytes.{IsAtEnd, Keeps, prepend_known};
 
 use rrd_fixed::{ReadFault, read_some};
@@ -50,6 +50,23 @@ impl Waiting {
         ensures few { result ≤ 65536 }
     {
         self.end - self.from
+    }
+
+    /// The first bytes, so many.
+    pub(crate) fn front(&self, size: usize) -> &[u8]
+        requires { size ≤ length self.now }
+        ensures front { result.now ≡ take size self.now }
+        ensures size { length result.now ≡ size }
+    {
+        &self.bytes[self.from..self.from + size]
+    }
+
+    /// Goes on behind the first bytes, so many.
+    pub(crate) fn skip(&mut self, size: usize)
+        requires { size ≤ length self.old }
+        ensures { self.new ≡ drop size self.old }
+    {
+        self.from += size;
     }
 
     /// Takes the first bytes, as many as the piece has.

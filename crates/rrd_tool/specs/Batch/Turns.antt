@@ -5,7 +5,7 @@ use Rattle.clap.specs.Words.{fault_of}
 use Rattle.rrd_spec.specs.Survivors.{State}
 use Rattle.rrd_tool.specs.Batch.{Told, Turn, Ran, Stopped}
 use Rattle.rrd_tool.specs.Commands.{effect}
-use Rattle.rrd_tool.specs.Effects.{Effect, kept_of, next, text_on, verdict_on}
+use Rattle.rrd_tool.specs.Effects.{Effect, stored_of, next, text_on, verdict_on}
 use Rattle.rrd_tool.specs.Faults.{fault_line}
 use Rattle.rrd_tool.specs.Lines.{is_empty, lines_of, text_in, whole_lines, words_of}
 use Rattle.rrd_tool.specs.Commands.Reading.{reading}
@@ -38,10 +38,10 @@ refusal_turn state fault = record { state = state; text = fault_line fault; is_f
 abbrev pub verdict_turn : Option State → Effect → Option Fault → Turn (Option State)
 verdict_turn state effect (Some fault) = refusal_turn state fault
 verdict_turn state effect None =
-    record { state = next state effect; text = text_on (option_map kept_of state) effect; is_fault = false }
+    record { state = next state effect; text = text_on (option_map stored_of state) effect; is_fault = false }
 
 abbrev pub effect_turn : Option State → Effect → Turn (Option State)
-effect_turn state effect = verdict_turn state effect (verdict_on (option_map kept_of state) effect)
+effect_turn state effect = verdict_turn state effect (verdict_on (option_map stored_of state) effect)
 
 abbrev pub command_turn : Option State → Command → Turn (Option State)
 command_turn state command = effect_turn state (effect command)

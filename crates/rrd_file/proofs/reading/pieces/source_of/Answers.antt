@@ -2,7 +2,7 @@ use Rattle.std.proofs.Common.{◌∙◌, sym, rules, to_z-of_z, FitsSigned}
 use Rattle.std.specs.Int.{w128}
 use Rattle.rrd_spec.specs.Filed.{Source}
 use Rattle.rrd_file.proofs.ReadBack.{source_back, source_said}
-use Rattle.rrd_file.proofs.reading.parts.source_of.Goals as goal
+use Rattle.rrd_file.proofs.reading.pieces.source_of.Goals as goal
 
 pub returns-in_default-clause-none : goal.returns-in_default-clause-none
 returns-in_default-clause-none c = λ r source fits e. c.def_of.ensures.none (search rules) source.def fits.def (source_said c.args.bytes.now source c.requires fits e ∙ sym c.split_at.ensures.front)

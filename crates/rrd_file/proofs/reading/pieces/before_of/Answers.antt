@@ -1,7 +1,7 @@
 use Rattle.std.proofs.Common.{◌≡◌, ◌+◌, length, arith, rules, to_z-of_z, FitsSigned}
 use Rattle.std.specs.Int.{w128}
 use Rattle.rrd_file.proofs.ReadBack.{before_back}
-use Rattle.rrd_file.proofs.reading.parts.before_of.Goals as goal
+use Rattle.rrd_file.proofs.reading.pieces.before_of.Goals as goal
 
 pub returns-clause-spelled : goal.returns-clause-spelled
 returns-clause-spelled c =

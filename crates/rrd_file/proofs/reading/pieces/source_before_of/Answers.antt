@@ -1,6 +1,6 @@
 use Rattle.std.proofs.Common.{◌∙◌, sym, rules}
 use Rattle.rrd_file.proofs.ReadBack.{source_before_back, source_before_said}
-use Rattle.rrd_file.proofs.reading.parts.source_before_of.Goals as goal
+use Rattle.rrd_file.proofs.reading.pieces.source_before_of.Goals as goal
 
 pub returns-in_default-clause-none : goal.returns-in_default-clause-none
 returns-in_default-clause-none c = λ r old fits e. c.def_of.ensures.none (search rules) old.source fits.source (source_before_said c.args.bytes.now c.two_of-number.result.1.now c.two_of-number.result.0 old c.requires c.two_of-number.ensures.spelled fits e ∙ sym c.split_at.ensures.front)

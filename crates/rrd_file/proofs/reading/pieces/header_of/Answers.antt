@@ -1,6 +1,6 @@
 use Rattle.std.proofs.Common.{rules}
 use Rattle.rrd_file.proofs.ReadBack.{header_back}
-use Rattle.rrd_file.proofs.reading.parts.header_of.Goals as goal
+use Rattle.rrd_file.proofs.reading.pieces.header_of.Goals as goal
 
 pub returns-clause-spelled : goal.returns-clause-spelled
 returns-clause-spelled c =

@@ -1,0 +1,187 @@
+-- An archive's rows in the order of its slots: those from the place of the first slot on, and then those before it.
+use Rattle.std.proofs.Common.{◌≡◌, ◌∙◌, ◌+◌, ◌-◌, ◌%◌, ◌/◌, ◌*◌, ◌<◌, ◌≤◌, ◌⊎◌, ◌++◌, ℕ, zero, suc, List, [], Some, sym, ap, arith, inl, inr, length, get_or, take, drop, map, min, replicate, length-append, length-drop, append-nil}
+use Rattle.std.specs.Prelude.{slice_get}
+use Rattle.std.specs.List.{flat_map, range_with_len, slice_range}
+use Rattle.std.proofs.Math.Seq.{drop-drop, take-add, take-take}
+use Rattle.std.proofs.lemmas.Bool.{cases_lt}
+use Rattle.std.proofs.lemmas.Grind.{flat_map-append}
+use Rattle.std.proofs.lemmas.List.{drop-replicate, drop-take, ext_get_or, get_or-append_right, get_or-drop, get_or-take, get_or_append_left, length-map, length-take, map-append, replicate-append-replicate, take-replicate, take_rest}
+use Rattle.std.proofs.lemmas.List.Concat.{flat_map-cons}
+use Rattle.std.proofs.lemmas.List.Folds.{flat_map-map}
+use Rattle.std.proofs.lemmas.List.FromFn.{get_or-map-range_with_len, length-range_with_len}
+use Rattle.std.proofs.lemmas.Option.{slice_get-get_or}
+use native.Mathlib.Nat as nat
+use Rattle.rrd_fixed.specs.declared.cell.Cell.{Cell}
+use Rattle.rrd_fixed.specs.declared.cell.Cell.TheVariants.{Unknown}
+use Rattle.rrd_spec.specs.Placed.{StandsInPlace}
+use Rattle.rrd_spec.specs.declared.settings.RraDef.{RraDef}
+use Rattle.rrd_spec.specs.History.{Archive, Content}
+use Rattle.rrd_spec.specs.Settings.{resolution}
+use Rattle.rrd_spec.specs.Slots.{by_slot, cells_by_slot, place_in, row_in}
+use Rattle.rrd_spec.specs.Validity.{IsValid}
+use Rattle.rrd_file.specs.Layout.{row_pieces, spelled}
+use Rattle.rrd_file.specs.Pieces.{OfCell, spell}
+use Rattle.rrd_file.proofs.CellsFiled.{IsDefOf, cells_spelled, rows_are, same_def, small_def, some_size}
+use Rattle.rrd_file.proofs.Gathering.{flat_flat}
+
+-- ---- the place of a slot, from that of the first
+
+-- a number below twice another
+once : (n rows : ℕ) → 0 < rows → n < rows + rows → ((n < rows) × (n % rows ≡ n)) ⊎ ((rows ≤ n) × (n % rows ≡ n - rows))
+once n rows r h = elim (cases_lt n rows) [
+  | inl lt ↦ inl (lt, nat.mod-eq_of_lt lt)
+  | inr le ↦
+      let d = n - rows in
+      let is : n ≡ d + rows = omega (arith, le) in
+      inr (le, ap (λ x. x % rows) is ∙ (nat.add-mod_right d rows ∙ nat.mod-eq_of_lt (omega (arith, h, le))))
+]
+
+-- from the first place up to the newest, and on from the oldest
+record IsTurn (rows first slot place : ℕ) : Type 0 where
+  pub inside : first < rows
+  pub up : slot < rows - first → place ≡ first + slot
+  pub round : rows - first ≤ slot → place ≡ slot - (rows - first)
+
+turn : (left rows slot : ℕ) → left < rows → slot < rows → IsTurn rows ((0 + rows - left) % rows) slot ((slot + rows - left) % rows)
+turn left rows slot l s = elim (once (0 + rows - left) rows (omega (arith, l)) (omega (arith, l))) [
+  | inl some ↦ elim (once (slot + rows - left) rows (omega (arith, l)) (omega (arith, l, s))) [
+    | inl low ↦ record { inside = omega (arith, some.0, some.1); up = λ h. omega (arith, l, s, some.0, some.1, low.0, low.1, h); round = λ h. omega (arith, l, s, some.0, some.1, low.0, low.1, h) }
+    | inr high ↦ record { inside = omega (arith, some.0, some.1); up = λ h. omega (arith, l, s, some.0, some.1, high.0, high.1, h); round = λ h. omega (arith, l, s, some.0, some.1, high.0, high.1, h) }
+  ]
+  | inr none ↦ elim (once (slot + rows - left) rows (omega (arith, l)) (omega (arith, l, s))) [
+    | inl low ↦ record { inside = omega (arith, l, none.0, none.1); up = λ h. omega (arith, l, s, none.0, none.1, low.0, low.1, h); round = λ h. omega (arith, l, s, none.0, none.1, low.0, low.1, h) }
+    | inr high ↦ record { inside = omega (arith, l, none.0, none.1); up = λ h. omega (arith, l, s, none.0, none.1, high.0, high.1, h); round = λ h. omega (arith, l, s, none.0, none.1, high.0, high.1, h) }
+  ]
+]
+
+-- ---- rows, turned
+
+turned_at : (rows : List (List Cell)) (first slot place : ℕ) → slot < length rows → IsTurn (length rows) first slot place → get_or rows place [] ≡ get_or (drop first rows ++ take first rows) slot []
+turned_at rows first slot place s is =
+    let rest : length (drop first rows) ≡ length rows - first = length-drop first rows in
+    elim (cases_lt slot (length rows - first)) [
+      | inl low ↦
+          ap (λ k. get_or rows k []) (is.up low) ∙ sym (get_or-drop first rows slot [])
+          ∙ sym (get_or_append_left (drop first rows) (take first rows) [] slot (omega (arith, rest, low)))
+      | inr high ↦
+          ap (λ k. get_or rows k []) (is.round high) ∙ sym (get_or-take first rows (slot - (length rows - first)) [] (omega (arith, is.inside, s, high)))
+          ∙ sym (get_or-append_right (drop first rows) (take first rows) (length rows - first) slot [] rest high)
+    ]
+
+-- the rows slot by slot
+turned : ((resolution last : ℕ) (rows : List (List Cell)) (slot : ℕ) → StandsInPlace resolution last rows slot) → (size last : ℕ) (rows : List (List Cell)) → 0 < size → 0 < length rows
+    → let first = place_in size last (length rows) 0 in map (row_in size last rows) (range_with_len 0 (length rows)) ≡ drop first rows ++ take first rows
+turned stands size last rows some_size some_rows =
+    let n = length rows in
+    let left = (last / size + 1) % n in
+    let less : left < n = omega (arith, some_rows) in
+    let first = place_in size last n 0 in
+    let f = row_in size last rows in
+    let inside : first < n = (turn left n 0 less some_rows).inside in
+    let all : length (map f (range_with_len 0 n)) ≡ n = length-map (range_with_len 0 n) f ∙ length-range_with_len 0 n in
+    let both : n ≡ length (drop first rows ++ take first rows) = omega (arith, inside, length-append (drop first rows) (take first rows), length-drop first rows, length-take first rows) in
+    ext_get_or [] (map f (range_with_len 0 n)) (drop first rows ++ take first rows) (all ∙ both) (λ slot h.
+    let there : slot < n = omega (arith, h, all) in
+    get_or-map-range_with_len f 0 n slot slot [] there (omega arith) ∙ stands size last rows slot some_size there ∙ turned_at rows first slot (place_in size last n slot) there (turn left n slot less there))
+
+-- ---- their bytes
+
+pub rows_joined : (xs ys : List (List Cell)) → spelled (row_pieces (xs ++ ys)) ≡ spelled (row_pieces xs) ++ spelled (row_pieces ys)
+rows_joined xs ys =
+    ap spelled (flat_map-append (λ (row : List Cell). map OfCell row) xs ys)
+    ∙ flat_map-append spell (row_pieces xs) (row_pieces ys)
+
+rows_spelled : (rows : List (List Cell)) → spelled (map OfCell (flat_map (λ (row : List Cell). row) rows)) ≡ spelled (row_pieces rows)
+rows_spelled rows = cells_spelled (λ (row : List Cell). row) rows ∙ sym (flat_flat spell (λ (row : List Cell). map OfCell row) rows)
+
+-- an archive's cells, slot by slot, in two runs of rows
+pub slots_spelled : ((resolution last : ℕ) (rows : List (List Cell)) (slot : ℕ) → StandsInPlace resolution last rows slot) → (size last : ℕ) (rows : List (List Cell)) → 0 < size → 0 < length rows
+    → let first = place_in size last (length rows) 0 in spelled (map OfCell (by_slot size last rows)) ≡ spelled (row_pieces (slice_range rows first (length rows))) ++ spelled (row_pieces (slice_range rows 0 first))
+slots_spelled stands size last rows some_size some_rows =
+    let n = length rows in
+    let first = place_in size last n 0 in
+    let f = row_in size last rows in
+    let flat : flat_map f (range_with_len 0 n) ≡ flat_map (λ (row : List Cell). row) (drop first rows ++ take first rows) =
+    sym (flat_map-map (λ (row : List Cell). row) f (range_with_len 0 n)) ∙ ap (flat_map (λ (row : List Cell). row)) (turned stands size last rows some_size some_rows) in
+    let front : slice_range rows first n ≡ drop first rows = take_rest rows first in
+    let all : first - 0 ≡ first = omega arith in
+    let back : slice_range rows 0 first ≡ take first rows = ap (λ k. take k rows) all in
+    ap (λ cells. spelled (map OfCell cells)) flat ∙ rows_spelled (drop first rows ++ take first rows) ∙ rows_joined (drop first rows) (take first rows)
+    ∙ (λ i. spelled (row_pieces (sym front i)) ++ spelled (row_pieces (sym back i)))
+
+-- the same of the archive of a number
+pub archive_spelled : ((resolution last : ℕ) (rows : List (List Cell)) (slot : ℕ) → StandsInPlace resolution last rows slot) → (d : Content) (n : ℕ) (def : RraDef) (size last first : ℕ) (a : Archive)
+    → IsValid d → IsDefOf d n def → slice_get d.archives n ≡ Some a → size ≡ resolution d.step def → last ≡ d.last → first ≡ place_in size last def.rows 0
+    → spelled (map OfCell (cells_by_slot d.step d.last a)) ≡ spelled (row_pieces (slice_range a.rows first def.rows)) ++ spelled (row_pieces (slice_range a.rows 0 first))
+archive_spelled stands d n def size last first a valid is e size_is last_is first_is =
+    let rows : length a.rows ≡ def.rows = rows_are d n def a valid is e in
+    let same : a.def ≡ def = same_def d n def a is e in
+    let some_rows : 0 < length a.rows = omega (arith, rows, (small_def d n def valid is).some_rows) in
+    let sized : resolution d.step a.def ≡ size = ap (λ (x : RraDef). resolution d.step x) same ∙ sym size_is in
+    let placed : place_in (resolution d.step a.def) d.last (length a.rows) 0 ≡ first = (λ i. place_in (sized i) (sym last_is i) (rows i) 0) ∙ sym first_is in
+    slots_spelled stands (resolution d.step a.def) d.last a.rows (some_size d n a valid e) some_rows
+    ∙ (λ i. spelled (row_pieces (slice_range a.rows (placed i) (rows i))) ++ spelled (row_pieces (slice_range a.rows 0 (placed i))))
+
+-- ---- rows that were never written
+
+abbrev pub unknown : ℕ → List ℕ
+unknown n = spelled (map OfCell (replicate n Unknown))
+
+pub unknown_more : (n m : ℕ) → unknown n ++ unknown m ≡ unknown (n + m)
+unknown_more n m =
+    sym (flat_map-append spell (map OfCell (replicate n Unknown)) (map OfCell (replicate m Unknown)))
+    ∙ ap spelled (sym (map-append OfCell (replicate n Unknown) (replicate m Unknown)) ∙ ap (map OfCell) (replicate-append-replicate n m Unknown))
+
+-- their cells
+unknown_rows : (rows sources : ℕ) → spelled (row_pieces (replicate rows (replicate sources Unknown))) ≡ unknown (rows * sources)
+unknown_rows zero sources = ap unknown (sym (nat.zero-mul sources))
+unknown_rows (suc rows) sources =
+    let row = replicate sources Unknown in
+    ap spelled (flat_map-cons (λ (row : List Cell). map OfCell row) row (replicate rows row))
+    ∙ flat_map-append spell (map OfCell row) (row_pieces (replicate rows row))
+    ∙ ap (λ l. unknown sources ++ l) (unknown_rows rows sources)
+    ∙ unknown_more sources (rows * sources) ∙ ap unknown (omega (arith, nat.suc-mul rows sources))
+
+-- some of the oldest rows are unknown: so are those of them that a run of rows begins with
+run_begins : (rows : List (List Cell)) (unwritten from run : ℕ) (row : List Cell) → take unwritten rows ≡ replicate unwritten row → from + run ≤ unwritten → take run (drop from rows) ≡ replicate run row
+run_begins rows unwritten from run row is within =
+    let left = unwritten - from in
+    let all : from + left ≡ unwritten = omega (arith, within) in
+    let here : take left (drop from rows) ≡ replicate left row =
+    sym (drop-take from left rows) ∙ ap (λ k. drop from (take k rows)) all ∙ ap (drop from) is ∙ drop-replicate from unwritten row in
+    sym (take-take run left (drop from rows) (omega (arith, within))) ∙ ap (take run) here ∙ take-replicate run left row (omega (arith, within))
+
+-- the bytes of a run, unknown rows first
+pub run_spelled : (rows : List (List Cell)) (unwritten from to sources : ℕ) → take unwritten rows ≡ replicate unwritten (replicate sources Unknown)
+    → let run = min unwritten to - from in spelled (row_pieces (slice_range rows from to)) ≡ unknown (run * sources) ++ spelled (row_pieces (slice_range rows (from + run) to))
+run_spelled rows unwritten from to sources is =
+    let row = replicate sources Unknown in
+    let run = min unwritten to - from in
+    let more = to - (from + run) in
+    let whole : to - from ≡ run + more = omega arith in
+    let parts : slice_range rows from to ≡ take run (drop from rows) ++ take more (drop (from + run) rows) =
+    ap (λ k. take k (drop from rows)) whole ∙ take-add run more (drop from rows) ∙ ap (λ l. take run (drop from rows) ++ take more l) (drop-drop run from rows) in
+    let begins : take run (drop from rows) ≡ replicate run row = elim (cases_lt 0 run) [
+      | inl some ↦ run_begins rows unwritten from run row is (omega (arith, some))
+      | inr none ↦ let zero_is : run ≡ 0 = omega (arith, none) in (λ i. take (zero_is i) (drop from rows)) ∙ (λ i. replicate (sym zero_is i) row)
+    ] in
+    ap (λ l. spelled (row_pieces l)) parts ∙ rows_joined (take run (drop from rows)) (take more (drop (from + run) rows))
+    ∙ (λ i. spelled (row_pieces (begins i)) ++ spelled (row_pieces (slice_range rows (from + run) to))) ∙ ap (λ l. l ++ spelled (row_pieces (slice_range rows (from + run) to))) (unknown_rows run sources)
+
+-- ---- a run of rows, one after another
+
+pub in_run : (rows : List (List Cell)) (from to place : ℕ) → from ≤ place → place < to → to ≤ length rows → slice_get (slice_range rows from to) (place - from) ≡ Some (get_or rows place [])
+in_run rows from to place after before within =
+    let part = take (to - from) (drop from rows) in
+    let size : length part ≡ to - from = omega (arith, length-take (to - from) (drop from rows), length-drop from rows, within) in
+    let back : from + (place - from) ≡ place = omega (arith, after) in
+    slice_get-get_or part (place - from) [] (omega (arith, size, after, before))
+    ∙ ap (λ (row : List Cell). Some row) (get_or-take (to - from) (drop from rows) (place - from) [] (omega (arith, after, before)) ∙ get_or-drop from rows (place - from) [] ∙ ap (λ k. get_or rows k []) back)
+
+pub run_length : (rows : List (List Cell)) (from to place : ℕ) → to ≤ place → length (slice_range rows from to) ≤ place - from
+run_length rows from to place past = omega (arith, length-take (to - from) (drop from rows), past)
+
+pub unknown_next : (n : ℕ) → unknown n ++ spell (OfCell Unknown) ≡ unknown (n + 1)
+unknown_next n =
+    let one : unknown 1 ≡ spell (OfCell Unknown) = flat_map-cons spell (OfCell Unknown) [] ∙ append-nil (spell (OfCell Unknown)) in
+    ap (λ l. unknown n ++ l) (sym one) ∙ unknown_more n 1
