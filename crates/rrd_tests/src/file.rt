@@ -309,8 +309,12 @@ tune --heartbeat s01:300 --data-source-rename s00:first\n\
 update 144:9:4\n\
 resize 0 SHRINK 2\n";
 
+// A row of four steps, two of which have come.
+const HALF_A_ROW: &str = "create --step 10 --start 0 DS:g:GAUGE:100:U:U RRA:AVERAGE:0.5:4:3\n\
+update 20:1\n";
+
 // The lines of several databases.
-pub(crate) const DATABASES: &[&str] = &[NEW, SAMPLED, TWO_SOURCES, THREE_CHANGES];
+pub(crate) const DATABASES: &[&str] = &[NEW, SAMPLED, TWO_SOURCES, THREE_CHANGES, HALF_A_ROW];
 
 // ---- tests
 
