@@ -5,18 +5,18 @@ use Rattle.std.proofs.lemmas.Nat.{div-add-mod', div-mul-add, mod_below, mul-le}
 use Rattle.rrd_fixed.specs.declared.cell.Cell.{Cell}
 use Rattle.rrd_spec.specs.declared.settings.RraDef.{RraDef}
 use Rattle.rrd_fixed.specs.declared.raw.Raw.{Raw}
-use Rattle.rrd_spec.specs.declared.update.Sample.{Sample}
+use Rattle.rrd_spec.specs.declared.requests.update.Sample.{Sample}
 use Rattle.rrd_spec.specs.History.{Content, Reading, Sampled, IsBase, rates}
-use Rattle.rrd_spec.specs.Listed.{content_listed}
-use Rattle.rrd_spec.specs.Passing.{passed}
+use Rattle.rrd_spec.specs.Laws.Listed.{content_listed}
+use Rattle.rrd_spec.specs.Laws.Passing.{passed}
 use Rattle.rrd_spec.specs.History.{definitions}
-use Rattle.rrd_spec.specs.Turns.{rows_shown, in_all, least_of_sample, most_of_sample, most_of_steps}
+use Rattle.rrd_spec.specs.Commands.Turns.{rows_shown, in_all, least_of_sample, most_of_sample, most_of_steps}
 use Rattle.rrd_spec.specs.Validity.{AreAccepted, IsRow, IsValid}
 use Rattle.rrd_base.specs.Walk.{least_of_ends, least_to, most_of_ends, most_to}
-use Rattle.rrd_spec.specs.Laws.{PassesInPieces, SampledPasses}
+use Rattle.rrd_spec.specs.Laws.Passing.{PassesInPieces, SampledPasses}
 use Rattle.rrd_base.proofs.PushedRows.{next_ahead}
 use Rattle.rrd_base.proofs.Passing.{ended_div, within_div}
-use Rattle.rrd_spec.specs.Facts.{base_of_valid}
+use Rattle.rrd_spec.specs.Lemmas.Validity.{base_of_valid}
 use Rattle.rrd_base.proofs.TurnLemmas.{Leaves, leaves_of, passed_leaves, least_by_steps, most_by_steps, least_of_none}
 
 end_ahead : (last step : ℕ) → 0 < step → last + ((last / step + 1) * step - last) ≡ (last / step + 1) * step

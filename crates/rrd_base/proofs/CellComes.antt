@@ -12,19 +12,19 @@ use Rattle.rrd_spec.specs.declared.due.Due.TheVariants.{SourceDue, HeadDue, Cell
 use Rattle.rrd_spec.specs.declared.outline.Outline.{Outline}
 use Rattle.rrd_spec.specs.declared.settings.RraDef.{RraDef}
 use Rattle.rrd_spec.specs.Commands.{rows_of_archives}
-use Rattle.rrd_spec.specs.Filed.{Filed, Head, Source, head_of, sources_of}
+use Rattle.rrd_spec.specs.Files.Filed.{Filed, Head, Source, head_of, sources_of}
 use Rattle.rrd_spec.specs.History.{Archive}
 use Rattle.rrd_spec.specs.Limits.{version_one}
-use Rattle.rrd_spec.specs.Lists.{All-at, All-drop, drop_here}
-use Rattle.rrd_spec.specs.Outlines.{outline_undone}
-use Rattle.rrd_spec.specs.Placed.{PutsCell, SlotHasPlace}
-use Rattle.rrd_spec.specs.Rebuilding.{IsArchiveDef, IsRowPart, after_heads, due, prep_or, unprepared, with_cell}
+use Rattle.rrd_spec.specs.Lemmas.Lists.{All-at, All-drop, drop_here}
+use Rattle.rrd_spec.specs.Journal.Outlines.{outline_undone}
+use Rattle.rrd_spec.specs.Laws.Slots.{PutsCell, SlotHasPlace}
+use Rattle.rrd_spec.specs.Files.Rebuilding.{IsArchiveDef, IsRowPart, after_heads, due, prep_or, unprepared, with_cell}
 use Rattle.rrd_spec.specs.Settings.{resolution}
-use Rattle.rrd_spec.specs.Slots.{by_slot, cells_by_slot, place_in}
+use Rattle.rrd_spec.specs.Files.Slots.{by_slot, cells_by_slot, place_in}
 use Rattle.rrd_spec.specs.Validity.{IsRow, IsValidJournal}
 use Rattle.rrd_base.specs.declared.journal.Entry.{Entry}
 use Rattle.rrd_base.specs.declared.rebuild.cursor.Cursor.{Cursor}
-use Rattle.rrd_base.specs.Cursor.{Advances, KnowsPlace, filled_by}
+use Rattle.rrd_base.specs.Rebuild.Cursors.{Advances, KnowsPlace, filled_by}
 use Rattle.rrd_base.specs.Journal.{journal_of}
 use Rattle.rrd_base.specs.Rebuild.{AreFewer, ArePrepared, Coming, HeadsCame, IsArchiveSoFar, IsCursor, IsRebuilding, KnowsPlaceIn, content_so_far, filed_in}
 use Rattle.rrd_base.proofs.Comes.{knows_nothing, rows_same}

@@ -12,8 +12,8 @@ use Rattle.std.proofs.lemmas.List.Elements.{filter-append}
 use Rattle.std.proofs.lemmas.List.Folds.{find-append, list_any-append}
 use Rattle.rrd_fold.specs.declared.function.Function.{Function}
 use Rattle.rrd_spec.specs.declared.settings.RraDef.{RraDef}
-use Rattle.rrd_spec.specs.declared.fetch.Candidate.{Candidate}
-use Rattle.rrd_spec.specs.declared.fetch.Request.{Request}
+use Rattle.rrd_spec.specs.declared.requests.fetch.Candidate.{Candidate}
+use Rattle.rrd_spec.specs.declared.requests.fetch.Request.{Request}
 use Rattle.rrd_spec.specs.Choice.{Searched, searched, same_function, candidate, candidates, best, covers, is_nearer, is_farther, taken, is_preferred}
 
 -- ---- the best of a list

@@ -4,10 +4,10 @@ use Rattle.std.specs.List.{AllByRecursion}
 use Rattle.rrd_fixed.specs.declared.cell.Cell.{Cell}
 use Rattle.rrd_ring.specs.Rows.{HasWidth}
 use Rattle.rrd_spec.specs.History.{Archive}
-use Rattle.rrd_spec.specs.Entries.{SavedArchive, cells_in, cells_saved, saved, rows_between}
+use Rattle.rrd_spec.specs.Journal.Entries.{SavedArchive, cells_in, cells_saved, saved, rows_between}
 use Rattle.rrd_spec.specs.Validity.{IsValidArchive}
-use Rattle.rrd_spec.specs.Facts.{rows_wide}
-use Rattle.rrd_spec.specs.Lists.{All-take}
+use Rattle.rrd_spec.specs.Lemmas.Validity.{rows_wide}
+use Rattle.rrd_spec.specs.Lemmas.Lists.{All-take}
 
 -- rows of as many cells each
 pub cells_wide : (sources : ℕ) (rows : List (List Cell)) → HasWidth sources rows → cells_in rows ≡ length rows * sources

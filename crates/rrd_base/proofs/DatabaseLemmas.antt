@@ -1,15 +1,15 @@
 -- What a database's journal needs, and keeps.
 use Rattle.std.proofs.Common.{◌≡◌, refl, ◌∙◌, ap, suc, ◌-◌, ◌<◌, List, [], ◌∷◌, length, map, get_or, arith, None, false}
 use Rattle.std.specs.List.{fold}
-use Rattle.rrd_spec.specs.declared.update.Sample.{Sample}
-use Rattle.rrd_spec.specs.declared.update.Update.{Update}
+use Rattle.rrd_spec.specs.declared.requests.update.Sample.{Sample}
+use Rattle.rrd_spec.specs.declared.requests.update.Update.{Update}
 use Rattle.rrd_spec.specs.declared.settings.DsDef.{DsDef}
 use Rattle.rrd_fixed.specs.declared.name.Name.{Name}
 use Rattle.rrd_spec.specs.History.{Content, Sampled, Moment, moment_of, moment_after}
 use Rattle.rrd_spec.specs.Commands.{Updating, sample_of, moved, Command}
 use Rattle.rrd_base.specs.Update.{last_time, template_of}
-use Rattle.rrd_spec.specs.Laws.{PassesAll}
-use Rattle.rrd_spec.specs.Verdict.{verdict, no_sample}
+use Rattle.rrd_spec.specs.Laws.Commands.{PassesAll}
+use Rattle.rrd_spec.specs.Commands.Verdict.{verdict, no_sample}
 
 -- ---- the last time
 

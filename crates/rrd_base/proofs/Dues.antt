@@ -8,18 +8,18 @@ use Rattle.std.proofs.lemmas.Bool.{lt-ltb, le-ltb}
 use Rattle.std.proofs.lemmas.List.{length-map}
 use Rattle.std.proofs.lemmas.List.Concat.{flat_map-cons}
 use Rattle.rrd_fixed.specs.declared.cell.Cell.{Cell}
-use Rattle.rrd_spec.specs.Filed.{Head, head_of, sources_of}
+use Rattle.rrd_spec.specs.Files.Filed.{Head, head_of, sources_of}
 use Rattle.rrd_spec.specs.History.{Archive}
-use Rattle.rrd_spec.specs.Rebuilding.{after_heads, due, prep_or, rows_in_all, unprepared}
+use Rattle.rrd_spec.specs.Files.Rebuilding.{after_heads, due, prep_or, rows_in_all, unprepared}
 use Rattle.rrd_base.specs.Rebuild.{AreFewer, ArePrepared, Coming, IsArchiveSoFar, IsRebuilding, filed_in}
-use Rattle.rrd_spec.specs.Slots.{cells_by_slot}
+use Rattle.rrd_spec.specs.Files.Slots.{cells_by_slot}
 use Rattle.rrd_spec.specs.Validity.{AreAccepted, IsRow}
 use Rattle.rrd_spec.specs.declared.settings.DsDef.{DsDef}
 use Rattle.rrd_spec.specs.declared.settings.RraDef.{RraDef}
 use Rattle.rrd_fixed.specs.declared.raw.Raw.{Raw}
 use Rattle.rrd_fold.specs.Parts.{Part}
-use Rattle.rrd_spec.specs.Lists.{All-take, All-drop, All-weaker}
-use Rattle.rrd_spec.specs.Placed.{AsManyCells, HasOneEach}
+use Rattle.rrd_spec.specs.Lemmas.Lists.{All-take, All-drop, All-weaker}
+use Rattle.rrd_spec.specs.Laws.Slots.{AsManyCells, HasOneEach}
 use Rattle.rrd_base.proofs.Rebuilt.{fold_sum, journal_length}
 use native.Mathlib.Nat as nat
 

@@ -5,12 +5,12 @@ use Rattle.std.specs.List.{AllByRecursion, fold}
 use Rattle.rrd_spec.specs.declared.due.Due.TheVariants.{EntryDue}
 use Rattle.rrd_spec.specs.declared.outline.Outline.{Outline}
 use Rattle.rrd_spec.specs.declared.settings.RraDef.{RraDef}
-use Rattle.rrd_spec.specs.Entries.{undone}
-use Rattle.rrd_spec.specs.Filed.{Filed}
+use Rattle.rrd_spec.specs.Journal.Entries.{undone}
+use Rattle.rrd_spec.specs.Files.Filed.{Filed}
 use Rattle.rrd_spec.specs.History.{Archive, Content, definitions}
 use Rattle.rrd_spec.specs.Limits.{version_one}
-use Rattle.rrd_spec.specs.Outlines.{outline_of}
-use Rattle.rrd_spec.specs.Rebuilding.{due, outline_left}
+use Rattle.rrd_spec.specs.Journal.Outlines.{outline_of}
+use Rattle.rrd_spec.specs.Files.Rebuilding.{due, outline_left}
 use Rattle.rrd_spec.specs.Validity.{IsValid, IsValidArchive}
 use Rattle.rrd_base.specs.Journal.{journal_of}
 use Rattle.rrd_base.specs.Rebuild.{Coming, IsRebuilding, content_so_far, filed_in}

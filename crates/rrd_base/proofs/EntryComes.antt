@@ -10,18 +10,18 @@ use Rattle.rrd_spec.specs.declared.due.Due.TheVariants.{SourceDue, HeadDue, Cell
 use Rattle.rrd_spec.specs.declared.outline.Outline.{Outline}
 use Rattle.rrd_spec.specs.declared.settings.RraDef.{RraDef}
 use Rattle.rrd_spec.specs.Commands.{rows_of_archives}
-use Rattle.rrd_spec.specs.Entries as entries
-use Rattle.rrd_spec.specs.Entries.{undone}
-use Rattle.rrd_spec.specs.Filed.{Filed, One, head_of}
+use Rattle.rrd_spec.specs.Journal.Entries as entries
+use Rattle.rrd_spec.specs.Journal.Entries.{undone}
+use Rattle.rrd_spec.specs.Files.Filed.{Filed, One, head_of}
 use Rattle.rrd_spec.specs.History.{Archive, Content, definitions}
-use Rattle.rrd_spec.specs.Journals.{FiledOutline, JournalLeavesValid, JournalTakes, OutlineFollows}
+use Rattle.rrd_spec.specs.Laws.Outlines.{FiledOutline, JournalLeavesValid, JournalTakes, OutlineFollows}
 use Rattle.rrd_spec.specs.Limits.{version_one}
-use Rattle.rrd_spec.specs.Outlines.{MayUndo, outline_of, outline_undone, rows_of}
-use Rattle.rrd_spec.specs.Rebuilding.{after_heads, due, outline_filed, prep_or, unprepared, with_entry}
-use Rattle.rrd_spec.specs.Survivors.{Stored}
+use Rattle.rrd_spec.specs.Journal.Outlines.{MayUndo, outline_of, outline_undone, rows_of}
+use Rattle.rrd_spec.specs.Files.Rebuilding.{after_heads, due, outline_filed, prep_or, unprepared, with_entry}
+use Rattle.rrd_spec.specs.Journal.Survivors.{Stored}
 use Rattle.rrd_spec.specs.Validity.{IsValid, IsValidArchive, IsValidJournal}
 use Rattle.rrd_base.specs.declared.journal.Entry.{Entry}
-use Rattle.rrd_base.specs.Fitting.{HasSteps, IsOutline}
+use Rattle.rrd_base.specs.Rebuild.EntryChecks.{HasSteps, IsOutline}
 use Rattle.rrd_base.specs.Journal.{entry_of, journal_of}
 use Rattle.rrd_base.specs.Rebuild.{Coming, HeadsCame, IsRebuilding, content_so_far, filed_in}
 use Rattle.rrd_base.proofs.Comes.{few_less}

@@ -8,17 +8,17 @@ use Rattle.rrd_fixed.specs.declared.raw.Raw.{Raw}
 use Rattle.rrd_fixed.specs.Rate.{IsAccepted}
 use Rattle.rrd_fold.specs.Bounds.{Consolidating}
 use Rattle.rrd_fold.specs.Parts.{Part}
-use Rattle.rrd_spec.specs.Each.{parts_in}
+use Rattle.rrd_spec.specs.Preparations.{parts_in}
 use Rattle.rrd_spec.specs.declared.entry.SourceBefore.{SourceBefore}
 use Rattle.rrd_spec.specs.declared.settings.DsDef.{DsDef}
 use Rattle.rrd_spec.specs.declared.settings.RraDef.{RraDef}
-use Rattle.rrd_spec.specs.Entries.{SavedArchive}
+use Rattle.rrd_spec.specs.Journal.Entries.{SavedArchive}
 use Rattle.rrd_spec.specs.Limits.{version_one}
-use Rattle.rrd_spec.specs.Lists.{All-at, drop_here}
-use Rattle.rrd_spec.specs.Outlines.{MaySave, MaySaveEach, rows_of, with_row_number, with_sources}
+use Rattle.rrd_spec.specs.Lemmas.Lists.{All-at, drop_here}
+use Rattle.rrd_spec.specs.Journal.Outlines.{MaySave, MaySaveEach, rows_of, with_row_number, with_sources}
 use Rattle.rrd_spec.specs.Settings.{names}
 use Rattle.rrd_spec.specs.Validity.{AreAccepted, Rise}
-use Rattle.rrd_base.specs.Fitting.{with_names}
+use Rattle.rrd_base.specs.Rebuild.EntryChecks.{with_names}
 use Rattle.rrd_base.proofs.Rebuilt.{fold_sum}
 
 -- ---- of each item

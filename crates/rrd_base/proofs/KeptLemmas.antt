@@ -5,16 +5,16 @@ use Rattle.circular_buffer.specs.Buffer.{keep_last}
 use Rattle.rrd_base.specs.declared.journal.Entry.{Entry}
 use Rattle.rrd_base.specs.declared.journal.Entry.TheVariants as entry
 use Rattle.rrd_base.specs.declared.journal.BeforeUpdate.{BeforeUpdate}
-use Rattle.rrd_spec.specs.declared.update.Update.{Update}
+use Rattle.rrd_spec.specs.declared.requests.update.Update.{Update}
 use Rattle.rrd_spec.specs.History.{Content}
 use Rattle.rrd_spec.specs.Commands.{Command, Updating, moved}
-use Rattle.rrd_spec.specs.Entries as entries
-use Rattle.rrd_spec.specs.Entries.{undone, entry as entry_for}
+use Rattle.rrd_spec.specs.Journal.Entries as entries
+use Rattle.rrd_spec.specs.Journal.Entries.{undone, entry as entry_for}
 use Rattle.rrd_base.specs.Journal.{before, update_of, entry_of, CanUndo, journal_of}
 use Rattle.rrd_base.specs.Update.{last_time}
-use Rattle.rrd_spec.specs.Laws.{DatabaseStays, RevertStays}
+use Rattle.rrd_spec.specs.Laws.Journal.{DatabaseStays, RevertStays}
 use Rattle.rrd_spec.specs.Validity.{IsValid, Fits, IsValidDatabase}
-use Rattle.rrd_spec.specs.Verdict.{verdict}
+use Rattle.rrd_spec.specs.Commands.Verdict.{verdict}
 use Rattle.rrd_base.proofs.DatabaseLemmas.{moved_last}
 use Rattle.rrd_base.proofs.PutBack.{can_put_back_each}
 use Rattle.rrd_base.proofs.JournalLemmas.{journal_push, journal_pop}

@@ -7,13 +7,14 @@ use Rattle.rrd_fixed.specs.declared.cell.Cell.{Cell}
 use Rattle.rrd_fold.specs.declared.function.Function.{Function}
 use Rattle.rrd_fold.specs.declared.function.Function.TheVariants.{Average}
 use Rattle.rrd_fold.specs.Parts.{Part, nothing, with_each, step_cell}
-use Rattle.rrd_spec.specs.Changes.{PartsGrow, PassesWithin, StaysValidFor}
-use Rattle.rrd_spec.specs.EqualSteps.{SecondsOver}
+use Rattle.rrd_spec.specs.Laws.Validity.{PartsGrow, StaysValidFor}
+use Rattle.rrd_spec.specs.Laws.Passing.{PassesWithin}
+use Rattle.rrd_spec.specs.Laws.EqualSteps.{SecondsOver}
 use Rattle.rrd_spec.specs.History.{Content, Archive}
-use Rattle.rrd_spec.specs.Lists.{All-replicate}
-use Rattle.rrd_spec.specs.Passing.{archive_passed, passed}
+use Rattle.rrd_spec.specs.Lemmas.Lists.{All-replicate}
+use Rattle.rrd_spec.specs.Laws.Passing.{archive_passed, passed}
 use Rattle.rrd_spec.specs.Validity.{IsPart, AreParts, IsRow, IsValid}
-use Rattle.rrd_spec.specs.Facts.{base_of_valid}
+use Rattle.rrd_spec.specs.Lemmas.Validity.{base_of_valid}
 
 -- parts with so many seconds more, by the law of parts
 pub parts_more : (grow : (function : Function) (sources n : ℕ) (parts : List Part) (row : List Cell) → PartsGrow function sources n parts row) (function : Function) (sources k n : ℕ) (parts : List Part) (row : List Cell) → AreParts function sources k parts → IsRow sources row → AreParts function sources (k + n) (fold (with_each function) parts (replicate n row))

@@ -4,7 +4,7 @@ use Rattle.std.proofs.lemmas.List.{append-nil, drop_all, length-take, take_all}
 use Rattle.std.specs.List.{AllByRecursion}
 use Rattle.rrd_ring.specs.Rows.{width}
 use Rattle.rrd_spec.specs.History.{Archive}
-use Rattle.rrd_spec.specs.Entries.{SavedArchive, put_back, put_back_each}
+use Rattle.rrd_spec.specs.Journal.Entries.{SavedArchive, put_back, put_back_each}
 use Rattle.rrd_spec.specs.Validity.{IsValidArchive, FitsArchive, FitEach}
 use Rattle.rrd_base.specs.Rra.{CanPutBack, CanPutBackEach, IsStepped}
 use Rattle.rrd_base.proofs.StoreLemmas.{width_is}

@@ -13,11 +13,11 @@ use Rattle.rrd_spec.specs.declared.settings.RraDef.{RraDef}
 use Rattle.rrd_fixed.specs.declared.raw.Raw.{Raw}
 use Rattle.rrd_fold.specs.Parts.{Part}
 use Rattle.rrd_spec.specs.Commands.{rows_of_archives}
-use Rattle.rrd_spec.specs.Filed.{Filed, Head, One, filed, head_of, sources_of}
+use Rattle.rrd_spec.specs.Files.Filed.{Filed, Head, One, filed, head_of, sources_of}
 use Rattle.rrd_spec.specs.History.{Archive}
-use Rattle.rrd_spec.specs.Rebuilding.{after_heads, due, prep_or, rows_in_all, unprepared}
+use Rattle.rrd_spec.specs.Files.Rebuilding.{after_heads, due, prep_or, rows_in_all, unprepared}
 use Rattle.rrd_base.specs.Rebuild.{Coming, IsArchiveSoFar, IsRebuilding, cells_before, content_so_far, filed_in}
-use Rattle.rrd_spec.specs.Slots.{cells_by_slot, row_in, stands_in}
+use Rattle.rrd_spec.specs.Files.Slots.{cells_by_slot, row_in, stands_in}
 use Rattle.rrd_base.specs.Journal.{entry_of, journal_of}
 use Rattle.rrd_spec.specs.Validity.{IsRow, IsValid, IsValidArchive, IsValidDatabase}
 use Rattle.rrd_fixed.specs.declared.cell.Cell.{Cell}

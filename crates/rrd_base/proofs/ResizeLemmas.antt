@@ -6,14 +6,14 @@ use Rattle.std.specs.List.{fold, enumerate_from, AllByRecursion}
 use Rattle.rrd_fixed.specs.declared.cell.Cell.{Cell}
 use Rattle.rrd_ring.specs.Rows.{newest_rows, width}
 use Rattle.rrd_spec.specs.History.{Archive, Content, Resized, rows_after}
-use Rattle.rrd_spec.specs.declared.resize.Change.{Change}
-use Rattle.rrd_spec.specs.declared.resize.Change.TheVariants.{Grow, Shrink}
+use Rattle.rrd_spec.specs.declared.requests.resize.Change.{Change}
+use Rattle.rrd_spec.specs.declared.requests.resize.Change.TheVariants.{Grow, Shrink}
 use Rattle.rrd_spec.specs.Commands.{Resizing, moved, rows_changed, rows_of_archives}
-use Rattle.rrd_spec.specs.Entries.{rows_at, with_rows_at}
+use Rattle.rrd_spec.specs.Journal.Entries.{rows_at, with_rows_at}
 use Rattle.rrd_base.specs.Resize.{HasFewRows}
 use Rattle.rrd_spec.specs.Validity.{IsValid, IsValidArchive}
-use Rattle.rrd_spec.specs.Verdict.{verdict}
-use Rattle.rrd_spec.specs.Changes.{ResizeChanges, newest_of, rows_then}
+use Rattle.rrd_spec.specs.Commands.Verdict.{verdict}
+use Rattle.rrd_spec.specs.Laws.Commands.{ResizeChanges, newest_of, rows_then}
 use Rattle.rrd_base.proofs.StoreLemmas.{width_is}
 
 -- ---- the number of all rows

@@ -5,16 +5,17 @@ use Rattle.std.specs.List.{AllByRecursion}
 use Rattle.rrd_fixed.specs.declared.raw.Raw.{Raw}
 use Rattle.rrd_fixed.specs.declared.name.Name.{Name}
 use Rattle.rrd_spec.specs.declared.settings.DsDef.{DsDef}
-use Rattle.rrd_spec.specs.declared.update.Sample.{Sample}
-use Rattle.rrd_spec.specs.declared.update.Given.{Given}
+use Rattle.rrd_spec.specs.declared.requests.update.Sample.{Sample}
+use Rattle.rrd_spec.specs.declared.requests.update.Given.{Given}
 use Rattle.rrd_spec.specs.History.{Content, Event, Moment, Sampled, moment_of, moment_at_end}
-use Rattle.rrd_spec.specs.Listed.{content_listed}
+use Rattle.rrd_spec.specs.Laws.Listed.{content_listed}
 use Rattle.rrd_spec.specs.Commands.{raw_of, value_for, sample_of}
-use Rattle.rrd_spec.specs.Verdict.{sample_checks}
+use Rattle.rrd_spec.specs.Commands.Verdict.{sample_checks}
 use Rattle.rrd_spec.specs.Validity.{IsValid, AreAccepted}
-use Rattle.rrd_spec.specs.Changes.{AreKept, GoesOnListed}
-use Rattle.rrd_spec.specs.Laws.{Passes}
-use Rattle.rrd_spec.specs.Facts.{readings_rise, base_of_valid}
+use Rattle.rrd_spec.specs.Laws.Commands.{AreKept}
+use Rattle.rrd_spec.specs.Laws.History.{GoesOnListed}
+use Rattle.rrd_spec.specs.Laws.Commands.{Passes}
+use Rattle.rrd_spec.specs.Lemmas.Validity.{readings_rise, base_of_valid}
 use Rattle.rrd_spec.specs.Limits.{version_one}
 
 -- the content after a sample, and those that are left

@@ -8,13 +8,13 @@ use Rattle.rrd_fold.specs.Parts.{Part, nothing, with_each, row_cell}
 use Rattle.rrd_fold.specs.Bounds.{Consolidating}
 use Rattle.rrd_ring.specs.Rows.{width}
 use Rattle.rrd_spec.specs.declared.settings.RraDef.{RraDef}
-use Rattle.rrd_spec.specs.Changes.{ArchiveStaysValid}
+use Rattle.rrd_spec.specs.Laws.Validity.{ArchiveStaysValid}
 use Rattle.rrd_spec.specs.History.{Archive}
-use Rattle.rrd_spec.specs.Passing.{archive_passed}
+use Rattle.rrd_spec.specs.Laws.Passing.{archive_passed}
 use Rattle.rrd_spec.specs.Validity.{IsRow, IsValidArchive}
-use Rattle.rrd_spec.specs.Each.{map_each, with_steps, anew, row_of, parts_in, AllOf}
-use Rattle.rrd_spec.specs.Lists.{All-replicate}
-use Rattle.rrd_spec.specs.Preparations.{parts_in-with_steps, parts_in-anew}
+use Rattle.rrd_spec.specs.Preparations.{map_each, with_steps, anew, row_of, parts_in, AllOf}
+use Rattle.rrd_spec.specs.Lemmas.Lists.{All-replicate}
+use Rattle.rrd_spec.specs.Lemmas.Preparations.{parts_in-with_steps, parts_in-anew}
 
 -- an archive of these preparations
 abbrev pub shown : RraDef → List Consolidating → List (List Cell) → Archive

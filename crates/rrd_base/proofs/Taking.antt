@@ -5,7 +5,7 @@ use Rattle.rrd_fixed.specs.declared.cell.Cell.{Cell}
 use Rattle.rrd_fold.specs.declared.function.Function.{Function}
 use Rattle.rrd_fold.specs.Parts.{Part, with_each}
 use Rattle.rrd_spec.specs.declared.settings.RraDef.{RraDef}
-use Rattle.rrd_spec.specs.Changes.{PartsGrow}
+use Rattle.rrd_spec.specs.Laws.Validity.{PartsGrow}
 use Rattle.rrd_spec.specs.History.{Archive}
 use Rattle.rrd_spec.specs.Validity.{IsRow, IsValidArchive}
 use Rattle.rrd_base.proofs.PushedRows.{row_fits}

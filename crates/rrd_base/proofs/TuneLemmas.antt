@@ -4,13 +4,13 @@ use Rattle.std.specs.List.{fold}
 use Rattle.rrd_fixed.specs.declared.raw.Raw.{Raw}
 use Rattle.rrd_spec.specs.declared.settings.DsDef.{DsDef}
 use Rattle.rrd_spec.specs.declared.entry.SourceBefore.{SourceBefore}
-use Rattle.rrd_spec.specs.declared.tune.Tuning.{Tuning}
+use Rattle.rrd_spec.specs.declared.requests.tune.Tuning.{Tuning}
 use Rattle.rrd_fixed.specs.declared.cell.Cell.{Cell}
 use Rattle.rrd_spec.specs.History.{Archive, Content, raws_under}
 use Rattle.rrd_spec.specs.Commands.{raw_under}
-use Rattle.rrd_spec.specs.Entries.{sources_before, is_named, with_source, with_rows_at}
+use Rattle.rrd_spec.specs.Journal.Entries.{sources_before, is_named, with_source, with_rows_at}
 use Rattle.rrd_base.specs.Tune.{with_raws}
-use Rattle.rrd_spec.specs.Outlines.{with_sources}
+use Rattle.rrd_spec.specs.Journal.Outlines.{with_sources}
 
 -- one raw value more
 pub raws_more : (f : DsDef → DsDef) (sources : List DsDef) (raws : List Raw) (i : ℕ) (d : DsDef) (r e : Raw) → i < length sources → length raws ≡ length sources → e ≡ raw_under (get_or sources i d).kind (f (get_or sources i d)).kind (get_or raws i r) → set (raws_under (take i sources) (map f (take i sources)) raws) i e ≡ raws_under (take (suc i) sources) (map f (take (suc i) sources)) raws

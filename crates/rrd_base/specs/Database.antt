@@ -1,6 +1,6 @@
 -- Glue: a database with its journal, as its fields hold them.
 use Rattle.std.specs.Prelude.{◌≡◌}
-use Rattle.rrd_spec.specs.Survivors.{Stored}
+use Rattle.rrd_spec.specs.Journal.Survivors.{Stored}
 use Rattle.rrd_base.specs.Journal.{journal_of}
 use Rattle.rrd_spec.specs.Validity.{IsValidDatabase}
 use Rattle.rrd_base.specs.declared.database.Database.TheInside.{Inside}

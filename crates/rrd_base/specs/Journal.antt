@@ -1,8 +1,8 @@
 -- Definition: an entry as the definitions have it; and, as glue, the journal that a database's fields hold.
 use Rattle.std.specs.Prelude.{◌<◌, List, length, map, reverse}
 use Rattle.rrd_spec.specs.History.{Archive}
-use Rattle.rrd_spec.specs.Entries as entries
-pub use Rattle.rrd_spec.specs.Entries.{before}
+use Rattle.rrd_spec.specs.Journal.Entries as entries
+pub use Rattle.rrd_spec.specs.Journal.Entries.{before}
 use Rattle.rrd_base.specs.Rra.{CanPutBackEach}
 use Rattle.rrd_base.specs.declared.journal.Entry.{Entry}
 use Rattle.rrd_base.specs.declared.journal.Entry.TheVariants as entry

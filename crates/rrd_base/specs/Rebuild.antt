@@ -8,18 +8,20 @@ use Rattle.rrd_fold.specs.declared.function.Function.TheVariants.{Average}
 use Rattle.rrd_spec.specs.declared.outline.Outline.{Outline}
 use Rattle.rrd_spec.specs.declared.settings.DsDef.{DsDef}
 use Rattle.rrd_spec.specs.Commands.{rows_of_archives}
-use Rattle.rrd_spec.specs.Filed.{Filed, One, head_of, sources_of}
+use Rattle.rrd_spec.specs.Files.Filed.{Filed, One, head_of, sources_of}
 use Rattle.rrd_spec.specs.History.{Archive, Content}
 use Rattle.rrd_spec.specs.Limits.{version_one}
-use Rattle.rrd_spec.specs.Rebuilding.{IsArchiveDef, IsHeader, IsRowPart, outline_left, unprepared}
+use Rattle.rrd_spec.specs.Files.Rebuilding.{IsArchiveDef, IsHeader, IsRowPart, outline_left, unprepared}
 use Rattle.rrd_spec.specs.Settings.{is_double, names, resolution}
-use Rattle.rrd_spec.specs.Slots.{cells_by_slot}
+use Rattle.rrd_spec.specs.Files.Slots.{cells_by_slot}
 use Rattle.rrd_spec.specs.Validity.{AreAccepted, IsPart, IsRow, IsSource, IsValidJournal}
-use Rattle.rrd_base.specs.Cursor.{KnowsPlace, filled_by}
+use Rattle.rrd_base.specs.Rebuild.Cursors.{KnowsPlace, filled_by}
 use Rattle.rrd_base.specs.Journal.{journal_of}
 use Rattle.rrd_base.specs.declared.journal.Entry.{Entry}
 use Rattle.rrd_base.specs.declared.rebuild.Rebuild.TheInside.{Inside}
 use Rattle.rrd_base.specs.declared.rebuild.cursor.Cursor.{Cursor}
+pub mod Cursors
+pub mod EntryChecks
 
 -- the cells of the archives before one, and so many of its own, in the order of a file
 abbrev pub cells_before : ℕ → ℕ → List Archive → ℕ → ℕ → List Cell

@@ -3,7 +3,7 @@ use Rattle.std.specs.Prelude.{◌≡◌, ◌<◌, ◌≤◌, List, [], ◌∷◌
 use Rattle.rrd_ring.specs.Rows.{HasWidth, width}
 use Rattle.rrd_spec.specs.Limits.{version_one}
 use Rattle.rrd_spec.specs.History.{Archive}
-use Rattle.rrd_spec.specs.Entries.{SavedArchive}
+use Rattle.rrd_spec.specs.Journal.Entries.{SavedArchive}
 
 -- the resolution of an archive is a number above 0, and a small one
 pub record IsStepped (archive : Archive) : Type 0 where

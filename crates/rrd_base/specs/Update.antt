@@ -1,8 +1,8 @@
 -- Glue: the template of an update, and its last time.
 use Rattle.std.specs.Prelude.{ℕ, List, [], ◌∷◌}
-use Rattle.rrd_spec.specs.declared.update.Sample.{Sample}
-use Rattle.rrd_spec.specs.declared.update.Update.{Update}
-pub use Rattle.rrd_spec.specs.Verdict.{template_of, template_checks}
+use Rattle.rrd_spec.specs.declared.requests.update.Sample.{Sample}
+use Rattle.rrd_spec.specs.declared.requests.update.Update.{Update}
+pub use Rattle.rrd_spec.specs.Commands.Verdict.{template_of, template_checks}
 
 -- the time of the last sample; 0 if there is none
 abbrev pub last_time : List Sample → ℕ

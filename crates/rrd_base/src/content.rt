@@ -5,14 +5,14 @@ ghost use Rattle.std.specs.Result.{result_err};
 ghost use Rattle.rrd_spec.specs.Limits.{version_one};
 ghost use Rattle.rrd_spec.specs.Choice.{choice_of};
 ghost use Rattle.rrd_spec.specs.Commands.{Resizing, TuningBy, Updating, moved, rows_changed, rows_of_archives};
-ghost use Rattle.rrd_spec.specs.Creating.{create_verdict, created};
-ghost use Rattle.rrd_spec.specs.Cells.{cell_at, oldest, oldest_time, prep_at};
+ghost use Rattle.rrd_spec.specs.Commands.Creating.{create_verdict, created};
+ghost use Rattle.rrd_spec.specs.History.Cells.{cell_at, oldest, oldest_time, prep_at};
 ghost use Rattle.rrd_spec.specs.History.{Archive as ArchiveContent, definitions};
 ghost use Rattle.rrd_fixed.specs.declared.cell.Cell.TheVariants.{Unknown as CellUnknown};
 ghost use Rattle.rrd_fixed.specs.declared.raw.Raw.TheVariants.{Unknown};
 ghost use Rattle.rrd_fold.specs.Parts.{nothing};
-ghost use Rattle.rrd_spec.specs.Entries.{TuneEntry, entry as entry_for, rows_at, with_rows_at};
-ghost use Rattle.rrd_spec.specs.Verdict.{verdict};
+ghost use Rattle.rrd_spec.specs.Journal.Entries.{TuneEntry, entry as entry_for, rows_at, with_rows_at};
+ghost use Rattle.rrd_spec.specs.Commands.Verdict.{verdict};
 ghost use Rattle.rrd_ring.specs.Rows.{newest_rows};
 ghost use Rattle.rrd_spec.specs.Validity.{IsValid};
 

@@ -3,9 +3,9 @@ ghost use Rattle.std.specs.Prelude.{◌≡◌, ◌*◌, nat_lt, not};
 ghost use Rattle.std.specs.List.{list_any};
 ghost use Rattle.std.specs.Result.{result_err};
 ghost use Rattle.rrd_fixed.specs.Names.{is_good};
-ghost use Rattle.rrd_spec.specs.Creating as creating;
+ghost use Rattle.rrd_spec.specs.Commands.Creating as creating;
 ghost use Rattle.rrd_spec.specs.Limits.{version_one};
-ghost use Rattle.rrd_spec.specs.Verdict as verdict;
+ghost use Rattle.rrd_spec.specs.Commands.Verdict as verdict;
 
 use crate::named::is_double;
 use crate::rows::all_rows;

@@ -3,11 +3,11 @@
 ghost use Rattle.std.specs.Prelude.{◌≡◌, ◌^◌, ◌<◌, ◌≤◌, ℕ, List, [], ◌∷◌, ◌++◌, length, MatchResult, Err};
 ghost use Rattle.std.specs.Result.{result_err};
 ghost use Rattle.rrd_fold.specs.declared.function.Function.{Function};
-ghost use Rattle.rrd_spec.specs.declared.fetch.Request.{Request};
+ghost use Rattle.rrd_spec.specs.declared.requests.fetch.Request.{Request};
 ghost use Rattle.rrd_spec.specs.declared.settings.RraDef.{RraDef};
 ghost use Rattle.rrd_spec.specs.Choice as choice;
 ghost use Rattle.rrd_spec.specs.Limits.{version_one};
-ghost use Rattle.rrd_spec.specs.Verdict.{first_refusal};
+ghost use Rattle.rrd_spec.specs.Commands.Verdict.{first_refusal};
 
 use crate::{Chosen, Refusal, RraDef};
 use rrd_fold::Function;

@@ -2,7 +2,7 @@
 ghost use Rattle.std.specs.Prelude.{◌≡◌, ◌<◌, ◌≤◌, length, map, IfOk};
 ghost use Rattle.rrd_spec.specs.Limits.{version_one};
 ghost use Rattle.rrd_base.specs.Journal.{CanUndo, before, entry_of, update_of};
-ghost use Rattle.rrd_spec.specs.Entries.{UpdateEntry, ResizeEntry, TuneEntry, undone, put_back_each, saved, SavedArchive as Saved, cells_saved};
+ghost use Rattle.rrd_spec.specs.Journal.Entries.{UpdateEntry, ResizeEntry, TuneEntry, undone, put_back_each, saved, SavedArchive as Saved, cells_saved};
 ghost use Rattle.rrd_base.specs.Rra.{CanPutBackEach, IsStepped};
 ghost use Rattle.rrd_spec.specs.Validity.{IsValid};
 ghost use Rattle.std.specs.List.{AllByRecursion};

@@ -4,8 +4,8 @@ ghost use Rattle.rrd_base.specs.Journal.{entry_of};
 ghost use Rattle.rrd_fold.specs.Parts.{Part};
 ghost use Rattle.rrd_base.specs.declared.rebuild.PieceFault.TheVariants.{Bad};
 ghost use Rattle.rrd_spec.specs.declared.due.Due.TheVariants.{NothingDue};
-ghost use Rattle.rrd_spec.specs.Filed.{Header, One, Source, filed};
-ghost use Rattle.rrd_spec.specs.Rebuilding.{IsHeader, MayCell, MayEntry, MayHead, MayPrep, MaySource, begun, due, outline_left, unprepared, with_cell, with_entry, with_head, with_prep, with_source};
+ghost use Rattle.rrd_spec.specs.Files.Filed.{Header, One, Source, filed};
+ghost use Rattle.rrd_spec.specs.Files.Rebuilding.{IsHeader, MayCell, MayEntry, MayHead, MayPrep, MaySource, begun, due, outline_left, unprepared, with_cell, with_entry, with_head, with_prep, with_source};
 ghost use Rattle.rrd_spec.specs.Validity.{IsValidDatabase};
 
 use crate::content::Content;
@@ -17,25 +17,25 @@ use crate::rra::Rra;
 use crate::{Database, DsDef, Due, List, Outline, RraDef};
 use circular_buffer::HeapCircularBuffer;
 use cursor::Cursor;
-use fitting::may_undo;
-use judged::{is_archive, is_part};
-use made::{made_row, made_step};
+use entry_checks::may_undo;
+use outline::undo;
+use piece_checks::{is_archive, is_part};
+use preparations::{made_row, made_step};
 use rrd_fixed::{Cell, Raw};
 use rrd_fold::{Function, StepPrep};
 use rrd_spec::laws;
 use rrd_spec::limits::{LATEST_TIME, MOST_ARCHIVES, MOST_SOURCES};
 use std::alloc::{AllocError, Global};
 use std::marker::Model;
-use undoing::undo;
 
 mod cursor;
-mod entering;
-mod fitting;
-mod judged;
-mod made;
-mod undoing;
+mod entry_checks;
+mod next_entry;
+mod outline;
+mod piece_checks;
+mod preparations;
 
-pub use judged::{is_accepted, is_bounded, is_source};
+pub use piece_checks::{is_accepted, is_bounded, is_source};
 
 /// Why a piece is not taken.
 #[derive(Clone, Copy, Debug, PartialEq, Eq)]
@@ -69,7 +69,7 @@ pub struct Rebuild {
 
 impl Model for Rebuild {
     ghost use Rattle.rrd_base.specs.Rebuild.{filed_of, AreRebuilding};
-    ghost use Rattle.rrd_spec.specs.Filed.{Filed};
+    ghost use Rattle.rrd_spec.specs.Files.Filed.{Filed};
 
     ghost Value = { Filed };
 

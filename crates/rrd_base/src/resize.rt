@@ -6,7 +6,7 @@ ghost use Rattle.rrd_spec.specs.Commands.{all_rows_after, rows_changed, rows_of_
 ghost use Rattle.rrd_spec.specs.History.{Resized};
 ghost use Rattle.rrd_spec.specs.Limits.{version_one};
 ghost use Rattle.rrd_base.specs.Resize.{HasFewRows, settings};
-ghost use Rattle.rrd_spec.specs.Verdict as verdict;
+ghost use Rattle.rrd_spec.specs.Commands.Verdict as verdict;
 
 use crate::create::{has_too_many_cells, is_bad_rows};
 use crate::rows::all_rows;

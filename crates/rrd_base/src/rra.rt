@@ -5,13 +5,13 @@ ghost use Rattle.rrd_fixed.specs.declared.cell.Cell.{Cell};
 ghost use Rattle.rrd_fixed.specs.declared.cell.Cell.TheVariants.{Unknown};
 ghost use Rattle.rrd_fold.specs.Parts.{Part, nothing, row_cell, with_each};
 ghost use Rattle.rrd_ring.specs.Rows.{HasWidth, newest_rows, row_at, unknown_rows, width};
-ghost use Rattle.rrd_spec.specs.Entries.{put_back as after_put_back, saved};
+ghost use Rattle.rrd_spec.specs.Journal.Entries.{put_back as after_put_back, saved};
 ghost use Rattle.rrd_spec.specs.Limits.{version_one};
-ghost use Rattle.rrd_spec.specs.Creating.{new_archive};
-ghost use Rattle.rrd_spec.specs.Each.{AllOf, parts_in};
-ghost use Rattle.rrd_spec.specs.Listed.{keep_last};
-ghost use Rattle.rrd_spec.specs.Passing.{archive_passed};
-ghost use Rattle.rrd_spec.specs.Cells.{row_of_age};
+ghost use Rattle.rrd_spec.specs.Commands.Creating.{new_archive};
+ghost use Rattle.rrd_spec.specs.Preparations.{AllOf, parts_in};
+ghost use Rattle.rrd_spec.specs.Laws.Listed.{keep_last};
+ghost use Rattle.rrd_spec.specs.Laws.Passing.{archive_passed};
+ghost use Rattle.rrd_spec.specs.History.Cells.{row_of_age};
 ghost use Rattle.rrd_base.specs.Rra.{CanPutBack, IsStepped};
 ghost use Rattle.rrd_base.specs.Walk.{AreSteps, cells_of, count_of, least_of_all, least_of_one, most_of_all, most_of_one, sources_of};
 ghost use Rattle.rrd_spec.specs.Validity.{IsRow, IsValidArchive};
@@ -37,7 +37,7 @@ pub(crate) struct Rra {
 }
 
 impl Model for Rra {
-    ghost use Rattle.rrd_spec.specs.Each.{AllOf, parts_in};
+    ghost use Rattle.rrd_spec.specs.Preparations.{AllOf, parts_in};
     ghost use Rattle.rrd_spec.specs.History.{Archive};
 
     ghost Value = { Archive };

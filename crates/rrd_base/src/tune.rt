@@ -3,12 +3,12 @@ ghost use Rattle.std.specs.Prelude.{◌≡◌, ◌≤◌, length, map};
 ghost use Rattle.std.specs.List.{list_any};
 ghost use Rattle.std.specs.Result.{result_err};
 ghost use Rattle.rrd_spec.specs.Commands as commands;
-ghost use Rattle.rrd_spec.specs.Entries as entries;
+ghost use Rattle.rrd_spec.specs.Journal.Entries as entries;
 ghost use Rattle.rrd_spec.specs.History.{raws_under};
 ghost use Rattle.rrd_base.specs.Tune.{with_raws};
-ghost use Rattle.rrd_spec.specs.Outlines.{with_sources};
+ghost use Rattle.rrd_spec.specs.Journal.Outlines.{with_sources};
 ghost use Rattle.rrd_spec.specs.Limits.{version_one};
-ghost use Rattle.rrd_spec.specs.Verdict as verdict;
+ghost use Rattle.rrd_spec.specs.Commands.Verdict as verdict;
 
 use crate::create::{has_bad_bounds, is_bad_heartbeat};
 use crate::named::has_source;

@@ -1,13 +1,13 @@
 //! Samples for a database: what an update asks, and which updates are accepted.
 ghost use Rattle.std.specs.Prelude.{◌≡◌, ◌<◌, ◌∷◌, [], false, length, map, not, slice_index_or};
 ghost use Rattle.rrd_spec.specs.declared.settings.DsDef.{DsDef};
-ghost use Rattle.rrd_spec.specs.declared.update.Given.TheVariants.{Unknown};
+ghost use Rattle.rrd_spec.specs.declared.requests.update.Given.TheVariants.{Unknown};
 ghost use Rattle.std.specs.List.{list_any, list_all};
 ghost use Rattle.std.specs.Result.{result_err};
 ghost use Rattle.rrd_spec.specs.Settings.{names};
 ghost use Rattle.rrd_spec.specs.Commands.{raw_of, value_for};
 ghost use Rattle.rrd_spec.specs.Limits.{version_one};
-ghost use Rattle.rrd_spec.specs.Verdict.{first_refusal, is_admitted, sample_checks, update_checks};
+ghost use Rattle.rrd_spec.specs.Commands.Verdict.{first_refusal, is_admitted, sample_checks, update_checks};
 ghost use Rattle.rrd_spec.specs.Settings.{has_source, is_double};
 ghost use Rattle.rrd_base.specs.Update.{end_of, template_checks, template_of};
 ghost use Rattle.rrd_fixed.specs.Rate.{IsAccepted};

@@ -1,15 +1,15 @@
 //! A walk over a content: how the time up to a sample passes over it.
 ghost use Rattle.std.specs.Prelude.{◌≡◌, ◌+◌, ◌-◌, ◌*◌, ◌/◌, ◌^◌, ◌<◌, ◌≤◌, [], ◌∷◌, length, replicate, IfOk, None};
 ghost use Rattle.rrd_spec.specs.Commands.{Updating};
-ghost use Rattle.rrd_spec.specs.Listed.{moved_listed};
+ghost use Rattle.rrd_spec.specs.Laws.Listed.{moved_listed};
 ghost use Rattle.rrd_spec.specs.History.{Sampled};
-ghost use Rattle.rrd_spec.specs.Listed.{content_listed};
+ghost use Rattle.rrd_spec.specs.Laws.Listed.{content_listed};
 ghost use Rattle.rrd_spec.specs.History as history;
 ghost use Rattle.rrd_spec.specs.Limits.{version_one};
-ghost use Rattle.rrd_spec.specs.Passing.{passed};
-ghost use Rattle.rrd_spec.specs.Turns.{AreTurns};
+ghost use Rattle.rrd_spec.specs.Laws.Passing.{passed};
+ghost use Rattle.rrd_spec.specs.Commands.Turns.{AreTurns};
 ghost use Rattle.rrd_spec.specs.Validity.{AreAccepted, IsRow, IsValid};
-ghost use Rattle.rrd_spec.specs.Verdict.{verdict};
+ghost use Rattle.rrd_spec.specs.Commands.Verdict.{verdict};
 
 pub(crate) mod preparations;
 

@@ -16,13 +16,13 @@ use Rattle.rrd_fold.specs.Parts.{Part}
 use Rattle.rrd_spec.specs.declared.due.Due.TheVariants.{SourceDue, HeadDue, PrepDue, CellDue, EntryDue, NothingDue}
 use Rattle.rrd_spec.specs.declared.settings.DsDef.{DsDef}
 use Rattle.rrd_spec.specs.declared.settings.RraDef.{RraDef}
-use Rattle.rrd_spec.specs.Entries.{Entry}
-use Rattle.rrd_spec.specs.Filed.{Filed, Head, Header, Source}
-use Rattle.rrd_spec.specs.Rebuilding.{IsArchiveDef, due, heads_with_part, limits_of, rows_in_all, unprepared}
+use Rattle.rrd_spec.specs.Journal.Entries.{Entry}
+use Rattle.rrd_spec.specs.Files.Filed.{Filed, Head, Header, Source}
+use Rattle.rrd_spec.specs.Files.Rebuilding.{IsArchiveDef, due, heads_with_part, limits_of, rows_in_all, unprepared}
 use Rattle.rrd_spec.specs.Settings.{has_source, is_double, names}
 use Rattle.rrd_spec.specs.Validity.{AreParts, IsPart, IsSourceWithin}
 use Rattle.rrd_file.specs.Layout.{head_pieces}
-use Rattle.rrd_file.specs.Pieces.{Piece, OfSource, OfArchive, OfPrep, OfCell}
+use Rattle.rrd_file.specs.Layout.Pieces.{Piece, OfSource, OfArchive, OfPrep, OfCell}
 use Rattle.rrd_file.specs.Stages.{Stage, Body, Runs, Takes}
 use Rattle.rrd_file.proofs.Order.{in_order}
 use Rattle.rrd_file.proofs.Tests.{or_left, or_right}

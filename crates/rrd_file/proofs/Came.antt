@@ -8,12 +8,12 @@ use Rattle.std.proofs.lemmas.Grind.{flat_map-append}
 use Rattle.rrd_fixed.specs.declared.cell.Cell.{Cell}
 use Rattle.rrd_fold.specs.Parts.{Part}
 use Rattle.rrd_spec.specs.declared.settings.RraDef.{RraDef}
-use Rattle.rrd_spec.specs.Entries.{Entry}
-use Rattle.rrd_spec.specs.Filed.{Filed, Head, Header, Source}
-use Rattle.rrd_spec.specs.Rebuilding.{heads_with_part, rows_in_all, unprepared, with_entry}
+use Rattle.rrd_spec.specs.Journal.Entries.{Entry}
+use Rattle.rrd_spec.specs.Files.Filed.{Filed, Head, Header, Source}
+use Rattle.rrd_spec.specs.Files.Rebuilding.{heads_with_part, rows_in_all, unprepared, with_entry}
 use Rattle.rrd_file.specs.Faults.{IsWhole}
 use Rattle.rrd_file.specs.Layout.{entry_pieces, head_pieces, pieces_filed, spelled}
-use Rattle.rrd_file.specs.Pieces.{Piece, Mark, OfVersion, OfHeader, OfSource, OfArchive, OfPrep, OfCell, OfTag, spell}
+use Rattle.rrd_file.specs.Layout.Pieces.{Piece, Mark, OfVersion, OfHeader, OfSource, OfArchive, OfPrep, OfCell, OfTag, spell}
 use Rattle.rrd_file.specs.Stages.{Stage, Start, Marked, Versioned, Body, Within, DueInEntry, GoesOn, Runs}
 use Rattle.rrd_file.proofs.Order.{before_cell, before_entry, before_head, prep_before, source_before}
 use Rattle.rrd_file.proofs.Ways.{Step, ToMark, ToVersion, ToHeader, ToSource, ToHead, ToPrep, ToCell, ToEntry, ToPiece, step_of}

@@ -12,7 +12,7 @@ use Rattle.rrd_spec.specs.History.{Archive, Content}
 use Rattle.rrd_spec.specs.Validity.{IsValid}
 use Rattle.rrd_file.proofs.Told.{archive_at, some_is}
 use Rattle.rrd_file.specs.Layout.{spelled}
-use Rattle.rrd_file.specs.Pieces.{OfCell, spell}
+use Rattle.rrd_file.specs.Layout.Pieces.{OfCell, spell}
 
 product : (a b : ℕ) → 0 < a → 0 < b → 0 < a * b
 product a b p q = omega (arith, mul-le 1 1 a b (omega (arith, p)) (omega (arith, q)))

@@ -2,18 +2,18 @@
 use Rattle.std.proofs.Common.{◌≡◌, ◌≢◌, ◌∙◌, ◌++◌, ◌∷◌, ◌+◌, ◌<◌, ℕ, suc, List, [], sym, ap, subst, refl, length, length-append, arith, take_at, get_or}
 use Rattle.std.specs.List.{flat_map}
 use Rattle.rrd_spec.specs.declared.due.Due.TheVariants.{EntryDue}
-use Rattle.rrd_spec.specs.Entries.{Entry}
-use Rattle.rrd_spec.specs.Filed.{Filed}
-use Rattle.rrd_spec.specs.Rebuilding.{MayEntry, due, limits, outline_left, with_entry}
+use Rattle.rrd_spec.specs.Journal.Entries.{Entry}
+use Rattle.rrd_spec.specs.Files.Filed.{Filed}
+use Rattle.rrd_spec.specs.Files.Rebuilding.{MayEntry, due, limits, outline_left, with_entry}
 use Rattle.rrd_file.specs.declared.fault.FileFault.{FileFault}
 use Rattle.rrd_file.specs.declared.fault.FileFault.TheVariants.{BadEntry}
 use Rattle.rrd_file.specs.Faults.{Front, IsBad, IsFault, bad_in_body}
-use Rattle.rrd_file.specs.Inputs.{Gives, Input, IsCut, left}
+use Rattle.rrd_file.specs.Decoding.Input.{Gives, Input, IsCut, left}
 use Rattle.rrd_file.specs.Layout.{entry_pieces}
-use Rattle.rrd_file.specs.Pieces.{AResize, ATune, AnUpdate, OfTag, Piece, Tag, spell, tag_byte}
-use Rattle.rrd_file.specs.Shapes.{IsShaped}
+use Rattle.rrd_file.specs.Layout.Pieces.{AResize, ATune, AnUpdate, OfTag, Piece, Tag, spell, tag_byte}
+use Rattle.rrd_file.specs.Decoding.Journal.{IsShaped}
 use Rattle.rrd_file.specs.Stages.{BeforeDue, Body, CountDue, DueInEntry, NamedDue, NumberDue, OldRowsDue, RowCellDue, RowPrepDue, RowsDue, TimeDue, GoesOn, Keeps, Stage, Takes, Within, behind, body_size, first_due, size, size_due}
-use Rattle.rrd_file.specs.Standing.{Comes, Stands}
+use Rattle.rrd_file.specs.Decoding.Progress.{Comes, Stands}
 use Rattle.rrd_file.proofs.OneShape.{shaped_one, undo_shaped}
 use Rattle.rrd_file.proofs.Reached.{cut, front_more, gives_rest, refused}
 use Rattle.rrd_file.proofs.Ways.{Step, ToSource, ToHead, ToPrep, ToCell, ToEntry, step_of}

@@ -4,10 +4,10 @@ use Rattle.std.specs.Prelude.{slice_get}
 use Rattle.std.specs.List.{AllByRecursion}
 use Rattle.rrd_spec.specs.declared.entry.SourceBefore.{SourceBefore}
 use Rattle.rrd_spec.specs.History.{Content}
-use Rattle.rrd_spec.specs.Entries.{Entry, undone}
+use Rattle.rrd_spec.specs.Journal.Entries.{Entry, undone}
 use Rattle.rrd_spec.specs.Validity.{IsValid, IsValidJournal, IsValidDatabase, Fits, Rise}
 use Rattle.rrd_file.proofs.Told.{some_is}
-use Rattle.rrd_file.specs.Entered.{HasSmallNumber, IsEntryOfSome}
+use Rattle.rrd_file.specs.Encoding.Journal.{HasSmallNumber, IsEntryOfSome}
 
 small_in : (olds : List SourceBefore) (i : ℕ) (x : SourceBefore) → AllByRecursion HasSmallNumber olds → i < length olds → (get_or olds i x).number < 2 ^ 16
 small_in [] i x all h = absurd (omega arith)

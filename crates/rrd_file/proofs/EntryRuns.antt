@@ -13,14 +13,14 @@ use Rattle.rrd_spec.specs.declared.entry.SourceBefore.{SourceBefore}
 use Rattle.rrd_spec.specs.declared.outline.Outline.{Outline}
 use Rattle.rrd_spec.specs.declared.settings.DsDef.{DsDef}
 use Rattle.rrd_spec.specs.declared.settings.RraDef.{RraDef}
-use Rattle.rrd_spec.specs.Entries.{BeforeUpdate, Entry, SavedArchive, UpdateEntry, TuneEntry, ResizeEntry}
-use Rattle.rrd_spec.specs.Filed.{Filed}
+use Rattle.rrd_spec.specs.Journal.Entries.{BeforeUpdate, Entry, SavedArchive, UpdateEntry, TuneEntry, ResizeEntry}
+use Rattle.rrd_spec.specs.Files.Filed.{Filed}
 use Rattle.rrd_spec.specs.Limits.{Limits}
-use Rattle.rrd_spec.specs.Outlines.{IsSourceBefore, MayResize, MaySaveEach, MayTune, MayUpdate}
-use Rattle.rrd_spec.specs.Rebuilding.{MayEntry, limits, outline_left, with_entry}
+use Rattle.rrd_spec.specs.Journal.Outlines.{IsSourceBefore, MayResize, MaySaveEach, MayTune, MayUpdate}
+use Rattle.rrd_spec.specs.Files.Rebuilding.{MayEntry, limits, outline_left, with_entry}
 use Rattle.rrd_spec.specs.Validity.{AreAccepted, IsPart, IsRow, Rise}
 use Rattle.rrd_file.specs.Layout.{entry_pieces, raws_and_parts, row_pieces, saved_pieces}
-use Rattle.rrd_file.specs.Pieces.{Piece, OfCell, OfCount, OfNumber, OfPrep, OfRows, OfSourceBefore, Tag, OfTag, OfTime, AnUpdate, ATune, AResize}
+use Rattle.rrd_file.specs.Layout.Pieces.{Piece, OfCell, OfCount, OfNumber, OfPrep, OfRows, OfSourceBefore, Tag, OfTag, OfTime, AnUpdate, ATune, AResize}
 use Rattle.rrd_file.specs.Stages.{Stage, Body, Within, DueInEntry, BeforeDue, RowPrepDue, RowCellDue, GoesOn, Keeps, Runs, Takes, archive_due, behind, cells_due, first_due, named_due}
 
 -- ---- what is due is what comes

@@ -7,7 +7,7 @@ use Rattle.std.specs.Io.KnownBytes.{Consumes, Keeps, prepend_known}
 use Rattle.std.proofs.lemmas.List.{take-append-le}
 use borrow.Rule.Slice.PartMut.{put_mid, post_of}
 use Rattle.std.proofs.lemmas.List.{drop-take, drop_at, length-take, length-take-le, take-append-drop, take_at}
-use Rattle.rrd_file.specs.Waited.{IsWaiting}
+use Rattle.rrd_file.specs.Decoding.Waiting.{IsWaiting}
 use lib.Seq.{drop-drop, take-add, take-take}
 
 -- the waiting bytes at the front

@@ -11,7 +11,7 @@ use Rattle.std.proofs.lemmas.Option.{get_or_from_slice_get, slice_get_within, sl
 use Rattle.rrd_fixed.specs.Written.{AppendsFront, Writes}
 use Rattle.rrd_fixed.specs.declared.streams.WriteFault.{WriteFault}
 use Rattle.rrd_fixed.specs.Writing.{writes_stop, writes_then}
-use Rattle.rrd_file.specs.Gathered.{Adds, Breaks, Gathers}
+use Rattle.rrd_file.specs.Encoding.Block.{Adds, Breaks, Gathers}
 
 -- ---- one run of bytes and then another
 

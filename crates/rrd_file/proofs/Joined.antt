@@ -2,12 +2,12 @@
 use Rattle.std.proofs.Common.{◌≡◌, ◌∙◌, ◌++◌, ◌∷◌, [], List, ℕ, sym, ap, append_assoc, append-nil, map, refl, length}
 use Rattle.std.specs.List.{flat_map}
 use Rattle.std.proofs.lemmas.Grind.{flat_map-append}
-use Rattle.rrd_spec.specs.Entries.{SavedArchive}
-use Rattle.rrd_spec.specs.Filed.{Filed, One, filed, head_of, header_of}
+use Rattle.rrd_spec.specs.Journal.Entries.{SavedArchive}
+use Rattle.rrd_spec.specs.Files.Filed.{Filed, One, filed, head_of, header_of}
 use Rattle.rrd_spec.specs.History.{Archive}
-use Rattle.rrd_spec.specs.Survivors.{Stored}
+use Rattle.rrd_spec.specs.Journal.Survivors.{Stored}
 use Rattle.rrd_file.specs.Layout.{body_pieces, saved_pieces, entry_pieces, head_pieces, layout, row_pieces, spelled}
-use Rattle.rrd_file.specs.Pieces.{Piece, Mark, OfVersion, OfHeader, OfSource, OfArchive, OfPrep, OfRows, OfCell, spell}
+use Rattle.rrd_file.specs.Layout.Pieces.{Piece, Mark, OfVersion, OfHeader, OfSource, OfArchive, OfPrep, OfRows, OfCell, spell}
 
 -- ---- bytes added in turn
 

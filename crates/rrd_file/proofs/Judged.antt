@@ -6,18 +6,19 @@ use Rattle.rrd_base.specs.declared.rebuild.PieceFault.{PieceFault}
 use Rattle.rrd_base.specs.declared.rebuild.PieceFault.TheVariants as refusal
 use Rattle.rrd_spec.specs.declared.due.Due.TheVariants.{SourceDue, HeadDue, PrepDue, CellDue, NothingDue}
 use Rattle.rrd_spec.specs.declared.settings.RraDef.{RraDef}
-use Rattle.rrd_spec.specs.Filed.{Filed, Header, Source, One}
-use Rattle.rrd_spec.specs.Rebuilding.{IsHeader, MayCell, MayHead, MayPrep, MaySource, begun, due, limits, with_cell, with_head, with_prep, with_source}
+use Rattle.rrd_spec.specs.Files.Filed.{Filed, Header, Source, One}
+use Rattle.rrd_spec.specs.Files.Rebuilding.{IsHeader, MayCell, MayHead, MayPrep, MaySource, begun, due, limits, with_cell, with_head, with_prep, with_source}
 use Rattle.rrd_file.specs.declared.fault.FileFault.{FileFault}
 use Rattle.rrd_file.specs.declared.fault.FileFault.TheVariants.{NotOurs, Version as WrongVersion, BadBlock, BadEntry}
 use Rattle.std.specs.Prelude.{Some}
 use Rattle.rrd_file.specs.Faults.{Front, IsBad, IsFault, IsTrailing, IsWhole, bad_in_body}
-use Rattle.rrd_file.specs.Inputs.{Gives, Input, IsCut, left}
-use Rattle.rrd_file.specs.Pieces.{Mark, OfArchive, OfCell, OfHeader, OfPrep, OfSource, OfVersion, Piece, header_bytes, spell}
-use Rattle.rrd_file.specs.Spelling.{four_bytes, two_bytes}
+use Rattle.rrd_file.specs.Decoding.Input.{Gives, Input, IsCut, left}
+use Rattle.rrd_file.specs.Layout.Pieces.{Mark, OfArchive, OfCell, OfHeader, OfPrep, OfSource, OfVersion, Piece, header_bytes, spell}
+use Rattle.rrd_file.specs.Layout.Values.{four_bytes, two_bytes}
 use Rattle.rrd_file.specs.Stages.{Body, Marked, Stage, Start, Takes, Versioned, body_size, size}
-use Rattle.rrd_file.specs.Standing.{Stands, fault_in_block, fault_in_entry}
-use Rattle.rrd_file.specs.Values.{FitsArchive, FitsCell, FitsHeader, FitsPart, FitsSource}
+use Rattle.rrd_file.specs.Decoding.Progress.{Stands}
+use Rattle.rrd_file.specs.Decoding.Faults.{fault_in_block, fault_in_entry}
+use Rattle.rrd_file.specs.Decoding.Values.{FitsArchive, FitsCell, FitsHeader, FitsPart, FitsSource}
 use Rattle.rrd_file.proofs.OneSpelling.{archive_fits, cell_fits, header_fits, is_one, prep_fits, source_fits}
 use Rattle.rrd_file.proofs.Reached.{cut, refused, taken}
 use Rattle.rrd_file.proofs.Sound.{IsSound, reached_sound, small_limits}

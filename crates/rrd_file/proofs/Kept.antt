@@ -9,18 +9,18 @@ use Rattle.rrd_spec.specs.declared.entry.SourceBefore.{SourceBefore}
 use Rattle.rrd_spec.specs.declared.outline.Outline.{Outline}
 use Rattle.rrd_spec.specs.declared.settings.DsDef.{DsDef}
 use Rattle.rrd_spec.specs.declared.settings.RraDef.{RraDef}
-use Rattle.rrd_spec.specs.Filed.{Filed}
+use Rattle.rrd_spec.specs.Files.Filed.{Filed}
 use Rattle.rrd_spec.specs.Limits.{Limits}
-use Rattle.rrd_spec.specs.Outlines.{IsSourceBefore}
+use Rattle.rrd_spec.specs.Journal.Outlines.{IsSourceBefore}
 use Rattle.rrd_spec.specs.Validity.{IsPart}
-use Rattle.rrd_spec.specs.Rebuilding.{limits, outline_left}
+use Rattle.rrd_spec.specs.Files.Rebuilding.{limits, outline_left}
 use Rattle.rrd_file.specs.declared.fault.FileFault.TheVariants.{BadEntry}
 use Rattle.rrd_file.specs.Faults.{IsBad}
-use Rattle.rrd_file.specs.Inputs.{Gives, Input}
-use Rattle.rrd_file.specs.Pieces.{OfCell, OfCount, OfNumber, OfPrep, OfRawAndPart, OfRows, OfSourceBefore, OfTime, Piece, spell}
+use Rattle.rrd_file.specs.Decoding.Input.{Gives, Input}
+use Rattle.rrd_file.specs.Layout.Pieces.{OfCell, OfCount, OfNumber, OfPrep, OfRawAndPart, OfRows, OfSourceBefore, OfTime, Piece, spell}
 use Rattle.rrd_file.specs.Stages.{BeforeDue, CountDue, DueInEntry, Keeps, NamedDue, NumberDue, OldRowsDue, RowCellDue, RowPrepDue, RowsDue, TimeDue, Within, behind, size_due}
-use Rattle.rrd_file.specs.Standing.{Comes}
-use Rattle.rrd_file.specs.Values.{FitsCell, FitsPart, FitsRaw, FitsSourceBefore}
+use Rattle.rrd_file.specs.Decoding.Progress.{Comes}
+use Rattle.rrd_file.specs.Decoding.Values.{FitsCell, FitsPart, FitsRaw, FitsSourceBefore}
 use Rattle.rrd_file.proofs.Coming.{came, inside, wrong}
 use Rattle.rrd_file.proofs.OneSpelling.{cell_fits, def_fits, part_fits, raw_fits}
 use Rattle.rrd_file.proofs.Sound.{AreSmall, AreSound, HasSomeSteps, IsSound, IsSoundDue, now_sound, reached_sound, small_limits}

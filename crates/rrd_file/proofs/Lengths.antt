@@ -8,9 +8,9 @@ use Rattle.rrd_fixed.specs.declared.name.Name.{Name}
 use Rattle.rrd_fixed.specs.Names.{is_good, is_letter}
 use Rattle.rrd_fold.specs.Parts.{Part}
 use Rattle.rrd_spec.specs.declared.settings.DsDef.{DsDef}
-use Rattle.rrd_spec.specs.Filed.{Header, Version, One}
-use Rattle.rrd_file.specs.Spelling.{bound_bytes, eight_bytes, name_bytes, kind_byte, part_bytes, bound_number, source_bytes}
-use Rattle.rrd_file.specs.Pieces.{header_bytes}
+use Rattle.rrd_spec.specs.Files.Filed.{Header, Version, One}
+use Rattle.rrd_file.specs.Layout.Values.{bound_bytes, eight_bytes, name_bytes, kind_byte, part_bytes, bound_number, source_bytes}
+use Rattle.rrd_file.specs.Layout.Pieces.{header_bytes}
 use Rattle.rrd_file.specs.Stages.{header_size}
 use Rattle.rrd_file.proofs.SignedBytes.{signed_length}
 use Rattle.rrd_file.proofs.Tests.{and_left, and_right}

@@ -3,11 +3,11 @@ use Rattle.std.proofs.Common.{◌≡◌, ◌∙◌, ◌++◌, ◌∷◌, ◌<◌
 use Rattle.std.specs.Prelude.{◌≢◌}
 use Rattle.std.proofs.lemmas.List.{take_at}
 use Rattle.std.proofs.lemmas.List.Concat.{flat_map-cons}
-use Rattle.rrd_spec.specs.Filed.{Filed}
+use Rattle.rrd_spec.specs.Files.Filed.{Filed}
 use Rattle.rrd_file.specs.Faults.{Front, IsWhole}
 use Rattle.rrd_file.specs.Layout.{spelled}
-use Rattle.rrd_file.specs.Pieces.{Piece, Mark, OfVersion, OfHeader, OfSource, OfArchive, OfPrep, OfCell, OfTag, OfTime, OfRawAndPart, OfRows, OfCount, OfSourceBefore, OfNumber, spell}
-use Rattle.rrd_file.specs.Spelling.{cell_number, raw_bytes, part_bytes}
+use Rattle.rrd_file.specs.Layout.Pieces.{Piece, Mark, OfVersion, OfHeader, OfSource, OfArchive, OfPrep, OfCell, OfTag, OfTime, OfRawAndPart, OfRows, OfCount, OfSourceBefore, OfNumber, spell}
+use Rattle.rrd_file.specs.Layout.Values.{cell_number, raw_bytes, part_bytes}
 use Rattle.rrd_file.specs.Stages.{Stage, Start, Body, Runs, Takes, header_size, size}
 use Rattle.rrd_file.proofs.Lengths.{header_length, part_length}
 use Rattle.rrd_file.proofs.OneEntry.{one_next}

@@ -10,15 +10,15 @@ use Rattle.rrd_ring.specs.Rows.{HasWidth}
 use Rattle.rrd_spec.specs.declared.entry.SourceBefore.{SourceBefore}
 use Rattle.rrd_spec.specs.declared.outline.Outline.{Outline}
 use Rattle.rrd_spec.specs.declared.settings.RraDef.{RraDef}
-use Rattle.rrd_spec.specs.Entries.{BeforeUpdate, Entry, SavedArchive, UpdateEntry, TuneEntry, ResizeEntry}
-use Rattle.rrd_spec.specs.Filed.{Filed}
+use Rattle.rrd_spec.specs.Journal.Entries.{BeforeUpdate, Entry, SavedArchive, UpdateEntry, TuneEntry, ResizeEntry}
+use Rattle.rrd_spec.specs.Files.Filed.{Filed}
 use Rattle.rrd_spec.specs.Limits.{Limits}
-use Rattle.rrd_spec.specs.Outlines.{MaySaveEach, MayUndo}
-use Rattle.rrd_spec.specs.Rebuilding.{MayEntry, limits, outline_left}
+use Rattle.rrd_spec.specs.Journal.Outlines.{MaySaveEach, MayUndo}
+use Rattle.rrd_spec.specs.Files.Rebuilding.{MayEntry, limits, outline_left}
 use Rattle.rrd_spec.specs.Validity.{IsRow}
 use Rattle.rrd_file.specs.Layout.{entry_pieces, raws_and_parts, row_pieces, saved_pieces}
-use Rattle.rrd_file.specs.Pieces.{Piece, Mark, OfCell, OfCount, OfNumber, OfPrep, OfRawAndPart, OfRows, OfSourceBefore, OfTag, OfTime, AnUpdate, ATune, AResize}
-use Rattle.rrd_file.specs.Shapes.{AreSavedShaped, IsShaped, IsUpdateShaped}
+use Rattle.rrd_file.specs.Layout.Pieces.{Piece, Mark, OfCell, OfCount, OfNumber, OfPrep, OfRawAndPart, OfRows, OfSourceBefore, OfTag, OfTime, AnUpdate, ATune, AResize}
+use Rattle.rrd_file.specs.Decoding.Journal.{AreSavedShaped, IsShaped, IsUpdateShaped}
 use Rattle.rrd_file.proofs.Spelled.{append_same}
 use Rattle.rrd_file.proofs.Told.{accepted_length, length_before}
 

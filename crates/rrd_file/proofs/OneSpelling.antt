@@ -20,14 +20,14 @@ use Rattle.rrd_spec.specs.declared.settings.RraDef.{RraDef}
 use Rattle.rrd_spec.specs.declared.outline.Outline.{Outline}
 use Rattle.rrd_spec.specs.declared.entry.SourceBefore.{SourceBefore}
 use Rattle.rrd_spec.specs.Limits.{Limits}
-use Rattle.rrd_spec.specs.Filed.{Filed, Head, Header, Source, Version, One}
-use Rattle.rrd_spec.specs.Rebuilding.{IsArchiveDef, IsHeader, MaySource, MayPrep, due, limits, outline_left, unprepared}
+use Rattle.rrd_spec.specs.Files.Filed.{Filed, Head, Header, Source, Version, One}
+use Rattle.rrd_spec.specs.Files.Rebuilding.{IsArchiveDef, IsHeader, MaySource, MayPrep, due, limits, outline_left, unprepared}
 use Rattle.rrd_spec.specs.Validity.{IsPart, IsSourceWithin}
-use Rattle.rrd_spec.specs.Outlines.{IsSourceBefore}
-use Rattle.rrd_spec.specs.Verdict.{is_crossed, is_far}
-use Rattle.rrd_file.specs.Pieces.{Piece, OfVersion, OfHeader, OfSource, OfArchive, OfPrep, OfCell, Tag, OfTag, AnUpdate, ATune, AResize, OfTime, OfRawAndPart, OfRows, OfCount, OfSourceBefore, OfNumber, header_bytes, spell, tag_byte}
+use Rattle.rrd_spec.specs.Journal.Outlines.{IsSourceBefore}
+use Rattle.rrd_spec.specs.Commands.Verdict.{is_crossed, is_far}
+use Rattle.rrd_file.specs.Layout.Pieces.{Piece, OfVersion, OfHeader, OfSource, OfArchive, OfPrep, OfCell, Tag, OfTag, AnUpdate, ATune, AResize, OfTime, OfRawAndPart, OfRows, OfCount, OfSourceBefore, OfNumber, header_bytes, spell, tag_byte}
 use Rattle.rrd_file.specs.Stages.{Stage, Start, DueInEntry, Runs, Takes}
-use Rattle.rrd_file.specs.Values.{FitsArchive, FitsBound, FitsCell, FitsDef, FitsHeader, FitsSourceBefore, FitsPart, FitsRaw, FitsSource}
+use Rattle.rrd_file.specs.Decoding.Values.{FitsArchive, FitsBound, FitsCell, FitsDef, FitsHeader, FitsSourceBefore, FitsPart, FitsRaw, FitsSource}
 use Rattle.rrd_file.proofs.Order.{prep_before}
 use Rattle.rrd_file.proofs.Ways.{Step, ToMark, ToVersion, ToHeader, ToSource, ToHead, ToPrep, ToCell, ToEntry, ToPiece, Way, ByTime, ByRawAndPart, ByRowPrep, ByRows, ByRowCell, ByCount, ByNamed, ByNumber, ByOldRows, step_of}
 use Rattle.rrd_file.proofs.Sound.{AreSmall, AreSound, HasSomeSteps, IsSound, IsSoundDue, IsSoundStage, now_sound, reached_sound, small_limits}

@@ -3,10 +3,10 @@ use Rattle.std.proofs.Common.{◌≡◌, ◌*◌, ◌<◌, ◌≤◌, Bool, refl
 use Rattle.std.specs.Prelude.{nat_lt, true, false, if◌then◌else◌, Option, Some, None}
 use Rattle.std.proofs.lemmas.Bool.{ltb-true, ltb-false}
 use Rattle.rrd_spec.specs.declared.settings.RraDef.{RraDef}
-use Rattle.rrd_spec.specs.Filed.{Filed}
+use Rattle.rrd_spec.specs.Files.Filed.{Filed}
 use Rattle.rrd_spec.specs.declared.due.Due.{Due}
 use Rattle.rrd_spec.specs.declared.due.Due.TheVariants.{SourceDue, HeadDue, PrepDue, CellDue, EntryDue, NothingDue}
-use Rattle.rrd_spec.specs.Rebuilding.{due, prep_or, rows_in_all, unprepared}
+use Rattle.rrd_spec.specs.Files.Rebuilding.{due, prep_or, rows_in_all, unprepared}
 
 -- the due piece, by what is there
 abbrev pub in_order : Bool → Option RraDef → Bool → Bool → Bool → Due

@@ -4,16 +4,16 @@ use Rattle.std.specs.Prelude.{Option, Some, None, IfSome}
 use Rattle.std.specs.List.{flat_map}
 use Rattle.std.specs.Io.KnownBytes.{Consumes, Keeps}
 use Rattle.std.proofs.lemmas.List.Concat.{flat_map-cons}
-use Rattle.rrd_spec.specs.Filed.{Filed}
-use Rattle.rrd_spec.specs.Rebuilding.{due}
+use Rattle.rrd_spec.specs.Files.Filed.{Filed}
+use Rattle.rrd_spec.specs.Files.Rebuilding.{due}
 use Rattle.rrd_spec.specs.declared.due.Due.TheVariants.{CellDue}
 use Rattle.rrd_file.specs.declared.fault.FileFault.{FileFault}
 use Rattle.rrd_file.specs.declared.fault.FileFault.TheVariants.{NotOurs, Version, Truncated, BadBlock, BadEntry, Trailing, Read, OutOfMemory}
 use Rattle.rrd_file.specs.Faults.{Front, IsBad, IsFault, bad_at}
-use Rattle.rrd_file.specs.Inputs.{Advances, Gives, Input, IsCut, left}
-use Rattle.rrd_file.specs.Pieces.{Piece, spell}
+use Rattle.rrd_file.specs.Decoding.Input.{Advances, Gives, Input, IsCut, left}
+use Rattle.rrd_file.specs.Layout.Pieces.{Piece, spell}
 use Rattle.rrd_file.specs.Stages.{Runs, Stage, Start, Takes, size}
-use Rattle.rrd_file.specs.Standing.{Stands}
+use Rattle.rrd_file.specs.Decoding.Progress.{Stands}
 
 -- ---- one piece more
 

@@ -5,13 +5,13 @@ use Rattle.std.proofs.lemmas.List.{length-replicate}
 use Rattle.rrd_fixed.specs.declared.cell.Cell.{Cell}
 use Rattle.rrd_fixed.specs.declared.cell.Cell.TheVariants.{Unknown}
 use Rattle.rrd_ring.specs.Rows.{HasWidth, row_at, unknown_rows, with_row}
-use Rattle.rrd_spec.specs.Filed.{Filed}
-use Rattle.rrd_spec.specs.Rebuilding.{outline_left}
-use Rattle.rrd_file.specs.Inputs.{Input}
+use Rattle.rrd_spec.specs.Files.Filed.{Filed}
+use Rattle.rrd_spec.specs.Files.Rebuilding.{outline_left}
+use Rattle.rrd_file.specs.Decoding.Input.{Input}
 use Rattle.rrd_file.specs.Layout.{row_pieces}
-use Rattle.rrd_file.specs.Pieces.{OfCell, Piece}
+use Rattle.rrd_file.specs.Layout.Pieces.{OfCell, Piece}
 use Rattle.rrd_file.specs.Stages.{DueInEntry, RowCellDue, cells_due}
-use Rattle.rrd_file.specs.Standing.{Comes}
+use Rattle.rrd_file.specs.Decoding.Progress.{Comes}
 use Rattle.rrd_file.proofs.Turns.{more_row, no_cells, row_less, taken_all}
 use Rattle.std.proofs.Common.{map}
 

@@ -5,7 +5,7 @@ use mir.Val.{to_z, of_z, bits}
 use lib.IntN.{ℤ}
 use Rattle.std.proofs.lemmas.Int.{of_z-to_z}
 use Rattle.std.proofs.lemmas.Nat.{be_bytes_8}
-use Rattle.rrd_file.specs.Spelling.{signed_bytes}
+use Rattle.rrd_file.specs.Layout.Values.{signed_bytes}
 use Rattle.rrd_file.proofs.SignedBytes.{halves, lower, of_halves, upper}
 
 written_16 : (bs : List ℕ) → length bs ≡ 16 → upper bs ++ lower bs ≡ bs

@@ -7,7 +7,7 @@ use mir.Val.{to_z, of_z, SFits}
 use mir.Facts.{to_z-of_z}
 use lib.IntN.{ℤ}
 use Rattle.std.proofs.lemmas.Nat.{from_be_bytes-to_be_bytes_8}
-use Rattle.rrd_file.specs.Spelling.{signed_bytes}
+use Rattle.rrd_file.specs.Layout.Values.{signed_bytes}
 
 -- the halves of a number of 16 bytes
 high_byte : (n q r p : ℕ) → n ≡ q * 2 ^ 64 + r → r < 2 ^ 64 → n / (2 ^ 64 * p) % 256 ≡ q / p % 256

@@ -2,8 +2,8 @@
 use Rattle.std.proofs.Common.{◌≡◌, ◌∙◌, ℕ, sym, ap, refl, length, arith, length-append}
 use Rattle.rrd_spec.specs.declared.outline.Outline.{Outline}
 use Rattle.rrd_spec.specs.Limits.{Limits}
-use Rattle.rrd_file.specs.Spelling.{part_bytes, raw_bytes, raw_number, cell_number, source_bytes}
-use Rattle.rrd_file.specs.Pieces.{Piece, spell}
+use Rattle.rrd_file.specs.Layout.Values.{part_bytes, raw_bytes, raw_number, cell_number, source_bytes}
+use Rattle.rrd_file.specs.Layout.Pieces.{Piece, spell}
 use Rattle.rrd_file.specs.Stages.{Stage, DueInEntry, Takes, body_size, header_size, size, size_due}
 use Rattle.rrd_file.proofs.SignedBytes.{signed_length}
 use Rattle.rrd_file.proofs.Lengths.{header_length, length_source, part_length, short_name, source_length}

@@ -11,12 +11,12 @@ use Rattle.rrd_spec.specs.declared.settings.RraDef.{RraDef}
 use Rattle.rrd_spec.specs.declared.outline.Outline.{Outline}
 use Rattle.rrd_spec.specs.declared.entry.SourceBefore.{SourceBefore}
 use Rattle.rrd_spec.specs.Limits.{Limits}
-use Rattle.rrd_spec.specs.Entries.{Entry, UpdateEntry, TuneEntry, ResizeEntry}
-use Rattle.rrd_spec.specs.Filed.{Filed, Head, Source, Version, One}
-use Rattle.rrd_spec.specs.Lists.{All-append, All-replicate}
-use Rattle.rrd_spec.specs.Rebuilding.{IsHeader, MayEntry, due, heads_with_part, limits, limits_of, outline_left}
-use Rattle.rrd_spec.specs.Outlines.{outline_undone, with_row_number, with_sources}
-use Rattle.rrd_file.specs.Pieces.{Piece, Tag, OfTag, AnUpdate, ATune, AResize}
+use Rattle.rrd_spec.specs.Journal.Entries.{Entry, UpdateEntry, TuneEntry, ResizeEntry}
+use Rattle.rrd_spec.specs.Files.Filed.{Filed, Head, Source, Version, One}
+use Rattle.rrd_spec.specs.Lemmas.Lists.{All-append, All-replicate}
+use Rattle.rrd_spec.specs.Files.Rebuilding.{IsHeader, MayEntry, due, heads_with_part, limits, limits_of, outline_left}
+use Rattle.rrd_spec.specs.Journal.Outlines.{outline_undone, with_row_number, with_sources}
+use Rattle.rrd_file.specs.Layout.Pieces.{Piece, Tag, OfTag, AnUpdate, ATune, AResize}
 use Rattle.rrd_file.specs.Stages.{Stage, Start, Marked, Versioned, Body, Within, DueInEntry, TimeDue, BeforeDue, RowPrepDue, RowsDue, RowCellDue, CountDue, NamedDue, NumberDue, OldRowsDue, GoesOn, Runs, Takes, archive_due, behind, first_due, named_due}
 use Rattle.rrd_file.proofs.Order.{source_before, before_head}
 use Rattle.rrd_file.proofs.Ways.{Step, ToMark, ToVersion, ToHeader, ToSource, ToHead, ToPrep, ToCell, ToEntry, ToPiece, Way, ByTime, ByRawAndPart, ByRowPrep, ByRows, ByRowCell, ByCount, ByNamed, ByNumber, ByOldRows, step_of}

@@ -19,10 +19,10 @@ use Rattle.rrd_fold.specs.Parts.{Part}
 use Rattle.rrd_spec.specs.declared.settings.DsDef.{DsDef}
 use Rattle.rrd_spec.specs.declared.settings.RraDef.{RraDef}
 use Rattle.rrd_spec.specs.declared.entry.SourceBefore.{SourceBefore}
-use Rattle.rrd_spec.specs.Filed.{Header, Source, One}
-use Rattle.rrd_file.specs.Pieces.{header_bytes}
-use Rattle.rrd_file.specs.Spelling.{archive_bytes, bound_bytes, bound_number, cell_bytes, eight_bytes, four_bytes, function_byte, kind_byte, least, name_bytes, part_bytes, raw_bytes, raw_number, signed_bytes, source_bytes, two_bytes}
-use Rattle.rrd_file.specs.Values.{FitsArchive, FitsBound, FitsCell, FitsDef, FitsHeader, FitsSourceBefore, FitsNumber, FitsPart, FitsRaw, FitsSource}
+use Rattle.rrd_spec.specs.Files.Filed.{Header, Source, One}
+use Rattle.rrd_file.specs.Layout.Pieces.{header_bytes}
+use Rattle.rrd_file.specs.Layout.Values.{archive_bytes, bound_bytes, bound_number, cell_bytes, eight_bytes, four_bytes, function_byte, kind_byte, least, name_bytes, part_bytes, raw_bytes, raw_number, signed_bytes, source_bytes, two_bytes}
+use Rattle.rrd_file.specs.Decoding.Values.{FitsArchive, FitsBound, FitsCell, FitsDef, FitsHeader, FitsSourceBefore, FitsNumber, FitsPart, FitsRaw, FitsSource}
 use Rattle.rrd_file.proofs.SignedBytes.{signed_length, signed_one}
 use Rattle.rrd_file.proofs.Lengths.{name_length, source_length}
 use Rattle.rrd_file.proofs.Tests.{and_left}

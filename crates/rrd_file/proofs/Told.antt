@@ -8,15 +8,15 @@ use Rattle.rrd_fixed.specs.declared.raw.Raw.{Raw}
 use Rattle.rrd_fold.specs.Parts.{Part, nothing}
 use Rattle.rrd_spec.specs.declared.settings.DsDef.{DsDef}
 use Rattle.rrd_spec.specs.declared.settings.RraDef.{RraDef}
-use Rattle.rrd_spec.specs.Filed.{Source, sources_of}
+use Rattle.rrd_spec.specs.Files.Filed.{Source, sources_of}
 use Rattle.rrd_spec.specs.History.{Archive, Content}
 use Rattle.std.proofs.lemmas.List.{length-map}
 use Rattle.rrd_fold.specs.Bounds.{Consolidating}
-use Rattle.rrd_spec.specs.Cells.{row_at}
-use Rattle.rrd_spec.specs.Cells.{cell_in, prep_in}
+use Rattle.rrd_spec.specs.History.Cells.{row_at}
+use Rattle.rrd_spec.specs.History.Cells.{cell_in, prep_in}
 use Rattle.rrd_spec.specs.Validity.{AreAccepted, IsValid, IsValidArchive}
 use Rattle.rrd_file.specs.Layout.{raws_and_parts}
-use Rattle.rrd_file.specs.Pieces.{OfSource, OfRawAndPart}
+use Rattle.rrd_file.specs.Layout.Pieces.{OfSource, OfRawAndPart}
 
 pub some_is : {A : Type 0} (x y : A) → Some x ≡ Some y → x ≡ y
 some_is x y e = cc

@@ -13,14 +13,14 @@ use Rattle.std.proofs.lemmas.Option.{slice_get-get_or}
 use native.Mathlib.Nat as nat
 use Rattle.rrd_fixed.specs.declared.cell.Cell.{Cell}
 use Rattle.rrd_fixed.specs.declared.cell.Cell.TheVariants.{Unknown}
-use Rattle.rrd_spec.specs.Placed.{StandsInPlace}
+use Rattle.rrd_spec.specs.Laws.Slots.{StandsInPlace}
 use Rattle.rrd_spec.specs.declared.settings.RraDef.{RraDef}
 use Rattle.rrd_spec.specs.History.{Archive, Content}
 use Rattle.rrd_spec.specs.Settings.{resolution}
-use Rattle.rrd_spec.specs.Slots.{by_slot, cells_by_slot, place_in, row_in}
+use Rattle.rrd_spec.specs.Files.Slots.{by_slot, cells_by_slot, place_in, row_in}
 use Rattle.rrd_spec.specs.Validity.{IsValid}
 use Rattle.rrd_file.specs.Layout.{row_pieces, spelled}
-use Rattle.rrd_file.specs.Pieces.{OfCell, spell}
+use Rattle.rrd_file.specs.Layout.Pieces.{OfCell, spell}
 use Rattle.rrd_file.proofs.CellsFiled.{IsDefOf, cells_spelled, rows_are, same_def, small_def, some_size}
 use Rattle.rrd_file.proofs.Gathering.{flat_flat}
 

@@ -12,16 +12,16 @@ use Rattle.rrd_fixed.specs.declared.raw.Raw.{Raw}
 use Rattle.rrd_fold.specs.Bounds.{Consolidating}
 use Rattle.rrd_fold.specs.Parts.{Part}
 use Rattle.rrd_fold.specs.declared.function.Function.{Function}
-use Rattle.rrd_spec.specs.Each.{AllOf, parts_in}
+use Rattle.rrd_spec.specs.Preparations.{AllOf, parts_in}
 use Rattle.rrd_spec.specs.declared.due.Due.TheVariants.{EntryDue, NothingDue}
 use Rattle.rrd_spec.specs.declared.outline.Outline.{Outline}
 use Rattle.rrd_spec.specs.declared.settings.RraDef.{RraDef}
-use Rattle.rrd_spec.specs.Entries.{Entry, SavedArchive}
-use Rattle.rrd_spec.specs.Filed.{Filed}
-use Rattle.rrd_spec.specs.Rebuilding.{due, rows_in_all, with_entry}
+use Rattle.rrd_spec.specs.Journal.Entries.{Entry, SavedArchive}
+use Rattle.rrd_spec.specs.Files.Filed.{Filed}
+use Rattle.rrd_spec.specs.Files.Rebuilding.{due, rows_in_all, with_entry}
 use Rattle.rrd_file.specs.Layout.{raws_and_parts, row_pieces}
-use Rattle.rrd_file.specs.Pieces.{OfCell, OfPrep, OfRawAndPart, Piece}
-use Rattle.rrd_file.specs.Shapes.{AreSavedShaped, IsSavedShaped}
+use Rattle.rrd_file.specs.Layout.Pieces.{OfCell, OfPrep, OfRawAndPart, Piece}
+use Rattle.rrd_file.specs.Decoding.Journal.{AreSavedShaped, IsSavedShaped}
 use Rattle.rrd_file.specs.Stages.{DueInEntry, NamedDue, RowCellDue, cells_due, named_due}
 use Rattle.rrd_file.proofs.Order.{before_entry}
 

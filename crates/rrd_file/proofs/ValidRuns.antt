@@ -15,22 +15,22 @@ use Rattle.rrd_fold.specs.declared.function.Function.TheVariants.{Average}
 use Rattle.rrd_fold.specs.Parts.{Part}
 use Rattle.rrd_spec.specs.declared.outline.Outline.{Outline}
 use Rattle.rrd_spec.specs.declared.settings.DsDef.{DsDef}
-use Rattle.rrd_spec.specs.Entries.{Entry}
-use Rattle.rrd_spec.specs.Filed.{Head, Header, Source, One, filed, head_of, header_of, sources_of}
+use Rattle.rrd_spec.specs.Journal.Entries.{Entry}
+use Rattle.rrd_spec.specs.Files.Filed.{Head, Header, Source, One, filed, head_of, header_of, sources_of}
 use Rattle.rrd_spec.specs.History.{Archive, Content}
-use Rattle.rrd_spec.specs.Journals.{FiledOutline, MayUndoEach, OutlinesAreNeeded}
+use Rattle.rrd_spec.specs.Laws.Outlines.{FiledOutline, MayUndoEach, OutlinesAreNeeded}
 use Rattle.rrd_spec.specs.Limits.{version_one}
-use Rattle.rrd_spec.specs.Lists.{All-append}
-use Rattle.rrd_spec.specs.Outlines.{outline_of, outline_undone}
-use Rattle.rrd_spec.specs.Placed.{AsManyCells, HasOneEach}
-use Rattle.rrd_spec.specs.Rebuilding.{IsArchiveDef, IsHeader, limits_of, outline_filed, outline_left, rows_in_all}
+use Rattle.rrd_spec.specs.Lemmas.Lists.{All-append}
+use Rattle.rrd_spec.specs.Journal.Outlines.{outline_of, outline_undone}
+use Rattle.rrd_spec.specs.Laws.Slots.{AsManyCells, HasOneEach}
+use Rattle.rrd_spec.specs.Files.Rebuilding.{IsArchiveDef, IsHeader, limits_of, outline_filed, outline_left, rows_in_all}
 use Rattle.rrd_spec.specs.Settings.{is_double, names, resolution}
-use Rattle.rrd_spec.specs.Slots.{all_cells, cells_by_slot, row_in, stands_in}
-use Rattle.rrd_spec.specs.Survivors.{Stored}
+use Rattle.rrd_spec.specs.Files.Slots.{all_cells, cells_by_slot, row_in, stands_in}
+use Rattle.rrd_spec.specs.Journal.Survivors.{Stored}
 use Rattle.rrd_spec.specs.Validity.{AreAccepted, IsPart, IsRow, IsSourceWithin, IsValid, IsValidArchive, IsValidDatabase}
 use Rattle.rrd_file.specs.Faults.{IsWhole}
 use Rattle.rrd_file.specs.Layout.{body_pieces, entry_pieces, head_pieces, layout, pieces_filed, spelled}
-use Rattle.rrd_file.specs.Pieces.{Piece, Mark, OfVersion, OfHeader, OfSource, OfCell}
+use Rattle.rrd_file.specs.Layout.Pieces.{Piece, Mark, OfVersion, OfHeader, OfSource, OfCell}
 use Rattle.rrd_file.specs.Stages.{Start, Marked, Versioned, Body, Runs, Takes, body_size, size}
 use Rattle.rrd_file.proofs.BodyRuns.{AreHeadsThere, IsBodyIn, IsFiledHead, IsFiledSource, body, cells_run, defs_of, entry_due, heads_run, heads_there, nothing_due, rows_first, runs_append, sources_run}
 use Rattle.rrd_file.proofs.EntryRuns.{entry_runs}

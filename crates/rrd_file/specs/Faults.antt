@@ -1,16 +1,17 @@
 -- Definition: what reading a file answers: its database, or the first fault in file order.
 use Rattle.std.specs.Prelude.{◌≡◌, ◌≢◌, ◌+◌, ◌<◌, ◌≤◌, ℕ, suc, List, [], ◌++◌, length, take, Result, Ok, Err, ⊤}
 use Rattle.std.specs.List.{flat_map}
-use Rattle.rrd_spec.specs.Filed.{Filed, Version, filed}
+use Rattle.rrd_spec.specs.Files.Filed.{Filed, Version, filed}
 use Rattle.rrd_spec.specs.declared.due.Due.TheVariants.{SourceDue, HeadDue, PrepDue, CellDue, EntryDue, NothingDue}
-use Rattle.rrd_spec.specs.Rebuilding.{due}
+use Rattle.rrd_spec.specs.Files.Rebuilding.{due}
 use Rattle.rrd_spec.specs.declared.due.Due.{Due}
-use Rattle.rrd_spec.specs.Survivors.{Stored}
+use Rattle.rrd_spec.specs.Journal.Survivors.{Stored}
 use Rattle.rrd_spec.specs.Validity.{IsValidDatabase}
 use Rattle.rrd_file.specs.declared.fault.FileFault.{FileFault}
 use Rattle.rrd_file.specs.declared.fault.FileFault.TheVariants.{NotOurs, Version as WrongVersion, Truncated, BadBlock, BadEntry, Trailing, Read, OutOfMemory}
-use Rattle.rrd_file.specs.Pieces.{Piece, spell}
+use Rattle.rrd_file.specs.Layout.Pieces.{Piece, spell}
 use Rattle.rrd_file.specs.Stages.{Stage, Start, Marked, Versioned, Body, Within, Runs, Takes, size}
+pub mod Texts
 
 -- the input up to the rest is right pieces, which lead to the stage
 pub record Front (bytes : List ℕ) (stage : Stage) (rest : List ℕ) : Type 0 where

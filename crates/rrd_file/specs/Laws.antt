@@ -6,18 +6,18 @@ use Rattle.rrd_fold.specs.Parts.{Part}
 use Rattle.rrd_spec.specs.declared.settings.RraDef.{RraDef}
 use Rattle.rrd_spec.specs.declared.entry.SourceBefore.{SourceBefore}
 use Rattle.rrd_spec.specs.Commands.{Command}
-use Rattle.rrd_spec.specs.Entries.{Entry}
-use Rattle.rrd_spec.specs.Filed.{Filed, Source}
-use Rattle.rrd_spec.specs.Rebuilding.{MayEntry}
-use Rattle.rrd_spec.specs.Survivors.{Stored, changed, reverted}
+use Rattle.rrd_spec.specs.Journal.Entries.{Entry}
+use Rattle.rrd_spec.specs.Files.Filed.{Filed, Source}
+use Rattle.rrd_spec.specs.Files.Rebuilding.{MayEntry}
+use Rattle.rrd_spec.specs.Journal.Survivors.{Stored, changed, reverted}
 use Rattle.rrd_spec.specs.Validity.{IsValidDatabase}
-use Rattle.rrd_spec.specs.Verdict.{verdict}
+use Rattle.rrd_spec.specs.Commands.Verdict.{verdict}
 use Rattle.rrd_file.specs.declared.fault.FileFault.{FileFault}
 use Rattle.rrd_file.specs.declared.fault.FileFault.TheVariants.{NotOurs, Version as WrongVersion, Truncated, BadBlock, BadEntry, Trailing, Read, OutOfMemory}
 use Rattle.rrd_file.specs.Faults.{IsAnswer, IsFile}
 use Rattle.rrd_file.specs.Layout.{entry_pieces, layout, layout_in}
-use Rattle.rrd_file.specs.Pieces.{Piece, OfSource, OfArchive, OfPrep, OfCell, OfRawAndPart, OfSourceBefore, spell}
-use Rattle.rrd_file.specs.Values.{FitsArchive, FitsCell, FitsSourceBefore, FitsPart, FitsRaw, FitsSource}
+use Rattle.rrd_file.specs.Layout.Pieces.{Piece, OfSource, OfArchive, OfPrep, OfCell, OfRawAndPart, OfSourceBefore, spell}
+use Rattle.rrd_file.specs.Decoding.Values.{FitsArchive, FitsCell, FitsSourceBefore, FitsPart, FitsRaw, FitsSource}
 use Rattle.rrd_file.specs.Stages.{Runs, Stage, Start, Takes, size}
 
 -- a piece that may come has as many bytes as are due

@@ -4,10 +4,12 @@ use Rattle.std.specs.List.{flat_map}
 use Rattle.rrd_fixed.specs.declared.cell.Cell.{Cell}
 use Rattle.rrd_fixed.specs.declared.raw.Raw.{Raw}
 use Rattle.rrd_fold.specs.Parts.{Part}
-use Rattle.rrd_spec.specs.Entries.{Entry, SavedArchive, UpdateEntry, TuneEntry, ResizeEntry}
-use Rattle.rrd_spec.specs.Filed.{Filed, Head, Version, One, filed}
-use Rattle.rrd_spec.specs.Survivors.{Stored}
-use Rattle.rrd_file.specs.Pieces.{Piece, Mark, OfVersion, OfHeader, OfSource, OfArchive, OfPrep, OfCell, OfTag, OfTime, OfRawAndPart, OfRows, OfCount, OfSourceBefore, OfNumber, AnUpdate, ATune, AResize, spell}
+use Rattle.rrd_spec.specs.Journal.Entries.{Entry, SavedArchive, UpdateEntry, TuneEntry, ResizeEntry}
+use Rattle.rrd_spec.specs.Files.Filed.{Filed, Head, Version, One, filed}
+use Rattle.rrd_spec.specs.Journal.Survivors.{Stored}
+use Rattle.rrd_file.specs.Layout.Pieces.{Piece, Mark, OfVersion, OfHeader, OfSource, OfArchive, OfPrep, OfCell, OfTag, OfTime, OfRawAndPart, OfRows, OfCount, OfSourceBefore, OfNumber, AnUpdate, ATune, AResize, spell}
+pub mod Values
+pub mod Pieces
 
 -- ---- the body
 

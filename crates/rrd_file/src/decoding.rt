@@ -1,29 +1,29 @@
 //! A database from its bytes.
 ghost use Rattle.std.specs.Prelude.{◌≡◌, ◌+◌, ◌⊎◌, ◌<◌, ℕ, List, [], Some, IfOk, OnOk};
-ghost use Rattle.rrd_spec.specs.Filed.{Filed, One};
-ghost use Rattle.rrd_spec.specs.Rebuilding.{due};
+ghost use Rattle.rrd_spec.specs.Files.Filed.{Filed, One};
+ghost use Rattle.rrd_spec.specs.Files.Rebuilding.{due};
 ghost use Rattle.rrd_spec.specs.declared.due.Due.TheVariants.{EntryDue, NothingDue};
 ghost use Rattle.rrd_file.specs.Faults.{IsAnswer};
 ghost use Rattle.rrd_file.specs.Stages.{Body, Marked, Start, Versioned};
-ghost use Rattle.rrd_file.specs.Standing.{Ends, Reaches, Stands};
+ghost use Rattle.rrd_file.specs.Decoding.Progress.{Ends, Reaches, Stands};
 
 use crate::FileFault;
-use crate::input::PieceReader;
-use crate::reading::{four_of, header_of, two_of};
-use blocks::{cells, head, prep, source};
+use crate::decoding::input::PieceReader;
+use crate::decoding::pieces::header_of;
+use crate::decoding::values::{four_of, two_of};
+use body::{cells, head, prep, source};
 use faults::block_fault;
 use journal::entry;
 use rrd_base::{Database, Due, Rebuild};
 use std::alloc::Global;
 use std::io::Read;
 
-mod blocks;
+mod body;
 mod faults;
+mod input;
 mod journal;
-mod resize;
-mod rows;
-mod tune;
-mod update;
+mod pieces;
+mod values;
 
 /// The letters RRDI, as a number.
 const MARK: u64 = 0x5252_4449;
@@ -79,7 +79,10 @@ fn header<R: Read + Drop>(alloc: Global, input: &mut PieceReader<R>) -> Result<R
 }
 
 // Reads what comes between the header and the entries.
-fn body<R: Read + Drop>(input: &mut PieceReader<R>, build: &mut Rebuild) -> Result<(), FileFault>
+fn until_entries<R: Read + Drop>(
+    input: &mut PieceReader<R>,
+    build: &mut Rebuild,
+) -> Result<(), FileFault>
     ensures steps { (bytes : List ℕ) → Stands bytes (Body build.old) input.old
         → Reaches bytes (λ x. Body build.new) input.new result }
     ensures done { OnOk result ((due build.new ≡ EntryDue) ⊎ (due build.new ≡ NothingDue)) }
@@ -135,7 +138,7 @@ pub fn decode<R: Read + Drop>(alloc: Global, reader: R) -> Result<Database, File
     mark(&mut input)?;
     version(&mut input)?;
     let mut build = header(alloc, &mut input)?;
-    body(&mut input, &mut build)?;
+    until_entries(&mut input, &mut build)?;
     entries(alloc, &mut input, &mut build)?;
     end(&mut input)?;
     Ok(build.finish())

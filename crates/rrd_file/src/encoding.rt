@@ -1,14 +1,21 @@
 //! The bytes of a whole database.
-ghost use Rattle.rrd_file.specs.Gathered.{Gathers};
+ghost use Rattle.rrd_file.specs.Encoding.Block.{Gathers};
 ghost use Rattle.rrd_file.specs.Layout.{layout};
 ghost use Rattle.rrd_fixed.specs.Written.{Writes};
 
-use crate::block::Block;
-use crate::body::{write_body, write_header};
-use crate::entries::write_entries;
+use block::Block;
+use body::{write_body, write_header};
+use journal::write_entries;
 use rrd_base::Database;
 use rrd_fixed::{WriteFault, write_bytes};
 use std::io::Write;
+
+mod block;
+mod body;
+mod cells;
+mod journal;
+mod pieces;
+mod values;
 
 // Writes the layout, of which the end waits in the block.
 fn write_layout<W: Write>(

@@ -1,9 +1,9 @@
 //! Laws of the layout alone. Each is the contract of a function that does nothing.
 ghost use Rattle.std.specs.Prelude.{ℕ, List};
 ghost use Rattle.rrd_spec.specs.Commands.{Command};
-ghost use Rattle.rrd_spec.specs.Survivors.{Stored};
+ghost use Rattle.rrd_spec.specs.Journal.Survivors.{Stored};
 ghost use Rattle.rrd_file.specs.Laws as laws;
-ghost use Rattle.rrd_file.specs.Worked as worked;
+ghost use Rattle.rrd_file.specs.Examples as worked;
 
 use rrd_spec::laws::{
     cells_stand_in_slots, databases_are_filed_once, outlines_follow, outlines_judge_journals,

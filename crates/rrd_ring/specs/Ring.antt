@@ -38,7 +38,9 @@ with_unwritten all written = written ++ replicate (all - length written) Unknown
 -- such a ring, of which a front is written: all of it, or as far as the place of its oldest row, with room for the rest
 pub record IsPartlyWritten (rows sources place : ℕ) (written : Vec Cell Global) : Type 0 where
   pub ring : IsRing rows sources place (with_unwritten (rows * sources) written.items)
-  pub ends : (vec_len written ≡ rows * sources) ⊎ ((vec_len written ≡ place * sources) × (rows * sources ≤ vec_capacity written))
+  pub ends :
+      (vec_len written ≡ rows * sources)
+      ⊎ ((vec_len written ≡ place * sources) × (rows * sources ≤ vec_capacity written))
 
 -- at most 1,000,000 rows of at most 64 cells each, in one vector
 pub record AreRows (rows sources : ℕ) (cells : List Cell) : Type 0 where

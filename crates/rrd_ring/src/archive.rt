@@ -5,7 +5,7 @@ ghost use Rattle.rrd_fixed.specs.declared.cell.Cell.{Cell};
 ghost use Rattle.rrd_ring.specs.Rows.{row_at, width, HasWidth, with_row, unknown_rows, newest_rows};
 
 use crate::dropped::Dropped;
-use crate::table::{
+use crate::ring::{
     cells_of, fill_up, push_from, put_row, row_from, row_mut, rows_written, unknown_cells, wrapped,
     write_from,
 };

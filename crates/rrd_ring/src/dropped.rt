@@ -4,7 +4,7 @@ ghost use Rattle.std.specs.Borrow.{sem};
 ghost use Rattle.rrd_fixed.specs.declared.cell.Cell.{Cell};
 ghost use Rattle.rrd_ring.specs.Rows.{row_at, width, HasWidth, with_row, unknown_rows};
 
-use crate::table::{cells_of, row_mut, unknown_cells};
+use crate::ring::{cells_of, row_mut, unknown_cells};
 use rrd_fixed::Cell;
 use std::alloc::{AllocError, Global};
 use std::marker::Model;

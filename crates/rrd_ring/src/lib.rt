@@ -4,7 +4,7 @@
 
 mod archive;
 mod dropped;
-mod table;
+mod ring;
 
 pub use archive::Archive;
 pub use dropped::Dropped;

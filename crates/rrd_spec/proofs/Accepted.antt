@@ -10,12 +10,12 @@ use Rattle.rrd_spec.specs.declared.settings.DsDef.{DsDef}
 use Rattle.rrd_spec.specs.History.{Content, Sampled, Moment, moment_after, moment_of, moment_at_end, raws_under, IsHistory}
 use Rattle.rrd_spec.specs.Commands.{Command, Updating, TuningBy, Resizing, settings_of, sample_of, tuned, rows_changed, events}
 use Rattle.rrd_spec.specs.Settings.{names}
-use Rattle.rrd_spec.specs.Verdict.{Check, first_refusal, is_bad_rows, grows_too_far, shrinks_too_far, checks, verdict, verdict_within}
-use Rattle.rrd_spec.specs.Facts.{readings_rise}
-use Rattle.rrd_spec.specs.Laws.{Passes}
-use Rattle.rrd_spec.specs.declared.update.Sample.{Sample}
-use Rattle.rrd_spec.specs.declared.resize.Change.{Change}
-use Rattle.rrd_spec.specs.declared.resize.Change.TheVariants.{Grow, Shrink}
+use Rattle.rrd_spec.specs.Commands.Verdict.{Check, first_refusal, is_bad_rows, grows_too_far, shrinks_too_far, checks, verdict, verdict_within}
+use Rattle.rrd_spec.specs.Lemmas.Validity.{readings_rise}
+use Rattle.rrd_spec.specs.Laws.Commands.{Passes}
+use Rattle.rrd_spec.specs.declared.requests.update.Sample.{Sample}
+use Rattle.rrd_spec.specs.declared.requests.resize.Change.{Change}
+use Rattle.rrd_spec.specs.declared.requests.resize.Change.TheVariants.{Grow, Shrink}
 use Rattle.rrd_spec.specs.declared.refusal.Refusal.{Refusal}
 use Rattle.rrd_spec.specs.Limits.{version_one}
 

@@ -15,12 +15,12 @@ use Rattle.rrd_fold.specs.declared.function.Function.{Function}
 use Rattle.rrd_fold.specs.declared.function.Function.TheVariants.{Average, Min, Max, Last}
 use Rattle.rrd_spec.specs.declared.settings.RraDef.{RraDef}
 use Rattle.rrd_fold.specs.Parts.{Part, nothing, with_value, with_cell, with_each, step_cell, consolidated, row_cell}
-use Rattle.rrd_spec.specs.Lists.{All-map}
-use Rattle.rrd_spec.specs.Lists.{All-replicate}
+use Rattle.rrd_spec.specs.Lemmas.Lists.{All-map}
+use Rattle.rrd_spec.specs.Lemmas.Lists.{All-replicate}
 use Rattle.rrd_spec.specs.Validity.{weight, IsPart, AreParts, IsRow}
 use Rattle.rrd_spec.proofs.Kept.{Keeps}
 use Rattle.rrd_fixed.specs.Rounding.{near}
-use Rattle.rrd_spec.specs.Steps.{rows_rule, seconds_to_steps}
+use Rattle.rrd_spec.specs.History.Steps.{rows_rule, seconds_to_steps}
 
 -- ---- one source
 

@@ -10,20 +10,20 @@ use Rattle.std.proofs.lemmas.List.{length-map, get_or_append_left, get_or-append
 use Rattle.std.proofs.lemmas.List.FromFn.{length-map-range_with_len, get_or-map-range_with_len}
 use Rattle.std.proofs.lemmas.Nat.{mul-le, mul-lt, div-mul-add, mod-mul-add}
 use Rattle.rrd_fixed.specs.declared.cell.Cell.{Cell}
-use Rattle.rrd_spec.specs.Steps.{rows_rule, seconds_to_steps}
+use Rattle.rrd_spec.specs.History.Steps.{rows_rule, seconds_to_steps}
 use Rattle.rrd_spec.specs.History.{Archive, Content, Event, Sampled, Tuned, Resized, Moment, moment_after, moment_of, moment_at_end, seconds_of, rows_after, IsHistory, IsArchive, IsBase}
-use Rattle.rrd_spec.specs.Steps.{steps_of, rows_of}
-use Rattle.rrd_spec.specs.Listed.{rows_never_lost, keep_last, filled_up, kept_rows, archive_of, content_listed}
-use Rattle.rrd_spec.specs.Groups.{Rule, group_part, finished}
+use Rattle.rrd_spec.specs.History.Steps.{steps_of, rows_of}
+use Rattle.rrd_spec.specs.Laws.Listed.{rows_never_lost, keep_last, filled_up, kept_rows, archive_of, content_listed}
+use Rattle.rrd_spec.specs.History.Groups.{Rule, group_part, finished}
 use Rattle.rrd_spec.proofs.GroupLemmas.{reached_before}
-use Rattle.rrd_spec.specs.Cells.{row_of_age, row_at}
+use Rattle.rrd_spec.specs.History.Cells.{row_of_age, row_at}
 use Rattle.rrd_spec.specs.Settings.{resolution}
-use Rattle.rrd_spec.specs.Cells.{newest, reach, prefixes, greatest, reach_after, horizon, row_by_time, time_of, rows_by_time, archive_by_time, content}
-use Rattle.rrd_spec.specs.Steps.{row, row_ending}
-use Rattle.rrd_spec.specs.Laws.{IsMultiple, IsListed, ShowsByTime, ListsByNumber}
+use Rattle.rrd_spec.specs.History.Cells.{newest, reach, prefixes, greatest, reach_after, horizon, row_by_time, time_of, rows_by_time, archive_by_time, content}
+use Rattle.rrd_spec.specs.History.Steps.{row, row_ending}
+use Rattle.rrd_spec.specs.Laws.Cells.{IsMultiple, IsListed, ShowsByTime, ListsByNumber}
 use Rattle.rrd_spec.proofs.HistoryLemmas.{last_rises, length-sources}
 use Rattle.rrd_spec.proofs.RowLemmas.{length-filled_up, room_first, room_last, row_by_age}
-use Rattle.rrd_spec.specs.Lists.{length-keep_last}
+use Rattle.rrd_spec.specs.Lemmas.Lists.{length-keep_last}
 use Rattle.rrd_spec.proofs.ContentLemmas.{length-rows_of}
 
 -- ---- tests

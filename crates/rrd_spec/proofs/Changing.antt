@@ -4,16 +4,16 @@ use Rattle.std.proofs.lemmas.Bool.{leb-false, ltb-false, or_parts}
 use Rattle.std.proofs.lemmas.List.{length-drop, length-map}
 use Rattle.std.specs.List.{enumerate_from, AllByRecursion}
 use Rattle.rrd_fixed.specs.declared.cell.Cell.{Cell}
-use Rattle.rrd_spec.specs.declared.resize.Change.{Change}
-use Rattle.rrd_spec.specs.declared.tune.Tuning.{Tuning}
-use Rattle.rrd_spec.specs.Changes.{ResizeChanges, ResizeFits, TuneChanges, rows_then}
+use Rattle.rrd_spec.specs.declared.requests.resize.Change.{Change}
+use Rattle.rrd_spec.specs.declared.requests.tune.Tuning.{Tuning}
+use Rattle.rrd_spec.specs.Laws.Commands.{ResizeChanges, ResizeFits, TuneChanges, rows_then}
 use Rattle.rrd_spec.specs.Commands.{Resizing, rows_of_archives, tuned}
-use Rattle.rrd_spec.specs.Entries.{rows_at, with_rows_at}
-use Rattle.rrd_spec.specs.Facts.{base_of_valid, sound}
+use Rattle.rrd_spec.specs.Journal.Entries.{rows_at, with_rows_at}
+use Rattle.rrd_spec.specs.Lemmas.Validity.{base_of_valid, sound}
 use Rattle.rrd_spec.specs.History.{Archive, Content, Resized, Tuned, moment_of, IsArchive}
-use Rattle.rrd_spec.specs.Steps.{rows_of, row_parts_of}
-use Rattle.rrd_spec.specs.Listed.{rows_never_lost, keep_last, filled_up, kept_rows, archive_of}
-use Rattle.rrd_spec.specs.Verdict.{grows_too_far, is_bad_rows}
+use Rattle.rrd_spec.specs.History.Steps.{rows_of, row_parts_of}
+use Rattle.rrd_spec.specs.Laws.Listed.{rows_never_lost, keep_last, filled_up, kept_rows, archive_of}
+use Rattle.rrd_spec.specs.Commands.Verdict.{grows_too_far, is_bad_rows}
 use Rattle.rrd_spec.proofs.Accepted.{accepted_passes, some_rows}
 use Rattle.rrd_spec.proofs.CellLemmas.{is_listed}
 use Rattle.rrd_spec.proofs.Moving.{moved_is}

@@ -6,14 +6,14 @@ use Rattle.std.proofs.lemmas.Nat.{mul-lt}
 use Rattle.std.specs.List.{fold, enumerate_from, AllByRecursion}
 use Rattle.rrd_fixed.specs.declared.cell.Cell.{Cell}
 use Rattle.rrd_fold.specs.Parts.{Part}
-use Rattle.rrd_spec.specs.Steps.{rows_rule}
+use Rattle.rrd_spec.specs.History.Steps.{rows_rule}
 use Rattle.rrd_spec.specs.History.{Archive, Content, Event, Sampled, Tuned, Resized, Moment, moment_after, moment_of, moment_at_end, rows_after, IsHistory, IsArchive, IsBase}
-use Rattle.rrd_spec.specs.Steps.{steps_of, parts_of, rows_of}
-use Rattle.rrd_spec.specs.Listed.{rows_never_lost, keep_last, filled_up, kept_rows, archive_of, content_listed}
+use Rattle.rrd_spec.specs.History.Steps.{steps_of, parts_of, rows_of}
+use Rattle.rrd_spec.specs.Laws.Listed.{rows_never_lost, keep_last, filled_up, kept_rows, archive_of, content_listed}
 use Rattle.rrd_spec.proofs.GroupLemmas.{length-finished, reached_before}
 use Rattle.rrd_spec.proofs.HistoryLemmas.{length-sources, length-steps_of, parts_of-append, rows_of-append, row_parts_of-append}
 use Rattle.rrd_spec.proofs.RowLemmas.{rows_again, room_first, room_last, room-append, length-filled_up}
-use Rattle.rrd_spec.specs.Lists.{length-keep_last}
+use Rattle.rrd_spec.specs.Lemmas.Lists.{length-keep_last}
 
 -- how many rows ended
 pub length-rows_of : (base : Content) (archive : Archive) (es : List Event) → 0 < base.step → 0 < archive.def.steps → IsHistory (moment_of base) es → base.last / (base.step * archive.def.steps) + length (rows_of base archive es) ≡ (moment_at_end base es).last / (base.step * archive.def.steps)

@@ -11,16 +11,16 @@ use Rattle.rrd_fixed.specs.Names.{is_good}
 use Rattle.rrd_fold.specs.declared.function.Function.{Function}
 use Rattle.rrd_fold.specs.declared.function.Function.TheVariants.{Average}
 use Rattle.rrd_fold.specs.Parts.{nothing}
-use Rattle.rrd_spec.specs.declared.create.CreateSpec.{CreateSpec}
+use Rattle.rrd_spec.specs.declared.requests.create.CreateSpec.{CreateSpec}
 use Rattle.rrd_spec.specs.declared.settings.DsDef.{DsDef}
 use Rattle.rrd_spec.specs.declared.settings.RraDef.{RraDef}
 use Rattle.rrd_spec.specs.Commands.{rows_of_archives}
-use Rattle.rrd_spec.specs.Verdict.{is_bad_heartbeat, is_bad_rows, has_bad_bounds}
-use Rattle.rrd_spec.specs.Creating.{is_bad_xff, is_bad_steps, create_checks, create_verdict, new_archive, created, create_verdict_within}
+use Rattle.rrd_spec.specs.Commands.Verdict.{is_bad_heartbeat, is_bad_rows, has_bad_bounds}
+use Rattle.rrd_spec.specs.Commands.Creating.{is_bad_xff, is_bad_steps, create_checks, create_verdict, new_archive, created, create_verdict_within}
 use Rattle.rrd_spec.specs.Validity.{IsSource, AreAccepted, IsPart, AreParts, IsRow, IsValidArchive, IsValid}
 use Rattle.rrd_spec.proofs.Accepted.{all_pass}
 use Rattle.rrd_spec.specs.Limits.{version_one}
-use Rattle.rrd_spec.specs.Lists.{All-replicate}
+use Rattle.rrd_spec.specs.Lemmas.Lists.{All-replicate}
 
 -- ---- the sources
 

@@ -9,32 +9,32 @@ use Rattle.rrd_fixed.specs.declared.name.Name.{Name}
 use Rattle.rrd_spec.specs.declared.settings.DsDef.{DsDef}
 use Rattle.rrd_spec.specs.declared.entry.SourceBefore.{SourceBefore}
 use Rattle.rrd_spec.specs.History.{Archive, Content, Reading, Sampled, Resized, Moment, moment_after, moment_of, moment_at_end, rows_after, IsHistory, IsArchive}
-use Rattle.rrd_spec.specs.Listed.{archive_of, content_listed}
+use Rattle.rrd_spec.specs.Laws.Listed.{archive_of, content_listed}
 use Rattle.rrd_spec.proofs.HistoryLemmas.{last_rises, length-sources}
 use Rattle.rrd_spec.proofs.SampleLemmas.{rows_of_samples}
 use Rattle.rrd_spec.specs.Commands.{Asked, Command, Updating, TuningBy, Resizing, settings_of, rows_of_archives, sample_of, samples_of, tuned, rows_changed, events, moved}
 use Rattle.rrd_spec.specs.Settings.{Settings, names}
-use Rattle.rrd_spec.specs.Listed.{moved_listed}
+use Rattle.rrd_spec.specs.Laws.Listed.{moved_listed}
 use Rattle.rrd_spec.specs.Settings.{has_source, is_double}
-use Rattle.rrd_spec.specs.Verdict.{is_bad_rows, grows_too_far, shrinks_too_far, no_sample, asks_nothing, names_no_source, verdict}
-use Rattle.rrd_spec.specs.Entries.{Entry, rows_between, saved, is_asked, is_named, sources_before, rows_at, entry, undone}
-use Rattle.rrd_spec.specs.Survivors.{Action, Changed, Reverted, Stored, is_accepted, changed, reverted, stored_after, AllUndo}
+use Rattle.rrd_spec.specs.Commands.Verdict.{is_bad_rows, grows_too_far, shrinks_too_far, no_sample, asks_nothing, names_no_source, verdict}
+use Rattle.rrd_spec.specs.Journal.Entries.{Entry, rows_between, saved, is_asked, is_named, sources_before, rows_at, entry, undone}
+use Rattle.rrd_spec.specs.Journal.Survivors.{Action, Changed, Reverted, Stored, is_accepted, changed, reverted, stored_after, AllUndo}
 use Rattle.rrd_spec.proofs.Accepted.{accepted_passes, accepted_history}
 use Rattle.rrd_spec.proofs.Undoing.{comes_back}
-use Rattle.rrd_spec.specs.Facts.{length-accepted, rows_wide, sound, undone_depth}
-use Rattle.rrd_spec.specs.Lists.{All-take}
+use Rattle.rrd_spec.specs.Lemmas.Validity.{length-accepted, rows_wide, sound, undone_depth}
+use Rattle.rrd_spec.specs.Lemmas.Lists.{All-take}
 use Rattle.rrd_spec.proofs.Runs.{runs_agree, is_none-true}
 use Rattle.rrd_spec.proofs.Moving.{listed_sound, moved_is, moved_depth, settings_of-content}
 use Rattle.std.proofs.lemmas.List.FromFn.{length-enumerate_from}
 use Rattle.rrd_spec.proofs.NameLemmas.{same_is, same_itself}
 use Rattle.rrd_spec.specs.Validity.{IsRow, IsValidArchive, IsValid, FitsArchive, FitEach, Rise, Fits, IsValidJournal, IsValidDatabase}
-use Rattle.rrd_spec.specs.Laws.{DatabaseStays, RevertTakesBack, RunsStay, Begins}
+use Rattle.rrd_spec.specs.Laws.Journal.{DatabaseStays, RevertTakesBack, RunsStay, Begins}
 use Rattle.rrd_spec.proofs.Staying.{stays_valid}
-use Rattle.rrd_spec.specs.declared.tune.Tuning.{Tuning}
-use Rattle.rrd_spec.specs.declared.update.Update.{Update}
-use Rattle.rrd_spec.specs.declared.update.Sample.{Sample}
-use Rattle.rrd_spec.specs.declared.resize.Change.{Change}
-use Rattle.rrd_spec.specs.declared.resize.Change.TheVariants.{Grow, Shrink}
+use Rattle.rrd_spec.specs.declared.requests.tune.Tuning.{Tuning}
+use Rattle.rrd_spec.specs.declared.requests.update.Update.{Update}
+use Rattle.rrd_spec.specs.declared.requests.update.Sample.{Sample}
+use Rattle.rrd_spec.specs.declared.requests.resize.Change.{Change}
+use Rattle.rrd_spec.specs.declared.requests.resize.Change.TheVariants.{Grow, Shrink}
 use Rattle.rrd_fixed.specs.Names.{same_name}
 use Rattle.rrd_spec.specs.Limits.{version_one}
 

@@ -8,8 +8,8 @@ use Rattle.std.proofs.lemmas.List.Sums.{fold-append}
 use Rattle.std.proofs.lemmas.Nat.{div-add-mod', div-mul-add, le-div, mod_below, mul-le}
 use Rattle.std.specs.List.{fold, range_with_len}
 use Rattle.std.proofs.lemmas.List.FromFn.{map-range_with_len_more, length-map-range_with_len}
-use Rattle.rrd_spec.specs.Groups.{Rule, group_items, group_part, finished, unfinished}
-use Rattle.rrd_spec.specs.Laws.{GoesOn}
+use Rattle.rrd_spec.specs.History.Groups.{Rule, group_items, group_part, finished, unfinished}
+use Rattle.rrd_spec.specs.Laws.History.{GoesOn}
 
 -- an item that comes leaves the groups before its own as they are
 pub group_items_kept : {A : Type 0} (size before : ℕ) (xs ys : List A) (group : ℕ) → (group + 1) * size ≤ before + length xs → group_items size before (xs ++ ys) group ≡ group_items size before xs group

@@ -6,16 +6,16 @@ use Rattle.rrd_fixed.specs.declared.cell.Cell.{Cell}
 use Rattle.rrd_fixed.specs.Rate.{IsBounded}
 use Rattle.rrd_fold.specs.declared.function.Function.TheVariants.{Average}
 use Rattle.rrd_spec.specs.History.{Archive, Content, Event, moment_of, moment_at_end, seconds_of, rows_after, IsHistory}
-use Rattle.rrd_spec.specs.Steps.{steps_of, parts_of, rows_of, row_parts_of}
-use Rattle.rrd_spec.specs.Listed.{rows_never_lost, keep_last, kept_rows, archive_of}
+use Rattle.rrd_spec.specs.History.Steps.{steps_of, parts_of, rows_of, row_parts_of}
+use Rattle.rrd_spec.specs.Laws.Listed.{rows_never_lost, keep_last, kept_rows, archive_of}
 use Rattle.rrd_spec.proofs.HistoryLemmas.{length-seconds_of, length-steps_of}
 use Rattle.rrd_spec.proofs.ContentLemmas.{length-kept_rows}
 use Rattle.rrd_spec.specs.Validity.{AreParts, IsRow, IsValidArchive, IsValid}
-use Rattle.rrd_spec.specs.Facts.{is_archive}
-use Rattle.rrd_spec.specs.Lists.{All-append, All-drop, All-replicate}
+use Rattle.rrd_spec.specs.Lemmas.Validity.{is_archive}
+use Rattle.rrd_spec.specs.Lemmas.Lists.{All-append, All-drop, All-replicate}
 use Rattle.rrd_spec.proofs.Kept.{Kept, kept}
 use Rattle.rrd_spec.proofs.Bounded.{steps_keep, rows_keep}
-use Rattle.rrd_spec.specs.Steps.{rows_rule, seconds_to_steps}
+use Rattle.rrd_spec.specs.History.Steps.{rows_rule, seconds_to_steps}
 
 steps_kept : (base : Content) (es : List Event) → IsValid base → AllByRecursion (IsRow (length base.sources)) (seconds_of base es) → Kept (seconds_to_steps base.step (length base.sources)) (AreParts Average (length base.sources)) (IsRow (length base.sources)) base.last base.parts (seconds_of base es)
 steps_kept base es is rows =

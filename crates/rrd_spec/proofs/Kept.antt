@@ -3,8 +3,8 @@ use Rattle.std.proofs.Common.{◌≡◌, ◌∙◌, ap, ℕ, suc, ◌+◌, ◌*�
 use Rattle.std.proofs.lemmas.Bool.{cases_lt}
 use Rattle.std.proofs.lemmas.Nat.{div-add-mod', mod_below, mod-mul-add}
 use Rattle.std.specs.List.{AllByRecursion}
-use Rattle.rrd_spec.specs.Groups.{Rule, finished, unfinished}
-use Rattle.rrd_spec.specs.Lists.{All-append}
+use Rattle.rrd_spec.specs.History.Groups.{Rule, finished, unfinished}
+use Rattle.rrd_spec.specs.Lemmas.Lists.{All-append}
 use Rattle.rrd_spec.proofs.GroupLemmas.{goes_on, finished_nil, unfinished_nil, finished_within, unfinished_within, finished_filling, unfinished_filling, next_ahead}
 
 next_mod : (n size : ℕ) → 0 < size → n + 1 < (n / size + 1) * size → (n + 1) % size ≡ n % size + 1

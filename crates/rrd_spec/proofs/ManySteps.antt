@@ -7,15 +7,15 @@ use Rattle.rrd_fixed.specs.declared.cell.Cell.{Cell}
 use Rattle.rrd_fold.specs.declared.function.Function.{Function}
 use Rattle.rrd_fold.specs.declared.function.Function.TheVariants.{Average}
 use Rattle.rrd_fold.specs.Parts.{Part, nothing, with_cell, with_each, step_cell, row_cell}
-use Rattle.rrd_spec.specs.Each.{map_each}
-use Rattle.rrd_spec.specs.Groups.{finished, unfinished}
+use Rattle.rrd_spec.specs.Preparations.{map_each}
+use Rattle.rrd_spec.specs.History.Groups.{finished, unfinished}
 use Rattle.rrd_spec.specs.History.{Archive, Content}
-use Rattle.rrd_spec.specs.Listed.{keep_last}
-use Rattle.rrd_spec.specs.Lists.{keep_all, keep_last-append}
-use Rattle.rrd_spec.specs.Passing.{archive_passed, passed}
-use Rattle.rrd_spec.specs.Steps.{rows_rule, seconds_to_steps}
-use Rattle.rrd_spec.specs.EqualSteps.{SecondsOver, StepsInPieces, StepsOver, StepsWithin}
-use Rattle.rrd_spec.specs.Preparations.{fold-with_each}
+use Rattle.rrd_spec.specs.Laws.Listed.{keep_last}
+use Rattle.rrd_spec.specs.Lemmas.Lists.{keep_all, keep_last-append}
+use Rattle.rrd_spec.specs.Laws.Passing.{archive_passed, passed}
+use Rattle.rrd_spec.specs.History.Steps.{rows_rule, seconds_to_steps}
+use Rattle.rrd_spec.specs.Laws.EqualSteps.{SecondsOver, StepsInPieces, StepsOver, StepsWithin}
+use Rattle.rrd_spec.specs.Lemmas.Preparations.{fold-with_each}
 use Rattle.rrd_spec.proofs.GroupLemmas.{goes_on, finished_within, unfinished_within, finished_filling, unfinished_filling, finished-replicate, unfinished-replicate, next_ahead}
 use Rattle.rrd_spec.proofs.PassedLemmas.{archive_passed-append}
 

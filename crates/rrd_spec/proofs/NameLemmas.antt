@@ -8,7 +8,7 @@ use Rattle.rrd_spec.specs.declared.settings.DsDef.{DsDef}
 use Rattle.rrd_spec.specs.Commands.{Asked, asked, tuned}
 use Rattle.rrd_spec.specs.Settings.{names}
 use Rattle.rrd_spec.specs.Settings.{has_source, is_double}
-use Rattle.rrd_spec.specs.declared.tune.Tuning.{Tuning}
+use Rattle.rrd_spec.specs.declared.requests.tune.Tuning.{Tuning}
 use Rattle.rrd_fixed.specs.Names.{same_name}
 
 pub same_is : (a b : Name) → same_name a b ≡ true → a ≡ b

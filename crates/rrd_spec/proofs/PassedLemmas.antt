@@ -5,17 +5,17 @@ use Rattle.std.proofs.lemmas.List.{length-replicate}
 use Rattle.std.specs.List.{fold, range_with_len, enumerate_from, AllByRecursion}
 use Rattle.rrd_fixed.specs.declared.cell.Cell.{Cell}
 use Rattle.rrd_fold.specs.declared.function.Function.TheVariants.{Average}
-use Rattle.rrd_spec.specs.Groups.{finished, unfinished}
+use Rattle.rrd_spec.specs.History.Groups.{finished, unfinished}
 use Rattle.rrd_fold.specs.Parts.{Part, with_each}
-use Rattle.rrd_spec.specs.Steps.{rows_rule, seconds_to_steps}
+use Rattle.rrd_spec.specs.History.Steps.{rows_rule, seconds_to_steps}
 use Rattle.rrd_spec.specs.History.{Archive, Content, Reading, Sampled, moment_of, rates, samples, second, seconds_of, IsArchive, IsBase}
-use Rattle.rrd_spec.specs.Steps.{steps_of, parts_of, rows_of, row_parts_of}
-use Rattle.rrd_spec.specs.Listed.{keep_last, filled_up, kept_rows, archive_of, content_listed}
-use Rattle.rrd_spec.specs.Passing.{archive_passed, passed}
+use Rattle.rrd_spec.specs.History.Steps.{steps_of, parts_of, rows_of, row_parts_of}
+use Rattle.rrd_spec.specs.Laws.Listed.{keep_last, filled_up, kept_rows, archive_of, content_listed}
+use Rattle.rrd_spec.specs.Laws.Passing.{archive_passed, passed}
 use Rattle.rrd_spec.proofs.GroupLemmas.{finished_nil, unfinished_nil, finished_within, unfinished_within, goes_on, length-finished, reached_before}
 use Rattle.rrd_spec.proofs.RowLemmas.{filled_already}
-use Rattle.rrd_spec.specs.Lists.{keep_all, length-keep_last}
-use Rattle.rrd_spec.specs.Lists.{keep_last-append}
+use Rattle.rrd_spec.specs.Lemmas.Lists.{keep_all, length-keep_last}
+use Rattle.rrd_spec.specs.Lemmas.Lists.{keep_last-append}
 
 pub archive_passed-append : (sources before middle : ℕ) (archive : Archive) (xs ys : List (List Cell)) → 0 < archive.def.steps → before + length xs ≡ middle → archive_passed sources before (xs ++ ys) archive ≡ archive_passed sources middle ys (archive_passed sources before xs archive)
 unfolding archive_passed

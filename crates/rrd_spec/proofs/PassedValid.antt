@@ -4,13 +4,13 @@ use Rattle.std.proofs.lemmas.List.{length-map}
 use Rattle.std.specs.List.{AllByRecursion}
 use Rattle.rrd_fixed.specs.declared.cell.Cell.{Cell}
 use Rattle.rrd_fold.specs.declared.function.Function.TheVariants.{Average}
-use Rattle.rrd_spec.specs.Changes.{ArchiveStaysValid, StaysValidFor}
+use Rattle.rrd_spec.specs.Laws.Validity.{ArchiveStaysValid, StaysValidFor}
 use Rattle.rrd_spec.specs.Commands.{rows_of_archives}
-use Rattle.rrd_spec.specs.Groups.{finished}
+use Rattle.rrd_spec.specs.History.Groups.{finished}
 use Rattle.rrd_spec.specs.History.{Archive, Content}
-use Rattle.rrd_spec.specs.Lists.{All-append, All-drop, length-keep_last}
-use Rattle.rrd_spec.specs.Passing.{archive_passed, passed}
-use Rattle.rrd_spec.specs.Steps.{rows_rule, seconds_to_steps}
+use Rattle.rrd_spec.specs.Lemmas.Lists.{All-append, All-drop, length-keep_last}
+use Rattle.rrd_spec.specs.Laws.Passing.{archive_passed, passed}
+use Rattle.rrd_spec.specs.History.Steps.{rows_rule, seconds_to_steps}
 use Rattle.rrd_spec.specs.Validity.{AreParts, IsRow, IsValidArchive}
 use Rattle.rrd_spec.proofs.Bounded.{rows_keep, steps_keep}
 use Rattle.rrd_spec.proofs.GroupLemmas.{length-finished, reached_before}

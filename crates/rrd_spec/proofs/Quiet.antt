@@ -7,13 +7,13 @@ use Rattle.rrd_fixed.specs.declared.raw.Raw.{Raw}
 use Rattle.rrd_spec.specs.declared.settings.DsDef.{DsDef}
 use Rattle.rrd_fold.specs.Parts.{Part}
 use Rattle.rrd_spec.specs.History.{Archive, Content, Event, Tuned, Resized, moment_of, moment_at_end, raws_under, samples, second, seconds_of, rows_after, IsArchive, IsBase}
-use Rattle.rrd_spec.specs.Steps.{steps_of, parts_of, rows_of, row_parts_of}
-use Rattle.rrd_spec.specs.Listed.{rows_never_lost, keep_last, filled_up, kept_rows, archive_of, content_listed}
+use Rattle.rrd_spec.specs.History.Steps.{steps_of, parts_of, rows_of, row_parts_of}
+use Rattle.rrd_spec.specs.Laws.Listed.{rows_never_lost, keep_last, filled_up, kept_rows, archive_of, content_listed}
 use Rattle.rrd_spec.proofs.RowLemmas.{filled_already}
-use Rattle.rrd_spec.specs.Steps.{rows_rule, seconds_to_steps}
-use Rattle.rrd_spec.specs.Groups.{finished, unfinished}
+use Rattle.rrd_spec.specs.History.Steps.{rows_rule, seconds_to_steps}
+use Rattle.rrd_spec.specs.History.Groups.{finished, unfinished}
 use Rattle.rrd_spec.proofs.GroupLemmas.{finished_nil, unfinished_nil}
-use Rattle.rrd_spec.specs.Lists.{keep_all}
+use Rattle.rrd_spec.specs.Lemmas.Lists.{keep_all}
 
 module _ (base : Content) (es : List Event) (same : (moment_at_end base es).last ≡ base.last) where
   pub seconds_none : seconds_of base es ≡ []

@@ -9,15 +9,15 @@ use Rattle.rrd_spec.specs.declared.settings.DsDef.{DsDef}
 use Rattle.rrd_spec.specs.declared.settings.RraDef.{RraDef}
 use Rattle.rrd_spec.specs.Limits.{Limits}
 use Rattle.rrd_spec.specs.Settings.{resolution}
-use Rattle.rrd_spec.specs.Cells.{time_of}
+use Rattle.rrd_spec.specs.History.Cells.{time_of}
 use Rattle.rrd_spec.specs.History.{Archive, Content}
-use Rattle.rrd_spec.specs.Entries.{Entry}
-use Rattle.rrd_spec.specs.Facts.{length-accepted, rows_wide}
-use Rattle.rrd_spec.specs.Filed.{Filed, Head, Source, Version, head_of, sources_of}
-use Rattle.rrd_spec.specs.FiledOnce.{FiledOnce, RowsFiledOnce}
-use Rattle.rrd_spec.specs.Placed.{HasOneEach}
-use Rattle.rrd_spec.specs.Slots.{by_slot, cells_by_slot, slot_of}
-use Rattle.rrd_spec.specs.Survivors.{Stored}
+use Rattle.rrd_spec.specs.Journal.Entries.{Entry}
+use Rattle.rrd_spec.specs.Lemmas.Validity.{length-accepted, rows_wide}
+use Rattle.rrd_spec.specs.Files.Filed.{Filed, Head, Source, Version, head_of, sources_of}
+use Rattle.rrd_spec.specs.Laws.FiledOnce.{FiledOnce, RowsFiledOnce}
+use Rattle.rrd_spec.specs.Laws.Slots.{HasOneEach}
+use Rattle.rrd_spec.specs.Files.Slots.{by_slot, cells_by_slot, slot_of}
+use Rattle.rrd_spec.specs.Journal.Survivors.{Stored}
 use Rattle.rrd_spec.specs.Validity.{IsValidArchiveWithin}
 use Rattle.rrd_spec.proofs.Slotted.{place_has_slot}
 use Rattle.rrd_spec.proofs.SlotCells.{as_many_cells, cell_stands_in_slot, wide_rows}

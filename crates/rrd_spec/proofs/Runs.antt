@@ -6,10 +6,11 @@ use Rattle.std.proofs.lemmas.List.{length-take, reverse-append, reverse-reverse}
 use Rattle.std.specs.List.{fold}
 use Rattle.rrd_spec.specs.History.{Content}
 use Rattle.rrd_spec.specs.Commands.{Command, content_of, moved}
-use Rattle.rrd_spec.specs.Verdict.{verdict}
-use Rattle.rrd_spec.specs.Entries.{Entry, entry, undone, IsSound}
-use Rattle.rrd_spec.specs.Survivors.{Action, Changed, Reverted, State, Stored, survived, is_accepted, entries, with_change, without_last, after, reverted, changed, stored_after, AllAccepted, AllUndo, Stands}
-use Rattle.rrd_spec.specs.Laws.{CommandsGoOn, RunsAgree}
+use Rattle.rrd_spec.specs.Commands.Verdict.{verdict}
+use Rattle.rrd_spec.specs.Journal.Entries.{Entry, entry, undone, IsSound}
+use Rattle.rrd_spec.specs.Journal.Survivors.{Action, Changed, Reverted, State, Stored, survived, is_accepted, entries, with_change, without_last, after, reverted, changed, stored_after, AllAccepted, AllUndo, Stands}
+use Rattle.rrd_spec.specs.Laws.Commands.{CommandsGoOn}
+use Rattle.rrd_spec.specs.Laws.Journal.{RunsAgree}
 use Rattle.rrd_spec.proofs.CellLemmas.{is_listed}
 use Rattle.rrd_spec.proofs.Moving.{moves, moved_sound}
 use Rattle.rrd_spec.proofs.Quiet.{content_nil}

@@ -3,10 +3,10 @@ use Rattle.std.proofs.Common.{◌≡◌, refl, sym, ◌∙◌, ap, ℕ, ◌-◌,
 use Rattle.std.specs.List.{fold}
 use Rattle.rrd_fixed.specs.declared.cell.Cell.{Cell}
 use Rattle.rrd_spec.specs.History.{Archive, Content, Reading, Sampled, Moment, moment_after, moment_of, moment_at_end, rows_after, IsArchive}
-use Rattle.rrd_spec.specs.Steps.{rows_of}
-use Rattle.rrd_spec.specs.Listed.{rows_never_lost, keep_last, filled_up, kept_rows}
+use Rattle.rrd_spec.specs.History.Steps.{rows_of}
+use Rattle.rrd_spec.specs.Laws.Listed.{rows_never_lost, keep_last, filled_up, kept_rows}
 use Rattle.rrd_spec.proofs.RowLemmas.{put_back_rows}
-use Rattle.rrd_spec.specs.Lists.{length-keep_last}
+use Rattle.rrd_spec.specs.Lemmas.Lists.{length-keep_last}
 
 room_of_samples : (index : ℕ) (since : ℕ → ℕ) (rows : ℕ) (now : Moment) (samples : List Reading) → since (fold moment_after now (map Sampled samples)).last ≡ 0 → rows_never_lost index since rows now (map Sampled samples) ≡ rows
 room_of_samples index since rows now [] h = omega arith

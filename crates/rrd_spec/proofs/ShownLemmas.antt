@@ -1,13 +1,13 @@
 -- What is shown of an archive, and what makes a new one good.
 use Rattle.std.proofs.Common.{sym, ◌∙◌, ap, ◌<◌, List, length, get_or, arith}
-use Rattle.rrd_spec.specs.Facts.{cell_of_archive}
+use Rattle.rrd_spec.specs.Lemmas.Validity.{cell_of_archive}
 use Rattle.std.specs.List.{enumerate_from}
 use Rattle.std.proofs.lemmas.List.{length-map}
 use Rattle.std.proofs.lemmas.List.FromFn.{length-enumerate_from}
 use Rattle.std.proofs.lemmas.Option.{slice_get_within, slice_get-get_or}
 use Rattle.rrd_fixed.specs.declared.cell.Cell.TheVariants.{Unknown}
-use Rattle.rrd_spec.specs.Laws.{ShowsCells}
-use Rattle.rrd_spec.specs.Cells.{archive_by_time, content}
+use Rattle.rrd_spec.specs.Laws.Cells.{ShowsCells}
+use Rattle.rrd_spec.specs.History.Cells.{archive_by_time, content}
 use Rattle.rrd_spec.specs.History.{Content, Event}
 use Rattle.rrd_spec.proofs.CellLemmas.{shows_by_time}
 

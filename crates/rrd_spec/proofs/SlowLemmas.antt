@@ -8,20 +8,20 @@ use Rattle.rrd_fixed.specs.declared.cell.Cell.{Cell}
 use Rattle.rrd_fixed.specs.declared.raw.Raw.{Raw}
 use Rattle.rrd_fixed.specs.declared.raw.Raw.TheVariants.{Unknown}
 use Rattle.rrd_fold.specs.declared.function.Function.{Function}
-use Rattle.rrd_spec.specs.Groups.{group_items, finished}
+use Rattle.rrd_spec.specs.History.Groups.{group_items, finished}
 use Rattle.rrd_fold.specs.Parts.{Part, nothing, with_cell, with_each}
 use Rattle.rrd_spec.specs.declared.settings.DsDef.{DsDef}
 use Rattle.rrd_spec.specs.declared.slow.Group.{Group}
 use Rattle.rrd_spec.specs.declared.slow.Group.TheVariants.{Step, Row}
 use Rattle.rrd_spec.specs.declared.slow.Reading.{Reading}
 use Rattle.rrd_spec.specs.declared.slow.Taken as slow
-use Rattle.rrd_spec.specs.Each.{map_each}
+use Rattle.rrd_spec.specs.Preparations.{map_each}
 use Rattle.rrd_spec.specs.History as history
 use Rattle.rrd_spec.specs.History.{Taken, Sampled, moment_after, rates, samples, second, seconds, IsHistory}
 use Rattle.rrd_spec.specs.Slow.{event_of, reading_of, taken_of, AreInOrder, latest, size_of, function_of, cell_of, rule_of, IsGroup}
 use Rattle.rrd_spec.specs.Validity.{AreAccepted, AreParts, IsPart}
-use Rattle.rrd_spec.specs.Preparations.{rate_of}
-use Rattle.rrd_spec.specs.Lists.{All-weaker}
+use Rattle.rrd_spec.specs.Lemmas.Rates.{rate_of}
+use Rattle.rrd_spec.specs.Lemmas.Lists.{All-weaker}
 use Rattle.rrd_spec.proofs.GroupLemmas.{map_range_same}
 
 -- ---- samples

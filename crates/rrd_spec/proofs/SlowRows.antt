@@ -6,28 +6,28 @@ use Rattle.std.proofs.Math.Nat.{div-le_self}
 use Rattle.rrd_fixed.specs.declared.cell.Cell.{Cell}
 use Rattle.rrd_fixed.specs.declared.raw.Raw.TheVariants.{Unknown}
 use Rattle.rrd_fold.specs.declared.function.Function.TheVariants.{Average}
-use Rattle.rrd_spec.specs.Groups.{finished}
+use Rattle.rrd_spec.specs.History.Groups.{finished}
 use Rattle.rrd_fold.specs.Parts.{nothing}
-use Rattle.rrd_spec.specs.Steps.{seconds_to_steps}
+use Rattle.rrd_spec.specs.History.Steps.{seconds_to_steps}
 use Rattle.rrd_spec.proofs.GroupLemmas.{length-finished}
-use Rattle.rrd_spec.specs.declared.create.CreateSpec.{CreateSpec}
+use Rattle.rrd_spec.specs.declared.requests.create.CreateSpec.{CreateSpec}
 use Rattle.rrd_spec.specs.declared.settings.DsDef.{DsDef}
 use Rattle.rrd_spec.specs.declared.settings.RraDef.{RraDef}
 use Rattle.rrd_spec.specs.declared.slow.Group.TheVariants.{Step, Row}
 use Rattle.rrd_spec.specs.declared.slow.Reading.{Reading}
 use Rattle.rrd_spec.specs.declared.slow.Taken as slow
-use Rattle.rrd_spec.specs.Creating.{create_verdict, created, new_archive}
-use Rattle.rrd_spec.specs.Cells.{content}
+use Rattle.rrd_spec.specs.Commands.Creating.{create_verdict, created, new_archive}
+use Rattle.rrd_spec.specs.History.Cells.{content}
 use Rattle.rrd_spec.specs.History.{Archive, Content, Event, Sampled, moment_of, moment_at_end, samples, seconds, seconds_of}
-use Rattle.rrd_spec.specs.Listed.{archive_of, content_listed, keep_last}
-use Rattle.rrd_spec.specs.Steps.{steps_of, rows_of}
+use Rattle.rrd_spec.specs.Laws.Listed.{archive_of, content_listed, keep_last}
+use Rattle.rrd_spec.specs.History.Steps.{steps_of, rows_of}
 use Rattle.rrd_spec.specs.Slow.{event_of, reading_of, taken_of, AreInOrder, AreNewest, latest, rule_of, IsGroup}
 use Rattle.rrd_spec.specs.Validity.{AreParts, IsRow, IsValidArchive}
 use Rattle.rrd_spec.proofs.Bounded.{steps_keep}
 use Rattle.rrd_spec.proofs.CellLemmas.{is_listed, one_of}
 use Rattle.rrd_spec.proofs.Created.{created_valid}
 use Rattle.rrd_spec.proofs.Kept.{kept}
-use Rattle.rrd_spec.specs.Facts.{base_of_valid}
+use Rattle.rrd_spec.specs.Lemmas.Validity.{base_of_valid}
 use Rattle.rrd_spec.proofs.Rates.{seconds_rows}
 use Rattle.rrd_spec.proofs.SampleLemmas.{kept_rows_of_samples, rows_of_samples}
 use Rattle.rrd_spec.proofs.SlowLemmas.{is_history, are_accepted, events_are, latest_is, latest_later, latest_small, length-seconds}

@@ -16,31 +16,31 @@ use Rattle.rrd_fixed.specs.Rate.{IsAccepted}
 use Rattle.rrd_fixed.specs.declared.name.Name.{Name}
 use Rattle.rrd_spec.specs.declared.settings.DsDef.{DsDef}
 use Rattle.rrd_spec.specs.History.{Archive, Content, Reading, Event, Sampled, Tuned, Moment, moment_after, moment_of, moment_at_end, same_kind, raws_under, rows_after, seconds_of, IsHistory}
-use Rattle.rrd_spec.specs.Listed.{archive_of, content_listed}
+use Rattle.rrd_spec.specs.Laws.Listed.{archive_of, content_listed}
 use Rattle.rrd_spec.proofs.HistoryLemmas.{length-sources}
 use Rattle.rrd_spec.proofs.SampleLemmas.{rows_of_samples}
 use Rattle.rrd_spec.specs.Commands.{Asked, Command, Updating, TuningBy, Resizing, settings_of, settings_after, rows_of_archives, raw_of, value_for, sample_of, samples_of, asked, tuned, rows_changed, events}
 use Rattle.rrd_spec.specs.Settings.{names}
-use Rattle.rrd_spec.specs.Listed.{moved_listed}
-use Rattle.rrd_spec.specs.Laws.{Passes}
-use Rattle.rrd_spec.specs.Verdict.{is_bad_heartbeat, is_bad_rows, has_bad_bounds, grows_too_far, sample_checks, verdict}
+use Rattle.rrd_spec.specs.Laws.Listed.{moved_listed}
+use Rattle.rrd_spec.specs.Laws.Commands.{Passes}
+use Rattle.rrd_spec.specs.Commands.Verdict.{is_bad_heartbeat, is_bad_rows, has_bad_bounds, grows_too_far, sample_checks, verdict}
 use Rattle.rrd_spec.specs.Settings.{has_source, is_double, cells}
 use Rattle.rrd_spec.proofs.Accepted.{accepted_passes, accepted_history}
 use Rattle.rrd_spec.proofs.Moving.{moved_is, settings_of-content}
 use Rattle.rrd_spec.proofs.Quiet.{seconds_none}
 use Rattle.rrd_spec.specs.Validity.{IsSource, AreAccepted, AreParts, IsRow, IsValidArchive, IsValid}
-use Rattle.rrd_spec.specs.Laws.{StaysValid}
+use Rattle.rrd_spec.specs.Laws.Validity.{StaysValid}
 use Rattle.rrd_spec.proofs.Rates.{seconds_rows}
 use Rattle.rrd_spec.proofs.Held.{LeavesGoodRows, parts_valid, archives_valid}
-use Rattle.rrd_spec.specs.Facts.{sound}
+use Rattle.rrd_spec.specs.Lemmas.Validity.{sound}
 use Rattle.rrd_spec.proofs.NameLemmas.{names_differ, names_tuned}
 use Rattle.rrd_fixed.specs.Rounding.{floor_of}
-use Rattle.rrd_spec.specs.declared.update.Given.{Given}
-use Rattle.rrd_spec.specs.declared.update.Sample.{Sample}
-use Rattle.rrd_spec.specs.declared.update.Update.{Update}
-use Rattle.rrd_spec.specs.declared.tune.Tuning.{Tuning}
-use Rattle.rrd_spec.specs.declared.resize.Change.{Change}
-use Rattle.rrd_spec.specs.declared.resize.Change.TheVariants.{Grow, Shrink}
+use Rattle.rrd_spec.specs.declared.requests.update.Given.{Given}
+use Rattle.rrd_spec.specs.declared.requests.update.Sample.{Sample}
+use Rattle.rrd_spec.specs.declared.requests.update.Update.{Update}
+use Rattle.rrd_spec.specs.declared.requests.tune.Tuning.{Tuning}
+use Rattle.rrd_spec.specs.declared.requests.resize.Change.{Change}
+use Rattle.rrd_spec.specs.declared.requests.resize.Change.TheVariants.{Grow, Shrink}
 use Rattle.rrd_fixed.specs.Admitted.{in_range, is_whole}
 use Rattle.rrd_fixed.specs.Names.{same_name, is_good}
 use Rattle.rrd_spec.specs.Limits.{version_one}

@@ -7,17 +7,17 @@ use Rattle.std.specs.Option.{option_or}
 use Rattle.rrd_fold.specs.declared.function.Function.{Function}
 use Rattle.rrd_fold.specs.declared.function.Function.TheVariants.{Average, Min, Max, Last}
 use Rattle.rrd_spec.specs.declared.settings.RraDef.{RraDef}
-use Rattle.rrd_spec.specs.declared.fetch.Candidate.{Candidate}
-use Rattle.rrd_spec.specs.declared.fetch.Chosen.{Chosen}
-use Rattle.rrd_spec.specs.declared.fetch.Request.{Request}
+use Rattle.rrd_spec.specs.declared.requests.fetch.Candidate.{Candidate}
+use Rattle.rrd_spec.specs.declared.requests.fetch.Chosen.{Chosen}
+use Rattle.rrd_spec.specs.declared.requests.fetch.Request.{Request}
 use Rattle.rrd_spec.specs.declared.refusal.Refusal.{Refusal}
 use Rattle.rrd_spec.specs.declared.refusal.Refusal.TheVariants.{BadTime, BadSpan, NoArchiveForFunction, SpanTooLong}
 use Rattle.rrd_spec.specs.Limits.{Limits, version_one}
 use Rattle.rrd_spec.specs.History.{Archive, Content}
 use Rattle.rrd_spec.specs.Settings.{resolution}
-use Rattle.rrd_spec.specs.Cells.{reach}
-use Rattle.rrd_spec.specs.Verdict.{Check, ◌refuses◌, first_refusal}
-use Rattle.rrd_spec.specs.Steps.{step}
+use Rattle.rrd_spec.specs.History.Cells.{reach}
+use Rattle.rrd_spec.specs.Commands.Verdict.{Check, ◌refuses◌, first_refusal}
+use Rattle.rrd_spec.specs.History.Steps.{step}
 
 -- ---- the archives that can be read
 

@@ -8,17 +8,22 @@ use Rattle.rrd_fixed.specs.declared.name.Name.{Name}
 use Rattle.rrd_fixed.specs.Names.{same_name}
 use Rattle.rrd_fixed.specs.Admitted.{admit}
 use Rattle.rrd_spec.specs.declared.settings.DsDef.{DsDef}
-use Rattle.rrd_spec.specs.declared.update.Given.{Given}
-use Rattle.rrd_spec.specs.declared.update.Sample.{Sample}
-use Rattle.rrd_spec.specs.declared.update.Update.{Update}
-use Rattle.rrd_spec.specs.declared.tune.Tuning.{Tuning}
-use Rattle.rrd_spec.specs.declared.resize.Change.{Change}
-use Rattle.rrd_spec.specs.declared.resize.Change.TheVariants.{Grow, Shrink}
+use Rattle.rrd_spec.specs.declared.requests.update.Given.{Given}
+use Rattle.rrd_spec.specs.declared.requests.update.Sample.{Sample}
+use Rattle.rrd_spec.specs.declared.requests.update.Update.{Update}
+use Rattle.rrd_spec.specs.declared.requests.tune.Tuning.{Tuning}
+use Rattle.rrd_spec.specs.declared.requests.resize.Change.{Change}
+use Rattle.rrd_spec.specs.declared.requests.resize.Change.TheVariants.{Grow, Shrink}
 use Rattle.rrd_spec.specs.History.{Archive, Content, Reading, Event, Sampled, Tuned, Resized, rows_after}
 pub use Rattle.rrd_spec.specs.History.{raw_under}
-use Rattle.rrd_spec.specs.Cells.{content}
+use Rattle.rrd_spec.specs.History.Cells.{content}
 use Rattle.rrd_spec.specs.Settings.{Settings}
 use Rattle.rrd_spec.specs.Settings.{names}
+pub mod Creating
+pub mod Verdict
+pub mod Refusals
+pub mod Answers
+pub mod Turns
 
 -- ---- what is asked
 

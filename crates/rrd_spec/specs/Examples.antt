@@ -1,6 +1,84 @@
--- Example: what the definitions compute for worked histories, commands and times.
+-- Example: what the definitions compute for worked histories, commands and times; and what these are made of.
+use Rattle.std.specs.Prelude.{ℕ, ◌^◌, ◌*◌, pos, None, List, [], ◌∷◌, map, replicate, false}
+use Rattle.rrd_fixed.specs.declared.cell.Cell.{Cell}
+use Rattle.rrd_fixed.specs.declared.raw.Raw.{Raw}
+use Rattle.rrd_fixed.specs.declared.kind.Kind.TheVariants.{Gauge, Counter}
+use Rattle.rrd_fold.specs.declared.function.Function.{Function}
+use Rattle.rrd_fold.specs.declared.function.Function.TheVariants.{Last}
+use Rattle.rrd_spec.specs.declared.settings.DsDef.{DsDef}
+use Rattle.rrd_spec.specs.declared.settings.RraDef.{RraDef}
+use Rattle.rrd_fold.specs.Parts.{nothing}
+use Rattle.rrd_spec.specs.History.{Archive, Content, Event, Sampled}
+use Rattle.std.specs.List.{fold}
+use Rattle.rrd_fixed.specs.declared.name.Name.{Name}
+use Rattle.rrd_spec.specs.declared.requests.update.Given.{Given}
+use Rattle.rrd_spec.specs.declared.requests.update.Sample.{Sample}
+use Rattle.rrd_spec.specs.declared.requests.tune.Tuning.{Tuning}
+use Rattle.rrd_spec.specs.Commands.{Command, Updating}
+use Rattle.rrd_spec.specs.Journal.Survivors.{Action, Stored, stored_after}
 pub mod Histories
 pub mod Commands
 pub mod Creates
 pub mod Resizes
 pub mod Fetches
+
+abbrev pub created : ℕ → ℕ → DsDef → List RraDef → Content
+created step start source defs = record {
+  step = step;
+  depth = 16;
+  sources = source ∷ [];
+  last = start;
+  raws = Raw.Unknown ∷ [];
+  parts = nothing ∷ [];
+  archives = map
+      (λ def. record { def = def; parts = nothing ∷ []; rows = replicate def.rows (Cell.Unknown ∷ []) })
+      defs;
+}
+
+abbrev pub gauge : ℕ → DsDef
+gauge heartbeat = record { name = 97 ∷ []; kind = Gauge; heartbeat = heartbeat; min = None; max = None }
+
+abbrev pub counter : ℕ → DsDef
+counter heartbeat = record { name = 97 ∷ []; kind = Counter; heartbeat = heartbeat; min = None; max = None }
+
+abbrev pub archive : Function → ℕ → ℕ → RraDef
+archive function steps rows = record { function = function; xff = pos 500000; steps = steps; rows = rows }
+
+-- a gauge's sample, in whole units
+abbrev pub at : ℕ → ℕ → Event
+at time value = Sampled (record { time = time; raws = Raw.Known (pos (value * 10 ^ 6)) ∷ [] })
+
+abbrev pub count_at : ℕ → ℕ → Event
+count_at time value = Sampled (record { time = time; raws = Raw.Known (pos value) ∷ [] })
+
+-- the first archive's rows
+abbrev pub rows : Content → List (List (List Cell))
+rows content = map (λ (a : Archive). a.rows) content.archives
+
+abbrev pub known : ℕ → List Cell
+known millionths = Cell.Known (pos millionths) ∷ []
+
+abbrev pub nan : List Cell
+nan = Cell.Unknown ∷ []
+
+abbrev pub letter : ℕ → Name
+letter c = c ∷ []
+
+abbrev pub whole : ℕ → Given
+whole value = Given.Number (record { millionths = pos (value * 10 ^ 6); point = false })
+
+abbrev pub reading : ℕ → ℕ → Sample
+reading time value = record { time = time; values = whole value ∷ [] }
+
+abbrev pub update : List Sample → Command
+update samples = Updating (record { template = None; samples = samples })
+
+abbrev pub no_tuning : Tuning
+no_tuning = record { heartbeat = None; minimum = None; maximum = None; kind = None; rename = None }
+
+-- a gauge `g` and its archive of so many last values, a step each
+abbrev pub small : ℕ → Content
+small rows = created 10 0 (record (gauge 100) { name = letter 103 }) (archive Last 1 rows ∷ [])
+
+abbrev pub run : Content → List Action → Stored
+run base actions = fold stored_after (record { content = base; journal = [] }) actions

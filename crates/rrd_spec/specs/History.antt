@@ -11,6 +11,9 @@ use Rattle.rrd_fixed.specs.Rate.{rate}
 use Rattle.rrd_spec.specs.declared.settings.DsDef.{DsDef}
 use Rattle.rrd_spec.specs.declared.settings.RraDef.{RraDef}
 use Rattle.rrd_fold.specs.Parts.{Part}
+pub mod Groups
+pub mod Steps
+pub mod Cells
 
 -- ---- what a database holds
 
@@ -124,10 +127,6 @@ rows_after index rows (Resized archive new) = if archive == index then new else 
 
 abbrev pub rows_at_end : ℕ → ℕ → List Event → ℕ
 rows_at_end index rows events = fold (rows_after index) rows events
-
--- ---- the same with an archive's rows said as the list of those kept. The definition is `content` in specs/Cells,
--- which
--- ---- says each row by its time, and needs none of what follows up to the next heading; a law says that both agree
 
 -- ---- what is accepted
 

@@ -3,19 +3,19 @@ use Rattle.std.specs.Prelude.{◌≡◌, ℕ, ◌<◌, ◌≤◌, pos, ◌≤ℤ
 use Rattle.rrd_fixed.specs.declared.cell.Cell.{Cell}
 use Rattle.rrd_fold.specs.declared.function.Function.{Function}
 use Rattle.rrd_fold.specs.declared.function.Function.TheVariants.{Average}
-use Rattle.rrd_spec.specs.Groups.{Rule}
+use Rattle.rrd_spec.specs.History.Groups.{Rule}
 use Rattle.rrd_fold.specs.Parts.{Part, nothing, with_each, step_cell, row_cell}
-use Rattle.rrd_spec.specs.declared.create.CreateSpec.{CreateSpec}
+use Rattle.rrd_spec.specs.declared.requests.create.CreateSpec.{CreateSpec}
 use Rattle.rrd_spec.specs.declared.settings.DsDef.{DsDef}
 use Rattle.rrd_spec.specs.declared.slow.Group.{Group}
 use Rattle.rrd_spec.specs.declared.slow.Group.TheVariants.{Step, Row}
 use Rattle.rrd_spec.specs.declared.slow.Reading as given
 use Rattle.rrd_spec.specs.declared.slow.Taken as slow
-use Rattle.rrd_spec.specs.Cells.{content}
-use Rattle.rrd_spec.specs.Creating.{created}
+use Rattle.rrd_spec.specs.History.Cells.{content}
+use Rattle.rrd_spec.specs.Commands.Creating.{created}
 use Rattle.rrd_spec.specs.Limits.{version_one}
 use Rattle.rrd_spec.specs.History.{Archive, Event, Reading, Sampled, Taken}
-use Rattle.rrd_spec.specs.Listed.{keep_last}
+use Rattle.rrd_spec.specs.Laws.Listed.{keep_last}
 use Rattle.rrd_spec.specs.Validity.{AreAccepted}
 
 -- ---- samples

@@ -16,8 +16,8 @@ use Rattle.rrd_spec.specs.Commands.{settings_of}
 use Rattle.rrd_spec.specs.Settings.{names}
 use Rattle.rrd_fixed.specs.Names.{is_good}
 use Rattle.rrd_spec.specs.Settings.{is_double, cells}
-use Rattle.rrd_spec.specs.Verdict.{is_bad_heartbeat, has_bad_bounds}
-use Rattle.rrd_spec.specs.Entries.{SavedArchive, BeforeUpdate, Entry, UpdateEntry, TuneEntry, ResizeEntry, rows_between, rows_at, entry, undone}
+use Rattle.rrd_spec.specs.Commands.Verdict.{is_bad_heartbeat, has_bad_bounds}
+use Rattle.rrd_spec.specs.Journal.Entries.{SavedArchive, BeforeUpdate, Entry, UpdateEntry, TuneEntry, ResizeEntry, rows_between, rows_at, entry, undone}
 
 -- ---- a content
 

@@ -6,12 +6,12 @@ ghost use Rattle.std.specs.Prelude.{◌≡◌, ◌^◌, ◌<◌, ◌≤◌, leng
 ghost use Rattle.std.specs.List.{AllByRecursion, fold};
 ghost use Rattle.rrd_fixed.specs.Rate.{IsAccepted, IsBounded};
 ghost use Rattle.rrd_fixed.specs.declared.raw.Raw.TheVariants.{Unknown};
-ghost use Rattle.rrd_spec.specs.Groups as groups;
+ghost use Rattle.rrd_spec.specs.History.Groups as groups;
 ghost use Rattle.rrd_fold.specs.Parts.{nothing, with_cell, with_each, step_cell, row_cell};
 ghost use Rattle.rrd_fold.specs.declared.function.Function.TheVariants.{Average};
-ghost use Rattle.rrd_spec.specs.Creating.{create_verdict, created};
+ghost use Rattle.rrd_spec.specs.Commands.Creating.{create_verdict, created};
 ghost use Rattle.rrd_spec.specs.History as history;
-ghost use Rattle.rrd_spec.specs.Steps as steps_def;
+ghost use Rattle.rrd_spec.specs.History.Steps as steps_def;
 ghost use Rattle.rrd_spec.specs.History.{Archive};
 ghost use Rattle.rrd_spec.specs.Limits.{version_one};
 ghost use Rattle.rrd_spec.specs.Slow.{AreInOrder, AreNewest, IsGroup, cell_of, event_of, function_of, latest, rule_of, size_of, taken_of};

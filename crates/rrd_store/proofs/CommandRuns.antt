@@ -2,7 +2,7 @@
 use Rattle.std.proofs.Common.{◌≡◌, ◌++◌, ◌∷◌, [], ℕ, Bool, true, false, List, Option, Some, None, Result, Ok, Err, sym, ap, refl, subst, append-nil, option_map}
 use Rattle.std.specs.Io.KnownBytes.{Appends, Keeps}
 use Rattle.std.specs.Result.{result_err}
-use Rattle.rrd_spec.specs.Survivors.{State, Stored}
+use Rattle.rrd_spec.specs.Journal.Survivors.{State, Stored}
 use Rattle.rrd_tool.specs.Commands.{effect}
 use Rattle.rrd_tool.specs.Commands.Reading.{IsReading}
 use Rattle.rrd_tool.specs.Effects.{Changes, Effect, Makes, Reverts, Shows, is_change, stored_next, stored_of, next, text_on, verdict_on, StandsFor}

@@ -2,7 +2,7 @@
 use Rattle.std.proofs.Common.{◌≡◌, ◌≢◌, ◌∙◌, ℕ, Bool, true, false, List, Option, Some, None, Result, Ok, Err, sym, ap}
 use Rattle.std.specs.Io.KnownBytes.{Keeps}
 use Rattle.std.specs.Result.{result_err}
-use Rattle.rrd_spec.specs.Survivors.{Stored}
+use Rattle.rrd_spec.specs.Journal.Survivors.{Stored}
 use Rattle.rrd_tool.specs.Effects.{Effect}
 use Rattle.rrd_tool.specs.Execution.{Comes}
 use Rattle.rrd_tool.specs.Commands.{effect}

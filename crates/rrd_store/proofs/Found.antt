@@ -1,14 +1,14 @@
 -- What is found in the file of a state, and what is left in it.
 use Rattle.std.proofs.Common.{◌≡◌, ◌∙◌, ◌++◌, ◌∷◌, [], ℕ, List, Option, Some, None, Result, Ok, Err, sym, ap, refl, subst, arith, inl, inr, length, length-append, option_map}
 use Rattle.std.proofs.lemmas.List.Concat.{flat_map-cons}
-use Rattle.rrd_spec.specs.Filed.{Version, One, filed}
-use Rattle.rrd_spec.specs.Survivors.{State, Stored}
+use Rattle.rrd_spec.specs.Files.Filed.{Version, One, filed}
+use Rattle.rrd_spec.specs.Journal.Survivors.{State, Stored}
 use Rattle.rrd_file.specs.declared.fault.FileFault.{FileFault}
 use Rattle.rrd_file.specs.declared.fault.FileFault.TheVariants.{Truncated}
 use Rattle.rrd_file.specs.Faults.{IsAnswer, IsFile, IsTruncated}
 use Rattle.rrd_file.specs.Laws.{FileIsLayout, HasOneAnswer, IsOfFile, LayoutIsNoOther}
 use Rattle.rrd_file.specs.Layout.{body_pieces, entry_pieces, layout, layout_in}
-use Rattle.rrd_file.specs.Pieces.{Piece, Mark, OfHeader, OfVersion, spell}
+use Rattle.rrd_file.specs.Layout.Pieces.{Piece, Mark, OfHeader, OfVersion, spell}
 use Rattle.rrd_file.specs.Stages.{Start, size}
 use Rattle.std.specs.List.{flat_map}
 use Rattle.std.specs.Result.{result_err}

@@ -3,7 +3,7 @@ use Rattle.std.proofs.Common.{◌∙◌, refl, ℕ, Bool, List, Option, Some, No
 use Rattle.std.specs.Io.KnownBytes.{Appends, Keeps}
 use Rattle.rrd_fixed.specs.Written.{AppendsFront}
 use Rattle.rrd_fixed.specs.Writing.{Appends-kept}
-use Rattle.rrd_spec.specs.Survivors.{Stored}
+use Rattle.rrd_spec.specs.Journal.Survivors.{Stored}
 use Rattle.rrd_tool.specs.Commands.{effect}
 use Rattle.rrd_tool.specs.Effects.{Effect}
 use Rattle.rrd_tool.specs.Execution.{Comes, Executes}

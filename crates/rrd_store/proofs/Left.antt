@@ -1,7 +1,7 @@
 -- What a write left is said by its fault alone.
 use Rattle.std.proofs.Common.{◌≡◌, ℕ, List, Option, Some, None, Result, Ok, Err}
 use Rattle.std.specs.Result.{result_err}
-use Rattle.rrd_spec.specs.Survivors.{Stored}
+use Rattle.rrd_spec.specs.Journal.Survivors.{Stored}
 use Rattle.rrd_store.specs.Batch.{written}
 use Rattle.rrd_store.specs.Places.{Leaves}
 use Rattle.rrd_store.specs.declared.faults.TaskFault.{TaskFault}

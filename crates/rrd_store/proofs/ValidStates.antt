@@ -1,18 +1,19 @@
 -- A state whose database is valid leads to such states only, command by command and line by line.
 use Rattle.std.proofs.Common.{◌≡◌, ◌∷◌, [], ℕ, Bool, true, false, List, Option, Some, None, Result, Ok, Err, inl, inr, sym, refl, subst, arith, option_map}
-use Rattle.rrd_spec.specs.declared.create.CreateSpec.{CreateSpec}
+use Rattle.rrd_spec.specs.declared.requests.create.CreateSpec.{CreateSpec}
 use Rattle.rrd_spec.specs.declared.refusal.Refusal.{Refusal}
 use Rattle.rrd_spec.specs.Commands.{Command as Change}
-use Rattle.rrd_spec.specs.Creating.{create_verdict, created}
-use Rattle.rrd_spec.specs.Entries.{Entry}
+use Rattle.rrd_spec.specs.Commands.Creating.{create_verdict, created}
+use Rattle.rrd_spec.specs.Journal.Entries.{Entry}
 use Rattle.rrd_spec.specs.History.{Content}
-use Rattle.rrd_spec.specs.Laws.{ActsOn, Begins, CreatedIsValid, DatabaseStays, RevertStays}
-use Rattle.rrd_spec.specs.Survivors.{Action, Changed, Reverted, Stands, State, Stored, stored_after}
+use Rattle.rrd_spec.specs.Laws.Journal.{ActsOn, Begins, DatabaseStays, RevertStays}
+use Rattle.rrd_spec.specs.Laws.Validity.{CreatedIsValid}
+use Rattle.rrd_spec.specs.Journal.Survivors.{Action, Changed, Reverted, Stands, State, Stored, stored_after}
 use Rattle.rrd_spec.specs.Validity.{IsValidDatabase}
-use Rattle.rrd_spec.specs.Verdict.{verdict}
+use Rattle.rrd_spec.specs.Commands.Verdict.{verdict}
 use Rattle.rrd_file.specs.Laws.{IsValidStored}
 use Rattle.rrd_tool.specs.Batch.{Ran, Stopped, Told, state_after}
-use Rattle.rrd_tool.specs.Batch.Turns.{RunOver, command_of, reading_turn, text_turn, turn, verdict_turn, words_turn}
+use Rattle.rrd_tool.specs.Batch.Run.{RunOver, command_of, reading_turn, text_turn, turn, verdict_turn, words_turn}
 use Rattle.rrd_tool.specs.Commands.{effect}
 use Rattle.rrd_tool.specs.Effects.{Changes, Effect, Makes, Reverts, Shows, StandsFor, stored_next, stored_of, next, verdict_on}
 use Rattle.rrd_tool.specs.Lines.{text_in, words_of}

@@ -1,9 +1,9 @@
 -- Definition: what a batch over the database in a place comes to (own).
 use Rattle.std.specs.Prelude.{ℕ, List, Option, Some, None, Result, Ok, Err}
 use Rattle.std.specs.Io.KnownBytes.{Consumes, Keeps}
-use Rattle.rrd_spec.specs.Survivors.{State, Stored}
+use Rattle.rrd_spec.specs.Journal.Survivors.{State, Stored}
 use Rattle.rrd_tool.specs.Effects.{StandsFor}
-use Rattle.rrd_tool.specs.Batch.Turns.{RunOver}
+use Rattle.rrd_tool.specs.Batch.Run.{RunOver}
 use Rattle.rrd_store.specs.Places.{Finds, Leaves}
 use Rattle.rrd_store.specs.declared.batch.FileBatchEnd.{FileBatchEnd}
 use Rattle.rrd_store.specs.declared.faults.TaskFault.{TaskFault}

@@ -1,6 +1,6 @@
 -- Definition: the texts of the faults of tasks, and what is written for them (own).
 use Rattle.std.specs.Prelude.{◌++◌, [], ℕ, Bool, List, codes, false, true, if◌then◌else◌}
-use Rattle.rrd_file.specs.FaultTexts.{file_fault_text}
+use Rattle.rrd_file.specs.Faults.Texts.{file_fault_text}
 use Rattle.rrd_tool.specs.Faults.{error_line, fault_text}
 use Rattle.rrd_tool.specs.declared.batch.StreamFault.{StreamFault}
 use Rattle.rrd_tool.specs.declared.batch.StreamFault.TheVariants as stream

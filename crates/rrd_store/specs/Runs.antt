@@ -8,8 +8,8 @@ use Rattle.rrd_file.specs.declared.fault.FileFault.TheVariants.{Truncated}
 use Rattle.rrd_file.specs.Faults.{IsFile}
 use Rattle.rrd_file.specs.Laws.{IsOfFile, IsValidStored}
 use Rattle.rrd_file.specs.Layout.{layout}
-use Rattle.rrd_spec.specs.Survivors.{State, Stored, Stands}
-use Rattle.rrd_tool.specs.Batch.Turns.{RunOver}
+use Rattle.rrd_spec.specs.Journal.Survivors.{State, Stored, Stands}
+use Rattle.rrd_tool.specs.Batch.Run.{RunOver}
 use Rattle.rrd_tool.specs.Commands.{effect}
 use Rattle.rrd_tool.specs.Commands.Reading.{IsReading}
 use Rattle.rrd_tool.specs.Effects.{Effect, Makes, Changes, Reverts, Shows, stored_of, next, text_on, verdict_on}

@@ -1,7 +1,7 @@
 -- Definition: what one command over the database in a place comes to (own).
 use Rattle.std.specs.Prelude.{◌≡◌, ℕ, Bool, List, Option, Some, None, Result, Ok, Err, false, true}
 use Rattle.std.specs.Io.KnownBytes.{Keeps}
-use Rattle.rrd_spec.specs.Survivors.{Stored}
+use Rattle.rrd_spec.specs.Journal.Survivors.{Stored}
 use Rattle.rrd_tool.specs.Commands.{effect}
 use Rattle.rrd_tool.specs.Effects.{Effect, Makes, Changes, Reverts, Shows}
 use Rattle.rrd_tool.specs.Execution.{Executes}

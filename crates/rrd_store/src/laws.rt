@@ -1,6 +1,6 @@
 //! Laws of the tasks. Each is the contract of a function that does nothing.
 ghost use Rattle.std.specs.Prelude.{ℕ, List, Option};
-ghost use Rattle.rrd_spec.specs.Survivors.{State, Stored};
+ghost use Rattle.rrd_spec.specs.Journal.Survivors.{State, Stored};
 ghost use Rattle.rrd_store.specs.Runs as laws;
 ghost use Rattle.rrd_store.specs.declared.faults.TaskFault.{TaskFault};
 

@@ -1,7 +1,7 @@
 //! Worked values and edges of cells, rates, names and numbers, and writers that fail.
 ghost use Rattle.rrd_fixed.specs.Rate.{IsAccepted};
 
-use crate::shared::{Manner, PLAIN, Taker};
+use crate::shared::streams::{Manner, PLAIN, Taker};
 use rrd_fixed::{
     Cell, Kind, Meter, Name, Number, Raw, admit, cell_string, near, rate, raw_string, read_number,
     read_whole, rise, time_string, write_bytes, write_cell, write_raw, write_time,

@@ -1,18 +1,8 @@
-//! The tests of all the libraries, by public items alone.
+//! The tests of all the libraries, by public items alone: a file or a folder for each library.
 #![tactic(auto)]
 
 #[cfg(test)]
-mod batch;
-#[cfg(test)]
-mod changes;
-#[cfg(test)]
-mod database;
-#[cfg(test)]
-mod decoding;
-#[cfg(test)]
-mod entries;
-#[cfg(test)]
-mod faults;
+mod base;
 #[cfg(test)]
 mod file;
 #[cfg(test)]
@@ -20,22 +10,10 @@ mod fixed;
 #[cfg(test)]
 mod fold;
 #[cfg(test)]
-mod printing;
-#[cfg(test)]
-mod reading;
-#[cfg(test)]
-mod rebuild;
-#[cfg(test)]
 mod ring;
-#[cfg(test)]
-mod scripts;
 #[cfg(test)]
 mod shared;
 #[cfg(test)]
-mod shelf;
+mod store;
 #[cfg(test)]
-mod slow;
-#[cfg(test)]
-mod streams;
-#[cfg(test)]
-mod tasks;
+mod tool;

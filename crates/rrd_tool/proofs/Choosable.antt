@@ -7,15 +7,15 @@ use Rattle.std.proofs.lemmas.Bool.Decides.{nat_tests}
 use Rattle.std.proofs.Math.Nat.{mul-le-mul_left}
 use Rattle.rrd_fold.specs.declared.function.Function.{Function}
 use Rattle.rrd_spec.specs.declared.settings.RraDef.{RraDef}
-use Rattle.rrd_spec.specs.declared.fetch.Candidate.{Candidate}
-use Rattle.rrd_spec.specs.declared.fetch.Chosen.{Chosen}
-use Rattle.rrd_spec.specs.declared.fetch.Request.{Request}
+use Rattle.rrd_spec.specs.declared.requests.fetch.Candidate.{Candidate}
+use Rattle.rrd_spec.specs.declared.requests.fetch.Chosen.{Chosen}
+use Rattle.rrd_spec.specs.declared.requests.fetch.Request.{Request}
 use Rattle.rrd_spec.specs.declared.refusal.Refusal.{Refusal}
 use Rattle.rrd_spec.specs.declared.refusal.Refusal.TheVariants.{BadTime, BadSpan}
 use Rattle.rrd_spec.specs.History.{Archive, Content}
 use Rattle.rrd_spec.specs.Choice.{best, candidate, candidates, choice, covers, is_farther, is_nearer, same_function, span, span_of, span_rows, taken, unless_refused, choice_within}
 use Rattle.rrd_spec.specs.Validity.{IsValid, IsValidArchive}
-use Rattle.rrd_spec.specs.Verdict.{◌refuses◌, first_refusal}
+use Rattle.rrd_spec.specs.Commands.Verdict.{◌refuses◌, first_refusal}
 use Rattle.rrd_tool.specs.Commands.Fetched.{IsReadable}
 use Rattle.rrd_spec.specs.Limits.{version_one}
 

@@ -1,12 +1,12 @@
 -- What the database stands for after more lines.
 use Rattle.std.proofs.Common.{◌++◌, List, ℕ, Option, Result}
 use Rattle.rrd_fixed.specs.declared.streams.WriteFault.{WriteFault}
-use Rattle.rrd_spec.specs.Survivors.{State, Stored}
+use Rattle.rrd_spec.specs.Journal.Survivors.{State, Stored}
 use Rattle.rrd_tool.specs.Lines.{last_part, whole_lines}
-use Rattle.rrd_tool.specs.Batch.States.{Moves}
+use Rattle.rrd_tool.specs.Batch.Answers.{Moves}
 use Rattle.rrd_tool.specs.Batch.{Ran, Stopped}
 use Rattle.rrd_tool.specs.Effects.{StandsFor}
-use Rattle.rrd_tool.specs.Batch.Turns.{turn}
+use Rattle.rrd_tool.specs.Batch.Run.{turn}
 use Rattle.rrd_tool.proofs.BatchLemmas.{answers_more, stopped_front}
 
 -- all of them, or some first ones

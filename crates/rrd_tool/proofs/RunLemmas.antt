@@ -2,27 +2,27 @@
 use Rattle.std.proofs.Common.{◌≡◌, ◌≢◌, ◌∙◌, ◌∷◌, [], ℕ, Bool, true, false, List, Option, Some, None, Result, Ok, Err, inl, inr, ap, ap₂, sym, refl, subst, append-nil, arith, length, option_map}
 use Rattle.std.specs.Io.KnownBytes.{Appends, Keeps}
 use Rattle.rrd_fixed.specs.declared.streams.WriteFault.{WriteFault}
-use Rattle.rrd_spec.specs.declared.create.CreateSpec.{CreateSpec}
+use Rattle.rrd_spec.specs.declared.requests.create.CreateSpec.{CreateSpec}
 use Rattle.rrd_spec.specs.declared.refusal.Refusal.{Refusal}
-use Rattle.rrd_spec.specs.Creating.{create_verdict, created}
-use Rattle.rrd_spec.specs.Laws.{CreatedIsValid}
+use Rattle.rrd_spec.specs.Commands.Creating.{create_verdict, created}
+use Rattle.rrd_spec.specs.Laws.Validity.{CreatedIsValid}
 use Rattle.rrd_spec.specs.History.{Content}
-use Rattle.rrd_spec.specs.Entries.{Entry}
-use Rattle.rrd_spec.specs.Survivors.{State, Stored, Changed, Reverted, Stands, stored_after, Action}
-use Rattle.rrd_spec.specs.Verdict.{verdict}
-use Rattle.rrd_spec.specs.Laws.{ActsOn, Begins}
+use Rattle.rrd_spec.specs.Journal.Entries.{Entry}
+use Rattle.rrd_spec.specs.Journal.Survivors.{State, Stored, Changed, Reverted, Stands, stored_after, Action}
+use Rattle.rrd_spec.specs.Commands.Verdict.{verdict}
+use Rattle.rrd_spec.specs.Laws.Journal.{ActsOn, Begins}
 use Rattle.clap.specs.Words.{fault_of}
 use Rattle.rrd_fixed.specs.Writing.{Appends-kept}
 use Rattle.rrd_tool.specs.Batch.{Turn}
 use Rattle.rrd_tool.specs.Effects.{Effect, Makes, Changes, Reverts, Shows, StandsFor, is_change, stored_next, stored_of, next, revert_verdict, text_on, verdict_on, first_state}
 use Rattle.rrd_tool.specs.Execution.{Affects, Comes, IsFault}
-use Rattle.rrd_tool.specs.Batch.States.{Performs}
+use Rattle.rrd_tool.specs.Batch.Answers.{Performs}
 use Rattle.rrd_tool.specs.Execution.Printing.{Prints, PrintsBy}
 use Rattle.rrd_tool.specs.Faults.{fault_line}
 use Rattle.rrd_tool.specs.Lines.{is_empty, text_in, words_of}
-use Rattle.rrd_tool.specs.Batch.States.{Asks, line_turns}
+use Rattle.rrd_tool.specs.Batch.Answers.{Asks, line_turns}
 use Rattle.rrd_tool.specs.Commands.Reading.{IsReading}
-use Rattle.rrd_tool.specs.Batch.Turns.{command_of, effect_turn, reading_turn, refusal_turn, text_turn, turn, unless_short, words_turn}
+use Rattle.rrd_tool.specs.Batch.Run.{command_of, effect_turn, reading_turn, refusal_turn, text_turn, turn, unless_short, words_turn}
 use Rattle.rrd_tool.specs.Commands.{rrdi_app}
 use Rattle.rrd_tool.specs.declared.commands.Command.{Command}
 use Rattle.rrd_tool.specs.declared.faults.LineFault.{LineFault}

@@ -2,8 +2,8 @@
 use Rattle.std.specs.Prelude.{◌≡◌, ◌+◌, ◌++◌, ◌∷◌, ◌&&◌, [], ℕ, Bool, List, Option, map, if◌then◌else◌}
 use Rattle.std.specs.Io.KnownBytes.{Appends}
 use Rattle.rrd_tool.specs.Lines.{is_empty}
-pub mod Turns
-pub mod States
+pub mod Run
+pub mod Answers
 
 -- a line, and whether it was answered with want of memory
 pub record Told : Type 0 where

@@ -1,15 +1,15 @@
 -- Definition: what a command does, and what comes of each kind of doing, over a database and in a run (own).
 use Rattle.std.specs.Prelude.{◌∷◌, [], ℕ, Bool, List, Option, Some, None, Result, true, false, option_map, unwrap_or}
 use Rattle.std.specs.Result.{result_err, result_ok}
-use Rattle.rrd_spec.specs.declared.create.CreateSpec.{CreateSpec}
+use Rattle.rrd_spec.specs.declared.requests.create.CreateSpec.{CreateSpec}
 use Rattle.rrd_spec.specs.declared.refusal.Refusal.{Refusal}
 use Rattle.rrd_spec.specs.declared.refusal.Refusal.TheVariants.{NothingToRevert}
 use Rattle.rrd_spec.specs.History.{Content}
 use Rattle.rrd_spec.specs.Commands.{Command, Resizing, TuningBy, Updating}
-use Rattle.rrd_spec.specs.Creating.{create_verdict, created}
-use Rattle.rrd_spec.specs.Entries.{Entry}
-use Rattle.rrd_spec.specs.Survivors.{State, Stored, Changed, Reverted, Stands, after, changed, journal_of, reverted, survived}
-use Rattle.rrd_spec.specs.Verdict.{verdict}
+use Rattle.rrd_spec.specs.Commands.Creating.{create_verdict, created}
+use Rattle.rrd_spec.specs.Journal.Entries.{Entry}
+use Rattle.rrd_spec.specs.Journal.Survivors.{State, Stored, Changed, Reverted, Stands, after, changed, journal_of, reverted, survived}
+use Rattle.rrd_spec.specs.Commands.Verdict.{verdict}
 use Rattle.rrd_tool.specs.declared.faults.Fault.{Fault}
 use Rattle.rrd_tool.specs.declared.faults.Fault.TheVariants.{Refused, NoDatabase}
 

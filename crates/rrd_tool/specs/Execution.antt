@@ -3,7 +3,7 @@ use Rattle.std.specs.Prelude.{◌≡◌, ◌⊎◌, ℕ, Bool, List, Option, Som
 use Rattle.std.specs.Io.KnownBytes.{Appends, Keeps}
 use Rattle.rrd_fixed.specs.Written.{AppendsFront}
 use Rattle.rrd_spec.specs.declared.refusal.Refusal.TheVariants as refusal
-use Rattle.rrd_spec.specs.Survivors.{State, Stored}
+use Rattle.rrd_spec.specs.Journal.Survivors.{State, Stored}
 use Rattle.rrd_tool.specs.Commands.{effect}
 use Rattle.rrd_tool.specs.Effects.{Effect, StandsFor, is_change, stored_next, stored_of, next, takes_memory, text_on, verdict_on}
 use Rattle.rrd_tool.specs.declared.commands.Command.{Command}

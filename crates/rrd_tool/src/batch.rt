@@ -3,12 +3,12 @@ ghost use Rattle.std.specs.Prelude.{◌≡◌, ◌<◌, ◌≤◌, ◌+◌, ◌^
 ghost use Rattle.std.specs.List.{list_all};
 ghost use Rattle.std.specs.Result.{result_err};
 ghost use Rattle.std.specs.Io.KnownBytes.{Consumes};
-ghost use Rattle.rrd_spec.specs.Survivors.{State};
+ghost use Rattle.rrd_spec.specs.Journal.Survivors.{State};
 ghost use Rattle.rrd_tool.specs.Effects.{StandsFor};
 ghost use Rattle.rrd_tool.specs.Lines.Buffer.{Buffers};
 ghost use Rattle.rrd_tool.specs.Lines.{is_plain, last_part, text_in, whole_lines};
-ghost use Rattle.rrd_tool.specs.Batch.States.{Asks, Moves, MovesByCommand, MovesByLine};
-ghost use Rattle.rrd_tool.specs.Batch.Turns.{RunOver};
+ghost use Rattle.rrd_tool.specs.Batch.Answers.{Asks, Moves, MovesByCommand, MovesByLine};
+ghost use Rattle.rrd_tool.specs.Batch.Run.{RunOver};
 
 use crate::execution::execute;
 use crate::faults::{Fault, write_fault};

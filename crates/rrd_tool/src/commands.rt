@@ -1,6 +1,5 @@
 //! The commands, and the tables of them: their names and shapes, what reads their values, and what runs them. What is
-//! a
-//! command's own stands in its file.
+//! a command's own stands in its file.
 ghost use Rattle.std.specs.Prelude.{◌≡◌, ◌∷◌, IfOk, IfSome, List, None, Option, Some, is_some, true, ℕ};
 ghost use Rattle.clap.specs.Words.{app_of, found_of, rows_of, subcommand_rows_of};
 ghost use Rattle.rrd_tool.specs.Commands.{line_of, rrdi_app};

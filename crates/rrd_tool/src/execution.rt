@@ -1,6 +1,6 @@
 //! Running a command.
 ghost use Rattle.std.specs.Prelude.{◌≡◌, ℕ, List, Option, Some, None, true, false};
-ghost use Rattle.rrd_spec.specs.Survivors.{State};
+ghost use Rattle.rrd_spec.specs.Journal.Survivors.{State};
 ghost use Rattle.rrd_fixed.specs.Written.{Writes};
 ghost use Rattle.rrd_tool.specs.Execution.{Executes, RunsOn};
 ghost use Rattle.rrd_tool.specs.Execution.Printing.{Prints};

@@ -1,6 +1,6 @@
 //! What the journal keeps of an archive.
 ghost use Rattle.std.specs.Prelude.{◌≡◌};
-ghost use Rattle.rrd_spec.specs.Each.{AllOf, parts_in};
+ghost use Rattle.rrd_spec.specs.Preparations.{AllOf, parts_in};
 
 use rrd_fold::{Function, RowPrep};
 use rrd_ring::Dropped;
@@ -16,8 +16,8 @@ pub struct SavedArchive {
 }
 
 impl Model for SavedArchive {
-    ghost use Rattle.rrd_spec.specs.Each.{AllOf, parts_in};
-    ghost use Rattle.rrd_spec.specs.Entries.{SavedArchive};
+    ghost use Rattle.rrd_spec.specs.Preparations.{AllOf, parts_in};
+    ghost use Rattle.rrd_spec.specs.Journal.Entries.{SavedArchive};
 
     ghost Value = { SavedArchive };
 

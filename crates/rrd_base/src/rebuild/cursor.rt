@@ -1,12 +1,13 @@
 //! Where the next cell of a file goes.
 ghost use Rattle.std.specs.Prelude.{◌≡◌, ◌+◌, ◌%◌, ◌<◌, ◌≤◌};
-ghost use Rattle.rrd_base.specs.Cursor.{Advances, KnowsPlace};
+ghost use Rattle.rrd_base.specs.Rebuild.Cursors.{Advances, KnowsPlace};
 ghost use Rattle.rrd_spec.specs.Limits.{version_one};
-ghost use Rattle.rrd_spec.specs.Rebuilding.{IsArchiveDef};
+ghost use Rattle.rrd_spec.specs.Files.Rebuilding.{IsArchiveDef};
 ghost use Rattle.rrd_spec.specs.Settings.{resolution};
-ghost use Rattle.rrd_spec.specs.Slots.{place_in};
+ghost use Rattle.rrd_spec.specs.Files.Slots.{place_in};
 
 use crate::RraDef;
+use rrd_spec::first_place;
 
 /// The next cell's archive, the slot of its row in a file, that row's place, 0 the oldest, and its
 /// source.
@@ -28,17 +29,6 @@ fn next_place(place: u64, rows: u64) -> u64
 {
     let next = place + 1;
     if next < rows { next } else { next - rows }
-}
-
-// The place of the row in the first slot, so many rows of so many seconds ending by a time.
-fn first_place(resolution: u64, last: u64, rows: u64) -> u64
-    requires some_resolution { 0 < resolution }
-    requires in_time { last ≤ version_one.latest_time }
-    requires some_rows { 0 < rows }
-    requires few_rows { rows ≤ version_one.most_rows }
-    ensures { result ≡ place_in resolution last rows 0 }
-{
-    (rows - (last / resolution + 1) % rows) % rows
 }
 
 impl Cursor {

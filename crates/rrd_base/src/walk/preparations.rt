@@ -4,7 +4,7 @@ ghost use Rattle.std.specs.List.{AllByRecursion, fold};
 ghost use Rattle.rrd_fold.specs.Parts.{Part, nothing, step_cell, with_each};
 ghost use Rattle.rrd_fold.specs.Bounds.{Consolidating};
 ghost use Rattle.rrd_fold.specs.declared.function.Function.TheVariants.{Average};
-ghost use Rattle.rrd_spec.specs.Each.{anew, map_each, row_of, with_steps};
+ghost use Rattle.rrd_spec.specs.Preparations.{anew, map_each, row_of, with_steps};
 ghost use Rattle.rrd_spec.specs.Limits.{version_one};
 ghost use Rattle.rrd_spec.specs.Validity.{IsRow};
 

@@ -1,6 +1,6 @@
 //! The faults of pieces that came whole.
 ghost use Rattle.std.specs.Prelude.{◌≡◌, suc, length};
-ghost use Rattle.rrd_file.specs.Standing.{fault_in_block, fault_in_entry};
+ghost use Rattle.rrd_file.specs.Decoding.Faults.{fault_in_block, fault_in_entry};
 ghost use Rattle.rrd_file.specs.declared.fault.FileFault.TheVariants.{BadEntry};
 
 use crate::FileFault;

@@ -1,22 +1,27 @@
 //! Entries of the journal.
 ghost use Rattle.std.specs.Prelude.{◌≡◌, ◌≢◌, ◌∷◌, [], ℕ, List, IfOk, IfSome, None, OnOk};
 ghost use Rattle.rrd_base.specs.Journal.{entry_of};
-ghost use Rattle.rrd_spec.specs.Rebuilding.{due, outline_left};
+ghost use Rattle.rrd_spec.specs.Files.Rebuilding.{due, outline_left};
 ghost use Rattle.rrd_spec.specs.declared.due.Due.TheVariants.{EntryDue};
-ghost use Rattle.rrd_file.specs.Pieces.{OfTag, Tag as TagPiece, tag_byte};
-ghost use Rattle.rrd_file.specs.Shapes.{HasOneMore, IsShaped, tag_said};
+ghost use Rattle.rrd_file.specs.Layout.Pieces.{OfTag, Tag as TagPiece, tag_byte};
+ghost use Rattle.rrd_file.specs.Decoding.Journal.{HasOneMore, IsShaped, tag_said};
 ghost use Rattle.rrd_file.specs.Stages.{Body, first_due};
-ghost use Rattle.rrd_file.specs.Standing.{Brings, Closes, Reaches, Stands};
+ghost use Rattle.rrd_file.specs.Decoding.Progress.{Brings, Closes, Reaches, Stands};
 
 use super::faults::{bad_entry, entry_fault};
-use super::resize::resize;
-use super::tune::tune;
-use super::update::update;
 use crate::FileFault;
-use crate::input::PieceReader;
+use crate::decoding::input::PieceReader;
+use resize::resize;
 use rrd_base::{Entry, Rebuild};
 use std::alloc::Global;
 use std::io::Read;
+use tune::tune;
+use update::update;
+
+mod resize;
+mod rows;
+mod tune;
+mod update;
 
 /// What an entry undoes.
 #[derive(Clone, Copy)]

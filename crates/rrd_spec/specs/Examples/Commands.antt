@@ -1,43 +1,17 @@
 -- Example: worked examples of commands.
-use Rattle.std.specs.Prelude.{◌≡◌, ℕ, ◌*◌, ◌^◌, pos, false, Some, None, List, [], ◌∷◌, map}
+use Rattle.std.specs.Prelude.{◌≡◌, pos, Some, None, [], ◌∷◌, map}
 use Rattle.std.specs.List.{fold}
 use Rattle.rrd_fixed.specs.declared.raw.Raw.{Raw}
 use Rattle.rrd_fixed.specs.declared.kind.Kind.TheVariants.{Gauge}
 use Rattle.rrd_fold.specs.declared.function.Function.TheVariants.{Last}
-use Rattle.rrd_fixed.specs.declared.name.Name.{Name}
 use Rattle.rrd_spec.specs.declared.settings.DsDef.{DsDef}
-use Rattle.rrd_spec.specs.History.{Content}
-use Rattle.rrd_spec.specs.Examples.Histories.{created, gauge, counter, archive, rows, known, nan}
-use Rattle.rrd_spec.specs.declared.update.Given.{Given}
-use Rattle.rrd_spec.specs.declared.update.Sample.{Sample}
-use Rattle.rrd_spec.specs.declared.tune.Tuning.{Tuning}
-use Rattle.rrd_spec.specs.declared.resize.Change.TheVariants.{Grow, Shrink}
-use Rattle.rrd_spec.specs.Commands.{Command, Updating, TuningBy, Resizing}
+use Rattle.rrd_spec.specs.declared.requests.tune.Tuning.{Tuning}
+use Rattle.rrd_spec.specs.declared.requests.resize.Change.TheVariants.{Grow, Shrink}
+use Rattle.rrd_spec.specs.Commands.{Command, TuningBy, Resizing}
 use Rattle.rrd_spec.specs.declared.refusal.Refusal.TheVariants.{NotLater, NoSample, BadTime, WrongCount, ShrinkTooFar, NoSuchArchive, BadRows, NothingToTune, BadBounds, NoSuchSource}
-use Rattle.rrd_spec.specs.Verdict.{verdict}
-use Rattle.rrd_spec.specs.Survivors.{Action, Changed, Reverted, Stored, stored_after}
-
-abbrev pub letter : ℕ → Name
-letter c = c ∷ []
-
-abbrev pub whole : ℕ → Given
-whole value = Given.Number (record { millionths = pos (value * 10 ^ 6); point = false })
-
-abbrev pub reading : ℕ → ℕ → Sample
-reading time value = record { time = time; values = whole value ∷ [] }
-
-abbrev pub update : List Sample → Command
-update samples = Updating (record { template = None; samples = samples })
-
-abbrev pub no_tuning : Tuning
-no_tuning = record { heartbeat = None; minimum = None; maximum = None; kind = None; rename = None }
-
--- a gauge `g` and its archive of so many last values, a step each
-abbrev pub small : ℕ → Content
-small rows = created 10 0 (record (gauge 100) { name = letter 103 }) (archive Last 1 rows ∷ [])
-
-abbrev pub run : Content → List Action → Stored
-run base actions = fold stored_after (record { content = base; journal = [] }) actions
+use Rattle.rrd_spec.specs.Commands.Verdict.{verdict}
+use Rattle.rrd_spec.specs.Journal.Survivors.{Changed, Reverted, Stored, stored_after}
+use Rattle.rrd_spec.specs.Examples.{created, counter, archive, rows, known, nan, letter, whole, reading, update, no_tuning, small, run}
 
 abbrev pub six : Command
 six = update (reading 10 1 ∷ reading 20 2 ∷ reading 30 3 ∷ reading 40 4 ∷ reading 50 5 ∷ reading 60 6 ∷ [])

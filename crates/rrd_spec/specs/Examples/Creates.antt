@@ -1,13 +1,13 @@
 -- Example: worked examples of new databases, and of what refuses one.
 use Rattle.std.specs.Prelude.{◌≡◌, ℕ, pos, Some, None, List, [], ◌∷◌}
 use Rattle.rrd_fold.specs.declared.function.Function.TheVariants.{Last}
-use Rattle.rrd_spec.specs.declared.create.CreateSpec.{CreateSpec}
+use Rattle.rrd_spec.specs.declared.requests.create.CreateSpec.{CreateSpec}
 use Rattle.rrd_spec.specs.declared.settings.DsDef.{DsDef}
 use Rattle.rrd_spec.specs.declared.settings.RraDef.{RraDef}
 use Rattle.rrd_spec.specs.declared.refusal.Refusal.TheVariants.{BadStep, NoSource, NoArchive, BadXff, BadRows, TooLarge}
-use Rattle.rrd_spec.specs.Creating.{create_verdict, created as made}
-use Rattle.rrd_spec.specs.Examples.Histories.{created, gauge, archive}
-use Rattle.rrd_spec.specs.Steps.{step}
+use Rattle.rrd_spec.specs.Commands.Creating.{create_verdict, created as made}
+use Rattle.rrd_spec.specs.Examples.{created, gauge, archive}
+use Rattle.rrd_spec.specs.History.Steps.{step}
 
 abbrev pub asked : ℕ → List DsDef → List RraDef → CreateSpec
 asked step sources archives = record { step = step; start = 0; depth = 16; sources = sources; archives = archives }

@@ -3,10 +3,10 @@ use Rattle.std.specs.Prelude.{◌≡◌, pos, negsuc, Ok, Err, [], ◌∷◌}
 use Rattle.rrd_fold.specs.declared.function.Function.TheVariants.{Min, Last}
 use Rattle.rrd_spec.specs.declared.refusal.Refusal.TheVariants.{BadSpan, BadTime, NoArchiveForFunction, SpanTooLong, NoSuchArchive}
 use Rattle.rrd_spec.specs.History.{Content}
-use Rattle.rrd_spec.specs.Listed.{content_listed}
-use Rattle.rrd_spec.specs.Cells.{oldest_time}
+use Rattle.rrd_spec.specs.Laws.Listed.{content_listed}
+use Rattle.rrd_spec.specs.History.Cells.{oldest_time}
 use Rattle.rrd_spec.specs.Choice.{choice}
-use Rattle.rrd_spec.specs.Examples.Histories.{created, gauge, archive, at}
+use Rattle.rrd_spec.specs.Examples.{created, gauge, archive, at}
 
 -- two archives of three rows, of one and of two steps, at 100 seconds
 abbrev pub two_archives : Content

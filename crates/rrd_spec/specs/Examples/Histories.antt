@@ -1,56 +1,10 @@
--- Example: worked examples.
-use Rattle.std.specs.Prelude.{◌≡◌, ℕ, ◌^◌, ◌*◌, pos, negsuc, None, List, [], ◌∷◌, map, replicate, drop}
-use Rattle.rrd_fixed.specs.declared.cell.Cell.{Cell}
-use Rattle.rrd_fixed.specs.declared.raw.Raw.{Raw}
-use Rattle.rrd_fixed.specs.declared.kind.Kind.TheVariants.{Gauge, Counter}
-use Rattle.rrd_fold.specs.declared.function.Function.{Function}
+-- Example: worked histories.
+use Rattle.std.specs.Prelude.{◌≡◌, pos, negsuc, [], ◌∷◌, map, drop}
 use Rattle.rrd_fold.specs.declared.function.Function.TheVariants.{Average, Last}
-use Rattle.rrd_spec.specs.declared.settings.DsDef.{DsDef}
-use Rattle.rrd_spec.specs.declared.settings.RraDef.{RraDef}
-use Rattle.rrd_fold.specs.Parts.{nothing}
-use Rattle.rrd_spec.specs.Cells.{row_at}
-use Rattle.rrd_spec.specs.History.{Archive, Content, Event, Sampled, Resized}
-use Rattle.rrd_spec.specs.Listed.{content_listed}
-use Rattle.rrd_spec.specs.Steps.{step}
-
-abbrev pub created : ℕ → ℕ → DsDef → List RraDef → Content
-created step start source defs = record {
-  step = step;
-  depth = 16;
-  sources = source ∷ [];
-  last = start;
-  raws = Raw.Unknown ∷ [];
-  parts = nothing ∷ [];
-  archives = map
-      (λ def. record { def = def; parts = nothing ∷ []; rows = replicate def.rows (Cell.Unknown ∷ []) })
-      defs;
-}
-
-abbrev pub gauge : ℕ → DsDef
-gauge heartbeat = record { name = 97 ∷ []; kind = Gauge; heartbeat = heartbeat; min = None; max = None }
-
-abbrev pub counter : ℕ → DsDef
-counter heartbeat = record { name = 97 ∷ []; kind = Counter; heartbeat = heartbeat; min = None; max = None }
-
-abbrev pub archive : Function → ℕ → ℕ → RraDef
-archive function steps rows = record { function = function; xff = pos 500000; steps = steps; rows = rows }
-
--- a gauge's sample, in whole units
-abbrev pub at : ℕ → ℕ → Event
-at time value = Sampled (record { time = time; raws = Raw.Known (pos (value * 10 ^ 6)) ∷ [] })
-
-abbrev pub count_at : ℕ → ℕ → Event
-count_at time value = Sampled (record { time = time; raws = Raw.Known (pos value) ∷ [] })
-
--- the first archive's rows
-abbrev pub rows : Content → List (List (List Cell))
-rows content = map (λ (a : Archive). a.rows) content.archives
-
-abbrev pub known : ℕ → List Cell
-known millionths = Cell.Known (pos millionths) ∷ []
-
-abbrev pub nan : List Cell
-nan = Cell.Unknown ∷ []
+use Rattle.rrd_spec.specs.History.Cells.{row_at}
+use Rattle.rrd_spec.specs.History.{Resized}
+use Rattle.rrd_spec.specs.Laws.Listed.{content_listed}
+use Rattle.rrd_spec.specs.Examples.{created, gauge, counter, archive, at, count_at, rows, known, nan}
 
 -- two samples, one a step
 abbrev pub TwoSamples : Type 0

@@ -2,8 +2,8 @@
 use Rattle.std.specs.Prelude.{◌≡◌, pos, negsuc, List, [], ◌∷◌, map}
 use Rattle.rrd_fold.specs.declared.function.Function.TheVariants.{Last}
 use Rattle.rrd_spec.specs.History.{Event, Resized}
-use Rattle.rrd_spec.specs.Cells.{horizon, row_by_time}
-use Rattle.rrd_spec.specs.Examples.Histories.{created, gauge, archive, at, known, nan}
+use Rattle.rrd_spec.specs.History.Cells.{horizon, row_by_time}
+use Rattle.rrd_spec.specs.Examples.{created, gauge, archive, at, known, nan}
 
 -- an archive of six rows that shrinks to two and grows to six again
 abbrev pub shrunk : List Event

@@ -6,12 +6,12 @@ use Rattle.clap.specs.Words.{App, Row, first_of, new_app, with_rule}
 use Rattle.rrd_fixed.specs.Reading.{whole_of}
 use Rattle.rrd_fixed.specs.Text.{cell_text, time_text}
 use Rattle.rrd_fold.specs.declared.function.Function.{Function}
-use Rattle.rrd_spec.specs.declared.fetch.Chosen.{Chosen}
+use Rattle.rrd_spec.specs.declared.requests.fetch.Chosen.{Chosen}
 use Rattle.rrd_spec.specs.declared.settings.DsDef.{DsDef}
 use Rattle.rrd_spec.specs.declared.refusal.Refusal.{Refusal}
 use Rattle.rrd_spec.specs.Choice.{choice}
 use Rattle.rrd_spec.specs.History.{Content}
-use Rattle.rrd_spec.specs.Cells.{cell_at}
+use Rattle.rrd_spec.specs.History.Cells.{cell_at}
 use Rattle.rrd_tool.specs.Arguments.{letter_rule, required_rule}
 use Rattle.rrd_tool.specs.Fields.{function_of}
 use Rattle.rrd_tool.specs.Fields.Parts.{Unread, ◌>>=◌, given, optional, required}

@@ -1,6 +1,6 @@
 -- Glue: what a fetch may read.
 use Rattle.std.specs.Prelude.{◌<◌, ◌≤◌, length}
-use Rattle.rrd_spec.specs.declared.fetch.Chosen.{Chosen}
+use Rattle.rrd_spec.specs.declared.requests.fetch.Chosen.{Chosen}
 use Rattle.rrd_spec.specs.History.{Content}
 
 -- an archive that is there, its resolution, and times that stay small

@@ -4,7 +4,7 @@ use Rattle.std.specs.Result.{result_map_both}
 use Rattle.clap.specs.Words.{App, Row, first_of, new_app, with_rule}
 use Rattle.rrd_fixed.specs.Reading.{whole_of}
 use Rattle.rrd_spec.specs.declared.refusal.Refusal.{Refusal}
-use Rattle.rrd_spec.specs.Cells.{oldest_time}
+use Rattle.rrd_spec.specs.History.Cells.{oldest_time}
 use Rattle.rrd_spec.specs.History.{Content}
 use Rattle.rrd_tool.specs.Arguments.{option_rule}
 use Rattle.rrd_tool.specs.Commands.Last.{time_line}

@@ -3,7 +3,7 @@ use Rattle.std.specs.Prelude.{List, Option, Some, None, Result, Ok, codes, if◌
 use Rattle.std.specs.Str.{bytes_eq}
 use Rattle.clap.specs.Words.{App, Row, Text, first_of, new_app, with_rule}
 use Rattle.rrd_fixed.specs.Reading.{whole_of}
-use Rattle.rrd_spec.specs.declared.resize.Change.{Change}
+use Rattle.rrd_spec.specs.declared.requests.resize.Change.{Change}
 use Rattle.rrd_tool.specs.Arguments.{required_rule}
 use Rattle.rrd_tool.specs.Fields.Parts.{Unread, ◌>>=◌, required}
 use Rattle.rrd_tool.specs.declared.commands.Command.{Command}

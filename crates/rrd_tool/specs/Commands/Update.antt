@@ -4,8 +4,8 @@ use Rattle.std.specs.Str.{bytes_eq}
 use Rattle.clap.specs.Words.{App, Row, Text, first_of, new_app, with_rule}
 use Rattle.rrd_fixed.specs.Reading.{number_of, whole_of}
 use Rattle.rrd_fixed.specs.declared.name.Name.{Name}
-use Rattle.rrd_spec.specs.declared.update.Given.{Given}
-use Rattle.rrd_spec.specs.declared.update.Sample.{Sample}
+use Rattle.rrd_spec.specs.declared.requests.update.Given.{Given}
+use Rattle.rrd_spec.specs.declared.requests.update.Sample.{Sample}
 use Rattle.rrd_tool.specs.Arguments.{letter_rule, many_rule, words_of}
 use Rattle.rrd_tool.specs.Fields.{◌>>?◌, each_in, field, is_unknown, name_of, pieces}
 use Rattle.rrd_tool.specs.Fields.Parts.{Unread, ◌>>=◌, each_of, optional}

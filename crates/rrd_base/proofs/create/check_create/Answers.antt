@@ -1,8 +1,8 @@
 use Rattle.std.proofs.Common.{◌≡◌, ◌∙◌, ap, List, [], ◌∷◌, ◌++◌, Option, Some, None, Bool, cond, true, false, refl}
 use Rattle.std.proofs.lemmas.Result.{err_from_is_err_and}
 use Rattle.rrd_spec.specs.declared.refusal.Refusal.{Refusal}
-use Rattle.rrd_spec.specs.Verdict.{Check, first_refusal}
-use Rattle.rrd_spec.specs.Creating.{create_verdict_within, first_checks, source_checks, archive_checks, size_checks}
+use Rattle.rrd_spec.specs.Commands.Verdict.{Check, first_refusal}
+use Rattle.rrd_spec.specs.Commands.Creating.{create_verdict_within, first_checks, source_checks, archive_checks, size_checks}
 use Rattle.rrd_base.proofs.create.check_create.Goals as goal
 use Rattle.rrd_spec.specs.Limits.{version_one}
 

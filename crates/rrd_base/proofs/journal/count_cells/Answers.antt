@@ -1,6 +1,6 @@
 use Rattle.std.proofs.Common.{◌≡◌, ap, ◌*◌, ◌<◌, length, get_or, arith}
 use Rattle.std.proofs.lemmas.Nat.{mul-le}
-use Rattle.rrd_spec.specs.Entries.{SavedArchive}
+use Rattle.rrd_spec.specs.Journal.Entries.{SavedArchive}
 use Rattle.rrd_base.proofs.CountLemmas.{cells_wide, one_more, wide_at}
 use Rattle.rrd_base.proofs.journal.count_cells.Goals as goal
 

@@ -1,7 +1,7 @@
 use Rattle.std.proofs.Common.{◌≡◌, ℕ, sym, ◌∙◌, ap, subst, suc, ◌-◌, ◌+◌, ◌++◌, ◌<◌, take, drop, length, set, get_or, vec_len, arith}
 use Rattle.std.proofs.lemmas.List.{take_all}
 use Rattle.rrd_spec.specs.History.{Archive}
-use Rattle.rrd_spec.specs.Entries.{SavedArchive, put_back, put_back_each}
+use Rattle.rrd_spec.specs.Journal.Entries.{SavedArchive, put_back, put_back_each}
 use Rattle.rrd_base.specs.Rra.{CanPutBack}
 use Rattle.rrd_base.proofs.PutBack.{none_back, front_short, front_of, popped, put_back_next, put_back_more, as_many, can_at}
 use Rattle.rrd_base.proofs.journal.put_back_all.Goals as goal

@@ -1,5 +1,5 @@
 use Rattle.std.proofs.Common.{◌≡◌, take, map}
-use Rattle.rrd_spec.specs.Entries.{saved}
+use Rattle.rrd_spec.specs.Journal.Entries.{saved}
 use Rattle.rrd_base.proofs.journal.save_all.Given as goal
 
 abbrev pub invariant-loop-rra : goal.invariant-loop-rra

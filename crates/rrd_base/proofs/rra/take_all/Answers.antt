@@ -2,12 +2,12 @@ use Rattle.std.proofs.Common.{◌≡◌, ℕ, sym, ◌∙◌, ap, subst, suc, �
 use Rattle.std.proofs.lemmas.Nat.{mul-le}
 use Rattle.std.specs.List.{AllByRecursion}
 use Rattle.rrd_spec.specs.History.{Archive}
-use Rattle.rrd_spec.specs.Passing.{archive_passed}
+use Rattle.rrd_spec.specs.Laws.Passing.{archive_passed}
 use Rattle.rrd_spec.specs.History.{definitions}
 use Rattle.rrd_spec.specs.declared.settings.RraDef.{RraDef}
-use Rattle.rrd_spec.specs.Turns.{rows_pushed, least_of_steps, most_of_steps}
+use Rattle.rrd_spec.specs.Commands.Turns.{rows_pushed, least_of_steps, most_of_steps}
 use Rattle.rrd_spec.specs.Validity.{IsValidArchive}
-use Rattle.rrd_spec.specs.Lists.{All-take-set, map_more, map_next}
+use Rattle.rrd_spec.specs.Lemmas.Lists.{All-take-set, map_more, map_next}
 use Rattle.rrd_base.specs.Walk.{cells_of, count_of, sources_of}
 use Rattle.rrd_base.proofs.TurnLemmas.{sum_more, sum_within}
 use Rattle.rrd_base.proofs.rra.take_all.Goals as goal

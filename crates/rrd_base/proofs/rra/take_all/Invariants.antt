@@ -1,6 +1,6 @@
 use Rattle.std.proofs.Common.{◌≡◌, ◌+◌, ◌≤◌, ◌++◌, take, drop, map}
 use Rattle.std.specs.List.{AllByRecursion}
-use Rattle.rrd_spec.specs.Passing.{archive_passed}
+use Rattle.rrd_spec.specs.Laws.Passing.{archive_passed}
 use Rattle.rrd_spec.specs.Validity.{IsValidArchive}
 use Rattle.rrd_base.specs.Walk.{cells_of, count_of, least_of_all, most_of_all, sources_of}
 use Rattle.rrd_base.proofs.rra.take_all.Given as goal

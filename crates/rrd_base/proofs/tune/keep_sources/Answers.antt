@@ -2,7 +2,7 @@ use Rattle.std.proofs.Common.{◌≡◌, refl, sym, ◌∙◌, ap, suc, ◌+◌,
 use Rattle.rrd_fixed.specs.declared.raw.Raw.TheVariants.{Unknown}
 use Rattle.rrd_spec.specs.declared.settings.DsDef.{DsDef}
 use Rattle.rrd_spec.specs.declared.entry.SourceBefore.{SourceBefore}
-use Rattle.rrd_spec.specs.Entries as entries
+use Rattle.rrd_spec.specs.Journal.Entries as entries
 use Rattle.rrd_base.proofs.TuneLemmas.{before_more, before_few}
 use Rattle.rrd_base.proofs.tune.keep_sources.Goals as goal
 use Rattle.rrd_base.proofs.tune.keep_sources.Goals.{then-is_named, else-is_named}

@@ -1,5 +1,5 @@
 use Rattle.std.proofs.Common.{◌≡◌, take}
-use Rattle.rrd_spec.specs.Entries as entries
+use Rattle.rrd_spec.specs.Journal.Entries as entries
 use Rattle.rrd_base.proofs.tune.keep_sources.Given as goal
 
 abbrev pub invariant-loop-place : goal.invariant-loop-place

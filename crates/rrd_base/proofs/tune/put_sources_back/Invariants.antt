@@ -1,6 +1,6 @@
 use Rattle.std.proofs.Common.{◌≡◌, take}
 use Rattle.rrd_base.specs.Tune.{with_raws}
-use Rattle.rrd_spec.specs.Outlines.{with_sources}
+use Rattle.rrd_spec.specs.Journal.Outlines.{with_sources}
 use Rattle.rrd_base.proofs.tune.put_sources_back.Given as goal
 
 abbrev pub invariant-loop-old : goal.invariant-loop-old

@@ -4,7 +4,7 @@ use Rattle.rrd_spec.specs.declared.settings.DsDef.{DsDef}
 use Rattle.rrd_spec.specs.Commands as commands
 use Rattle.rrd_spec.specs.History.{raws_under}
 use Rattle.std.proofs.lemmas.List.{get_or_default}
-use Rattle.rrd_spec.specs.Lists.{map_more, map_next}
+use Rattle.rrd_spec.specs.Lemmas.Lists.{map_more, map_next}
 use Rattle.rrd_base.proofs.TuneLemmas.{raws_more, raws_next}
 use Rattle.rrd_base.proofs.tune.tune_all.Goals as goal
 

@@ -3,7 +3,7 @@ use Rattle.std.specs.List.{list_all}
 use Rattle.rrd_spec.specs.declared.settings.DsDef.{DsDef}
 use Rattle.rrd_spec.specs.Commands.{value_for}
 use Rattle.rrd_base.specs.Update.{template_of}
-use Rattle.rrd_spec.specs.Verdict.{is_admitted}
+use Rattle.rrd_spec.specs.Commands.Verdict.{is_admitted}
 use Rattle.rrd_base.proofs.update.are_admitted.Given as goal
 
 abbrev pub invariant-loop-place : goal.invariant-loop-place

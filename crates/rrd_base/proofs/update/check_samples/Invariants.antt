@@ -1,5 +1,5 @@
 use Rattle.std.proofs.Common.{◌≡◌, drop}
-use Rattle.rrd_spec.specs.Verdict.{first_refusal, sample_checks}
+use Rattle.rrd_spec.specs.Commands.Verdict.{first_refusal, sample_checks}
 use Rattle.rrd_base.specs.Update.{template_of}
 use Rattle.rrd_base.proofs.update.check_samples.Given as goal
 use Rattle.rrd_spec.specs.Limits.{version_one}

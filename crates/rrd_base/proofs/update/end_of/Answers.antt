@@ -1,5 +1,5 @@
 use Rattle.std.proofs.Common.{◌∙◌, ap, ◌-◌, get_or, length}
-use Rattle.rrd_spec.specs.declared.update.Sample.{Sample}
+use Rattle.rrd_spec.specs.declared.requests.update.Sample.{Sample}
 use Rattle.rrd_base.proofs.DatabaseLemmas.{last_item}
 use Rattle.rrd_base.proofs.update.end_of.Goals as goal
 

@@ -2,7 +2,7 @@ use Rattle.std.proofs.Common.{sym, ◌∙◌, ap, suc, ◌+◌, ◌++◌, map, t
 use Rattle.rrd_spec.specs.declared.settings.DsDef.{DsDef}
 use Rattle.rrd_spec.specs.Commands.{raw_of, value_for}
 use Rattle.rrd_base.specs.Update.{template_of}
-use Rattle.rrd_spec.specs.Lists.{map_more}
+use Rattle.rrd_spec.specs.Lemmas.Lists.{map_more}
 use Rattle.rrd_base.proofs.update.raws_into.Goals as goal
 
 pub loop-place-preserved : goal.loop-place-preserved

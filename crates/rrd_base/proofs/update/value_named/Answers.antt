@@ -1,5 +1,5 @@
 use Rattle.std.proofs.Common.{sym, ◌∙◌, true, false, arith}
-use Rattle.rrd_spec.specs.declared.update.Given.TheVariants.{Unknown}
+use Rattle.rrd_spec.specs.declared.requests.update.Given.TheVariants.{Unknown}
 use Rattle.rrd_base.proofs.UpdatingLemmas.{value_at, value_at_end}
 use Rattle.rrd_base.proofs.update.value_named.Goals as goal
 

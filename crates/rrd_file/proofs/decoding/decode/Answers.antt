@@ -1,9 +1,9 @@
 use Rattle.std.proofs.Common.{sym, subst}
 use Rattle.std.proofs.lemmas.Result.{err_from_is_err_and}
-use Rattle.rrd_spec.specs.Filed.{One}
+use Rattle.rrd_spec.specs.Files.Filed.{One}
 use Rattle.rrd_file.specs.Faults.{IsWhole}
 use Rattle.rrd_file.specs.Stages.{Start}
-use Rattle.rrd_file.specs.Standing.{Stands}
+use Rattle.rrd_file.specs.Decoding.Progress.{Stands}
 use Rattle.rrd_file.proofs.Reached.{begins}
 use Rattle.rrd_file.proofs.decoding.decode.Goals as goal
 
@@ -28,14 +28,14 @@ returns-in_err-build g c = λ bytes h.
     let p = err_from_is_err_and c.from_residual-in_err-build.result c.from_residual-in_err-build.ensures.1 in
     rw (p.1, p.2) (c.in_err-build.ensures bytes s2)
 
-pub returns-in_err-body : goal.returns-in_err-body
-returns-in_err-body g c = λ bytes h.
+pub returns-in_err-until_entries : goal.returns-in_err-until_entries
+returns-in_err-until_entries g c = λ bytes h.
     let s0 = subst (Stands bytes Start) (sym c.in-Ok.ensures) (begins bytes _ h) in
     let s1 = c.in_ok-mark.ensures bytes s0 in
     let s2 = c.in_ok-version.ensures bytes s1 in
     let s3 = c.in_ok-build.ensures bytes s2 in
-    let p = err_from_is_err_and c.from_residual-in_err-body.result c.from_residual-in_err-body.ensures.1 in
-    rw (p.1, p.2) (c.in_err-body.ensures.steps bytes s3)
+    let p = err_from_is_err_and c.from_residual-in_err-until_entries.result c.from_residual-in_err-until_entries.ensures.1 in
+    rw (p.1, p.2) (c.in_err-until_entries.ensures.steps bytes s3)
 
 pub returns-in_err-entries : goal.returns-in_err-entries
 returns-in_err-entries g c = λ bytes h.
@@ -43,7 +43,7 @@ returns-in_err-entries g c = λ bytes h.
     let s1 = c.in_ok-mark.ensures bytes s0 in
     let s2 = c.in_ok-version.ensures bytes s1 in
     let s3 = c.in_ok-build.ensures bytes s2 in
-    let s4 = c.in_ok-body.ensures.steps bytes s3 in
+    let s4 = c.in_ok-until_entries.ensures.steps bytes s3 in
     let p = err_from_is_err_and c.from_residual-in_err-entries.result c.from_residual-in_err-entries.ensures.1 in
     rw (p.1, p.2) (c.in_err-entries.ensures.steps bytes s4)
 
@@ -53,7 +53,7 @@ returns-in_err-end g c = λ bytes h.
     let s1 = c.in_ok-mark.ensures bytes s0 in
     let s2 = c.in_ok-version.ensures bytes s1 in
     let s3 = c.in_ok-build.ensures bytes s2 in
-    let s4 = c.in_ok-body.ensures.steps bytes s3 in
+    let s4 = c.in_ok-until_entries.ensures.steps bytes s3 in
     let s5 = c.in_ok-entries.ensures.steps bytes s4 in
     let p = err_from_is_err_and c.from_residual-in_err-end.result c.from_residual-in_err-end.ensures.1 in
     rw (p.1, p.2) (c.in_err-end.ensures bytes _ c.in_ok-entries.ensures.done s5)
@@ -64,7 +64,7 @@ returns g c = λ bytes h.
     let s1 = c.in_ok-mark.ensures bytes s0 in
     let s2 = c.in_ok-version.ensures bytes s1 in
     let s3 = c.in_ok-build.ensures bytes s2 in
-    let s4 = c.in_ok-body.ensures.steps bytes s3 in
+    let s4 = c.in_ok-until_entries.ensures.steps bytes s3 in
     let s5 = c.in_ok-entries.ensures.steps bytes s4 in
     let s6 = c.in_ok-end.ensures bytes _ c.in_ok-entries.ensures.done s5 in
     record { version = One; whole = subst (IsWhole bytes) (sym c.finish.ensures.filed) s6; valid = c.finish.ensures.valid }

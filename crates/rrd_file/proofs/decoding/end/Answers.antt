@@ -1,6 +1,6 @@
 use Rattle.std.proofs.Common.{◌≡◌, ◌<◌, [], length}
 use Rattle.std.proofs.lemmas.Result.{err_from_is_err_and}
-use Rattle.rrd_file.specs.Inputs.{left}
+use Rattle.rrd_file.specs.Decoding.Input.{left}
 use Rattle.rrd_file.proofs.Judged.{ended, trails}
 use Rattle.rrd_file.proofs.Reached.{if_some_at}
 use Rattle.rrd_file.proofs.decoding.end.Goals as goal

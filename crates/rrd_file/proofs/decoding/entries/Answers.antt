@@ -1,7 +1,7 @@
 use Rattle.std.proofs.Common.{◌≡◌, ◌∙◌, ◌⊎◌, ◌∷◌, [], sym, ap, subst, length, length-append, arith}
 use Rattle.rrd_spec.specs.declared.due.Due.TheVariants.{EntryDue, NothingDue}
-use Rattle.rrd_spec.specs.Filed.{Filed}
-use Rattle.rrd_spec.specs.Rebuilding.{due}
+use Rattle.rrd_spec.specs.Files.Filed.{Filed}
+use Rattle.rrd_spec.specs.Files.Rebuilding.{due}
 use Rattle.rrd_file.proofs.Turns.{after_entry, more_entries}
 use Rattle.rrd_file.proofs.decoding.entries.Goals as goal
 

@@ -1,8 +1,8 @@
 use Rattle.std.proofs.Common.{◌≡◌, ◌-◌, ◌⊎◌, ℕ, List, length}
-use Rattle.rrd_spec.specs.Rebuilding.{due}
+use Rattle.rrd_spec.specs.Files.Rebuilding.{due}
 use Rattle.rrd_spec.specs.declared.due.Due.TheVariants.{EntryDue, NothingDue}
 use Rattle.rrd_file.specs.Stages.{Body}
-use Rattle.rrd_file.specs.Standing.{Stands}
+use Rattle.rrd_file.specs.Decoding.Progress.{Stands}
 use Rattle.rrd_file.proofs.decoding.entries.Given as goal
 
 abbrev pub invariant-loop-input : goal.invariant-loop-input

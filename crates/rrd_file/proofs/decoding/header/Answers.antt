@@ -1,6 +1,6 @@
 use Rattle.std.proofs.Common.{◌≡◌, length, rules}
 use Rattle.std.proofs.lemmas.Result.{err_from_is_err_and}
-use Rattle.rrd_file.specs.Readings.{header_said}
+use Rattle.rrd_file.specs.Decoding.Pieces.{header_said}
 use Rattle.rrd_file.proofs.Judged.{cut_header, header_refused, header_taken, refusal_is}
 use Rattle.rrd_file.proofs.decoding.header.Goals as goal
 

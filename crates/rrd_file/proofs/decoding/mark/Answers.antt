@@ -1,6 +1,6 @@
 use Rattle.std.proofs.Common.{◌≡◌, length, arith, rules}
 use Rattle.std.proofs.lemmas.Result.{err_from_is_err_and}
-use Rattle.rrd_file.specs.Spelling.{four_bytes}
+use Rattle.rrd_file.specs.Layout.Values.{four_bytes}
 use Rattle.rrd_file.proofs.Judged.{cut_mark, mark_refused, mark_taken}
 use Rattle.rrd_file.proofs.Whole.{whole}
 use Rattle.rrd_file.proofs.decoding.mark.Goals as goal

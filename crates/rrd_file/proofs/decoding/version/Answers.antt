@@ -1,6 +1,6 @@
 use Rattle.std.proofs.Common.{◌≡◌, length, arith, rules}
 use Rattle.std.proofs.lemmas.Result.{err_from_is_err_and}
-use Rattle.rrd_file.specs.Spelling.{two_bytes}
+use Rattle.rrd_file.specs.Layout.Values.{two_bytes}
 use Rattle.rrd_file.proofs.Judged.{cut_version, version_refused, version_taken}
 use Rattle.rrd_file.proofs.Whole.{whole}
 use Rattle.rrd_file.proofs.decoding.version.Goals as goal

@@ -1,10 +1,10 @@
 use Rattle.std.proofs.Common.{◌++◌, sym, subst}
 use Rattle.std.specs.List.{flat_map}
-use Rattle.rrd_spec.specs.Filed.{One, filed}
+use Rattle.rrd_spec.specs.Files.Filed.{One, filed}
 use Rattle.rrd_file.specs.Layout.{body_pieces, entry_pieces, spelled}
 use Rattle.rrd_file.proofs.Joined.{joined_whole}
 use Rattle.std.proofs.lemmas.Result.{err_from_is_err_and}
-use Rattle.rrd_file.specs.Gathered.{Breaks, Gathers}
+use Rattle.rrd_file.specs.Encoding.Block.{Breaks, Gathers}
 use Rattle.rrd_file.proofs.Gathering.{breaks_stop, gathers_then, breaks_then}
 use Rattle.rrd_file.proofs.encoding.write_layout.Goals as goal
 

@@ -1,4 +1,4 @@
-use Rattle.rrd_spec.specs.Filed.{One}
+use Rattle.rrd_spec.specs.Files.Filed.{One}
 use Rattle.rrd_spec.specs.Limits.{version_one}
 use Rattle.rrd_file.proofs.OneAnswer.{layout_is_file, layout_is_no_other}
 use Rattle.rrd_file.proofs.laws.layout_is_file.Goals as goal

@@ -1,4 +1,4 @@
-use Rattle.rrd_spec.specs.Filed.{One}
+use Rattle.rrd_spec.specs.Files.Filed.{One}
 use Rattle.rrd_spec.specs.Limits.{version_one}
 use Rattle.rrd_file.proofs.OneAnswer.{layouts_differ}
 use Rattle.rrd_file.proofs.laws.layouts_differ.Goals as goal

@@ -1,4 +1,4 @@
-use Rattle.rrd_spec.specs.Filed.{One}
+use Rattle.rrd_spec.specs.Files.Filed.{One}
 use Rattle.rrd_spec.specs.Limits.{version_one}
 use Rattle.rrd_file.proofs.OneAnswer.{one_answer}
 use Rattle.rrd_file.proofs.laws.one_answer.Goals as goal

@@ -1,6 +1,6 @@
 use Rattle.rrd_spec.proofs.CellLemmas.{is_listed}
 use Rattle.rrd_spec.proofs.Moving.{moved_is}
-use Rattle.rrd_spec.specs.Facts.{sound}
+use Rattle.rrd_spec.specs.Lemmas.Validity.{sound}
 use Rattle.rrd_spec.proofs.laws.content_is_listed.Goals as goal
 
 pub returns-clause-events : goal.returns-clause-events

@@ -1,8 +1,8 @@
 use Rattle.std.proofs.Common.{◌≡◌, ◌∙◌, ap, ◌+◌, ◌++◌, take, drop, suc, length, set, get_or, ◌<◌, arith}
 use Rattle.rrd_fixed.specs.declared.cell.Cell.TheVariants.{Unknown}
 use Rattle.rrd_fold.specs.Parts.{with_cell}
-use Rattle.rrd_spec.specs.Each.{map_each}
-use Rattle.rrd_spec.specs.Lists.{map_each_more, map_each_next}
+use Rattle.rrd_spec.specs.Preparations.{map_each}
+use Rattle.rrd_spec.specs.Lemmas.Lists.{map_each_more, map_each_next}
 use Rattle.rrd_spec.proofs.slow.add_each.Goals as goal
 
 pub loop-i-preserved : goal.loop-i-preserved

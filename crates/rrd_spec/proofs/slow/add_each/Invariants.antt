@@ -1,6 +1,6 @@
 use Rattle.std.proofs.Common.{◌≡◌, ◌++◌, take, drop}
 use Rattle.rrd_fold.specs.Parts.{with_cell}
-use Rattle.rrd_spec.specs.Each.{map_each}
+use Rattle.rrd_spec.specs.Preparations.{map_each}
 use Rattle.rrd_spec.proofs.slow.add_each.Given as goal
 
 abbrev pub invariant-loop-i : goal.invariant-loop-i

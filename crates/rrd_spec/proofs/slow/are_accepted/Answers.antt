@@ -1,4 +1,4 @@
-use Rattle.rrd_spec.specs.Facts.{length-accepted}
+use Rattle.rrd_spec.specs.Lemmas.Validity.{length-accepted}
 use Rattle.rrd_spec.proofs.slow.are_accepted.Goals as goal
 
 pub returns-then-raws-sources : goal.returns-then-raws-sources

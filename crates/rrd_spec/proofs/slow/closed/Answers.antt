@@ -1,7 +1,7 @@
 use Rattle.std.proofs.Common.{◌≡◌, sym, ◌∙◌, ap, subst, ◌≤◌, length, get_or, arith}
 use Rattle.rrd_spec.specs.Slow.{function_of, size_of}
 use Rattle.rrd_spec.specs.Validity.{AreParts, IsPart}
-use Rattle.rrd_spec.specs.Lists.{All-at}
+use Rattle.rrd_spec.specs.Lemmas.Lists.{All-at}
 use Rattle.rrd_spec.proofs.SlowLemmas.{parts_weaker}
 use Rattle.rrd_spec.proofs.slow.closed.Goals as goal
 

@@ -5,7 +5,7 @@ use Rattle.std.specs.Vec.{with_items}
 use Rattle.rrd_fold.specs.Parts.{nothing, with_each}
 use Rattle.rrd_spec.specs.Validity.{AreParts, IsRow}
 use Rattle.rrd_spec.proofs.Bounded.{more}
-use Rattle.rrd_spec.specs.Lists.{All-at}
+use Rattle.rrd_spec.specs.Lemmas.Lists.{All-at}
 use Rattle.rrd_spec.proofs.SlowLemmas.{fold_more}
 use Rattle.rrd_spec.proofs.slow.parts_of.Goals as goal
 

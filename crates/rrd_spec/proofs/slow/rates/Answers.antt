@@ -3,9 +3,9 @@ use Rattle.rrd_fixed.specs.declared.raw.Raw.TheVariants.{Unknown}
 use Rattle.rrd_fixed.specs.Rate.{IsAccepted}
 use Rattle.rrd_spec.specs.declared.settings.DsDef.{DsDef}
 use Rattle.rrd_spec.specs.History.{rates}
-use Rattle.rrd_spec.specs.Preparations.{accepted_at, rate_of}
+use Rattle.rrd_spec.specs.Lemmas.Rates.{accepted_at, rate_of}
 use Rattle.rrd_spec.proofs.SlowLemmas.{rates_push, rates_whole}
-use Rattle.rrd_spec.specs.Facts.{length-accepted}
+use Rattle.rrd_spec.specs.Lemmas.Validity.{length-accepted}
 use Rattle.rrd_spec.proofs.slow.rates.Goals as goal
 
 pub bounds-old-i : goal.bounds-old-i

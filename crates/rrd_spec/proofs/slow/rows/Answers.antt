@@ -7,9 +7,9 @@ use Rattle.rrd_fold.specs.declared.function.Function.TheVariants.{Average}
 use Rattle.rrd_spec.specs.declared.settings.DsDef.{DsDef}
 use Rattle.rrd_spec.specs.declared.settings.RraDef.{RraDef}
 use Rattle.rrd_spec.specs.declared.slow.Group.TheVariants.{Row}
-use Rattle.rrd_spec.specs.Creating.{created}
+use Rattle.rrd_spec.specs.Commands.Creating.{created}
 use Rattle.rrd_spec.specs.History.{seconds_of}
-use Rattle.rrd_spec.specs.Steps.{steps_of}
+use Rattle.rrd_spec.specs.History.Steps.{steps_of}
 use Rattle.rrd_spec.specs.Slow.{event_of, taken_of, IsGroup}
 use Rattle.rrd_spec.specs.Validity.{IsRow}
 use Rattle.rrd_spec.proofs.Created.{created_valid}

@@ -3,7 +3,7 @@ use Rattle.rrd_fixed.specs.declared.raw.Raw.TheVariants.{Unknown}
 use Rattle.rrd_spec.specs.History.{rates}
 use Rattle.rrd_spec.specs.Slow.{AreInOrder, taken_of}
 use Rattle.rrd_spec.specs.Validity.{AreAccepted}
-use Rattle.rrd_spec.specs.Lists.{drop_here}
+use Rattle.rrd_spec.specs.Lemmas.Lists.{drop_here}
 use Rattle.rrd_spec.proofs.SlowLemmas.{samples_from, samples_more, unknown_accepted}
 use Rattle.rrd_spec.proofs.slow.samples.Goals as goal
 

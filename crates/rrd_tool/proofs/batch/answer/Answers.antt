@@ -1,6 +1,6 @@
 use Rattle.std.proofs.lemmas.Result.{err_from_is_err_and}
 use Rattle.rrd_tool.specs.Faults.{fault_line}
-use Rattle.rrd_tool.specs.Batch.Turns.{turn}
+use Rattle.rrd_tool.specs.Batch.Run.{turn}
 use Rattle.rrd_tool.proofs.BatchLemmas.{performed_stopped, performed_text, refused_answers, refused_stopped}
 use Rattle.rrd_tool.proofs.batch.answer.Goals as goal
 

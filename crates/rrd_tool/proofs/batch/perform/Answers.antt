@@ -1,5 +1,5 @@
-use Rattle.rrd_tool.specs.Batch.States.{line_turns}
-use Rattle.rrd_tool.specs.Batch.Turns.{command_turn, unless_short}
+use Rattle.rrd_tool.specs.Batch.Answers.{line_turns}
+use Rattle.rrd_tool.specs.Batch.Run.{command_turn, unless_short}
 use Rattle.rrd_tool.proofs.RunLemmas.{performs_as}
 use Rattle.rrd_tool.proofs.batch.perform.Goals as goal
 

@@ -1,6 +1,6 @@
 use Rattle.std.proofs.Common.{◌≡◌, ◌∙◌, ◌++◌, [], take, sym, ap, false, true, inl, inr, arith}
 use Rattle.rrd_tool.specs.Lines.{is_empty, last_part}
-use Rattle.rrd_tool.specs.Batch.Turns.{turn}
+use Rattle.rrd_tool.specs.Batch.Run.{turn}
 use Rattle.rrd_tool.proofs.BatchLemmas.{feed_fails, feed_goes, last_fails, last_goes, none_left}
 use Rattle.rrd_tool.proofs.LineLemmas.{at_ok, part_append}
 use Rattle.rrd_tool.proofs.batch.run_lines.Goals as goal

@@ -5,7 +5,7 @@ use Rattle.std.proofs.lemmas.List.{with_items_is}
 use Rattle.rrd_fold.specs.declared.function.Function.TheVariants.{Average}
 use Rattle.rrd_fold.specs.Parts.{with_each}
 use Rattle.rrd_spec.specs.History.{Content}
-use Rattle.rrd_spec.specs.Passing.{passed}
+use Rattle.rrd_spec.specs.Laws.Passing.{passed}
 use Rattle.rrd_spec.specs.Validity.{IsRow}
 use Rattle.rrd_base.specs.Content.{content_of}
 use Rattle.rrd_base.proofs.Passing.{leaves, stays}

@@ -1,6 +1,6 @@
 use Rattle.std.proofs.Common.{◌≡◌, sym, ◌∙◌, ap, subst, ℕ, ◌+◌, ◌-◌, ◌*◌, ◌%◌, ◌^◌, ◌<◌, ◌≤◌, replicate, length, arith}
 use Rattle.rrd_spec.specs.History.{Content}
-use Rattle.rrd_spec.specs.Passing.{passed}
+use Rattle.rrd_spec.specs.Laws.Passing.{passed}
 use Rattle.rrd_spec.specs.Validity.{IsRow}
 use Rattle.rrd_base.specs.Content.{content_of}
 use Rattle.rrd_base.specs.Walk.{least_of_ends, least_to, most_of_ends, most_to}

@@ -2,7 +2,7 @@ use Rattle.std.proofs.Common.{◌∙◌, ap}
 use Rattle.rrd_spec.specs.Commands.{Resizing}
 use Rattle.rrd_spec.specs.History.{Content}
 use Rattle.rrd_base.specs.Resize.{settings}
-use Rattle.rrd_spec.specs.Verdict.{first_refusal, resize_checks, verdict, verdict_within}
+use Rattle.rrd_spec.specs.Commands.Verdict.{first_refusal, resize_checks, verdict, verdict_within}
 use Rattle.rrd_base.proofs.content.Content.check_resize.Goals as goal
 use Rattle.rrd_spec.specs.Limits.{version_one}
 

@@ -1,7 +1,7 @@
 use Rattle.std.proofs.Common.{◌∙◌, ap}
 use Rattle.rrd_spec.specs.Commands.{Updating}
 use Rattle.rrd_spec.specs.History.{Content}
-use Rattle.rrd_spec.specs.Verdict.{first_refusal, update_checks, verdict, verdict_within}
+use Rattle.rrd_spec.specs.Commands.Verdict.{first_refusal, update_checks, verdict, verdict_within}
 use Rattle.rrd_base.proofs.content.Content.check_update.Goals as goal
 use Rattle.rrd_spec.specs.Limits.{version_one}
 

@@ -5,7 +5,7 @@ use Rattle.std.proofs.lemmas.List.{with_items_is}
 use Rattle.rrd_fold.specs.declared.function.Function.TheVariants.{Average}
 use Rattle.rrd_fold.specs.Parts.{Part, nothing, with_each, step_cell}
 use Rattle.rrd_spec.specs.History.{Content}
-use Rattle.rrd_spec.specs.Passing.{passed, archive_passed}
+use Rattle.rrd_spec.specs.Laws.Passing.{passed, archive_passed}
 use Rattle.rrd_spec.specs.Validity.{IsRow}
 use Rattle.rrd_base.specs.Content.{content_of}
 use Rattle.rrd_base.proofs.Passing.{parts_more, few_known, within_step, ends, stays}

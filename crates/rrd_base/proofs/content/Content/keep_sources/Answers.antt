@@ -1,10 +1,10 @@
 use Rattle.std.proofs.Common.{◌≡◌, sym, ◌∙◌, ap, subst, length, ◌≤◌, None}
-use Rattle.rrd_spec.specs.Facts.{length-accepted}
+use Rattle.rrd_spec.specs.Lemmas.Validity.{length-accepted}
 use Rattle.rrd_spec.specs.History.{Content}
 use Rattle.rrd_spec.specs.Commands.{TuningBy}
 use Rattle.rrd_base.specs.Content.{content_of}
-use Rattle.rrd_spec.specs.Entries.{sources_before}
-use Rattle.rrd_spec.specs.Verdict.{verdict}
+use Rattle.rrd_spec.specs.Journal.Entries.{sources_before}
+use Rattle.rrd_spec.specs.Commands.Verdict.{verdict}
 use Rattle.rrd_base.proofs.content.Content.keep_sources.Goals as goal
 
 pub keep_sources-requires-clause-one_each : goal.keep_sources-requires-clause-one_each

@@ -1,7 +1,7 @@
 use Rattle.std.proofs.Common.{sym, ◌∙◌, ap, subst, ◌<◌, length, get_or, arith}
 use Rattle.std.proofs.lemmas.List.{get_or_default}
 use Rattle.rrd_fixed.specs.declared.raw.Raw.TheVariants.{Unknown}
-use Rattle.rrd_spec.specs.Facts.{length-accepted}
+use Rattle.rrd_spec.specs.Lemmas.Validity.{length-accepted}
 use Rattle.rrd_spec.specs.History.{Content}
 use Rattle.rrd_base.proofs.content.Content.raw.Goals as goal
 

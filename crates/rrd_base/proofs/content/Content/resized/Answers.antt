@@ -3,8 +3,8 @@ use Rattle.rrd_spec.specs.History.{Archive, Content}
 use Rattle.rrd_spec.specs.declared.settings.RraDef.{RraDef}
 use Rattle.rrd_spec.specs.Commands.{Resizing, rows_changed, rows_of_archives}
 use Rattle.rrd_base.specs.Content.{content_of}
-use Rattle.rrd_spec.specs.Entries.{rows_at}
-use Rattle.rrd_spec.specs.Verdict.{verdict}
+use Rattle.rrd_spec.specs.Journal.Entries.{rows_at}
+use Rattle.rrd_spec.specs.Commands.Verdict.{verdict}
 use Rattle.rrd_ring.specs.Rows.{newest_rows}
 use Rattle.rrd_base.proofs.ResizeLemmas.{few_at, have_few, rows_at_archive, rows_of_place}
 use Rattle.rrd_base.proofs.content.Content.resized.Goals as goal

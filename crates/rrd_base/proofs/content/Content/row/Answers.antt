@@ -11,11 +11,11 @@ use Rattle.rrd_fixed.specs.declared.cell.Cell.TheVariants.{Unknown}
 use Rattle.rrd_spec.specs.declared.settings.RraDef.{RraDef}
 use Rattle.rrd_spec.specs.History.{Content}
 use Rattle.rrd_base.specs.Content.{content_of}
-use Rattle.rrd_spec.specs.Cells.{row_at, row_of_age}
-use Rattle.rrd_spec.specs.Cells.{cell_at}
+use Rattle.rrd_spec.specs.History.Cells.{row_at, row_of_age}
+use Rattle.rrd_spec.specs.History.Cells.{cell_at}
 use Rattle.rrd_spec.specs.Validity.{IsRow, IsValidArchive}
-use Rattle.rrd_spec.specs.Facts.{cell_of_archive}
-use Rattle.rrd_spec.specs.Lists.{All-at}
+use Rattle.rrd_spec.specs.Lemmas.Validity.{cell_of_archive}
+use Rattle.rrd_spec.specs.Lemmas.Lists.{All-at}
 use Rattle.rrd_base.proofs.content.Content.row.Goals as goal
 
 -- rows of one width, and an unknown one as wide

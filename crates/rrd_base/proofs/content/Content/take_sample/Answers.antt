@@ -1,7 +1,7 @@
 use Rattle.std.proofs.Common.{◌≡◌, sym, ◌∙◌, ap, subst, ◌-◌, replicate, length, arith}
-use Rattle.rrd_spec.specs.Facts.{length-accepted, base_of_valid}
+use Rattle.rrd_spec.specs.Lemmas.Validity.{length-accepted, base_of_valid}
 use Rattle.rrd_spec.specs.History.{Content, Reading, rates}
-use Rattle.rrd_spec.specs.Passing.{passed}
+use Rattle.rrd_spec.specs.Laws.Passing.{passed}
 use Rattle.rrd_spec.specs.Validity.{AreAccepted, IsValid, IsRow}
 use Rattle.rrd_base.specs.Content.{content_of}
 use Rattle.rrd_base.proofs.Catching.{with_raws}

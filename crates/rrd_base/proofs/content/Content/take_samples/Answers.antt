@@ -3,20 +3,20 @@ use Rattle.std.specs.List.{AllByRecursion}
 use Rattle.rrd_spec.specs.declared.settings.DsDef.{DsDef}
 use Rattle.std.proofs.lemmas.List.{with_items_is, drop_all}
 use Rattle.rrd_spec.specs.History.{Content, Reading, Sampled}
-use Rattle.rrd_spec.specs.Listed.{content_listed}
+use Rattle.rrd_spec.specs.Laws.Listed.{content_listed}
 use Rattle.rrd_spec.specs.Commands.{Updating, sample_of, value_for, raw_of}
 use Rattle.rrd_spec.specs.History.{definitions}
-use Rattle.rrd_spec.specs.Turns.{in_all, least_of_sample, most_of_sample}
+use Rattle.rrd_spec.specs.Commands.Turns.{in_all, least_of_sample, most_of_sample}
 use Rattle.rrd_base.specs.Update.{template_of}
-use Rattle.rrd_spec.specs.Verdict.{sample_checks}
+use Rattle.rrd_spec.specs.Commands.Verdict.{sample_checks}
 use Rattle.rrd_base.proofs.Catching.{sample_leaves, turns_next, same_least, same_most}
-use Rattle.rrd_spec.specs.Laws.{Passes}
-use Rattle.rrd_spec.specs.Facts.{base_of_valid}
+use Rattle.rrd_spec.specs.Laws.Commands.{Passes}
+use Rattle.rrd_spec.specs.Lemmas.Validity.{base_of_valid}
 use Rattle.std.specs.Vec.{with_items}
 use Rattle.rrd_base.specs.Walk.{HasPlaces}
 use Rattle.rrd_base.proofs.TurnLemmas.{few_turns}
 use Rattle.rrd_base.proofs.SampleSteps.{one_taken, later_sample, accepted_raws}
-use Rattle.rrd_spec.specs.Lists.{drop_here}
+use Rattle.rrd_spec.specs.Lemmas.Lists.{drop_here}
 use Rattle.rrd_base.proofs.content.Content.take_samples.Goals as goal
 use Rattle.rrd_spec.specs.Limits.{version_one}
 

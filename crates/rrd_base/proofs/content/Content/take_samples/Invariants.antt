@@ -1,16 +1,16 @@
 use Rattle.std.proofs.Common.{◌≡◌, ◌+◌, ◌-◌, ◌*◌, ◌≤◌, length, map, drop}
 use Rattle.std.specs.List.{AllByRecursion}
 use Rattle.rrd_spec.specs.History.{Sampled}
-use Rattle.rrd_spec.specs.Listed.{content_listed}
+use Rattle.rrd_spec.specs.Laws.Listed.{content_listed}
 use Rattle.rrd_spec.specs.Commands.{Updating, sample_of}
-use Rattle.rrd_spec.specs.Listed.{moved_listed}
+use Rattle.rrd_spec.specs.Laws.Listed.{moved_listed}
 use Rattle.rrd_base.specs.Walk.{HasPlaces}
 use Rattle.rrd_spec.specs.History.{definitions}
-use Rattle.rrd_spec.specs.Turns.{in_all, least_of_sample, most_of_sample}
+use Rattle.rrd_spec.specs.Commands.Turns.{in_all, least_of_sample, most_of_sample}
 use Rattle.rrd_base.specs.Update.{template_of}
-use Rattle.rrd_spec.specs.Verdict.{sample_checks}
+use Rattle.rrd_spec.specs.Commands.Verdict.{sample_checks}
 use Rattle.rrd_spec.specs.Validity.{IsValid}
-use Rattle.rrd_spec.specs.Laws.{Passes}
+use Rattle.rrd_spec.specs.Laws.Commands.{Passes}
 use Rattle.rrd_base.proofs.Catching.{SameShape}
 use Rattle.rrd_base.proofs.content.Content.take_samples.Given as goal
 use Rattle.rrd_spec.specs.Limits.{version_one}

@@ -5,8 +5,8 @@ use Rattle.rrd_spec.specs.History.{Content, raws_under}
 use Rattle.rrd_spec.specs.Commands.{TuningBy, moved, tuned}
 use Rattle.rrd_base.specs.Content.{content_of}
 use Rattle.rrd_spec.specs.Validity.{IsValid}
-use Rattle.rrd_spec.specs.Verdict.{verdict}
-use Rattle.rrd_spec.specs.Facts.{base_of_valid, length-accepted}
+use Rattle.rrd_spec.specs.Commands.Verdict.{verdict}
+use Rattle.rrd_spec.specs.Lemmas.Validity.{base_of_valid, length-accepted}
 use Rattle.rrd_base.proofs.TuneLemmas.{settings_are}
 use Rattle.rrd_base.proofs.content.Content.tune.Goals as goal
 

@@ -1,6 +1,6 @@
 use Rattle.std.proofs.Common.{◌≡◌, sym, ◌∙◌, ap, subst, ◌<◌, length, set}
 use Rattle.rrd_spec.specs.History.{Archive, Content}
-use Rattle.rrd_spec.specs.Entries.{ResizeEntry, undone, with_rows_at}
+use Rattle.rrd_spec.specs.Journal.Entries.{ResizeEntry, undone, with_rows_at}
 use Rattle.rrd_base.specs.Content.{content_of}
 use Rattle.rrd_spec.specs.Validity.{IsValid}
 use Rattle.rrd_base.proofs.TuneLemmas.{rows_set}

@@ -2,10 +2,10 @@ use Rattle.std.proofs.Common.{◌≡◌, sym, ◌∙◌, ap, subst, arith}
 use Rattle.std.specs.Vec.{with_items}
 use Rattle.std.proofs.lemmas.List.{with_items_is}
 use Rattle.rrd_spec.specs.History.{Content}
-use Rattle.rrd_spec.specs.Entries.{TuneEntry, undone}
+use Rattle.rrd_spec.specs.Journal.Entries.{TuneEntry, undone}
 use Rattle.rrd_base.specs.Content.{content_of}
 use Rattle.rrd_base.specs.Tune.{with_raws}
-use Rattle.rrd_spec.specs.Outlines.{with_sources}
+use Rattle.rrd_spec.specs.Journal.Outlines.{with_sources}
 use Rattle.rrd_spec.specs.Validity.{IsValid}
 use Rattle.rrd_base.proofs.TuneLemmas.{sources_put_back, settings_are}
 use Rattle.rrd_base.proofs.content.Content.undo_tune.Goals as goal

@@ -4,7 +4,7 @@ use Rattle.std.proofs.lemmas.Option.{get_or_from_slice_get}
 use Rattle.rrd_fixed.specs.declared.cell.Cell.TheVariants.{Unknown}
 use Rattle.rrd_ring.specs.Rows.{unknown_rows}
 use Rattle.rrd_spec.specs.History.{Archive, Content}
-use Rattle.rrd_spec.specs.Lists.{All-at}
+use Rattle.rrd_spec.specs.Lemmas.Lists.{All-at}
 use Rattle.rrd_spec.specs.Validity.{IsValidArchive}
 use Rattle.rrd_base.proofs.StoreLemmas.{width_is}
 use Rattle.rrd_base.proofs.content.Content.unwritten_rows.Goals as goal

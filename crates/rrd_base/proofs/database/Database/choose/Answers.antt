@@ -1,8 +1,8 @@
 use Rattle.std.proofs.Common.{◌∙◌, ap}
-use Rattle.rrd_spec.specs.declared.fetch.Request.{Request}
+use Rattle.rrd_spec.specs.declared.requests.fetch.Request.{Request}
 use Rattle.rrd_spec.specs.Choice.{choice_within, choice_of}
 use Rattle.rrd_spec.specs.History.{definitions}
-use Rattle.rrd_spec.specs.Survivors.{Stored}
+use Rattle.rrd_spec.specs.Journal.Survivors.{Stored}
 use Rattle.rrd_base.proofs.database.Database.choose.Goals as goal
 use Rattle.rrd_spec.specs.Limits.{version_one}
 

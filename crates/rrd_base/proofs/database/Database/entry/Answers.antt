@@ -4,7 +4,7 @@ use Rattle.std.specs.Option.{option_copied}
 use Rattle.std.proofs.lemmas.Bool.{lt-ltb}
 use Rattle.std.proofs.lemmas.List.{length-reverse, length-map}
 use Rattle.rrd_base.specs.Journal.{entry_of, journal_of}
-use Rattle.rrd_spec.specs.Survivors.{Stored}
+use Rattle.rrd_spec.specs.Journal.Survivors.{Stored}
 use Rattle.rrd_base.proofs.JournalLemmas.{journal_at}
 use Rattle.rrd_base.proofs.database.Database.entry.Goals as goal
 

@@ -1,10 +1,10 @@
 use Rattle.std.proofs.Common.{◌≡◌, refl, sym, ◌∙◌, ap, subst}
 use Rattle.rrd_base.specs.declared.journal.Entry.TheVariants as entry
 use Rattle.rrd_spec.specs.Commands.{Resizing, moved}
-use Rattle.rrd_spec.specs.Entries as entries
-use Rattle.rrd_spec.specs.Entries.{rows_at, entry as entry_for}
+use Rattle.rrd_spec.specs.Journal.Entries as entries
+use Rattle.rrd_spec.specs.Journal.Entries.{rows_at, entry as entry_for}
 use Rattle.rrd_base.specs.Journal.{entry_of}
-use Rattle.rrd_spec.specs.Survivors.{Stored, changed}
+use Rattle.rrd_spec.specs.Journal.Survivors.{Stored, changed}
 use Rattle.rrd_spec.specs.Validity.{IsValid}
 use Rattle.rrd_base.proofs.KeptLemmas.{added}
 use Rattle.rrd_base.proofs.ResizeLemmas.{resized_is}

@@ -1,7 +1,7 @@
 use Rattle.std.proofs.Common.{◌≡◌, refl, sym, ◌∙◌, ap}
 use Rattle.rrd_base.specs.declared.journal.Entry.TheVariants as entry
 use Rattle.rrd_spec.specs.Commands.{TuningBy, moved}
-use Rattle.rrd_spec.specs.Survivors.{Stored, changed}
+use Rattle.rrd_spec.specs.Journal.Survivors.{Stored, changed}
 use Rattle.rrd_base.proofs.KeptLemmas.{added}
 use Rattle.rrd_base.proofs.database.Database.tune.Goals as goal
 

@@ -1,6 +1,6 @@
 use Rattle.std.proofs.Common.{◌≡◌, sym, ◌∙◌, ap, Option, Some}
 use Rattle.std.proofs.lemmas.Bool.{both_ways}
-use Rattle.rrd_spec.specs.declared.fetch.Candidate.{Candidate}
+use Rattle.rrd_spec.specs.declared.requests.fetch.Candidate.{Candidate}
 use Rattle.rrd_spec.specs.Choice.{Searched, candidate}
 use Rattle.rrd_base.proofs.ChoiceLemmas.{instead, other_function, one_compared, first_taken, next_taken, old_stays}
 use Rattle.rrd_base.proofs.fetch.Search.offer.Goals as goal

@@ -1,7 +1,7 @@
 use Rattle.std.proofs.Common.{◌≡◌, ◌∙◌, ◌++◌, ◌∷◌, [], refl, replicate, sym, ap, subst}
 use Rattle.rrd_fixed.specs.declared.cell.Cell.{Cell}
 use Rattle.rrd_spec.specs.History.{Archive}
-use Rattle.rrd_spec.specs.Rebuilding.{MayHead, with_head}
+use Rattle.rrd_spec.specs.Files.Rebuilding.{MayHead, with_head}
 use Rattle.rrd_base.specs.Rebuild.{coming, filed_in, IsRebuilding}
 use Rattle.rrd_base.proofs.Comes.{archive_came, at_head, cursor_stays, head_keeps, head_is, none_later}
 use Rattle.rrd_base.proofs.rebuild.Rebuild.archive.Goals as goal

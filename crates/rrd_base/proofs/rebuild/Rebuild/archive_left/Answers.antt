@@ -1,9 +1,9 @@
 use Rattle.std.proofs.Common.{◌≡◌, ◌∙◌, ◌<◌, Some, sym, ap, subst, length}
 use Rattle.std.specs.Prelude.{slice_get}
 use Rattle.rrd_spec.specs.declared.outline.Outline.{Outline}
-use Rattle.rrd_spec.specs.Filed.{One}
+use Rattle.rrd_spec.specs.Files.Filed.{One}
 use Rattle.rrd_spec.specs.Limits.{version_one}
-use Rattle.rrd_spec.specs.Rebuilding.{outline_left}
+use Rattle.rrd_spec.specs.Files.Rebuilding.{outline_left}
 use Rattle.rrd_base.specs.Rebuild.{coming}
 use Rattle.rrd_base.proofs.Entering.{good_def, left_at, there}
 use Rattle.rrd_base.proofs.rebuild.Rebuild.archive_left.Goals as goal

@@ -1,9 +1,9 @@
 use Rattle.std.proofs.Common.{◌∙◌, ap, subst, sym}
 use Rattle.rrd_spec.specs.declared.outline.Outline.{Outline}
-use Rattle.rrd_spec.specs.Filed.{Filed, One}
+use Rattle.rrd_spec.specs.Files.Filed.{Filed, One}
 use Rattle.rrd_spec.specs.Limits.{version_one}
-use Rattle.rrd_spec.specs.Outlines.{AreOldRows}
-use Rattle.rrd_spec.specs.Rebuilding.{due, limits, outline_left}
+use Rattle.rrd_spec.specs.Journal.Outlines.{AreOldRows}
+use Rattle.rrd_spec.specs.Files.Rebuilding.{due, limits, outline_left}
 use Rattle.rrd_base.specs.Rebuild.{coming}
 use Rattle.rrd_base.proofs.EntryComes.{at_entry, outline_fits}
 use Rattle.rrd_base.proofs.rebuild.Rebuild.are_old_rows.Goals as goal

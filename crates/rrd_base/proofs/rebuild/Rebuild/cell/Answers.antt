@@ -3,10 +3,10 @@ use Rattle.rrd_spec.specs.declared.due.Due.TheVariants.{CellDue}
 use Rattle.rrd_spec.specs.declared.settings.RraDef.{RraDef}
 use Rattle.rrd_spec.specs.History.{Archive}
 use Rattle.rrd_spec.specs.Limits.{version_one}
-use Rattle.rrd_spec.specs.Rebuilding.{IsArchiveDef, due, with_cell}
+use Rattle.rrd_spec.specs.Files.Rebuilding.{IsArchiveDef, due, with_cell}
 use Rattle.rrd_spec.specs.Settings.{resolution}
-use Rattle.rrd_spec.specs.Slots.{place_in}
-use Rattle.rrd_base.specs.Cursor.{Advances, KnowsPlace, filled_by}
+use Rattle.rrd_spec.specs.Files.Slots.{place_in}
+use Rattle.rrd_base.specs.Rebuild.Cursors.{Advances, KnowsPlace, filled_by}
 use Rattle.rrd_base.specs.Rebuild.{IsCursor, IsRebuilding, coming, filed_in}
 use Rattle.rrd_base.proofs.CellComes.{at_cell, cell_came, cell_comes, cell_here, is_put, place_there, row_there, with_cell_at}
 use Rattle.rrd_base.proofs.rebuild.Rebuild.cell.Goals as goal

@@ -1,9 +1,9 @@
 use Rattle.std.proofs.Common.{◌≡◌, ◌∙◌, List, ◌∷◌, take, take_all, sym, ap, subst, arith}
 use Rattle.rrd_spec.specs.declared.outline.Outline.{Outline}
-use Rattle.rrd_spec.specs.Filed.{One}
+use Rattle.rrd_spec.specs.Files.Filed.{One}
 use Rattle.rrd_spec.specs.Limits.{version_one}
-use Rattle.rrd_spec.specs.Outlines.{MayUndo, outline_undone}
-use Rattle.rrd_spec.specs.Rebuilding.{MayEntry, with_entry}
+use Rattle.rrd_spec.specs.Journal.Outlines.{MayUndo, outline_undone}
+use Rattle.rrd_spec.specs.Files.Rebuilding.{MayEntry, with_entry}
 use Rattle.rrd_base.specs.declared.journal.Entry.{Entry}
 use Rattle.rrd_base.specs.Journal.{entry_of}
 use Rattle.rrd_base.specs.Rebuild.{Coming, IsRebuilding, coming, filed_in}

@@ -1,9 +1,9 @@
 use Rattle.rrd_spec.specs.declared.due.Due.TheVariants.{NothingDue}
 use Rattle.std.proofs.Common.{◌≡◌, ◌∙◌, sym, ap, subst}
-use Rattle.rrd_spec.specs.Filed.{Filed, One, filed}
-use Rattle.rrd_spec.specs.Rebuilding.{due}
+use Rattle.rrd_spec.specs.Files.Filed.{Filed, One, filed}
+use Rattle.rrd_spec.specs.Files.Rebuilding.{due}
 use Rattle.rrd_base.specs.Rebuild.{coming, filed_of}
-use Rattle.rrd_spec.specs.Survivors.{Stored}
+use Rattle.rrd_spec.specs.Journal.Survivors.{Stored}
 use Rattle.rrd_spec.specs.Validity.{IsValidDatabase}
 use Rattle.rrd_base.proofs.Rebuilt.{all_came, content_valid, database_valid, filed_whole}
 use Rattle.rrd_base.proofs.rebuild.Rebuild.finish.Goals as goal

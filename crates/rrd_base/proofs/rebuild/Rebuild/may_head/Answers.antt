@@ -3,7 +3,7 @@ use Rattle.std.specs.Prelude.{nat_lt, sum}
 use Rattle.rrd_spec.specs.Commands.{rows_of_archives}
 use Rattle.rrd_spec.specs.History.{Archive}
 use Rattle.rrd_spec.specs.Limits.{version_one}
-use Rattle.rrd_spec.specs.Rebuilding.{MayHead, due, rows_in_all}
+use Rattle.rrd_spec.specs.Files.Rebuilding.{MayHead, due, rows_in_all}
 use Rattle.rrd_base.specs.Rebuild.{coming, filed_in}
 use Rattle.rrd_base.proofs.Comes.{few_rows, not_past, past_not, rows_all}
 use Rattle.rrd_base.proofs.rebuild.Rebuild.may_head.Goals as goal

@@ -1,5 +1,5 @@
 use Rattle.std.proofs.Common.{◌∙◌, sym, ap, arith}
-use Rattle.rrd_spec.specs.Rebuilding.{due}
+use Rattle.rrd_spec.specs.Files.Rebuilding.{due}
 use Rattle.rrd_base.specs.Rebuild.{coming}
 use Rattle.rrd_base.proofs.Comes.{at_prep}
 use Rattle.rrd_base.proofs.rebuild.Rebuild.may_prep.Goals as goal

@@ -5,8 +5,8 @@ use mir.Facts.{to_z-of_z}
 use mir.Val.{of_z, to_z}
 use Rattle.rrd_fold.specs.declared.function.Function.TheVariants.{Average}
 use Rattle.rrd_spec.specs.Validity.{IsPart}
-use Rattle.rrd_spec.specs.Filed.{Source}
-use Rattle.rrd_spec.specs.Rebuilding.{MaySource, due}
+use Rattle.rrd_spec.specs.Files.Filed.{Source}
+use Rattle.rrd_spec.specs.Files.Rebuilding.{MaySource, due}
 use Rattle.rrd_base.specs.Rebuild.{coming, filed_in}
 use Rattle.rrd_base.proofs.Comes.{names_came}
 use Rattle.rrd_base.proofs.rebuild.Rebuild.may_source.Goals as goal

@@ -7,7 +7,7 @@ use Rattle.rrd_fold.specs.Bounds.{Consolidating}
 use Rattle.rrd_fold.specs.Parts.{Part}
 use Rattle.rrd_spec.specs.declared.settings.RraDef.{RraDef}
 use Rattle.rrd_spec.specs.History.{Archive}
-use Rattle.rrd_spec.specs.Rebuilding.{MayPrep, with_prep}
+use Rattle.rrd_spec.specs.Files.Rebuilding.{MayPrep, with_prep}
 use Rattle.rrd_base.specs.Rebuild.{IsRebuilding, coming, filed_in}
 use Rattle.rrd_spec.specs.Validity.{weight}
 use Rattle.rrd_base.proofs.Comes.{AtPrep, at_prep, cursor_stays, last_prep, prep_came, prep_is, prep_keeps, prep_later}

@@ -3,8 +3,8 @@ use Rattle.std.specs.Int.{w128}
 use mir.Facts.{to_z-of_z}
 use mir.Val.{of_z, to_z}
 use Rattle.rrd_fold.specs.Parts.{Part}
-use Rattle.rrd_spec.specs.Filed.{Source}
-use Rattle.rrd_spec.specs.Rebuilding.{MaySource, with_source}
+use Rattle.rrd_spec.specs.Files.Filed.{Source}
+use Rattle.rrd_spec.specs.Files.Rebuilding.{MaySource, with_source}
 use Rattle.rrd_base.specs.Rebuild.{coming, filed_in, IsRebuilding}
 use Rattle.rrd_base.proofs.Comes.{source_came, source_keeps, source_is}
 use Rattle.rrd_base.proofs.rebuild.Rebuild.source.Goals as goal

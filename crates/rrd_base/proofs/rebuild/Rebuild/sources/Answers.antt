@@ -1,8 +1,8 @@
 use Rattle.std.proofs.Common.{◌≡◌, ◌∙◌, ap, length, arith}
 use Rattle.rrd_spec.specs.declared.outline.Outline.{Outline}
-use Rattle.rrd_spec.specs.Filed.{One}
+use Rattle.rrd_spec.specs.Files.Filed.{One}
 use Rattle.rrd_spec.specs.Limits.{version_one}
-use Rattle.rrd_spec.specs.Rebuilding.{outline_left}
+use Rattle.rrd_spec.specs.Files.Rebuilding.{outline_left}
 use Rattle.rrd_base.specs.Rebuild.{coming}
 use Rattle.rrd_base.proofs.Entering.{few_sources, left_at, some_sources}
 use Rattle.rrd_base.proofs.rebuild.Rebuild.sources.Goals as goal

@@ -1,6 +1,6 @@
 use Rattle.std.proofs.Common.{◌∙◌, ◌-◌, Some, sym, ap, arith}
-use Rattle.rrd_spec.specs.Filed.{Filed}
-use Rattle.rrd_spec.specs.Rebuilding.{unprepared}
+use Rattle.rrd_spec.specs.Files.Filed.{Filed}
+use Rattle.rrd_spec.specs.Files.Rebuilding.{unprepared}
 use Rattle.rrd_base.specs.Rebuild.{coming}
 use Rattle.rrd_base.proofs.Dues.{prepared_last, prepared_none, unprepared_some}
 use Rattle.rrd_base.proofs.rebuild.Rebuild.unprepared.Goals as goal

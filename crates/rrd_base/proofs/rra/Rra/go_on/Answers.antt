@@ -4,8 +4,8 @@ use Rattle.std.specs.List.{AllByRecursion, fold}
 use Rattle.rrd_fold.specs.Bounds.{Consolidating}
 use Rattle.rrd_fold.specs.Parts.{Part, with_each}
 use Rattle.rrd_spec.specs.History.{Archive}
-use Rattle.rrd_spec.specs.Each.{map_each, with_steps, AllOf}
-use Rattle.rrd_spec.specs.Preparations.{AllOf-with_steps}
+use Rattle.rrd_spec.specs.Preparations.{map_each, with_steps, AllOf}
+use Rattle.rrd_spec.specs.Lemmas.Preparations.{AllOf-with_steps}
 use Rattle.rrd_base.proofs.StoreLemmas.{shown, goes_on, preps_fit}
 use Rattle.rrd_base.proofs.rra.Rra.go_on.Goals as goal
 

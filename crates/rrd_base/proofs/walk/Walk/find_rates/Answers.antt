@@ -6,9 +6,9 @@ use Rattle.rrd_fixed.specs.declared.raw.Raw.TheVariants.{Unknown}
 use Rattle.rrd_fixed.specs.Rate.{IsAccepted, IsBounded}
 use Rattle.rrd_spec.specs.declared.settings.DsDef.{DsDef}
 use Rattle.rrd_spec.specs.History.{rates}
-use Rattle.rrd_spec.specs.Lists.{All-take-set}
-use Rattle.rrd_spec.specs.Facts.{length-accepted}
-use Rattle.rrd_spec.specs.Preparations.{accepted_at, rate_of, rates_more}
+use Rattle.rrd_spec.specs.Lemmas.Lists.{All-take-set}
+use Rattle.rrd_spec.specs.Lemmas.Validity.{length-accepted}
+use Rattle.rrd_spec.specs.Lemmas.Rates.{accepted_at, rate_of, rates_more}
 use Rattle.rrd_base.specs.declared.walk.Walk.{Walk}
 use Rattle.rrd_base.proofs.walk.Walk.find_rates.Goals as goal
 

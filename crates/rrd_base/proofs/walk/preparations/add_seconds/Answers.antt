@@ -4,9 +4,9 @@ use Rattle.rrd_fixed.specs.declared.cell.Cell.{Cell}
 use Rattle.rrd_fixed.specs.declared.cell.Cell.TheVariants.{Unknown}
 use Rattle.rrd_fold.specs.Parts.{Part, with_cell}
 use Rattle.rrd_fold.specs.declared.function.Function.TheVariants.{Average}
-use Rattle.rrd_spec.specs.Each.{map_each}
-use Rattle.rrd_spec.specs.Preparations.{fold-with_each}
-use Rattle.rrd_spec.specs.Lists.{map_each_more, map_each_next, map_each_all}
+use Rattle.rrd_spec.specs.Preparations.{map_each}
+use Rattle.rrd_spec.specs.Lemmas.Preparations.{fold-with_each}
+use Rattle.rrd_spec.specs.Lemmas.Lists.{map_each_more, map_each_next, map_each_all}
 use Rattle.rrd_base.proofs.walk.preparations.add_seconds.Goals as goal
 
 pub loop-i-preserved : goal.loop-i-preserved

@@ -2,7 +2,7 @@ use Rattle.std.proofs.Common.{◌≡◌, ℕ, ◌∙◌, ap, subst, ◌+◌, ◌
 use Rattle.std.specs.List.{AllByRecursion}
 use Rattle.rrd_fixed.specs.Rate.{IsBounded}
 use Rattle.rrd_fold.specs.Parts.{Part, nothing, step_cell}
-use Rattle.rrd_spec.specs.Lists.{All-take-set, map_more, map_next, map_all, map-same}
+use Rattle.rrd_spec.specs.Lemmas.Lists.{All-take-set, map_more, map_next, map_all, map-same}
 use Rattle.rrd_base.proofs.walk.preparations.close_steps.Goals as goal
 
 pub loop-i-preserved : goal.loop-i-preserved

@@ -1,7 +1,7 @@
 use Rattle.std.proofs.Common.{◌≡◌, sym, ap, get_or, length, rules}
 use Rattle.std.proofs.lemmas.Result.{err_from_is_err_and}
-use Rattle.rrd_file.specs.Pieces.{spell, tag_byte}
-use Rattle.rrd_file.specs.Shapes.{tag_said}
+use Rattle.rrd_file.specs.Layout.Pieces.{spell, tag_byte}
+use Rattle.rrd_file.specs.Decoding.Journal.{tag_said}
 use Rattle.rrd_file.proofs.Coming.{came_first, cut_tag, wrong_tag}
 use Rattle.rrd_file.proofs.Whole.{one_byte}
 use Rattle.rrd_file.proofs.decoding.journal.entry_tag.Goals as goal

@@ -1,10 +1,10 @@
 use Rattle.std.proofs.Common.{◌∷◌, [], subst}
 use Rattle.std.proofs.lemmas.Result.{err_from_is_err_and}
 use Rattle.rrd_file.specs.declared.decoding.journal.Tag.{Tag}
-use Rattle.rrd_file.specs.Pieces.{OfTag}
-use Rattle.rrd_file.specs.Shapes.{tag_said}
+use Rattle.rrd_file.specs.Layout.Pieces.{OfTag}
+use Rattle.rrd_file.specs.Decoding.Journal.{tag_said}
 use Rattle.rrd_file.specs.Stages.{first_due}
-use Rattle.rrd_file.specs.Standing.{Comes}
+use Rattle.rrd_file.specs.Decoding.Progress.{Comes}
 use Rattle.rrd_file.proofs.decoding.journal.pieces.Goals as goal
 
 pub returns-in_err-entry_tag-clause-closes : goal.returns-in_err-entry_tag-clause-closes

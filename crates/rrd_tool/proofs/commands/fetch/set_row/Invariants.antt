@@ -1,5 +1,5 @@
 use Rattle.std.proofs.Common.{◌≡◌, ◌≤◌, ◌+◌, ◌*◌, ◌++◌, codes, length}
-use Rattle.rrd_spec.specs.Cells.{cell_at}
+use Rattle.rrd_spec.specs.History.Cells.{cell_at}
 use Rattle.rrd_fixed.specs.Text.{cell_text, time_text}
 use Rattle.rrd_tool.specs.Commands.Fetch.{texts_below}
 use Rattle.rrd_tool.proofs.commands.fetch.set_row.Given as goal

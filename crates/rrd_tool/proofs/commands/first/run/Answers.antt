@@ -1,7 +1,7 @@
 use Rattle.std.proofs.Common.{◌≡◌, FitsSigned, Ok, refl, rules, sym}
 use Rattle.std.specs.Int.{w64}
 use Rattle.std.proofs.lemmas.Int.{to_z-of_z}
-use Rattle.rrd_spec.specs.Cells.{oldest_time}
+use Rattle.rrd_spec.specs.History.Cells.{oldest_time}
 use Rattle.rrd_tool.specs.Commands.First.{first_text}
 use Rattle.rrd_tool.specs.Commands.Last.{time_line}
 use Rattle.rrd_tool.proofs.RunLemmas.{shown_comes}

@@ -1,0 +1,10 @@
+use Rattle.std.proofs.Common.{◌≡◌, take}
+use Rattle.arrayvec.specs.ArrayVec.{array_vec_len}
+use Rattle.rrd_spec.specs.Settings.{names}
+use Rattle.rrd_base.proofs.rebuild.entry_checks.names_of.Given as goal
+
+abbrev pub invariant-loop-source : goal.invariant-loop-source
+invariant-loop-source l = record {
+  names_are : l.all.items ≡ names (take l.source-index l.sources);
+  count : array_vec_len l.all ≡ l.source-index;
+}

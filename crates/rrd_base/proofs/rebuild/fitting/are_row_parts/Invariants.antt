@@ -1,8 +1,0 @@
-use Rattle.std.proofs.Common.{take}
-use Rattle.std.specs.List.{AllByRecursion}
-use Rattle.rrd_spec.specs.Validity.{IsPart}
-use Rattle.rrd_spec.specs.Each.{parts_in}
-use Rattle.rrd_base.proofs.rebuild.fitting.are_row_parts.Given as goal
-
-abbrev pub invariant-loop-prep : goal.invariant-loop-prep
-invariant-loop-prep l = AllByRecursion (IsPart l.function l.passed) (parts_in (take l.prep-index l.preps))

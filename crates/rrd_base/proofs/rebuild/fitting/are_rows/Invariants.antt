@@ -1,7 +1,0 @@
-use Rattle.std.proofs.Common.{take}
-use Rattle.std.specs.List.{AllByRecursion}
-use Rattle.rrd_spec.specs.Validity.{IsRow}
-use Rattle.rrd_base.proofs.rebuild.fitting.are_rows.Given as goal
-
-abbrev pub invariant-loop-number : goal.invariant-loop-number
-invariant-loop-number g l = AllByRecursion (IsRow l.sources) (take l.number (g.T.Table.table l.rows))

@@ -1,6 +1,0 @@
-use Rattle.std.proofs.Common.{take}
-use Rattle.rrd_spec.specs.Outlines.{MaySaveEach}
-use Rattle.rrd_base.proofs.rebuild.fitting.may_save_each.Given as goal
-
-abbrev pub invariant-loop-place : goal.invariant-loop-place
-invariant-loop-place l = MaySaveEach l.span.step l.span.from l.span.to l.span.sources (take l.place l.defs) (take l.place l.olds)

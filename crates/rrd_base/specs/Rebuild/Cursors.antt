@@ -1,0 +1,23 @@
+-- Glue: a cursor over the cells of a file.
+use Rattle.std.specs.Prelude.{◌≡◌, ℕ, ◌+◌, ◌*◌, ◌%◌, ◌<◌}
+use Rattle.rrd_spec.specs.Files.Slots.{place_in}
+use Rattle.rrd_base.specs.declared.rebuild.cursor.Cursor.{Cursor}
+
+-- how many cells of its archive it has passed, so many sources having been defined
+abbrev pub filled_by : ℕ → Cursor → ℕ
+filled_by sources cursor = cursor.slot * sources + cursor.source
+
+-- it knows the place of its row once it has left the archive's first cell
+abbrev pub KnowsPlace : ℕ → ℕ → ℕ → Cursor → Type 0
+KnowsPlace resolution last rows cursor =
+    0 < cursor.slot + cursor.source → cursor.place ≡ place_in resolution last rows cursor.slot
+
+-- it goes from a cell in the row of a place to the next one
+pub record Advances (sources rows place : ℕ) (old new : Cursor) : Type 0 where
+  pub next_source : old.source + 1 < sources → new ≡ record old { place = place; source = old.source + 1 }
+  pub next_slot :
+      old.source + 1 ≡ sources → old.slot + 1 < rows
+      → new ≡ record old { slot = old.slot + 1; place = (place + 1) % rows; source = 0 }
+  pub next_archive :
+      old.source + 1 ≡ sources → old.slot + 1 ≡ rows
+      → new ≡ record { archive = old.archive + 1; slot = 0; place = (place + 1) % rows; source = 0 }

@@ -1,0 +1,80 @@
+//! Tests of what a file's pieces say.
+ghost use Rattle.std.specs.Prelude.{◌≡◌, ◌≤◌, true};
+ghost use Rattle.rrd_fixed.specs.Rate.{IsAccepted, IsBounded};
+ghost use Rattle.rrd_fold.specs.Bounds.{weight};
+ghost use Rattle.rrd_spec.specs.Limits.{version_one};
+ghost use Rattle.rrd_spec.specs.Files.Rebuilding.{IsArchiveDef};
+ghost use Rattle.rrd_spec.specs.Validity.{IsPart, IsSource};
+
+use crate::create::{has_bad_bounds, is_bad_heartbeat, is_bad_rows, is_bad_steps, is_bad_xff};
+use crate::{DsDef, RraDef};
+use rrd_fixed::{Cell, Kind, Raw};
+use rrd_fold::Function;
+
+// Millionths: (2^64 - 1) * 10^6, the greatest rate.
+const TOP: u128 = 18_446_744_073_709_551_615_000_000;
+
+/// Whether a source's settings are good.
+pub fn is_source(source: &DsDef) -> bool
+    ensures good { result ≡ true → IsSource source.now }
+    ensures bad { IsSource source.now → result ≡ true }
+{
+    source.name.good() && !is_bad_heartbeat(source.heartbeat) && !has_bad_bounds(source)
+}
+
+/// Whether a source of this kind accepts a raw value.
+pub fn is_accepted(kind: Kind, raw: Raw) -> bool
+    ensures good { result ≡ true → IsAccepted kind raw }
+    ensures bad { IsAccepted kind raw → result ≡ true }
+{
+    let Raw::Known(value) = raw else {
+        return true;
+    };
+    match kind {
+        Kind::Counter => 0 <= value && value < 18_446_744_073_709_551_616,
+        Kind::Derive => -9_223_372_036_854_775_808 <= value && value < 9_223_372_036_854_775_808,
+        Kind::Gauge | Kind::Absolute => { value.unsigned_abs() < 1_000_000_000_000_000_000_000_000 }
+    }
+}
+
+// For how many values one may stand.
+fn weight(function: Function, known: u64) -> u64
+    ensures { result ≡ weight function known }
+{
+    match function {
+        Function::Average => known,
+        Function::Min | Function::Max | Function::Last => 1,
+    }
+}
+
+/// Whether a preparation can be that of at most so many cells.
+pub(super) fn is_part(function: Function, passed: u64, known: u64, value: i128) -> bool
+    requires { passed ≤ version_one.most_steps }
+    ensures good { result ≡ true → IsPart function passed (record { known = known; value = value }) }
+    ensures bad { IsPart function passed (record { known = known; value = value }) → result ≡ true }
+{
+    if known > passed {
+        return false;
+    }
+    let most = u128::from(weight(function, known)) * TOP;
+    value.unsigned_abs() <= most && (known > 0 || value == 0)
+}
+
+/// Whether an archive's settings are good.
+pub(super) fn is_archive(def: &RraDef) -> bool
+    ensures good { result ≡ true → IsArchiveDef version_one def.now }
+    ensures bad { IsArchiveDef version_one def.now → result ≡ true }
+{
+    !is_bad_steps(def.steps) && !is_bad_rows(def.rows) && !is_bad_xff(def.xff)
+}
+
+/// Whether a cell is not past the greatest rate.
+pub fn is_bounded(cell: Cell) -> bool
+    ensures good { result ≡ true → IsBounded cell }
+    ensures bad { IsBounded cell → result ≡ true }
+{
+    match cell {
+        Cell::Unknown => true,
+        Cell::Known(value) => value.unsigned_abs() <= TOP,
+    }
+}

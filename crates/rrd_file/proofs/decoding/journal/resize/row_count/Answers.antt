@@ -1,0 +1,30 @@
+use Rattle.std.proofs.Common.{◌≡◌, ◌∙◌, sym, length, rules}
+use Rattle.std.proofs.lemmas.Result.{err_from_is_err_and}
+use Rattle.rrd_file.specs.Layout.Pieces.{spell}
+use Rattle.std.specs.Prelude.{false, true}
+use Rattle.rrd_file.specs.Layout.Pieces.{OfRows}
+use Rattle.rrd_file.specs.Layout.Values.{four_bytes}
+use Rattle.rrd_file.proofs.Coming.{cut_within}
+use Rattle.rrd_file.proofs.Kept.{broken, kept}
+use Rattle.rrd_file.proofs.Whole.{whole}
+use Rattle.rrd_file.specs.Stages.{OldRowsDue}
+use Rattle.rrd_file.proofs.Kept.{ReadOldRows}
+use Rattle.rrd_file.proofs.decoding.journal.resize.row_count.Goals as goal
+
+pub returns-in_err-piece-clause-brings : goal.returns-in_err-piece-clause-brings
+returns-in_err-piece-clause-brings g c = λ bytes pieces later st.
+    let p = err_from_is_err_and c.from_residual.result c.from_residual.ensures.1 in
+    let len : length c.piece.new.piece ≡ 4 = search rules in
+    rw (p.1, p.2) (cut_within bytes c.args.build.now pieces (OldRowsDue c.args.archive) later c.args.input.now _ _ st (sym len) c.in_err-piece.ensures.read)
+
+pub returns-then-not-are_old_rows-clause-brings : goal.returns-then-not-are_old_rows-clause-brings
+unfolding spell
+returns-then-not-are_old_rows-clause-brings g c = λ bytes pieces later st.
+    let len : length c.piece.new.piece ≡ 4 = search rules in
+    rw c.bad_entry.ensures (broken bytes c.args.build.now pieces (OldRowsDue c.args.archive) later c.args.input.now c.piece.new.self (OfRows c.four_of-rows.result.0) c.piece.new.piece st c.in_ok-piece.ensures.read (whole c.piece.new.piece (four_bytes c.four_of-rows.result.0) c.four_of-rows.result.1.now 4 c.four_of-rows.ensures.spelled c.four_of-rows.ensures.room len) (sym len) (ReadOldRows c.args.archive c.four_of-rows.result.0 c.four_of-rows.ensures.small) (λ k. let bad : false ≡ true = sym c.if-not-are_old_rows.true ∙ c.are_old_rows.ensures.bad k in absurd cc))
+
+pub returns-clause-brings : goal.returns-clause-brings
+unfolding spell
+returns-clause-brings g c = λ bytes pieces later st.
+    let len : length c.piece.new.piece ≡ 4 = search rules in
+    kept bytes c.args.build.now pieces (OldRowsDue c.args.archive) later c.args.input.now c.piece.new.self (OfRows c.four_of-rows.result.0) c.piece.new.piece st c.in_ok-piece.ensures.read (whole c.piece.new.piece (four_bytes c.four_of-rows.result.0) c.four_of-rows.result.1.now 4 c.four_of-rows.ensures.spelled c.four_of-rows.ensures.room len) (sym len) (ReadOldRows c.args.archive c.four_of-rows.result.0 c.four_of-rows.ensures.small) (c.are_old_rows.ensures.good c.if-not-are_old_rows.false)

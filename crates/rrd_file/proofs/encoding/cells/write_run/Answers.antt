@@ -1,0 +1,49 @@
+use Rattle.std.proofs.Common.{◌≡◌, ◌≤◌, ◌+◌, ◌-◌, ◌*◌, ◌++◌, ◌∙◌, sym, subst, arith, length, min, ap}
+use Rattle.std.specs.List.{slice_range}
+use Rattle.std.proofs.lemmas.Nat.{mul-le}
+use Rattle.std.proofs.lemmas.Result.{err_from_is_err_and}
+use Rattle.rrd_file.specs.Encoding.Block.{Breaks, Gathers}
+use Rattle.rrd_file.specs.Layout.{row_pieces, spelled}
+use Rattle.rrd_file.proofs.Gathering.{breaks_stop, gathers_then}
+use Rattle.rrd_file.proofs.Told.{archive_at, there}
+use Rattle.rrd_file.proofs.Turned.{run_spelled, unknown}
+use Rattle.rrd_file.proofs.encoding.cells.write_run.Goals as goal
+
+pub overflow_mul-unwritten : goal.overflow_mul-unwritten
+overflow_mul-unwritten g c =
+    let d = c.args.database.now.content in
+    let run = c.saturating_sub-unwritten.result in
+    let found = there d.archives c.args.archive c.requires.archive_there in
+    let archive = archive_at d c.args.archive found.0 c.sources.ensures.valid found.1 in
+    let rows : c.unwritten_rows.result ≤ 1000000 = omega (arith, c.unwritten_rows.ensures.few found.0 found.1, archive.rows_are, archive.few_rows) in
+    let few_rows : run ≤ 1000000 = omega (arith, rows, c.min.ensures, c.saturating_sub-unwritten.ensures) in
+    let few_sources : c.sources.result ≤ 64 = omega (arith, c.sources.ensures.count, c.sources.ensures.valid.few_sources) in
+    omega (arith, mul-le run c.sources.result 1000000 64 few_rows few_sources)
+
+pub returns-in_err-write_unknown : goal.returns-in_err-write_unknown
+returns-in_err-write_unknown g c = λ a e.
+    let p = err_from_is_err_and c.from_residual.result c.from_residual.ensures.1 in
+    let d = c.args.database.now.content in
+    let u = c.unwritten_rows.result in
+    let run = c.saturating_sub-unwritten.result in
+    let run_is : min u c.args.to - c.args.from ≡ run = sym (c.saturating_sub-unwritten.ensures ∙ ap (λ n. n - c.args.from) c.min.ensures) in
+    let sources_are : length d.sources ≡ c.sources.result = sym c.sources.ensures.count in
+    let rest = spelled (row_pieces (slice_range a.rows (c.args.from + run) c.args.to)) in
+    let whole : spelled (row_pieces (slice_range a.rows c.args.from c.args.to)) ≡ unknown (run * c.sources.result) ++ rest =
+    run_spelled a.rows u c.args.from c.args.to (length d.sources) (c.unwritten_rows.ensures.unknown a e)
+    ∙ (λ i. unknown (run_is i * sources_are i) ++ spelled (row_pieces (slice_range a.rows (c.args.from + run_is i) c.args.to))) in
+    rw p.1 (subst (Breaks _ _ _) (sym whole) (breaks_stop rest c.in_err-write_unknown.ensures))
+
+pub returns : goal.returns
+returns g c = λ a e.
+    let d = c.args.database.now.content in
+    let u = c.unwritten_rows.result in
+    let run = c.saturating_sub-unwritten.result in
+    let run_is : min u c.args.to - c.args.from ≡ run = sym (c.saturating_sub-unwritten.ensures ∙ ap (λ n. n - c.args.from) c.min.ensures) in
+    let sources_are : length d.sources ≡ c.sources.result = sym c.sources.ensures.count in
+    let rest = spelled (row_pieces (slice_range a.rows (c.args.from + run) c.args.to)) in
+    let whole : spelled (row_pieces (slice_range a.rows c.args.from c.args.to)) ≡ unknown (run * c.sources.result) ++ rest =
+    run_spelled a.rows u c.args.from c.args.to (length d.sources) (c.unwritten_rows.ensures.unknown a e)
+    ∙ (λ i. unknown (run_is i * sources_are i) ++ spelled (row_pieces (slice_range a.rows (c.args.from + run_is i) c.args.to))) in
+    let out = g.W.Write.contents c.write_rows_between.new.out in
+    subst (λ bs. Gathers (g.W.Write.contents c.args.out.now) c.args.block.now out c.write_rows_between.new.block bs c.write_rows_between.result) (sym whole) (gathers_then out c.write_rows_between.new.block rest c.write_rows_between.result c.in_ok-write_unknown.ensures (c.write_rows_between.ensures a e))

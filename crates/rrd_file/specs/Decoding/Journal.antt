@@ -1,0 +1,56 @@
+-- Glue: how long the lists of an entry are that was read piece by piece, and what such a piece keeps to.
+use Rattle.std.specs.Prelude.{◌≡◌, ◌<◌, ◌≤◌, ℕ, List, [], ◌∷◌, length}
+use Rattle.rrd_fixed.specs.declared.cell.Cell.{Cell}
+use Rattle.rrd_ring.specs.Rows.{HasWidth}
+use Rattle.rrd_spec.specs.declared.entry.SourceBefore.{SourceBefore}
+use Rattle.rrd_spec.specs.declared.outline.Outline.{Outline}
+use Rattle.rrd_spec.specs.declared.settings.RraDef.{RraDef}
+use Rattle.rrd_spec.specs.Journal.Entries.{Entry, BeforeUpdate, SavedArchive, UpdateEntry, TuneEntry, ResizeEntry}
+use Rattle.rrd_spec.specs.Files.Filed.{Filed}
+use Rattle.rrd_spec.specs.Journal.Outlines.{IsSourceBefore}
+use Rattle.rrd_spec.specs.Files.Rebuilding.{limits, outline_left, with_entry}
+use Rattle.rrd_file.specs.Layout.Pieces.{Tag, AnUpdate, ATune, AResize}
+use Rattle.rrd_file.specs.declared.decoding.journal.Tag.{Tag as TagRead}
+use Rattle.rrd_file.specs.declared.decoding.journal.Tag.TheVariants as read
+
+-- so many rows, each of so many cells
+pub record AreRows (count sources : ℕ) (rows : List (List Cell)) : Type 0 where
+  pub as_many : length rows ≡ count
+  pub one_width : HasWidth sources rows
+
+-- what an update saved of an archive
+pub record IsSavedShaped (sources : ℕ) (def : RraDef) (old : SavedArchive) : Type 0 where
+  pub same_function : old.function ≡ def.function
+  pub one_part_each : length old.parts ≡ sources
+  pub one_cell_each : HasWidth sources old.rows
+
+abbrev pub AreSavedShaped : ℕ → List RraDef → List SavedArchive → Type 0
+AreSavedShaped sources [] [] = Unit {0}
+AreSavedShaped sources [] (old ∷ olds) = ⊥
+AreSavedShaped sources (def ∷ defs) [] = ⊥
+AreSavedShaped sources (def ∷ defs) (old ∷ olds) = IsSavedShaped sources def old × AreSavedShaped sources defs olds
+
+pub record IsUpdateShaped (now : Outline) (old : BeforeUpdate) : Type 0 where
+  pub one_raw_each : length old.raws ≡ length now.sources
+  pub one_part_each : length old.parts ≡ length now.sources
+  pub archives_are : AreSavedShaped (length now.sources) now.archives old.archives
+
+abbrev pub IsShaped : Outline → Entry → Type 0
+IsShaped now (UpdateEntry old) = IsUpdateShaped now old
+IsShaped now (TuneEntry olds) = Unit {0}
+IsShaped now (ResizeEntry archive rows) = HasWidth (length now.sources) rows
+
+-- a source that a tune named, from the lowest number that it may have
+abbrev pub KeepsNamed : Filed → ℕ → SourceBefore → Type 0
+KeepsNamed f lowest old =
+    (lowest ≤ old.number) × (old.number < length (outline_left f).sources) × IsSourceBefore (limits f) old
+
+-- an entry came
+pub record HasOneMore (old new : Filed) : Type 0 where
+  pub entry : Entry
+  pub more : new ≡ with_entry old entry
+
+abbrev pub tag_said : TagRead → Tag
+tag_said read.AnUpdate = AnUpdate
+tag_said read.ATune = ATune
+tag_said read.AResize = AResize

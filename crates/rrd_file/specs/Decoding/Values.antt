@@ -1,0 +1,62 @@
+-- Glue: which values the bytes of a piece can stand for.
+use Rattle.std.specs.Prelude.{◌≡◌, ◌^◌, ◌<◌, ◌≤ℤ◌, ℤ, pos, unsigned_abs, true, Option, Some, None}
+use Rattle.std.specs.Int.{w128}
+use Rattle.std.specs.Int.RustNames.{FitsSigned}
+use Rattle.rrd_fixed.specs.declared.cell.Cell.{Cell}
+use Rattle.rrd_fixed.specs.declared.raw.Raw.{Raw}
+use Rattle.rrd_fixed.specs.Names.{fits}
+use Rattle.rrd_fold.specs.Parts.{Part}
+use Rattle.rrd_spec.specs.declared.settings.DsDef.{DsDef}
+use Rattle.rrd_spec.specs.declared.settings.RraDef.{RraDef}
+use Rattle.rrd_spec.specs.declared.entry.SourceBefore.{SourceBefore}
+use Rattle.rrd_spec.specs.Files.Filed.{Header, Source}
+
+-- a number other than the least, which stands for none
+abbrev pub FitsNumber : ℤ → Type 0
+FitsNumber z = unsigned_abs z < 2 ^ 127
+
+abbrev pub FitsCell : Cell → Type 0
+FitsCell Cell.Unknown = Unit {0}
+FitsCell (Cell.Known millionths) = FitsNumber millionths
+
+abbrev pub FitsRaw : Raw → Type 0
+FitsRaw Raw.Unknown = Unit {0}
+FitsRaw (Raw.Known value) = FitsNumber value
+
+abbrev pub FitsBound : Option ℤ → Type 0
+FitsBound None = Unit {0}
+FitsBound (Some millionths) = FitsNumber millionths
+
+pub record FitsPart (part : Part) : Type 0 where
+  pub known : part.known < 2 ^ 32
+  pub value : FitsSigned w128 part.value
+
+pub record FitsDef (def : DsDef) : Type 0 where
+  pub name : fits def.name ≡ true
+  pub heartbeat : def.heartbeat < 2 ^ 64
+  pub min : FitsBound def.min
+  pub max : FitsBound def.max
+
+pub record FitsSource (source : Source) : Type 0 where
+  pub def : FitsDef source.def
+  pub raw : FitsRaw source.raw
+  pub part : FitsPart source.part
+
+pub record FitsArchive (def : RraDef) : Type 0 where
+  pub steps : def.steps < 2 ^ 32
+  pub xff_low : pos 0 ≤ℤ def.xff
+  pub xff_high : unsigned_abs def.xff < 2 ^ 32
+  pub rows : def.rows < 2 ^ 32
+
+pub record FitsHeader (h : Header) : Type 0 where
+  pub step : h.step < 2 ^ 32
+  pub last : h.last < 2 ^ 64
+  pub depth : h.depth < 2 ^ 16
+  pub sources : h.sources < 2 ^ 16
+  pub archives : h.archives < 2 ^ 16
+  pub entries : h.entries < 2 ^ 16
+
+pub record FitsSourceBefore (old : SourceBefore) : Type 0 where
+  pub number : old.number < 2 ^ 16
+  pub source : FitsDef old.source
+  pub raw : FitsRaw old.raw

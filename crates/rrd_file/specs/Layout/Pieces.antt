@@ -1,0 +1,68 @@
+-- Definition: the pieces that a file is made of, each with its bytes.
+use Rattle.std.specs.Prelude.{ℕ, List, [], ◌∷◌, ◌++◌}
+use Rattle.rrd_fixed.specs.declared.cell.Cell.{Cell}
+use Rattle.rrd_fixed.specs.declared.raw.Raw.{Raw}
+use Rattle.rrd_fold.specs.Parts.{Part}
+use Rattle.rrd_spec.specs.declared.settings.RraDef.{RraDef}
+use Rattle.rrd_spec.specs.declared.entry.SourceBefore.{SourceBefore}
+use Rattle.rrd_spec.specs.Files.Filed.{Header, Source, Version, One}
+use Rattle.rrd_file.specs.Layout.Values.{archive_bytes, cell_bytes, eight_bytes, four_bytes, part_bytes, raw_bytes, source_bytes, two_bytes}
+
+-- what an entry undoes
+pub data Tag : Type 0 where
+  AnUpdate : Tag
+  ATune : Tag
+  AResize : Tag
+
+pub data Piece : Type 0 where
+  -- of the body
+  Mark : Piece
+  OfVersion : Version → Piece
+  OfHeader : Header → Piece
+  OfSource : Source → Piece
+  OfArchive : RraDef → Piece
+  OfPrep : Part → Piece
+  OfCell : Cell → Piece
+  -- of an entry, which also has preparations and cells: its tag
+  OfTag : Tag → Piece
+  -- the last time before an update, a source's raw value and part before it, and a number of rows
+  OfTime : ℕ → Piece
+  OfRawAndPart : Raw → Part → Piece
+  OfRows : ℕ → Piece
+  -- how many sources a tune named, and each of them before it
+  OfCount : ℕ → Piece
+  OfSourceBefore : SourceBefore → Piece
+  -- the number of the archive that was resized
+  OfNumber : ℕ → Piece
+
+abbrev pub version_number : Version → ℕ
+version_number One = 1
+
+abbrev pub tag_byte : Tag → ℕ
+tag_byte AnUpdate = 1
+tag_byte ATune = 2
+tag_byte AResize = 3
+
+-- step (4), last time (8), and in version 1 depth, sources, archives and entries (2 each)
+abbrev pub header_bytes : Version → Header → List ℕ
+header_bytes One h =
+    four_bytes h.step ++ eight_bytes h.last
+    ++ two_bytes h.depth ++ two_bytes h.sources ++ two_bytes h.archives ++ two_bytes h.entries
+
+-- the bytes of a piece
+unfoldable pub spell : Piece → List ℕ
+-- the letters RRDI
+spell Mark = 82 ∷ 82 ∷ 68 ∷ 73 ∷ []
+spell (OfVersion version) = two_bytes (version_number version)
+spell (OfHeader h) = header_bytes h.version h
+spell (OfSource s) = source_bytes s.def ++ raw_bytes s.raw ++ part_bytes s.part
+spell (OfArchive def) = archive_bytes def
+spell (OfPrep part) = part_bytes part
+spell (OfCell cell) = cell_bytes cell
+spell (OfTag tag) = tag_byte tag ∷ []
+spell (OfTime time) = eight_bytes time
+spell (OfRawAndPart raw part) = raw_bytes raw ++ part_bytes part
+spell (OfRows rows) = four_bytes rows
+spell (OfCount count) = two_bytes count
+spell (OfSourceBefore old) = two_bytes old.number ++ source_bytes old.source ++ raw_bytes old.raw
+spell (OfNumber number) = two_bytes number

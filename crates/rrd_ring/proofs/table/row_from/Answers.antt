@@ -1,5 +1,0 @@
-use Rattle.rrd_ring.proofs.WrittenLemmas.{row_unwritten}
-use Rattle.rrd_ring.proofs.table.row_from.Goals as goal
-
-pub returns : goal.returns
-returns c = λ all fits. row_unwritten all c.args.start c.args.sources c.args.cells.now c.if-start-cells.false fits c.requires.few_sources

@@ -1,0 +1,109 @@
+-- Definition: which databases can be made, and how a new one stands (rrdcreate).
+use Rattle.std.specs.Prelude.{ℕ, ℤ, pos, int_lt, nat_lt, ◌==◌, Bool, not, ◌||◌, Option, List, [], ◌∷◌, ◌++◌, length, map, replicate}
+use Rattle.std.specs.List.{list_any}
+use Rattle.rrd_fixed.specs.declared.cell.Cell.{Cell}
+use Rattle.rrd_fixed.specs.declared.raw.Raw.{Raw}
+use Rattle.rrd_fixed.specs.Names.{is_good}
+use Rattle.rrd_fold.specs.Parts.{nothing}
+use Rattle.rrd_spec.specs.declared.requests.create.CreateSpec.{CreateSpec}
+use Rattle.rrd_spec.specs.declared.settings.DsDef.{DsDef}
+use Rattle.rrd_spec.specs.declared.settings.RraDef.{RraDef}
+use Rattle.rrd_spec.specs.declared.refusal.Refusal.{Refusal}
+use Rattle.rrd_spec.specs.declared.refusal.Refusal.TheVariants.{BadStep, BadStart, NoSource, NoArchive, BadName, DoubleName, BadHeartbeat, BadBounds, BadXff, BadSteps, BadRows, TooLarge, BadDepth}
+use Rattle.rrd_spec.specs.Limits.{Limits, version_one}
+use Rattle.rrd_spec.specs.History.{Archive, Content}
+use Rattle.rrd_spec.specs.Settings.{Settings, names}
+use Rattle.rrd_spec.specs.Commands.Verdict.{Check, ◌refuses◌, first_refusal, has_bad_bounds, is_bad_heartbeat, is_bad_rows, is_out}
+use Rattle.rrd_spec.specs.Settings.{is_double, cells}
+use Rattle.rrd_spec.specs.History.Steps.{step}
+
+-- ---- what is refused
+
+abbrev pub is_bad_step : Limits → ℕ → Bool
+is_bad_step limits step = is_out limits.longest_step step
+
+-- a share that isn't from 0 to the greatest one
+abbrev pub is_bad_xff : Limits → ℤ → Bool
+is_bad_xff limits xff = int_lt xff (pos 0) || int_lt (pos limits.greatest_share) xff
+
+abbrev pub is_bad_steps : Limits → ℕ → Bool
+is_bad_steps limits steps = is_out limits.most_steps steps
+
+abbrev pub is_bad_depth : Limits → ℕ → Bool
+is_bad_depth limits depth = is_out limits.deepest_journal depth
+
+-- the sources, and each archive's number of rows
+abbrev pub settings_asked : CreateSpec → Settings
+settings_asked spec = record { sources = spec.sources; rows = map (λ (def : RraDef). def.rows) spec.archives }
+
+-- too many sources, archives, or cells, which are the sources times all rows
+abbrev pub is_too_large : Limits → CreateSpec → Bool
+is_too_large limits spec =
+    nat_lt limits.most_sources (length spec.sources)
+    || nat_lt limits.most_archives (length spec.archives)
+    || nat_lt limits.most_cells (cells (settings_asked spec))
+
+-- what is asked before the sources and archives are looked at
+abbrev pub first_checks : Limits → CreateSpec → List Check
+first_checks limits spec =
+    ◌refuses◌ (is_bad_step limits spec.step) BadStep
+    ∷ ◌refuses◌ (nat_lt limits.latest_time spec.start) BadStart
+    ∷ ◌refuses◌ (length spec.sources == 0) NoSource
+    ∷ ◌refuses◌ (length spec.archives == 0) NoArchive
+    ∷ []
+
+-- each number over all sources before the next one
+abbrev pub source_checks : Limits → List DsDef → List Check
+source_checks limits sources =
+    ◌refuses◌ (list_any (λ (source : DsDef). not (is_good source.name)) sources) BadName
+    ∷ ◌refuses◌ (is_double (names sources)) DoubleName
+    ∷ ◌refuses◌ (list_any (λ (source : DsDef). is_bad_heartbeat limits source.heartbeat) sources) BadHeartbeat
+    ∷ ◌refuses◌ (list_any (has_bad_bounds limits) sources) BadBounds
+    ∷ []
+
+-- and over all archives
+abbrev pub archive_checks : Limits → List RraDef → List Check
+archive_checks limits defs =
+    ◌refuses◌ (list_any (λ (def : RraDef). is_bad_xff limits def.xff) defs) BadXff
+    ∷ ◌refuses◌ (list_any (λ (def : RraDef). is_bad_steps limits def.steps) defs) BadSteps
+    ∷ ◌refuses◌ (list_any (λ (def : RraDef). is_bad_rows limits def.rows) defs) BadRows
+    ∷ []
+
+abbrev pub size_checks : Limits → CreateSpec → List Check
+size_checks limits spec =
+    ◌refuses◌ (is_too_large limits spec) TooLarge
+    ∷ ◌refuses◌ (is_bad_depth limits spec.depth) BadDepth
+    ∷ []
+
+abbrev pub create_checks : Limits → CreateSpec → List Check
+create_checks limits spec =
+    first_checks limits spec
+    ++ source_checks limits spec.sources
+    ++ archive_checks limits spec.archives
+    ++ size_checks limits spec
+
+-- the refusal of a database that is to be made, none if it is accepted. Memory isn't spoken of
+unfoldable pub create_verdict_within : Limits → CreateSpec → Option Refusal
+create_verdict_within limits spec = first_refusal (create_checks limits spec)
+
+abbrev pub create_verdict : CreateSpec → Option Refusal
+create_verdict = create_verdict_within version_one
+
+-- ---- the new database
+
+-- an archive in which every row is unknown, for so many sources
+abbrev pub new_archive : ℕ → RraDef → Archive
+new_archive sources def =
+    record { def = def; parts = replicate sources nothing; rows = replicate def.rows (replicate sources Cell.Unknown) }
+
+-- the base that is made: its last time is the start, and nothing is known yet
+abbrev pub created : CreateSpec → Content
+created spec = record {
+  step = spec.step;
+  depth = spec.depth;
+  sources = spec.sources;
+  last = spec.start;
+  raws = replicate (length spec.sources) Raw.Unknown;
+  parts = replicate (length spec.sources) nothing;
+  archives = map (new_archive (length spec.sources)) spec.archives;
+}

@@ -1,0 +1,150 @@
+-- Definition: what an archive shows at each time.
+use Rattle.std.specs.Prelude.{ℕ, ◌+◌, ◌-◌, ◌*◌, ◌/◌, ℤ, pos, ◌+ℤ◌, ◌-ℤ◌, int_lt, int_le, if◌then◌else◌, List, [], ◌∷◌, map, length, replicate, slice_index_or}
+use Rattle.std.specs.List.{fold, enumerate_from, range_with_len}
+use Rattle.std.specs.Int.{int_max}
+use Rattle.rrd_fixed.specs.declared.cell.Cell.{Cell}
+use Rattle.rrd_spec.specs.declared.refusal.Refusal.{Refusal}
+use Rattle.rrd_spec.specs.declared.refusal.Refusal.TheVariants.{NoSuchArchive}
+use Rattle.rrd_spec.specs.declared.settings.RraDef.{RraDef}
+use Rattle.rrd_spec.specs.Settings.{resolution}
+use Rattle.rrd_spec.specs.History.{Archive, Content, Event, definitions, moment_at_end, rows_at_end}
+use Rattle.rrd_spec.specs.History.Steps.{parts_of, row_parts_of}
+use Rattle.std.specs.Prelude.{negsuc, nat_lt}
+use Rattle.std.specs.Int.{int_div_euclid}
+use Rattle.std.specs.Prelude.{zero, suc, Result, ok_or, option_map, slice_get}
+use Rattle.rrd_fixed.specs.declared.cell.Cell.TheVariants.{Unknown}
+use Rattle.rrd_fold.specs.declared.function.Function.TheVariants.{Average}
+use Rattle.rrd_fold.specs.Bounds.{Consolidating}
+use Rattle.rrd_fold.specs.Parts.{nothing}
+use Rattle.rrd_spec.specs.History.Steps.{row_ending}
+
+-- the row at a time, a multiple of the resolution; unknown where the archive has none
+abbrev pub row_of_age : List (List Cell) → List Cell → ℤ → List Cell
+row_of_age rows unknown (pos age) =
+    if nat_lt age (length rows) then slice_index_or rows (length rows - 1 - age) unknown else unknown
+row_of_age rows unknown (negsuc ahead) = unknown
+
+abbrev pub row_at : Content → Archive → ℤ → List Cell
+row_at content archive time =
+    let size = resolution content.step archive.def in
+    row_of_age archive.rows (replicate (length content.sources) Cell.Unknown)
+    (pos (content.last / size) -ℤ int_div_euclid time (pos size))
+
+-- the cell of a source in the row at a time of the archive of this number; unknown where there is none
+abbrev pub cell_in : Content → List Archive → ℕ → ℤ → ℕ → Cell
+cell_in content [] number time source = Unknown
+cell_in content (archive ∷ archives) zero time source = slice_index_or (row_at content archive time) source Unknown
+cell_in content (archive ∷ archives) (suc number) time source = cell_in content archives number time source
+
+abbrev pub cell_at : Content → ℕ → ℤ → ℕ → Cell
+cell_at content number time source = cell_in content content.archives number time source
+
+-- the preparation of a source's unfinished row in the archive of this number
+abbrev pub prep_in : List Archive → ℕ → ℕ → Consolidating
+prep_in [] number source = record { function = Average; part = nothing }
+prep_in (archive ∷ archives) zero source =
+    record { function = archive.def.function; part = slice_index_or archive.parts source nothing }
+prep_in (archive ∷ archives) (suc number) source = prep_in archives number source
+
+abbrev pub prep_at : Content → ℕ → ℕ → Consolidating
+prep_at content number source = prep_in content.archives number source
+
+-- ---- an archive's rows and their times
+
+-- the end: the time of the newest row, rows ending at the multiples of the resolution (rrdcreate, "RRA")
+abbrev pub newest : ℕ → ℕ → ℕ
+newest resolution last = last / resolution * resolution
+
+-- the time after which so many rows reach: the newest row's time less that of all rows. It may be negative
+abbrev pub reach : ℕ → ℕ → ℕ → ℤ
+reach resolution rows last = pos (newest resolution last) -ℤ pos (rows * resolution)
+
+-- ---- the horizon
+
+-- the histories that a history begins with, from the empty one to itself
+abbrev pub prefixes : {A : Type 0} → List A → List (List A)
+prefixes [] = [] ∷ []
+prefixes (x ∷ xs) = [] ∷ map (λ (begun : List _). x ∷ begun) (prefixes xs)
+
+abbrev pub greatest : List ℤ → ℤ
+greatest [] = pos 0
+greatest (x ∷ xs) = fold int_max x xs
+
+-- the time after which an archive's rows reach once the events have come
+abbrev pub reach_after : Content → ℕ → Archive → List Event → ℤ
+reach_after base index archive events =
+    reach (resolution base.step archive.def) (rows_at_end index archive.def.rows events)
+    (moment_at_end base events).last
+
+-- the time up to which rows have been lost: an archive never shows again what at any moment it had no place for
+-- (rrdresize)
+abbrev pub horizon : Content → ℕ → Archive → List Event → ℤ
+horizon base index archive events = greatest (map (reach_after base index archive) (prefixes events))
+
+-- ---- a step and a row by themselves
+
+-- The seconds: `second` in History, the rate of the first sample at or after each (rrdcreate, "The HEARTBEAT and the
+-- STEP"). All steps, and all rows, of a history are `steps_of` and `rows_of` in History/Steps: the lists of these ones.
+
+-- ---- what an archive shows
+
+-- the row at a time, a multiple of the resolution: unknown up to the horizon and after the end; else the base's where
+-- the base has come so far; else that of its steps (rrdresize)
+abbrev pub row_by_time : Content → ℕ → Archive → List Event → ℤ → List Cell
+row_by_time base index archive events time =
+    let size = resolution base.step archive.def in
+    let unknown = replicate (length base.sources) Cell.Unknown in
+    if int_le time (horizon base index archive events) then unknown
+    else (if int_lt (pos (newest size (moment_at_end base events).last)) time then unknown
+    else (if int_le time (pos (newest size base.last)) then row_at base archive time
+    else row_ending base archive events time))
+
+-- a source's cell at a time (rrdfetch)
+abbrev pub cell : Content → ℕ → Archive → List Event → ℤ → ℕ → Cell
+cell base index archive events time source =
+    slice_index_or (row_by_time base index archive events time) source Cell.Unknown
+
+-- ---- a content by the times of its rows
+
+-- the time of the row of a place, 0 the oldest, among so many rows
+abbrev pub time_of : ℕ → ℕ → ℕ → ℕ → ℤ
+time_of resolution rows last place = reach resolution rows last +ℤ pos ((place + 1) * resolution)
+
+-- the time of an archive's oldest row. It may be negative
+abbrev pub oldest : ℕ → ℕ → RraDef → ℤ
+oldest step last def = time_of (resolution step def) def.rows last 0
+
+-- that of the archive of this number, or the refusal where there is none (rrdfirst)
+abbrev pub oldest_time : Content → ℕ → Result ℤ Refusal
+oldest_time content number =
+    ok_or (option_map (oldest content.step content.last) (slice_get (definitions content.archives) number))
+    NoSuchArchive
+
+-- an archive's rows, oldest first: those at the last multiples of the resolution up to the end
+abbrev pub rows_by_time : Content → ℕ → Archive → List Event → List (List Cell)
+rows_by_time base index archive events =
+    let size = resolution base.step archive.def in
+    let rows = rows_at_end index archive.def.rows events in
+    map (λ (place : ℕ). row_by_time base index archive events
+    (time_of size rows (moment_at_end base events).last place)) (range_with_len 0 rows)
+
+-- an archive after the events: its settings with its number of rows, what its unfinished row has made of its steps,
+-- and its rows
+abbrev pub archive_by_time : Content → List Event → ℕ × Archive → Archive
+archive_by_time base events (index, archive) = record {
+  def = record archive.def { rows = rows_at_end index archive.def.rows events };
+  parts = row_parts_of base archive events;
+  rows = rows_by_time base index archive events;
+}
+
+-- the content of a history, each row being that of its time
+abbrev pub content : Content → List Event → Content
+content base events = record {
+  step = base.step;
+  depth = base.depth;
+  sources = (moment_at_end base events).sources;
+  last = (moment_at_end base events).last;
+  raws = (moment_at_end base events).raws;
+  parts = parts_of base events;
+  archives = map (archive_by_time base events) (enumerate_from 0 base.archives);
+}

@@ -1,0 +1,139 @@
+-- Definition: what the journal keeps of a command, and how it is undone (own).
+use Rattle.std.specs.Prelude.{◌≡◌, ℕ, zero, suc, ◌+◌, ◌-◌, ◌/◌, min, Bool, false, ◌||◌, if◌then◌else◌, Option, Some, None, List, [], ◌∷◌, ◌++◌, map, length, take, slice_set}
+use Rattle.std.specs.List.{fold}
+use Rattle.rrd_fixed.specs.declared.cell.Cell.{Cell}
+use Rattle.rrd_fixed.specs.declared.raw.Raw.{Raw}
+use Rattle.rrd_spec.specs.declared.settings.DsDef.{DsDef}
+use Rattle.rrd_spec.specs.declared.entry.SourceBefore.{SourceBefore}
+use Rattle.rrd_spec.specs.declared.settings.RraDef.{RraDef}
+use Rattle.rrd_fold.specs.declared.function.Function.{Function}
+use Rattle.rrd_fold.specs.Parts.{Part}
+use Rattle.rrd_spec.specs.Settings.{resolution}
+use Rattle.rrd_spec.specs.History.{Archive, Content, IsBase}
+use Rattle.rrd_spec.specs.Commands.{Asked, Command, Updating, TuningBy, Resizing, moved}
+use Rattle.rrd_fixed.specs.Names.{same_name}
+use Rattle.rrd_spec.specs.declared.requests.tune.Tuning.{Tuning}
+use Rattle.rrd_spec.specs.History.Steps.{row}
+use Rattle.rrd_spec.specs.History.Steps.{step}
+
+-- what an update's entry keeps of an archive: its function, its preparations, and the oldest of its rows
+pub record SavedArchive : Type 0 where
+  pub function : Function
+  pub parts : List Part
+  pub rows : List (List Cell)
+
+pub record BeforeUpdate : Type 0 where
+  pub last : ℕ
+  pub raws : List Raw
+  pub parts : List Part
+  pub archives : List SavedArchive
+
+pub data Entry : Type 0 where
+  UpdateEntry : BeforeUpdate → Entry
+  TuneEntry : List SourceBefore → Entry
+  ResizeEntry : ℕ → List (List Cell) → Entry
+
+-- ---- the entry of a command
+
+-- how many rows of an archive end after one time and not after another
+abbrev pub rows_between : ℕ → RraDef → ℕ → ℕ → ℕ
+rows_between step def from to = to / resolution step def - from / resolution step def
+
+-- of an archive, for an update from one time to another: as many of its oldest rows as the update finishes, or all
+abbrev pub saved : ℕ → ℕ → ℕ → Archive → SavedArchive
+saved step from to archive = record {
+  function = archive.def.function;
+  parts = archive.parts;
+  rows = take (min (rows_between step archive.def from to) (length archive.rows)) archive.rows;
+}
+
+abbrev pub is_asked : {A : Type 0} → Option (Asked A) → DsDef → Bool
+is_asked None source = false
+is_asked (Some option) source = same_name option.0 source.name
+
+abbrev pub is_named : Tuning → DsDef → Bool
+is_named tuning source =
+    is_asked tuning.heartbeat source || is_asked tuning.minimum source || is_asked tuning.maximum source
+    || is_asked tuning.kind source || is_asked tuning.rename source
+
+-- the sources that are named, as they are before the tune, by rising number
+abbrev pub sources_before : Tuning → ℕ → List DsDef → List Raw → List SourceBefore
+sources_before tuning number [] raws = []
+sources_before tuning number (source ∷ sources) [] = []
+sources_before tuning number (source ∷ sources) (raw ∷ raws) =
+    if is_named tuning source then record { number = number; source = source; raw = raw }
+    ∷ sources_before tuning (number + 1) sources raws else sources_before tuning (number + 1) sources raws
+
+abbrev pub rows_at : List Archive → ℕ → List (List Cell)
+rows_at [] index = []
+rows_at (archive ∷ archives) zero = archive.rows
+rows_at (archive ∷ archives) (suc index) = rows_at archives index
+
+-- what is kept of a content before an update that ends at a time
+abbrev pub before : Content → ℕ → BeforeUpdate
+before base end =
+    record {
+      last = base.last;
+      raws = base.raws;
+      parts = base.parts;
+      archives = map (saved base.step base.last end) base.archives;
+    }
+
+abbrev pub entry : Content → Command → Entry
+entry base (Updating update) = UpdateEntry (before base (moved base (Updating update)).last)
+entry base (TuningBy tuning) = TuneEntry (sources_before tuning 0 base.sources base.raws)
+entry base (Resizing archive change rows) = ResizeEntry archive (rows_at base.archives archive)
+
+-- how many cells there are in rows, in what an update saved, and in an entry
+abbrev pub cells_in : List (List Cell) → ℕ
+cells_in [] = 0
+cells_in (row ∷ rows) = length row + cells_in rows
+
+abbrev pub cells_saved : List SavedArchive → ℕ
+cells_saved [] = 0
+cells_saved (old ∷ olds) = cells_in old.rows + cells_saved olds
+
+abbrev pub entry_cells : Entry → ℕ
+entry_cells (UpdateEntry old) = cells_saved old.archives
+entry_cells (TuneEntry olds) = 0
+entry_cells (ResizeEntry archive rows) = cells_in rows
+
+-- ---- undoing
+
+-- the old rows come back as the oldest; as many of the newest go
+abbrev pub put_back : Archive → SavedArchive → Archive
+put_back archive old =
+    record archive { parts = old.parts; rows = old.rows ++ take (length archive.rows - length old.rows) archive.rows }
+
+abbrev pub put_back_each : List Archive → List SavedArchive → List Archive
+put_back_each [] olds = []
+put_back_each (archive ∷ archives) [] = archive ∷ archives
+put_back_each (archive ∷ archives) (old ∷ olds) = put_back archive old ∷ put_back_each archives olds
+
+abbrev pub with_source : Content → SourceBefore → Content
+with_source now old =
+    record now { sources = slice_set now.sources old.number old.source; raws = slice_set now.raws old.number old.raw }
+
+abbrev pub with_rows_at : List Archive → ℕ → List (List Cell) → List Archive
+with_rows_at [] index rows = []
+with_rows_at (archive ∷ archives) zero rows =
+    record archive { def = record archive.def { rows = length rows }; rows = rows } ∷ archives
+with_rows_at (archive ∷ archives) (suc index) rows = archive ∷ with_rows_at archives index rows
+
+abbrev pub undone : Content → Entry → Content
+undone now (UpdateEntry old) =
+    record now {
+      last = old.last;
+      raws = old.raws;
+      parts = old.parts;
+      archives = put_back_each now.archives old.archives;
+    }
+undone now (TuneEntry olds) = fold with_source now olds
+undone now (ResizeEntry archive rows) = record now { archives = with_rows_at now.archives archive rows }
+
+-- ---- the law
+
+-- what undoing needs of a content: its archives have their rows, and there is a raw value per source
+pub record IsSound (base : Content) : Type 0 where
+  pub is_base : IsBase base
+  pub one_raw_each : length base.raws ≡ length base.sources

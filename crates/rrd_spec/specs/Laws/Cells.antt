@@ -1,0 +1,60 @@
+-- Law: what an archive shows, by time, by list and by age.
+use Rattle.std.specs.Prelude.{◌≡◌, ◌++◌, ℕ, ◌+◌, ◌-◌, ◌/◌, List, length, take, map, if◌then◌else◌, ℤ, nat_lt, Some, slice_index_or, ◌<◌, ◌≤◌, min, pos, slice_get}
+use Rattle.std.specs.List.{range_with_len}
+use Rattle.rrd_spec.specs.History.{Content, Archive, Event, moment_of, IsHistory, IsBase, Reading, Sampled, IsArchive}
+use Rattle.rrd_spec.specs.Commands.{events}
+use Rattle.rrd_fixed.specs.declared.cell.Cell.{Cell}
+use Rattle.std.specs.Int.{int_rem_euclid}
+use Rattle.rrd_spec.specs.Settings.{resolution}
+use Rattle.rrd_spec.specs.History.Steps.{steps_of, rows_of, row, step as step_numbered}
+use Rattle.rrd_spec.specs.Laws.Listed.{content_listed, keep_last, filled_up, kept_rows}
+use Rattle.rrd_spec.specs.History.Cells.{row_at, cell_at, cell, content, row_by_time}
+
+-- the content's rows by list and by time are the same
+abbrev pub IsListed : Content → List Event → Type 0
+IsListed base events =
+    IsBase base → IsHistory (moment_of base) events → content_listed base events ≡ content base events
+
+-- a time at which rows of this resolution end
+abbrev pub IsMultiple : ℤ → ℕ → Type 0
+IsMultiple time size = int_rem_euclid time (pos size) ≡ pos 0
+
+-- each archive of a history's content shows at each such time the row of that time
+abbrev pub ShowsByTime : Content → List Event → Type 0
+ShowsByTime base events =
+    IsBase base → IsHistory (moment_of base) events →
+    (index : ℕ) (archive shown : Archive) → slice_get base.archives index ≡ Some archive
+    → slice_get (content base events).archives index ≡ Some shown →
+    (time : ℤ) → IsMultiple time (resolution base.step archive.def)
+    → row_at (content base events) shown time ≡ row_by_time base index archive events time
+
+-- so the content shows in each cell the one of that time
+abbrev pub ShowsCells : Content → List Event → Type 0
+ShowsCells base events =
+    IsBase base → IsHistory (moment_of base) events →
+    (index : ℕ) (archive : Archive) → slice_get base.archives index ≡ Some archive →
+    (time : ℤ) (source : ℕ) → IsMultiple time (resolution base.step archive.def)
+    → cell_at (content base events) index time source ≡ cell base index archive events time source
+
+-- the steps and rows of a history, each by itself
+pub record ListsByNumber (base : Content) (archive : Archive) (events : List Event) : Type 0 where
+  pub steps_are : steps_of base events
+      ≡ map (step_numbered base events) (range_with_len (base.last / base.step) (length (steps_of base events)))
+  pub rows_are : rows_of base archive events
+      ≡ map (row base archive events)
+      (range_with_len (base.last / base.step / archive.def.steps) (length (rows_of base archive events)))
+
+-- the rows from before an update: the oldest of them, as many as the update finished, then those that it left
+abbrev pub RowsComeBack : Content → ℕ → Archive → List Reading → Type 0
+RowsComeBack base index archive samples =
+    let f = length (rows_of base archive (map Sampled samples)) in let r = length archive.rows in IsArchive archive
+    → take (min f r) archive.rows ++ take (r - min f r) (kept_rows base index archive (map Sampled samples))
+    ≡ archive.rows
+
+-- of the rows there ever were, the archive shows those that have had a place at every moment; a row is told by its
+-- age, 0 for the newest
+abbrev pub ShowsByAge : ℕ → ℕ → List (List Cell) → List Cell → Type 0
+ShowsByAge rows lasting all unknown =
+    (age : ℕ) → age < rows → lasting ≤ length all → lasting ≤ rows
+    → slice_index_or (filled_up rows unknown (keep_last lasting all)) (rows - 1 - age) unknown
+    ≡ (if nat_lt age lasting then slice_index_or all (length all - 1 - age) unknown else unknown)

@@ -1,0 +1,79 @@
+-- Law: what an accepted command changes of a content, and what it keeps.
+use Rattle.std.specs.Prelude.{◌≡◌, ◌++◌, ℕ, ◌+◌, ◌-◌, List, length, map, false, None, ◌∷◌, slice_index_or, ◌<◌, ◌≤◌, replicate, reverse}
+use Rattle.std.specs.List.{AllByRecursion}
+use Rattle.rrd_spec.specs.Limits.{version_one}
+use Rattle.rrd_spec.specs.History.{Content, IsBase, raws_under}
+use Rattle.rrd_spec.specs.Commands.{Command, moved, content_of, Resizing, TuningBy, raw_of, rows_changed, rows_of_archives, tuned}
+use Rattle.rrd_fixed.specs.declared.cell.Cell.{Cell}
+use Rattle.rrd_spec.specs.Commands.Verdict.{verdict, Check, checks}
+use Rattle.rrd_spec.specs.Journal.Entries.{IsSound, rows_at, with_rows_at}
+use Rattle.rrd_spec.specs.Journal.Survivors.{AllAccepted, survived}
+use Rattle.rrd_spec.specs.Laws.Listed.{keep_last, filled_up, moved_listed}
+use Rattle.rrd_spec.specs.Validity.{IsValid, AreAccepted}
+use Rattle.rrd_spec.specs.declared.requests.resize.Change.{Change}
+use Rattle.rrd_spec.specs.declared.settings.DsDef.{DsDef}
+use Rattle.rrd_spec.specs.declared.requests.tune.Tuning.{Tuning}
+use Rattle.rrd_spec.specs.declared.requests.update.Given.{Given}
+
+abbrev pub Passes : Check → Type 0
+Passes check = check.wrong ≡ false
+
+-- a command that is accepted passes each check
+abbrev pub PassesAll : Content → Command → Type 0
+PassesAll base command = verdict base command ≡ None → AllByRecursion Passes (checks version_one base command)
+
+-- each source accepts the raw value that it keeps of what is given
+abbrev pub AreKept : (DsDef → Given) → List DsDef → Type 0
+AreKept given sources = AreAccepted sources (map (λ (source : DsDef). raw_of source.kind (given source)) sources)
+
+-- an accepted command makes the same content by list and by time
+abbrev pub MovesListed : Content → Command → Type 0
+MovesListed base command = IsValid base → verdict base command ≡ None → moved_listed base command ≡ moved base command
+
+-- one command more is one move more
+abbrev pub Moves : Content → List Command → Command → Type 0
+Moves base commands command =
+    IsSound base → AllAccepted base (command ∷ commands)
+    → survived base (command ∷ commands) ≡ moved (survived base commands) command
+
+-- on the content that accepted commands leave, further commands make the content of all of them
+abbrev pub CommandsGoOn : Content → List Command → List Command → Type 0
+CommandsGoOn base first second =
+    IsSound base → AllAccepted base (reverse (first ++ second))
+    → content_of base (first ++ second) ≡ content_of (content_of base first) second
+
+-- a tune gives the sources their new settings, and makes the raw values of those unknown that get another type; all
+-- else stays
+abbrev pub TuneChanges : Content → Tuning → Type 0
+TuneChanges base tuning =
+    let sources = map (tuned tuning) base.sources in
+    IsBase base → moved base (TuningBy tuning)
+    ≡ record base { sources = sources; raws = raws_under base.sources sources base.raws }
+
+-- how many rows an archive has after a resize
+abbrev pub rows_then : Content → ℕ → Change → ℕ → ℕ
+rows_then base archive change rows =
+    rows_changed change (slice_index_or (rows_of_archives base.archives) archive 0) rows
+
+-- an accepted resize asks for a number of rows that can be, of an archive that is there, and leaves it one that can be
+pub record IsResize (base : Content) (archive : ℕ) (change : Change) (rows : ℕ) : Type 0 where
+  pub there : archive < length base.archives
+  pub few_asked : rows ≤ 1000000
+  pub some_then : 0 < rows_then base archive change rows
+  pub few_then : rows_then base archive change rows ≤ 1000000
+
+abbrev pub ResizeFits : Content → ℕ → Change → ℕ → Type 0
+ResizeFits base archive change rows =
+    IsValid base → verdict base (Resizing archive change rows) ≡ None → IsResize base archive change rows
+
+-- the newest rows of an archive, so many of them, after unknown ones where they are too few
+abbrev pub newest_of : Content → ℕ → ℕ → List (List Cell)
+newest_of base archive n =
+    filled_up n (replicate (length base.sources) Cell.Unknown) (keep_last n (rows_at base.archives archive))
+
+-- an accepted resize leaves its archive the newest rows; all else stays
+abbrev pub ResizeChanges : Content → ℕ → Change → ℕ → Type 0
+ResizeChanges base archive change rows =
+    let newest = newest_of base archive (rows_then base archive change rows) in
+    IsValid base → verdict base (Resizing archive change rows) ≡ None → moved base (Resizing archive change rows)
+    ≡ record base { archives = with_rows_at base.archives archive newest }

@@ -1,0 +1,78 @@
+-- Law: what reverts bring back, and what any run leaves: the survivors' content, and a journal that stands.
+use Rattle.std.specs.Prelude.{◌≡◌, ◌-◌, List, length, take, None, [], ◌∷◌, ◌≤◌}
+use Rattle.std.specs.List.{fold}
+use Rattle.rrd_spec.specs.History.{Content}
+use Rattle.rrd_spec.specs.Commands.{Command, moved}
+use Rattle.rrd_spec.specs.Commands.Verdict.{verdict}
+use Rattle.rrd_spec.specs.Journal.Entries.{Entry, entry, undone, IsSound}
+use Rattle.rrd_spec.specs.Journal.Survivors.{Action, changed, reverted, stored_after, after, Stands, State, Stored, AllUndo}
+use Rattle.rrd_spec.specs.History.Cells.{content}
+use Rattle.rrd_spec.specs.Validity.{IsValid, IsValidDatabase, Fits}
+
+-- the entry of an accepted command fits the content after it
+abbrev pub EntryFits : Content → Command → Type 0
+EntryFits base command = IsValid base → verdict base command ≡ None → Fits (moved base command) (entry base command)
+
+-- an accepted command is undone by its entry
+abbrev pub ComesBack : Content → Command → Type 0
+ComesBack base command =
+    IsSound base → verdict base command ≡ None → undone (moved base command) (entry base command) ≡ base
+
+-- so does it with the journal, a full one dropping its oldest entry
+abbrev pub DatabaseStays : Content → List Entry → Command → Type 0
+DatabaseStays now journal command =
+    IsValidDatabase now journal
+    → verdict now command ≡ None
+    → IsValidDatabase (moved now command) (take now.depth (entry now command ∷ journal))
+
+-- so does a revert, which leaves an empty journal as it is
+abbrev pub RevertStays : Content → List Entry → Type 0
+RevertStays now journal =
+    let stored = reverted now journal in IsValidDatabase now journal → IsValidDatabase stored.content stored.journal
+
+-- a revert takes an accepted command back: the content and the journal are as before it, but for the oldest entry of a
+-- full journal
+abbrev pub RevertTakesBack : Content → List Entry → Command → Type 0
+RevertTakesBack now journal command =
+    let stored = changed (record { content = now; journal = journal }) command in
+    IsValidDatabase now journal
+    → verdict now command ≡ None
+    → reverted stored.content stored.journal ≡ record { content = now; journal = take (now.depth - 1) journal }
+
+-- a valid database stands for the state that begins with it: nothing survives on its content yet, and its journal is
+-- brought along
+abbrev pub Begins : Content → List Entry → Type 0
+Begins base brought =
+    IsValidDatabase base brought
+    → Stands (record { base = base; brought = brought; survivors = []; revertible = 0 }) (record {
+      content = base;
+      journal = brought;
+    })
+
+-- one action leads from a database that stands for a state to one that stands for the state after it
+abbrev pub ActsOn : State → Stored → Action → Type 0
+ActsOn state kept action = Stands state kept → Stands (after state action) (stored_after kept action)
+
+-- after any list of actions the database is what the survivors make, and its journal their entries
+abbrev pub RunsAgree : Content → List Entry → List Action → Type 0
+RunsAgree base brought actions =
+    IsSound base → AllUndo base brought → length brought ≤ base.depth
+    → Stands (fold after (record {
+      base = base;
+      brought = brought;
+      survivors = [];
+      revertible = 0;
+    }) actions) (fold stored_after (record { content = base; journal = brought }) actions)
+
+-- a run from a valid database keeps to the definition of the survivors, and stays valid
+pub record RunStays (base : Content) (brought : List Entry) (actions : List Action) : Type 0 where
+  pub stands :
+      let stored = fold stored_after (record { content = base; journal = brought }) actions in
+      Stands
+      (fold after (record { base = base; brought = brought; survivors = []; revertible = 0 }) actions) stored
+  pub valid :
+      let stored = fold stored_after (record { content = base; journal = brought }) actions in
+      IsValidDatabase stored.content stored.journal
+
+abbrev pub RunsStay : Content → List Entry → List Action → Type 0
+RunsStay base brought actions = IsValidDatabase base brought → RunStays base brought actions

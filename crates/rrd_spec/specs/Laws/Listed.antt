@@ -1,0 +1,65 @@
+-- Law: the content of a history with its rows as the list of those that are kept, which proofs go by. `content` in
+-- History/Cells says each row by its time, and is the definition; `IsListed` in Laws says that both are the same.
+use Rattle.std.specs.Prelude.{ℕ, ◌+◌, ◌-◌, ◌/◌, min, List, [], ◌∷◌, ◌++◌, map, length, drop, replicate}
+use Rattle.std.specs.List.{enumerate_from}
+use Rattle.rrd_fixed.specs.declared.cell.Cell.{Cell}
+use Rattle.rrd_spec.specs.Settings.{resolution}
+use Rattle.rrd_spec.specs.History.{Archive, Content}
+use Rattle.rrd_spec.specs.History.{Event, rows_after}
+use Rattle.rrd_spec.specs.History.Steps.{parts_of}
+use Rattle.rrd_spec.specs.History.Steps.{row_parts_of}
+use Rattle.rrd_spec.specs.History.Steps.{rows_of}
+use Rattle.rrd_spec.specs.Commands.{Command}
+use Rattle.rrd_spec.specs.History.{Moment}
+use Rattle.rrd_spec.specs.Commands.{events}
+use Rattle.rrd_spec.specs.History.{moment_after}
+use Rattle.rrd_spec.specs.History.{moment_at_end}
+use Rattle.rrd_spec.specs.History.{moment_of}
+use Rattle.rrd_spec.specs.History.{rows_at_end}
+use Rattle.rrd_spec.specs.Commands.{settings_of}
+
+-- the newest items, so many of them
+abbrev pub keep_last : {A : Type 0} → ℕ → List A → List A
+keep_last n xs = drop (length xs - n) xs
+
+-- how many of the newest rows have had a place at every moment from the first to the last. `since` says how many rows
+-- ended after a time
+abbrev pub rows_never_lost : ℕ → (ℕ → ℕ) → ℕ → Moment → List Event → ℕ
+rows_never_lost index since rows now [] = rows + since now.last
+rows_never_lost index since rows now (event ∷ events) =
+    min (rows + since now.last)
+    (rows_never_lost index since (rows_after index rows event) (moment_after now event) events)
+
+-- the items, with unknown ones before them where they are too few
+abbrev pub filled_up : {A : Type 0} → ℕ → A → List A → List A
+filled_up n unknown items = replicate (n - length items) unknown ++ items
+
+-- the base's rows and those that ended since, as far as they have always had a place (rrdcreate, "RRA"; rrdresize)
+unfoldable pub kept_rows : Content → ℕ → Archive → List Event → List (List Cell)
+kept_rows base index archive events =
+    let size = resolution base.step archive.def in
+    let since = λ (time : ℕ). (moment_at_end base events).last / size - time / size in
+    filled_up (rows_at_end index archive.def.rows events) (replicate (length base.sources) Cell.Unknown)
+    (keep_last (rows_never_lost index since archive.def.rows (moment_of base) events)
+    (archive.rows ++ rows_of base archive events))
+
+abbrev pub archive_of : Content → List Event → ℕ × Archive → Archive
+archive_of base events (index, archive) = record {
+  def = record archive.def { rows = rows_at_end index archive.def.rows events };
+  parts = row_parts_of base archive events;
+  rows = kept_rows base index archive events;
+}
+
+-- the content that the events make of a base
+unfoldable pub content_listed : Content → List Event → Content
+content_listed base events = record base {
+  sources = (moment_at_end base events).sources;
+  last = (moment_at_end base events).last;
+  raws = (moment_at_end base events).raws;
+  parts = parts_of base events;
+  archives = map (archive_of base events) (enumerate_from 0 base.archives);
+}
+
+-- the same, its rows being the list of those that are kept
+abbrev pub moved_listed : Content → Command → Content
+moved_listed base command = content_listed base (events (settings_of base) command)

@@ -1,0 +1,88 @@
+-- Law: which entries may stand in a journal, judged by outlines alone.
+use Rattle.std.specs.Prelude.{◌≡◌, ℕ, List, [], ◌∷◌, ◌++◌, length}
+use Rattle.std.specs.List.{fold}
+use Rattle.rrd_spec.specs.declared.outline.Outline.{Outline}
+use Rattle.rrd_spec.specs.Limits.{Limits}
+use Rattle.rrd_spec.specs.History.{Content}
+use Rattle.rrd_spec.specs.Journal.Entries.{Entry, undone}
+use Rattle.rrd_spec.specs.Journal.Survivors.{Stored}
+use Rattle.rrd_spec.specs.Validity.{Fits, IsValidJournalWithin, IsValidWithin}
+use Rattle.rrd_spec.specs.Files.Filed.{Version, filed}
+use Rattle.rrd_spec.specs.Journal.Outlines.{MayUndo, outline_of, outline_undone}
+use Rattle.rrd_spec.specs.Files.Rebuilding.{outline_filed}
+
+-- ---- outlines of contents
+
+-- undoing an entry keeps the seconds in a step, and changes the outline by the entry alone; so does undoing many
+pub record OutlineFollows (now : Content) (journal : List Entry) : Type 0 where
+  pub step_stays : (fold undone now journal).step ≡ now.step
+  pub outline_is : outline_of (fold undone now journal) ≡ fold outline_undone (outline_of now) journal
+
+-- the lists of a database say its content's outline
+abbrev pub FiledOutline : Version → Stored → Type 0
+FiledOutline version d =
+    length d.content.raws ≡ length d.content.sources → length d.content.parts ≡ length d.content.sources
+    → outline_filed (filed version d) ≡ outline_of d.content
+
+-- ---- one entry
+
+-- an entry that the outline of a valid content lets through fits it, and undoing it leaves a valid one
+abbrev pub OutlineSuffices : Limits → Content → Entry → Type 0
+OutlineSuffices limits now entry =
+    IsValidWithin limits now → MayUndo limits now.step (outline_of now) entry
+    → Fits now entry × IsValidWithin limits (undone now entry)
+
+-- the outline lets through each entry that fits and leaves a valid content
+abbrev pub OutlineIsNeeded : Limits → Content → Entry → Type 0
+OutlineIsNeeded limits now entry =
+    IsValidWithin limits now → Fits now entry → IsValidWithin limits (undone now entry)
+    → MayUndo limits now.step (outline_of now) entry
+
+-- ---- journals
+
+-- once a valid content's whole journal is undone the content is valid
+abbrev pub JournalLeavesValid : Limits → Content → List Entry → Type 0
+JournalLeavesValid limits now journal =
+    IsValidWithin limits now → IsValidJournalWithin limits now journal → IsValidWithin limits (fold undone now journal)
+
+-- older entries are a journal of the content that the newer ones leave
+abbrev pub JournalsJoin : Limits → Content → List Entry → List Entry → Type 0
+JournalsJoin limits now newer older =
+    IsValidJournalWithin limits now newer → IsValidJournalWithin limits (fold undone now newer) older
+    → IsValidJournalWithin limits now (newer ++ older)
+
+abbrev pub JournalParts : Limits → Content → List Entry → List Entry → Type 0
+JournalParts limits now newer older =
+    IsValidJournalWithin limits now (newer ++ older)
+    → IsValidJournalWithin limits now newer × IsValidJournalWithin limits (fold undone now newer) older
+
+-- a journal takes one more entry, older than all, if the outline that is left lets it through
+abbrev pub JournalTakes : Limits → Content → List Entry → Entry → Type 0
+JournalTakes limits now journal entry =
+    IsValidWithin limits now → IsValidJournalWithin limits now journal
+    → MayUndo limits now.step (fold outline_undone (outline_of now) journal) entry
+    → IsValidJournalWithin limits now (journal ++ entry ∷ [])
+
+-- and only then
+abbrev pub JournalTook : Limits → Content → List Entry → Entry → Type 0
+JournalTook limits now journal entry =
+    IsValidWithin limits now → IsValidJournalWithin limits now (journal ++ entry ∷ [])
+    → IsValidJournalWithin limits now journal
+    × MayUndo limits now.step (fold outline_undone (outline_of now) journal) entry
+
+-- the entries that outlines let through one after another, newest first
+abbrev pub MayUndoEach : Limits → ℕ → Outline → List Entry → Type 0
+MayUndoEach limits step now [] = Unit {0}
+MayUndoEach limits step now (entry ∷ journal) =
+    MayUndo limits step now entry × MayUndoEach limits step (outline_undone now entry) journal
+
+-- they are a journal of a valid content, and so is no other list
+abbrev pub OutlinesSuffice : Limits → Content → List Entry → Type 0
+OutlinesSuffice limits now journal =
+    IsValidWithin limits now → MayUndoEach limits now.step (outline_of now) journal
+    → IsValidJournalWithin limits now journal
+
+abbrev pub OutlinesAreNeeded : Limits → Content → List Entry → Type 0
+OutlinesAreNeeded limits now journal =
+    IsValidWithin limits now → IsValidJournalWithin limits now journal
+    → MayUndoEach limits now.step (outline_of now) journal

@@ -1,0 +1,39 @@
+-- Law: what is made of something valid is valid.
+use Rattle.std.specs.Prelude.{◌≡◌, ℕ, ◌+◌, ◌-◌, List, length, None, ◌≤◌}
+use Rattle.std.specs.List.{AllByRecursion}
+use Rattle.rrd_spec.specs.History.{Content, Archive}
+use Rattle.rrd_spec.specs.Commands.{Command, moved}
+use Rattle.rrd_fixed.specs.declared.cell.Cell.{Cell}
+use Rattle.rrd_spec.specs.Commands.Verdict.{verdict}
+use Rattle.rrd_spec.specs.History.Steps.{row}
+use Rattle.rrd_spec.specs.declared.requests.create.CreateSpec.{CreateSpec}
+use Rattle.rrd_spec.specs.Validity.{IsValid, AreParts, IsRow, IsValidArchive}
+use Rattle.rrd_spec.specs.Commands.Creating.{create_verdict, created}
+use Rattle.rrd_fold.specs.declared.function.Function.{Function}
+use Rattle.rrd_fold.specs.Parts.{Part, with_each}
+use Rattle.rrd_spec.specs.Laws.Passing.{archive_passed, passed}
+
+-- a database that isn't refused is valid
+abbrev pub CreatedIsValid : CreateSpec → Type 0
+CreatedIsValid spec = create_verdict spec ≡ None → IsValid (created spec)
+
+-- an accepted command moves a valid content to a valid one
+abbrev pub StaysValid : Content → Command → Type 0
+StaysValid base command = IsValid base → verdict base command ≡ None → IsValid (moved base command)
+
+-- what seconds leave of a valid content is valid, and what steps leave of a valid archive
+abbrev pub StaysValidFor : Content → List (List Cell) → Type 0
+StaysValidFor base seconds =
+    IsValid base → AllByRecursion (IsRow (length base.sources)) seconds → base.last + length seconds ≤ 9999999999
+    → IsValid (passed base seconds)
+
+abbrev pub ArchiveStaysValid : ℕ → ℕ → List (List Cell) → Archive → Type 0
+ArchiveStaysValid sources before steps archive =
+    IsValidArchive sources before archive → AllByRecursion (IsRow sources) steps
+    → IsValidArchive sources (before + length steps) (archive_passed sources before steps archive)
+
+-- parts of no cell are parts, and so are parts with one cell more each
+abbrev pub PartsGrow : Function → ℕ → ℕ → List Part → List Cell → Type 0
+PartsGrow function sources n parts row =
+    AreParts function sources n parts → IsRow sources row
+    → AreParts function sources (n + 1) (with_each function parts row)

@@ -1,0 +1,13 @@
+//! What commands ask of a database, and what some of them answer.
+
+mod create;
+mod fetch;
+mod resize;
+mod tune;
+mod update;
+
+pub use create::CreateSpec;
+pub use fetch::{Candidate, Chosen, Request};
+pub use resize::Change;
+pub use tune::Tuning;
+pub use update::{Given, Receipt, Sample, Update};

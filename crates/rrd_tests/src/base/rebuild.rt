@@ -1,0 +1,171 @@
+//! Databases from the pieces of their files, and pieces that are bad.
+use crate::file::bytes::{file_of, sampled_file};
+use crate::shared::databases::NONE;
+use arrayvec::ArrayVec;
+use rrd_base::{
+    BeforeUpdate, Database, DsDef, Due, Entry, PieceFault, Rebuild, RraDef, SavedArchive,
+    SourceBefore,
+};
+use rrd_fixed::{Cell, Kind, Name, Raw};
+use rrd_fold::{Function, RowPrep, StepPrep};
+use rrd_ring::Dropped;
+use std::alloc::Global;
+use std::process::Abort;
+use std::test::Fail;
+
+const ONE: Cell = Cell::Known(1_000_000);
+
+const BAD: Result<(), PieceFault> = Err(PieceFault::Bad);
+
+fn gauge(name: &[u8], heartbeat: u64) -> Result<DsDef, &'static str> {
+    Ok(DsDef {
+        name: Name::fit(name).ok_or("no name")?,
+        kind: Kind::Gauge,
+        heartbeat,
+        min: None,
+        max: None,
+    })
+}
+
+// An archive of last values.
+fn archive(steps: u64, rows: u64) -> RraDef {
+    RraDef {
+        function: Function::Last,
+        xff: 500_000,
+        steps,
+        rows,
+    }
+}
+
+// A piece that must be taken.
+fn taken(taking: Result<(), PieceFault>) -> Result<(), Fail> {
+    taking.map_err(|_| Fail::from("not taken"))
+}
+
+fn begun(alloc: Global, sources: u64, entries: u64) -> Result<Rebuild, Fail> {
+    Rebuild::begin(alloc, 10, 10, 16, sources, 1, entries).map_err(|_| Fail::from("not begun"))
+}
+
+// The gauge `g` and an archive of four last values, after a sample of 1 at 10: what a file says of it
+// before its cells.
+fn with_heads(alloc: Global) -> Result<Rebuild, Fail> {
+    let mut pieces = begun(alloc, 1, 1)?;
+    let g = gauge(b"g", 100)?;
+    taken(pieces.source(g, Raw::Known(1_000_000), 0, 0))?;
+    taken(pieces.archive(archive(1, 4)))?;
+    taken(pieces.prep(0, 0))?;
+    Ok(pieces)
+}
+
+// The same with its cells: the row at 10 stands in the slot 1.
+fn with_cells(alloc: Global) -> Result<Rebuild, Fail> {
+    let mut pieces = with_heads(alloc)?;
+    for cell in [NONE, ONE, NONE, NONE] {
+        taken(pieces.cell(cell))?;
+    }
+    Ok(pieces)
+}
+
+// What was before the sample, the last time being this one: of the archive one row fell out.
+fn before(alloc: Global, last: u64) -> Result<Entry, Fail> {
+    let preps = vec![in alloc; RowPrep::new(Function::Last); 1]?;
+    let saved = SavedArchive::new(Function::Last, preps, Dropped::new(alloc, 1, 1)?);
+    let mut archives = Vec::new(alloc);
+    archives.push(saved)?;
+    Ok(Entry::Update(BeforeUpdate {
+        last,
+        raws: vec![in alloc; Raw::Unknown; 1]?,
+        preps: vec![in alloc; StepPrep::new(); 1]?,
+        archives,
+    }))
+}
+
+// The database of all pieces.
+fn finished(rt: &impl Abort, pieces: Rebuild) -> Database {
+    let Due::NothingDue = pieces.due() else {
+        panic!(rt; "a piece is due")
+    };
+    pieces.finish()
+}
+
+#[test]
+fn a_file_made_again_by_its_pieces(rt: HostRuntime) -> Result<(), Fail> {
+    let alloc = rt.alloc();
+    let mut pieces = with_cells(alloc)?;
+    taken(pieces.entry(before(alloc, 0)?))?;
+    assert_eq!(&rt; pieces.undone().last, 0);
+    let database = finished(&rt, pieces);
+    let file = file_of(alloc, &database)?;
+    assert_eq!(&rt; file.as_slice(), sampled_file(alloc)?.as_slice());
+    Ok(())
+}
+
+#[test]
+fn bad_headers(rt: HostRuntime) -> Result<(), Fail> {
+    let alloc = rt.alloc();
+    for (step, depth, sources, entries) in [(0, 16, 1, 1), (10, 16, 65, 1), (10, 16, 1, 17)] {
+        let made = Rebuild::begin(alloc, step, 10, depth, sources, 1, entries);
+        let Err(fault) = made else {
+            return Err(Fail::from("begun"));
+        };
+        assert_eq!(&rt; fault, PieceFault::Bad);
+    }
+    Ok(())
+}
+
+// A name twice, and rows for more than 4,000,000 cells of 64 sources.
+#[test]
+fn bad_sources_and_archives(rt: HostRuntime) -> Result<(), Fail> {
+    let alloc = rt.alloc();
+    let mut pieces = begun(alloc, 64, 0)?;
+    for number in 10..74u8 {
+        let name = [
+            b's',
+            b'0'.saturating_add(number / 10),
+            b'0'.saturating_add(number % 10),
+        ];
+        let def = gauge(&name, 1_000)?;
+        let again = def.duplicate();
+        taken(pieces.source(def, Raw::Unknown, 0, 0))?;
+        assert_eq!(&rt; pieces.source(again, Raw::Unknown, 0, 0), BAD);
+    }
+    assert_eq!(&rt; pieces.archive(archive(1, 62_501)), BAD);
+    assert_eq!(&rt; pieces.archive(archive(0, 1)), BAD);
+    Ok(())
+}
+
+// No step of the row in progress has passed, and there are four cells.
+#[test]
+fn bad_preparations_and_cells(rt: HostRuntime) -> Result<(), Fail> {
+    let alloc = rt.alloc();
+    let mut pieces = begun(alloc, 1, 1)?;
+    let g = gauge(b"g", 100)?;
+    taken(pieces.source(g, Raw::Known(1_000_000), 0, 0))?;
+    taken(pieces.archive(archive(1, 4)))?;
+    assert_eq!(&rt; pieces.cell(NONE), BAD);
+    assert_eq!(&rt; pieces.prep(1, 1_000_000), BAD);
+    let mut pieces = with_heads(alloc)?;
+    let past = Cell::Known(18_446_744_073_709_551_615_000_001);
+    assert_eq!(&rt; pieces.cell(past), BAD);
+    let mut pieces = with_cells(alloc)?;
+    assert_eq!(&rt; pieces.cell(NONE), BAD);
+    Ok(())
+}
+
+// An update that took no time, and a tune of a source that isn't there: the right one fits after them.
+#[test]
+fn bad_entries(rt: HostRuntime) -> Result<(), Fail> {
+    let alloc = rt.alloc();
+    let mut pieces = with_cells(alloc)?;
+    assert_eq!(&rt; pieces.entry(before(alloc, 10)?), BAD);
+    let mut olds = ArrayVec::new();
+    olds.push(SourceBefore {
+        number: 1,
+        source: gauge(b"h", 100)?,
+        raw: Raw::Unknown,
+    });
+    assert_eq!(&rt; pieces.entry(Entry::Tune(olds)), BAD);
+    taken(pieces.entry(before(alloc, 0)?))?;
+    assert_eq!(&rt; finished(&rt, pieces).undoable(), 1);
+    Ok(())
+}

@@ -1,0 +1,402 @@
+//! Files byte by byte, worked out by hand, and writers that fail.
+use crate::shared::databases::database_of;
+use crate::shared::joined;
+use crate::shared::streams::{Manner, PLAIN, Taker};
+use rrd_base::Database;
+use rrd_file::encode;
+use std::alloc::{AllocError, Global};
+use std::test::Fail;
+
+// ---- bytes
+
+// Sixteen bytes: what is unknown or absent, and numbers.
+const ABSENT: [u8; 16] = [0x80, 0, 0, 0, 0, 0, 0, 0, 0, 0, 0, 0, 0, 0, 0, 0];
+
+const ZERO: [u8; 16] = [0; 16];
+
+const MILLION: [u8; 16] = [0, 0, 0, 0, 0, 0, 0, 0, 0, 0, 0, 0, 0, 0x0f, 0x42, 0x40];
+
+const TWO_MILLION: [u8; 16] = [0, 0, 0, 0, 0, 0, 0, 0, 0, 0, 0, 0, 0, 0x1e, 0x84, 0x80];
+
+const TEN_MILLION: [u8; 16] = [0, 0, 0, 0, 0, 0, 0, 0, 0, 0, 0, 0, 0, 0x98, 0x96, 0x80];
+
+const MINUS_TWO_MILLION: [u8; 16] = [
+    0xff, 0xff, 0xff, 0xff, 0xff, 0xff, 0xff, 0xff, 0xff, 0xff, 0xff, 0xff, 0xff, 0xe1, 0x7b, 0x80,
+];
+
+const MINUS_TEN_MILLION: [u8; 16] = [
+    0xff, 0xff, 0xff, 0xff, 0xff, 0xff, 0xff, 0xff, 0xff, 0xff, 0xff, 0xff, 0xff, 0x67, 0x69, 0x80,
+];
+
+const FIFTY: [u8; 16] = [0, 0, 0, 0, 0, 0, 0, 0, 0, 0, 0, 0, 0, 0, 0, 0x32];
+
+const FOUR_AND_A_HALF_MILLION: [u8; 16] = [0, 0, 0, 0, 0, 0, 0, 0, 0, 0, 0, 0, 0, 0x44, 0xaa, 0x20];
+
+// What fills a name of one character up to twenty bytes.
+const PADDING: [u8; 18] = [0; 18];
+
+// An empty preparation: no known cell, and nothing that it comes to.
+const NOTHING: [u8; 20] = [0; 20];
+
+// The file of a database.
+pub(crate) fn file_of(alloc: Global, database: &Database) -> Result<Vec<u8>, Fail> {
+    let mut bytes = Vec::new(alloc);
+    if encode(database, &mut bytes).is_err() {
+        return Err(Fail::from("no file"));
+    }
+    Ok(bytes)
+}
+
+// The file of a new database with the gauge `g` and an archive of four rows.
+const NEW_FILE: &[&[u8]] = &[
+    b"RRDI", // mark
+    &[0x00, 0x01], // version
+    &[0x00, 0x00, 0x00, 0x0a], // step
+    &[0x00, 0, 0, 0, 0, 0, 0, 0x00], // last time
+    &[0x00, 0x10], // depth
+    &[0x00, 0x01], // sources
+    &[0x00, 0x01], // archives
+    &[0x00, 0x00], // entries
+    &[0x01, 0x67], // name
+    &PADDING, //
+    &[0x00], // type
+    &[0x00, 0, 0, 0, 0, 0, 0, 0x64], // heartbeat
+    &ABSENT, // min
+    &ABSENT, // max
+    &ABSENT, // last raw value
+    &[0x00, 0x00, 0x00, 0x00], // known seconds
+    &ZERO, // their sum
+    &[0x03], // function
+    &[0x00, 0x00, 0x00, 0x01], // steps
+    &[0x00, 0x07, 0xa1, 0x20], // xff
+    &[0x00, 0x00, 0x00, 0x04], // rows
+    &[0x00, 0x00, 0x00, 0x00], // known steps
+    &ZERO, // their value
+    &ABSENT, // slot 0
+    &ABSENT, // slot 1
+    &ABSENT, // slot 2
+    &ABSENT, // slot 3
+];
+
+pub(crate) fn new_file(alloc: Global) -> Result<Vec<u8>, AllocError> {
+    joined(alloc, NEW_FILE)
+}
+
+// The same after a sample of 1 at 10.
+const SAMPLED_FILE: &[&[u8]] = &[
+    b"RRDI", // mark
+    &[0x00, 0x01], // version
+    &[0x00, 0x00, 0x00, 0x0a], // step
+    &[0x00, 0, 0, 0, 0, 0, 0, 0x0a], // last time
+    &[0x00, 0x10], // depth
+    &[0x00, 0x01], // sources
+    &[0x00, 0x01], // archives
+    &[0x00, 0x01], // entries
+    &[0x01, 0x67], // name
+    &PADDING, //
+    &[0x00], // type
+    &[0x00, 0, 0, 0, 0, 0, 0, 0x64], // heartbeat
+    &ABSENT, // min
+    &ABSENT, // max
+    &MILLION, // last raw value
+    &[0x00, 0x00, 0x00, 0x00], // known seconds
+    &ZERO, // their sum
+    &[0x03], // function
+    &[0x00, 0x00, 0x00, 0x01], // steps
+    &[0x00, 0x07, 0xa1, 0x20], // xff
+    &[0x00, 0x00, 0x00, 0x04], // rows
+    &[0x00, 0x00, 0x00, 0x00], // known steps
+    &ZERO, // their value
+    &ABSENT, // slot 0
+    &MILLION, // slot 1: the row at 10
+    &ABSENT, // slot 2
+    &ABSENT, // slot 3
+    &[0x01], // entry: an update
+    &[0x00, 0, 0, 0, 0, 0, 0, 0x00], // last time before
+    &ABSENT, // last raw value before
+    &NOTHING, // preparation of the step before
+    &NOTHING, // preparation of the row before
+    &[0x00, 0x00, 0x00, 0x01], // one row
+    &ABSENT, // its cell
+];
+
+pub(crate) fn sampled_file(alloc: Global) -> Result<Vec<u8>, AllocError> {
+    joined(alloc, SAMPLED_FILE)
+}
+
+// Rows before 1970 in their slots.
+const ROWS_BEFORE_1970: &[&[u8]] = &[
+    b"RRDI",
+    &[0x00, 0x01],
+    &[0x00, 0x00, 0x00, 0x0a],
+    &[0x00, 0, 0, 0, 0, 0, 0, 0x23],
+    &[0x00, 0x02],
+    &[0x00, 0x02],
+    &[0x00, 0x02],
+    &[0x00, 0x01],
+    // the source a: five seconds of 2 are known
+    &[0x01, 0x61],
+    &PADDING,
+    &[0x00],
+    &[0x00, 0, 0, 0, 0, 0, 0, 0x64],
+    &ABSENT,
+    &ABSENT,
+    &TWO_MILLION,
+    &[0x00, 0x00, 0x00, 0x05],
+    &TEN_MILLION,
+    // the source b: five seconds of -2 are known
+    &[0x01, 0x62],
+    &PADDING,
+    &[0x02],
+    &[0x00, 0, 0, 0, 0, 0, 0, 0x64],
+    &MINUS_TEN_MILLION,
+    &FOUR_AND_A_HALF_MILLION,
+    &FIFTY,
+    &[0x00, 0x00, 0x00, 0x05],
+    &MINUS_TEN_MILLION,
+    // the head of the first archive, between rows
+    &[0x03],
+    &[0x00, 0x00, 0x00, 0x01],
+    &[0x00, 0x07, 0xa1, 0x20],
+    &[0x00, 0x00, 0x00, 0x06],
+    &NOTHING,
+    &NOTHING,
+    // of the second, with one step of the next row
+    &[0x02],
+    &[0x00, 0x00, 0x00, 0x02],
+    &[0x00, 0x07, 0xa1, 0x20],
+    &[0x00, 0x00, 0x00, 0x03],
+    &[0x00, 0x00, 0x00, 0x01],
+    &TWO_MILLION,
+    &[0x00, 0x00, 0x00, 0x01],
+    &MINUS_TWO_MILLION,
+    // slots 0 to 5: the rows at 0, 10, 20, 30, -20 and -10
+    &ABSENT,
+    &ABSENT,
+    &MILLION,
+    &ABSENT,
+    &TWO_MILLION,
+    &MINUS_TWO_MILLION,
+    &TWO_MILLION,
+    &MINUS_TWO_MILLION,
+    &ABSENT,
+    &ABSENT,
+    &ABSENT,
+    &ABSENT,
+    // slots 0 to 2: the rows at 0, 20 and -20
+    &ABSENT,
+    &ABSENT,
+    &TWO_MILLION,
+    &MINUS_TWO_MILLION,
+    &ABSENT,
+    &ABSENT,
+    // the entry: before the update nothing was known; three rows and one row fell out
+    &[0x01],
+    &[0x00, 0, 0, 0, 0, 0, 0, 0x00],
+    &ABSENT,
+    &NOTHING,
+    &ABSENT,
+    &NOTHING,
+    &NOTHING,
+    &NOTHING,
+    &[0x00, 0x00, 0x00, 0x03],
+    &ABSENT,
+    &ABSENT,
+    &ABSENT,
+    &ABSENT,
+    &ABSENT,
+    &ABSENT,
+    &NOTHING,
+    &NOTHING,
+    &[0x00, 0x00, 0x00, 0x01],
+    &ABSENT,
+    &ABSENT,
+];
+
+// Three entries, the newest first.
+const THREE_ENTRIES: &[&[u8]] = &[
+    b"RRDI",
+    &[0x00, 0x01],
+    &[0x00, 0x00, 0x00, 0x0a],
+    &[0x00, 0, 0, 0, 0, 0, 0, 0x0a],
+    &[0x00, 0x10],
+    &[0x00, 0x01],
+    &[0x00, 0x01],
+    &[0x00, 0x03],
+    // the source, as it was tuned
+    &[0x01, 0x67],
+    &PADDING,
+    &[0x00],
+    &[0x00, 0, 0, 0, 0, 0, 0, 0xc8],
+    &MINUS_TWO_MILLION,
+    &ABSENT,
+    &MILLION,
+    &NOTHING,
+    // the archive, with six rows
+    &[0x03],
+    &[0x00, 0x00, 0x00, 0x01],
+    &[0x00, 0x07, 0xa1, 0x20],
+    &[0x00, 0x00, 0x00, 0x06],
+    &NOTHING,
+    // slots 0 to 5: the rows at 0, 10, -40, -30, -20 and -10
+    &ABSENT,
+    &MILLION,
+    &ABSENT,
+    &ABSENT,
+    &ABSENT,
+    &ABSENT,
+    // the resize: archive 0 had four rows, those from -20 to 10
+    &[0x03],
+    &[0x00, 0x00],
+    &[0x00, 0x00, 0x00, 0x04],
+    &ABSENT,
+    &ABSENT,
+    &ABSENT,
+    &MILLION,
+    // the tune: one source, number 0, with its name, type, heartbeat, bounds and raw value
+    &[0x02],
+    &[0x00, 0x01],
+    &[0x00, 0x00],
+    &[0x01, 0x67],
+    &PADDING,
+    &[0x00],
+    &[0x00, 0, 0, 0, 0, 0, 0, 0x64],
+    &ABSENT,
+    &ABSENT,
+    &MILLION,
+    // the update
+    &[0x01],
+    &[0x00, 0, 0, 0, 0, 0, 0, 0x00],
+    &ABSENT,
+    &NOTHING,
+    &NOTHING,
+    &[0x00, 0x00, 0x00, 0x01],
+    &ABSENT,
+];
+
+// ---- databases
+
+// Steps of 10 seconds, the gauge `g` and an archive of four last values.
+const NEW: &str = "create --step 10 --start 0 DS:g:GAUGE:100:U:U RRA:LAST:0.5:1:4\n";
+
+pub(crate) const SAMPLED: &str = "create --step 10 --start 0 DS:g:GAUGE:100:U:U RRA:LAST:0.5:1:4\n\
+update 10:1\n";
+
+const TAKEN_BACK: &str = "create --step 10 --start 0 DS:g:GAUGE:100:U:U RRA:LAST:0.5:1:4\n\
+update 10:1\n\
+revert\n";
+
+// A sample of 1 at 10, a tune to a heartbeat of 200 and a least rate of -2, and two rows more.
+pub(crate) const THREE_CHANGES: &str =
+    "create --step 10 --start 0 DS:g:GAUGE:100:U:U RRA:LAST:0.5:1:4\n\
+update 10:1\n\
+tune --heartbeat g:200 --minimum g:-2\n\
+resize 0 GROW 2\n";
+
+// Two archives and two sources: a gauge, and one that counts up and down and has bounds.
+const TWO_SOURCES: &str = "create --step 10 --start 0 --journal 2 \
+DS:a:GAUGE:100:U:U DS:b:DERIVE:100:-10:4.5 RRA:LAST:0.5:1:6 RRA:MAX:0.5:2:3\n";
+
+// Samples at 10 (a 1, b 100) and at 35 (a 2, b 50). So b falls by 2 a second from 10 on. The rows at
+// -20 and -10 of the first archive stand in the slots 4 and 5, the row at -20 of the second in slot 2.
+const TWO_SOURCES_SAMPLED: &str = "create --step 10 --start 0 --journal 2 \
+DS:a:GAUGE:100:U:U DS:b:DERIVE:100:-10:4.5 RRA:LAST:0.5:1:6 RRA:MAX:0.5:2:3\n\
+update 10:1:100 35:2:50\n";
+
+// A long update, a renaming, a short update, and two rows less.
+pub(crate) const FOUR_CHANGES: &str = "create --step 10 --start 0 --journal 3 \
+DS:s00:GAUGE:1000:U:U DS:s01:GAUGE:1000:U:U RRA:AVERAGE:0.5:1:6 RRA:MIN:0.5:2:3\n\
+update 10:1:100 35:2:50 121:7:3\n\
+tune --heartbeat s01:300 --data-source-rename s00:first\n\
+update 144:9:4\n\
+resize 0 SHRINK 2\n";
+
+// A row of four steps, two of which have come.
+const HALF_A_ROW: &str = "create --step 10 --start 0 DS:g:GAUGE:100:U:U RRA:AVERAGE:0.5:4:3\n\
+update 20:1\n";
+
+// The lines of several databases.
+pub(crate) const DATABASES: &[&str] = &[NEW, SAMPLED, TWO_SOURCES, THREE_CHANGES, HALF_A_ROW];
+
+// ---- tests
+
+// Lines, the file of the database that they make, and how long that is.
+const FILES: &[(&str, &[&[u8]], usize)] = &[
+    (NEW, NEW_FILE, 220),
+    (SAMPLED, SAMPLED_FILE, 305),
+    (TAKEN_BACK, NEW_FILE, 220),
+    (TWO_SOURCES_SAMPLED, ROWS_BEFORE_1970, 911),
+    (THREE_CHANGES, THREE_ENTRIES, 490),
+];
+
+#[test]
+fn files_byte_by_byte(rt: HostRuntime) -> Result<(), Fail> {
+    let alloc = rt.alloc();
+    for (lines, parts, length) in FILES {
+        let wanted = joined(alloc, parts)?;
+        assert_eq!(&rt; wanted.len(), *length, "{lines}");
+        let file = file_of(alloc, &database_of(alloc, lines)?)?;
+        assert_eq!(&rt; file.as_slice(), wanted.as_slice(), "{lines}");
+    }
+    Ok(())
+}
+
+#[test]
+fn a_file_goes_behind_what_is_there(rt: HostRuntime) -> Result<(), Fail> {
+    let alloc = rt.alloc();
+    let database = database_of(alloc, NEW)?;
+    let new = new_file(alloc)?;
+    let wanted = joined(alloc, &[b"before", new.as_slice()])?;
+    let mut out = joined(alloc, &[b"before"])?;
+    assert!(&rt; encode(&database, &mut out).is_ok());
+    assert_eq!(&rt; out.as_slice(), wanted.as_slice());
+    Ok(())
+}
+
+// After how many bytes a writer fails, and whether a file of 220 is whole then.
+const ROOMS: &[(usize, bool)] = &[(100, false), (219, false), (220, true)];
+
+#[test]
+fn a_writer_that_fails_has_a_front(rt: HostRuntime) -> Result<(), Fail> {
+    let alloc = rt.alloc();
+    let database = database_of(alloc, NEW)?;
+    let new = new_file(alloc)?;
+    for (room, whole) in ROOMS {
+        let writing = Manner {
+            at_once: 7,
+            interrupts: 1,
+            room: *room,
+            ..PLAIN
+        };
+        let mut out = Taker::new(alloc, writing, PLAIN);
+        assert_eq!(&rt; encode(&database, &mut out).is_ok(), *whole);
+        assert_eq!(&rt; out.taken.as_slice(), new.get(..*room).ok_or("short")?);
+    }
+    Ok(())
+}
+
+// A thousand rows fill a block and more: 156 bytes before the cells, and 16 for each.
+#[test]
+fn a_long_file_goes_out_in_blocks(rt: HostRuntime) -> Result<(), Fail> {
+    let alloc = rt.alloc();
+    let lines = "create --step 10 --start 0 DS:g:GAUGE:100:U:U RRA:LAST:0.5:1:1000\n";
+    let database = database_of(alloc, lines)?;
+    let new = new_file(alloc)?;
+    let head = new.get(..132).ok_or("short")?;
+    let mut wanted = joined(alloc, &[head, &[0x00, 0x00, 0x03, 0xe8], &NOTHING])?;
+    for _ in 0..1_000 {
+        wanted.extend_from_slice(&ABSENT)?;
+    }
+    assert_eq!(&rt; wanted.len(), 16_156);
+    assert_eq!(&rt; file_of(alloc, &database)?.as_slice(), wanted.as_slice());
+    let writing = Manner {
+        at_once: 7,
+        interrupts: 1,
+        room: 10_000,
+        ..PLAIN
+    };
+    let mut out = Taker::new(alloc, writing, PLAIN);
+    assert!(&rt; encode(&database, &mut out).is_err());
+    assert_eq!(&rt; out.taken.as_slice(), wanted.get(..10_000).ok_or("short")?);
+    Ok(())
+}

@@ -1,0 +1,65 @@
+//! Databases that lines make, and their cells.
+ghost use Rattle.std.specs.Prelude.{◌≤◌};
+
+use super::words_of;
+use rrd_base::{Database, Receipt};
+use rrd_fixed::Cell;
+use rrd_tool::{Command, read_command, run_batch};
+use std::alloc::Global;
+use std::process::Abort;
+use std::test::Fail;
+
+pub(crate) const NONE: Cell = Cell::Unknown;
+
+// The command of a line.
+pub(crate) fn command_of(alloc: Global, line: &str) -> Result<Command, Fail> {
+    Ok(read_command(alloc, &words_of(alloc, line)?, 0)?)
+}
+
+// The database that the lines make.
+pub(crate) fn database_of(alloc: Global, lines: &str) -> Result<Database, Fail> {
+    let mut out = Vec::new(alloc);
+    let end = run_batch(alloc, None, 0, &mut lines.as_bytes(), &mut out);
+    Ok(end.database.ok_or("no database")?)
+}
+
+// Takes in the update of a line.
+pub(crate) fn updated(alloc: Global, database: &mut Database, line: &str) -> Result<Receipt, Fail> {
+    let Command::Update(update) = command_of(alloc, line)? else {
+        return Err(Fail::from("no update"));
+    };
+    Ok(database.update(alloc, &update)?)
+}
+
+// The cell of an archive's row at a time.
+pub(crate) fn cell(
+    rt: &impl Abort,
+    database: &Database,
+    number: u64,
+    time: i64,
+    source: u64,
+) -> Cell {
+    assert!(rt; number < database.archives());
+    assert!(rt; source < database.sources());
+    database.cell(number, time, source)
+}
+
+// The first archive's rows of the first source from a time on, `apart` seconds each, have these
+// values in millionths. The one before and the one after are unknown.
+pub(crate) fn assert_rows(
+    rt: &impl Abort,
+    database: &Database,
+    first: i64,
+    apart: i64,
+    rows: &[i128],
+) {
+    let mut time = first.saturating_sub(apart);
+    assert_eq!(rt; cell(rt, database, 0, time, 0), NONE, "at {time}");
+    for row in rows {
+        time = time.saturating_add(apart);
+        let shown = cell(rt, database, 0, time, 0);
+        assert_eq!(rt; shown, Cell::Known(*row), "at {time}");
+    }
+    time = time.saturating_add(apart);
+    assert_eq!(rt; cell(rt, database, 0, time, 0), NONE, "at {time}");
+}

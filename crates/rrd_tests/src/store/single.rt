@@ -1,0 +1,178 @@
+//! Single commands over a place in memory that may fail.
+use super::place::Shelf;
+use crate::file::bytes::{new_file, sampled_file};
+use crate::shared::streams::{Manner, PLAIN, Taker};
+use crate::shared::words_of;
+use rrd_file::FileFault;
+use rrd_store::{TaskFault, run_single};
+use rrd_tool::Fault;
+use std::alloc::Global;
+use std::process::Abort;
+use std::test::Fail;
+
+pub(super) const CREATE: &str = "create --step 10 --start 0 DS:g:GAUGE:100:U:U RRA:LAST:0.5:1:4";
+
+// A command, the text of its fault, what it prints, and how many bytes are there then.
+pub(super) type Step<'a> = (&'a str, &'a str, &'a str, usize);
+
+// Runs the words of the line at time 1,000. A fault leaves the bytes as they were.
+pub(super) fn assert_step(
+    rt: &impl Abort,
+    alloc: Global,
+    shelf: &mut Shelf,
+    step: &Step<'_>,
+) -> Result<(), Fail> {
+    let (line, fault, text, length) = step;
+    let before = shelf.held.clone()?;
+    let mut out = Vec::new(alloc);
+    let end = run_single(alloc, &words_of(alloc, line)?, 1_000, shelf, &mut out);
+    let told = match end {
+        Ok(()) => String::new(alloc),
+        Err(told) => format!(in alloc; "{told}")?,
+    };
+    assert_eq!(rt; told.as_str(), *fault, "{line}");
+    assert_eq!(rt; out.as_slice(), text.as_bytes(), "{line}");
+    assert_eq!(rt; shelf.held.len(), *length, "{line}");
+    let kept = fault.is_empty() || shelf.held.as_slice() == before.as_slice();
+    assert!(rt; kept, "{line}");
+    Ok(())
+}
+
+// From nothing to what all changes leave, which is then taken back.
+const OVER_NOTHING: &[Step<'_>] = &[
+    // A command finds no file, if its words can be read.
+    ("update 20", "unreadable sample 1", "", 0),
+    ("update 20:1", "cannot open", "", 0),
+    ("last", "cannot open", "", 0),
+    ("revert", "cannot open", "", 0),
+    (CREATE, "", "", 220),
+    ("update 10:1", "", "", 305),
+    ("last", "", "10\n", 305),
+    (
+        "fetch LAST -s 0 -e 19",
+        "",
+        "time: g\n10: 1.000000\n20: nan\n",
+        305,
+    ),
+    // What is refused writes nothing.
+    ("nothing", "usage", "", 305),
+    ("batch", "usage", "", 305),
+    ("last 1", "usage", "", 305),
+    ("revert --help", "usage", "", 305),
+    ("update 20", "unreadable sample 1", "", 305),
+    ("update", "no sample", "", 305),
+    ("update 5:1", "not later than 10", "", 305),
+    ("tune", "nothing to tune", "", 305),
+    ("resize 1 GROW 1", "no such archive", "", 305),
+    ("fetch MIN", "no archive for this function", "", 305),
+    ("create", "no data source", "", 305),
+    // An entry of a tune has 82 bytes; two cells more and the entry of a resize 103; an entry of an
+    // update that finishes six rows 165.
+    ("tune --minimum g:5", "", "", 387),
+    ("resize 0 GROW 2", "", "", 490),
+    ("update N:1", "", "", 655),
+    ("last", "", "1000\n", 655),
+    ("revert", "", "", 490),
+    ("revert", "", "", 387),
+    ("revert", "", "", 305),
+    ("revert", "", "", 220),
+    ("revert", "nothing to revert", "", 220),
+];
+
+#[test]
+fn commands_over_one_place(rt: HostRuntime) -> Result<(), Fail> {
+    let alloc = rt.alloc();
+    let mut shelf = Shelf::with(alloc, b"")?;
+    for step in OVER_NOTHING {
+        assert_step(&rt, alloc, &mut shelf, step)?;
+    }
+    assert_eq!(&rt; shelf.held.as_slice(), new_file(alloc)?.as_slice());
+    Ok(())
+}
+
+// Words come before the place.
+const OVER_OTHER_BYTES: &[Step<'_>] = &[
+    ("nothing", "usage", "", 11),
+    ("update 20", "unreadable sample 1", "", 11),
+    ("create --step 0", "bad step", "", 11),
+    ("update", "file: not ours", "", 11),
+    ("last", "file: not ours", "", 11),
+];
+
+#[test]
+fn commands_over_other_bytes(rt: HostRuntime) -> Result<(), Fail> {
+    let alloc = rt.alloc();
+    let mut shelf = Shelf::with(alloc, b"other bytes")?;
+    for step in OVER_OTHER_BYTES {
+        assert_step(&rt, alloc, &mut shelf, step)?;
+    }
+    // A create doesn't ask what is there.
+    shelf.opens = false;
+    assert_step(&rt, alloc, &mut shelf, &("last", "cannot open", "", 11))?;
+    assert_step(&rt, alloc, &mut shelf, &(CREATE, "", "", 220))?;
+    assert_eq!(&rt; shelf.held.as_slice(), new_file(alloc)?.as_slice());
+    Ok(())
+}
+
+#[test]
+fn a_place_that_is_not_emptied(rt: HostRuntime) -> Result<(), Fail> {
+    let alloc = rt.alloc();
+    let mut shelf = Shelf::with(alloc, &new_file(alloc)?)?;
+    shelf.empties = false;
+    assert_step(
+        &rt,
+        alloc,
+        &mut shelf,
+        &("update 10:1", "cannot write", "", 220),
+    )
+}
+
+// Wherever the write of a file breaks off, a front of the file is there, which is then refused.
+fn assert_breaks_off(
+    rt: &impl Abort,
+    alloc: Global,
+    line: &str,
+    old: &[u8],
+    new: &[u8],
+) -> Result<(), Fail> {
+    let words = words_of(alloc, line)?;
+    let last = words_of(alloc, "last")?;
+    for room in 1..new.len() {
+        let mut shelf = Shelf::with(alloc, old)?;
+        shelf.room = room;
+        let mut out = Vec::new(alloc);
+        let end = run_single(alloc, &words, 0, &mut shelf, &mut out);
+        assert_eq!(rt; end.err(), Some(TaskFault::CannotWrite), "{line} {room}");
+        assert_eq!(rt; shelf.held.as_slice(), new.get(..room).ok_or("short")?);
+        let at = room as u64;
+        let end = run_single(alloc, &last, 0, &mut shelf, &mut out);
+        let cut = TaskFault::File(FileFault::Truncated { at });
+        assert_eq!(rt; end.err(), Some(cut), "{line} {room}");
+    }
+    Ok(())
+}
+
+#[test]
+fn a_write_that_breaks_off(rt: HostRuntime) -> Result<(), Fail> {
+    let alloc = rt.alloc();
+    let new = new_file(alloc)?;
+    let sampled = sampled_file(alloc)?;
+    assert_breaks_off(&rt, alloc, CREATE, b"", &new)?;
+    assert_breaks_off(&rt, alloc, "update 10:1", &new, &sampled)
+}
+
+#[test]
+fn output_that_fails(rt: HostRuntime) -> Result<(), Fail> {
+    let alloc = rt.alloc();
+    let mut shelf = Shelf::with(alloc, &new_file(alloc)?)?;
+    let failed = Some(TaskFault::Command(Fault::Output));
+    let words = words_of(alloc, "last")?;
+    let mut full = Taker::new(alloc, Manner { room: 1, ..PLAIN }, PLAIN);
+    let end = run_single(alloc, &words, 0, &mut shelf, &mut full);
+    assert_eq!(&rt; end.err(), failed);
+    let mut stuck = Taker::new(alloc, PLAIN, Manner { room: 0, ..PLAIN });
+    let end = run_single(alloc, &words, 0, &mut shelf, &mut stuck);
+    assert_eq!(&rt; end.err(), failed);
+    assert_eq!(&rt; shelf.held.as_slice(), new_file(alloc)?.as_slice());
+    Ok(())
+}

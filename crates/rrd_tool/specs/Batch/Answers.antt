@@ -1,0 +1,81 @@
+-- Glue: what the functions of a batch say of the state, which no value holds.
+use Rattle.std.specs.Prelude.{◌≡◌, ◌++◌, [], ℕ, Bool, List, Option, Some, None, Result, Ok, Err}
+use Rattle.std.specs.Io.KnownBytes.{Appends, Keeps}
+use Rattle.rrd_fixed.specs.declared.streams.WriteFault.{WriteFault}
+use Rattle.rrd_spec.specs.Journal.Survivors.{State, Stored}
+use Rattle.rrd_tool.specs.Batch.{Turn, Ran, Stopped, Told}
+use Rattle.rrd_tool.specs.Effects.{StandsFor}
+use Rattle.rrd_tool.specs.Faults.{fault_line}
+use Rattle.rrd_tool.specs.Batch.Run.{command_turn, refusal_turn, turn, unless_short}
+use Rattle.rrd_tool.specs.declared.commands.Command.{Command}
+use Rattle.rrd_tool.specs.declared.faults.LineFault.{LineFault}
+use Rattle.rrd_tool.specs.declared.faults.Fault.{Fault}
+use Rattle.rrd_tool.specs.declared.faults.Fault.TheVariants.{Line}
+
+-- ---- one line
+
+-- a front of the text was written, or all of it
+abbrev pub AppendsSome : Option (List ℕ) → Option (List ℕ) → List ℕ → Type 0
+AppendsSome old new text =
+    (front : List ℕ) × (unwritten : List ℕ) × (text ≡ front ++ unwritten) × Appends old new front
+
+-- what a line came to that was no fault's
+abbrev pub passed : {S : Type 0} → S → List ℕ → Turn S
+passed state text = record { state = state; text = text; is_fault = Bool.false }
+
+-- what performing a line answers, whose turn depends on whether memory was wanting: its text is written, or a fault is
+-- answered and nothing written; where writing or handing on failed a front of the text is there
+abbrev pub Performs : {S F : Type 0} → (F → List ℕ) → (Bool → Turn S) → S → Option (List ℕ) → Option (List ℕ)
+    → Result (Option F) WriteFault → Type 0
+Performs fault_line turn state c0 c1 (Ok None) =
+    (text : List ℕ) × (turn Bool.false ≡ passed state text) × Appends c0 c1 text
+Performs fault_line turn state c0 c1 (Ok (Some fault)) =
+    (is_short : Bool)
+    × (turn is_short ≡ record { state = state; text = fault_line fault; is_fault = Bool.true })
+    × Keeps c0 c1
+Performs fault_line turn state c0 c1 (Err e) =
+    (text : List ℕ) × (turn Bool.false ≡ passed state text) × AppendsSome c0 c1 text
+
+-- the turn of a line, by whether memory was wanting
+abbrev pub line_turns : ℕ → Option State → List ℕ → Bool → Turn (Option State)
+line_turns now state line is_short = turn now state (record { line = line; is_short = is_short })
+
+-- what a line asks for: a command, nothing, or a fault
+abbrev pub Asks : ℕ → List ℕ → Result (Option Command) LineFault → Type 0
+Asks now line (Ok None) = (state : Option State) → line_turns now state line Bool.false ≡ passed state []
+Asks now line (Ok (Some command)) =
+    (state : Option State) (is_short : Bool)
+    → line_turns now state line is_short ≡ unless_short state (command_turn state command) is_short
+Asks now line (Err fault) =
+    (is_short : Bool) × ((state : Option State) → line_turns now state line is_short ≡ refusal_turn state (Line fault))
+
+-- the lines were run, or at a fault some of them
+abbrev pub Answers : {S T : Type 0} → (S → Told → Turn S) → S → S → ℕ → ℕ → Option (List ℕ) → Option (List ℕ)
+    → List (List ℕ) → Result T WriteFault → Type 0
+Answers turn s0 s1 n0 n1 c0 c1 lines (Ok x) = Ran turn s0 s1 n0 n1 c0 c1 lines
+Answers turn s0 s1 n0 n1 c0 c1 lines (Err e) = Stopped turn s0 s1 n0 n1 c0 c1 lines
+
+-- ---- the database
+
+-- from each state that the database stands for, the command, or the line, leads to one that the new database stands
+-- for
+abbrev pub MovesBy : Option Stored → Option Stored → Option (List ℕ) → Option (List ℕ)
+    → (Option State → Bool → Turn (Option State)) → Result (Option Fault) WriteFault → Type 0
+MovesBy b0 b1 c0 c1 turns r =
+    (s0 : Option State) → StandsFor b0 s0
+    → (s1 : Option State) × StandsFor b1 s1 × Performs fault_line (turns s0) s1 c0 c1 r
+
+abbrev pub MovesByCommand : Option Stored → Option Stored → Option (List ℕ) → Option (List ℕ) → Command
+    → Result (Option Fault) WriteFault → Type 0
+MovesByCommand b0 b1 c0 c1 command r = MovesBy b0 b1 c0 c1 (λ state. unless_short state (command_turn state command)) r
+
+abbrev pub MovesByLine : ℕ → Option Stored → Option Stored → Option (List ℕ) → Option (List ℕ) → List ℕ
+    → Result (Option Fault) WriteFault → Type 0
+MovesByLine now b0 b1 c0 c1 line r = MovesBy b0 b1 c0 c1 (λ state. line_turns now state line) r
+
+-- so do these lines
+abbrev pub Moves : {T : Type 0} → ℕ → Option Stored → Option Stored → ℕ → ℕ → Option (List ℕ) → Option (List ℕ)
+    → List (List ℕ) → Result T WriteFault → Type 0
+Moves now b0 b1 n0 n1 c0 c1 lines r =
+    (s0 : Option State) → StandsFor b0 s0
+    → (s1 : Option State) × StandsFor b1 s1 × Answers (turn now) s0 s1 n0 n1 c0 c1 lines r
