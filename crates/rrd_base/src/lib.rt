@@ -1,4 +1,4 @@
-//! A round-robin database of many data sources and archives, with a journal of replaced cells.
+//! A round-robin database of many data sources and archives, with a journal of what its changes replaced.
 #![tactic(auto)]
 
 mod content;

@@ -1,4 +1,4 @@
-//! Changes of sources' settings: what a tune asks, which tunes are accepted, and what they make.
+//! Changes of sources' settings: which tunes are accepted, and what they make.
 ghost use Rattle.std.specs.Prelude.{◌≡◌, ◌≤◌, length, map};
 ghost use Rattle.std.specs.List.{list_any};
 ghost use Rattle.std.specs.Result.{result_err};

@@ -1,4 +1,4 @@
-//! Samples for a database: what an update asks, and which updates are accepted.
+//! Samples for a database: which updates are accepted.
 ghost use Rattle.std.specs.Prelude.{◌≡◌, ◌<◌, ◌∷◌, [], false, length, map, not, slice_index_or};
 ghost use Rattle.rrd_spec.specs.declared.settings.DsDef.{DsDef};
 ghost use Rattle.rrd_spec.specs.declared.requests.update.Given.TheVariants.{Unknown};

@@ -1,4 +1,4 @@
--- Law: what the least and the greatest of a list are.
+-- Definition: what the least and the greatest of a list are.
 use Rattle.std.specs.Prelude.{ℤ, ◌≤ℤ◌, List, All, Contains}
 
 pub record IsLeast (value : ℤ) (values : List ℤ) : Type 0 where

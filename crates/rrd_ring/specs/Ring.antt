@@ -4,6 +4,7 @@ use Rattle.std.specs.Global.{Global}
 use Rattle.std.specs.List.{range_with_len}
 use Rattle.rrd_fixed.specs.declared.cell.Cell.{Cell}
 use Rattle.rrd_fixed.specs.declared.cell.Cell.TheVariants.{Unknown}
+pub mod Slices
 
 -- row k of a vector whose rows have so many cells each
 abbrev pub row_of : ℕ → List Cell → ℕ → List Cell

@@ -2,7 +2,7 @@
 ghost use Rattle.std.specs.Prelude.{ℕ, ◌≡◌, ◌+◌, ◌*◌, ◌%◌, ◌-◌, ◌<◌, ◌≤◌, ◌^◌, ◌++◌, length, take, drop, replicate, slice_range, vec_len, vec_capacity, IfOk, OnOk};
 ghost use Rattle.std.specs.Borrow.{sem};
 ghost use Rattle.rrd_fixed.specs.declared.cell.Cell.TheVariants.{Unknown};
-ghost use Rattle.rrd_ring.specs.Parts.{LendsPart, LendsAsMany};
+ghost use Rattle.rrd_ring.specs.Ring.Slices.{LendsPart, LendsAsMany};
 ghost use Rattle.rrd_ring.specs.Ring.{from_place, with_unwritten};
 
 use rrd_fixed::{Cell, Meter};

@@ -1,5 +1,5 @@
 -- Definition: the plain slow program: what it takes, and how it groups cells.
-use Rattle.std.specs.Prelude.{◌≡◌, ℕ, ◌<◌, ◌≤◌, pos, ◌≤ℤ◌, Some, List, [], ◌∷◌, ◌++◌, length, map, replicate, slice_get}
+use Rattle.std.specs.Prelude.{◌≡◌, ℕ, ◌-◌, ◌<◌, ◌≤◌, pos, ◌≤ℤ◌, Some, List, [], ◌∷◌, ◌++◌, drop, length, map, replicate, slice_get}
 use Rattle.rrd_fixed.specs.declared.cell.Cell.{Cell}
 use Rattle.rrd_fold.specs.declared.function.Function.{Function}
 use Rattle.rrd_fold.specs.declared.function.Function.TheVariants.{Average}
@@ -15,7 +15,6 @@ use Rattle.rrd_spec.specs.History.Cells.{content}
 use Rattle.rrd_spec.specs.Commands.Creating.{created}
 use Rattle.rrd_spec.specs.Limits.{version_one}
 use Rattle.rrd_spec.specs.History.{Archive, Event, Reading, Sampled, Taken}
-use Rattle.rrd_spec.specs.Laws.Listed.{keep_last}
 use Rattle.rrd_spec.specs.Validity.{AreAccepted}
 
 -- ---- samples
@@ -82,5 +81,5 @@ IsGroup (Row def) =
 abbrev pub AreNewest : CreateSpec → List Event → ℕ → List (List Cell) → Type 0
 AreNewest spec events number rows =
     (shown : Archive) → slice_get (content (created spec) events).archives number ≡ Some shown
-    → shown.rows
-    ≡ keep_last shown.def.rows (replicate shown.def.rows (replicate (length spec.sources) Cell.Unknown) ++ rows)
+    → let all = replicate shown.def.rows (replicate (length spec.sources) Cell.Unknown) ++ rows in
+    shown.rows ≡ drop (length all - shown.def.rows) all

@@ -1,4 +1,4 @@
--- Glue: which values the bytes of a piece can stand for.
+-- Definition: which values the bytes of a piece can stand for, of which a law says that no two have the same bytes.
 use Rattle.std.specs.Prelude.{◌≡◌, ◌^◌, ◌<◌, ◌≤ℤ◌, ℤ, pos, unsigned_abs, true, Option, Some, None}
 use Rattle.std.specs.Int.{w128}
 use Rattle.std.specs.Int.RustNames.{FitsSigned}

@@ -81,12 +81,9 @@ reach_after base index archive events =
 abbrev pub horizon : Content → ℕ → Archive → List Event → ℤ
 horizon base index archive events = greatest (map (reach_after base index archive) (prefixes events))
 
--- ---- a step and a row by themselves
-
--- The seconds: `second` in History, the rate of the first sample at or after each (rrdcreate, "The HEARTBEAT and the
--- STEP"). All steps, and all rows, of a history are `steps_of` and `rows_of` in History/Steps: the lists of these ones.
-
 -- ---- what an archive shows
+
+-- Each second by itself is `second` in History, and each step and row by itself is `step` and `row` in History/Steps.
 
 -- the row at a time, a multiple of the resolution: unknown up to the horizon and after the end; else the base's where
 -- the base has come so far; else that of its steps (rrdresize)

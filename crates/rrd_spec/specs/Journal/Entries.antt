@@ -131,7 +131,7 @@ undone now (UpdateEntry old) =
 undone now (TuneEntry olds) = fold with_source now olds
 undone now (ResizeEntry archive rows) = record now { archives = with_rows_at now.archives archive rows }
 
--- ---- the law
+-- ---- what can be undone
 
 -- what undoing needs of a content: its archives have their rows, and there is a raw value per source
 pub record IsSound (base : Content) : Type 0 where

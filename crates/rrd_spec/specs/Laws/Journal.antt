@@ -18,7 +18,7 @@ abbrev pub ComesBack : Content → Command → Type 0
 ComesBack base command =
     IsSound base → verdict base command ≡ None → undone (moved base command) (entry base command) ≡ base
 
--- so does it with the journal, a full one dropping its oldest entry
+-- an accepted command leaves a valid database with its journal valid; a full journal drops its oldest entry
 abbrev pub DatabaseStays : Content → List Entry → Command → Type 0
 DatabaseStays now journal command =
     IsValidDatabase now journal

@@ -1,5 +1,5 @@
 -- Law: the content of a history with its rows as the list of those that are kept, which proofs go by. `content` in
--- History/Cells says each row by its time, and is the definition; `IsListed` in Laws says that both are the same.
+-- History/Cells says each row by its time, and is the definition; `IsListed` in Laws/Cells says that both are the same.
 use Rattle.std.specs.Prelude.{ℕ, ◌+◌, ◌-◌, ◌/◌, min, List, [], ◌∷◌, ◌++◌, map, length, drop, replicate}
 use Rattle.std.specs.List.{enumerate_from}
 use Rattle.rrd_fixed.specs.declared.cell.Cell.{Cell}

@@ -375,28 +375,28 @@ fn a_writer_that_fails_has_a_front(rt: HostRuntime) -> Result<(), Fail> {
     Ok(())
 }
 
-// A thousand rows fill a block and more: 156 bytes before the cells, and 16 for each.
+// These rows fill a block of 32,768 bytes and more: 156 bytes before the cells, and 16 for each.
 #[test]
 fn a_long_file_goes_out_in_blocks(rt: HostRuntime) -> Result<(), Fail> {
     let alloc = rt.alloc();
-    let lines = "create --step 10 --start 0 DS:g:GAUGE:100:U:U RRA:LAST:0.5:1:1000\n";
+    let lines = "create --step 10 --start 0 DS:g:GAUGE:100:U:U RRA:LAST:0.5:1:2100\n";
     let database = database_of(alloc, lines)?;
     let new = new_file(alloc)?;
     let head = new.get(..132).ok_or("short")?;
-    let mut wanted = joined(alloc, &[head, &[0x00, 0x00, 0x03, 0xe8], &NOTHING])?;
-    for _ in 0..1_000 {
+    let mut wanted = joined(alloc, &[head, &[0x00, 0x00, 0x08, 0x34], &NOTHING])?;
+    for _ in 0..2_100 {
         wanted.extend_from_slice(&ABSENT)?;
     }
-    assert_eq!(&rt; wanted.len(), 16_156);
+    assert_eq!(&rt; wanted.len(), 33_756);
     assert_eq!(&rt; file_of(alloc, &database)?.as_slice(), wanted.as_slice());
     let writing = Manner {
         at_once: 7,
         interrupts: 1,
-        room: 10_000,
+        room: 33_000,
         ..PLAIN
     };
     let mut out = Taker::new(alloc, writing, PLAIN);
     assert!(&rt; encode(&database, &mut out).is_err());
-    assert_eq!(&rt; out.taken.as_slice(), wanted.get(..10_000).ok_or("short")?);
+    assert_eq!(&rt; out.taken.as_slice(), wanted.get(..33_000).ok_or("short")?);
     Ok(())
 }

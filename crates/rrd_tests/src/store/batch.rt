@@ -1,5 +1,5 @@
 //! Batches over a place in memory that may fail.
-use super::place::Shelf;
+use super::place::InMemory;
 use super::single::{CREATE, assert_step};
 use crate::shared::streams::{Giver, Manner, PLAIN};
 use rrd_file::FileFault;
@@ -22,13 +22,13 @@ fn ended(
 #[test]
 fn a_batch_over_a_place(rt: HostRuntime) -> Result<(), Fail> {
     let alloc = rt.alloc();
-    let mut shelf = Shelf::with(alloc, b"")?;
+    let mut place = InMemory::with(alloc, b"")?;
     let lines = format!(in alloc; "{CREATE}\nupdate 10:1\nlast\nnothing\n")?;
     let mut out = Vec::new(alloc);
-    let end = run_file_batch(alloc, 0, &mut shelf, &mut lines.as_bytes(), &mut out);
+    let end = run_file_batch(alloc, 0, &mut place, &mut lines.as_bytes(), &mut out);
     assert_eq!(&rt; end.ok(), ended(1, None, None));
     assert_eq!(&rt; out.as_slice(), b"10\nERROR: usage\n".as_slice());
-    assert_eq!(&rt; shelf.held.len(), 305);
+    assert_eq!(&rt; place.bytes.len(), 305);
     // What was read is what the next lines run over, and they are stored after a failed read too.
     let lines = b"last\nrevert\nlast\nupda";
     let mut input = Giver::new(
@@ -39,42 +39,42 @@ fn a_batch_over_a_place(rt: HostRuntime) -> Result<(), Fail> {
         },
     );
     let mut out = Vec::new(alloc);
-    let end = run_file_batch(alloc, 0, &mut shelf, &mut input, &mut out);
+    let end = run_file_batch(alloc, 0, &mut place, &mut input, &mut out);
     assert_eq!(&rt; end.ok(), ended(0, Some(StreamFault::Read), None));
     assert_eq!(&rt; out.as_slice(), b"10\n0\n".as_slice());
-    assert_eq!(&rt; shelf.held.len(), 220);
+    assert_eq!(&rt; place.bytes.len(), 220);
     Ok(())
 }
 
 #[test]
 fn a_batch_that_stores_nothing(rt: HostRuntime) -> Result<(), Fail> {
     let alloc = rt.alloc();
-    let mut shelf = Shelf::with(alloc, b"")?;
+    let mut place = InMemory::with(alloc, b"")?;
     let mut out = Vec::new(alloc);
-    let end = run_file_batch(alloc, 0, &mut shelf, &mut b"last\n".as_slice(), &mut out);
+    let end = run_file_batch(alloc, 0, &mut place, &mut b"last\n".as_slice(), &mut out);
     assert_eq!(&rt; end.ok(), ended(1, None, None));
-    assert!(&rt; shelf.held.is_empty());
-    assert_step(&rt, alloc, &mut shelf, &(CREATE, "", "", 220))?;
-    shelf.empties = false;
-    let end = run_file_batch(alloc, 0, &mut shelf, &mut b"last\n".as_slice(), &mut out);
+    assert!(&rt; place.bytes.is_empty());
+    assert_step(&rt, alloc, &mut place, &(CREATE, "", "", 220))?;
+    place.empties = false;
+    let end = run_file_batch(alloc, 0, &mut place, &mut b"last\n".as_slice(), &mut out);
     assert_eq!(&rt; end.ok(), ended(0, None, Some(TaskFault::CannotWrite)));
-    assert_eq!(&rt; shelf.held.len(), 220);
+    assert_eq!(&rt; place.bytes.len(), 220);
     Ok(())
 }
 
 #[test]
 fn a_batch_over_other_bytes(rt: HostRuntime) -> Result<(), Fail> {
     let alloc = rt.alloc();
-    let mut shelf = Shelf::with(alloc, b"other bytes")?;
+    let mut place = InMemory::with(alloc, b"other bytes")?;
     let mut input = b"last\n".as_slice();
     let mut out = Vec::new(alloc);
-    let end = run_file_batch(alloc, 0, &mut shelf, &mut input, &mut out);
+    let end = run_file_batch(alloc, 0, &mut place, &mut input, &mut out);
     assert_eq!(&rt; end.err(), Some(TaskFault::File(FileFault::NotOurs)));
-    shelf.opens = false;
-    let end = run_file_batch(alloc, 0, &mut shelf, &mut input, &mut out);
+    place.opens = false;
+    let end = run_file_batch(alloc, 0, &mut place, &mut input, &mut out);
     assert_eq!(&rt; end.err(), Some(TaskFault::CannotOpen));
     assert_eq!(&rt; input.len(), 5);
     assert!(&rt; out.is_empty());
-    assert_eq!(&rt; shelf.held.as_slice(), b"other bytes".as_slice());
+    assert_eq!(&rt; place.bytes.as_slice(), b"other bytes".as_slice());
     Ok(())
 }

@@ -1,6 +1,6 @@
 //! Random scripts from a fixed seed: run as one batch over a place, and cut at random places into
 //! batches and single commands, they tell the same and leave the same bytes.
-use super::place::Shelf;
+use super::place::InMemory;
 use crate::shared::words_of;
 use rrd_store::{end_single, run_file_batch, run_single};
 use std::alloc::{AllocError, Global};
@@ -150,7 +150,7 @@ fn script_of(alloc: Global, chance: &mut Chance) -> Result<Vec<String>, Fail> {
 #[derive(Drop)]
 struct Session {
     alloc: Global,
-    shelf: Shelf,
+    place: InMemory,
     told: Vec<u8>,
     refused: u64,
 }
@@ -160,7 +160,7 @@ impl Session {
     fn new(alloc: Global) -> Result<Session, AllocError> {
         Ok(Session {
             alloc,
-            shelf: Shelf::with(alloc, b"")?,
+            place: InMemory::with(alloc, b"")?,
             told: Vec::new(alloc),
             refused: 0,
         })
@@ -169,7 +169,7 @@ impl Session {
     // Runs lines as a batch.
     fn batch(&mut self, lines: &str) -> Result<(), Fail> {
         let mut input = lines.as_bytes();
-        let end = run_file_batch(self.alloc, 0, &mut self.shelf, &mut input, &mut self.told)?;
+        let end = run_file_batch(self.alloc, 0, &mut self.place, &mut input, &mut self.told)?;
         if end.stream.is_some() || end.unstored.is_some() {
             return Err(Fail::from("a batch ended early"));
         }
@@ -181,7 +181,7 @@ impl Session {
     // prints, and where a batch has no database, there is no file to be opened.
     fn single(&mut self, line: &str) -> Result<(), Fail> {
         let words = words_of(self.alloc, line)?;
-        let end = run_single(self.alloc, &words, 0, &mut self.shelf, &mut self.told);
+        let end = run_single(self.alloc, &words, 0, &mut self.place, &mut self.told);
         let mut err = Vec::new(self.alloc);
         if end_single(&mut err, end) == 0 {
             return Ok(());
@@ -243,8 +243,8 @@ fn assert_cuts_change_nothing(
         "{number}: {script:?}"
     );
     assert_eq!(rt;
-        cut.shelf.held.as_slice(),
-        whole.shelf.held.as_slice(),
+        cut.place.bytes.as_slice(),
+        whole.place.bytes.as_slice(),
         "{number}: {script:?}"
     );
     assert_eq!(rt; cut.refused, whole.refused, "{number}: {script:?}");

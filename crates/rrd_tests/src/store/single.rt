@@ -1,5 +1,5 @@
 //! Single commands over a place in memory that may fail.
-use super::place::Shelf;
+use super::place::InMemory;
 use crate::file::bytes::{new_file, sampled_file};
 use crate::shared::streams::{Manner, PLAIN, Taker};
 use crate::shared::words_of;
@@ -19,21 +19,21 @@ pub(super) type Step<'a> = (&'a str, &'a str, &'a str, usize);
 pub(super) fn assert_step(
     rt: &impl Abort,
     alloc: Global,
-    shelf: &mut Shelf,
+    place: &mut InMemory,
     step: &Step<'_>,
 ) -> Result<(), Fail> {
     let (line, fault, text, length) = step;
-    let before = shelf.held.clone()?;
+    let before = place.bytes.clone()?;
     let mut out = Vec::new(alloc);
-    let end = run_single(alloc, &words_of(alloc, line)?, 1_000, shelf, &mut out);
+    let end = run_single(alloc, &words_of(alloc, line)?, 1_000, place, &mut out);
     let told = match end {
         Ok(()) => String::new(alloc),
         Err(told) => format!(in alloc; "{told}")?,
     };
     assert_eq!(rt; told.as_str(), *fault, "{line}");
     assert_eq!(rt; out.as_slice(), text.as_bytes(), "{line}");
-    assert_eq!(rt; shelf.held.len(), *length, "{line}");
-    let kept = fault.is_empty() || shelf.held.as_slice() == before.as_slice();
+    assert_eq!(rt; place.bytes.len(), *length, "{line}");
+    let kept = fault.is_empty() || place.bytes.as_slice() == before.as_slice();
     assert!(rt; kept, "{line}");
     Ok(())
 }
@@ -82,11 +82,11 @@ const OVER_NOTHING: &[Step<'_>] = &[
 #[test]
 fn commands_over_one_place(rt: HostRuntime) -> Result<(), Fail> {
     let alloc = rt.alloc();
-    let mut shelf = Shelf::with(alloc, b"")?;
+    let mut place = InMemory::with(alloc, b"")?;
     for step in OVER_NOTHING {
-        assert_step(&rt, alloc, &mut shelf, step)?;
+        assert_step(&rt, alloc, &mut place, step)?;
     }
-    assert_eq!(&rt; shelf.held.as_slice(), new_file(alloc)?.as_slice());
+    assert_eq!(&rt; place.bytes.as_slice(), new_file(alloc)?.as_slice());
     Ok(())
 }
 
@@ -102,27 +102,27 @@ const OVER_OTHER_BYTES: &[Step<'_>] = &[
 #[test]
 fn commands_over_other_bytes(rt: HostRuntime) -> Result<(), Fail> {
     let alloc = rt.alloc();
-    let mut shelf = Shelf::with(alloc, b"other bytes")?;
+    let mut place = InMemory::with(alloc, b"other bytes")?;
     for step in OVER_OTHER_BYTES {
-        assert_step(&rt, alloc, &mut shelf, step)?;
+        assert_step(&rt, alloc, &mut place, step)?;
     }
     // A create doesn't ask what is there.
-    shelf.opens = false;
-    assert_step(&rt, alloc, &mut shelf, &("last", "cannot open", "", 11))?;
-    assert_step(&rt, alloc, &mut shelf, &(CREATE, "", "", 220))?;
-    assert_eq!(&rt; shelf.held.as_slice(), new_file(alloc)?.as_slice());
+    place.opens = false;
+    assert_step(&rt, alloc, &mut place, &("last", "cannot open", "", 11))?;
+    assert_step(&rt, alloc, &mut place, &(CREATE, "", "", 220))?;
+    assert_eq!(&rt; place.bytes.as_slice(), new_file(alloc)?.as_slice());
     Ok(())
 }
 
 #[test]
 fn a_place_that_is_not_emptied(rt: HostRuntime) -> Result<(), Fail> {
     let alloc = rt.alloc();
-    let mut shelf = Shelf::with(alloc, &new_file(alloc)?)?;
-    shelf.empties = false;
+    let mut place = InMemory::with(alloc, &new_file(alloc)?)?;
+    place.empties = false;
     assert_step(
         &rt,
         alloc,
-        &mut shelf,
+        &mut place,
         &("update 10:1", "cannot write", "", 220),
     )
 }
@@ -138,14 +138,14 @@ fn assert_breaks_off(
     let words = words_of(alloc, line)?;
     let last = words_of(alloc, "last")?;
     for room in 1..new.len() {
-        let mut shelf = Shelf::with(alloc, old)?;
-        shelf.room = room;
+        let mut place = InMemory::with(alloc, old)?;
+        place.room = room;
         let mut out = Vec::new(alloc);
-        let end = run_single(alloc, &words, 0, &mut shelf, &mut out);
+        let end = run_single(alloc, &words, 0, &mut place, &mut out);
         assert_eq!(rt; end.err(), Some(TaskFault::CannotWrite), "{line} {room}");
-        assert_eq!(rt; shelf.held.as_slice(), new.get(..room).ok_or("short")?);
+        assert_eq!(rt; place.bytes.as_slice(), new.get(..room).ok_or("short")?);
         let at = room as u64;
-        let end = run_single(alloc, &last, 0, &mut shelf, &mut out);
+        let end = run_single(alloc, &last, 0, &mut place, &mut out);
         let cut = TaskFault::File(FileFault::Truncated { at });
         assert_eq!(rt; end.err(), Some(cut), "{line} {room}");
     }
@@ -164,15 +164,15 @@ fn a_write_that_breaks_off(rt: HostRuntime) -> Result<(), Fail> {
 #[test]
 fn output_that_fails(rt: HostRuntime) -> Result<(), Fail> {
     let alloc = rt.alloc();
-    let mut shelf = Shelf::with(alloc, &new_file(alloc)?)?;
+    let mut place = InMemory::with(alloc, &new_file(alloc)?)?;
     let failed = Some(TaskFault::Command(Fault::Output));
     let words = words_of(alloc, "last")?;
     let mut full = Taker::new(alloc, Manner { room: 1, ..PLAIN }, PLAIN);
-    let end = run_single(alloc, &words, 0, &mut shelf, &mut full);
+    let end = run_single(alloc, &words, 0, &mut place, &mut full);
     assert_eq!(&rt; end.err(), failed);
     let mut stuck = Taker::new(alloc, PLAIN, Manner { room: 0, ..PLAIN });
-    let end = run_single(alloc, &words, 0, &mut shelf, &mut stuck);
+    let end = run_single(alloc, &words, 0, &mut place, &mut stuck);
     assert_eq!(&rt; end.err(), failed);
-    assert_eq!(&rt; shelf.held.as_slice(), new_file(alloc)?.as_slice());
+    assert_eq!(&rt; place.bytes.as_slice(), new_file(alloc)?.as_slice());
     Ok(())
 }

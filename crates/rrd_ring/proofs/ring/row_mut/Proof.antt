@@ -40,7 +40,7 @@ use Rattle.std.specs.Prelude.{slice_range}
 use Rattle.std.specs.Vec.{with_items_from}
 use Rattle.rrd_fixed.specs.declared.cell.Cell.{Cell}
 use Rattle.rrd_fixed.specs.contracts.cell.Cell.{the_row as cell_row}
-use Rattle.rrd_ring.specs.Parts.{cells_row}
+use Rattle.rrd_ring.specs.Ring.Slices.{cells_row}
 use Rattle.rrd_ring.proofs.RowLemmas.{refill_same}
 use Rattle.rrd_ring.specs.contracts.ring.row_mut as f
 use Rattle.rrd_ring.proofs.ring.row_mut.Statement.{statement}

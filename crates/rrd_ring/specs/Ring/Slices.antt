@@ -1,4 +1,4 @@
--- Glue: what a vector of cells ends as, once a `&mut` to a part of it has ended.
+-- Glue: what a vector of cells ends as, once a `&mut` to a slice of it has ended.
 use Rattle.std.specs.Prelude.{ℕ, List, Vec, length, slice_range}
 use Rattle.std.specs.Global.{Global}
 use Rattle.std.specs.Borrow.{Fml, RattleType, MutBor, Array, Lends}
