@@ -43,34 +43,6 @@ All_here_part P [] i prep h e all = absurd (omega arith)
 All_here_part P (x ∷ preps) zero prep h e all = subst (λ (c : Consolidating). P c.part) (sym e) all.0
 All_here_part P (x ∷ preps) (suc i) prep h e all = All_here_part P preps i prep (omega arith) e all.1
 
--- ---- raw values
-
-pub accepted_lengths : (defs : List DsDef) (raws : List Raw) → AreAccepted defs raws → length raws ≡ length defs
-accepted_lengths [] [] is = refl
-accepted_lengths [] (raw ∷ raws) is = absurd is
-accepted_lengths (def ∷ defs) [] is = absurd is
-accepted_lengths (def ∷ defs) (raw ∷ raws) is = ap suc (accepted_lengths defs raws is.1)
-
-accepted_suc : (defs : List DsDef) (raws : List Raw) (i : ℕ) (def : DsDef) (raw : Raw) → i < length defs → i < length raws → def ≡ get_or defs i def → raw ≡ get_or raws i raw
-    → AreAccepted (take i defs) (take i raws) → IsAccepted def.kind raw → AreAccepted (take (suc i) defs) (take (suc i) raws)
-accepted_suc [] raws i def raw h k d r all one = absurd (omega arith)
-accepted_suc (x ∷ defs) [] i def raw h k d r all one = absurd (omega arith)
-accepted_suc (x ∷ defs) (y ∷ raws) zero def raw h k d r all one = (subst (λ (z : DsDef). IsAccepted z.kind y) d (subst (IsAccepted def.kind) r one), tt)
-accepted_suc (x ∷ defs) (y ∷ raws) (suc i) def raw h k d r all one = (all.0, accepted_suc defs raws i def raw (omega arith) (omega arith) d r all.1 one)
-
-pub accepted_more : (defs : List DsDef) (raws : List Raw) (i : ℕ) (def : DsDef) (raw : Raw) → i < length defs → i < length raws → def ≡ get_or defs i def → raw ≡ get_or raws i raw
-    → AreAccepted (take i defs) (take i raws) → IsAccepted def.kind raw → AreAccepted (take (i + 1) defs) (take (i + 1) raws)
-accepted_more defs raws i def raw h k d r all one = subst (λ n. AreAccepted (take n defs) (take n raws)) (sym (add-one i)) (accepted_suc defs raws i def raw h k d r all one)
-
-pub accepted_here : (defs : List DsDef) (raws : List Raw) (i : ℕ) (def : DsDef) (raw : Raw) → i < length defs → i < length raws → def ≡ get_or defs i def → raw ≡ get_or raws i raw → AreAccepted defs raws → IsAccepted def.kind raw
-accepted_here [] raws i def raw h k d r all = absurd (omega arith)
-accepted_here (x ∷ defs) [] i def raw h k d r all = absurd (omega arith)
-accepted_here (x ∷ defs) (y ∷ raws) zero def raw h k d r all = subst (λ (z : DsDef). IsAccepted z.kind raw) (sym d) (subst (IsAccepted x.kind) (sym r) all.0)
-accepted_here (x ∷ defs) (y ∷ raws) (suc i) def raw h k d r all = accepted_here defs raws i def raw (omega arith) (omega arith) d r all.1
-
-pub accepted_whole : (defs : List DsDef) (raws : List Raw) (i : ℕ) → length defs ≤ i → length raws ≤ i → AreAccepted (take i defs) (take i raws) → AreAccepted defs raws
-accepted_whole defs raws i h k all = subst (λ (rs : List Raw). AreAccepted defs rs) (take_all i raws k) (subst (λ (ds : List DsDef). AreAccepted ds (take i raws)) (take_all i defs h) all)
-
 -- ---- what was saved of archives
 
 pub saves_lengths : (step from to sources : ℕ) (defs : List RraDef) (olds : List SavedArchive) → MaySaveEach step from to sources defs olds → length olds ≡ length defs

@@ -2,7 +2,7 @@ pub mod PushedRows
 pub mod TurnLemmas
 pub mod Taking
 pub mod Catching
-pub mod StoreLemmas
+pub mod RraLemmas
 pub mod PutBack
 pub mod ChoiceLemmas
 pub mod Passing

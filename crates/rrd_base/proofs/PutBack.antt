@@ -7,7 +7,7 @@ use Rattle.rrd_spec.specs.History.{Archive}
 use Rattle.rrd_spec.specs.Journal.Entries.{SavedArchive, put_back, put_back_each}
 use Rattle.rrd_spec.specs.Validity.{IsValidArchive, FitsArchive, FitEach}
 use Rattle.rrd_base.specs.Rra.{CanPutBack, CanPutBackEach, IsStepped}
-use Rattle.rrd_base.proofs.StoreLemmas.{width_is}
+use Rattle.rrd_base.proofs.RraLemmas.{width_is}
 
 -- the last one of a front, and what is before it
 pub last_at : {A : Type 0} (k : ℕ) (xs : List A) (d : A) → get_or (take (suc k) xs) k d ≡ get_or xs k d

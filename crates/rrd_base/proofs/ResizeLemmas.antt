@@ -14,7 +14,7 @@ use Rattle.rrd_base.specs.Resize.{HasFewRows}
 use Rattle.rrd_spec.specs.Validity.{IsValid, IsValidArchive}
 use Rattle.rrd_spec.specs.Commands.Verdict.{verdict}
 use Rattle.rrd_spec.specs.Laws.Commands.{ResizeChanges, newest_of, rows_then}
-use Rattle.rrd_base.proofs.StoreLemmas.{width_is}
+use Rattle.rrd_base.proofs.RraLemmas.{width_is}
 
 -- ---- the number of all rows
 

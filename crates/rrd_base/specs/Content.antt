@@ -14,5 +14,5 @@ content_of d = record {
   archives = d.archives.items;
 }
 
-abbrev pub IsValidContents : Inside → Type 0
-IsValidContents d = IsValid (content_of d)
+abbrev pub IsValidContent : Inside → Type 0
+IsValidContent d = IsValid (content_of d)

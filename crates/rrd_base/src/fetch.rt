@@ -1,15 +1,21 @@
-//! Which archive a fetch reads, and which span of it (rrdfetch; the order of the archives is this
+//! Which archive a fetch reads, which span of it, and the cells there (rrdfetch; the order of the archives is this
 //! project's).
-ghost use Rattle.std.specs.Prelude.{◌≡◌, ◌^◌, ◌<◌, ◌≤◌, ℕ, List, [], ◌∷◌, ◌++◌, length, MatchResult, Err};
+ghost use Rattle.std.specs.Prelude.{◌≡◌, ◌-◌, ◌-ℤ◌, ◌/◌, ◌^◌, ◌<◌, ◌≤◌, ℕ, List, [], ◌∷◌, ◌++◌, length, pos, slice_index_or, IfNone, IfSome, MatchResult, Err};
+ghost use Rattle.std.specs.Int.{int_div_euclid};
 ghost use Rattle.std.specs.Result.{result_err};
+ghost use Rattle.rrd_fixed.specs.declared.cell.Cell.TheVariants.{Unknown};
 ghost use Rattle.rrd_fold.specs.declared.function.Function.{Function};
 ghost use Rattle.rrd_spec.specs.declared.requests.fetch.Request.{Request};
 ghost use Rattle.rrd_spec.specs.declared.settings.RraDef.{RraDef};
 ghost use Rattle.rrd_spec.specs.Choice as choice;
+ghost use Rattle.rrd_spec.specs.History.{definitions};
+ghost use Rattle.rrd_spec.specs.History.Cells.{cell_at, oldest, oldest_time};
 ghost use Rattle.rrd_spec.specs.Limits.{version_one};
 ghost use Rattle.rrd_spec.specs.Commands.Verdict.{first_refusal};
 
+use crate::content::Content;
 use crate::{Chosen, Refusal, RraDef};
+use rrd_fixed::Cell;
 use rrd_fold::Function;
 use rrd_spec::limits::{LATEST_TIME, LONGEST_SPAN};
 use rrd_spec::{Candidate, Request};
@@ -67,7 +73,7 @@ impl Search {
         if !is_same_function(def.function, self.request.function) {
             return;
         }
-        let next = judged(self.step, self.last, number, def);
+        let next = candidate(self.step, self.last, number, def);
         let is_taken = match &self.best {
             Some(best) => is_preferred(self.request, &next, best),
             None => true,
@@ -116,8 +122,8 @@ fn is_same_function(one: Function, other: Function) -> bool
     one == other
 }
 
-// An archive as it is judged.
-fn judged(step: u64, last: u64, number: u64, def: &RraDef) -> Candidate
+// What is judged of an archive.
+fn candidate(step: u64, last: u64, number: u64, def: &RraDef) -> Candidate
     requires some_step { 0 < step }
     requires small_step { step ≤ version_one.longest_step }
     requires good_last { last ≤ version_one.latest_time }
@@ -187,4 +193,68 @@ fn span(request: Request, one: &Candidate) -> Chosen
         lo: request.start / res * res,
         hi: (request.end / res + 1) * res,
     }
+}
+
+impl Content {
+    /// Which archive a fetch reads, and which of its rows.
+    pub(crate) fn choose(&self, request: Request) -> Result<Chosen, Refusal>
+        ensures { result ≡ choice.choice_of version_one self.now.step self.now.last (definitions self.now.archives) request }
+    {
+        let mut search = Search::begin(self.step, self.last, request)?;
+        for (number, rra) in self.archives.iter().enumerate() {
+            search.offer(number as u64, &rra.def());
+        }
+        search.finish()
+    }
+
+    /// The time of an archive's oldest row.
+    pub(crate) fn first(&self, archive: u64) -> Result<i64, Refusal>
+        ensures { result ≡ oldest_time self.now archive }
+    {
+        let Some(rra) = self.archives.get(archive as usize) else {
+            return Err(Refusal::NoSuchArchive);
+        };
+        Ok(oldest(self.step, self.last, &rra.def()))
+    }
+
+    /// The cells of an archive's row at a time, a multiple of the seconds in a row; none where the
+    /// archive has no such row.
+    pub(crate) fn row(&self, archive: usize, time: i64) -> Option<&[Cell]>
+        requires { archive < length self.now.archives }
+        ensures wide { IfSome result (λ row. length row.now ≡ length self.now.sources) }
+        ensures cells { IfSome result (λ row. (source : ℕ)
+            → slice_index_or row.now source Unknown ≡ cell_at self.now archive time source) }
+        ensures none { IfNone result ((source : ℕ) → source < length self.now.sources
+            → cell_at self.now archive time source ≡ Unknown) }
+    {
+        let rra = &self.archives[archive];
+        let resolution = rra.def().resolution(self.step);
+        rra.row_of_age(age(self.last, resolution, time))
+    }
+}
+
+/// How many rows of so many seconds end after one that ends at `time` up to the last time; negative
+/// if it ends later.
+fn age(last: u64, resolution: u64, time: i64) -> i128
+    requires some { 0 < resolution }
+    requires small { resolution ≤ 10 ^ 12 }
+    ensures { result ≡ pos (last / resolution) -ℤ int_div_euclid time (pos resolution) }
+{
+    i128::from(last / resolution) - i128::from(time.div_euclid(resolution as i64))
+}
+
+/// The time of an archive's oldest row.
+fn oldest(step: u64, last: u64, def: &RraDef) -> i64
+    requires some_step { 0 < step }
+    requires small_step { step ≤ version_one.longest_step }
+    requires good_last { last ≤ version_one.latest_time }
+    requires some_steps { 0 < def.now.steps }
+    requires few_steps { def.now.steps ≤ version_one.most_steps }
+    requires some_rows { 0 < def.now.rows }
+    requires few_rows { def.now.rows ≤ version_one.most_rows }
+    ensures { result ≡ oldest step last def.now }
+{
+    let resolution = def.resolution(step);
+    let newest = last / resolution * resolution;
+    newest as i64 - ((def.rows - 1) * resolution) as i64
 }

@@ -18,7 +18,7 @@ mod walk;
 pub use create::check_create;
 pub use database::Database;
 pub use journal::{BeforeUpdate, Entry, SavedArchive};
-pub use rebuild::{PieceFault, Rebuild, is_accepted, is_bounded, is_source};
+pub use rebuild::{PieceFault, Rebuild, is_bounded, is_source};
 pub use rrd_spec::{
     Change, Chosen, CreateSpec, DsDef, Due, Given, List, Outline, Receipt, Refusal, RraDef, Sample,
     SourceBefore, Tuning, Update,

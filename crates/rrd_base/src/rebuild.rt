@@ -35,7 +35,7 @@ mod outline;
 mod piece_checks;
 mod preparations;
 
-pub use piece_checks::{is_accepted, is_bounded, is_source};
+pub use piece_checks::{is_bounded, is_source};
 
 /// Why a piece is not taken.
 #[derive(Clone, Copy, Debug, PartialEq, Eq)]
@@ -145,7 +145,7 @@ impl Rebuild {
     }
 
     // The settings of the archive that hasn't all preparations.
-    fn unprepared(&self) -> Option<RraDef>
+    fn unprepared_archive(&self) -> Option<RraDef>
         ensures { result ≡ unprepared self.now.header.sources self.now.heads }
     {
         let archives = self.archives.len();
@@ -153,7 +153,7 @@ impl Rebuild {
             return None;
         }
         let rra = &self.archives[archives - 1];
-        if (rra.prepared() as u64) < self.sources_due {
+        if (rra.prep_count() as u64) < self.sources_due {
             return Some(rra.def());
         }
         None
@@ -167,7 +167,7 @@ impl Rebuild {
         if (self.sources.len() as u64) < self.sources_due {
             return Due::SourceDue;
         }
-        if let Some(def) = self.unprepared() {
+        if let Some(def) = self.unprepared_archive() {
             return Due::PrepDue(def);
         }
         let archives = self.archives.len();
@@ -203,7 +203,7 @@ impl Rebuild {
         let Due::SourceDue = self.due() else {
             return false;
         };
-        if !is_source(def) || !is_accepted(def.kind, raw) {
+        if !is_source(def) || !def.kind.accepts(raw) {
             return false;
         }
         if !is_part(Function::Average, self.last % self.step, known, sum) {

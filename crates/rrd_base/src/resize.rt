@@ -1,18 +1,25 @@
-//! Changes of an archive's number of rows: which are accepted.
-ghost use Rattle.std.specs.Prelude.{◌≡◌, ◌<◌, ◌≤◌, length, slice_index_or, sum};
+//! Changes of an archive's number of rows: which are accepted, what they make, and how they are undone.
+ghost use Rattle.std.specs.Prelude.{◌≡◌, ◌<◌, ◌≤◌, IfOk, None, length, slice_index_or, sum};
 ghost use Rattle.std.specs.List.{AllByRecursion};
 ghost use Rattle.std.specs.Result.{result_err};
-ghost use Rattle.rrd_spec.specs.Commands.{all_rows_after, rows_changed, rows_of_archives};
+ghost use Rattle.rrd_ring.specs.Rows.{newest_rows};
+ghost use Rattle.rrd_spec.specs.Commands.{Resizing, all_rows_after, rows_changed, rows_of_archives};
 ghost use Rattle.rrd_spec.specs.History.{Resized};
+ghost use Rattle.rrd_spec.specs.Journal.Entries.{ResizeEntry, rows_at, undone, with_rows_at};
 ghost use Rattle.rrd_spec.specs.Limits.{version_one};
 ghost use Rattle.rrd_base.specs.Resize.{HasFewRows, settings};
 ghost use Rattle.rrd_spec.specs.Commands.Verdict as verdict;
+ghost use Rattle.rrd_spec.specs.Validity.{IsValid};
 
+use crate::content::Content;
 use crate::create::{has_too_many_cells, is_bad_rows};
 use crate::rows::all_rows;
 use crate::rra::Rra;
 use crate::{Change, DsDef, Refusal};
+use rrd_ring::Archive;
+use rrd_spec::laws;
 use rrd_spec::limits::MOST_ROWS;
+use std::alloc::{AllocError, Global};
 
 // Whether the archive would have too many rows.
 fn grows_too_far(change: Change, old: u64, rows: u64) -> bool
@@ -36,8 +43,8 @@ fn shrinks_too_far(change: Change, old: u64, rows: u64) -> bool
     }
 }
 
-/// How many rows the archive would have.
-pub(crate) fn rows_changed(change: Change, old: u64, rows: u64) -> u64
+// How many rows the archive would have.
+fn rows_changed(change: Change, old: u64, rows: u64) -> u64
     requires small { old ≤ version_one.most_rows }
     requires few { rows ≤ version_one.most_rows }
     ensures { result ≡ rows_changed change old rows }
@@ -52,7 +59,7 @@ pub(crate) fn rows_changed(change: Change, old: u64, rows: u64) -> u64
 fn all_rows_then(archives: &[Rra], index: usize, change: Change, rows: u64) -> u64
     requires there { index < length archives.now }
     requires few_rows { AllByRecursion HasFewRows archives.now }
-    requires few_stores { length archives.now ≤ version_one.most_archives }
+    requires few_archives { length archives.now ≤ version_one.most_archives }
     requires few { rows ≤ version_one.most_rows }
     ensures rows { result ≡ sum
         (all_rows_after (Resized index (rows_changed change (slice_index_or
@@ -64,8 +71,8 @@ fn all_rows_then(archives: &[Rra], index: usize, change: Change, rows: u64) -> u
     all_rows(archives) - old + rows_changed(change, old, rows)
 }
 
-/// Whether a resize is accepted, or the first refusal (rrdresize).
-pub(crate) fn check_resize(
+// Whether a resize is accepted, or the first refusal (rrdresize).
+fn check_resize(
     sources: &[DsDef],
     archives: &[Rra],
     index: u64,
@@ -93,4 +100,56 @@ pub(crate) fn check_resize(
         return Err(Refusal::TooLarge);
     }
     Ok(())
+}
+
+impl Content {
+    /// Whether a resize is accepted, or the first refusal.
+    pub(crate) fn check_resize(
+        &self,
+        archive: u64,
+        change: Change,
+        rows: u64,
+    ) -> Result<(), Refusal>
+        ensures { result_err result ≡ verdict.verdict self.now (Resizing archive change rows) }
+    {
+        check_resize(&self.sources, &self.archives, archive, change, rows)
+    }
+
+    /// The rows that an archive has after an accepted resize.
+    pub(crate) fn resized(
+        &self,
+        alloc: Global,
+        archive: usize,
+        change: Change,
+        rows: u64,
+    ) -> Result<Archive, AllocError>
+        requires { verdict.verdict self.now (Resizing archive change rows) ≡ None }
+        ensures { IfOk result (λ new. new
+            ≡ newest_rows (rows_changed change (slice_index_or (rows_of_archives self.now.archives) archive 0) rows)
+            (rows_at self.now.archives archive)) }
+    {
+        laws::resize_changes_rows();
+        let rra = &self.archives[archive];
+        rra.resized(alloc, rows_changed(change, rra.def().rows, rows))
+    }
+
+    /// Gives an archive its resized rows, and gives the ones that it had. It takes no memory.
+    pub(crate) fn resize(&mut self, archive: usize, mut rows: Archive) -> Archive
+        requires there { archive < length self.old.archives }
+        requires valid { IsValid (record self.old { archives = with_rows_at self.old.archives archive rows }) }
+        ensures content { self.new ≡ record self.old { archives = with_rows_at self.old.archives archive rows } }
+        ensures old { result ≡ rows_at self.old.archives archive }
+    {
+        self.archives[archive].swap_rows(&mut rows);
+        rows
+    }
+
+    /// Puts back the rows of a resized archive.
+    pub(crate) fn undo_resize(&mut self, archive: usize, mut old: Archive)
+        requires there { archive < length self.old.archives }
+        requires valid { IsValid (undone self.old (ResizeEntry archive old)) }
+        ensures { self.new ≡ undone self.old (ResizeEntry archive old) }
+    {
+        self.archives[archive].swap_rows(&mut old);
+    }
 }

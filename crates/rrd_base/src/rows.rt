@@ -1,5 +1,7 @@
-//! The rows of all archives.
-ghost use Rattle.std.specs.Prelude.{◌≡◌, ℕ, ◌-◌, ◌^◌, map, min, sum};
+//! Numbers of rows: those of all archives, and those that end between two times.
+ghost use Rattle.std.specs.Prelude.{◌≡◌, ℕ, ◌-◌, ◌<◌, ◌^◌, ◌≤◌, map, min, sum};
+ghost use Rattle.rrd_spec.specs.Journal.Entries.{rows_between};
+ghost use Rattle.rrd_spec.specs.Limits.{version_one};
 
 use crate::RraDef;
 
@@ -30,4 +32,16 @@ pub(crate) fn all_rows<T: HasRows>(archives: &[T]) -> u64
         rows = rows.saturating_add(archive.row_count());
     }
     rows
+}
+
+/// How many rows of an archive end after one time and up to another, in steps of so many seconds.
+pub(crate) fn rows_between(def: &RraDef, step: u64, from: u64, to: u64) -> u64
+    requires some_step { 0 < step }
+    requires small_step { step ≤ version_one.longest_step }
+    requires some_steps { 0 < def.now.steps }
+    requires few_steps { def.now.steps ≤ version_one.most_steps }
+    ensures { result ≡ rows_between step def.now from to }
+{
+    let resolution = def.resolution(step);
+    (to / resolution).saturating_sub(from / resolution)
 }

@@ -16,7 +16,7 @@ ghost use Rattle.rrd_base.specs.Rra.{CanPutBack, IsStepped};
 ghost use Rattle.rrd_base.specs.Walk.{AreSteps, cells_of, count_of, least_of_all, least_of_one, most_of_all, most_of_one, sources_of};
 ghost use Rattle.rrd_spec.specs.Validity.{IsRow, IsValidArchive};
 
-use crate::rows::HasRows;
+use crate::rows::{HasRows, rows_between};
 use crate::walk::Steps;
 use crate::walk::preparations::{add_steps, close_rows};
 use crate::{RraDef, SavedArchive};
@@ -93,7 +93,7 @@ impl Rra {
     }
 
     /// How many preparations there are.
-    pub(crate) fn prepared(&self) -> usize
+    pub(crate) fn prep_count(&self) -> usize
         ensures { result ≡ length self.now.parts }
     {
         self.preps.len()
@@ -261,7 +261,7 @@ impl Rra {
     }
 
     /// A copy of what an update from one time to another takes from the archive, steps of so many
-    // seconds being taken.
+    /// seconds being taken.
     pub(crate) fn save_between(
         &self,
         alloc: Global,
@@ -274,8 +274,7 @@ impl Rra {
         requires small_step { step ≤ version_one.longest_step }
         ensures { IfOk result (λ s. s ≡ saved step from to self.now) }
     {
-        let resolution = self.def.resolution(step);
-        let ended = (to / resolution).saturating_sub(from / resolution);
+        let ended = rows_between(&self.def, step, from, to);
         self.save(alloc, ended.min(self.rows.rows()))
     }
 

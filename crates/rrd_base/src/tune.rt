@@ -1,5 +1,6 @@
-//! Changes of sources' settings: which tunes are accepted, and what they make.
-ghost use Rattle.std.specs.Prelude.{◌≡◌, ◌≤◌, length, map};
+//! Changes of sources' settings: which tunes are accepted, what they make, what the journal keeps of one, and how that
+//! is put back.
+ghost use Rattle.std.specs.Prelude.{◌≡◌, ◌≤◌, None, length, map};
 ghost use Rattle.std.specs.List.{list_any};
 ghost use Rattle.std.specs.Result.{result_err};
 ghost use Rattle.rrd_spec.specs.Commands as commands;
@@ -9,12 +10,15 @@ ghost use Rattle.rrd_base.specs.Tune.{with_raws};
 ghost use Rattle.rrd_spec.specs.Journal.Outlines.{with_sources};
 ghost use Rattle.rrd_spec.specs.Limits.{version_one};
 ghost use Rattle.rrd_spec.specs.Commands.Verdict as verdict;
+ghost use Rattle.rrd_spec.specs.Validity.{IsValid};
 
+use crate::content::Content;
 use crate::create::{has_bad_bounds, is_bad_heartbeat};
 use crate::named::has_source;
 use crate::{DsDef, Refusal, SourceBefore, Tuning};
 use arrayvec::ArrayVec;
 use rrd_fixed::{Kind, Name, Raw};
+use rrd_spec::laws;
 
 // ---- which tunes are accepted
 
@@ -77,7 +81,7 @@ fn any_bad_bounds(sources: &[DsDef], tuning: &Tuning) -> bool
 {
     sources
         .iter()
-        .any(|source| has_bad_bounds(&tuned(tuning, source)))
+        .any(|source| has_bad_bounds(&settings_after(tuning, source)))
 }
 
 // Whether the new heartbeat is a bad one.
@@ -90,8 +94,8 @@ fn has_bad_heartbeat(tuning: &Tuning) -> bool
     }
 }
 
-/// Whether a tune is accepted, or the first refusal (rrdtune).
-pub(crate) fn check_tune(sources: &[DsDef], tuning: &Tuning) -> Result<(), Refusal>
+// Whether a tune is accepted, or the first refusal (rrdtune).
+fn check_tune(sources: &[DsDef], tuning: &Tuning) -> Result<(), Refusal>
     ensures { result_err result ≡ verdict.first_refusal (verdict.tune_checks version_one sources.now tuning.now) }
 {
     if asks_nothing(tuning) {
@@ -118,7 +122,7 @@ pub(crate) fn check_tune(sources: &[DsDef], tuning: &Tuning) -> Result<(), Refus
 // ---- what a tune makes
 
 // What is asked of the source of a name, or else the old value.
-fn asked<T: Copy>(option: &Option<(Name, T)>, name: &Name, old: T) -> T
+fn setting_after<T: Copy>(option: &Option<(Name, T)>, name: &Name, old: T) -> T
     ensures { result ≡ commands.asked option.now name.now old }
 {
     match option {
@@ -128,7 +132,7 @@ fn asked<T: Copy>(option: &Option<(Name, T)>, name: &Name, old: T) -> T
 }
 
 // The name of a source after the tune.
-fn renamed(option: &Option<(Name, Name)>, name: &Name) -> Name
+fn name_after(option: &Option<(Name, Name)>, name: &Name) -> Name
     ensures { result ≡ commands.asked option.now name.now name.now }
 {
     match option {
@@ -144,16 +148,16 @@ fn renamed(option: &Option<(Name, Name)>, name: &Name) -> Name
 }
 
 // A source's settings after the tune.
-fn tuned(tuning: &Tuning, source: &DsDef) -> DsDef
+fn settings_after(tuning: &Tuning, source: &DsDef) -> DsDef
     ensures { result ≡ commands.tuned tuning.now source.now }
 {
     let name = &source.name;
     DsDef {
-        name: renamed(&tuning.rename, name),
-        kind: asked(&tuning.kind, name, source.kind),
-        heartbeat: asked(&tuning.heartbeat, name, source.heartbeat),
-        min: asked(&tuning.minimum, name, source.min),
-        max: asked(&tuning.maximum, name, source.max),
+        name: name_after(&tuning.rename, name),
+        kind: setting_after(&tuning.kind, name, source.kind),
+        heartbeat: setting_after(&tuning.heartbeat, name, source.heartbeat),
+        min: setting_after(&tuning.minimum, name, source.min),
+        max: setting_after(&tuning.maximum, name, source.max),
     }
 }
 
@@ -164,14 +168,14 @@ fn raw_under(old: Kind, new: Kind, raw: Raw) -> Raw
     if old == new { raw } else { Raw::Unknown }
 }
 
-/// Gives each source its new settings.
-pub(crate) fn tune_all(sources: &mut [DsDef], raws: &mut [Raw], tuning: &Tuning)
+// Gives each source its new settings.
+fn tune_all(sources: &mut [DsDef], raws: &mut [Raw], tuning: &Tuning)
     requires { length raws.old ≡ length sources.old }
     ensures sources { sources.new ≡ map (commands.tuned tuning.now) sources.old }
     ensures raws { raws.new ≡ raws_under sources.old (map (commands.tuned tuning.now) sources.old) raws.old }
 {
     for place in 0..sources.len() {
-        let new = tuned(tuning, &sources[place]);
+        let new = settings_after(tuning, &sources[place]);
         raws[place] = raw_under(sources[place].kind, new.kind, raws[place]);
         sources[place] = new;
     }
@@ -200,12 +204,8 @@ fn is_named(tuning: &Tuning, source: &DsDef) -> bool
         || is_asked(&tuning.rename, source)
 }
 
-/// The sources that a tune names, as they are, by rising number. It takes no memory.
-pub(crate) fn keep_sources(
-    sources: &[DsDef],
-    raws: &[Raw],
-    tuning: &Tuning,
-) -> ArrayVec<SourceBefore, 5>
+// The sources that a tune names, as they are, by rising number. It takes no memory.
+fn keep_sources(sources: &[DsDef], raws: &[Raw], tuning: &Tuning) -> ArrayVec<SourceBefore, 5>
     requires one_each { length raws.now ≡ length sources.now }
     requires few { length (entries.sources_before tuning.now 0 sources.now raws.now) ≤ 5 }
     ensures { result.items ≡ entries.sources_before tuning.now 0 sources.now raws.now }
@@ -224,8 +224,8 @@ pub(crate) fn keep_sources(
     olds
 }
 
-/// Puts back the sources as they were.
-pub(crate) fn put_sources_back(sources: &mut [DsDef], raws: &mut [Raw], olds: &[SourceBefore])
+// Puts back the sources as they were.
+fn put_sources_back(sources: &mut [DsDef], raws: &mut [Raw], olds: &[SourceBefore])
     ensures sources { sources.new ≡ with_sources sources.old olds.now }
     ensures raws { raws.new ≡ with_raws raws.old olds.now }
 {
@@ -237,5 +237,43 @@ pub(crate) fn put_sources_back(sources: &mut [DsDef], raws: &mut [Raw], olds: &[
         if number < raws.len() {
             raws[number] = old.raw;
         }
+    }
+}
+
+// ---- of a content
+
+impl Content {
+    /// Whether a tune is accepted, or the first refusal.
+    pub(crate) fn check_tune(&self, tuning: &Tuning) -> Result<(), Refusal>
+        ensures { result_err result ≡ verdict.verdict self.now (commands.TuningBy tuning.now) }
+    {
+        check_tune(&self.sources, tuning)
+    }
+
+    /// Gives the sources the settings that a tune asks.
+    pub(crate) fn tune(&mut self, tuning: &Tuning)
+        requires { verdict.verdict self.old (commands.TuningBy tuning.now) ≡ None }
+        ensures { self.new ≡ commands.moved self.old (commands.TuningBy tuning.now) }
+    {
+        laws::tune_changes_sources();
+        laws::stays_valid();
+        tune_all(&mut self.sources, &mut self.raws, tuning);
+    }
+
+    /// The sources that an accepted tune names, as they are.
+    pub(crate) fn keep_sources(&self, tuning: &Tuning) -> ArrayVec<SourceBefore, 5>
+        requires { verdict.verdict self.now (commands.TuningBy tuning.now) ≡ None }
+        ensures { entries.TuneEntry result.items ≡ entries.entry self.now (commands.TuningBy tuning.now) }
+    {
+        laws::entry_fits();
+        keep_sources(&self.sources, &self.raws, tuning)
+    }
+
+    /// Puts back the sources that a tune named.
+    pub(crate) fn undo_tune(&mut self, olds: &ArrayVec<SourceBefore, 5>)
+        requires { IsValid (entries.undone self.old (entries.TuneEntry olds.now.items)) }
+        ensures { self.new ≡ entries.undone self.old (entries.TuneEntry olds.now.items) }
+    {
+        put_sources_back(&mut self.sources, &mut self.raws, olds.as_slice());
     }
 }

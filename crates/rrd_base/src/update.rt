@@ -1,21 +1,28 @@
-//! Samples for a database: which updates are accepted.
-ghost use Rattle.std.specs.Prelude.{◌≡◌, ◌<◌, ◌∷◌, [], false, length, map, not, slice_index_or};
+//! Samples for a database: which updates are accepted, what the journal keeps of one, and how that is put back.
+ghost use Rattle.std.specs.Prelude.{◌≡◌, ◌<◌, ◌≤◌, ◌∷◌, [], IfOk, false, length, map, not, slice_index_or};
 ghost use Rattle.rrd_spec.specs.declared.settings.DsDef.{DsDef};
 ghost use Rattle.rrd_spec.specs.declared.requests.update.Given.TheVariants.{Unknown};
-ghost use Rattle.std.specs.List.{list_any, list_all};
+ghost use Rattle.std.specs.List.{AllByRecursion, list_any, list_all};
 ghost use Rattle.std.specs.Result.{result_err};
 ghost use Rattle.rrd_spec.specs.Settings.{names};
-ghost use Rattle.rrd_spec.specs.Commands.{raw_of, value_for};
+ghost use Rattle.rrd_spec.specs.Commands.{Updating, raw_of, value_for};
 ghost use Rattle.rrd_spec.specs.Limits.{version_one};
-ghost use Rattle.rrd_spec.specs.Commands.Verdict.{first_refusal, is_admitted, sample_checks, update_checks};
+ghost use Rattle.rrd_spec.specs.Commands.Verdict.{first_refusal, is_admitted, sample_checks, update_checks, verdict};
+ghost use Rattle.rrd_spec.specs.Journal.Entries.{UpdateEntry, put_back_each, saved, undone};
 ghost use Rattle.rrd_spec.specs.Settings.{has_source, is_double};
+ghost use Rattle.rrd_spec.specs.Validity.{IsValid};
+ghost use Rattle.rrd_base.specs.Journal.{before, update_of};
+ghost use Rattle.rrd_base.specs.Rra.{CanPutBackEach, IsStepped};
 ghost use Rattle.rrd_base.specs.Update.{end_of, template_checks, template_of};
 ghost use Rattle.rrd_fixed.specs.Rate.{IsAccepted};
 
+use crate::content::Content;
 use crate::named::{Named, has_source, is_double};
-use crate::{DsDef, Given, List, Refusal, Sample, Update};
+use crate::rra::Rra;
+use crate::{BeforeUpdate, DsDef, Given, List, Refusal, Sample, SavedArchive, Update};
 use rrd_fixed::{Name, Raw, admit};
 use rrd_spec::limits::LATEST_TIME;
+use std::alloc::{AllocError, Global};
 
 // The value in the place of a source's name; unknown if it isn't there.
 fn value_named<T: Named>(named: &[T], values: &[Given], source: &DsDef) -> Given
@@ -162,8 +169,8 @@ fn check_template(template: &Option<List<Name>>, sources: &[DsDef]) -> Result<()
     Ok(())
 }
 
-/// Whether an update is accepted, or the first refusal (rrdupdate).
-pub(crate) fn check_update(sources: &[DsDef], last: u64, update: &Update) -> Result<(), Refusal>
+// Whether an update is accepted, or the first refusal (rrdupdate).
+fn check_update(sources: &[DsDef], last: u64, update: &Update) -> Result<(), Refusal>
     requires { is_double (names sources.now) ≡ false }
     ensures { result_err result ≡ first_refusal (update_checks version_one sources.now last update.now) }
 {
@@ -194,17 +201,17 @@ pub(crate) fn raws_into(
     template: &Option<List<Name>>,
     sources: &[DsDef],
     values: &[Given],
-    room: &mut [Raw],
+    raws: &mut [Raw],
 )
-    requires room { length room.old ≡ length sources.now }
+    requires room { length raws.old ≡ length sources.now }
     requires names_differ { is_double (names sources.now) ≡ false }
-    ensures value { room.new ≡ map
+    ensures value { raws.new ≡ map
         (λ source. raw_of source.kind (value_for (template_of sources.now template.now) values.now source))
         sources.now }
 {
     for place in 0..sources.len() {
         let given = value_for(template, sources, values, place);
-        room[place] = raw_of(&sources[place], given);
+        raws[place] = raw_of(&sources[place], given);
     }
 }
 
@@ -215,4 +222,75 @@ pub(crate) fn end_of(update: &Update) -> u64
 {
     let samples = update.samples.as_slice();
     samples[samples.len() - 1].time
+}
+
+impl Content {
+    /// Whether an update is accepted, or the first refusal.
+    pub(crate) fn check_update(&self, update: &Update) -> Result<(), Refusal>
+        ensures { result_err result ≡ verdict self.now (Updating update.now) }
+    {
+        check_update(&self.sources, self.last, update)
+    }
+
+    /// What the journal keeps of an update that ends at a time.
+    pub(crate) fn before(&self, alloc: Global, end: u64) -> Result<BeforeUpdate, AllocError>
+        ensures { IfOk result (λ b. update_of b ≡ before self.now end) }
+    {
+        Ok(BeforeUpdate {
+            last: self.last,
+            raws: Vec::from_slice(alloc, &self.raws)?,
+            preps: Vec::from_slice(alloc, &self.preps)?,
+            archives: save_all(alloc, &self.archives, self.step, self.last, end)?,
+        })
+    }
+
+    /// Puts back what was before an update. It takes no memory.
+    pub(crate) fn undo_update(&mut self, before: BeforeUpdate)
+        requires fits { CanPutBackEach self.old.archives before.archives.items }
+        requires valid { IsValid (undone self.old (UpdateEntry (update_of before))) }
+        ensures { self.new ≡ undone self.old (UpdateEntry (update_of before)) }
+    {
+        let BeforeUpdate {
+            last,
+            raws,
+            preps,
+            archives,
+        } = before;
+        self.last = last;
+        self.raws = raws;
+        self.preps = preps;
+        put_back_all(&mut self.archives, archives);
+    }
+}
+
+// A copy of what an update from one time to another takes from each archive, steps of so many
+// seconds being taken.
+fn save_all(
+    alloc: Global,
+    archives: &[Rra],
+    step: u64,
+    from: u64,
+    to: u64,
+) -> Result<Vec<SavedArchive>, AllocError>
+    requires stepped { AllByRecursion IsStepped archives.now }
+    requires some_step { 0 < step }
+    requires small_step { step ≤ version_one.longest_step }
+    ensures { IfOk result (λ all. all.items ≡ map (saved step from to) archives.now) }
+{
+    let mut all = Vec::with_capacity(alloc, archives.len())?;
+    for rra in archives {
+        let saved = rra.save_between(alloc, step, from, to)?;
+        all.push(saved)?;
+    }
+    Ok(all)
+}
+
+// Puts back what was kept of each archive. It takes no memory.
+fn put_back_all(archives: &mut [Rra], mut saved: Vec<SavedArchive>)
+    requires fits { CanPutBackEach archives.old saved.items }
+    ensures { archives.new ≡ put_back_each archives.old saved.items }
+{
+    while let Some(old) = saved.pop() {
+        archives[saved.len()].put_back(old);
+    }
 }

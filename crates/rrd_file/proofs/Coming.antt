@@ -61,7 +61,7 @@ came bytes f pieces d later old new p piece c g e len k one =
       only = λ q next t same. subst (λ (x : Piece). GoesOn f (pieces ++ x ∷ []) (behind f.header.step (outline_left f) d x ++ later) next) (one q t.0 same) t.1;
       fault_is = λ at. refl;
       left_is = after.1;
-      place = omega (arith, st.place, g.moved, ap length after.2, length-append piece after.0);
+      place = omega (arith, st.place, g.advanced, ap length after.2, length-append piece after.0);
     }
 
 -- none that keeps to the rule is spelled so
@@ -121,7 +121,7 @@ came_first bytes f t old new piece is_due st g e len =
           subst (λ (u : Tag). GoesOn f (OfTag u ∷ []) (first_due u) next) (tag_same it.0 t byte) it.2;
       fault_is = λ at. sym (ap (bad_in_body f at) is_due);
       left_is = after.1;
-      place = omega (arith, st.place, g.moved, ap length after.2, length-append piece after.0);
+      place = omega (arith, st.place, g.advanced, ap length after.2, length-append piece after.0);
     }
 
 -- no tag is spelled so

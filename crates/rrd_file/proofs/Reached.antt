@@ -76,7 +76,7 @@ taken bytes s n p piece old new st g e t =
       rest = after.0;
       front = front_more bytes s n p after.0 (subst (Front bytes s) is st.front) t;
       left_is = after.1;
-      place = omega (arith, st.place, g.moved, ap length after.2, length-append piece after.0);
+      place = omega (arith, st.place, g.advanced, ap length after.2, length-append piece after.0);
     }
 
 -- none that may come is spelled so

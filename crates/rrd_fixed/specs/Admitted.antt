@@ -12,23 +12,23 @@ abbrev pub in_range : ℤ → ℤ → ℤ → Option ℤ
 in_range low high value = if int_le low value then (if int_le value high then Some value else None) else None
 
 -- a number below 10^18 in size, kept in millionths
-abbrev pub measured : ℤ → Option ℤ
-measured millionths = if nat_lt (unsigned_abs millionths) (10 ^ 24) then Some millionths else None
+abbrev pub in_millionths : ℤ → Option ℤ
+in_millionths millionths = if nat_lt (unsigned_abs millionths) (10 ^ 24) then Some millionths else None
 
 -- whether so many millionths are a whole number of units
 abbrev pub is_whole : ℤ → Bool
 is_whole millionths = int_eq (int_rem_euclid millionths (pos (10 ^ 6))) (pos 0)
 
 -- a number without a point that is a whole number of units, kept in units
-abbrev pub counted : ℤ → ℤ → Number → Option ℤ
-counted low high number =
+abbrev pub in_units : ℤ → ℤ → Number → Option ℤ
+in_units low high number =
     if not number.point && is_whole number.millionths
     then in_range low high (floor_of number.millionths (pos (10 ^ 6)))
     else None
 
 -- the raw value of a number; none if a source of this kind doesn't accept it
 abbrev pub admit : Kind → Number → Option ℤ
-admit Gauge number = measured number.millionths
-admit Absolute number = measured number.millionths
-admit Counter number = counted (pos 0) (pos (2 ^ 64 - 1)) number
-admit Derive number = counted (neg_ℤ (pos (2 ^ 63))) (pos (2 ^ 63 - 1)) number
+admit Gauge number = in_millionths number.millionths
+admit Absolute number = in_millionths number.millionths
+admit Counter number = in_units (pos 0) (pos (2 ^ 64 - 1)) number
+admit Derive number = in_units (neg_ℤ (pos (2 ^ 63))) (pos (2 ^ 63 - 1)) number

@@ -25,5 +25,6 @@ pub use raw::Raw;
 pub use rounding::near;
 pub use streams::{ReadFault, WriteFault, flush, read_some, write_bytes};
 pub use text::{
-    cell_string, raw_string, short_text, time_string, write_cell, write_raw, write_time,
+    cell_string, numbered_text, raw_string, short_text, time_string, write_cell, write_raw,
+    write_time,
 };

@@ -114,8 +114,8 @@ pub fn read_number(bytes: &[u8]) -> Option<Number>
 }
 
 // A number below 10^18 in size, kept in millionths.
-fn measured(millionths: i128) -> Option<i128>
-    ensures { result ≡ spec.measured millionths }
+fn in_millionths(millionths: i128) -> Option<i128>
+    ensures { result ≡ spec.in_millionths millionths }
 {
     if millionths.unsigned_abs() < 1_000_000_000_000_000_000_000_000 {
         Some(millionths)
@@ -126,8 +126,8 @@ fn measured(millionths: i128) -> Option<i128>
 
 // A number without a point that is a whole number of units from `low` to `high`, kept in units.
 // One that was read without a point is always whole; a caller may make others.
-fn counted(low: i128, high: i128, number: Number) -> Option<i128>
-    ensures { result ≡ spec.counted low high number }
+fn in_units(low: i128, high: i128, number: Number) -> Option<i128>
+    ensures { result ≡ spec.in_units low high number }
 {
     let whole = number.millionths.rem_euclid(1_000_000) == 0;
     if number.point || !whole {
@@ -149,8 +149,8 @@ pub fn admit(kind: Kind, number: Number) -> Option<i128>
     ensures accepted { IfSome result (λ raw. IsAccepted kind (Raw.Known raw)) }
 {
     match kind {
-        Kind::Gauge | Kind::Absolute => measured(number.millionths),
-        Kind::Counter => counted(0, u64::MAX as i128, number),
-        Kind::Derive => counted(i64::MIN as i128, i64::MAX as i128, number),
+        Kind::Gauge | Kind::Absolute => in_millionths(number.millionths),
+        Kind::Counter => in_units(0, u64::MAX as i128, number),
+        Kind::Derive => in_units(i64::MIN as i128, i64::MAX as i128, number),
     }
 }

@@ -1,6 +1,6 @@
 //! Times, cells and raw values as text.
 ghost use Rattle.std.specs.List.{repeat};
-ghost use Rattle.std.specs.Prelude.{◌≡◌, ◌+◌, ◌-◌, ◌++◌, ◌∷◌, [], ◌≤◌, length};
+ghost use Rattle.std.specs.Prelude.{◌≡◌, ◌+◌, ◌-◌, ◌++◌, ◌∷◌, [], ◌≤◌, decimal, length};
 ghost use Rattle.rrd_fixed.specs.Text.{cell_text, millionths_text, raw_text, signed_text, time_text, whole_text};
 ghost use Rattle.rrd_fixed.specs.Written.{Writes};
 
@@ -136,4 +136,16 @@ pub fn short_text(letters: &str) -> ArrayString<96>
     let mut string = ArrayString::new();
     string.push_str(letters);
     string
+}
+
+/// A text of at most 40 bytes and a number behind it, in a string without memory.
+pub fn numbered_text(letters: &str, number: u64) -> ArrayString<96>
+    requires { length letters.now ≤ 40 }
+    ensures text { result.bytes ≡ letters.now ++ decimal number }
+    ensures short { length result.bytes ≤ 60 }
+{
+    let mut text = short_text(letters);
+    let mut digits = Buffer::new();
+    text.push_str(digits.format(number));
+    text
 }

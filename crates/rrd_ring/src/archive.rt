@@ -6,7 +6,7 @@ ghost use Rattle.rrd_ring.specs.Rows.{row_at, width, HasWidth, with_row, unknown
 
 use crate::dropped::Dropped;
 use crate::ring::{
-    cells_of, fill_up, push_from, put_row, row_from, row_mut, rows_written, unknown_cells, wrapped,
+    cells_of, fill_up, push_from, put_row, row_from, row_mut, rows_written, unknown_cells, wrap,
     write_from,
 };
 use rrd_fixed::{Cell, Meter};
@@ -98,7 +98,7 @@ impl Archive {
         requires { i < length self.now }
         ensures { result.now ≡ row_at self.now i }
     {
-        let place = wrapped(self.oldest + i as usize, self.rows);
+        let place = wrap(self.oldest + i as usize, self.rows);
         let start = cells_of(place, self.sources);
         row_from(&self.cells, start, self.sources)
     }
@@ -112,7 +112,7 @@ impl Archive {
         ensures same_width { (cells : List Cell) → length cells ≡ length (row_at self.old i)
             → with_row self.old i cells ≡ slice_set self.old i cells }
     {
-        let place = wrapped(self.oldest + i as usize, self.rows);
+        let place = wrap(self.oldest + i as usize, self.rows);
         let start = cells_of(place, self.sources);
         fill_up(&mut self.cells, cells_of(self.rows, self.sources));
         row_mut(&mut self.cells, start, start + self.sources)
@@ -128,7 +128,7 @@ impl Archive {
     {
         let start = cells_of(self.oldest, self.sources);
         put_row(&mut self.cells, start, cells, meter);
-        self.oldest = wrapped(self.oldest + 1, self.rows);
+        self.oldest = wrap(self.oldest + 1, self.rows);
     }
 
     /// A copy of the `n` oldest rows, at most all of them. Answers `AllocError` only for want of
@@ -158,7 +158,7 @@ impl Archive {
         ensures { self.new ≡ dropped ++ take (length self.old - length dropped) self.old }
     {
         fill_up(&mut self.cells, cells_of(self.rows, self.sources));
-        self.oldest = wrapped(self.oldest + (self.rows - dropped.rows), self.rows);
+        self.oldest = wrap(self.oldest + (self.rows - dropped.rows), self.rows);
         let start = cells_of(self.oldest, self.sources);
         write_from(&mut self.cells, start, &dropped.cells);
     }
@@ -173,7 +173,7 @@ impl Archive {
         let wanted = rows as usize;
         let written = rows_written(self.cells.len(), self.rows, self.sources, self.oldest);
         let kept = wanted.min(written);
-        let first = wrapped(self.oldest + (self.rows - kept), self.rows);
+        let first = wrap(self.oldest + (self.rows - kept), self.rows);
         let start = cells_of(first, self.sources);
         let count = cells_of(kept, self.sources);
         let room = cells_of(wanted, self.sources);

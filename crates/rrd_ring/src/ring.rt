@@ -13,7 +13,7 @@ static UNWRITTEN: [Cell; 64] = [Cell::Unknown; 64];
 
 // The row of a ring's vector at `place`, which goes on from the last row to the first: a comparison
 // takes the place of a division.
-pub(crate) fn wrapped(place: usize, rows: usize) -> usize
+pub(crate) fn wrap(place: usize, rows: usize) -> usize
     requires some { 0 < rows }
     requires once { place < 2 * rows }
     ensures { result ≡ place % rows }

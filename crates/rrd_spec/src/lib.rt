@@ -22,5 +22,5 @@ pub use refusal::Refusal;
 pub use requests::{
     Candidate, Change, Chosen, CreateSpec, Given, Receipt, Request, Sample, Tuning, Update,
 };
-pub use settings::{DsDef, RraDef};
+pub use settings::{DsDef, RraDef, are_accepted};
 pub use slots::first_place;

@@ -1,9 +1,8 @@
 //! Why a command is refused.
-ghost use Rattle.std.specs.Prelude.{◌≡◌, ◌≤◌, ◌++◌, decimal, length};
+ghost use Rattle.std.specs.Prelude.{◌≡◌, ◌≤◌, length};
 
 use arrayvec::ArrayString;
-use itoa::Buffer;
-use rrd_fixed::short_text;
+use rrd_fixed::{numbered_text, short_text};
 use thiserror::Error;
 
 /// Why a command is refused. The database is then unchanged.
@@ -91,7 +90,7 @@ impl Refusal {
             Refusal::NoSuchSource => short_text("no such data source"),
             Refusal::WrongCount => short_text("wrong number of values"),
             Refusal::BadValue => short_text("bad value"),
-            Refusal::NotLater { last } => numbered("not later than ", last),
+            Refusal::NotLater { last } => numbered_text("not later than ", last),
             Refusal::NoSample => short_text("no sample"),
             Refusal::NothingToTune => short_text("nothing to tune"),
             Refusal::NoSuchArchive => short_text("no such archive"),
@@ -104,16 +103,4 @@ impl Refusal {
             Refusal::BadTime => short_text("bad time"),
         }
     }
-}
-
-// Letters, and a number behind them.
-fn numbered(letters: &str, number: u64) -> ArrayString<96>
-    requires { length letters.now ≤ 40 }
-    ensures text { result.bytes ≡ letters.now ++ decimal number }
-    ensures short { length result.bytes ≤ 60 }
-{
-    let mut text = short_text(letters);
-    let mut buffer = Buffer::new();
-    text.push_str(buffer.format(number));
-    text
 }

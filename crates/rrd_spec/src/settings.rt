@@ -1,8 +1,9 @@
 //! Settings of data sources and archives.
-ghost use Rattle.std.specs.Prelude.{◌≡◌, ◌^◌, ◌<◌, ◌≤◌, ◌≤ℤ◌, pos};
+ghost use Rattle.std.specs.Prelude.{◌≡◌, ◌^◌, ◌<◌, ◌↔◌, ◌≤◌, ◌≤ℤ◌, IsTrue, pos};
 ghost use Rattle.rrd_fixed.specs.Rate.{IsAccepted, IsBounded, rate as rate_of};
 ghost use Rattle.rrd_spec.specs.Limits.{version_one};
 ghost use Rattle.rrd_spec.specs.Settings.{resolution};
+ghost use Rattle.rrd_spec.specs.Validity.{AreAccepted};
 
 use rrd_fixed::{Cell, Kind, Name, Raw, rate};
 use rrd_fold::Function;
@@ -89,4 +90,19 @@ impl RraDef {
     {
         step * self.steps
     }
+}
+
+/// Whether there is a raw value for each source, which it accepts.
+pub fn are_accepted(sources: &[DsDef], raws: &[Raw]) -> bool
+    ensures { IsTrue result ↔ AreAccepted sources.now raws.now }
+{
+    if raws.len() != sources.len() {
+        return false;
+    }
+    for i in 0..sources.len() {
+        if !sources[i].kind.accepts(raws[i]) {
+            return false;
+        }
+    }
+    true
 }

@@ -4,7 +4,7 @@
 //! real database.
 ghost use Rattle.std.specs.Prelude.{◌≡◌, ◌^◌, ◌<◌, ◌≤◌, length, map, replicate, IfOk, IsTrue, ◌↔◌, None, Some, slice_get};
 ghost use Rattle.std.specs.List.{AllByRecursion, fold};
-ghost use Rattle.rrd_fixed.specs.Rate.{IsAccepted, IsBounded};
+ghost use Rattle.rrd_fixed.specs.Rate.{IsBounded};
 ghost use Rattle.rrd_fixed.specs.declared.raw.Raw.TheVariants.{Unknown};
 ghost use Rattle.rrd_spec.specs.History.Groups as groups;
 ghost use Rattle.rrd_fold.specs.Parts.{nothing, with_cell, with_each, step_cell, row_cell};
@@ -18,8 +18,8 @@ ghost use Rattle.rrd_spec.specs.Slow.{AreInOrder, AreNewest, IsGroup, cell_of, e
 ghost use Rattle.rrd_spec.specs.Validity.{AreAccepted, AreParts, IsPart, IsRow};
 
 use crate::limits::LATEST_TIME;
-use crate::{CreateSpec, DsDef, List, RraDef};
-use rrd_fixed::{Cell, Kind, Raw, near};
+use crate::{CreateSpec, DsDef, List, RraDef, are_accepted};
+use rrd_fixed::{Cell, Raw, near};
 use rrd_fold::Function;
 use std::alloc::{AllocError, Global};
 use std::marker::Model;
@@ -228,7 +228,7 @@ fn second(taken: &[Taken], at: u64) -> &[Cell]
 }
 
 // A copy.
-fn copied(alloc: Global, cells: &[Cell]) -> Result<List<Cell>, AllocError>
+fn copy(alloc: Global, cells: &[Cell]) -> Result<List<Cell>, AllocError>
     ensures { IfOk result (λ copy. copy ≡ cells.now) }
 {
     let mut copy = List::new(alloc);
@@ -250,7 +250,7 @@ fn seconds(
 {
     let mut seconds = List::new(alloc);
     for at in from..to {
-        seconds.push(copied(alloc, second(taken, at + 1))?)?;
+        seconds.push(copy(alloc, second(taken, at + 1))?)?;
     }
     Ok(seconds)
 }
@@ -289,7 +289,7 @@ fn parts_of(
 }
 
 // What a full group gives: a cell for each source.
-fn closed(
+fn close(
     alloc: Global,
     group: Group,
     sources: usize,
@@ -310,7 +310,7 @@ fn closed(
 }
 
 // What the groups give that the items finish, so many having come before them.
-fn finished(
+fn finish(
     alloc: Global,
     group: Group,
     sources: usize,
@@ -330,7 +330,7 @@ fn finished(
     for number in before / size..(before + count) / size {
         let from = (number * size).saturating_sub(before);
         let to = (number + 1) * size - before;
-        given.push(closed(alloc, group, sources, &items[from as usize..to as usize])?)?;
+        given.push(close(alloc, group, sources, &items[from as usize..to as usize])?)?;
     }
     Ok(given)
 }
@@ -367,42 +367,13 @@ pub fn rows(
     let end = last_time(spec.start, readings);
     let seconds = seconds(alloc, taken.as_slice(), spec.start, end)?;
     let step = Group::Step(spec.step);
-    let steps = finished(alloc, step, sources.len(), spec.start, seconds.as_slice())?;
+    let steps = finish(alloc, step, sources.len(), spec.start, seconds.as_slice())?;
     let row = Group::Row(spec.archives.as_slice()[archive]);
     let before = spec.start / spec.step;
-    finished(alloc, row, sources.len(), before, steps.as_slice())
+    finish(alloc, row, sources.len(), before, steps.as_slice())
 }
 
 // ---- what can be worked out
-
-// Whether a source accepts a raw value.
-fn is_accepted(kind: Kind, raw: Raw) -> bool
-    ensures { IsTrue result ↔ IsAccepted kind raw }
-{
-    let Raw::Known(value) = raw else {
-        return true;
-    };
-    match kind {
-        Kind::Counter => 0 <= value && value < 0x1_0000_0000_0000_0000,
-        Kind::Derive => -0x8000_0000_0000_0000 <= value && value < 0x8000_0000_0000_0000,
-        Kind::Gauge | Kind::Absolute => value.unsigned_abs() < LEAST_REFUSED,
-    }
-}
-
-// Whether there is a raw value for each source, which it accepts.
-fn are_accepted(sources: &[DsDef], raws: &[Raw]) -> bool
-    ensures { IsTrue result ↔ AreAccepted sources.now raws.now }
-{
-    if raws.len() != sources.len() {
-        return false;
-    }
-    for i in 0..sources.len() {
-        if !is_accepted(sources[i].kind, raws[i]) {
-            return false;
-        }
-    }
-    true
-}
 
 /// Whether the rows of a new database that is accepted can be worked out: the times rise, after the
 /// start and up to 9,999,999,999, and each sample has a raw value for each source, which it accepts.

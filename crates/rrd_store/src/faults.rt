@@ -8,7 +8,7 @@ use crate::usage::USAGE;
 use arrayvec::ArrayString;
 use rrd_file::FileFault;
 use rrd_fixed::{WriteFault, short_text, write_bytes};
-use rrd_tool::{Fault, LineFault, StreamFault};
+use rrd_tool::{Fault, LineFault, StreamFault, write_error};
 use std::io::Write;
 use thiserror::Error;
 
@@ -67,11 +67,7 @@ impl TaskFault {
 fn write_line<W: Write>(err: &mut W, fault: &TaskFault) -> Result<(), WriteFault>
     ensures { Writes (W.contents err.old) (W.contents err.new) (error_line (task_fault_text fault.now)) result }
 {
-    let mut line = ArrayString::<96>::new();
-    line.push_str("ERROR: ");
-    line.push_str(fault.text().as_str());
-    line.push_str("\n");
-    write_bytes(err, line.as_str().as_bytes())
+    write_error(err, fault.text().as_str())
 }
 
 /// Writes the line of a fault: `ERROR: `, its text and LF. The usage text follows where the words were no command.

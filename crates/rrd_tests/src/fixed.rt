@@ -3,8 +3,9 @@ ghost use Rattle.rrd_fixed.specs.Rate.{IsAccepted};
 
 use crate::shared::streams::{Manner, PLAIN, Taker};
 use rrd_fixed::{
-    Cell, Kind, Meter, Name, Number, Raw, admit, cell_string, near, rate, raw_string, read_number,
-    read_whole, rise, time_string, write_bytes, write_cell, write_raw, write_time,
+    Cell, Kind, Meter, Name, Number, Raw, admit, cell_string, near, numbered_text, rate,
+    raw_string, read_number, read_whole, rise, time_string, write_bytes, write_cell, write_raw,
+    write_time,
 };
 use std::io::ErrorKind;
 use std::test::Fail;
@@ -178,6 +179,40 @@ fn numbers_that_no_text_makes(rt: HostRuntime) {
         };
         assert_eq!(rt; admit(*kind, number), *wanted, "{kind:?} {millionths}");
     }
+}
+
+// A kind, a raw value in units or in millionths, and whether a source of the kind accepts it.
+const RAW_VALUES: &[(Kind, i128, bool)] = &[
+    (Kind::Counter, -1, false),
+    (Kind::Counter, 0, true),
+    (Kind::Counter, 18_446_744_073_709_551_615, true),
+    (Kind::Counter, 18_446_744_073_709_551_616, false),
+    (Kind::Derive, -9_223_372_036_854_775_809, false),
+    (Kind::Derive, -9_223_372_036_854_775_808, true),
+    (Kind::Derive, 9_223_372_036_854_775_807, true),
+    (Kind::Derive, 9_223_372_036_854_775_808, false),
+    (Kind::Gauge, -1_000_000_000_000_000_000_000_000, false),
+    (Kind::Gauge, -999_999_999_999_999_999_999_999, true),
+    (Kind::Absolute, 999_999_999_999_999_999_999_999, true),
+    (Kind::Absolute, 1_000_000_000_000_000_000_000_000, false),
+];
+
+#[test]
+fn accepted_raw_values(rt: HostRuntime) {
+    for (kind, value, wanted) in RAW_VALUES {
+        assert_eq!(rt;
+            kind.accepts(Raw::Known(*value)),
+            *wanted,
+            "{kind:?} {value}"
+        );
+        assert!(rt; kind.accepts(Raw::Unknown), "{kind:?}");
+    }
+}
+
+#[test]
+fn texts_with_a_number(rt: HostRuntime) {
+    let text = numbered_text("not later than ", 18_446_744_073_709_551_615);
+    assert_eq!(rt; text.as_str(), "not later than 18446744073709551615");
 }
 
 // A text, and its value.

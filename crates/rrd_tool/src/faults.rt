@@ -1,7 +1,7 @@
 //! Why a line is refused, and the line that says so.
 ghost use Rattle.std.specs.Prelude.{◌≡◌, ◌≤◌, length};
 ghost use Rattle.rrd_fixed.specs.Written.{Writes};
-ghost use Rattle.rrd_tool.specs.Faults.{fault_line, fault_text, is_numbered, line_fault_text, unread_text, word_of};
+ghost use Rattle.rrd_tool.specs.Faults.{error_line, fault_line, fault_text, is_numbered, line_fault_text, unread_text, word_of};
 
 use arrayvec::ArrayString;
 use itoa::Buffer;
@@ -139,13 +139,21 @@ impl Fault {
     }
 }
 
-/// Writes the line of a fault: `ERROR: `, its text and LF.
-pub fn write_fault<W: Write>(out: &mut W, fault: &Fault) -> Result<(), WriteFault>
-    ensures { Writes (W.contents out.old) (W.contents out.new) (fault_line fault.now) result }
+/// Writes a line that says why: `ERROR: `, a text of at most 60 bytes, and LF.
+pub fn write_error<W: Write>(out: &mut W, text: &str) -> Result<(), WriteFault>
+    requires { length text.now ≤ 60 }
+    ensures { Writes (W.contents out.old) (W.contents out.new) (error_line text.now) result }
 {
     let mut line = ArrayString::<96>::new();
     line.push_str("ERROR: ");
-    line.push_str(fault.text().as_str());
+    line.push_str(text);
     line.push_str("\n");
     write_bytes(out, line.as_str().as_bytes())
+}
+
+/// Writes the line of a fault.
+pub fn write_fault<W: Write>(out: &mut W, fault: &Fault) -> Result<(), WriteFault>
+    ensures { Writes (W.contents out.old) (W.contents out.new) (fault_line fault.now) result }
+{
+    write_error(out, fault.text().as_str())
 }

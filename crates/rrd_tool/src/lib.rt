@@ -13,5 +13,5 @@ mod words;
 pub use batch::{BatchEnd, StreamFault, run_batch};
 pub use commands::{Command, read_command};
 pub use execution::{Outcome, execute};
-pub use faults::{Fault, LineFault, Part, write_fault};
+pub use faults::{Fault, LineFault, Part, write_error, write_fault};
 pub use words::Words;

@@ -10,18 +10,19 @@ ghost use Rattle.rrd_spec.specs.Preparations.{parts_in};
 ghost use Rattle.rrd_spec.specs.Limits.{version_one};
 ghost use Rattle.rrd_spec.specs.Journal.Outlines.{IsSourceBefore, MayResize, MaySave, MaySaveEach, MayTune, MayUndo, MayUpdate, with_sources};
 ghost use Rattle.rrd_spec.specs.Settings.{names};
-ghost use Rattle.rrd_spec.specs.Validity.{AreAccepted, IsPart, IsRow, Rise};
+ghost use Rattle.rrd_spec.specs.Validity.{IsPart, IsRow, Rise};
 
-use super::piece_checks::{is_accepted, is_bounded, is_part, is_source};
+use super::piece_checks::{is_bounded, is_part, is_source};
 use crate::create::has_too_many_cells;
 use crate::journal::{BeforeUpdate, Entry, SavedArchive};
 use crate::named::is_double;
-use crate::rows::all_rows;
+use crate::rows::{all_rows, rows_between};
 use crate::{DsDef, Outline, RraDef, SourceBefore};
 use arrayvec::ArrayVec;
-use rrd_fixed::{Cell, Name, Raw};
+use rrd_fixed::{Cell, Name};
 use rrd_fold::{Function, RowPrep, StepPrep};
 use rrd_ring::{Archive, Dropped};
+use rrd_spec::are_accepted;
 
 // ---- rows
 
@@ -95,22 +96,6 @@ fn are_rows<T: Table>(rows: &T, sources: usize) -> bool
 
 // ---- an update
 
-// Whether the sources accept the raw values, one for each.
-fn are_accepted(sources: &[DsDef], raws: &[Raw]) -> bool
-    ensures good { result ≡ true → AreAccepted sources.now raws.now }
-    ensures bad { AreAccepted sources.now raws.now → result ≡ true }
-{
-    if raws.len() != sources.len() {
-        return false;
-    }
-    for place in 0..sources.len() {
-        if !is_accepted(sources[place].kind, raws[place]) {
-            return false;
-        }
-    }
-    true
-}
-
 // Whether the preparations can each be those of at most so many seconds.
 fn are_step_parts(preps: &[StepPrep], passed: u64) -> bool
     requires { passed ≤ version_one.most_steps }
@@ -159,8 +144,7 @@ fn may_save(span: Span, def: &RraDef, old: &SavedArchive) -> bool
     if old.function() != def.function || old.preps().len() != span.sources {
         return false;
     }
-    let resolution = def.resolution(span.step);
-    let ended = (span.to / resolution).saturating_sub(span.from / resolution);
+    let ended = rows_between(def, span.step, span.from, span.to);
     if old.rows().len() != ended.min(def.rows) {
         return false;
     }
@@ -224,7 +208,7 @@ fn are_sources_before(olds: &[SourceBefore], sources: u64) -> bool
         if old.number < lowest || old.number >= sources {
             return false;
         }
-        if !is_source(&old.source) || !is_accepted(old.source.kind, old.raw) {
+        if !is_source(&old.source) || !old.source.kind.accepts(old.raw) {
             return false;
         }
         lowest = old.number + 1;

@@ -14,7 +14,7 @@ use super::Rebuild;
 use super::piece_checks::is_part;
 use super::preparations::{made_row, made_step};
 use crate::create::{has_too_many_cells, is_bad_rows};
-use crate::rows::all_rows;
+use crate::rows::{all_rows, rows_between};
 use crate::{Outline, RraDef};
 use rrd_fold::{Function, RowPrep, StepPrep};
 use rrd_spec::laws;
@@ -100,9 +100,7 @@ impl Rebuild {
         ensures few { result ≤ version_one.most_rows }
     {
         let def = self.archive_left(archive);
-        let resolution = def.resolution(self.step);
-        let ended = (self.outline.last / resolution).saturating_sub(last / resolution);
-        ended.min(def.rows)
+        rows_between(def, self.step, last, self.outline.last).min(def.rows)
     }
 
     /// Whether an archive can have had so many rows before it was resized.

@@ -1,6 +1,6 @@
 //! Tests of what a file's pieces say.
 ghost use Rattle.std.specs.Prelude.{◌≡◌, ◌≤◌, true};
-ghost use Rattle.rrd_fixed.specs.Rate.{IsAccepted, IsBounded};
+ghost use Rattle.rrd_fixed.specs.Rate.{IsBounded};
 ghost use Rattle.rrd_fold.specs.Bounds.{weight};
 ghost use Rattle.rrd_spec.specs.Limits.{version_one};
 ghost use Rattle.rrd_spec.specs.Files.Rebuilding.{IsArchiveDef};
@@ -8,11 +8,9 @@ ghost use Rattle.rrd_spec.specs.Validity.{IsPart, IsSource};
 
 use crate::create::{has_bad_bounds, is_bad_heartbeat, is_bad_rows, is_bad_steps, is_bad_xff};
 use crate::{DsDef, RraDef};
-use rrd_fixed::{Cell, Kind, Raw};
+use rrd_fixed::Cell;
 use rrd_fold::Function;
-
-// Millionths: (2^64 - 1) * 10^6, the greatest rate.
-const TOP: u128 = 18_446_744_073_709_551_615_000_000;
+use rrd_spec::limits::GREATEST_BOUND;
 
 /// Whether a source's settings are good.
 pub fn is_source(source: &DsDef) -> bool
@@ -20,21 +18,6 @@ pub fn is_source(source: &DsDef) -> bool
     ensures bad { IsSource source.now → result ≡ true }
 {
     source.name.good() && !is_bad_heartbeat(source.heartbeat) && !has_bad_bounds(source)
-}
-
-/// Whether a source of this kind accepts a raw value.
-pub fn is_accepted(kind: Kind, raw: Raw) -> bool
-    ensures good { result ≡ true → IsAccepted kind raw }
-    ensures bad { IsAccepted kind raw → result ≡ true }
-{
-    let Raw::Known(value) = raw else {
-        return true;
-    };
-    match kind {
-        Kind::Counter => 0 <= value && value < 18_446_744_073_709_551_616,
-        Kind::Derive => -9_223_372_036_854_775_808 <= value && value < 9_223_372_036_854_775_808,
-        Kind::Gauge | Kind::Absolute => { value.unsigned_abs() < 1_000_000_000_000_000_000_000_000 }
-    }
 }
 
 // For how many values one may stand.
@@ -56,7 +39,7 @@ pub(super) fn is_part(function: Function, passed: u64, known: u64, value: i128) 
     if known > passed {
         return false;
     }
-    let most = u128::from(weight(function, known)) * TOP;
+    let most = u128::from(weight(function, known)) * GREATEST_BOUND;
     value.unsigned_abs() <= most && (known > 0 || value == 0)
 }
 
@@ -75,6 +58,6 @@ pub fn is_bounded(cell: Cell) -> bool
 {
     match cell {
         Cell::Unknown => true,
-        Cell::Known(value) => value.unsigned_abs() <= TOP,
+        Cell::Known(value) => value.unsigned_abs() <= GREATEST_BOUND,
     }
 }

@@ -32,7 +32,7 @@ IsCut old size OutOfMemory = ⊥
 -- the bytes were taken
 pub record Gives (old : Input) (piece : List ℕ) (new : Input) : Type 0 where
   pub consumed : Consumes (left old) (left new) piece
-  pub moved : new.at ≡ old.at + length piece
+  pub advanced : new.at ≡ old.at + length piece
   pub bounded : new.at < 2 ^ 64
 
 -- a whole piece came, or the input was cut

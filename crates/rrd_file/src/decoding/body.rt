@@ -26,7 +26,7 @@ pub(super) fn source<R: Read + Drop>(
     requires { due build.old ≡ SourceDue }
     ensures steps { (bytes : List ℕ) → Stands bytes (Body build.old) input.old
         → Reaches bytes (λ x. Body build.new) input.new result }
-    ensures moved { OnOk result (Advances input.old input.new) }
+    ensures advanced { OnOk result (Advances input.old input.new) }
 {
     let at = input.at();
     let mut piece = [0u8; 97];
@@ -56,7 +56,7 @@ pub(super) fn head<R: Read + Drop>(
     requires { due build.old ≡ HeadDue }
     ensures steps { (bytes : List ℕ) → Stands bytes (Body build.old) input.old
         → Reaches bytes (λ x. Body build.new) input.new result }
-    ensures moved { OnOk result (Advances input.old input.new) }
+    ensures advanced { OnOk result (Advances input.old input.new) }
 {
     let at = input.at();
     let mut piece = [0u8; 13];
@@ -78,7 +78,7 @@ pub(super) fn prep<R: Read + Drop>(
     requires { (def : RraDef) × (due build.old ≡ PrepDue def) }
     ensures steps { (bytes : List ℕ) → Stands bytes (Body build.old) input.old
         → Reaches bytes (λ x. Body build.new) input.new result }
-    ensures moved { OnOk result (Advances input.old input.new) }
+    ensures advanced { OnOk result (Advances input.old input.new) }
 {
     let at = input.at();
     let mut piece = [0u8; 20];
@@ -96,7 +96,7 @@ fn cell<R: Read + Drop>(input: &mut PieceReader<R>, build: &mut Rebuild) -> Resu
     requires waits { 16 ≤ length input.old.waiting }
     ensures steps { (bytes : List ℕ) → Stands bytes (Body build.old) input.old
         → Reaches bytes (λ x. Body build.new) input.new result }
-    ensures moved { OnOk result (Advances input.old input.new) }
+    ensures advanced { OnOk result (Advances input.old input.new) }
 {
     let (cell, _) = cell_of(input.front(CELL));
     let came = build.cell(cell);
@@ -115,7 +115,7 @@ pub(super) fn cells<R: Read + Drop>(
     requires { due build.old ≡ CellDue }
     ensures steps { (bytes : List ℕ) → Stands bytes (Body build.old) input.old
         → Reaches bytes (λ x. Body build.new) input.new result }
-    ensures moved { OnOk result (Advances input.old input.new) }
+    ensures advanced { OnOk result (Advances input.old input.new) }
 {
     input.wait_for(CELL)?;
     while input.waiting() >= CELL {

@@ -110,7 +110,7 @@ impl<R: Read + Drop> PieceReader<R> {
     pub(crate) fn skip(&mut self, size: usize)
         requires { size ≤ length self.old.waiting }
         ensures consumed { Consumes (left self.old) (left self.new) (take size self.old.waiting) }
-        ensures moved { self.new.at ≡ self.old.at + size }
+        ensures advanced { self.new.at ≡ self.old.at + size }
         ensures bounded { self.new.at < 2 ^ 64 }
     {
         self.waiting.skip(size);

@@ -5,6 +5,7 @@ use crate::tool::batches::{CATCH_UP_AND_TIES, FIRST_PATH, HEARTBEAT_EDGE, ROAD_C
 use rrd_base::{Chosen, CreateSpec, Database, Given, List, Update, check_create};
 use rrd_fixed::{Cell, Kind, Raw, admit};
 use rrd_fold::Function;
+use rrd_spec::are_accepted;
 use rrd_spec::slow::{Reading, are_in_order, rows};
 use rrd_tool::Command;
 use std::alloc::Global;
@@ -94,6 +95,10 @@ fn shown_by_slow_program(rt: &impl Abort, alloc: Global, example: Example<'_>) -
             readings.as_slice()
         )
     );
+    assert!(rt; !are_accepted(asked.spec.sources.as_slice(), &[]));
+    for reading in readings.as_slice() {
+        assert!(rt; are_accepted(asked.spec.sources.as_slice(), reading.raws.as_slice()));
+    }
     let rows = rows(alloc, &asked.spec, number, readings.as_slice())?;
     let name = example.case.0;
     assert_eq!(rt; rows.len(), example.rows.len(), "{name}");

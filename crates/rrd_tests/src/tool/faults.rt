@@ -1,6 +1,6 @@
 //! The lines of faults, and the texts that their types show.
 use rrd_base::Refusal;
-use rrd_tool::{Fault, LineFault, Part, write_fault};
+use rrd_tool::{Fault, LineFault, Part, write_error, write_fault};
 use std::alloc::Global;
 use std::process::Abort;
 use std::test::Fail;
@@ -62,6 +62,13 @@ fn refusals(rt: HostRuntime) -> Result<(), Fail> {
         assert_told(&rt, rt.alloc(), Fault::Refused(*refusal), text)?;
     }
     Ok(())
+}
+
+#[test]
+fn lines_that_say_why(rt: HostRuntime) {
+    let mut out = Vec::new(rt.alloc());
+    assert!(&rt; write_error(&mut out, "cannot open").is_ok());
+    assert_eq!(&rt; out.as_slice(), b"ERROR: cannot open\n".as_slice());
 }
 
 // Parts that can't be read, each as the twelfth.

@@ -14,7 +14,7 @@ overflow_sub-result c =
     let def = ap (λ (d : RraDef). d.rows) c.def-old.ensures in
     let some = some_of_all archives c.args.index c.index-archives-index.result c.requires.there in
     let most = few_sum archives c.requires.few_rows in
-    omega (arith, this, def, some, most, c.all_rows.ensures, c.requires.few_stores)
+    omega (arith, this, def, some, most, c.all_rows.ensures, c.requires.few_archives)
 
 pub overflow_add-result : goal.overflow_add-result
 overflow_add-result c =
@@ -25,7 +25,7 @@ overflow_add-result c =
     let some = some_of_all archives c.args.index c.index-archives-index.result c.requires.there in
     let most = few_sum archives c.requires.few_rows in
     let new = changed_few c.args.change old c.args.rows in
-    omega (arith, this, def, some, most, new, c.all_rows.ensures, c.rows_changed.ensures, c.requires.few_stores, c.requires.few)
+    omega (arith, this, def, some, most, new, c.all_rows.ensures, c.rows_changed.ensures, c.requires.few_archives, c.requires.few)
 
 pub returns-clause-few : goal.returns-clause-few
 returns-clause-few c =
@@ -36,7 +36,7 @@ returns-clause-few c =
     let some = some_of_all archives c.args.index c.index-archives-index.result c.requires.there in
     let most = few_sum archives c.requires.few_rows in
     let new = changed_few c.args.change old c.args.rows in
-    omega (arith, this, def, some, most, new, c.all_rows.ensures, c.rows_changed.ensures, c.requires.few_stores, c.requires.few)
+    omega (arith, this, def, some, most, new, c.all_rows.ensures, c.rows_changed.ensures, c.requires.few_archives, c.requires.few)
 
 pub returns-clause-rows : goal.returns-clause-rows
 returns-clause-rows c =
@@ -52,4 +52,4 @@ returns-clause-rows c =
     let set = sum_set 0 index index (commands.rows_changed c.args.change old c.args.rows) rows (omega arith) (omega (arith, length-map archives (λ (a : Archive). a.def.rows), c.requires.there)) in
     let sum_is : sum (all_rows_after (Resized index (commands.rows_changed c.args.change old c.args.rows)) rows) + old ≡ sum rows + commands.rows_changed c.args.change old c.args.rows = set in
     let most = few_sum archives c.requires.few_rows in
-    omega (arith, this, def, is, some, most, new, sum_is, c.all_rows.ensures, c.requires.few_stores)
+    omega (arith, this, def, is, some, most, new, sum_is, c.all_rows.ensures, c.requires.few_archives)

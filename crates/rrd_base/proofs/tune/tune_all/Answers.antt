@@ -18,17 +18,17 @@ loop-place-preserved c =
     let was = c.loop-place.invariant in
     let within : i < length sources = omega arith in
     let same : get_or c.loop-place.sources i d ≡ get_or sources i d = ap (λ zs. get_or zs i d) was.sources_are ∙ map_next f sources sources i d within within in
-    let new : c.tuned-new.result ≡ f (get_or sources i d) = c.tuned-new.ensures ∙ ap f same in
+    let new : c.settings_after-new.result ≡ f (get_or sources i d) = c.settings_after-new.ensures ∙ ap f same in
     let e = c.index-sources-place-in-loop-place.result in
     let again : get_or c.loop-place.sources i e ≡ get_or sources i d = ap (λ zs. get_or zs i e) was.sources_are ∙ map_next f sources sources i e within within ∙ get_or_default sources i e d within in
     let raw : get_or c.loop-place.raws i Unknown ≡ get_or raws i Unknown = ap (λ zs. get_or zs i Unknown) was.raws_are ∙ raws_next f sources raws i Unknown in
     let under : c.raw_under.result ≡ commands.raw_under (get_or sources i d).kind (f (get_or sources i d)).kind (get_or raws i Unknown)
-    = c.raw_under.ensures ∙ ap (λ (x : DsDef). commands.raw_under x.kind c.tuned-new.result.kind (get_or c.loop-place.raws i Unknown)) again
+    = c.raw_under.ensures ∙ ap (λ (x : DsDef). commands.raw_under x.kind c.settings_after-new.result.kind (get_or c.loop-place.raws i Unknown)) again
     ∙ ap (λ (x : DsDef). commands.raw_under (get_or sources i d).kind x.kind (get_or c.loop-place.raws i Unknown)) new
     ∙ ap (commands.raw_under (get_or sources i d).kind (f (get_or sources i d)).kind) raw in
     record {
-      sources_are = ap (λ zs. set zs i c.tuned-new.result) was.sources_are
-          ∙ map_more f sources sources i d c.tuned-new.result within within new
+      sources_are = ap (λ zs. set zs i c.settings_after-new.result) was.sources_are
+          ∙ map_more f sources sources i d c.settings_after-new.result within within new
           ∙ ap (λ k. map f (take k sources) ++ drop k sources) {x = suc i} {y = i + 1} (omega arith);
       raws_are = ap (λ zs. set zs i c.raw_under.result) was.raws_are
           ∙ raws_more f sources raws i d Unknown c.raw_under.result within c.requires under

@@ -14,7 +14,7 @@ use crate::decoding::input::PieceReader;
 use crate::decoding::pieces::source_before_of;
 use crate::decoding::values::two_of;
 use arrayvec::ArrayVec;
-use rrd_base::{Entry, Rebuild, SourceBefore, is_accepted, is_source};
+use rrd_base::{Entry, Rebuild, SourceBefore, is_source};
 use std::io::Read;
 
 // Whether a tune can have named so many sources.
@@ -52,11 +52,11 @@ fn is_named(build: &Rebuild, old: &SourceBefore, lowest: u64) -> bool
     lowest <= old.number
         && old.number < build.sources()
         && is_source(&old.source)
-        && is_accepted(old.source.kind, old.raw)
+        && old.source.kind.accepts(old.raw)
 }
 
 // Reads a source that a tune named, from the lowest number that it may have.
-fn named<R: Read + Drop>(
+fn named_source<R: Read + Drop>(
     input: &mut PieceReader<R>,
     build: &Rebuild,
     lowest: u64,
@@ -93,7 +93,7 @@ pub(super) fn tune<R: Read + Drop>(
     let mut olds = ArrayVec::new();
     let mut lowest = 0;
     for _ in 0..count {
-        let old = named(input, build, lowest)?;
+        let old = named_source(input, build, lowest)?;
         lowest = old.number + 1;
         olds.push(old);
     }

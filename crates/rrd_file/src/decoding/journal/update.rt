@@ -20,7 +20,7 @@ use crate::decoding::faults::bad_entry;
 use crate::decoding::input::PieceReader;
 use crate::decoding::pieces::before_of;
 use crate::decoding::values::{eight_of, four_of, part_of};
-use rrd_base::{BeforeUpdate, Entry, Rebuild, SavedArchive, is_accepted};
+use rrd_base::{BeforeUpdate, Entry, Rebuild, SavedArchive};
 use rrd_fixed::Raw;
 use rrd_fold::{RowPrep, StepPrep};
 use std::alloc::Global;
@@ -69,7 +69,7 @@ fn raw_and_part<R: Read + Drop>(
     let mut piece = [0u8; 36];
     input.piece(&mut piece)?;
     let (raw, known, sum) = before_of(&piece);
-    if !is_accepted(build.undone().sources.get(source).kind, raw) {
+    if !build.undone().sources.get(source).kind.accepts(raw) {
         return Err(bad_entry(build));
     }
     match build.step_part(last, known, sum) {
@@ -190,7 +190,7 @@ fn row_count<R: Read + Drop>(
 }
 
 // Reads what was before of an archive.
-fn saved<R: Read + Drop>(
+fn saved_archive<R: Read + Drop>(
     alloc: Global,
     input: &mut PieceReader<R>,
     build: &Rebuild,
@@ -234,7 +234,7 @@ fn archives<R: Read + Drop>(
 {
     let mut olds = Vec::new(alloc);
     for archive in 0..build.undone().archives.len() {
-        let old = saved(alloc, input, build, last, archive)?;
+        let old = saved_archive(alloc, input, build, last, archive)?;
         if olds.push(old).is_err() {
             return Err(FileFault::OutOfMemory);
         }

@@ -24,14 +24,14 @@ no_def = record { function = Average; xff = pos 0; steps = 0; rows = 0 }
 pub seconds-requires : goal.seconds-requires
 seconds-requires c = omega (arith, c.last_time-end.ensures, latest_later c.args.spec.now.sources c.args.spec.now.start c.args.readings.now c.requires.in_order)
 
-pub finished-requires-clause-group : goal.finished-requires-clause-group
-finished-requires-clause-group c = let valid = created_valid c.args.spec.now c.requires.accepted in (valid.some_step, valid.small_step)
+pub finish-requires-clause-group : goal.finish-requires-clause-group
+finish-requires-clause-group c = let valid = created_valid c.args.spec.now c.requires.accepted in (valid.some_step, valid.small_step)
 
-pub finished-requires-clause-early : goal.finished-requires-clause-early
-finished-requires-clause-early c = let valid = created_valid c.args.spec.now c.requires.accepted in omega (arith, valid.good_time)
+pub finish-requires-clause-early : goal.finish-requires-clause-early
+finish-requires-clause-early c = let valid = created_valid c.args.spec.now c.requires.accepted in omega (arith, valid.good_time)
 
-pub finished-requires-clause-few : goal.finished-requires-clause-few
-finished-requires-clause-few c =
+pub finish-requires-clause-few : goal.finish-requires-clause-few
+finish-requires-clause-few c =
     let spec = c.args.spec.now in
     let readings = c.args.readings.now in
     let valid = created_valid spec c.requires.accepted in
@@ -39,8 +39,8 @@ finished-requires-clause-few c =
     = seconds_are spec readings c.as_slice-sources.result.now c.as_slice.result.now c.last_time-end.result c.as_slice-2.result.now c.as_slice-sources.ensures (ap (map taken_of) c.as_slice.ensures ∙ c.in_ok-taken.ensures) c.last_time-end.ensures (c.as_slice-2.ensures ∙ c.in_ok-seconds.ensures) in
     omega (arith, ap length list, seconds_end spec readings c.requires.in_order, latest_small spec.sources spec.start readings valid.good_time c.requires.in_order)
 
-pub finished-requires-clause-rows : goal.finished-requires-clause-rows
-finished-requires-clause-rows c =
+pub finish-requires-clause-rows : goal.finish-requires-clause-rows
+finish-requires-clause-rows c =
     let spec = c.args.spec.now in
     let readings = c.args.readings.now in
     let S = c.as_slice-sources.result.now in
@@ -53,18 +53,18 @@ finished-requires-clause-rows c =
 pub nonzero_div-before : goal.nonzero_div-before
 nonzero_div-before c = let valid = created_valid c.args.spec.now c.requires.accepted in valid.some_step
 
-pub finished-requires-2-clause-group : goal.finished-requires-2-clause-group
-finished-requires-2-clause-group c =
+pub finish-requires-2-clause-group : goal.finish-requires-2-clause-group
+finish-requires-2-clause-group c =
     let spec = c.args.spec.now in
     let valid = created_valid spec c.requires.accepted in
     subst (λ (defs : List RraDef). IsGroup (Row (get_or defs c.args.archive no_def))) (sym c.as_slice-3.ensures)
     (archive_group (length spec.sources) (spec.start / spec.step) spec.archives c.args.archive no_def valid.archives_are c.requires.there)
 
-pub finished-requires-2-clause-early : goal.finished-requires-2-clause-early
-finished-requires-2-clause-early c = let valid = created_valid c.args.spec.now c.requires.accepted in omega (arith, valid.good_time, div-le_self c.args.spec.now.start c.args.spec.now.step)
+pub finish-requires-2-clause-early : goal.finish-requires-2-clause-early
+finish-requires-2-clause-early c = let valid = created_valid c.args.spec.now c.requires.accepted in omega (arith, valid.good_time, div-le_self c.args.spec.now.start c.args.spec.now.step)
 
-pub finished-requires-2-clause-few : goal.finished-requires-2-clause-few
-finished-requires-2-clause-few c =
+pub finish-requires-2-clause-few : goal.finish-requires-2-clause-few
+finish-requires-2-clause-few c =
     let spec = c.args.spec.now in
     let readings = c.args.readings.now in
     let S = c.as_slice-sources.result.now in
@@ -74,8 +74,8 @@ finished-requires-2-clause-few c =
     = steps_are spec (map event_of readings) S c.as_slice-2.result.now c.as_slice-4.result.now c.as_slice-sources.ensures list (c.as_slice-4.ensures ∙ c.in_ok-steps.ensures) in
     omega (arith, ap length steps, few_steps spec readings c.requires.accepted c.requires.in_order)
 
-pub finished-requires-2-clause-rows : goal.finished-requires-2-clause-rows
-finished-requires-2-clause-rows c =
+pub finish-requires-2-clause-rows : goal.finish-requires-2-clause-rows
+finish-requires-2-clause-rows c =
     let spec = c.args.spec.now in
     let readings = c.args.readings.now in
     let S = c.as_slice-sources.result.now in
@@ -97,9 +97,9 @@ returns-clause-all c =
     = seconds_are spec readings S c.as_slice.result.now c.last_time-end.result c.as_slice-2.result.now c.as_slice-sources.ensures (ap (map taken_of) c.as_slice.ensures ∙ c.in_ok-taken.ensures) c.last_time-end.ensures (c.as_slice-2.ensures ∙ c.in_ok-seconds.ensures) in
     let steps : c.as_slice-4.result.now ≡ steps_of (created spec) es
     = steps_are spec es S c.as_slice-2.result.now c.as_slice-4.result.now c.as_slice-sources.ensures list (c.as_slice-4.ensures ∙ c.in_ok-steps.ensures) in
-    IfOk-weaker c.finished-2.result _ _
+    IfOk-weaker c.finish-2.result _ _
     (λ rows rows_is. rows_are spec es S c.as_slice-3.result.now c.args.archive no_def c.as_slice-4.result.now rows c.as_slice-sources.ensures c.as_slice-3.ensures steps rows_is)
-    c.finished-2.ensures
+    c.finish-2.ensures
 
 pub returns-clause-newest : goal.returns-clause-newest
 returns-clause-newest c =
@@ -111,7 +111,7 @@ returns-clause-newest c =
     = seconds_are spec readings S c.as_slice.result.now c.last_time-end.result c.as_slice-2.result.now c.as_slice-sources.ensures (ap (map taken_of) c.as_slice.ensures ∙ c.in_ok-taken.ensures) c.last_time-end.ensures (c.as_slice-2.ensures ∙ c.in_ok-seconds.ensures) in
     let steps : c.as_slice-4.result.now ≡ steps_of (created spec) es
     = steps_are spec es S c.as_slice-2.result.now c.as_slice-4.result.now c.as_slice-sources.ensures list (c.as_slice-4.ensures ∙ c.in_ok-steps.ensures) in
-    IfOk-weaker c.finished-2.result _ _
+    IfOk-weaker c.finish-2.result _ _
     (λ rows rows_is. are_newest spec readings c.args.archive no_def rows c.requires.accepted c.requires.in_order
     (rows_are spec es S c.as_slice-3.result.now c.args.archive no_def c.as_slice-4.result.now rows c.as_slice-sources.ensures c.as_slice-3.ensures steps rows_is))
-    c.finished-2.ensures
+    c.finish-2.ensures

@@ -9,8 +9,8 @@ loop-at-preserved c =
     let taken = map taken_of c.args.taken.now in
     let at : ℕ = c.loop-at.at in
     c.in_ok-push.ensures
-    ∙ ap (λ zs. zs ++ c.in_ok-copied.field-0 ∷ []) c.loop-at.invariant
-    ∙ ap (λ x. seconds taken c.args.from at ++ x ∷ []) (c.in_ok-copied.ensures ∙ c.second.ensures)
+    ∙ ap (λ zs. zs ++ c.in_ok-copy.field-0 ∷ []) c.loop-at.invariant
+    ∙ ap (λ x. seconds taken c.args.from at ++ x ∷ []) (c.in_ok-copy.ensures ∙ c.second.ensures)
     ∙ sym (seconds_push taken c.args.from at (omega arith))
 
 pub returns : goal.returns

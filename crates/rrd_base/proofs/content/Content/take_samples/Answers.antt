@@ -46,7 +46,7 @@ take_sample-requires-clause-accepted c =
     let template = template_of X.sources asked in
     let sample = c.sample-item.result in
     let S = c.deref.result.now in
-    let raws = c.raws_into.new.room in
+    let raws = c.raws_into.new.raws in
     let given = (with_items c.loop-sample.walk.raws raws).items in
     let sources : S ≡ X.sources = c.deref.ensures.value ∙ ap (λ (x : Content). x.sources) c.self.view_is ∙ was.same_sources in
     let values = c.as_slice-values.result.now in
@@ -54,7 +54,7 @@ take_sample-requires-clause-accepted c =
     = c.raws_into.ensures.value
     ∙ ap (λ ss. map (λ (source : DsDef). raw_of source.kind (value_for (template_of ss asked) values source)) ss) sources
     ∙ ap (λ vs. map (λ (source : DsDef). raw_of source.kind (value_for template vs source)) X.sources) c.as_slice-values.ensures in
-    let written : given ≡ raws = with_items_is c.loop-sample.walk.raws raws (omega (arith, c.raws_into.auto.room, c.deref_mut.ensures.len)) in
+    let written : given ≡ raws = with_items_is c.loop-sample.walk.raws raws (omega (arith, c.raws_into.auto.raws, c.deref_mut.ensures.len)) in
     accepted_raws c.raw_values_are_accepted.ensures now X.sources template sample.values given was.same_sources (written ∙ raws_are)
 
 pub take_sample-requires-clause-turns : goal.take_sample-requires-clause-turns
@@ -74,7 +74,7 @@ loop-sample-preserved c =
     let template = template_of X.sources asked in
     let sample = c.sample-item.result in
     let S = c.deref.result.now in
-    let raws = c.raws_into.new.room in
+    let raws = c.raws_into.new.raws in
     let given = (with_items c.loop-sample.walk.raws raws).items in
     let sources : S ≡ X.sources = c.deref.ensures.value ∙ ap (λ (x : Content). x.sources) c.self.view_is ∙ was.same_sources in
     let values = c.as_slice-values.result.now in
@@ -82,7 +82,7 @@ loop-sample-preserved c =
     = c.raws_into.ensures.value
     ∙ ap (λ ss. map (λ (source : DsDef). raw_of source.kind (value_for (template_of ss asked) values source)) ss) sources
     ∙ ap (λ vs. map (λ (source : DsDef). raw_of source.kind (value_for template vs source)) X.sources) c.as_slice-values.ensures in
-    let written : given ≡ raws = with_items_is c.loop-sample.walk.raws raws (omega (arith, c.raws_into.auto.room, c.deref_mut.ensures.len)) in
+    let written : given ≡ raws = with_items_is c.loop-sample.walk.raws raws (omega (arith, c.raws_into.auto.raws, c.deref_mut.ensures.len)) in
     let all = c.args.update.now.samples in
     let i = c.loop-sample.sample-index in
     let same_list = c.as_slice-sample-items.ensures in

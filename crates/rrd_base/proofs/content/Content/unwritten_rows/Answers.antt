@@ -6,7 +6,7 @@ use Rattle.rrd_ring.specs.Rows.{unknown_rows}
 use Rattle.rrd_spec.specs.History.{Archive, Content}
 use Rattle.rrd_spec.specs.Lemmas.Lists.{All-at}
 use Rattle.rrd_spec.specs.Validity.{IsValidArchive}
-use Rattle.rrd_base.proofs.StoreLemmas.{width_is}
+use Rattle.rrd_base.proofs.RraLemmas.{width_is}
 use Rattle.rrd_base.proofs.content.Content.unwritten_rows.Goals as goal
 
 pub returns-clause-few : goal.returns-clause-few

@@ -23,7 +23,7 @@ returns-clause-good c = λ new.
     let may : MaySource (filed_in d) source = record {
       is_due = ap due c.self.view_is ∙ (sym c.due.ensures ∙ c.in-SourceDue.is);
       source_is = c.is_source.ensures.good c.if-not-is_source.false;
-      raw_is = c.is_accepted.ensures.good c.if-not-is_accepted.false;
+      raw_is = c.accepts.ensures.good c.if-not-accepts.false;
       part_is = subst (λ z. IsPart Average (d.last % d.step) (record { known = c.args.known; value = z })) same (c.is_part.ensures.good c.if-not-is_part.false);
       name_differs = names_came d c.args.def.now.name c.self.invariant.came ∙ (ap (λ xs. has_source xs c.args.def.now.name) (sym c.deref.ensures.value) ∙ (sym c.has_source.ensures ∙ is_false c.has_source.result new));
     } in

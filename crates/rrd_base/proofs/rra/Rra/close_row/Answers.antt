@@ -6,7 +6,7 @@ use Rattle.rrd_fold.specs.Parts.{Part, nothing, row_cell}
 use Rattle.rrd_spec.specs.History.{Archive}
 use Rattle.rrd_spec.specs.Preparations.{anew, row_of, AllOf}
 use Rattle.rrd_spec.specs.Lemmas.Preparations.{AllOf-anew}
-use Rattle.rrd_base.proofs.StoreLemmas.{shown, closes, parts_fit, row_of_parts}
+use Rattle.rrd_base.proofs.RraLemmas.{shown, closes, parts_fit, row_of_parts}
 use Rattle.rrd_base.proofs.rra.Rra.close_row.Goals as goal
 
 pub close_rows-requires-clause-fits : goal.close_rows-requires-clause-fits

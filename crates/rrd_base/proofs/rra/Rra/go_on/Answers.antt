@@ -6,7 +6,7 @@ use Rattle.rrd_fold.specs.Parts.{Part, with_each}
 use Rattle.rrd_spec.specs.History.{Archive}
 use Rattle.rrd_spec.specs.Preparations.{map_each, with_steps, AllOf}
 use Rattle.rrd_spec.specs.Lemmas.Preparations.{AllOf-with_steps}
-use Rattle.rrd_base.proofs.StoreLemmas.{shown, goes_on, preps_fit}
+use Rattle.rrd_base.proofs.RraLemmas.{shown, goes_on, preps_fit}
 use Rattle.rrd_base.proofs.rra.Rra.go_on.Goals as goal
 
 pub add_steps-requires-clause-fits : goal.add_steps-requires-clause-fits

@@ -2,7 +2,7 @@ use Rattle.std.proofs.Common.{◌≡◌, ◌∙◌, ap, replicate}
 use Rattle.rrd_fold.specs.Parts.{nothing}
 use Rattle.rrd_spec.specs.History.{Archive}
 use Rattle.rrd_spec.specs.Preparations.{parts_in}
-use Rattle.rrd_base.proofs.StoreLemmas.{parts_in-new}
+use Rattle.rrd_base.proofs.RraLemmas.{parts_in-new}
 use Rattle.rrd_base.proofs.rra.Rra.new.Goals as goal
 
 pub returns : goal.returns

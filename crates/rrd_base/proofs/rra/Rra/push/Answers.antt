@@ -7,7 +7,7 @@ use Rattle.rrd_spec.specs.History.{Archive}
 use Rattle.rrd_spec.specs.Laws.Listed.{keep_last}
 use Rattle.rrd_base.specs.declared.rra.Rra.TheInside.{Inside}
 use Rattle.rrd_base.proofs.PushedRows.{push_before, push_past}
-use Rattle.rrd_base.proofs.StoreLemmas.{shown}
+use Rattle.rrd_base.proofs.RraLemmas.{shown}
 use Rattle.rrd_base.proofs.rra.Rra.push.Goals as goal
 use Rattle.rrd_base.proofs.rra.Rra.push.Goals.{then-times-rows, else-times-rows}
 

@@ -10,7 +10,7 @@ use Rattle.rrd_spec.specs.History.{Archive}
 use Rattle.rrd_spec.specs.Laws.Listed.{keep_last}
 use Rattle.rrd_base.proofs.PushedRows.{ended_none, ended_some, row_fits}
 use Rattle.rrd_base.proofs.Passing.{still_fit}
-use Rattle.rrd_base.proofs.StoreLemmas.{taken_valid}
+use Rattle.rrd_base.proofs.RraLemmas.{taken_valid}
 use Rattle.rrd_spec.specs.Lemmas.Validity.{rows_wide}
 use Rattle.rrd_base.proofs.Taking.{begun, filled, full, left_of}
 use Rattle.rrd_base.proofs.rra.Rra.take.Goals as goal

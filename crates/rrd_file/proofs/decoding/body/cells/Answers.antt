@@ -19,5 +19,5 @@ loop-build-init g c = record {
 pub loop-build-preserved : goal.loop-build-preserved
 loop-build-preserved g c = record {
   steps = λ bytes st. c.in_ok-cell.ensures.steps bytes (c.loop-build.invariant.steps bytes st);
-  came = inr (came_on c.loop-build.build c.args.input.now c.loop-build.input c.cell.new.input c.loop-build.invariant.came c.in_ok-cell.ensures.moved);
+  came = inr (came_on c.loop-build.build c.args.input.now c.loop-build.input c.cell.new.input c.loop-build.invariant.came c.in_ok-cell.ensures.advanced);
 }

@@ -27,7 +27,7 @@ invariant_of-self c =
     let row = c.args.cells.now in
     let wide = c.requires.one_each ∙ ring_width a.rows a.sources a.oldest xs c.args.self.now c.self.invariant.ring c.self.view_is in
     let items = c.put_row.ensures.written ∙ ap (λ k. take k a.cells.items ++ (row ++ drop (length row) (drop k a.cells.items))) c.cells_of-start.ensures.count in
-    subst (λ place. IsPartlyWritten a.rows a.sources place c.put_row.new.cells) (sym c.wrapped-self-inside.ensures)
+    subst (λ place. IsPartlyWritten a.rows a.sources place c.put_row.new.cells) (sym c.wrap-self-inside.ensures)
     (pushed a.rows a.sources a.oldest a.cells c.put_row.new.cells row c.self.invariant wide items c.put_row.ensures.capacity)
 
 pub returns-clause-rows : goal.returns-clause-rows
@@ -38,7 +38,7 @@ returns-clause-rows c =
     let row = c.args.cells.now in
     let wide = c.requires.one_each ∙ ring_width a.rows a.sources a.oldest xs c.args.self.now c.self.invariant.ring c.self.view_is in
     let items = c.put_row.ensures.written ∙ ap (λ k. take k a.cells.items ++ (row ++ drop (length row) (drop k a.cells.items))) c.cells_of-start.ensures.count in
-    ap (λ place. ring_rows a.rows a.sources place (with_unwritten all c.put_row.new.cells.items)) c.wrapped-self-inside.ensures
+    ap (λ place. ring_rows a.rows a.sources place (with_unwritten all c.put_row.new.cells.items)) c.wrap-self-inside.ensures
     ∙ ap (ring_rows a.rows a.sources ((a.oldest + 1) % a.rows)) (ap (with_unwritten all) items ∙ pushed_cells a.rows a.sources a.oldest a.cells row c.self.invariant wide)
     ∙ ring_push a.rows a.sources a.oldest xs row c.self.invariant.ring wide
     ∙ ap (λ rows. drop 1 (rows ++ row ∷ [])) c.self.view_is

@@ -48,8 +48,8 @@ returns c =
     let rows : rows_of d.rows d.sources ds ≡ rows_of d.rows a.sources ds = same_rows d.rows d.sources a.sources ds c.dropped.invariant.whole wide in
     let kept : a.rows - d.rows ≡ length c.args.self.now - length c.args.dropped = omega arith in
     let as_long : length new ≡ length xs = c.write_from.auto.ring ∙ ap length c.deref_mut.ensures.value in
-    let written = rw (c.deref.ensures.value, c.deref_mut.ensures.value, c.cells_of-start.ensures.count, c.wrapped-self-inside.ensures) at c.write_from.ensures in
-    rw (with_items_is v new (as_long ∙ sym v.ok.0), c.wrapped-self-inside.ensures, all_written all new (as_long ∙ is.whole))
+    let written = rw (c.deref.ensures.value, c.deref_mut.ensures.value, c.cells_of-start.ensures.count, c.wrap-self-inside.ensures) at c.write_from.ensures in
+    rw (with_items_is v new (as_long ∙ sym v.ok.0), c.wrap-self-inside.ensures, all_written all new (as_long ∙ is.whole))
     (ring_put_back d.rows a.rows a.sources a.oldest xs new ds fewer is as_long cells written
     ∙ ap (λ all. all ++ take (a.rows - d.rows) (ring_rows a.rows a.sources a.oldest xs)) (sym rows ∙ c.dropped.view_is)
     ∙ ap (λ all. c.args.dropped ++ take (a.rows - d.rows) all) view

@@ -13,7 +13,7 @@ push_from-requires-clause-within c =
     let a = c.self.inside in
     let kept = c.min-kept.result in
     let are = subst (λ len. AreWritten a.rows a.sources a.oldest len c.rows_written-written.result) c.len.ensures (c.rows_written-written.ensures.all, c.rows_written-written.ensures.part) in
-    rw (c.deref.ensures.value, c.cells_of-start.ensures.count, c.wrapped-first.ensures)
+    rw (c.deref.ensures.value, c.cells_of-start.ensures.count, c.wrap-first.ensures)
     (newest_within a.rows a.sources a.oldest c.rows_written-written.result kept a.cells c.self.invariant are (omega (arith, c.min-kept.ensures)))
 
 pub invariant_of-result : goal.invariant_of-result
@@ -31,7 +31,7 @@ invariant_of-result c =
     let unknown : c.cells_of-room.result - c.cells_of-count.result ≡ (wanted - kept) * a.sources = omega (arith, c.cells_of-room.ensures.count, c.cells_of-count.ensures.count) in
     let some : 0 < wanted = c.requires.some_rows in
     let items : c.push_from.new.copies.items ≡ replicate ((wanted - kept) * a.sources) Unknown ++ take (kept * a.sources) (from_place (((a.oldest + (a.rows - kept)) % a.rows) * a.sources) xs) =
-    rw (c.in_ok-push_from.ensures, c.in_ok-cells.ensures, unknown, c.deref.ensures.value, c.cells_of-start.ensures.count, c.cells_of-count.ensures.count, c.cells_of-all.ensures.count, c.wrapped-first.ensures) refl in
+    rw (c.in_ok-push_from.ensures, c.in_ok-cells.ensures, unknown, c.deref.ensures.value, c.cells_of-start.ensures.count, c.cells_of-count.ensures.count, c.cells_of-all.ensures.count, c.wrap-first.ensures) refl in
     wholly wanted a.sources 0 c.push_from.new.copies (record {
       some_rows = c.requires.some_rows;
       few_rows = c.requires.few_rows;
@@ -62,7 +62,7 @@ returns c =
     let unknown : c.cells_of-room.result - c.cells_of-count.result ≡ (wanted - kept) * a.sources = omega (arith, c.cells_of-room.ensures.count, c.cells_of-count.ensures.count) in
     let copied = replicate ((wanted - kept) * a.sources) Unknown ++ take (kept * a.sources) (from_place (((a.oldest + (a.rows - kept)) % a.rows) * a.sources) xs) in
     let items : c.push_from.new.copies.items ≡ copied =
-    rw (c.in_ok-push_from.ensures, c.in_ok-cells.ensures, unknown, c.deref.ensures.value, c.cells_of-start.ensures.count, c.cells_of-count.ensures.count, c.cells_of-all.ensures.count, c.wrapped-first.ensures) refl in
+    rw (c.in_ok-push_from.ensures, c.in_ok-cells.ensures, unknown, c.deref.ensures.value, c.cells_of-start.ensures.count, c.cells_of-count.ensures.count, c.cells_of-all.ensures.count, c.wrap-first.ensures) refl in
     let as_long = length-resized wanted kept a.rows a.sources a.oldest xs fewer within c.self.invariant.ring in
     let oldest_unknown : take (length rows - known) rows ≡ unknown_rows (length rows - known) a.sources =
     ap (λ (n : ℕ). take (n - known) rows) long

@@ -15,8 +15,8 @@ overflow_add-self-inside c =
     let a = c.self.inside in
     omega (arith, ring_len a.rows a.sources a.oldest (with_unwritten (a.rows * a.sources) a.cells.items) c.args.self.now c.self.view_is)
 
-pub wrapped-place-requires-clause-once : goal.wrapped-place-requires-clause-once
-wrapped-place-requires-clause-once c =
+pub wrap-place-requires-clause-once : goal.wrap-place-requires-clause-once
+wrap-place-requires-clause-once c =
     let a = c.self.inside in
     omega (arith, ring_len a.rows a.sources a.oldest (with_unwritten (a.rows * a.sources) a.cells.items) c.args.self.now c.self.view_is)
 
@@ -35,7 +35,7 @@ returns c =
     let view : ring_rows a.rows a.sources a.oldest xs ≡ c.args.self.now = ap (ring_rows a.rows a.sources a.oldest) same ∙ c.self.view_is in
     let within : i < a.rows = omega (arith, c.requires, ring_len a.rows a.sources a.oldest xs c.args.self.now view) in
     let fits = ring_fits a.rows a.sources a.oldest at xs is (mod_below (a.oldest + i) a.rows is.some_rows) in
-    let begins : start ≡ at * a.sources = c.cells_of-start.ensures.count ∙ ap (λ (k : ℕ). k * a.sources) c.wrapped-place.ensures in
+    let begins : start ≡ at * a.sources = c.cells_of-start.ensures.count ∙ ap (λ (k : ℕ). k * a.sources) c.wrap-place.ensures in
     let long : start + a.sources - start ≡ a.sources = omega arith in
     let read : row ≡ row_of a.sources xs at =
     ap (λ (n : ℕ). take n (drop start xs)) long ∙ ap (λ (k : ℕ). take a.sources (drop k xs)) begins in

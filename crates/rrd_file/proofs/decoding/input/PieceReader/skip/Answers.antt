@@ -11,8 +11,8 @@ returns-clause-consumed g c =
     subst (λ (x : Input). Consumes (left x) (prepend_known c.skip.new.self behind) (take c.args.size x.waiting)) c.self.view_is
     (subst (λ (l : List ℕ). Consumes (prepend_known w behind) (prepend_known l behind) (take c.args.size w)) (sym c.skip.ensures) (consumed w behind c.args.size))
 
-pub returns-clause-moved : goal.returns-clause-moved
-returns-clause-moved g c =
+pub returns-clause-advanced : goal.returns-clause-advanced
+returns-clause-advanced g c =
     let w = c.self.inside.waiting in
     let held : length w ≤ c.self.inside.came = c.self.invariant in
     let same : length w ≡ length c.args.self.now.waiting = ap (λ (x : Input). length x.waiting) c.self.view_is in

@@ -32,7 +32,7 @@ loop-preserved g c =
       omega (arith, c.in_ok-old.ensures.few),
       λ bytes st.
           let due = subst (λ (l : List DueInEntry). Comes bytes c.args.build.now (OfTag ATune ∷ OfCount c.in_ok-count.count ∷ map OfSourceBefore c.loop.olds.items) l c.loop.input) (named_less c.loop.lowest n i more) (c.loop.invariant.2 bytes st) in
-          subst (λ (l : List Piece). Comes bytes c.args.build.now l (named_due (old.number + 1) (n - (i + 1))) c.named.new.input) (more_map OfSourceBefore (OfTag ATune ∷ OfCount n ∷ []) c.loop.olds.items old ∙ ap (λ (l : List SourceBefore). OfTag ATune ∷ OfCount n ∷ map OfSourceBefore l) (sym items))
+          subst (λ (l : List Piece). Comes bytes c.args.build.now l (named_due (old.number + 1) (n - (i + 1))) c.named_source.new.input) (more_map OfSourceBefore (OfTag ATune ∷ OfCount n ∷ []) c.loop.olds.items old ∙ ap (λ (l : List SourceBefore). OfTag ATune ∷ OfCount n ∷ map OfSourceBefore l) (sym items))
           (c.in_ok-old.ensures.brings bytes (OfTag ATune ∷ OfCount c.in_ok-count.count ∷ map OfSourceBefore c.loop.olds.items) (n - (i + 1)) due),
     )
 

@@ -34,7 +34,7 @@ loop-archive-preserved g c =
     let items : c.push.new.self.items ≡ olds ++ old ∷ [] = search rules in (
       subst (AreSavedShaped (length now.sources) (take (i + 1) now.archives)) (sym items) (shaped_more (length now.sources) now.archives i found.0 olds old found.1 c.loop-archive.invariant.0 (c.in_ok-old.ensures.shaped found.0 found.1)),
       λ bytes pieces later st.
-          subst (λ (l : List Piece). Comes bytes c.args.build.now l (flat_map (archive_due c.args.build.now.header.step now c.args.last) (drop (i + 1) now.archives) ++ later) c.saved.new.input) (more_flat saved_pieces pieces olds old ∙ ap (λ (l : List SavedArchive). pieces ++ flat_map saved_pieces l) (sym items))
+          subst (λ (l : List Piece). Comes bytes c.args.build.now l (flat_map (archive_due c.args.build.now.header.step now c.args.last) (drop (i + 1) now.archives) ++ later) c.saved_archive.new.input) (more_flat saved_pieces pieces olds old ∙ ap (λ (l : List SavedArchive). pieces ++ flat_map saved_pieces l) (sym items))
           (c.in_ok-old.ensures.brings bytes (pieces ++ flat_map saved_pieces olds) (flat_map (archive_due c.args.build.now.header.step now c.args.last) (drop (i + 1) now.archives) ++ later) found.0 found.1
           (subst (λ (l : List DueInEntry). Comes bytes c.args.build.now (pieces ++ flat_map saved_pieces olds) l c.loop-archive.input) (next_archive (archive_due c.args.build.now.header.step now c.args.last) now.archives i found.0 later found.1) (c.loop-archive.invariant.1 bytes pieces later st))),
     )

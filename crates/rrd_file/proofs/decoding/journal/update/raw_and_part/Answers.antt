@@ -24,8 +24,8 @@ returns-in_err-piece g c = λ bytes pieces later def e st.
     let len : length c.piece.new.piece ≡ 36 = search rules in
     rw (p.1, p.2) (cut_within bytes c.args.build.now pieces (BeforeDue c.args.last def) later c.args.input.now _ _ st (sym len) c.in_err-piece.ensures.read)
 
-pub returns-then-not-is_accepted : goal.returns-then-not-is_accepted
-returns-then-not-is_accepted g c = λ bytes pieces later def e st.
+pub returns-then-not-accepts : goal.returns-then-not-accepts
+returns-then-not-accepts g c = λ bytes pieces later def e st.
     let len : length c.piece.new.piece ≡ 36 = search rules in
     let fits : FitsSigned w128 c.before_of-raw.result.2 = search rules in
     let raw = c.before_of-raw.result.0 in
@@ -36,7 +36,7 @@ returns-then-not-is_accepted g c = λ bytes pieces later def e st.
     let same : c.get.result.now ≡ def = got (outline_left c.args.build.now).sources c.args.source def c.get.result.now e item in
     rw c.bad_entry.ensures
     (broken bytes c.args.build.now pieces (BeforeDue c.args.last def) later c.args.input.now c.piece.new.self (OfRawAndPart raw part) c.piece.new.piece st c.in_ok-piece.ensures.read is (sym len) (ReadRawAndPart c.args.last def raw part c.before_of-raw.ensures.raw fit)
-    (λ k. let bad : false ≡ true = sym c.if-not-is_accepted.true ∙ c.is_accepted.ensures.bad (subst (λ (x : DsDef). IsAccepted x.kind raw) (sym same) k.0) in absurd cc))
+    (λ k. let bad : false ≡ true = sym c.if-not-accepts.true ∙ c.accepts.ensures.bad (subst (λ (x : DsDef). IsAccepted x.kind raw) (sym same) k.0) in absurd cc))
 
 pub returns-in-Some : goal.returns-in-Some
 returns-in-Some g c = λ bytes pieces later def e st.
@@ -51,7 +51,7 @@ returns-in-Some g c = λ bytes pieces later def e st.
     let both = simp (to_z-of_z {w = w128} fits) at c.in-Some.ensures.some in
     subst (λ (x : Part). Comes bytes c.args.build.now (pieces ++ OfRawAndPart raw x ∷ []) later c.piece.new.self) (sym both.1)
     (kept bytes c.args.build.now pieces (BeforeDue c.args.last def) later c.args.input.now c.piece.new.self (OfRawAndPart raw part) c.piece.new.piece st c.in_ok-piece.ensures.read is (sym len) (ReadRawAndPart c.args.last def raw part c.before_of-raw.ensures.raw fit)
-    (subst (λ (x : DsDef). IsAccepted x.kind raw) same (c.is_accepted.ensures.good c.if-not-is_accepted.false), subst (λ (x : Part). IsPart Average (c.args.last % c.args.build.now.header.step) x) both.1 both.0))
+    (subst (λ (x : DsDef). IsAccepted x.kind raw) same (c.accepts.ensures.good c.if-not-accepts.false), subst (λ (x : Part). IsPart Average (c.args.last % c.args.build.now.header.step) x) both.1 both.0))
 
 pub returns-in-None : goal.returns-in-None
 returns-in-None g c = λ bytes pieces later def e st.

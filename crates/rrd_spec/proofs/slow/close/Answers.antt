@@ -3,7 +3,7 @@ use Rattle.rrd_spec.specs.Slow.{function_of, size_of}
 use Rattle.rrd_spec.specs.Validity.{AreParts, IsPart}
 use Rattle.rrd_spec.specs.Lemmas.Lists.{All-at}
 use Rattle.rrd_spec.proofs.SlowLemmas.{parts_weaker}
-use Rattle.rrd_spec.proofs.slow.closed.Goals as goal
+use Rattle.rrd_spec.proofs.slow.close.Goals as goal
 
 pub cell-requires-clause-part : goal.cell-requires-clause-part
 cell-requires-clause-part c =

@@ -1,6 +1,6 @@
 use Rattle.std.proofs.Common.{◌≡◌, ◌++◌, take, drop, vec_len}
 use Rattle.rrd_spec.specs.Journal.Entries.{put_back_each}
-use Rattle.rrd_base.proofs.journal.put_back_all.Given as goal
+use Rattle.rrd_base.proofs.update.put_back_all.Given as goal
 
 abbrev pub invariant-loop-old : goal.invariant-loop-old
 invariant-loop-old l = record {

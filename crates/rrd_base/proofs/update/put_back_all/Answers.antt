@@ -4,7 +4,7 @@ use Rattle.rrd_spec.specs.History.{Archive}
 use Rattle.rrd_spec.specs.Journal.Entries.{SavedArchive, put_back, put_back_each}
 use Rattle.rrd_base.specs.Rra.{CanPutBack}
 use Rattle.rrd_base.proofs.PutBack.{none_back, front_short, front_of, popped, put_back_next, put_back_more, as_many, can_at}
-use Rattle.rrd_base.proofs.journal.put_back_all.Goals as goal
+use Rattle.rrd_base.proofs.update.put_back_all.Goals as goal
 
 pub loop-old-init : goal.loop-old-init
 loop-old-init c =

@@ -15,7 +15,7 @@ use Rattle.rrd_file.specs.Stages.{DueInEntry, RowPrepDue, RowsDue, cells_due}
 use Rattle.rrd_file.specs.Decoding.Progress.{Comes}
 use Rattle.rrd_file.proofs.Told.{there}
 use Rattle.rrd_file.proofs.Turns.{got}
-use Rattle.rrd_file.proofs.decoding.journal.update.saved.Goals as goal
+use Rattle.rrd_file.proofs.decoding.journal.update.saved_archive.Goals as goal
 
 pub returns-in_err-preps-clause-brings : goal.returns-in_err-preps-clause-brings
 returns-in_err-preps-clause-brings g c = λ bytes pieces later def e st.

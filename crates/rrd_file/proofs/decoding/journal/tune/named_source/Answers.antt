@@ -8,7 +8,7 @@ use Rattle.rrd_file.specs.Stages.{DueInEntry, NamedDue, named_due}
 use Rattle.rrd_file.specs.Decoding.Progress.{Comes}
 use Rattle.rrd_file.proofs.Coming.{cut_within}
 use Rattle.rrd_file.proofs.Kept.{ReadNamed, broken, kept, unread}
-use Rattle.rrd_file.proofs.decoding.journal.tune.named.Goals as goal
+use Rattle.rrd_file.proofs.decoding.journal.tune.named_source.Goals as goal
 
 pub returns-in_err-piece-clause-brings : goal.returns-in_err-piece-clause-brings
 returns-in_err-piece-clause-brings g c = λ bytes pieces more st.
