@@ -14,7 +14,8 @@ use Rattle.rrd_fold.specs.declared.function.Function.{Function}
 use Rattle.rrd_spec.specs.declared.settings.RraDef.{RraDef}
 use Rattle.rrd_spec.specs.declared.requests.fetch.Candidate.{Candidate}
 use Rattle.rrd_spec.specs.declared.requests.fetch.Request.{Request}
-use Rattle.rrd_spec.specs.Choice.{Searched, searched, same_function, candidate, candidates, best, covers, is_nearer, is_farther, taken, is_preferred}
+use Rattle.rrd_base.specs.Fetch.{Searched, searched, is_preferred}
+use Rattle.rrd_spec.specs.Choice.{same_function, candidate, candidates, best, covers, is_nearer, is_farther, taken}
 
 -- ---- the best of a list
 

@@ -4,8 +4,6 @@ use Rattle.std.specs.Prelude.{sum, slice_index_or, slice_set}
 use Rattle.std.specs.List.{AllByRecursion, refill}
 use Rattle.std.proofs.lemmas.List.{drop_all, map-set}
 use Rattle.rrd_fixed.specs.declared.name.Name.{Name}
-use Rattle.rrd_fixed.specs.declared.raw.Raw.{Raw}
-use Rattle.rrd_fixed.specs.Rate.{IsAccepted}
 use Rattle.rrd_fold.specs.Bounds.{Consolidating}
 use Rattle.rrd_fold.specs.Parts.{Part}
 use Rattle.rrd_spec.specs.Preparations.{parts_in}
@@ -17,7 +15,7 @@ use Rattle.rrd_spec.specs.Limits.{version_one}
 use Rattle.rrd_spec.specs.Lemmas.Lists.{All-at, drop_here}
 use Rattle.rrd_spec.specs.Journal.Outlines.{MaySave, MaySaveEach, rows_of, with_row_number, with_sources}
 use Rattle.rrd_spec.specs.Settings.{names}
-use Rattle.rrd_spec.specs.Validity.{AreAccepted, Rise}
+use Rattle.rrd_spec.specs.Validity.{Rise}
 use Rattle.rrd_base.specs.Rebuild.EntryChecks.{with_names}
 use Rattle.rrd_base.proofs.Rebuilt.{fold_sum}
 

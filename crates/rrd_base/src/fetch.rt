@@ -7,6 +7,7 @@ ghost use Rattle.rrd_fixed.specs.declared.cell.Cell.TheVariants.{Unknown};
 ghost use Rattle.rrd_fold.specs.declared.function.Function.{Function};
 ghost use Rattle.rrd_spec.specs.declared.requests.fetch.Request.{Request};
 ghost use Rattle.rrd_spec.specs.declared.settings.RraDef.{RraDef};
+ghost use Rattle.rrd_base.specs.Fetch.{is_preferred, searched};
 ghost use Rattle.rrd_spec.specs.Choice as choice;
 ghost use Rattle.rrd_spec.specs.History.{definitions};
 ghost use Rattle.rrd_spec.specs.History.Cells.{cell_at, oldest, oldest_time};
@@ -32,7 +33,7 @@ pub struct Search {
 }
 
 impl Model for Search {
-    ghost use Rattle.rrd_spec.specs.Choice.{Searched, IsSearch};
+    ghost use Rattle.rrd_base.specs.Fetch.{Searched, IsSearch};
 
     ghost Value = { Searched };
 
@@ -48,7 +49,7 @@ impl Search {
         requires small_step { step ≤ version_one.longest_step }
         requires good_last { last ≤ version_one.latest_time }
         ensures { MatchResult result
-            (λ search. search ≡ choice.searched step last request [])
+            (λ search. search ≡ searched step last request [])
             (λ refusal. (defs : List RraDef) → choice.choice_of version_one step last defs request ≡ Err refusal) }
     {
         check_span(request)?;
@@ -67,8 +68,8 @@ impl Search {
         requires few_rows { def.now.rows ≤ version_one.most_rows }
         ensures { (step last : ℕ) (request : Request) (defs : List RraDef) →
             number ≡ length defs →
-            self.old ≡ choice.searched step last request defs →
-            self.new ≡ choice.searched step last request (defs ++ def.now ∷ []) }
+            self.old ≡ searched step last request defs →
+            self.new ≡ searched step last request (defs ++ def.now ∷ []) }
     {
         if !is_same_function(def.function, self.request.function) {
             return;
@@ -86,7 +87,7 @@ impl Search {
     /// What the fetch reads, all archives having been offered.
     pub(crate) fn finish(&self) -> Result<Chosen, Refusal>
         ensures { (step last : ℕ) (request : Request) (defs : List RraDef) →
-            self.now ≡ choice.searched step last request defs →
+            self.now ≡ searched step last request defs →
             result ≡ choice.choice_of version_one step last defs request }
     {
         let Some(best) = self.best else {
@@ -146,7 +147,7 @@ fn candidate(step: u64, last: u64, number: u64, def: &RraDef) -> Candidate
 
 // Whether an archive is taken rather than one with a lower number.
 fn is_preferred(request: Request, one: &Candidate, other: &Candidate) -> bool
-    ensures { result ≡ choice.is_preferred request.asked request.start one.now other.now }
+    ensures { result ≡ is_preferred request.asked request.start one.now other.now }
 {
     match (covers(request.start, one), covers(request.start, other)) {
         (true, true) => is_nearer(request.asked, one, other),

@@ -4,6 +4,8 @@
 /// `-TOP` to `TOP`, `TOP` being (2^64 - 1) * 10^6.
 #[derive(Clone, Copy, Debug, PartialEq, Eq)]
 pub enum Cell {
+    /// Nothing is known, or not enough: `nan`.
     Unknown,
+    /// Millionths.
     Known(i128),
 }

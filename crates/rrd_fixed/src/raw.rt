@@ -4,6 +4,8 @@
 /// ABSOLUTE.
 #[derive(Clone, Copy, Debug, PartialEq, Eq)]
 pub enum Raw {
+    /// No value: `U`.
     Unknown,
+    /// Units or millionths, by the type of the source.
     Known(i128),
 }

@@ -1,6 +1,6 @@
 -- Definition: which archive a fetch reads, and which span of it (rrdfetch; the order of the archives is this
 -- project's).
-use Rattle.std.specs.Prelude.{ℕ, ◌+◌, ◌-◌, ◌*◌, ◌/◌, ◌^◌, ◌<◌, ◌≤◌, IfSome, pos, int_lt, int_le, nat_lt, Bool, true, false, not, ◌&&◌, ◌||◌, if◌then◌else◌, Option, Some, None, Result, Ok, Err, List, [], ◌∷◌, map}
+use Rattle.std.specs.Prelude.{ℕ, ◌+◌, ◌-◌, ◌*◌, ◌/◌, pos, int_lt, int_le, nat_lt, Bool, true, false, not, ◌&&◌, ◌||◌, if◌then◌else◌, Option, Some, None, Result, Ok, Err, List, [], ◌∷◌, map}
 use Rattle.std.specs.Int.{abs_diff}
 use Rattle.std.specs.List.{find, filter, list_any, enumerate_from}
 use Rattle.std.specs.Option.{option_or}
@@ -13,7 +13,7 @@ use Rattle.rrd_spec.specs.declared.requests.fetch.Request.{Request}
 use Rattle.rrd_spec.specs.declared.refusal.Refusal.{Refusal}
 use Rattle.rrd_spec.specs.declared.refusal.Refusal.TheVariants.{BadTime, BadSpan, NoArchiveForFunction, SpanTooLong}
 use Rattle.rrd_spec.specs.Limits.{Limits, version_one}
-use Rattle.rrd_spec.specs.History.{Archive, Content}
+use Rattle.rrd_spec.specs.History.{Content, definitions}
 use Rattle.rrd_spec.specs.Settings.{resolution}
 use Rattle.rrd_spec.specs.History.Cells.{reach}
 use Rattle.rrd_spec.specs.Commands.Verdict.{Check, ◌refuses◌, first_refusal}
@@ -104,40 +104,8 @@ choice_of limits step last defs request =
 -- what a fetch reads, or its refusal
 unfoldable pub choice_within : Limits → Content → Function → ℕ → ℕ → ℕ → Result Chosen Refusal
 choice_within limits content function asked start end =
-    choice_of limits content.step content.last (map (λ (archive : Archive). archive.def) content.archives)
+    choice_of limits content.step content.last (definitions content.archives)
     (record { function = function; asked = asked; start = start; end = end })
 
 abbrev pub choice : Content → Function → ℕ → ℕ → ℕ → Result Chosen Refusal
 choice = choice_within version_one
-
--- ---- the search for it, archive by archive
-
--- what is asked for, and the one that is taken of the archives so far
-pub record Searched : Type 0 where
-  pub step : ℕ
-  pub last : ℕ
-  pub request : Request
-  pub best : Option Candidate
-
-abbrev pub searched : ℕ → ℕ → Request → List RraDef → Searched
-searched step last request defs = record {
-  step = step;
-  last = last;
-  request = request;
-  best = taken request.asked request.start (candidates step last request.function defs);
-}
-
--- what keeps its sums within 64 bits
-pub record IsSearch (step last : ℕ) (request : Request) (best : Option Candidate) : Type 0 where
-  pub some_step : 0 < step
-  pub small_step : step ≤ version_one.longest_step
-  pub good_last : last ≤ version_one.latest_time
-  pub in_order : request.start ≤ request.end
-  pub good_end : request.end ≤ version_one.latest_time
-  pub usable : IfSome best (λ (one : Candidate). (0 < one.resolution) × (one.resolution ≤ 10 ^ 12))
-
--- whether an archive is taken rather than one with a lower number
-abbrev pub is_preferred : ℕ → ℕ → Candidate → Candidate → Bool
-is_preferred asked start one other =
-    if covers start one then (if covers start other then is_nearer asked one other else true)
-    else (if covers start other then false else is_farther asked one other)

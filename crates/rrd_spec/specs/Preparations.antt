@@ -1,4 +1,4 @@
--- Definition: the preparations of many sources: what they hold and give, and what they are after more steps.
+-- Definition: what the preparations of many sources hold; and, as glue, what they give and become.
 use Rattle.std.specs.Prelude.{◌≡◌, ℕ, ℤ, List, [], ◌∷◌, map, replicate}
 use Rattle.std.specs.List.{AllByRecursion, fold}
 use Rattle.rrd_fixed.specs.declared.cell.Cell.{Cell}

@@ -1,4 +1,4 @@
--- Definition: the plain slow program: what it takes, and how it groups cells.
+-- Definition: the plain slow program: what it takes, and what it gives; and, as glue, how it groups cells.
 use Rattle.std.specs.Prelude.{◌≡◌, ℕ, ◌-◌, ◌<◌, ◌≤◌, pos, ◌≤ℤ◌, Some, List, [], ◌∷◌, ◌++◌, drop, length, map, replicate, slice_get}
 use Rattle.rrd_fixed.specs.declared.cell.Cell.{Cell}
 use Rattle.rrd_fold.specs.declared.function.Function.{Function}

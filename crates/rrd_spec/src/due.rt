@@ -11,8 +11,10 @@ pub enum Due {
     HeadDue,
     /// A preparation of the archive of these settings.
     PrepDue(RraDef),
+    /// A cell of an archive.
     CellDue,
     /// A journal entry.
     EntryDue,
+    /// Nothing more: the database is whole.
     NothingDue,
 }

@@ -13,22 +13,37 @@ use thiserror::Error;
 /// What a word is a part of, or stands for.
 #[derive(Clone, Copy, Debug, PartialEq, Eq)]
 pub enum Part {
+    /// The step of a create: `step`.
     Step,
+    /// The start of a create or a fetch: `start`.
     Start,
+    /// The depth of the journal: `journal`.
     Journal,
+    /// The definition of a data source or an archive: `definition`.
     Definition,
+    /// The template of an update: `template`.
     Template,
+    /// A sample of an update: `sample`.
     Sample,
+    /// A source's new heartbeat: `heartbeat`.
     Heartbeat,
+    /// A source's new least rate: `minimum`.
     Minimum,
+    /// A source's new greatest rate: `maximum`.
     Maximum,
-    /// A source's type: `type`.
+    /// A source's new type: `type`.
     Class,
+    /// A source's new name: `rename`.
     Rename,
+    /// An archive's number: `archive`.
     Archive,
+    /// GROW or SHRINK: `change`.
     Change,
+    /// How many rows come or go: `rows`.
     Rows,
+    /// A consolidation function: `function`.
     Function,
+    /// The resolution of a fetch: `resolution`.
     Resolution,
     /// The end of a fetch: `end`.
     Until,

@@ -1,5 +1,5 @@
 -- Law: what an archive shows, by time, by list and by age.
-use Rattle.std.specs.Prelude.{◌≡◌, ◌++◌, ℕ, ◌+◌, ◌-◌, ◌/◌, List, length, take, map, if◌then◌else◌, ℤ, nat_lt, Some, slice_index_or, ◌<◌, ◌≤◌, min, pos, slice_get}
+use Rattle.std.specs.Prelude.{◌≡◌, ◌++◌, ℕ, ◌-◌, ◌/◌, List, length, take, map, if◌then◌else◌, ℤ, nat_lt, Some, slice_index_or, ◌<◌, ◌≤◌, min, pos, slice_get}
 use Rattle.std.specs.List.{range_with_len}
 use Rattle.rrd_spec.specs.History.{Content, Archive, Event, moment_of, IsHistory, IsBase, Reading, Sampled, IsArchive}
 use Rattle.rrd_spec.specs.Commands.{events}

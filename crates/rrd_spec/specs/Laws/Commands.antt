@@ -1,5 +1,5 @@
 -- Law: what an accepted command changes of a content, and what it keeps.
-use Rattle.std.specs.Prelude.{◌≡◌, ◌++◌, ℕ, ◌+◌, ◌-◌, List, length, map, false, None, ◌∷◌, slice_index_or, ◌<◌, ◌≤◌, replicate, reverse}
+use Rattle.std.specs.Prelude.{◌≡◌, ◌++◌, ℕ, List, length, map, false, None, ◌∷◌, slice_index_or, ◌<◌, ◌≤◌, replicate, reverse}
 use Rattle.std.specs.List.{AllByRecursion}
 use Rattle.rrd_spec.specs.Limits.{version_one}
 use Rattle.rrd_spec.specs.History.{Content, IsBase, raws_under}

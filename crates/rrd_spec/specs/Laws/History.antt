@@ -1,5 +1,5 @@
 -- Law: a history may be cut anywhere: what the first part leaves is the base of the rest.
-use Rattle.std.specs.Prelude.{◌≡◌, ◌++◌, ℕ, ◌+◌, ◌-◌, List, length, []}
+use Rattle.std.specs.Prelude.{◌≡◌, ◌++◌, ℕ, ◌+◌, List, length, []}
 use Rattle.rrd_spec.specs.History.{Content, Event, moment_of, moment_at_end, IsHistory, IsBase}
 use Rattle.rrd_spec.specs.Commands.{events}
 use Rattle.rrd_spec.specs.Laws.Listed.{content_listed}

@@ -6,7 +6,6 @@ use Rattle.rrd_spec.specs.Commands.{Command, moved}
 use Rattle.rrd_spec.specs.Commands.Verdict.{verdict}
 use Rattle.rrd_spec.specs.Journal.Entries.{Entry, entry, undone, IsSound}
 use Rattle.rrd_spec.specs.Journal.Survivors.{Action, changed, reverted, stored_after, after, Stands, State, Stored, AllUndo}
-use Rattle.rrd_spec.specs.History.Cells.{content}
 use Rattle.rrd_spec.specs.Validity.{IsValid, IsValidDatabase, Fits}
 
 -- the entry of an accepted command fits the content after it

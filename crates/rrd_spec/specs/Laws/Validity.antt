@@ -1,5 +1,5 @@
 -- Law: what is made of something valid is valid.
-use Rattle.std.specs.Prelude.{◌≡◌, ℕ, ◌+◌, ◌-◌, List, length, None, ◌≤◌}
+use Rattle.std.specs.Prelude.{◌≡◌, ℕ, ◌+◌, List, length, None, ◌≤◌}
 use Rattle.std.specs.List.{AllByRecursion}
 use Rattle.rrd_spec.specs.History.{Content, Archive}
 use Rattle.rrd_spec.specs.Commands.{Command, moved}

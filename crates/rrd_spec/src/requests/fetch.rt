@@ -8,9 +8,10 @@ pub struct Request {
     pub function: Function,
     /// The seconds in a row that are wished for.
     pub asked: u64,
-    /// The time from which rows are wanted: 0 to 9,999,999,999.
+    /// The time from which rows are wanted, in seconds since 1970: 0 to 9,999,999,999.
     pub start: u64,
-    /// The time up to which rows are wanted: 0 to 9,999,999,999, not before the start.
+    /// The time up to which rows are wanted, in seconds since 1970: 0 to 9,999,999,999, not before the
+    /// start.
     pub end: u64,
 }
 
@@ -21,9 +22,9 @@ pub struct Chosen {
     pub archive: u64,
     /// Seconds in a row.
     pub res: u64,
-    /// The start, rounded down to a multiple of `res`.
+    /// The start, in seconds since 1970, rounded down to a multiple of `res`.
     pub lo: u64,
-    /// The first multiple of `res` after the end.
+    /// The first multiple of `res` after the end, in seconds since 1970.
     pub hi: u64,
 }
 
@@ -34,6 +35,6 @@ pub struct Candidate {
     pub number: u64,
     /// Seconds in a row.
     pub resolution: u64,
-    /// The time after which its rows lie.
+    /// The time after which its rows lie, in seconds since 1970, and negative where it is before that.
     pub reach: i64,
 }

@@ -5,7 +5,9 @@ use rrd_fixed::{Name, Number};
 /// A value as it is given: `U`, or a number.
 #[derive(Clone, Copy, Debug, PartialEq, Eq)]
 pub enum Given {
+    /// No value: `U`.
     Unknown,
+    /// A number, with a point or without.
     Number(Number),
 }
 

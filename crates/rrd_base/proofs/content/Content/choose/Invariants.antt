@@ -1,5 +1,5 @@
 use Rattle.std.proofs.Common.{◌≡◌, take}
-use Rattle.rrd_spec.specs.Choice.{searched}
+use Rattle.rrd_base.specs.Fetch.{searched}
 use Rattle.rrd_spec.specs.History.{definitions}
 use Rattle.rrd_base.proofs.content.Content.choose.Given as goal
 

@@ -1,0 +1,37 @@
+-- Glue: the search for the archive that a fetch reads, archive by archive.
+use Rattle.std.specs.Prelude.{ℕ, ◌^◌, ◌<◌, ◌≤◌, IfSome, Bool, true, false, if◌then◌else◌, Option, List}
+use Rattle.rrd_spec.specs.declared.requests.fetch.Candidate.{Candidate}
+use Rattle.rrd_spec.specs.declared.requests.fetch.Request.{Request}
+use Rattle.rrd_spec.specs.declared.settings.RraDef.{RraDef}
+use Rattle.rrd_spec.specs.Choice.{candidates, covers, is_farther, is_nearer, taken}
+use Rattle.rrd_spec.specs.Limits.{version_one}
+
+-- what is asked for, and the one that is taken of the archives so far
+pub record Searched : Type 0 where
+  pub step : ℕ
+  pub last : ℕ
+  pub request : Request
+  pub best : Option Candidate
+
+abbrev pub searched : ℕ → ℕ → Request → List RraDef → Searched
+searched step last request defs = record {
+  step = step;
+  last = last;
+  request = request;
+  best = taken request.asked request.start (candidates step last request.function defs);
+}
+
+-- what keeps its sums within 64 bits
+pub record IsSearch (step last : ℕ) (request : Request) (best : Option Candidate) : Type 0 where
+  pub some_step : 0 < step
+  pub small_step : step ≤ version_one.longest_step
+  pub good_last : last ≤ version_one.latest_time
+  pub in_order : request.start ≤ request.end
+  pub good_end : request.end ≤ version_one.latest_time
+  pub usable : IfSome best (λ (one : Candidate). (0 < one.resolution) × (one.resolution ≤ 10 ^ 12))
+
+-- whether an archive is taken rather than one with a lower number
+abbrev pub is_preferred : ℕ → ℕ → Candidate → Candidate → Bool
+is_preferred asked start one other =
+    if covers start one then (if covers start other then is_nearer asked one other else true)
+    else (if covers start other then false else is_farther asked one other)
