@@ -199,7 +199,8 @@ fn span(request: Request, one: &Candidate) -> Chosen
 impl Content {
     /// Which archive a fetch reads, and which of its rows.
     pub(crate) fn choose(&self, request: Request) -> Result<Chosen, Refusal>
-        ensures { result ≡ choice.choice_of version_one self.now.step self.now.last (definitions self.now.archives) request }
+        ensures { result
+            ≡ choice.choice_of version_one self.now.step self.now.last (definitions self.now.archives) request }
     {
         let mut search = Search::begin(self.step, self.last, request)?;
         for (number, rra) in self.archives.iter().enumerate() {

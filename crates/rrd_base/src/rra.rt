@@ -3,6 +3,7 @@ ghost use Rattle.std.specs.Prelude.{◌≡◌, List, ◌+◌, ◌*◌, ◌^◌, 
 ghost use Rattle.std.specs.List.{AllByRecursion, fold};
 ghost use Rattle.rrd_fixed.specs.declared.cell.Cell.{Cell};
 ghost use Rattle.rrd_fixed.specs.declared.cell.Cell.TheVariants.{Unknown};
+ghost use Rattle.rrd_fold.specs.Bounds.{most_known};
 ghost use Rattle.rrd_fold.specs.Parts.{Part, nothing, row_cell, with_each};
 ghost use Rattle.rrd_ring.specs.Rows.{HasWidth, newest_rows, row_at, unknown_rows, width};
 ghost use Rattle.rrd_spec.specs.Journal.Entries.{put_back as after_put_back, saved};
@@ -173,7 +174,7 @@ impl Rra {
     // Adds to each preparation its source's step, so many times. It is a turn for each.
     fn go_on(&mut self, step: &[Cell], count: u64, meter: &mut Meter)
         requires row { IsRow (length self.old.parts) step.now }
-        requires fits { AllByRecursion (λ (p : Part). p.known + count ≤ 1000000) self.old.parts }
+        requires fits { AllByRecursion (λ (p : Part). p.known + count ≤ most_known) self.old.parts }
         requires turns { meter.old + length step.now < 2 ^ 64 }
         ensures value { self.new ≡ record self.old {
           parts = fold (with_each self.old.def.function) self.old.parts (replicate count step.now);

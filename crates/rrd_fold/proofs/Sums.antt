@@ -8,7 +8,7 @@ use Rattle.rrd_fixed.specs.declared.cell.Cell.TheVariants.{Unknown, Known}
 use Rattle.rrd_fold.specs.Parts.{Part, with_cell}
 use Rattle.rrd_fold.specs.declared.function.Function.{Function}
 use Rattle.rrd_fold.specs.declared.function.Function.TheVariants.{Average}
-use Rattle.rrd_fold.specs.Bounds.{IsSum}
+use Rattle.rrd_fold.specs.Bounds.{IsSum, most_known}
 
 unfoldable pub part : ℕ → ℤ → Part
 part known value = record { known = known; value = value }
@@ -29,7 +29,7 @@ fold_sum p rate (suc n) =
     fold_sum (with_cell Average p (Known rate)) rate n
     ∙ ap (λ k. part k ((p.value +ℤ rate) +ℤ rate *ℤ pos n)) a ∙ ap (part (p.known + suc n)) b
 
-pub IsSum_more : (known n : ℕ) (sum more : ℤ) → IsSum known sum → known + n ≤ 1000000 → unsigned_abs more ≤ n * top → IsSum (known + n) (sum +ℤ more)
+pub IsSum_more : (known n : ℕ) (sum more : ℤ) → IsSum known sum → known + n ≤ most_known → unsigned_abs more ≤ n * top → IsSum (known + n) (sum +ℤ more)
 IsSum_more known n sum more is h bounded = record { few = h; bounded = omega (arith, ints, is.bounded) }
 
 -- what an addition leaves, from the fields before it

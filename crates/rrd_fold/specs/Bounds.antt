@@ -8,9 +8,13 @@ use Rattle.rrd_fold.specs.declared.function.Function.{Function}
 use Rattle.rrd_fold.specs.declared.function.Function.TheVariants.{Average, Min, Max, Last}
 use Rattle.rrd_fold.specs.Parts.{Part, consolidated}
 
+-- the most known cells in one part
+abbrev pub most_known : ℕ
+most_known = 1000000
+
 -- a sum of so many values, each from -TOP to TOP
 pub record IsSum (known : ℕ) (sum : ℤ) : Type 0 where
-  pub few : known ≤ 1000000
+  pub few : known ≤ most_known
   pub bounded : unsigned_abs sum ≤ known * top
 
 -- how many known cells there are in so many times a cell
@@ -31,7 +35,7 @@ weight Max known = 1
 weight Last known = 1
 
 pub record IsConsolidated (function : Function) (known : ℕ) (value : ℤ) : Type 0 where
-  pub few : known ≤ 1000000
+  pub few : known ≤ most_known
   pub bounded : unsigned_abs value ≤ weight function known * top
   pub empty : known ≡ 0 → value ≡ pos 0
 

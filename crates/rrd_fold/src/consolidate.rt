@@ -4,7 +4,7 @@ ghost use Rattle.std.specs.List.{fold};
 ghost use Rattle.rrd_fold.specs.Parts.{Part, with_cell, nothing};
 ghost use Rattle.rrd_fold.specs.declared.function.Function.{Function};
 ghost use Rattle.rrd_fold.specs.declared.function.Function.TheVariants as of;
-ghost use Rattle.rrd_fold.specs.Bounds.{IsBounded, counted, finished_cell};
+ghost use Rattle.rrd_fold.specs.Bounds.{IsBounded, counted, finished_cell, most_known};
 
 use crate::Function;
 use crate::summary::Summary;
@@ -26,14 +26,14 @@ pub trait Consolidate {
 
     /// Adds a cell, in millionths, known ones from `-TOP` to `TOP`. An unknown cell changes nothing.
     fn add(&mut self, cell: Cell)
-        requires fits { (part self.old).known + counted 1 cell ≤ 1000000 }
+        requires fits { (part self.old).known + counted 1 cell ≤ most_known }
         requires bounded { IsBounded cell }
         ensures added { part self.new ≡ with_cell function (part self.old) cell }
         ensures grows { (part self.new).known ≤ (part self.old).known + counted 1 cell };
 
     /// Adds a cell `n` times, which comes to the same as `n` calls of `add`.
     fn add_many(&mut self, cell: Cell, n: u64)
-        requires fits { (part self.old).known + counted n cell ≤ 1000000 }
+        requires fits { (part self.old).known + counted n cell ≤ most_known }
         requires bounded { IsBounded cell }
         ensures added { part self.new ≡ fold (with_cell function) (part self.old) (replicate n cell) }
         ensures grows { (part self.new).known ≤ (part self.old).known + counted n cell };

@@ -3,7 +3,7 @@ ghost use Rattle.std.specs.Prelude.{◌≡◌, ◌+◌, ◌*◌, ◌^◌, ◌<�
 ghost use Rattle.std.specs.List.{fold};
 ghost use Rattle.rrd_fixed.specs.Rate.{top};
 ghost use Rattle.rrd_fold.specs.Parts.{with_cell, row_cell, nothing};
-ghost use Rattle.rrd_fold.specs.Bounds.{IsBounded, counted, weight};
+ghost use Rattle.rrd_fold.specs.Bounds.{IsBounded, counted, most_known, weight};
 
 use crate::Function;
 use crate::summary::Summary;
@@ -41,7 +41,7 @@ impl RowPrep {
     /// Adds the cell of a step, in millionths, a known one from `-TOP` to `TOP`. An unknown one
     /// changes nothing. It is one turn.
     pub fn add(&mut self, cell: Cell, meter: &mut Meter)
-        requires fits { self.old.part.known + counted 1 cell ≤ 1000000 }
+        requires fits { self.old.part.known + counted 1 cell ≤ most_known }
         requires bounded { IsBounded cell }
         requires turns { meter.old + 1 < 2 ^ 64 }
         ensures added { self.new
@@ -55,7 +55,7 @@ impl RowPrep {
 
     /// Adds a step's cell `n` times, which comes to the same as `n` calls of `add` and is one turn.
     pub fn add_many(&mut self, cell: Cell, n: u64, meter: &mut Meter)
-        requires fits { self.old.part.known + counted n cell ≤ 1000000 }
+        requires fits { self.old.part.known + counted n cell ≤ most_known }
         requires bounded { IsBounded cell }
         requires turns { meter.old + 1 < 2 ^ 64 }
         ensures added { self.new ≡ record {
@@ -75,7 +75,7 @@ impl RowPrep {
     /// or the last of them. The preparation starts anew. It is one turn.
     pub fn close(&mut self, steps: u64, xff: u64, meter: &mut Meter) -> Cell
         requires some { 1 ≤ steps }
-        requires few { steps ≤ 1000000 }
+        requires few { steps ≤ most_known }
         requires part { xff < 1000000 }
         requires fits { self.old.part.known ≤ steps }
         requires turns { meter.old + 1 < 2 ^ 64 }
@@ -96,7 +96,7 @@ impl RowPrep {
     /// How many known steps there were.
     pub fn known(&self) -> u64
         ensures value { result ≡ self.now.part.known }
-        ensures limit { result ≤ 1000000 }
+        ensures limit { result ≤ most_known }
     {
         self.summary.known
     }

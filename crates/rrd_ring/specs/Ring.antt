@@ -4,6 +4,7 @@ use Rattle.std.specs.Global.{Global}
 use Rattle.std.specs.List.{range_with_len}
 use Rattle.rrd_fixed.specs.declared.cell.Cell.{Cell}
 use Rattle.rrd_fixed.specs.declared.cell.Cell.TheVariants.{Unknown}
+use Rattle.rrd_ring.specs.Rows.{most_rows, most_sources}
 pub mod Slices
 
 -- row k of a vector whose rows have so many cells each
@@ -23,12 +24,12 @@ ring_rows rows sources place cells = map (λ i. row_of sources cells ((place + i
 abbrev pub from_place : ℕ → List Cell → List Cell
 from_place start cells = drop start cells ++ take start cells
 
--- a ring of 1 to 1,000,000 rows of 1 to 64 cells each, in one vector, and the place of its oldest row
+-- a ring of rows of as many cells each, in one vector, and the place of its oldest row
 pub record IsRing (rows sources place : ℕ) (cells : List Cell) : Type 0 where
   pub some_rows : 0 < rows
-  pub few_rows : rows ≤ 1000000
+  pub few_rows : rows ≤ most_rows
   pub some_sources : 0 < sources
-  pub few_sources : sources ≤ 64
+  pub few_sources : sources ≤ most_sources
   pub whole : length cells ≡ rows * sources
   pub place_within : place < rows
 
@@ -43,8 +44,8 @@ pub record IsPartlyWritten (rows sources place : ℕ) (written : Vec Cell Global
       (vec_len written ≡ rows * sources)
       ⊎ ((vec_len written ≡ place * sources) × (rows * sources ≤ vec_capacity written))
 
--- at most 1,000,000 rows of at most 64 cells each, in one vector
+-- rows of as many cells each, in one vector
 pub record AreRows (rows sources : ℕ) (cells : List Cell) : Type 0 where
-  pub few_rows : rows ≤ 1000000
-  pub few_sources : sources ≤ 64
+  pub few_rows : rows ≤ most_rows
+  pub few_sources : sources ≤ most_sources
   pub whole : length cells ≡ rows * sources

@@ -29,15 +29,22 @@ unknown_rows rows sources = replicate rows (replicate sources Unknown)
 abbrev pub newest_rows : ℕ → List (List Cell) → List (List Cell)
 newest_rows n rows = unknown_rows (n - length rows) (width rows) ++ drop (length rows - n) rows
 
--- what an archive holds: 1 to 1,000,000 rows of 1 to 64 cells each
+-- the most rows of an archive, and cells of a row
+abbrev pub most_rows : ℕ
+most_rows = 1000000
+
+abbrev pub most_sources : ℕ
+most_sources = 64
+
+-- what an archive holds: rows of as many cells each
 pub record IsArchive (rows : List (List Cell)) : Type 0 where
   pub some_rows : 0 < length rows
-  pub few_rows : length rows ≤ 1000000
+  pub few_rows : length rows ≤ most_rows
   pub some_sources : 0 < width rows
-  pub few_sources : width rows ≤ 64
+  pub few_sources : width rows ≤ most_sources
   pub one_width : HasWidth (width rows) rows
 
--- rows that an archive dropped: at most 1,000,000, all as wide
+-- rows that an archive dropped, all as wide
 pub record AreDropped (rows : List (List Cell)) : Type 0 where
-  pub few_rows : length rows ≤ 1000000
+  pub few_rows : length rows ≤ most_rows
   pub one_width : HasWidth (width rows) rows

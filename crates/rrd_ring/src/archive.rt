@@ -2,7 +2,7 @@
 ghost use Rattle.std.specs.Prelude.{◌≡◌, ◌+◌, ◌-◌, ◌<◌, ◌≤◌, ◌^◌, List, [], ◌∷◌, ◌++◌, length, take, drop, slice_set, IfOk};
 ghost use Rattle.std.specs.Borrow.{sem};
 ghost use Rattle.rrd_fixed.specs.declared.cell.Cell.{Cell};
-ghost use Rattle.rrd_ring.specs.Rows.{row_at, width, HasWidth, with_row, unknown_rows, newest_rows};
+ghost use Rattle.rrd_ring.specs.Rows.{row_at, width, HasWidth, with_row, unknown_rows, newest_rows, most_rows, most_sources};
 
 use crate::dropped::Dropped;
 use crate::ring::{
@@ -49,9 +49,9 @@ impl Archive {
     /// Answers `AllocError` only for want of memory.
     pub fn new(alloc: Global, rows: u64, sources: u64) -> Result<Archive, AllocError>
         requires some_rows { 0 < rows }
-        requires few_rows { rows ≤ 1000000 }
+        requires few_rows { rows ≤ most_rows }
         requires some_sources { 0 < sources }
-        requires few_sources { sources ≤ 64 }
+        requires few_sources { sources ≤ most_sources }
         ensures { IfOk result (λ archive. archive ≡ unknown_rows rows sources) }
     {
         let (rows, sources) = (rows as usize, sources as usize);
@@ -69,7 +69,7 @@ impl Archive {
     pub fn rows(&self) -> u64
         ensures count { result ≡ length self.now }
         ensures some { 0 < result }
-        ensures few { result ≤ 1000000 }
+        ensures few { result ≤ most_rows }
     {
         self.rows as u64
     }
@@ -79,7 +79,7 @@ impl Archive {
         ensures count { result ≡ width self.now }
         ensures each_row { HasWidth result self.now }
         ensures some { 0 < result }
-        ensures few { result ≤ 64 }
+        ensures few { result ≤ most_sources }
     {
         self.sources as u64
     }
@@ -167,7 +167,7 @@ impl Archive {
     /// unknown ones (rrdresize). Answers `AllocError` only for want of memory.
     pub fn resized(&self, alloc: Global, rows: u64) -> Result<Archive, AllocError>
         requires some_rows { 0 < rows }
-        requires few_rows { rows ≤ 1000000 }
+        requires few_rows { rows ≤ most_rows }
         ensures { IfOk result (λ archive. archive ≡ newest_rows rows self.now) }
     {
         let wanted = rows as usize;

@@ -2,7 +2,7 @@
 ghost use Rattle.std.specs.Prelude.{◌≡◌, ◌<◌, ◌≤◌, List, length, slice_set, IfOk};
 ghost use Rattle.std.specs.Borrow.{sem};
 ghost use Rattle.rrd_fixed.specs.declared.cell.Cell.{Cell};
-ghost use Rattle.rrd_ring.specs.Rows.{row_at, width, HasWidth, with_row, unknown_rows};
+ghost use Rattle.rrd_ring.specs.Rows.{row_at, width, HasWidth, with_row, unknown_rows, most_rows, most_sources};
 
 use crate::ring::{cells_of, row_mut, unknown_cells};
 use rrd_fixed::Cell;
@@ -37,9 +37,9 @@ impl Dropped {
     /// `rows` rows (at most 1,000,000) of `sources` cells each (1 to 64), all unknown. Answers
     /// `AllocError` only for want of memory.
     pub fn new(alloc: Global, rows: u64, sources: u64) -> Result<Dropped, AllocError>
-        requires few_rows { rows ≤ 1000000 }
+        requires few_rows { rows ≤ most_rows }
         requires some_sources { 0 < sources }
-        requires few_sources { sources ≤ 64 }
+        requires few_sources { sources ≤ most_sources }
         ensures { IfOk result (λ dropped. dropped ≡ unknown_rows rows sources) }
     {
         let (rows, sources) = (rows as usize, sources as usize);
@@ -56,7 +56,7 @@ impl Dropped {
     pub fn len(&self) -> u64
         ensures count { result ≡ length self.now }
         ensures each_row { HasWidth (width self.now) self.now }
-        ensures few { result ≤ 1000000 }
+        ensures few { result ≤ most_rows }
     {
         self.rows as u64
     }

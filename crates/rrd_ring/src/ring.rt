@@ -4,6 +4,7 @@ ghost use Rattle.std.specs.Borrow.{sem};
 ghost use Rattle.rrd_fixed.specs.declared.cell.Cell.TheVariants.{Unknown};
 ghost use Rattle.rrd_ring.specs.Ring.Slices.{LendsPart, LendsAsMany};
 ghost use Rattle.rrd_ring.specs.Ring.{from_place, with_unwritten};
+ghost use Rattle.rrd_ring.specs.Rows.{most_rows, most_sources};
 
 use rrd_fixed::{Cell, Meter};
 use std::alloc::{AllocError, Global};
@@ -21,12 +22,12 @@ pub(crate) fn wrap(place: usize, rows: usize) -> usize
     if place < rows { place } else { place - rows }
 }
 
-// The cells of so many rows, at most 1,000,000, of `sources` cells each, at most 64.
+// The cells of so many rows of `sources` cells each.
 pub(crate) fn cells_of(rows: usize, sources: usize) -> usize
-    requires few_rows { rows ≤ 1000000 }
-    requires few_sources { sources ≤ 64 }
+    requires few_rows { rows ≤ most_rows }
+    requires few_sources { sources ≤ most_sources }
     ensures count { result ≡ rows * sources }
-    ensures few { result ≤ 64000000 }
+    ensures few { result ≤ most_rows * most_sources }
 {
     rows * sources
 }
@@ -47,8 +48,8 @@ pub(crate) fn unknown_cells(
 // How many rows are written of a ring of so many, where so many cells are: all, or those before the
 // oldest one's place.
 pub(crate) fn rows_written(cells: usize, rows: usize, sources: usize, oldest: usize) -> usize
-    requires few_rows { rows ≤ 1000000 }
-    requires few_sources { sources ≤ 64 }
+    requires few_rows { rows ≤ most_rows }
+    requires few_sources { sources ≤ most_sources }
     ensures all { rows * sources ≤ cells → result ≡ rows }
     ensures part { cells < rows * sources → result ≡ oldest }
 {
@@ -60,7 +61,7 @@ pub(crate) fn rows_written(cells: usize, rows: usize, sources: usize, oldest: us
 
 // The row from `start` on of a ring's vector, of which whole rows are written.
 pub(crate) fn row_from(cells: &[Cell], start: usize, sources: usize) -> &[Cell]
-    requires few_sources { sources ≤ 64 }
+    requires few_sources { sources ≤ most_sources }
     requires whole { start < length cells.now → start + sources ≤ length cells.now }
     ensures { (all : ℕ) → start + sources ≤ all
         → result.now ≡ take sources (drop start (with_unwritten all cells.now)) }
@@ -83,8 +84,8 @@ pub(crate) fn push_from(
     requires within { start ≤ length ring.now }
     requires written { length ring.now ≤ all }
     requires few { count ≤ all }
-    requires small { all ≤ 64000000 }
-    requires short { vec_len copies.old ≤ 64000000 }
+    requires small { all ≤ most_rows * most_sources }
+    requires short { vec_len copies.old ≤ most_rows * most_sources }
     ensures { OnOk result (copies.new.items
         ≡ copies.old.items ++ take count (from_place start (with_unwritten all ring.now))) }
 {

@@ -7,6 +7,7 @@ ghost use Rattle.std.specs.List.{AllByRecursion, fold};
 ghost use Rattle.rrd_fixed.specs.Rate.{IsBounded};
 ghost use Rattle.rrd_fixed.specs.declared.raw.Raw.TheVariants.{Unknown};
 ghost use Rattle.rrd_spec.specs.History.Groups as groups;
+ghost use Rattle.rrd_fold.specs.Bounds.{most_known};
 ghost use Rattle.rrd_fold.specs.Parts.{nothing, with_cell, with_each, step_cell, row_cell};
 ghost use Rattle.rrd_fold.specs.declared.function.Function.TheVariants.{Average};
 ghost use Rattle.rrd_spec.specs.Commands.Creating.{create_verdict, created};
@@ -275,7 +276,7 @@ fn parts_of(
     sources: usize,
     items: &[List<Cell>],
 ) -> Result<Vec<Part>, AllocError>
-    requires few { length items.now ≤ 1000000 }
+    requires few { length items.now ≤ most_known }
     requires rows { AllByRecursion (IsRow sources) items.now }
     ensures value { IfOk result (λ parts. parts.items
         ≡ fold (with_each function) (replicate sources nothing) items.now) }

@@ -1,4 +1,5 @@
-//! The tests of all the libraries, by public items alone: a file or a folder for each library; those of `rrd_spec` are in `base`.
+//! The tests of all the libraries, by public items alone: a file or a folder for each library; those
+//! of `rrd_spec` are in `base`.
 #![tactic(auto)]
 
 #[cfg(test)]

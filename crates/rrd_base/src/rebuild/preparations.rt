@@ -2,7 +2,7 @@
 ghost use Rattle.std.specs.Prelude.{◌≡◌, ◌*◌, ◌<◌, ◌≤◌, ◌+◌, pos, replicate, unsigned_abs};
 ghost use Rattle.rrd_fixed.specs.Rate.{top};
 ghost use Rattle.rrd_fold.specs.Additions.{higher, left_over, lower};
-ghost use Rattle.rrd_fold.specs.Bounds.{IsBounded, weight};
+ghost use Rattle.rrd_fold.specs.Bounds.{IsBounded, most_known, weight};
 ghost use Rattle.rrd_fold.specs.Parts.{nothing, with_cell};
 ghost use Rattle.rrd_fold.specs.declared.function.Function.TheVariants.{Average};
 ghost use Rattle.rrd_fixed.specs.declared.cell.Cell.TheVariants.{Known};
@@ -14,7 +14,7 @@ use rrd_fold::{Function, RowPrep, StepPrep};
 
 // The preparation of so many seconds of one rate, and then so many of another.
 fn added_two(high: i128, left: u64, low: i128, rest: u64) -> StepPrep
-    requires few { left + rest ≤ 1000000 }
+    requires few { left + rest ≤ most_known }
     requires high_bounded { IsBounded (Known high) }
     requires low_bounded { IsBounded (Known low) }
     ensures { let first = fold (with_cell Average) nothing (replicate left (Known high)) in
@@ -27,9 +27,9 @@ fn added_two(high: i128, left: u64, low: i128, rest: u64) -> StepPrep
     prep
 }
 
-/// The preparation of so many known seconds, at most 1,000,000, with this sum.
+/// The preparation of so many known seconds with this sum.
 pub(super) fn made_step(known: u64, sum: i128) -> StepPrep
-    requires few { known ≤ 1000000 }
+    requires few { known ≤ most_known }
     requires bounded { unsigned_abs sum ≤ known * top }
     ensures { result ≡ record { known = known; value = sum } }
 {
@@ -44,7 +44,7 @@ pub(super) fn made_step(known: u64, sum: i128) -> StepPrep
 // The two cells that so many known steps are made of, and how many are the higher one.
 fn two_cells(function: Function, known: u64, value: i128) -> (i128, i128, u64)
     requires some { 0 < known }
-    requires few { known ≤ 1000000 }
+    requires few { known ≤ most_known }
     requires bounded { unsigned_abs value ≤ weight function known * top }
     ensures lower { result.0 ≡ lower function known value }
     ensures higher { result.1 ≡ higher function known value }
@@ -60,9 +60,9 @@ fn two_cells(function: Function, known: u64, value: i128) -> (i128, i128, u64)
     }
 }
 
-/// The preparation of so many known steps, at most 1,000,000, that come to this value.
+/// The preparation of so many known steps that come to this value.
 pub(super) fn made_row(function: Function, known: u64, value: i128) -> RowPrep
-    requires few { known ≤ 1000000 }
+    requires few { known ≤ most_known }
     requires bounded { unsigned_abs value ≤ weight function known * top }
     requires empty { known ≡ 0 → value ≡ pos 0 }
     ensures { result ≡ record { function = function; part = record { known = known; value = value } } }

@@ -2,7 +2,7 @@
 ghost use Rattle.std.specs.Prelude.{◌≡◌, ◌+◌, ◌^◌, ◌<◌, ◌≤◌, ◌≤ℤ◌, length, map, pos, replicate};
 ghost use Rattle.std.specs.List.{AllByRecursion, fold};
 ghost use Rattle.rrd_fold.specs.Parts.{Part, nothing, step_cell, with_each};
-ghost use Rattle.rrd_fold.specs.Bounds.{Consolidating};
+ghost use Rattle.rrd_fold.specs.Bounds.{Consolidating, most_known};
 ghost use Rattle.rrd_fold.specs.declared.function.Function.TheVariants.{Average};
 ghost use Rattle.rrd_spec.specs.Preparations.{anew, map_each, row_of, with_steps};
 ghost use Rattle.rrd_spec.specs.Limits.{version_one};
@@ -15,7 +15,7 @@ use rrd_fold::{RowPrep, StepPrep};
 /// Adds to each preparation its source's rate, so many seconds of it. A turn for each.
 pub(crate) fn add_seconds(preps: &mut [StepPrep], rates: &[Cell], seconds: u64, meter: &mut Meter)
     requires row { IsRow (length preps.old) rates.now }
-    requires fits { AllByRecursion (λ (p : Part). p.known + seconds ≤ 1000000) preps.old }
+    requires fits { AllByRecursion (λ (p : Part). p.known + seconds ≤ most_known) preps.old }
     requires turns { meter.old + length preps.old < 2 ^ 64 }
     ensures added { preps.new ≡ fold (with_each Average) preps.old (replicate seconds rates.now) }
     ensures ticked { meter.new ≡ meter.old + length preps.old }
@@ -46,7 +46,7 @@ pub(crate) fn close_steps(preps: &mut [StepPrep], step: u64, cells: &mut [Cell],
 /// Adds to each preparation its source's step, `count` times. A turn for each.
 pub(crate) fn add_steps(preps: &mut [RowPrep], step: &[Cell], count: u64, meter: &mut Meter)
     requires row { IsRow (length preps.old) step.now }
-    requires fits { AllByRecursion (λ (p : Consolidating). p.part.known + count ≤ 1000000) preps.old }
+    requires fits { AllByRecursion (λ (p : Consolidating). p.part.known + count ≤ most_known) preps.old }
     requires turns { meter.old + length preps.old < 2 ^ 64 }
     ensures added { preps.new ≡ map_each (with_steps count) preps.old step.now }
     ensures ticked { meter.new ≡ meter.old + length preps.old }
@@ -63,7 +63,7 @@ pub(crate) fn close_rows(preps: &mut [RowPrep], def: &RraDef, row: &mut [Cell], 
     requires some { 1 ≤ def.now.steps }
     requires few { def.now.steps ≤ version_one.most_steps }
     requires xff_low { pos 0 ≤ℤ def.now.xff }
-    requires xff_high { def.now.xff ≤ℤ pos 999999 }
+    requires xff_high { def.now.xff ≤ℤ pos version_one.greatest_share }
     requires fits { AllByRecursion (λ (p : Consolidating). p.part.known ≤ def.now.steps) preps.old }
     requires turns { meter.old + length preps.old < 2 ^ 64 }
     ensures cells { row.new ≡ map (row_of def.now.xff def.now.steps) preps.old }

@@ -58,9 +58,9 @@ rows_then base archive change rows =
 -- an accepted resize asks for a number of rows that can be, of an archive that is there, and leaves it one that can be
 pub record IsResize (base : Content) (archive : ℕ) (change : Change) (rows : ℕ) : Type 0 where
   pub there : archive < length base.archives
-  pub few_asked : rows ≤ 1000000
+  pub few_asked : rows ≤ version_one.most_rows
   pub some_then : 0 < rows_then base archive change rows
-  pub few_then : rows_then base archive change rows ≤ 1000000
+  pub few_then : rows_then base archive change rows ≤ version_one.most_rows
 
 abbrev pub ResizeFits : Content → ℕ → Change → ℕ → Type 0
 ResizeFits base archive change rows =

@@ -5,6 +5,7 @@ ghost use Rattle.rrd_base.specs.Journal.{entry_of};
 ghost use Rattle.rrd_spec.specs.Preparations.{AllOf, parts_in};
 ghost use Rattle.rrd_spec.specs.Journal.Entries.{rows_between};
 ghost use Rattle.rrd_spec.specs.Files.Rebuilding.{due, outline_left};
+ghost use Rattle.rrd_spec.specs.Limits.{version_one};
 ghost use Rattle.rrd_spec.specs.declared.due.Due.TheVariants.{EntryDue};
 ghost use Rattle.rrd_spec.specs.declared.settings.DsDef.{DsDef};
 ghost use Rattle.rrd_spec.specs.declared.settings.RraDef.{RraDef};
@@ -178,7 +179,7 @@ fn row_count<R: Read + Drop>(
     ensures value { (def : RraDef) → slice_get (outline_left build.now).archives archive ≡ Some def
         → IfOk result (λ rows. rows
         ≡ min (rows_between build.now.header.step def last (outline_left build.now).last) def.rows) }
-    ensures few { IfOk result (λ rows. rows ≤ 1000000) }
+    ensures few { IfOk result (λ rows. rows ≤ version_one.most_rows) }
 {
     let mut piece = [0u8; 4];
     input.piece(&mut piece)?;
