@@ -7,7 +7,7 @@ use Rattle.rrd_spec.specs.declared.settings.RraDef.{RraDef}
 use Rattle.rrd_fixed.specs.declared.raw.Raw.{Raw}
 use Rattle.rrd_spec.specs.declared.requests.update.Sample.{Sample}
 use Rattle.rrd_spec.specs.History.{Content, Reading, Sampled, IsBase, rates}
-use Rattle.rrd_spec.specs.Laws.Listed.{content_listed}
+use Rattle.rrd_spec.specs.Laws.ListedContent.{content_listed}
 use Rattle.rrd_spec.specs.Laws.Passing.{passed}
 use Rattle.rrd_spec.specs.History.{definitions}
 use Rattle.rrd_spec.specs.Commands.Turns.{rows_shown, in_all, least_of_sample, most_of_sample, most_of_steps}

@@ -24,9 +24,9 @@ use Rattle.rrd_spec.specs.Files.Slots.{by_slot, cells_by_slot, place_in}
 use Rattle.rrd_spec.specs.Validity.{IsRow, IsValidJournal}
 use Rattle.rrd_base.specs.declared.journal.Entry.{Entry}
 use Rattle.rrd_base.specs.declared.rebuild.cursor.Cursor.{Cursor}
-use Rattle.rrd_base.specs.Rebuild.Cursors.{Advances, KnowsPlace, filled_by}
+use Rattle.rrd_base.specs.Rebuild.Cursors.{Advances, AreFewer, KnowsPlace, KnowsPlaceIn, filled_by}
 use Rattle.rrd_base.specs.Journal.{journal_of}
-use Rattle.rrd_base.specs.Rebuild.{AreFewer, ArePrepared, Coming, HeadsCame, IsArchiveSoFar, IsCursor, IsRebuilding, KnowsPlaceIn, content_so_far, filed_in}
+use Rattle.rrd_base.specs.Rebuild.{ArePrepared, Coming, HeadsCame, IsArchiveSoFar, IsCursor, IsRebuilding, content_so_far, filed_in}
 use Rattle.rrd_base.proofs.Comes.{knows_nothing, rows_same}
 use Rattle.rrd_base.proofs.Dues.{AllAsMany, archive_wide, due_entry, due_head, due_nothing, due_source, due_then, none_there, one_each}
 use native.Mathlib.Nat as nat

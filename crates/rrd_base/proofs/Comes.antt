@@ -25,8 +25,8 @@ use Rattle.rrd_spec.specs.Commands.{rows_of_archives}
 use Rattle.rrd_spec.specs.Files.Filed.{Filed, Head, Source, head_of, sources_of}
 use Rattle.rrd_spec.specs.History.{Archive}
 use Rattle.rrd_spec.specs.Files.Rebuilding.{IsArchiveDef, IsRowPart, MayHead, heads_with_part, MaySource, after_heads, due, prep_or, rows_in_all, unprepared, with_head, with_prep, with_source}
-use Rattle.rrd_base.specs.Rebuild.{AreFewer, ArePrepared, Coming, IsArchiveSoFar, IsRebuilding, cells_before, content_so_far, filed_in, IsCursor, KnowsPlaceIn}
-use Rattle.rrd_base.specs.Rebuild.Cursors.{filled_by}
+use Rattle.rrd_base.specs.Rebuild.{ArePrepared, Coming, IsArchiveSoFar, IsRebuilding, cells_before, content_so_far, filed_in, IsCursor}
+use Rattle.rrd_base.specs.Rebuild.Cursors.{AreFewer, KnowsPlaceIn, filled_by}
 use Rattle.rrd_base.specs.Journal.{journal_of}
 use Rattle.rrd_spec.specs.Validity.{AreAccepted, IsPart, IsRow, IsSource, IsValidJournal}
 use Rattle.rrd_base.proofs.Dues.{due_source, due_then, lengths_same, none_there, split_at, unprepared_is}

@@ -11,7 +11,8 @@ use Rattle.rrd_fixed.specs.declared.cell.Cell.{Cell}
 use Rattle.rrd_spec.specs.Files.Filed.{Head, head_of, sources_of}
 use Rattle.rrd_spec.specs.History.{Archive}
 use Rattle.rrd_spec.specs.Files.Rebuilding.{after_heads, due, prep_or, rows_in_all, unprepared}
-use Rattle.rrd_base.specs.Rebuild.{AreFewer, ArePrepared, Coming, IsArchiveSoFar, IsRebuilding, filed_in}
+use Rattle.rrd_base.specs.Rebuild.{ArePrepared, Coming, IsArchiveSoFar, IsRebuilding, filed_in}
+use Rattle.rrd_base.specs.Rebuild.Cursors.{AreFewer}
 use Rattle.rrd_spec.specs.Files.Slots.{cells_by_slot}
 use Rattle.rrd_spec.specs.Validity.{AreAccepted, IsRow}
 use Rattle.rrd_spec.specs.declared.settings.DsDef.{DsDef}

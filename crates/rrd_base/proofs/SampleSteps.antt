@@ -8,14 +8,15 @@ use Rattle.rrd_spec.specs.declared.settings.DsDef.{DsDef}
 use Rattle.rrd_spec.specs.declared.requests.update.Sample.{Sample}
 use Rattle.rrd_spec.specs.declared.requests.update.Given.{Given}
 use Rattle.rrd_spec.specs.History.{Content, Event, Moment, Sampled, moment_of, moment_at_end}
-use Rattle.rrd_spec.specs.Laws.Listed.{content_listed}
+use Rattle.rrd_spec.specs.Laws.ListedContent.{content_listed}
 use Rattle.rrd_spec.specs.Commands.{raw_of, value_for, sample_of}
 use Rattle.rrd_spec.specs.Commands.Verdict.{sample_checks}
 use Rattle.rrd_spec.specs.Validity.{IsValid, AreAccepted}
 use Rattle.rrd_spec.specs.Laws.Commands.{AreKept}
 use Rattle.rrd_spec.specs.Laws.History.{GoesOnListed}
 use Rattle.rrd_spec.specs.Laws.Commands.{Passes}
-use Rattle.rrd_spec.specs.Lemmas.Validity.{readings_rise, base_of_valid}
+use Rattle.rrd_spec.specs.Lemmas.Commands.{readings_rise}
+use Rattle.rrd_spec.specs.Lemmas.Validity.{base_of_valid}
 use Rattle.rrd_spec.specs.Limits.{version_one}
 
 -- the content after a sample, and those that are left

@@ -15,7 +15,7 @@ use Rattle.rrd_spec.specs.Files.Rebuilding.{IsArchiveDef, IsHeader, IsRowPart, o
 use Rattle.rrd_spec.specs.Settings.{is_double, names, resolution}
 use Rattle.rrd_spec.specs.Files.Slots.{cells_by_slot}
 use Rattle.rrd_spec.specs.Validity.{AreAccepted, IsPart, IsRow, IsSource, IsValidJournal}
-use Rattle.rrd_base.specs.Rebuild.Cursors.{KnowsPlace, filled_by}
+use Rattle.rrd_base.specs.Rebuild.Cursors.{AreFewer, KnowsPlaceIn, filled_by}
 use Rattle.rrd_base.specs.Journal.{journal_of}
 use Rattle.rrd_base.specs.declared.journal.Entry.{Entry}
 use Rattle.rrd_base.specs.declared.rebuild.Rebuild.TheInside.{Inside}
@@ -112,11 +112,6 @@ ArePrepared sources (archive ∷ []) = Unit {0}
 ArePrepared sources (archive ∷ next ∷ archives) =
     (length archive.parts ≡ sources) × ArePrepared sources (next ∷ archives)
 
--- so many cells are fewer than the first of these archives has, and none if there is no archive
-abbrev pub AreFewer : ℕ → List Archive → ℕ → Type 0
-AreFewer sources [] filled = filled ≡ 0
-AreFewer sources (archive ∷ archives) filled = filled < sources * archive.def.rows
-
 -- all heads came, with all preparations
 pub record HeadsCame (d : Coming) : Type 0 where
   pub all : length d.archives ≡ d.archives_due
@@ -148,12 +143,6 @@ pub record IsRebuilding (d : Coming) : Type 0 where
   pub archive_there : d.archive ≤ length d.archives
   pub filled_few : AreFewer d.sources_due (drop d.archive d.archives) d.filled
   pub cells_first : 0 < length d.journal → CellsCame d
-
--- it knows its place in the first of these archives, if there is one
-abbrev pub KnowsPlaceIn : ℕ → ℕ → List Archive → Cursor → Type 0
-KnowsPlaceIn step last [] cursor = Unit {0}
-KnowsPlaceIn step last (archive ∷ archives) cursor =
-    KnowsPlace (resolution step archive.def) last archive.def.rows cursor
 
 pub record IsCursor (d : Coming) (cursor : Cursor) : Type 0 where
   pub source_there : cursor.source < d.sources_due

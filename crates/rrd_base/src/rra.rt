@@ -10,7 +10,7 @@ ghost use Rattle.rrd_spec.specs.Journal.Entries.{put_back as after_put_back, sav
 ghost use Rattle.rrd_spec.specs.Limits.{version_one};
 ghost use Rattle.rrd_spec.specs.Commands.Creating.{new_archive};
 ghost use Rattle.rrd_spec.specs.Preparations.{AllOf, parts_in};
-ghost use Rattle.rrd_spec.specs.Laws.Listed.{keep_last};
+ghost use Rattle.rrd_spec.specs.Laws.ListedContent.{keep_last};
 ghost use Rattle.rrd_spec.specs.Laws.Passing.{archive_passed};
 ghost use Rattle.rrd_spec.specs.History.Cells.{row_of_age};
 ghost use Rattle.rrd_base.specs.Rra.{CanPutBack, IsStepped};

@@ -12,7 +12,6 @@ use std::io::Write;
 
 mod block;
 mod body;
-mod cells;
 mod journal;
 mod pieces;
 mod values;

@@ -11,7 +11,7 @@ use Rattle.rrd_spec.specs.History.{Content, Sampled, Moment, moment_after, momen
 use Rattle.rrd_spec.specs.Commands.{Command, Updating, TuningBy, Resizing, settings_of, sample_of, tuned, rows_changed, events}
 use Rattle.rrd_spec.specs.Settings.{names}
 use Rattle.rrd_spec.specs.Commands.Verdict.{Check, first_refusal, is_bad_rows, grows_too_far, shrinks_too_far, checks, verdict, verdict_within}
-use Rattle.rrd_spec.specs.Lemmas.Validity.{readings_rise}
+use Rattle.rrd_spec.specs.Lemmas.Commands.{readings_rise}
 use Rattle.rrd_spec.specs.Laws.Commands.{Passes}
 use Rattle.rrd_spec.specs.declared.requests.update.Sample.{Sample}
 use Rattle.rrd_spec.specs.declared.requests.resize.Change.{Change}

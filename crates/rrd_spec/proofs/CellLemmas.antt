@@ -13,7 +13,7 @@ use Rattle.rrd_fixed.specs.declared.cell.Cell.{Cell}
 use Rattle.rrd_spec.specs.History.Steps.{rows_rule, seconds_to_steps}
 use Rattle.rrd_spec.specs.History.{Archive, Content, Event, Sampled, Tuned, Resized, Moment, moment_after, moment_of, moment_at_end, seconds_of, rows_after, IsHistory, IsArchive, IsBase}
 use Rattle.rrd_spec.specs.History.Steps.{steps_of, rows_of}
-use Rattle.rrd_spec.specs.Laws.Listed.{rows_never_lost, keep_last, filled_up, kept_rows, archive_of, content_listed}
+use Rattle.rrd_spec.specs.Laws.ListedContent.{rows_never_lost, keep_last, filled_up, kept_rows, archive_of, content_listed}
 use Rattle.rrd_spec.specs.History.Groups.{Rule, group_part, finished}
 use Rattle.rrd_spec.proofs.GroupLemmas.{reached_before}
 use Rattle.rrd_spec.specs.History.Cells.{row_of_age, row_at}

@@ -7,7 +7,7 @@ use Rattle.rrd_fixed.specs.Rate.{IsBounded}
 use Rattle.rrd_fold.specs.declared.function.Function.TheVariants.{Average}
 use Rattle.rrd_spec.specs.History.{Archive, Content, Event, moment_of, moment_at_end, seconds_of, rows_after, IsHistory}
 use Rattle.rrd_spec.specs.History.Steps.{steps_of, parts_of, rows_of, row_parts_of}
-use Rattle.rrd_spec.specs.Laws.Listed.{rows_never_lost, keep_last, kept_rows, archive_of}
+use Rattle.rrd_spec.specs.Laws.ListedContent.{rows_never_lost, keep_last, kept_rows, archive_of}
 use Rattle.rrd_spec.proofs.HistoryLemmas.{length-seconds_of, length-steps_of}
 use Rattle.rrd_spec.proofs.ContentLemmas.{length-kept_rows}
 use Rattle.rrd_spec.specs.Validity.{AreParts, IsRow, IsValidArchive, IsValid}

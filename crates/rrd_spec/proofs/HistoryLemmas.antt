@@ -10,7 +10,7 @@ use Rattle.rrd_spec.specs.History.Groups.{finished, unfinished}
 use Rattle.rrd_spec.specs.History.Steps.{rows_rule, seconds_to_steps}
 use Rattle.rrd_spec.specs.History.{Archive, Content, Event, Sampled, Tuned, Resized, Moment, moment_after, moment_of, moment_at_end, rates, Taken, samples, second, seconds, seconds_of, IsHistory}
 use Rattle.rrd_spec.specs.History.Steps.{steps_of, parts_of, rows_of, row_parts_of}
-use Rattle.rrd_spec.specs.Laws.Listed.{archive_of, content_listed}
+use Rattle.rrd_spec.specs.Laws.ListedContent.{archive_of, content_listed}
 use Rattle.rrd_spec.proofs.GroupLemmas.{goes_on, map_range_same, length-finished, reached_before}
 
 -- ---- samples

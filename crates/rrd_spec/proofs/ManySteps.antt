@@ -10,7 +10,7 @@ use Rattle.rrd_fold.specs.Parts.{Part, nothing, with_cell, with_each, step_cell,
 use Rattle.rrd_spec.specs.Preparations.{map_each}
 use Rattle.rrd_spec.specs.History.Groups.{finished, unfinished}
 use Rattle.rrd_spec.specs.History.{Archive, Content}
-use Rattle.rrd_spec.specs.Laws.Listed.{keep_last}
+use Rattle.rrd_spec.specs.Laws.ListedContent.{keep_last}
 use Rattle.rrd_spec.specs.Lemmas.Lists.{keep_all, keep_last-append}
 use Rattle.rrd_spec.specs.Laws.Passing.{archive_passed, passed}
 use Rattle.rrd_spec.specs.History.Steps.{rows_rule, seconds_to_steps}

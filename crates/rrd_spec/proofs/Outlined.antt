@@ -17,7 +17,8 @@ use Rattle.rrd_spec.specs.History.{Archive, Content, definitions}
 use Rattle.rrd_spec.specs.Journal.Entries.{BeforeUpdate, Entry, ResizeEntry, SavedArchive, TuneEntry, UpdateEntry, put_back, put_back_each, rows_at, undone, with_rows_at, with_source}
 use Rattle.rrd_spec.specs.Lemmas.Validity.{length-accepted, rows_wide}
 use Rattle.rrd_spec.specs.Files.Filed.{Head, Version, head_of}
-use Rattle.rrd_spec.specs.Laws.Outlines.{FiledOutline, JournalLeavesValid, JournalParts, JournalTakes, JournalTook, JournalsJoin, MayUndoEach, OutlineFollows, OutlineIsNeeded, OutlineSuffices, OutlinesAreNeeded, OutlinesSuffice}
+use Rattle.rrd_spec.specs.Laws.Journal.{JournalLeavesValid, JournalParts, JournalsJoin}
+use Rattle.rrd_spec.specs.Laws.Outlines.{FiledOutline, JournalTakes, JournalTook, MayUndoEach, OutlineFollows, OutlineIsNeeded, OutlineSuffices, OutlinesAreNeeded, OutlinesSuffice}
 use Rattle.rrd_spec.specs.Lemmas.Lists.{All-append, All-at, All-take}
 use Rattle.rrd_spec.specs.Journal.Outlines.{IsSourceBefore, MaySave, MaySaveEach, MayUndo, outline_of, outline_undone, rows_of, with_row_number, with_sources}
 use Rattle.rrd_spec.specs.Journal.Survivors.{Stored}

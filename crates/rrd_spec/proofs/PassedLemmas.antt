@@ -10,7 +10,7 @@ use Rattle.rrd_fold.specs.Parts.{Part, with_each}
 use Rattle.rrd_spec.specs.History.Steps.{rows_rule, seconds_to_steps}
 use Rattle.rrd_spec.specs.History.{Archive, Content, Reading, Sampled, moment_of, rates, samples, second, seconds_of, IsArchive, IsBase}
 use Rattle.rrd_spec.specs.History.Steps.{steps_of, parts_of, rows_of, row_parts_of}
-use Rattle.rrd_spec.specs.Laws.Listed.{keep_last, filled_up, kept_rows, archive_of, content_listed}
+use Rattle.rrd_spec.specs.Laws.ListedContent.{keep_last, filled_up, kept_rows, archive_of, content_listed}
 use Rattle.rrd_spec.specs.Laws.Passing.{archive_passed, passed}
 use Rattle.rrd_spec.proofs.GroupLemmas.{finished_nil, unfinished_nil, finished_within, unfinished_within, goes_on, length-finished, reached_before}
 use Rattle.rrd_spec.proofs.RowLemmas.{filled_already}

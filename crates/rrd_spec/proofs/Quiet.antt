@@ -8,7 +8,7 @@ use Rattle.rrd_spec.specs.declared.settings.DsDef.{DsDef}
 use Rattle.rrd_fold.specs.Parts.{Part}
 use Rattle.rrd_spec.specs.History.{Archive, Content, Event, Tuned, Resized, moment_of, moment_at_end, raws_under, samples, second, seconds_of, rows_after, IsArchive, IsBase}
 use Rattle.rrd_spec.specs.History.Steps.{steps_of, parts_of, rows_of, row_parts_of}
-use Rattle.rrd_spec.specs.Laws.Listed.{rows_never_lost, keep_last, filled_up, kept_rows, archive_of, content_listed}
+use Rattle.rrd_spec.specs.Laws.ListedContent.{rows_never_lost, keep_last, filled_up, kept_rows, archive_of, content_listed}
 use Rattle.rrd_spec.proofs.RowLemmas.{filled_already}
 use Rattle.rrd_spec.specs.History.Steps.{rows_rule, seconds_to_steps}
 use Rattle.rrd_spec.specs.History.Groups.{finished, unfinished}

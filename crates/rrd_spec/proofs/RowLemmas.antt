@@ -4,7 +4,7 @@ use Rattle.std.proofs.lemmas.Bool.{cases_lt, lt-ltb, le-ltb}
 use Rattle.std.proofs.lemmas.List.{drop-append-le, drop-replicate, length-drop, length-replicate, take-append-drop, replicate-append-replicate, take_at, get_or-append_right, get_or-drop, get_or_append_left, get_or-replicate}
 use Rattle.std.specs.List.{fold}
 use Rattle.rrd_spec.specs.History.{Event, Sampled, Tuned, Resized, Moment, moment_after, rows_after, IsHistory}
-use Rattle.rrd_spec.specs.Laws.Listed.{rows_never_lost, keep_last, filled_up}
+use Rattle.rrd_spec.specs.Laws.ListedContent.{rows_never_lost, keep_last, filled_up}
 use Rattle.rrd_spec.proofs.HistoryLemmas.{last_rises}
 use Rattle.rrd_spec.specs.Lemmas.Lists.{keep_all, keep_last_past, length-keep_last, split_last}
 

@@ -1,6 +1,6 @@
 -- What is shown of an archive, and what makes a new one good.
 use Rattle.std.proofs.Common.{sym, ◌∙◌, ap, ◌<◌, List, length, get_or, arith}
-use Rattle.rrd_spec.specs.Lemmas.Validity.{cell_of_archive}
+use Rattle.rrd_spec.specs.Lemmas.Cells.{cell_of_archive}
 use Rattle.std.specs.List.{enumerate_from}
 use Rattle.std.proofs.lemmas.List.{length-map}
 use Rattle.std.proofs.lemmas.List.FromFn.{length-enumerate_from}

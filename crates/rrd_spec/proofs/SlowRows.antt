@@ -19,7 +19,7 @@ use Rattle.rrd_spec.specs.declared.slow.Taken as slow
 use Rattle.rrd_spec.specs.Commands.Creating.{create_verdict, created, new_archive}
 use Rattle.rrd_spec.specs.History.Cells.{content}
 use Rattle.rrd_spec.specs.History.{Archive, Content, Event, Sampled, moment_of, moment_at_end, samples, seconds, seconds_of}
-use Rattle.rrd_spec.specs.Laws.Listed.{archive_of, content_listed, keep_last}
+use Rattle.rrd_spec.specs.Laws.ListedContent.{archive_of, content_listed, keep_last}
 use Rattle.rrd_spec.specs.History.Steps.{steps_of, rows_of}
 use Rattle.rrd_spec.specs.Slow.{event_of, reading_of, taken_of, AreInOrder, AreNewest, latest, rule_of, IsGroup}
 use Rattle.rrd_spec.specs.Validity.{AreParts, IsRow, IsValidArchive}

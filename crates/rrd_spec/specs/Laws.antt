@@ -1,7 +1,7 @@
 -- Law: what holds of the definitions, each the contract of a function in src/laws.rt; by what they speak of.
 pub mod History
 pub mod Cells
-pub mod Listed
+pub mod ListedContent
 pub mod Passing
 pub mod EqualSteps
 pub mod Commands

@@ -1,5 +1,4 @@
 //! Files: their bytes, how they are read back, and the texts of their faults.
 
 pub(crate) mod bytes;
-mod decoding;
-pub(crate) mod faults;
+pub(crate) mod decoding;

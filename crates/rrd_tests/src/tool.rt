@@ -1,6 +1,6 @@
 //! Commands and batches: the words that they are read from, what they print, and their faults.
 
 pub(crate) mod batches;
+mod failing_streams;
 mod faults;
-mod streams;
 mod words;

@@ -8,12 +8,12 @@ ghost use Rattle.rrd_fold.specs.declared.function.Function.TheVariants.{Average}
 ghost use Rattle.rrd_ring.specs.Rows.{row_at};
 ghost use Rattle.rrd_spec.specs.Preparations.{parts_in};
 ghost use Rattle.rrd_spec.specs.Limits.{version_one};
-ghost use Rattle.rrd_spec.specs.Journal.Outlines.{IsSourceBefore, MayResize, MaySave, MaySaveEach, MayTune, MayUndo, MayUpdate, with_sources};
+ghost use Rattle.rrd_spec.specs.Journal.Outlines.{AreOldRows, IsSourceBefore, MayResize, MaySave, MaySaveEach, MayTune, MayUndo, MayUpdate, with_sources};
 ghost use Rattle.rrd_spec.specs.Settings.{names};
 ghost use Rattle.rrd_spec.specs.Validity.{IsPart, IsRow, Rise};
 
 use super::piece_checks::{is_bounded, is_part, is_source};
-use crate::create::has_too_many_cells;
+use crate::create::{has_too_many_cells, is_bad_rows};
 use crate::journal::{BeforeUpdate, Entry, SavedArchive};
 use crate::named::is_double;
 use crate::rows::{all_rows, rows_between};
@@ -268,22 +268,31 @@ fn may_tune(now: &Outline, olds: &[SourceBefore]) -> bool
 
 // ---- a resize
 
+/// Whether an archive of this outline can have had so many rows before it was resized.
+pub(super) fn had_rows(now: &Outline, archive: usize, rows: u64) -> bool
+    requires now_is { IsOutline now.now }
+    requires there { archive < length now.now.archives }
+    ensures good { result ≡ true → AreOldRows version_one now.now archive rows }
+    ensures bad { AreOldRows version_one now.now archive rows → result ≡ true }
+{
+    let archives = now.archives.as_slice();
+    let present = archives[archive].rows;
+    if is_bad_rows(rows) || rows == present {
+        return false;
+    }
+    let all = all_rows(archives) - present + rows;
+    !has_too_many_cells(now.sources.len(), all)
+}
+
 // Whether a resize may have left this outline.
 fn may_resize(now: &Outline, archive: u64, old: &Archive) -> bool
     requires { IsOutline now.now }
     ensures good { result ≡ true → MayResize version_one now.now archive old.now }
     ensures bad { MayResize version_one now.now archive old.now → result ≡ true }
 {
-    let archives = now.archives.as_slice();
-    if archive >= archives.len() as u64 {
-        return false;
-    }
-    let rows = archives[archive as usize].rows;
-    if old.rows() == rows {
-        return false;
-    }
-    let all = all_rows(archives) - rows + old.rows();
-    !has_too_many_cells(now.sources.len(), all) && are_rows(old, now.sources.len())
+    archive < now.archives.len() as u64
+        && had_rows(now, archive as usize, old.rows())
+        && are_rows(old, now.sources.len())
 }
 
 /// Whether an entry fits an outline, steps of so many seconds being taken.

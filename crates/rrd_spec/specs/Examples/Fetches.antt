@@ -3,7 +3,7 @@ use Rattle.std.specs.Prelude.{◌≡◌, pos, negsuc, Ok, Err, [], ◌∷◌}
 use Rattle.rrd_fold.specs.declared.function.Function.TheVariants.{Min, Last}
 use Rattle.rrd_spec.specs.declared.refusal.Refusal.TheVariants.{BadSpan, BadTime, NoArchiveForFunction, SpanTooLong, NoSuchArchive}
 use Rattle.rrd_spec.specs.History.{Content}
-use Rattle.rrd_spec.specs.Laws.Listed.{content_listed}
+use Rattle.rrd_spec.specs.Laws.ListedContent.{content_listed}
 use Rattle.rrd_spec.specs.History.Cells.{oldest_time}
 use Rattle.rrd_spec.specs.Choice.{choice}
 use Rattle.rrd_spec.specs.Examples.{created, gauge, archive, at}

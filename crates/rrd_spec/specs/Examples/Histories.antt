@@ -3,7 +3,7 @@ use Rattle.std.specs.Prelude.{◌≡◌, pos, negsuc, [], ◌∷◌, map, drop}
 use Rattle.rrd_fold.specs.declared.function.Function.TheVariants.{Average, Last}
 use Rattle.rrd_spec.specs.History.Cells.{row_at}
 use Rattle.rrd_spec.specs.History.{Resized}
-use Rattle.rrd_spec.specs.Laws.Listed.{content_listed}
+use Rattle.rrd_spec.specs.Laws.ListedContent.{content_listed}
 use Rattle.rrd_spec.specs.Examples.{created, gauge, counter, archive, at, count_at, rows, known, nan}
 
 -- two samples, one a step

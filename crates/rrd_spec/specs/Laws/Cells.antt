@@ -7,7 +7,7 @@ use Rattle.rrd_fixed.specs.declared.cell.Cell.{Cell}
 use Rattle.std.specs.Int.{int_rem_euclid}
 use Rattle.rrd_spec.specs.Settings.{resolution}
 use Rattle.rrd_spec.specs.History.Steps.{steps_of, rows_of, row, step as step_numbered}
-use Rattle.rrd_spec.specs.Laws.Listed.{content_listed, keep_last, filled_up, kept_rows}
+use Rattle.rrd_spec.specs.Laws.ListedContent.{content_listed, keep_last, filled_up, kept_rows}
 use Rattle.rrd_spec.specs.History.Cells.{row_at, cell_at, cell, content, row_by_time}
 
 -- the content's rows by list and by time are the same

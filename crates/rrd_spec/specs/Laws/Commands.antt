@@ -8,7 +8,7 @@ use Rattle.rrd_fixed.specs.declared.cell.Cell.{Cell}
 use Rattle.rrd_spec.specs.Commands.Verdict.{verdict, Check, checks}
 use Rattle.rrd_spec.specs.Journal.Entries.{IsSound, rows_at, with_rows_at}
 use Rattle.rrd_spec.specs.Journal.Survivors.{AllAccepted, survived}
-use Rattle.rrd_spec.specs.Laws.Listed.{keep_last, filled_up, moved_listed}
+use Rattle.rrd_spec.specs.Laws.ListedContent.{keep_last, filled_up, moved_listed}
 use Rattle.rrd_spec.specs.Validity.{IsValid, AreAccepted}
 use Rattle.rrd_spec.specs.declared.requests.resize.Change.{Change}
 use Rattle.rrd_spec.specs.declared.settings.DsDef.{DsDef}

@@ -6,7 +6,7 @@ use Rattle.rrd_fold.specs.declared.function.Function.TheVariants.{Average}
 use Rattle.rrd_fold.specs.Parts.{nothing, row_cell, step_cell, with_each}
 use Rattle.rrd_spec.specs.Limits.{version_one}
 use Rattle.rrd_spec.specs.History.{Archive, Content, IsBase}
-use Rattle.rrd_spec.specs.Laws.Listed.{keep_last}
+use Rattle.rrd_spec.specs.Laws.ListedContent.{keep_last}
 use Rattle.rrd_spec.specs.Laws.Passing.{archive_passed, passed}
 
 -- ---- an archive, `before` steps having ended

@@ -2,7 +2,7 @@
 use Rattle.std.specs.Prelude.{◌≡◌, ◌++◌, ℕ, ◌+◌, List, length, []}
 use Rattle.rrd_spec.specs.History.{Content, Event, moment_of, moment_at_end, IsHistory, IsBase}
 use Rattle.rrd_spec.specs.Commands.{events}
-use Rattle.rrd_spec.specs.Laws.Listed.{content_listed}
+use Rattle.rrd_spec.specs.Laws.ListedContent.{content_listed}
 use Rattle.rrd_spec.specs.History.Cells.{content}
 use Rattle.rrd_spec.specs.History.Groups.{finished, unfinished, Rule}
 

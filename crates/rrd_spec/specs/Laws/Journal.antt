@@ -1,12 +1,14 @@
--- Law: what reverts bring back, and what any run leaves: the survivors' content, and a journal that stands.
-use Rattle.std.specs.Prelude.{◌≡◌, ◌-◌, List, length, take, None, [], ◌∷◌, ◌≤◌}
+-- Law: what reverts bring back, and what any run leaves: the survivors' content, and a journal that stands; and the
+-- parts of a journal.
+use Rattle.std.specs.Prelude.{◌≡◌, ◌-◌, List, length, take, None, [], ◌∷◌, ◌++◌, ◌≤◌}
 use Rattle.std.specs.List.{fold}
+use Rattle.rrd_spec.specs.Limits.{Limits}
 use Rattle.rrd_spec.specs.History.{Content}
 use Rattle.rrd_spec.specs.Commands.{Command, moved}
 use Rattle.rrd_spec.specs.Commands.Verdict.{verdict}
 use Rattle.rrd_spec.specs.Journal.Entries.{Entry, entry, undone, IsSound}
 use Rattle.rrd_spec.specs.Journal.Survivors.{Action, changed, reverted, stored_after, after, Stands, State, Stored, AllUndo}
-use Rattle.rrd_spec.specs.Validity.{IsValid, IsValidDatabase, Fits}
+use Rattle.rrd_spec.specs.Validity.{IsValid, IsValidDatabase, IsValidJournalWithin, IsValidWithin, Fits}
 
 -- the entry of an accepted command fits the content after it
 abbrev pub EntryFits : Content → Command → Type 0
@@ -37,6 +39,22 @@ RevertTakesBack now journal command =
     IsValidDatabase now journal
     → verdict now command ≡ None
     → reverted stored.content stored.journal ≡ record { content = now; journal = take (now.depth - 1) journal }
+
+-- once a valid content's whole journal is undone the content is valid
+abbrev pub JournalLeavesValid : Limits → Content → List Entry → Type 0
+JournalLeavesValid limits now journal =
+    IsValidWithin limits now → IsValidJournalWithin limits now journal → IsValidWithin limits (fold undone now journal)
+
+-- older entries are a journal of the content that the newer ones leave
+abbrev pub JournalsJoin : Limits → Content → List Entry → List Entry → Type 0
+JournalsJoin limits now newer older =
+    IsValidJournalWithin limits now newer → IsValidJournalWithin limits (fold undone now newer) older
+    → IsValidJournalWithin limits now (newer ++ older)
+
+abbrev pub JournalParts : Limits → Content → List Entry → List Entry → Type 0
+JournalParts limits now newer older =
+    IsValidJournalWithin limits now (newer ++ older)
+    → IsValidJournalWithin limits now newer × IsValidJournalWithin limits (fold undone now newer) older
 
 -- a valid database stands for the state that begins with it: nothing survives on its content yet, and its journal is
 -- brought along

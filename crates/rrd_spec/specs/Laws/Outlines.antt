@@ -40,22 +40,6 @@ OutlineIsNeeded limits now entry =
 
 -- ---- journals
 
--- once a valid content's whole journal is undone the content is valid
-abbrev pub JournalLeavesValid : Limits → Content → List Entry → Type 0
-JournalLeavesValid limits now journal =
-    IsValidWithin limits now → IsValidJournalWithin limits now journal → IsValidWithin limits (fold undone now journal)
-
--- older entries are a journal of the content that the newer ones leave
-abbrev pub JournalsJoin : Limits → Content → List Entry → List Entry → Type 0
-JournalsJoin limits now newer older =
-    IsValidJournalWithin limits now newer → IsValidJournalWithin limits (fold undone now newer) older
-    → IsValidJournalWithin limits now (newer ++ older)
-
-abbrev pub JournalParts : Limits → Content → List Entry → List Entry → Type 0
-JournalParts limits now newer older =
-    IsValidJournalWithin limits now (newer ++ older)
-    → IsValidJournalWithin limits now newer × IsValidJournalWithin limits (fold undone now newer) older
-
 -- a journal takes one more entry, older than all, if the outline that is left lets it through
 abbrev pub JournalTakes : Limits → Content → List Entry → Entry → Type 0
 JournalTakes limits now journal entry =

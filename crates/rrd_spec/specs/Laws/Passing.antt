@@ -4,7 +4,7 @@ use Rattle.std.specs.List.{fold}
 use Rattle.rrd_spec.specs.History.{Content, Archive, IsBase, Reading, Sampled, rates}
 use Rattle.rrd_fixed.specs.declared.cell.Cell.{Cell}
 use Rattle.rrd_spec.specs.History.Steps.{rows_rule, seconds_to_steps}
-use Rattle.rrd_spec.specs.Laws.Listed.{content_listed, keep_last}
+use Rattle.rrd_spec.specs.Laws.ListedContent.{content_listed, keep_last}
 use Rattle.rrd_spec.specs.History.Groups.{finished, unfinished}
 use Rattle.rrd_fold.specs.declared.function.Function.TheVariants.{Average}
 use Rattle.rrd_fold.specs.Parts.{with_each}

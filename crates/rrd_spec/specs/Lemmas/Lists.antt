@@ -5,7 +5,7 @@ use Rattle.std.proofs.Math.Seq.{drop-cons}
 use Rattle.std.proofs.lemmas.List.{drop-drop, drop_all, drop_at, length-drop, take-append-drop}
 use Rattle.std.specs.List.{AllByRecursion}
 use Rattle.rrd_spec.specs.Preparations.{map_each}
-use Rattle.rrd_spec.specs.Laws.Listed.{keep_last}
+use Rattle.rrd_spec.specs.Laws.ListedContent.{keep_last}
 
 -- ---- what holds of each item
 

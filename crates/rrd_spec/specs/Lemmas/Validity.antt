@@ -1,29 +1,13 @@
--- Law: what follows at once from the definitions.
-use Rattle.std.proofs.Common.{◌≡◌, refl, ap, ℕ, zero, suc, ◌/◌, ◌<◌, ℤ, List, [], ◌∷◌, length, map, get_or}
-use Rattle.std.proofs.Math.Nat.{le_of_suc-le-suc, not-suc-le-zero}
-use Rattle.std.proofs.lemmas.Bool.{leb-false}
-use Rattle.std.specs.List.{AllByRecursion, fold}
+-- Law: what a valid content has, as proofs use it.
+use Rattle.std.proofs.Common.{◌≡◌, refl, ap, ℕ, suc, ◌/◌, List, [], ◌∷◌, length}
+use Rattle.std.specs.List.{AllByRecursion}
 use Rattle.rrd_fixed.specs.declared.cell.Cell.{Cell}
-use Rattle.rrd_fixed.specs.declared.cell.Cell.TheVariants.{Unknown}
-use Rattle.rrd_fixed.specs.declared.name.Name.{Name}
 use Rattle.rrd_fixed.specs.declared.raw.Raw.{Raw}
-use Rattle.rrd_fold.specs.Bounds.{Consolidating}
-use Rattle.rrd_fold.specs.Parts.{nothing}
 use Rattle.rrd_spec.specs.declared.settings.DsDef.{DsDef}
-use Rattle.rrd_spec.specs.declared.entry.SourceBefore.{SourceBefore}
-use Rattle.rrd_spec.specs.Journal.Entries.{Entry, IsSound, UpdateEntry, ResizeEntry, TuneEntry, undone, with_source}
-use Rattle.rrd_spec.specs.History.{Archive, Content, IsArchive, IsBase, IsHistory, Moment, Sampled, moment_after}
-use Rattle.rrd_spec.specs.declared.requests.update.Sample.{Sample}
-use Rattle.rrd_spec.specs.Commands.{sample_of}
-use Rattle.rrd_spec.specs.Limits.{version_one}
+use Rattle.rrd_spec.specs.Journal.Entries.{IsSound}
+use Rattle.rrd_spec.specs.History.{Archive, Content, IsArchive, IsBase}
 use Rattle.rrd_spec.specs.Lemmas.Lists.{All-weaker}
-use Rattle.rrd_spec.specs.History.Cells.{row_at}
-use Rattle.rrd_spec.specs.History.Cells.{cell_in, prep_in}
 use Rattle.rrd_spec.specs.Validity.{AreAccepted, IsRow, IsValid, IsValidArchive}
-use Rattle.rrd_spec.specs.Laws.Commands.{Passes}
-use Rattle.rrd_spec.specs.Commands.Verdict.{sample_checks}
-
--- ---- a valid content
 
 -- there is a raw value for each source
 pub length-accepted : (sources : List DsDef) (raws : List Raw) → AreAccepted sources raws
@@ -59,42 +43,3 @@ base_of_valid base is = record {
 pub sound : (base : Content) → IsValid base → IsSound base
 sound base is =
     record { is_base = base_of_valid base is; one_raw_each = length-accepted base.sources base.raws is.raws_are }
-
--- ---- samples that pass their checks come one after another
-
-pub readings_rise : (sources : List DsDef) (template : List Name) (now : Moment) (readings : List Sample)
-    → AllByRecursion Passes (sample_checks version_one sources template now.last readings)
-    → IsHistory now (map Sampled (map (sample_of sources template) readings))
-readings_rise sources template now [] p = tt
-readings_rise sources template now (reading ∷ readings) p =
-    let next = moment_after now (Sampled (sample_of sources template reading)) in
-    (leb-false reading.time now.last p.1.0, readings_rise sources template next readings p.1.1.1.1)
-
--- ---- undoing keeps the journal's depth
-
-sources_depth : (now : Content) (olds : List SourceBefore) → (fold with_source now olds).depth ≡ now.depth
-sources_depth now [] = refl
-sources_depth now (old ∷ olds) = sources_depth (with_source now old) olds
-
-pub undone_depth : (now : Content) (old : Entry) → (undone now old).depth ≡ now.depth
-undone_depth now (UpdateEntry old) = refl
-undone_depth now (TuneEntry olds) = sources_depth now olds
-undone_depth now (ResizeEntry archive rows) = refl
-
--- ---- what is shown of the archive of a number
-
-pub cell_of_archive : (content : Content) (archives : List Archive) (k : ℕ) (d : Archive) (time : ℤ) (source : ℕ)
-    → k < length archives
-    → get_or (row_at content (get_or archives k d) time) source Unknown ≡ cell_in content archives k time source
-cell_of_archive content [] k d time source h = absurd (not-suc-le-zero h)
-cell_of_archive content (a ∷ rest) zero d time source h = refl
-cell_of_archive content (a ∷ rest) (suc k) d time source h =
-    cell_of_archive content rest k d time source (le_of_suc-le-suc h)
-
-pub prep_of_archive : (archives : List Archive) (k : ℕ) (d : Archive) (source : ℕ) → k < length archives
-    → (let a : Archive = get_or archives k d in
-    let p : Consolidating = record { function = a.def.function; part = get_or a.parts source nothing } in p)
-    ≡ prep_in archives k source
-prep_of_archive [] k d source h = absurd (not-suc-le-zero h)
-prep_of_archive (a ∷ rest) zero d source h = refl
-prep_of_archive (a ∷ rest) (suc k) d source h = prep_of_archive rest k d source (le_of_suc-le-suc h)

@@ -1,4 +1,5 @@
-//! Files that are read back: whole ones, cut ones, ones with a wrong byte, and readers that fail.
+//! Files that are read back: whole ones, cut ones, ones with a wrong byte, and readers that fail; and the
+//! texts of faults.
 use crate::file::bytes::{
     DATABASES, FOUR_CHANGES, SAMPLED, THREE_CHANGES, file_of, new_file, sampled_file,
 };
@@ -91,7 +92,7 @@ fn a_file_with_four_entries_is_read_whole_alone(rt: HostRuntime) -> Result<(), F
 
 // A byte of the file with a sample, what it is changed to, and the fault then. The source begins at 26,
 // the archive's head at 123, its cells at 156, and the entry at 220.
-const CHANGES: &[(usize, u8, FileFault)] = &[
+const WRONG_BYTES: &[(usize, u8, FileFault)] = &[
     (0, 83, FileFault::NotOurs),
     (3, 0, FileFault::NotOurs),
     (4, 1, FileFault::Version),
@@ -122,7 +123,7 @@ const CHANGES: &[(usize, u8, FileFault)] = &[
 fn a_wrong_byte_has_its_place(rt: HostRuntime) -> Result<(), Fail> {
     let alloc = rt.alloc();
     let bytes = sampled_file(alloc)?;
-    for (at, byte, fault) in CHANGES {
+    for (at, byte, fault) in WRONG_BYTES {
         let wrong = changed(alloc, &bytes, *at, *byte)?;
         assert_eq!(&rt; fault_of(alloc, &wrong), Some(*fault), "{at}");
     }
@@ -254,6 +255,34 @@ fn a_long_file(rt: HostRuntime) -> Result<(), Fail> {
         let front = bytes.get(..length).ok_or("short")?;
         let at = length as u64;
         assert_eq!(&rt; fault_of(alloc, front), Some(FileFault::Truncated { at }));
+    }
+    Ok(())
+}
+
+// ---- the texts of faults
+
+pub(crate) const FILE_FAULTS: &[(FileFault, &str)] = &[
+    (FileFault::NotOurs, "file: not ours"),
+    (FileFault::Version, "file: version"),
+    (FileFault::Truncated { at: 0 }, "file: truncated at 0"),
+    (FileFault::BadBlock { at: 26 }, "file: bad block at 26"),
+    (FileFault::BadEntry { number: 1 }, "file: bad entry 1"),
+    (
+        FileFault::Trailing {
+            at: 18_446_744_073_709_551_615,
+        },
+        "file: trailing at 18446744073709551615",
+    ),
+    (FileFault::Read, "file: read failed"),
+    (FileFault::OutOfMemory, "out of memory"),
+];
+
+#[test]
+fn faults_of_files(rt: HostRuntime) -> Result<(), Fail> {
+    let alloc = rt.alloc();
+    for (fault, text) in FILE_FAULTS {
+        let shown = format!(in alloc; "{fault}")?;
+        assert_eq!(&rt; shown.as_str(), *text);
     }
     Ok(())
 }

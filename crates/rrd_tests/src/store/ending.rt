@@ -1,5 +1,5 @@
 //! What the program tells on standard error, and its status.
-use crate::file::faults::FILE_FAULTS;
+use crate::file::decoding::FILE_FAULTS;
 use rrd_base::Refusal;
 use rrd_store::{TaskFault, USAGE, end_batch, end_file_batch, end_single, write_task_fault};
 use rrd_tool::{Fault, LineFault, Part, StreamFault};

@@ -4,7 +4,7 @@ use Rattle.std.proofs.lemmas.Nat.{mul-le}
 use Rattle.rrd_fixed.specs.declared.cell.Cell.{Cell}
 use Rattle.rrd_ring.specs.Rows.{HasWidth}
 use Rattle.rrd_ring.specs.Widths.{HasWidth-append, HasWidth-drop, width_is}
-use Rattle.rrd_spec.specs.Laws.Listed.{keep_last}
+use Rattle.rrd_spec.specs.Laws.ListedContent.{keep_last}
 use Rattle.rrd_base.proofs.PushedRows.{push_more, push_all}
 use Rattle.rrd_spec.specs.Lemmas.Lists.{keep_all}
 use Rattle.rrd_base.proofs.rra.push_times.Goals as goal

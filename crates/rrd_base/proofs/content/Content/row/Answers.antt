@@ -14,7 +14,7 @@ use Rattle.rrd_base.specs.Content.{content_of}
 use Rattle.rrd_spec.specs.History.Cells.{row_at, row_of_age}
 use Rattle.rrd_spec.specs.History.Cells.{cell_at}
 use Rattle.rrd_spec.specs.Validity.{IsRow, IsValidArchive}
-use Rattle.rrd_spec.specs.Lemmas.Validity.{cell_of_archive}
+use Rattle.rrd_spec.specs.Lemmas.Cells.{cell_of_archive}
 use Rattle.rrd_spec.specs.Lemmas.Lists.{All-at}
 use Rattle.rrd_base.proofs.content.Content.row.Goals as goal
 

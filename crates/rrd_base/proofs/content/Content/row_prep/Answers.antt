@@ -3,7 +3,7 @@ use Rattle.rrd_fold.specs.Bounds.{Consolidating}
 use Rattle.rrd_fold.specs.Parts.{nothing}
 use Rattle.rrd_spec.specs.History.{Archive, Content}
 use Rattle.rrd_spec.specs.History.Cells.{prep_at}
-use Rattle.rrd_spec.specs.Lemmas.Validity.{prep_of_archive}
+use Rattle.rrd_spec.specs.Lemmas.Cells.{prep_of_archive}
 use Rattle.rrd_base.proofs.content.Content.row_prep.Goals as goal
 
 pub returns : goal.returns

@@ -3,7 +3,7 @@ use Rattle.std.specs.List.{AllByRecursion}
 use Rattle.rrd_spec.specs.declared.settings.DsDef.{DsDef}
 use Rattle.std.proofs.lemmas.List.{with_items_is, drop_all}
 use Rattle.rrd_spec.specs.History.{Content, Reading, Sampled}
-use Rattle.rrd_spec.specs.Laws.Listed.{content_listed}
+use Rattle.rrd_spec.specs.Laws.ListedContent.{content_listed}
 use Rattle.rrd_spec.specs.Commands.{Updating, sample_of, value_for, raw_of}
 use Rattle.rrd_spec.specs.History.{definitions}
 use Rattle.rrd_spec.specs.Commands.Turns.{in_all, least_of_sample, most_of_sample}

@@ -2,7 +2,7 @@ use Rattle.std.proofs.Common.{◌≡◌, sym, ◌∙◌, ap, ◌-◌, List, [], 
 use Rattle.rrd_spec.specs.Journal.Entries.{Entry, undone}
 use Rattle.rrd_spec.specs.Journal.Survivors.{Stored, reverted}
 use Rattle.rrd_base.specs.Journal.{entry_of, journal_of}
-use Rattle.rrd_spec.specs.Lemmas.Validity.{undone_depth}
+use Rattle.rrd_spec.specs.Lemmas.Journal.{undone_depth}
 use Rattle.rrd_base.proofs.KeptLemmas.{newest}
 use Rattle.rrd_base.proofs.database.Database.revert.Goals as goal
 

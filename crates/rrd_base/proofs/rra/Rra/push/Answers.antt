@@ -4,7 +4,7 @@ use Rattle.rrd_fixed.specs.declared.cell.Cell.{Cell}
 use Rattle.rrd_ring.specs.Rows.{HasWidth}
 use Rattle.rrd_ring.specs.Widths.{HasWidth-append, HasWidth-drop, width_is}
 use Rattle.rrd_spec.specs.History.{Archive}
-use Rattle.rrd_spec.specs.Laws.Listed.{keep_last}
+use Rattle.rrd_spec.specs.Laws.ListedContent.{keep_last}
 use Rattle.rrd_base.specs.declared.rra.Rra.TheInside.{Inside}
 use Rattle.rrd_base.proofs.PushedRows.{push_before, push_past}
 use Rattle.rrd_base.proofs.RraLemmas.{shown}

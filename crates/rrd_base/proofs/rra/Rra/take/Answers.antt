@@ -7,7 +7,7 @@ use Rattle.rrd_fold.specs.Parts.{Part, nothing, row_cell, with_each}
 use Rattle.rrd_ring.specs.Rows.{HasWidth}
 use Rattle.rrd_spec.specs.declared.settings.RraDef.{RraDef}
 use Rattle.rrd_spec.specs.History.{Archive}
-use Rattle.rrd_spec.specs.Laws.Listed.{keep_last}
+use Rattle.rrd_spec.specs.Laws.ListedContent.{keep_last}
 use Rattle.rrd_base.proofs.PushedRows.{ended_none, ended_some, row_fits}
 use Rattle.rrd_base.proofs.Passing.{still_fit}
 use Rattle.rrd_base.proofs.RraLemmas.{taken_valid}

@@ -7,7 +7,7 @@ use Rattle.rrd_file.specs.Layout.{row_pieces, spelled}
 use Rattle.rrd_file.proofs.Gathering.{breaks_stop, gathers_then}
 use Rattle.rrd_file.proofs.Told.{archive_at, there}
 use Rattle.rrd_file.proofs.Turned.{run_spelled, unknown}
-use Rattle.rrd_file.proofs.encoding.cells.write_run.Goals as goal
+use Rattle.rrd_file.proofs.encoding.body.write_run.Goals as goal
 
 pub overflow_mul-unwritten : goal.overflow_mul-unwritten
 overflow_mul-unwritten g c =

@@ -7,7 +7,7 @@ use Rattle.rrd_file.specs.Layout.{row_pieces, spelled}
 use Rattle.rrd_file.proofs.CellsFiled.{def_of, rows_are, small_def}
 use Rattle.rrd_file.proofs.Gathering.{breaks_stop, gathers_then}
 use Rattle.rrd_file.proofs.Turned.{archive_spelled}
-use Rattle.rrd_file.proofs.encoding.cells.write_slots.Goals as goal
+use Rattle.rrd_file.proofs.encoding.body.write_slots.Goals as goal
 
 pub resolution-requires : goal.resolution-requires
 resolution-requires g c =

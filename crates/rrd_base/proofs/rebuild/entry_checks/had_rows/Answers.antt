@@ -6,7 +6,7 @@ use Rattle.rrd_spec.specs.Limits.{version_one}
 use Rattle.rrd_spec.specs.Journal.Outlines.{rows_of, with_row_number}
 use Rattle.rrd_base.proofs.Comes.{not_past, past_not}
 use Rattle.rrd_base.proofs.FittingLemmas.{RowsPut, rows_are_put}
-use Rattle.rrd_base.proofs.rebuild.next_entry.had_rows.Goals as goal
+use Rattle.rrd_base.proofs.rebuild.entry_checks.had_rows.Goals as goal
 
 pub overflow_sub-all : goal.overflow_sub-all
 overflow_sub-all c =

@@ -8,7 +8,7 @@ use Rattle.rrd_file.proofs.Told.{there}
 use Rattle.rrd_file.proofs.CellsFiled.{cells_spelled}
 use Rattle.std.proofs.lemmas.Result.{err_from_is_err_and}
 use Rattle.rrd_file.proofs.Gathering.{all_added, item_added, item_broken}
-use Rattle.rrd_file.proofs.encoding.cells.write_cells.Goals as goal
+use Rattle.rrd_file.proofs.encoding.body.write_cells.Goals as goal
 
 pub returns-in_err-write_slots : goal.returns-in_err-write_slots
 returns-in_err-write_slots g c =

@@ -5,7 +5,7 @@ use Rattle.rrd_spec.specs.Files.Slots.{cells_by_slot}
 use Rattle.rrd_file.specs.Layout.{spelled}
 use Rattle.rrd_file.specs.Layout.Pieces.{OfCell}
 use Rattle.rrd_file.specs.Encoding.Block.{Adds}
-use Rattle.rrd_file.proofs.encoding.cells.write_cells.Given as goal
+use Rattle.rrd_file.proofs.encoding.body.write_cells.Given as goal
 
 abbrev pub invariant-loop-archive : goal.invariant-loop-archive
 invariant-loop-archive g l =

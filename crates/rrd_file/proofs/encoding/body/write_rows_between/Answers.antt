@@ -7,7 +7,7 @@ use Rattle.rrd_file.specs.Encoding.Block.{Adds}
 use Rattle.std.proofs.lemmas.Result.{err_from_is_err_and}
 use Rattle.rrd_file.proofs.Gathering.{all_added, flat_flat, item_added, item_broken}
 use Rattle.rrd_file.proofs.Turned.{in_run, run_length}
-use Rattle.rrd_file.proofs.encoding.cells.write_rows_between.Goals as goal
+use Rattle.rrd_file.proofs.encoding.body.write_rows_between.Goals as goal
 
 pub row_at-requires : goal.row_at-requires
 row_at-requires g c = record {

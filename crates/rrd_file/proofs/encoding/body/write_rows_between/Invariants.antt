@@ -6,7 +6,7 @@ use Rattle.rrd_spec.specs.History.{Archive}
 use Rattle.rrd_file.specs.Layout.{spelled}
 use Rattle.rrd_file.specs.Layout.Pieces.{OfCell}
 use Rattle.rrd_file.specs.Encoding.Block.{Adds}
-use Rattle.rrd_file.proofs.encoding.cells.write_rows_between.Given as goal
+use Rattle.rrd_file.proofs.encoding.body.write_rows_between.Given as goal
 
 abbrev pub invariant-loop-place : goal.invariant-loop-place
 invariant-loop-place g l =

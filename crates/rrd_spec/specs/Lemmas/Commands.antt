@@ -1,0 +1,20 @@
+-- Law: samples that pass their checks come one after another.
+use Rattle.std.proofs.Common.{List, [], ◌∷◌, map}
+use Rattle.std.proofs.lemmas.Bool.{leb-false}
+use Rattle.std.specs.List.{AllByRecursion}
+use Rattle.rrd_fixed.specs.declared.name.Name.{Name}
+use Rattle.rrd_spec.specs.declared.settings.DsDef.{DsDef}
+use Rattle.rrd_spec.specs.declared.requests.update.Sample.{Sample}
+use Rattle.rrd_spec.specs.Commands.{sample_of}
+use Rattle.rrd_spec.specs.Commands.Verdict.{sample_checks}
+use Rattle.rrd_spec.specs.History.{IsHistory, Moment, Sampled, moment_after}
+use Rattle.rrd_spec.specs.Laws.Commands.{Passes}
+use Rattle.rrd_spec.specs.Limits.{version_one}
+
+pub readings_rise : (sources : List DsDef) (template : List Name) (now : Moment) (readings : List Sample)
+    → AllByRecursion Passes (sample_checks version_one sources template now.last readings)
+    → IsHistory now (map Sampled (map (sample_of sources template) readings))
+readings_rise sources template now [] p = tt
+readings_rise sources template now (reading ∷ readings) p =
+    let next = moment_after now (Sampled (sample_of sources template reading)) in
+    (leb-false reading.time now.last p.1.0, readings_rise sources template next readings p.1.1.1.1)
