@@ -6,14 +6,12 @@ use Rattle.rrd_fixed.specs.declared.cell.Cell.{Cell}
 use Rattle.rrd_spec.specs.declared.settings.RraDef.{RraDef}
 use Rattle.rrd_fixed.specs.declared.raw.Raw.{Raw}
 use Rattle.rrd_spec.specs.declared.requests.update.Sample.{Sample}
-use Rattle.rrd_spec.specs.History.{Content, Reading, Sampled, IsBase, rates}
+use Rattle.rrd_spec.specs.History.{Content, Reading, Sampled, IsBase, rates, definitions}
 use Rattle.rrd_spec.specs.Laws.ListedContent.{content_listed}
-use Rattle.rrd_spec.specs.Laws.Passing.{passed}
-use Rattle.rrd_spec.specs.History.{definitions}
+use Rattle.rrd_spec.specs.Laws.Passing.{passed, PassesInPieces, SampledPasses}
 use Rattle.rrd_spec.specs.Commands.Turns.{rows_shown, in_all, least_of_sample, most_of_sample, most_of_steps}
 use Rattle.rrd_spec.specs.Validity.{AreAccepted, IsRow, IsValid}
 use Rattle.rrd_base.specs.Walk.{least_of_ends, least_to, most_of_ends, most_to}
-use Rattle.rrd_spec.specs.Laws.Passing.{PassesInPieces, SampledPasses}
 use Rattle.rrd_base.proofs.PushedRows.{next_ahead}
 use Rattle.rrd_base.proofs.Passing.{ended_div, within_div}
 use Rattle.rrd_spec.specs.Lemmas.Validity.{base_of_valid}

@@ -2,7 +2,7 @@
 use Rattle.rrd_base.specs.declared.rebuild.cursor.Cursor.{Cursor}
 use Rattle.rrd_spec.specs.Limits.{version_one}
 use Rattle.rrd_spec.specs.Journal.Outlines.{outline_undone}
-use Rattle.rrd_spec.specs.Files.Rebuilding.{outline_left}
+use Rattle.rrd_spec.specs.Files.Rebuilding.{outline_left, IsArchiveDef, IsRowPart, MayHead, heads_with_part, MaySource, after_heads, due, prep_or, rows_in_all, unprepared, with_head, with_prep, with_source}
 use Rattle.rrd_spec.specs.Settings.{names, has_source, is_double}
 use Rattle.rrd_spec.specs.declared.due.Due.{Due}
 use Rattle.rrd_spec.specs.declared.due.Due.TheVariants.{HeadDue, PrepDue, SourceDue}
@@ -24,14 +24,12 @@ use Rattle.rrd_base.specs.declared.journal.Entry.{Entry}
 use Rattle.rrd_spec.specs.Commands.{rows_of_archives}
 use Rattle.rrd_spec.specs.Files.Filed.{Filed, Head, Source, head_of, sources_of}
 use Rattle.rrd_spec.specs.History.{Archive}
-use Rattle.rrd_spec.specs.Files.Rebuilding.{IsArchiveDef, IsRowPart, MayHead, heads_with_part, MaySource, after_heads, due, prep_or, rows_in_all, unprepared, with_head, with_prep, with_source}
 use Rattle.rrd_base.specs.Rebuild.{ArePrepared, Coming, IsArchiveSoFar, IsRebuilding, cells_before, content_so_far, filed_in, IsCursor}
 use Rattle.rrd_base.specs.Rebuild.Cursors.{AreFewer, KnowsPlaceIn, filled_by}
 use Rattle.rrd_base.specs.Journal.{journal_of}
 use Rattle.rrd_spec.specs.Validity.{AreAccepted, IsPart, IsRow, IsSource, IsValidJournal}
 use Rattle.rrd_base.proofs.Dues.{due_source, due_then, lengths_same, none_there, split_at, unprepared_is}
-use Rattle.rrd_spec.specs.Lemmas.Lists.{All-append}
-use Rattle.rrd_spec.specs.Lemmas.Lists.{All-replicate}
+use Rattle.rrd_spec.specs.Lemmas.Lists.{All-append, All-replicate}
 use Rattle.std.proofs.lemmas.List.{length-map, length-replicate}
 use native.Mathlib.Nat as nat
 

@@ -8,11 +8,10 @@ use Rattle.rrd_fold.specs.declared.function.Function.{Function}
 use Rattle.rrd_fold.specs.declared.function.Function.TheVariants.{Average}
 use Rattle.rrd_fold.specs.Parts.{Part, nothing, with_each, step_cell}
 use Rattle.rrd_spec.specs.Laws.Validity.{PartsGrow, StaysValidFor}
-use Rattle.rrd_spec.specs.Laws.Passing.{PassesWithin}
+use Rattle.rrd_spec.specs.Laws.Passing.{PassesWithin, archive_passed, passed}
 use Rattle.rrd_spec.specs.Laws.EqualSteps.{SecondsOver}
 use Rattle.rrd_spec.specs.History.{Content, Archive}
 use Rattle.rrd_spec.specs.Lemmas.Lists.{All-replicate}
-use Rattle.rrd_spec.specs.Laws.Passing.{archive_passed, passed}
 use Rattle.rrd_spec.specs.Validity.{IsPart, AreParts, IsRow, IsValid}
 use Rattle.rrd_spec.specs.Lemmas.Validity.{base_of_valid}
 

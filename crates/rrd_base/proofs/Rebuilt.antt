@@ -3,11 +3,11 @@ use Rattle.rrd_spec.specs.Limits.{version_one}
 use Rattle.rrd_spec.specs.Settings.{resolution}
 use Rattle.rrd_spec.specs.declared.due.Due.{Due}
 use Rattle.rrd_spec.specs.declared.due.Due.TheVariants.{HeadDue, NothingDue}
-use Rattle.std.proofs.Common.{◌≡◌, ◌∙◌, ◌+◌, ◌*◌, ◌/◌, ◌≤◌, ℕ, suc, List, [], ◌∷◌, Some, None, Option, sym, ap, subst, arith, length, map, inl, inr, true, false, refl}
+use Rattle.std.proofs.Common.{◌≡◌, ◌∙◌, ◌+◌, ◌*◌, ◌/◌, ◌≤◌, ℕ, suc, List, [], ◌∷◌, Some, None, Option, sym, ap, subst, arith, length, map, inl, inr, true, false, refl, length-append, length-take, take, drop, take_all, ◌++◌, ◌⊎◌, Bool, min}
 use Rattle.std.specs.Prelude.{sum}
-use Rattle.std.specs.List.{AllByRecursion}
+use Rattle.std.specs.List.{AllByRecursion, fold, find, flat_map, enumerate_from, range_with_len}
 use Rattle.std.proofs.lemmas.Bool.{cases_lt, lt-ltb, le-ltb}
-use Rattle.std.proofs.lemmas.List.{length-map}
+use Rattle.std.proofs.lemmas.List.{length-map, length-reverse, take-append-drop}
 use Rattle.rrd_spec.specs.declared.settings.DsDef.{DsDef}
 use Rattle.rrd_spec.specs.declared.settings.RraDef.{RraDef}
 use Rattle.rrd_fixed.specs.declared.raw.Raw.{Raw}
@@ -21,11 +21,8 @@ use Rattle.rrd_spec.specs.Files.Slots.{cells_by_slot, row_in, stands_in}
 use Rattle.rrd_base.specs.Journal.{entry_of, journal_of}
 use Rattle.rrd_spec.specs.Validity.{IsRow, IsValid, IsValidArchive, IsValidDatabase}
 use Rattle.rrd_fixed.specs.declared.cell.Cell.{Cell}
-use Rattle.std.specs.List.{fold, find, flat_map, enumerate_from, range_with_len}
 use Rattle.std.specs.Option.{option_map_or}
-use Rattle.std.proofs.Common.{length-append, length-take, take, drop, take_all, ◌++◌, ◌⊎◌, Bool, min}
 use Rattle.std.proofs.lemmas.Grind.{flat_map-append}
-use Rattle.std.proofs.lemmas.List.{length-reverse, take-append-drop}
 use Rattle.std.proofs.lemmas.List.Concat.{flat_map-cons}
 use Rattle.std.proofs.lemmas.List.FromFn.{length-range_with_len}
 use native.Mathlib.Nat as nat

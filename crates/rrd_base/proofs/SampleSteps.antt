@@ -12,9 +12,8 @@ use Rattle.rrd_spec.specs.Laws.ListedContent.{content_listed}
 use Rattle.rrd_spec.specs.Commands.{raw_of, value_for, sample_of}
 use Rattle.rrd_spec.specs.Commands.Verdict.{sample_checks}
 use Rattle.rrd_spec.specs.Validity.{IsValid, AreAccepted}
-use Rattle.rrd_spec.specs.Laws.Commands.{AreKept}
+use Rattle.rrd_spec.specs.Laws.Commands.{AreKept, Passes}
 use Rattle.rrd_spec.specs.Laws.History.{GoesOnListed}
-use Rattle.rrd_spec.specs.Laws.Commands.{Passes}
 use Rattle.rrd_spec.specs.Lemmas.Commands.{readings_rise}
 use Rattle.rrd_spec.specs.Lemmas.Validity.{base_of_valid}
 use Rattle.rrd_spec.specs.Limits.{version_one}

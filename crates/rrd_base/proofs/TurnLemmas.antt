@@ -6,11 +6,10 @@ use Rattle.std.proofs.lemmas.Nat.{mul-le}
 use Rattle.std.specs.List.{fold}
 use Rattle.rrd_fixed.specs.declared.cell.Cell.{Cell}
 use Rattle.rrd_spec.specs.declared.settings.RraDef.{RraDef}
-use Rattle.rrd_spec.specs.History.{Archive, Content}
+use Rattle.rrd_spec.specs.History.{Archive, Content, definitions}
 use Rattle.rrd_spec.specs.Commands.{rows_of_archives}
 use Rattle.rrd_spec.specs.Validity.{IsValid}
 use Rattle.rrd_spec.specs.Laws.Passing.{archive_passed, passed}
-use Rattle.rrd_spec.specs.History.{definitions}
 use Rattle.rrd_spec.specs.Commands.Turns.{rows_shown, rows_ended, rows_pushed, least_of_steps, most_of_sample, most_of_steps}
 
 -- ---- archive by archive

@@ -8,9 +8,8 @@ use Rattle.rrd_fixed.specs.declared.name.Name.{Name}
 use Rattle.rrd_fixed.specs.Names.{same_name}
 use Rattle.rrd_spec.specs.declared.settings.DsDef.{DsDef}
 use Rattle.rrd_spec.specs.declared.requests.update.Given.{Given}
-use Rattle.rrd_spec.specs.Settings.{names}
+use Rattle.rrd_spec.specs.Settings.{names, is_double}
 use Rattle.rrd_spec.specs.Commands.{value_for}
-use Rattle.rrd_spec.specs.Settings.{is_double}
 use Rattle.std.proofs.lemmas.Slice.Eq.{bytes_eq-Decides}
 
 -- the value at the first place that is left, or one further on

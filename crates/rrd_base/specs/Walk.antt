@@ -2,8 +2,7 @@
 use Rattle.std.specs.Prelude.{◌≡◌, ◌≤◌, ℕ, ◌+◌, ◌*◌, ◌/◌, List, ◌∷◌, length, replicate, vec_len}
 use Rattle.rrd_fixed.specs.declared.cell.Cell.{Cell}
 use Rattle.rrd_spec.specs.Limits.{version_one}
-use Rattle.rrd_spec.specs.History.{Archive, Content}
-use Rattle.rrd_spec.specs.History.{definitions}
+use Rattle.rrd_spec.specs.History.{Archive, Content, definitions}
 use Rattle.rrd_spec.specs.Commands.Turns.{least_of_sample, least_of_steps, most_of_sample, most_of_steps, rows_pushed}
 use Rattle.rrd_spec.specs.Validity.{IsRow}
 use Rattle.rrd_base.specs.declared.walk.Steps.{Steps}

@@ -1,9 +1,8 @@
 //! A walk over a content: how the time up to a sample passes over it.
 ghost use Rattle.std.specs.Prelude.{◌≡◌, ◌+◌, ◌-◌, ◌*◌, ◌/◌, ◌^◌, ◌<◌, ◌≤◌, [], ◌∷◌, length, replicate, IfOk, None};
 ghost use Rattle.rrd_spec.specs.Commands.{Updating};
-ghost use Rattle.rrd_spec.specs.Laws.ListedContent.{moved_listed};
+ghost use Rattle.rrd_spec.specs.Laws.ListedContent.{moved_listed, content_listed};
 ghost use Rattle.rrd_spec.specs.History.{Sampled};
-ghost use Rattle.rrd_spec.specs.Laws.ListedContent.{content_listed};
 ghost use Rattle.rrd_spec.specs.History as history;
 ghost use Rattle.rrd_spec.specs.Limits.{version_one};
 ghost use Rattle.rrd_spec.specs.Laws.Passing.{passed};

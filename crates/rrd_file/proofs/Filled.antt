@@ -4,9 +4,8 @@ use Rattle.std.specs.Prelude.{Option, Some, None}
 use Rattle.std.proofs.lemmas.List.Edits.{take-paste}
 use Rattle.std.specs.List.{copy_within}
 use Rattle.std.specs.Io.KnownBytes.{Consumes, Keeps, prepend_known}
-use Rattle.std.proofs.lemmas.List.{take-append-le}
+use Rattle.std.proofs.lemmas.List.{take-append-le, drop-take, drop_at, length-take, length-take-le, take-append-drop, take_at}
 use borrow.Rule.Slice.PartMut.{put_mid, post_of}
-use Rattle.std.proofs.lemmas.List.{drop-take, drop_at, length-take, length-take-le, take-append-drop, take_at}
 use Rattle.rrd_file.specs.Decoding.Waiting.{IsWaiting}
 use lib.Seq.{drop-drop, take-add, take-take}
 

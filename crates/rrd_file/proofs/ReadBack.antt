@@ -7,10 +7,9 @@ use Rattle.rrd_fixed.specs.Names.{fits}
 use Rattle.rrd_fold.specs.declared.function.Function.{Function}
 use Rattle.rrd_spec.specs.declared.settings.RraDef.{RraDef}
 use Rattle.rrd_spec.specs.declared.entry.SourceBefore.{SourceBefore}
-use Rattle.rrd_file.specs.Layout.Pieces.{OfSourceBefore}
-use Rattle.rrd_file.specs.Decoding.Values.{FitsSourceBefore}
+use Rattle.rrd_file.specs.Layout.Pieces.{OfSourceBefore, OfArchive, OfHeader, OfSource, OfRawAndPart, spell}
+use Rattle.rrd_file.specs.Decoding.Values.{FitsSourceBefore, FitsArchive, FitsDef, FitsNumber, FitsSource}
 use Rattle.rrd_spec.specs.Files.Filed.{One, Source}
-use Rattle.rrd_file.specs.Layout.Pieces.{OfArchive, OfHeader, OfSource, OfRawAndPart, spell}
 use Rattle.rrd_file.proofs.Spelled.{append_same, short_fit}
 use Rattle.rrd_file.proofs.Lengths.{name_length, source_length}
 use Rattle.rrd_fixed.specs.declared.raw.Raw.{Raw}
@@ -22,7 +21,6 @@ use Rattle.std.proofs.lemmas.List.{take-append-drop}
 use Rattle.std.proofs.lemmas.Nat.{be_bytes_2, be_bytes_4, be_bytes_8}
 use mir.Val.{to_z, SFits}
 use Rattle.rrd_file.specs.Layout.Values.{two_bytes, four_bytes, eight_bytes, signed_bytes, least, bound_bytes, function_byte, kind_byte, name_bytes, part_bytes, raw_bytes, source_bytes}
-use Rattle.rrd_file.specs.Decoding.Values.{FitsArchive, FitsDef, FitsNumber, FitsSource}
 use Rattle.rrd_file.proofs.SignedBack.{signed_back}
 
 parted : (n : ℕ) (bs spelling : List ℕ) → take n bs ≡ spelling → bs ≡ spelling ++ drop n bs

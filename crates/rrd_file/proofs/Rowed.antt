@@ -1,5 +1,5 @@
 -- Rows that come one after another into a table.
-use Rattle.std.proofs.Common.{◌≡◌, ◌∙◌, ◌+◌, ◌-◌, ◌<◌, ◌≤◌, ◌++◌, ℕ, zero, suc, List, [], ◌∷◌, sym, ap, subst, length, length-set, replicate, take, arith, append-nil}
+use Rattle.std.proofs.Common.{◌≡◌, ◌∙◌, ◌+◌, ◌-◌, ◌<◌, ◌≤◌, ◌++◌, ℕ, zero, suc, List, [], ◌∷◌, sym, ap, subst, length, length-set, replicate, take, arith, append-nil, map}
 use Rattle.std.specs.Prelude.{slice_set}
 use Rattle.std.proofs.lemmas.List.{length-replicate}
 use Rattle.rrd_fixed.specs.declared.cell.Cell.{Cell}
@@ -13,7 +13,6 @@ use Rattle.rrd_file.specs.Layout.Pieces.{OfCell, Piece}
 use Rattle.rrd_file.specs.Stages.{DueInEntry, RowCellDue, cells_due}
 use Rattle.rrd_file.specs.Decoding.Progress.{Comes}
 use Rattle.rrd_file.proofs.Turns.{more_row, no_cells, row_less, taken_all}
-use Rattle.std.proofs.Common.{map}
 
 unknown_many : (n width : ℕ) → length (unknown_rows n width) ≡ n
 unknown_many n width = length-replicate n (replicate width Unknown)

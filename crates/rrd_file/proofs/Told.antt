@@ -12,8 +12,7 @@ use Rattle.rrd_spec.specs.Files.Filed.{Source, sources_of}
 use Rattle.rrd_spec.specs.History.{Archive, Content}
 use Rattle.std.proofs.lemmas.List.{length-map}
 use Rattle.rrd_fold.specs.Bounds.{Consolidating}
-use Rattle.rrd_spec.specs.History.Cells.{row_at}
-use Rattle.rrd_spec.specs.History.Cells.{cell_in, prep_in}
+use Rattle.rrd_spec.specs.History.Cells.{row_at, cell_in, prep_in}
 use Rattle.rrd_spec.specs.Validity.{AreAccepted, IsValid, IsValidArchive}
 use Rattle.rrd_file.specs.Layout.{raws_and_parts}
 use Rattle.rrd_file.specs.Layout.Pieces.{OfSource, OfRawAndPart}

@@ -15,12 +15,12 @@ use Rattle.rrd_fold.specs.declared.function.Function.{Function}
 use Rattle.rrd_fold.specs.declared.function.Function.TheVariants.{Average, Min, Max, Last}
 use Rattle.rrd_spec.specs.declared.settings.RraDef.{RraDef}
 use Rattle.rrd_fold.specs.Parts.{Part, nothing, with_value, with_cell, with_each, step_cell, consolidated, row_cell}
-use Rattle.rrd_spec.specs.Lemmas.Lists.{All-map}
-use Rattle.rrd_spec.specs.Lemmas.Lists.{All-replicate}
+use Rattle.rrd_spec.specs.Lemmas.Lists.{All-map, All-replicate}
 use Rattle.rrd_spec.specs.Validity.{weight, IsPart, AreParts, IsRow}
 use Rattle.rrd_spec.proofs.Kept.{Keeps}
 use Rattle.rrd_fixed.specs.Rounding.{near}
-use Rattle.rrd_spec.specs.History.Steps.{rows_rule, seconds_to_steps}
+use Rattle.rrd_spec.specs.History.Steps.{seconds_to_steps}
+use Rattle.rrd_spec.specs.History.Rows.{steps_to_rows}
 
 -- ---- one source
 
@@ -109,7 +109,7 @@ steps_keep step sources some = record {
   };
 }
 
-pub rows_keep : (def : RraDef) (sources : ℕ) → 0 < def.steps → pos 0 ≤ℤ def.xff → def.xff ≤ℤ pos 999999 → Keeps (rows_rule def sources) (IsRow sources) (AreParts def.function sources) (IsRow sources)
+pub rows_keep : (def : RraDef) (sources : ℕ) → 0 < def.steps → pos 0 ≤ℤ def.xff → def.xff ≤ℤ pos 999999 → Keeps (steps_to_rows def sources) (IsRow sources) (AreParts def.function sources) (IsRow sources)
 rows_keep def sources some low high = record {
   some = some;
   starts = no_parts def.function sources;

@@ -10,16 +10,14 @@ use Rattle.std.proofs.lemmas.List.{length-map, get_or_append_left, get_or-append
 use Rattle.std.proofs.lemmas.List.FromFn.{length-map-range_with_len, get_or-map-range_with_len}
 use Rattle.std.proofs.lemmas.Nat.{mul-le, mul-lt, div-mul-add, mod-mul-add}
 use Rattle.rrd_fixed.specs.declared.cell.Cell.{Cell}
-use Rattle.rrd_spec.specs.History.Steps.{rows_rule, seconds_to_steps}
+use Rattle.rrd_spec.specs.History.Steps.{seconds_to_steps, steps_of}
+use Rattle.rrd_spec.specs.History.Rows.{steps_to_rows, rows_of, row, row_ending}
 use Rattle.rrd_spec.specs.History.{Archive, Content, Event, Sampled, Tuned, Resized, Moment, moment_after, moment_of, moment_at_end, seconds_of, rows_after, IsHistory, IsArchive, IsBase}
-use Rattle.rrd_spec.specs.History.Steps.{steps_of, rows_of}
 use Rattle.rrd_spec.specs.Laws.ListedContent.{rows_never_lost, keep_last, filled_up, kept_rows, archive_of, content_listed}
 use Rattle.rrd_spec.specs.History.Groups.{Rule, group_part, finished}
 use Rattle.rrd_spec.proofs.GroupLemmas.{reached_before}
-use Rattle.rrd_spec.specs.History.Cells.{row_of_age, row_at}
+use Rattle.rrd_spec.specs.History.Cells.{row_of_age, row_at, newest, reach, prefixes, greatest, reach_after, horizon, row_by_time, time_of, rows_by_time, archive_by_time, content}
 use Rattle.rrd_spec.specs.Settings.{resolution}
-use Rattle.rrd_spec.specs.History.Cells.{newest, reach, prefixes, greatest, reach_after, horizon, row_by_time, time_of, rows_by_time, archive_by_time, content}
-use Rattle.rrd_spec.specs.History.Steps.{row, row_ending}
 use Rattle.rrd_spec.specs.Laws.Cells.{IsMultiple, IsListed, ShowsByTime, ListsByNumber}
 use Rattle.rrd_spec.proofs.HistoryLemmas.{last_rises, length-sources}
 use Rattle.rrd_spec.proofs.RowLemmas.{length-filled_up, room_first, room_last, row_by_age}
@@ -190,7 +188,7 @@ finished_at rule begun_at begun items i d h =
 new_row : (base : Content) (archive : Archive) (es : List Event) (i number : ℕ) (d : List Cell) → i < length (rows_of base archive es) → base.last / base.step / archive.def.steps + i ≡ number → get_or (rows_of base archive es) i d ≡ row base archive es number
 unfolding rows_of
 new_row base archive es i number d h e =
-    finished_at (rows_rule archive.def (length base.sources)) (base.last / base.step) archive.parts (steps_of base es) i d h ∙ ap (row base archive es) e
+    finished_at (steps_to_rows archive.def (length base.sources)) (base.last / base.step) archive.parts (steps_of base es) i d h ∙ ap (row base archive es) e
 
 -- the number of the row that ends n - m rows after 1970
 row_number : (size n m : ℕ) (time : ℤ) → 0 < size → IsAt size time n m → m < n → unsigned_abs time / size ≡ n - m
@@ -405,5 +403,5 @@ pub lists_by_number : (base : Content) (archive : Archive) (events : List Event)
 unfolding steps_of rows_of
 lists_by_number base archive events = record {
   steps_are = finished_by_number (seconds_to_steps base.step (length base.sources)) base.last base.parts (seconds_of base events);
-  rows_are = finished_by_number (rows_rule archive.def (length base.sources)) (base.last / base.step) archive.parts (steps_of base events);
+  rows_are = finished_by_number (steps_to_rows archive.def (length base.sources)) (base.last / base.step) archive.parts (steps_of base events);
 }

@@ -11,7 +11,7 @@ use Rattle.rrd_spec.specs.Commands.{Resizing, rows_of_archives, tuned}
 use Rattle.rrd_spec.specs.Journal.Entries.{rows_at, with_rows_at}
 use Rattle.rrd_spec.specs.Lemmas.Validity.{base_of_valid, sound}
 use Rattle.rrd_spec.specs.History.{Archive, Content, Resized, Tuned, moment_of, IsArchive}
-use Rattle.rrd_spec.specs.History.Steps.{rows_of, row_parts_of}
+use Rattle.rrd_spec.specs.History.Rows.{rows_of, row_parts_of}
 use Rattle.rrd_spec.specs.Laws.ListedContent.{rows_never_lost, keep_last, filled_up, kept_rows, archive_of}
 use Rattle.rrd_spec.specs.Commands.Verdict.{grows_too_far, is_bad_rows}
 use Rattle.rrd_spec.proofs.Accepted.{accepted_passes, some_rows}

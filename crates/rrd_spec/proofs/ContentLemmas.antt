@@ -6,9 +6,9 @@ use Rattle.std.proofs.lemmas.Nat.{mul-lt}
 use Rattle.std.specs.List.{fold, enumerate_from, AllByRecursion}
 use Rattle.rrd_fixed.specs.declared.cell.Cell.{Cell}
 use Rattle.rrd_fold.specs.Parts.{Part}
-use Rattle.rrd_spec.specs.History.Steps.{rows_rule}
+use Rattle.rrd_spec.specs.History.Rows.{steps_to_rows, rows_of}
 use Rattle.rrd_spec.specs.History.{Archive, Content, Event, Sampled, Tuned, Resized, Moment, moment_after, moment_of, moment_at_end, rows_after, IsHistory, IsArchive, IsBase}
-use Rattle.rrd_spec.specs.History.Steps.{steps_of, parts_of, rows_of}
+use Rattle.rrd_spec.specs.History.Steps.{steps_of, parts_of}
 use Rattle.rrd_spec.specs.Laws.ListedContent.{rows_never_lost, keep_last, filled_up, kept_rows, archive_of, content_listed}
 use Rattle.rrd_spec.proofs.GroupLemmas.{length-finished, reached_before}
 use Rattle.rrd_spec.proofs.HistoryLemmas.{length-sources, length-steps_of, parts_of-append, rows_of-append, row_parts_of-append}
@@ -21,7 +21,7 @@ unfolding rows_of
 length-rows_of base archive es pos some h =
     let steps = archive.def.steps in
     let before = base.last / base.step in
-    let count = length-finished (rows_rule archive.def (length base.sources)) before archive.parts (steps_of base es) in
+    let count = length-finished (steps_to_rows archive.def (length base.sources)) before archive.parts (steps_of base es) in
     let at : (before + length (steps_of base es)) / steps ≡ (moment_at_end base es).last / base.step / steps = ap (λ n. n / steps) (length-steps_of base es pos h) in
     omega (arith, reached_before before (length (steps_of base es)) steps some, div-div-eq-div-mul base.last base.step steps, div-div-eq-div-mul (moment_at_end base es).last base.step steps)
 

@@ -9,16 +9,14 @@ use Rattle.rrd_fixed.specs.declared.name.Name.{Name}
 use Rattle.rrd_spec.specs.declared.settings.DsDef.{DsDef}
 use Rattle.rrd_spec.specs.declared.entry.SourceBefore.{SourceBefore}
 use Rattle.rrd_spec.specs.History.{Archive, Content, Reading, Sampled, Resized, Moment, moment_after, moment_of, moment_at_end, rows_after, IsHistory, IsArchive}
-use Rattle.rrd_spec.specs.Laws.ListedContent.{archive_of, content_listed}
+use Rattle.rrd_spec.specs.Laws.ListedContent.{archive_of, content_listed, moved_listed}
 use Rattle.rrd_spec.proofs.HistoryLemmas.{last_rises, length-sources}
 use Rattle.rrd_spec.proofs.SampleLemmas.{rows_of_samples}
 use Rattle.rrd_spec.specs.Commands.{Asked, Command, Updating, TuningBy, Resizing, settings_of, rows_of_archives, sample_of, samples_of, tuned, rows_changed, events, moved}
-use Rattle.rrd_spec.specs.Settings.{Settings, names}
-use Rattle.rrd_spec.specs.Laws.ListedContent.{moved_listed}
-use Rattle.rrd_spec.specs.Settings.{has_source, is_double}
-use Rattle.rrd_spec.specs.Commands.Verdict.{is_bad_rows, grows_too_far, shrinks_too_far, no_sample, asks_nothing, names_no_source, verdict}
+use Rattle.rrd_spec.specs.Settings.{Settings, names, has_source, is_double}
+use Rattle.rrd_spec.specs.Commands.Verdict.{is_bad_rows, grows_too_far, shrinks_too_far, no_sample, asks_nothing, names_no_source, verdict, is_accepted}
 use Rattle.rrd_spec.specs.Journal.Entries.{Entry, rows_between, saved, is_asked, is_named, sources_before, rows_at, entry, undone}
-use Rattle.rrd_spec.specs.Journal.Survivors.{Action, Changed, Reverted, Stored, is_accepted, changed, reverted, stored_after, AllUndo}
+use Rattle.rrd_spec.specs.Journal.Survivors.{Action, Changed, Reverted, Stored, changed, reverted, stored_after, AllUndo}
 use Rattle.rrd_spec.proofs.Accepted.{accepted_passes, accepted_history}
 use Rattle.rrd_spec.proofs.Undoing.{comes_back}
 use Rattle.rrd_spec.specs.Lemmas.Validity.{length-accepted, rows_wide, sound}

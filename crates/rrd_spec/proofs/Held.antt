@@ -6,7 +6,8 @@ use Rattle.rrd_fixed.specs.declared.cell.Cell.{Cell}
 use Rattle.rrd_fixed.specs.Rate.{IsBounded}
 use Rattle.rrd_fold.specs.declared.function.Function.TheVariants.{Average}
 use Rattle.rrd_spec.specs.History.{Archive, Content, Event, moment_of, moment_at_end, seconds_of, rows_after, IsHistory}
-use Rattle.rrd_spec.specs.History.Steps.{steps_of, parts_of, rows_of, row_parts_of}
+use Rattle.rrd_spec.specs.History.Steps.{steps_of, parts_of, seconds_to_steps}
+use Rattle.rrd_spec.specs.History.Rows.{rows_of, row_parts_of, steps_to_rows}
 use Rattle.rrd_spec.specs.Laws.ListedContent.{rows_never_lost, keep_last, kept_rows, archive_of}
 use Rattle.rrd_spec.proofs.HistoryLemmas.{length-seconds_of, length-steps_of}
 use Rattle.rrd_spec.proofs.ContentLemmas.{length-kept_rows}
@@ -15,7 +16,6 @@ use Rattle.rrd_spec.specs.Lemmas.Validity.{is_archive}
 use Rattle.rrd_spec.specs.Lemmas.Lists.{All-append, All-drop, All-replicate}
 use Rattle.rrd_spec.proofs.Kept.{Kept, kept}
 use Rattle.rrd_spec.proofs.Bounded.{steps_keep, rows_keep}
-use Rattle.rrd_spec.specs.History.Steps.{rows_rule, seconds_to_steps}
 
 steps_kept : (base : Content) (es : List Event) → IsValid base → AllByRecursion (IsRow (length base.sources)) (seconds_of base es) → Kept (seconds_to_steps base.step (length base.sources)) (AreParts Average (length base.sources)) (IsRow (length base.sources)) base.last base.parts (seconds_of base es)
 steps_kept base es is rows =
@@ -32,10 +32,10 @@ steps_valid : (base : Content) (es : List Event) → IsValid base → AllByRecur
 unfolding steps_of
 steps_valid base es is rows = (steps_kept base es is rows).given_are
 
-rows_kept : (base : Content) (es : List Event) (archive : Archive) → IsValid base → IsValidArchive (length base.sources) (base.last / base.step) archive → AllByRecursion (IsRow (length base.sources)) (seconds_of base es) → Kept (rows_rule archive.def (length base.sources)) (AreParts archive.def.function (length base.sources)) (IsRow (length base.sources)) (base.last / base.step) archive.parts (steps_of base es)
+rows_kept : (base : Content) (es : List Event) (archive : Archive) → IsValid base → IsValidArchive (length base.sources) (base.last / base.step) archive → AllByRecursion (IsRow (length base.sources)) (seconds_of base es) → Kept (steps_to_rows archive.def (length base.sources)) (AreParts archive.def.function (length base.sources)) (IsRow (length base.sources)) (base.last / base.step) archive.parts (steps_of base es)
 rows_kept base es archive is of rows =
     let n = length base.sources in
-    kept (rows_rule archive.def n) (IsRow n) (AreParts archive.def.function n) (IsRow n) (rows_keep archive.def n of.some_steps of.xff_low of.xff_high) (base.last / base.step) archive.parts (steps_of base es) of.parts_are (steps_valid base es is rows)
+    kept (steps_to_rows archive.def n) (IsRow n) (AreParts archive.def.function n) (IsRow n) (rows_keep archive.def n of.some_steps of.xff_low of.xff_high) (base.last / base.step) archive.parts (steps_of base es) of.parts_are (steps_valid base es is rows)
 
 row_parts_valid : (base : Content) (es : List Event) (archive : Archive) → IsValid base → IsHistory (moment_of base) es → IsValidArchive (length base.sources) (base.last / base.step) archive → AllByRecursion (IsRow (length base.sources)) (seconds_of base es) → AreParts archive.def.function (length base.sources) ((moment_at_end base es).last / base.step % archive.def.steps) (row_parts_of base archive es)
 unfolding row_parts_of

@@ -1,15 +1,14 @@
 -- A history in two pieces.
-use Rattle.std.proofs.Common.{◌≡◌, refl, sym, ◌∙◌, ap, ℕ, zero, suc, ◌+◌, ◌-◌, ◌/◌, ◌<◌, ◌≤◌, List, [], ◌∷◌, ◌++◌, length, map, arith}
+use Rattle.std.proofs.Common.{◌≡◌, refl, sym, ◌∙◌, ap, ℕ, zero, suc, ◌+◌, ◌-◌, ◌/◌, ◌<◌, ◌≤◌, List, [], ◌∷◌, ◌++◌, length, map, arith, ⊎_elim}
 use Rattle.std.proofs.lemmas.Bool.{le-leb, lt-leb, cases_lt}
-use Rattle.std.proofs.Common.{⊎_elim}
 use Rattle.std.proofs.lemmas.List.{map-append}
 use Rattle.std.proofs.lemmas.List.Sums.{fold-append}
 use Rattle.std.proofs.lemmas.List.FromFn.{length-map-range_with_len}
 use Rattle.std.specs.List.{fold, range_with_len}
 use Rattle.rrd_spec.specs.History.Groups.{finished, unfinished}
-use Rattle.rrd_spec.specs.History.Steps.{rows_rule, seconds_to_steps}
+use Rattle.rrd_spec.specs.History.Steps.{seconds_to_steps, steps_of, parts_of}
+use Rattle.rrd_spec.specs.History.Rows.{steps_to_rows, rows_of, row_parts_of}
 use Rattle.rrd_spec.specs.History.{Archive, Content, Event, Sampled, Tuned, Resized, Moment, moment_after, moment_of, moment_at_end, rates, Taken, samples, second, seconds, seconds_of, IsHistory}
-use Rattle.rrd_spec.specs.History.Steps.{steps_of, parts_of, rows_of, row_parts_of}
 use Rattle.rrd_spec.specs.Laws.ListedContent.{archive_of, content_listed}
 use Rattle.rrd_spec.proofs.GroupLemmas.{goes_on, map_range_same, length-finished, reached_before}
 
@@ -130,7 +129,7 @@ length-steps_of base es pos h =
 pub rows_of-append : (base : Content) (index : ℕ) (archive : Archive) (es fs : List Event) → 0 < base.step → 0 < archive.def.steps → IsHistory (moment_of base) es → IsHistory (moment_at_end base es) fs → rows_of base archive (es ++ fs) ≡ rows_of base archive es ++ rows_of (content_listed base es) (archive_of base es (index, archive)) fs
 unfolding content_listed rows_of row_parts_of
 rows_of-append base index archive es fs pos some h k =
-    let rule = rows_rule archive.def (length base.sources) in
+    let rule = steps_to_rows archive.def (length base.sources) in
     let before = base.last / base.step in
     let A = steps_of base es in
     let B = steps_of (content_listed base es) fs in
@@ -138,12 +137,12 @@ rows_of-append base index archive es fs pos some h k =
     ap (finished rule before archive.parts) (steps_of-append base es fs pos h k)
     ∙ on.finished_is
     ∙ ap (λ n. finished rule before archive.parts A ++ finished rule n (unfinished rule before archive.parts A) B) (length-steps_of base es pos h)
-    ∙ ap (λ n. finished rule before archive.parts A ++ finished (rows_rule archive.def n) ((moment_at_end base es).last / base.step) (unfinished rule before archive.parts A) B) (sym (length-sources (moment_of base) es h))
+    ∙ ap (λ n. finished rule before archive.parts A ++ finished (steps_to_rows archive.def n) ((moment_at_end base es).last / base.step) (unfinished rule before archive.parts A) B) (sym (length-sources (moment_of base) es h))
 
 pub row_parts_of-append : (base : Content) (index : ℕ) (archive : Archive) (es fs : List Event) → 0 < base.step → 0 < archive.def.steps → IsHistory (moment_of base) es → IsHistory (moment_at_end base es) fs → row_parts_of base archive (es ++ fs) ≡ row_parts_of (content_listed base es) (archive_of base es (index, archive)) fs
 unfolding content_listed rows_of row_parts_of
 row_parts_of-append base index archive es fs pos some h k =
-    let rule = rows_rule archive.def (length base.sources) in
+    let rule = steps_to_rows archive.def (length base.sources) in
     let before = base.last / base.step in
     let A = steps_of base es in
     let B = steps_of (content_listed base es) fs in
@@ -151,4 +150,4 @@ row_parts_of-append base index archive es fs pos some h k =
     ap (unfinished rule before archive.parts) (steps_of-append base es fs pos h k)
     ∙ on.unfinished_is
     ∙ ap (λ n. unfinished rule n (unfinished rule before archive.parts A) B) (length-steps_of base es pos h)
-    ∙ ap (λ n. unfinished (rows_rule archive.def n) ((moment_at_end base es).last / base.step) (unfinished rule before archive.parts A) B) (sym (length-sources (moment_of base) es h))
+    ∙ ap (λ n. unfinished (steps_to_rows archive.def n) ((moment_at_end base es).last / base.step) (unfinished rule before archive.parts A) B) (sym (length-sources (moment_of base) es h))

@@ -13,7 +13,8 @@ use Rattle.rrd_spec.specs.History.{Archive, Content}
 use Rattle.rrd_spec.specs.Laws.ListedContent.{keep_last}
 use Rattle.rrd_spec.specs.Lemmas.Lists.{keep_all, keep_last-append}
 use Rattle.rrd_spec.specs.Laws.Passing.{archive_passed, passed}
-use Rattle.rrd_spec.specs.History.Steps.{rows_rule, seconds_to_steps}
+use Rattle.rrd_spec.specs.History.Steps.{seconds_to_steps}
+use Rattle.rrd_spec.specs.History.Rows.{steps_to_rows}
 use Rattle.rrd_spec.specs.Laws.EqualSteps.{SecondsOver, StepsInPieces, StepsOver, StepsWithin}
 use Rattle.rrd_spec.specs.Lemmas.Preparations.{fold-with_each}
 use Rattle.rrd_spec.proofs.GroupLemmas.{goes_on, finished_within, unfinished_within, finished_filling, unfinished_filling, finished-replicate, unfinished-replicate, next_ahead}
@@ -31,7 +32,7 @@ with_rows archive parts rows = record archive { parts = parts; rows = rows }
 archive_within : (sources before : ℕ) (archive : Archive) (steps : List (List Cell)) → 0 < archive.def.steps → before + length steps < (before / archive.def.steps + 1) * archive.def.steps → archive_passed sources before steps archive ≡ record archive { parts = fold (with_each archive.def.function) archive.parts steps }
 unfolding archive_passed with_rows
 archive_within sources before archive steps some h =
-    let rule = rows_rule archive.def sources in
+    let rule = steps_to_rows archive.def sources in
     let r = length archive.rows in
     ap (λ p. with_rows archive p (keep_last r (archive.rows ++ finished rule before archive.parts steps))) (unfinished_within rule before archive.parts steps some h)
     ∙ ap (λ zs. with_rows archive (fold rule.add archive.parts steps) (keep_last r (archive.rows ++ zs))) (finished_within rule before archive.parts steps some h)
@@ -44,7 +45,7 @@ archive_filling : (sources before : ℕ) (archive : Archive) (steps : List (List
 }
 unfolding archive_passed with_rows
 archive_filling sources before archive steps some h =
-    let rule = rows_rule archive.def sources in
+    let rule = steps_to_rows archive.def sources in
     let r = length archive.rows in
     let row = map (row_cell archive.def.function archive.def.xff archive.def.steps) (fold (with_each archive.def.function) archive.parts steps) in
     ap (λ p. with_rows archive p (keep_last r (archive.rows ++ finished rule before archive.parts steps))) (unfinished_filling rule before archive.parts steps some h)
@@ -103,7 +104,7 @@ module _ (whole_step : (step : ℕ) (cell : Cell) → 0 < step → step_cell ste
   archive_wholes : (sources k first : ℕ) (archive : Archive) (step : List Cell) → 0 < archive.def.steps → pos 0 ≤ℤ archive.def.xff → archive.def.xff ≤ℤ pos 999999 → length step ≡ sources → archive.parts ≡ replicate sources nothing → archive_passed sources (first * archive.def.steps) (replicate (k * archive.def.steps) step) archive ≡ record archive { rows = keep_last (length archive.rows) (archive.rows ++ replicate k step) }
   unfolding archive_passed with_rows
   archive_wholes sources k first archive step some low high wide none =
-      let rule = rows_rule archive.def sources in
+      let rule = steps_to_rows archive.def sources in
       let m = archive.def.steps in
       let r = length archive.rows in
       let all = replicate (k * m) step in

@@ -6,14 +6,13 @@ use Rattle.std.proofs.lemmas.List.Sums.{fold-append}
 use Rattle.std.specs.List.{fold, enumerate_from}
 use Rattle.rrd_spec.specs.declared.settings.DsDef.{DsDef}
 use Rattle.rrd_spec.specs.History.{Archive, Content, Event, Sampled, Tuned, Resized, Moment, moment_after, moment_of, moment_at_end, rows_after, IsHistory, IsBase}
-use Rattle.rrd_spec.specs.Laws.ListedContent.{archive_of, content_listed}
+use Rattle.rrd_spec.specs.Laws.ListedContent.{archive_of, content_listed, moved_listed}
 use Rattle.rrd_spec.specs.Laws.History.{GoesOnFromContent, StaysBase}
 use Rattle.rrd_spec.specs.History.Cells.{archive_by_time, content}
 use Rattle.rrd_spec.proofs.CellLemmas.{is_listed}
 use Rattle.rrd_spec.proofs.ContentLemmas.{listed-append, IsBase-listed}
 use Rattle.rrd_spec.specs.Commands.{Command, settings_of, rows_of_archives, settings_after, events, events_of, moved}
 use Rattle.rrd_spec.specs.Settings.{Settings}
-use Rattle.rrd_spec.specs.Laws.ListedContent.{moved_listed}
 use Rattle.rrd_spec.specs.Commands.Verdict.{verdict}
 use Rattle.rrd_spec.specs.Journal.Entries.{IsSound}
 use Rattle.rrd_spec.specs.Journal.Survivors.{survived, AllAccepted}

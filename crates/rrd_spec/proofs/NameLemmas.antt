@@ -6,8 +6,7 @@ use Rattle.std.specs.List.{list_any}
 use Rattle.rrd_fixed.specs.declared.name.Name.{Name}
 use Rattle.rrd_spec.specs.declared.settings.DsDef.{DsDef}
 use Rattle.rrd_spec.specs.Commands.{Asked, asked, tuned}
-use Rattle.rrd_spec.specs.Settings.{names}
-use Rattle.rrd_spec.specs.Settings.{has_source, is_double}
+use Rattle.rrd_spec.specs.Settings.{names, has_source, is_double}
 use Rattle.rrd_spec.specs.declared.requests.tune.Tuning.{Tuning}
 use Rattle.rrd_fixed.specs.Names.{same_name}
 

@@ -7,20 +7,19 @@ use Rattle.rrd_fixed.specs.declared.cell.Cell.{Cell}
 use Rattle.rrd_fold.specs.declared.function.Function.TheVariants.{Average}
 use Rattle.rrd_spec.specs.History.Groups.{finished, unfinished}
 use Rattle.rrd_fold.specs.Parts.{Part, with_each}
-use Rattle.rrd_spec.specs.History.Steps.{rows_rule, seconds_to_steps}
+use Rattle.rrd_spec.specs.History.Steps.{seconds_to_steps, steps_of, parts_of}
+use Rattle.rrd_spec.specs.History.Rows.{steps_to_rows, rows_of, row_parts_of}
 use Rattle.rrd_spec.specs.History.{Archive, Content, Reading, Sampled, moment_of, rates, samples, second, seconds_of, IsArchive, IsBase}
-use Rattle.rrd_spec.specs.History.Steps.{steps_of, parts_of, rows_of, row_parts_of}
 use Rattle.rrd_spec.specs.Laws.ListedContent.{keep_last, filled_up, kept_rows, archive_of, content_listed}
 use Rattle.rrd_spec.specs.Laws.Passing.{archive_passed, passed}
 use Rattle.rrd_spec.proofs.GroupLemmas.{finished_nil, unfinished_nil, finished_within, unfinished_within, goes_on, length-finished, reached_before}
 use Rattle.rrd_spec.proofs.RowLemmas.{filled_already}
-use Rattle.rrd_spec.specs.Lemmas.Lists.{keep_all, length-keep_last}
-use Rattle.rrd_spec.specs.Lemmas.Lists.{keep_last-append}
+use Rattle.rrd_spec.specs.Lemmas.Lists.{keep_all, length-keep_last, keep_last-append}
 
 pub archive_passed-append : (sources before middle : ℕ) (archive : Archive) (xs ys : List (List Cell)) → 0 < archive.def.steps → before + length xs ≡ middle → archive_passed sources before (xs ++ ys) archive ≡ archive_passed sources middle ys (archive_passed sources before xs archive)
 unfolding archive_passed
 archive_passed-append sources before middle archive xs ys some at =
-    let rule = rows_rule archive.def sources in
+    let rule = steps_to_rows archive.def sources in
     let part = unfinished rule before archive.parts xs in
     let on = goes_on rule before archive.parts xs ys some in
     let old = archive.rows in
@@ -115,7 +114,7 @@ with_rows archive parts rows = record archive { parts = parts; rows = rows }
 archive_passed-nil : (sources before : ℕ) (archive : Archive) → 0 < archive.def.steps → archive_passed sources before [] archive ≡ archive
 unfolding archive_passed with_rows
 archive_passed-nil sources before archive some =
-    let rule = rows_rule archive.def sources in
+    let rule = steps_to_rows archive.def sources in
     let none = finished_nil rule before archive.parts in
     let part = unfinished_nil rule before archive.parts some in
     let rows : keep_last (length archive.rows) (archive.rows ++ finished rule before archive.parts []) ≡ archive.rows

@@ -10,7 +10,8 @@ use Rattle.rrd_spec.specs.History.Groups.{finished}
 use Rattle.rrd_spec.specs.History.{Archive, Content}
 use Rattle.rrd_spec.specs.Lemmas.Lists.{All-append, All-drop, length-keep_last}
 use Rattle.rrd_spec.specs.Laws.Passing.{archive_passed, passed}
-use Rattle.rrd_spec.specs.History.Steps.{rows_rule, seconds_to_steps}
+use Rattle.rrd_spec.specs.History.Steps.{seconds_to_steps}
+use Rattle.rrd_spec.specs.History.Rows.{steps_to_rows}
 use Rattle.rrd_spec.specs.Validity.{AreParts, IsRow, IsValidArchive}
 use Rattle.rrd_spec.proofs.Bounded.{rows_keep, steps_keep}
 use Rattle.rrd_spec.proofs.GroupLemmas.{length-finished, reached_before}
@@ -20,7 +21,7 @@ pub archive_stays_valid : (sources before : ℕ) (steps : List (List Cell)) (arc
 unfolding archive_passed
 archive_stays_valid sources before steps archive is rows =
     let def = archive.def in
-    let rule = rows_rule def sources in
+    let rule = steps_to_rows def sources in
     let keeps = kept rule (IsRow sources) (AreParts def.function sources) (IsRow sources) (rows_keep def sources is.some_steps is.xff_low is.xff_high) before archive.parts steps is.parts_are rows in
     let new = finished rule before archive.parts steps in
     let all = archive.rows ++ new in

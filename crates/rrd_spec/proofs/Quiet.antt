@@ -7,10 +7,10 @@ use Rattle.rrd_fixed.specs.declared.raw.Raw.{Raw}
 use Rattle.rrd_spec.specs.declared.settings.DsDef.{DsDef}
 use Rattle.rrd_fold.specs.Parts.{Part}
 use Rattle.rrd_spec.specs.History.{Archive, Content, Event, Tuned, Resized, moment_of, moment_at_end, raws_under, samples, second, seconds_of, rows_after, IsArchive, IsBase}
-use Rattle.rrd_spec.specs.History.Steps.{steps_of, parts_of, rows_of, row_parts_of}
+use Rattle.rrd_spec.specs.History.Steps.{steps_of, parts_of, seconds_to_steps}
+use Rattle.rrd_spec.specs.History.Rows.{rows_of, row_parts_of, steps_to_rows}
 use Rattle.rrd_spec.specs.Laws.ListedContent.{rows_never_lost, keep_last, filled_up, kept_rows, archive_of, content_listed}
 use Rattle.rrd_spec.proofs.RowLemmas.{filled_already}
-use Rattle.rrd_spec.specs.History.Steps.{rows_rule, seconds_to_steps}
 use Rattle.rrd_spec.specs.History.Groups.{finished, unfinished}
 use Rattle.rrd_spec.proofs.GroupLemmas.{finished_nil, unfinished_nil}
 use Rattle.rrd_spec.specs.Lemmas.Lists.{keep_all}
@@ -30,11 +30,11 @@ module _ (base : Content) (es : List Event) (same : (moment_at_end base es).last
 
   pub rows_none : (archive : Archive) → rows_of base archive es ≡ []
   unfolding rows_of
-  rows_none archive = ap (finished (rows_rule archive.def (length base.sources)) (base.last / base.step) archive.parts) steps_none ∙ finished_nil (rows_rule archive.def (length base.sources)) (base.last / base.step) archive.parts
+  rows_none archive = ap (finished (steps_to_rows archive.def (length base.sources)) (base.last / base.step) archive.parts) steps_none ∙ finished_nil (steps_to_rows archive.def (length base.sources)) (base.last / base.step) archive.parts
 
   pub row_parts_same : (archive : Archive) → 0 < archive.def.steps → row_parts_of base archive es ≡ archive.parts
   unfolding row_parts_of
-  row_parts_same archive some = ap (unfinished (rows_rule archive.def (length base.sources)) (base.last / base.step) archive.parts) steps_none ∙ unfinished_nil (rows_rule archive.def (length base.sources)) (base.last / base.step) archive.parts some
+  row_parts_same archive some = ap (unfinished (steps_to_rows archive.def (length base.sources)) (base.last / base.step) archive.parts) steps_none ∙ unfinished_nil (steps_to_rows archive.def (length base.sources)) (base.last / base.step) archive.parts some
 
   kept_same : (index : ℕ) (archive : Archive) → IsArchive archive → ((rows : ℕ) → fold (rows_after index) rows es ≡ rows) → ((rows : ℕ) (since : ℕ → ℕ) → since base.last ≡ 0 → rows_never_lost index since rows (moment_of base) es ≡ rows) → kept_rows base index archive es ≡ archive.rows
   unfolding kept_rows

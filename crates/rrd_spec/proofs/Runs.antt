@@ -6,9 +6,9 @@ use Rattle.std.proofs.lemmas.List.{length-take, reverse-append, reverse-reverse}
 use Rattle.std.specs.List.{fold}
 use Rattle.rrd_spec.specs.History.{Content}
 use Rattle.rrd_spec.specs.Commands.{Command, content_of, moved}
-use Rattle.rrd_spec.specs.Commands.Verdict.{verdict}
+use Rattle.rrd_spec.specs.Commands.Verdict.{verdict, is_accepted}
 use Rattle.rrd_spec.specs.Journal.Entries.{Entry, entry, undone, IsSound}
-use Rattle.rrd_spec.specs.Journal.Survivors.{Action, Changed, Reverted, State, Stored, survived, is_accepted, entries, with_change, without_last, after, reverted, changed, stored_after, AllAccepted, AllUndo, Stands}
+use Rattle.rrd_spec.specs.Journal.Survivors.{Action, Changed, Reverted, State, Stored, survived, entries, with_change, without_last, after, reverted, changed, stored_after, AllAccepted, AllUndo, Stands}
 use Rattle.rrd_spec.specs.Laws.Commands.{CommandsGoOn}
 use Rattle.rrd_spec.specs.Laws.Journal.{RunsAgree}
 use Rattle.rrd_spec.proofs.CellLemmas.{is_listed}

@@ -3,7 +3,7 @@ use Rattle.std.proofs.Common.{◌≡◌, refl, sym, ◌∙◌, ap, ℕ, ◌-◌,
 use Rattle.std.specs.List.{fold}
 use Rattle.rrd_fixed.specs.declared.cell.Cell.{Cell}
 use Rattle.rrd_spec.specs.History.{Archive, Content, Reading, Sampled, Moment, moment_after, moment_of, moment_at_end, rows_after, IsArchive}
-use Rattle.rrd_spec.specs.History.Steps.{rows_of}
+use Rattle.rrd_spec.specs.History.Rows.{rows_of}
 use Rattle.rrd_spec.specs.Laws.ListedContent.{rows_never_lost, keep_last, filled_up, kept_rows}
 use Rattle.rrd_spec.proofs.RowLemmas.{put_back_rows}
 use Rattle.rrd_spec.specs.Lemmas.Lists.{length-keep_last}

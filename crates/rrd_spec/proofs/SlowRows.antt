@@ -8,7 +8,7 @@ use Rattle.rrd_fixed.specs.declared.raw.Raw.TheVariants.{Unknown}
 use Rattle.rrd_fold.specs.declared.function.Function.TheVariants.{Average}
 use Rattle.rrd_spec.specs.History.Groups.{finished}
 use Rattle.rrd_fold.specs.Parts.{nothing}
-use Rattle.rrd_spec.specs.History.Steps.{seconds_to_steps}
+use Rattle.rrd_spec.specs.History.Steps.{seconds_to_steps, steps_of}
 use Rattle.rrd_spec.proofs.GroupLemmas.{length-finished}
 use Rattle.rrd_spec.specs.declared.requests.create.CreateSpec.{CreateSpec}
 use Rattle.rrd_spec.specs.declared.settings.DsDef.{DsDef}
@@ -20,7 +20,7 @@ use Rattle.rrd_spec.specs.Commands.Creating.{create_verdict, created, new_archiv
 use Rattle.rrd_spec.specs.History.Cells.{content}
 use Rattle.rrd_spec.specs.History.{Archive, Content, Event, Sampled, moment_of, moment_at_end, samples, seconds, seconds_of}
 use Rattle.rrd_spec.specs.Laws.ListedContent.{archive_of, content_listed, keep_last}
-use Rattle.rrd_spec.specs.History.Steps.{steps_of, rows_of}
+use Rattle.rrd_spec.specs.History.Rows.{rows_of}
 use Rattle.rrd_spec.specs.Slow.{event_of, reading_of, taken_of, AreInOrder, AreNewest, latest, rule_of, IsGroup}
 use Rattle.rrd_spec.specs.Validity.{AreParts, IsRow, IsValidArchive}
 use Rattle.rrd_spec.proofs.Bounded.{steps_keep}

@@ -16,15 +16,13 @@ use Rattle.rrd_fixed.specs.Rate.{IsAccepted}
 use Rattle.rrd_fixed.specs.declared.name.Name.{Name}
 use Rattle.rrd_spec.specs.declared.settings.DsDef.{DsDef}
 use Rattle.rrd_spec.specs.History.{Archive, Content, Reading, Event, Sampled, Tuned, Moment, moment_after, moment_of, moment_at_end, same_kind, raws_under, rows_after, seconds_of, IsHistory}
-use Rattle.rrd_spec.specs.Laws.ListedContent.{archive_of, content_listed}
+use Rattle.rrd_spec.specs.Laws.ListedContent.{archive_of, content_listed, moved_listed}
 use Rattle.rrd_spec.proofs.HistoryLemmas.{length-sources}
 use Rattle.rrd_spec.proofs.SampleLemmas.{rows_of_samples}
 use Rattle.rrd_spec.specs.Commands.{Asked, Command, Updating, TuningBy, Resizing, settings_of, settings_after, rows_of_archives, raw_of, value_for, sample_of, samples_of, asked, tuned, rows_changed, events}
-use Rattle.rrd_spec.specs.Settings.{names}
-use Rattle.rrd_spec.specs.Laws.ListedContent.{moved_listed}
+use Rattle.rrd_spec.specs.Settings.{names, has_source, is_double, cells}
 use Rattle.rrd_spec.specs.Laws.Commands.{Passes}
 use Rattle.rrd_spec.specs.Commands.Verdict.{is_bad_heartbeat, is_bad_rows, has_bad_bounds, grows_too_far, sample_checks, verdict}
-use Rattle.rrd_spec.specs.Settings.{has_source, is_double, cells}
 use Rattle.rrd_spec.proofs.Accepted.{accepted_passes, accepted_history}
 use Rattle.rrd_spec.proofs.Moving.{moved_is, settings_of-content}
 use Rattle.rrd_spec.proofs.Quiet.{seconds_none}

@@ -10,12 +10,11 @@ use Rattle.rrd_fixed.specs.declared.name.Name.{Name}
 use Rattle.rrd_spec.specs.declared.settings.DsDef.{DsDef}
 use Rattle.rrd_spec.specs.declared.entry.SourceBefore.{SourceBefore}
 use Rattle.rrd_spec.specs.History.{Archive, Content, Reading, Sampled, Resized, Moment, moment_after, moment_of, moment_at_end, same_kind, raws_under, rows_after, IsHistory, IsArchive}
-use Rattle.rrd_spec.specs.History.Steps.{rows_of, row_parts_of}
-use Rattle.rrd_spec.specs.Laws.ListedContent.{kept_rows, archive_of, content_listed}
+use Rattle.rrd_spec.specs.History.Rows.{rows_of, row_parts_of}
+use Rattle.rrd_spec.specs.Laws.ListedContent.{kept_rows, archive_of, content_listed, moved_listed}
 use Rattle.rrd_spec.proofs.ContentLemmas.{length-rows_of, length-kept_rows}
 use Rattle.rrd_spec.proofs.SampleLemmas.{rows_of_samples, update_undone}
 use Rattle.rrd_spec.specs.Commands.{Asked, Command, Updating, TuningBy, Resizing, settings_of, samples_of, asked, tuned, rows_changed}
-use Rattle.rrd_spec.specs.Laws.ListedContent.{moved_listed}
 use Rattle.rrd_spec.specs.Commands.Verdict.{verdict}
 use Rattle.rrd_spec.specs.Journal.Entries.{ResizeEntry, rows_between, saved, is_asked, is_named, sources_before, rows_at, put_back, put_back_each, with_source, with_rows_at, entry, undone, IsSound}
 use Rattle.rrd_spec.specs.Laws.Journal.{ComesBack}

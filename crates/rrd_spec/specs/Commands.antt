@@ -17,8 +17,7 @@ use Rattle.rrd_spec.specs.declared.requests.resize.Change.TheVariants.{Grow, Shr
 use Rattle.rrd_spec.specs.History.{Archive, Content, Reading, Event, Sampled, Tuned, Resized, rows_after}
 pub use Rattle.rrd_spec.specs.History.{raw_under}
 use Rattle.rrd_spec.specs.History.Cells.{content}
-use Rattle.rrd_spec.specs.Settings.{Settings}
-use Rattle.rrd_spec.specs.Settings.{names}
+use Rattle.rrd_spec.specs.Settings.{Settings, names}
 pub mod Creating
 pub mod Verdict
 pub mod Refusals

@@ -13,6 +13,7 @@ use Rattle.rrd_spec.specs.declared.settings.RraDef.{RraDef}
 use Rattle.rrd_fold.specs.Parts.{Part}
 pub mod Groups
 pub mod Steps
+pub mod Rows
 pub mod Cells
 
 -- ---- what a database holds

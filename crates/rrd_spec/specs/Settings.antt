@@ -1,11 +1,9 @@
 -- Definition: the settings of a database, and what follows from them alone (rrdcreate).
-use Rattle.std.specs.Prelude.{ℕ, ◌*◌, List, map}
+use Rattle.std.specs.Prelude.{ℕ, ◌*◌, List, map, [], ◌∷◌, Bool, false, ◌||◌, length, sum}
 use Rattle.rrd_spec.specs.declared.settings.RraDef.{RraDef}
-use Rattle.std.specs.Prelude.{[], ◌∷◌}
 use Rattle.rrd_fixed.specs.declared.name.Name.{Name}
 use Rattle.rrd_fixed.specs.Names.{same_name}
 use Rattle.rrd_spec.specs.declared.settings.DsDef.{DsDef}
-use Rattle.std.specs.Prelude.{Bool, false, ◌||◌, length, sum}
 use Rattle.std.specs.List.{list_any}
 
 -- the seconds in a row, steps of so many seconds making it

@@ -57,7 +57,7 @@ abbrev pub cell_of : Group → Part → Cell
 cell_of (Step seconds) part = step_cell seconds part
 cell_of (Row def) part = row_cell def.function def.xff def.steps part
 
--- `seconds_to_steps` of a step, `rows_rule` of a row
+-- `seconds_to_steps` of a step, `steps_to_rows` of a row
 abbrev pub rule_of : Group → ℕ → Rule (List Cell) (List Part) (List Cell)
 rule_of group sources =
     record {

@@ -13,9 +13,8 @@ pub use Rattle.rrd_fold.specs.Bounds.{weight}
 use Rattle.rrd_spec.specs.Limits.{Limits, version_one}
 use Rattle.rrd_spec.specs.History.{Archive, Content}
 use Rattle.rrd_spec.specs.Commands.{settings_of}
-use Rattle.rrd_spec.specs.Settings.{names}
+use Rattle.rrd_spec.specs.Settings.{names, is_double, cells}
 use Rattle.rrd_fixed.specs.Names.{is_good}
-use Rattle.rrd_spec.specs.Settings.{is_double, cells}
 use Rattle.rrd_spec.specs.Commands.Verdict.{is_bad_heartbeat, has_bad_bounds}
 use Rattle.rrd_spec.specs.Journal.Entries.{SavedArchive, BeforeUpdate, Entry, UpdateEntry, TuneEntry, ResizeEntry, rows_between, rows_at, entry, undone}
 

@@ -12,7 +12,7 @@ ghost use Rattle.rrd_fold.specs.Parts.{nothing, with_cell, with_each, step_cell,
 ghost use Rattle.rrd_fold.specs.declared.function.Function.TheVariants.{Average};
 ghost use Rattle.rrd_spec.specs.Commands.Creating.{create_verdict, created};
 ghost use Rattle.rrd_spec.specs.History as history;
-ghost use Rattle.rrd_spec.specs.History.Steps as steps_def;
+ghost use Rattle.rrd_spec.specs.History.Rows as rows_def;
 ghost use Rattle.rrd_spec.specs.History.{Archive};
 ghost use Rattle.rrd_spec.specs.Limits.{version_one};
 ghost use Rattle.rrd_spec.specs.Slow.{AreInOrder, AreNewest, IsGroup, cell_of, event_of, function_of, latest, rule_of, size_of, taken_of};
@@ -360,7 +360,7 @@ pub fn rows(
     requires there { archive < length spec.now.archives }
     requires in_order { AreInOrder spec.now.sources spec.now.start readings.now }
     ensures all { IfOk result (λ rows. (kept : Archive) → slice_get (created spec.now).archives archive ≡ Some kept
-        → rows ≡ steps_def.rows_of (created spec.now) kept (map event_of readings.now)) }
+        → rows ≡ rows_def.rows_of (created spec.now) kept (map event_of readings.now)) }
     ensures newest { IfOk result (λ rows. AreNewest spec.now (map event_of readings.now) archive rows) }
 {
     let sources = spec.sources.as_slice();

@@ -4,8 +4,7 @@ use Rattle.std.specs.Io.KnownBytes.{Appends, Consumes, Keeps}
 use Rattle.std.proofs.KnownBytes.{Appends-trans, Consumes-trans}
 use Rattle.std.specs.Result.{is_err}
 use Rattle.rrd_tool.specs.Batch.{Ran, Stopped, Told, Turn, faults_of, faults_written, line_told, state_after, text_of}
-use Rattle.rrd_tool.specs.Batch.Answers.{Answers}
-use Rattle.rrd_tool.specs.Batch.Answers.{AppendsSome, Performs}
+use Rattle.rrd_tool.specs.Batch.Answers.{Answers, AppendsSome, Performs}
 use Rattle.rrd_tool.specs.Lines.{is_empty, last_part, lines_of, whole_lines}
 use Rattle.rrd_fixed.specs.Written.{AppendsFront}
 use Rattle.rrd_fixed.specs.declared.streams.WriteFault.{WriteFault}

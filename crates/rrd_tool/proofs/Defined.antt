@@ -3,8 +3,7 @@ use Rattle.std.proofs.Common.{◌≡◌, ◌∙◌, ◌+◌, ◌<◌, ◌++◌, 
 use Rattle.clap.specs.Words.{Text}
 use Rattle.rrd_spec.specs.declared.settings.DsDef.{DsDef}
 use Rattle.rrd_spec.specs.declared.settings.RraDef.{RraDef}
-use Rattle.rrd_tool.specs.Commands.Create.{definitions_of}
-use Rattle.rrd_tool.specs.Commands.Create.{archives_in, definition_of, sources_in}
+use Rattle.rrd_tool.specs.Commands.Create.{definitions_of, archives_in, definition_of, sources_in}
 use Rattle.rrd_tool.specs.Fields.Answers.{Meets}
 use Rattle.rrd_tool.specs.Fields.Parts.{each_of, or_fault}
 use Rattle.rrd_tool.specs.declared.faults.LineFault.{LineFault}

@@ -16,11 +16,10 @@ use Rattle.rrd_fixed.specs.Writing.{Appends-kept}
 use Rattle.rrd_tool.specs.Batch.{Turn}
 use Rattle.rrd_tool.specs.Effects.{Effect, Makes, Changes, Reverts, Shows, StandsFor, is_change, stored_next, stored_of, next, revert_verdict, text_on, verdict_on, first_state}
 use Rattle.rrd_tool.specs.Execution.{Affects, Comes, IsFault}
-use Rattle.rrd_tool.specs.Batch.Answers.{Performs}
+use Rattle.rrd_tool.specs.Batch.Answers.{Performs, Asks, line_turns}
 use Rattle.rrd_tool.specs.Execution.Printing.{Prints, PrintsBy}
 use Rattle.rrd_tool.specs.Faults.{fault_line}
 use Rattle.rrd_tool.specs.Lines.{is_empty, text_in, words_of}
-use Rattle.rrd_tool.specs.Batch.Answers.{Asks, line_turns}
 use Rattle.rrd_tool.specs.Commands.Reading.{IsReading}
 use Rattle.rrd_tool.specs.Batch.Run.{command_of, effect_turn, reading_turn, refusal_turn, text_turn, turn, unless_short, words_turn}
 use Rattle.rrd_tool.specs.Commands.{rrdi_app}

@@ -13,10 +13,9 @@ use Rattle.clap.specs.declared.parser.matches.SubCommand.{SubCommand}
 use Rattle.clap.specs.declared.parser.matches.ArgMatches.TheViews.{out-SubCommand}
 use Rattle.std.specs.Box.{box_value}
 use Rattle.rrd_tool.proofs.OnLiterals.{shapes_on_literals}
-use Rattle.rrd_tool.specs.Commands.{rrdi_app}
+use Rattle.rrd_tool.specs.Commands.{rrdi_app, line_of}
 use Rattle.rrd_tool.specs.Arguments.Taken.{IsTaken, entered_of}
 use Rattle.rrd_tool.specs.Commands.Reading.{IsReading}
-use Rattle.rrd_tool.specs.Commands.{line_of}
 use Rattle.rrd_tool.specs.Fields.Answers.{Meets}
 use Rattle.rrd_tool.specs.declared.commands.Command.{Command}
 use Rattle.rrd_tool.specs.declared.faults.LineFault.{LineFault}

@@ -1,10 +1,8 @@
 //! Arguments as clap takes them, and words as it parses them.
 ghost use Rattle.std.specs.Prelude.{◌≡◌, IfOk, false, map, option_map};
 ghost use Rattle.clap.specs.Words.{App, all_of, app_of, first_of, found_of, rows_of, rule_of};
-ghost use Rattle.rrd_tool.specs.Arguments.Shapes.{HasApp};
+ghost use Rattle.rrd_tool.specs.Arguments.Shapes.{HasApp, IsParsedBy, ServesOrRefuses, app_with, begins_with_minus};
 ghost use Rattle.rrd_tool.specs.Arguments.{bare_top, letter_rule, many_rule, option_rule, required_rule};
-ghost use Rattle.rrd_tool.specs.Arguments.Shapes.{IsParsedBy};
-ghost use Rattle.rrd_tool.specs.Arguments.Shapes.{ServesOrRefuses, app_with, begins_with_minus};
 
 use crate::commands::{command_named, rrdi_command};
 use crate::{LineFault, Words};

@@ -1,6 +1,5 @@
 //! The lines of an input, byte by byte, and the words of a line.
-ghost use Rattle.std.specs.Prelude.{◌≡◌, ◌≢◌, ◌≤◌, List, ◌++◌, ◌∷◌, [], ℕ, option_map, IfOk, vec_capacity};
-ghost use Rattle.std.specs.Prelude.{true, false, IfSome, OnOk, OnErr};
+ghost use Rattle.std.specs.Prelude.{◌≡◌, ◌≢◌, ◌≤◌, List, ◌++◌, ◌∷◌, [], ℕ, option_map, IfOk, vec_capacity, true, false, IfSome, OnOk, OnErr};
 ghost use Rattle.std.specs.List.{list_all};
 ghost use Rattle.rrd_tool.specs.Lines.{if_some, is_blank, is_empty, is_plain, text_in, without_cr, words_of};
 

@@ -12,9 +12,8 @@ use Rattle.rrd_spec.specs.declared.refusal.Refusal.{Refusal}
 use Rattle.rrd_spec.specs.declared.refusal.Refusal.TheVariants.{BadStep, BadStart, NoSource, NoArchive, BadName, DoubleName, BadHeartbeat, BadBounds, BadXff, BadSteps, BadRows, TooLarge, BadDepth}
 use Rattle.rrd_spec.specs.Limits.{Limits, version_one}
 use Rattle.rrd_spec.specs.History.{Archive, Content}
-use Rattle.rrd_spec.specs.Settings.{Settings, names}
+use Rattle.rrd_spec.specs.Settings.{Settings, names, is_double, cells}
 use Rattle.rrd_spec.specs.Commands.Verdict.{Check, ◌refuses◌, first_refusal, has_bad_bounds, is_bad_heartbeat, is_bad_rows, is_out}
-use Rattle.rrd_spec.specs.Settings.{is_double, cells}
 use Rattle.rrd_spec.specs.History.Steps.{step}
 
 -- ---- what is refused

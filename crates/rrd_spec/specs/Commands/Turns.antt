@@ -4,8 +4,7 @@ use Rattle.rrd_spec.specs.declared.settings.RraDef.{RraDef}
 use Rattle.rrd_spec.specs.declared.requests.update.Sample.{Sample}
 use Rattle.rrd_spec.specs.declared.requests.update.Update.{Update}
 use Rattle.rrd_spec.specs.Journal.Entries.{rows_between}
-use Rattle.rrd_spec.specs.History.{Content}
-use Rattle.rrd_spec.specs.History.{definitions}
+use Rattle.rrd_spec.specs.History.{Content, definitions}
 use Rattle.rrd_spec.specs.History.Steps.{step}
 
 -- ---- an update

@@ -18,10 +18,7 @@ use Rattle.rrd_spec.specs.declared.requests.resize.Change.TheVariants.{Grow, Shr
 use Rattle.rrd_spec.specs.Limits.{Limits, version_one}
 use Rattle.rrd_spec.specs.History.{Content}
 use Rattle.rrd_spec.specs.Commands.{Asked, Command, Updating, TuningBy, Resizing, settings_of, settings_after, events, value_for, tuned}
-use Rattle.rrd_spec.specs.Settings.{Settings, names}
-use Rattle.rrd_spec.specs.Settings.{cells}
-use Rattle.rrd_spec.specs.Settings.{has_source}
-use Rattle.rrd_spec.specs.Settings.{is_double}
+use Rattle.rrd_spec.specs.Settings.{Settings, names, cells, has_source, is_double}
 
 -- what can be wrong, and the refusal that says so
 pub record Check : Type 0 where
@@ -176,3 +173,6 @@ verdict_within limits base command = first_refusal (checks limits base command)
 
 abbrev pub verdict : Content → Command → Option Refusal
 verdict = verdict_within version_one
+
+abbrev pub is_accepted : Content → Command → Bool
+is_accepted now command = is_none (verdict now command)

@@ -8,7 +8,7 @@ use Rattle.rrd_fixed.specs.declared.cell.Cell.{Cell}
 use Rattle.rrd_spec.specs.Settings.{resolution}
 use Rattle.rrd_spec.specs.History.Cells.{time_of}
 use Rattle.rrd_spec.specs.History.{Archive, Content}
-use Rattle.rrd_spec.specs.History.Steps.{row}
+use Rattle.rrd_spec.specs.History.Rows.{row}
 use Rattle.rrd_spec.specs.History.Steps.{step}
 
 -- the slot of the row that ends at a time, among so many rows: the number of the row since 1970, which may be

@@ -1,22 +1,19 @@
 -- Definition: what an archive shows at each time.
-use Rattle.std.specs.Prelude.{ℕ, ◌+◌, ◌-◌, ◌*◌, ◌/◌, ℤ, pos, ◌+ℤ◌, ◌-ℤ◌, int_lt, int_le, if◌then◌else◌, List, [], ◌∷◌, map, length, replicate, slice_index_or}
+use Rattle.std.specs.Prelude.{ℕ, ◌+◌, ◌-◌, ◌*◌, ◌/◌, ℤ, pos, ◌+ℤ◌, ◌-ℤ◌, int_lt, int_le, if◌then◌else◌, List, [], ◌∷◌, map, length, replicate, slice_index_or, negsuc, nat_lt, zero, suc, Result, ok_or, option_map, slice_get}
 use Rattle.std.specs.List.{fold, enumerate_from, range_with_len}
-use Rattle.std.specs.Int.{int_max}
+use Rattle.std.specs.Int.{int_max, int_div_euclid}
 use Rattle.rrd_fixed.specs.declared.cell.Cell.{Cell}
 use Rattle.rrd_spec.specs.declared.refusal.Refusal.{Refusal}
 use Rattle.rrd_spec.specs.declared.refusal.Refusal.TheVariants.{NoSuchArchive}
 use Rattle.rrd_spec.specs.declared.settings.RraDef.{RraDef}
 use Rattle.rrd_spec.specs.Settings.{resolution}
 use Rattle.rrd_spec.specs.History.{Archive, Content, Event, definitions, moment_at_end, rows_at_end}
-use Rattle.rrd_spec.specs.History.Steps.{parts_of, row_parts_of}
-use Rattle.std.specs.Prelude.{negsuc, nat_lt}
-use Rattle.std.specs.Int.{int_div_euclid}
-use Rattle.std.specs.Prelude.{zero, suc, Result, ok_or, option_map, slice_get}
+use Rattle.rrd_spec.specs.History.Steps.{parts_of}
+use Rattle.rrd_spec.specs.History.Rows.{row_parts_of, row_ending}
 use Rattle.rrd_fixed.specs.declared.cell.Cell.TheVariants.{Unknown}
 use Rattle.rrd_fold.specs.declared.function.Function.TheVariants.{Average}
 use Rattle.rrd_fold.specs.Bounds.{Consolidating}
 use Rattle.rrd_fold.specs.Parts.{nothing}
-use Rattle.rrd_spec.specs.History.Steps.{row_ending}
 
 -- the row at a time, a multiple of the resolution; unknown where the archive has none
 abbrev pub row_of_age : List (List Cell) → List Cell → ℤ → List Cell

@@ -13,7 +13,7 @@ use Rattle.rrd_spec.specs.History.{Archive, Content, IsBase}
 use Rattle.rrd_spec.specs.Commands.{Asked, Command, Updating, TuningBy, Resizing, moved}
 use Rattle.rrd_fixed.specs.Names.{same_name}
 use Rattle.rrd_spec.specs.declared.requests.tune.Tuning.{Tuning}
-use Rattle.rrd_spec.specs.History.Steps.{row}
+use Rattle.rrd_spec.specs.History.Rows.{row}
 use Rattle.rrd_spec.specs.History.Steps.{step}
 
 -- what an update's entry keeps of an archive: its function, its preparations, and the oldest of its rows

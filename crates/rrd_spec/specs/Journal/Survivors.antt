@@ -1,8 +1,8 @@
 -- Definition: commands that are accepted, refused and reverted, and which of them count in the end (own).
-use Rattle.std.specs.Prelude.{◌≡◌, ℕ, zero, suc, ◌+◌, ◌-◌, ◌≤◌, ◌<◌, min, Bool, if◌then◌else◌, None, is_none, List, [], ◌∷◌, ◌++◌, length, take, reverse}
+use Rattle.std.specs.Prelude.{◌≡◌, ℕ, zero, suc, ◌+◌, ◌-◌, ◌≤◌, ◌<◌, min, if◌then◌else◌, None, List, [], ◌∷◌, ◌++◌, length, take, reverse}
 use Rattle.rrd_spec.specs.History.{Content}
 use Rattle.rrd_spec.specs.Commands.{Command, content_of, moved}
-use Rattle.rrd_spec.specs.Commands.Verdict.{verdict}
+use Rattle.rrd_spec.specs.Commands.Verdict.{is_accepted, verdict}
 use Rattle.rrd_spec.specs.Journal.Entries.{Entry, entry, undone, IsSound}
 
 -- a command that changes the database, or a revert
@@ -26,9 +26,6 @@ pub record Stored : Type 0 where
 -- what the survivors make of the base
 abbrev pub survived : Content → List Command → Content
 survived base newest_first = content_of base (reverse newest_first)
-
-abbrev pub is_accepted : Content → Command → Bool
-is_accepted now command = is_none (verdict now command)
 
 -- the entries of the newest commands, newest first
 abbrev pub entries : Content → ℕ → List Command → List Entry

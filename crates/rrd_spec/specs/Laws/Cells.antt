@@ -6,7 +6,8 @@ use Rattle.rrd_spec.specs.Commands.{events}
 use Rattle.rrd_fixed.specs.declared.cell.Cell.{Cell}
 use Rattle.std.specs.Int.{int_rem_euclid}
 use Rattle.rrd_spec.specs.Settings.{resolution}
-use Rattle.rrd_spec.specs.History.Steps.{steps_of, rows_of, row, step as step_numbered}
+use Rattle.rrd_spec.specs.History.Steps.{steps_of, step as step_numbered}
+use Rattle.rrd_spec.specs.History.Rows.{rows_of, row}
 use Rattle.rrd_spec.specs.Laws.ListedContent.{content_listed, keep_last, filled_up, kept_rows}
 use Rattle.rrd_spec.specs.History.Cells.{row_at, cell_at, cell, content, row_by_time}
 

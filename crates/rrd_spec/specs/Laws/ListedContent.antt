@@ -4,19 +4,10 @@ use Rattle.std.specs.Prelude.{ℕ, ◌+◌, ◌-◌, ◌/◌, min, List, [], ◌
 use Rattle.std.specs.List.{enumerate_from}
 use Rattle.rrd_fixed.specs.declared.cell.Cell.{Cell}
 use Rattle.rrd_spec.specs.Settings.{resolution}
-use Rattle.rrd_spec.specs.History.{Archive, Content}
-use Rattle.rrd_spec.specs.History.{Event, rows_after}
+use Rattle.rrd_spec.specs.History.{Archive, Content, Event, rows_after, Moment, moment_after, moment_at_end, moment_of, rows_at_end}
 use Rattle.rrd_spec.specs.History.Steps.{parts_of}
-use Rattle.rrd_spec.specs.History.Steps.{row_parts_of}
-use Rattle.rrd_spec.specs.History.Steps.{rows_of}
-use Rattle.rrd_spec.specs.Commands.{Command}
-use Rattle.rrd_spec.specs.History.{Moment}
-use Rattle.rrd_spec.specs.Commands.{events}
-use Rattle.rrd_spec.specs.History.{moment_after}
-use Rattle.rrd_spec.specs.History.{moment_at_end}
-use Rattle.rrd_spec.specs.History.{moment_of}
-use Rattle.rrd_spec.specs.History.{rows_at_end}
-use Rattle.rrd_spec.specs.Commands.{settings_of}
+use Rattle.rrd_spec.specs.History.Rows.{row_parts_of, rows_of}
+use Rattle.rrd_spec.specs.Commands.{Command, events, settings_of}
 
 -- the newest items, so many of them
 abbrev pub keep_last : {A : Type 0} → ℕ → List A → List A

@@ -3,7 +3,8 @@ use Rattle.std.specs.Prelude.{◌≡◌, ◌++◌, ℕ, ◌+◌, ◌-◌, ◌/�
 use Rattle.std.specs.List.{fold}
 use Rattle.rrd_spec.specs.History.{Content, Archive, IsBase, Reading, Sampled, rates}
 use Rattle.rrd_fixed.specs.declared.cell.Cell.{Cell}
-use Rattle.rrd_spec.specs.History.Steps.{rows_rule, seconds_to_steps}
+use Rattle.rrd_spec.specs.History.Steps.{seconds_to_steps}
+use Rattle.rrd_spec.specs.History.Rows.{steps_to_rows}
 use Rattle.rrd_spec.specs.Laws.ListedContent.{content_listed, keep_last}
 use Rattle.rrd_spec.specs.History.Groups.{finished, unfinished}
 use Rattle.rrd_fold.specs.declared.function.Function.TheVariants.{Average}
@@ -12,10 +13,10 @@ use Rattle.rrd_fold.specs.Parts.{with_each}
 -- an archive after these steps, `before` having ended earlier
 unfoldable pub archive_passed : ℕ → ℕ → List (List Cell) → Archive → Archive
 archive_passed sources before steps archive = record archive {
-  parts = unfinished (rows_rule archive.def sources) before archive.parts steps;
+  parts = unfinished (steps_to_rows archive.def sources) before archive.parts steps;
   rows =
       keep_last (length archive.rows) (archive.rows
-      ++ finished (rows_rule archive.def sources) before archive.parts steps);
+      ++ finished (steps_to_rows archive.def sources) before archive.parts steps);
 }
 
 -- a content after these seconds

@@ -6,7 +6,7 @@ use Rattle.rrd_spec.specs.History.{Content, Archive}
 use Rattle.rrd_spec.specs.Commands.{Command, moved}
 use Rattle.rrd_fixed.specs.declared.cell.Cell.{Cell}
 use Rattle.rrd_spec.specs.Commands.Verdict.{verdict}
-use Rattle.rrd_spec.specs.History.Steps.{row}
+use Rattle.rrd_spec.specs.History.Rows.{row}
 use Rattle.rrd_spec.specs.declared.requests.create.CreateSpec.{CreateSpec}
 use Rattle.rrd_spec.specs.Validity.{IsValid, AreParts, IsRow, IsValidArchive}
 use Rattle.rrd_spec.specs.Commands.Creating.{create_verdict, created}

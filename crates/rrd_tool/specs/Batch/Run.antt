@@ -4,12 +4,11 @@ use Rattle.std.specs.Io.KnownBytes.{IsAtEnd, Keeps}
 use Rattle.clap.specs.Words.{fault_of}
 use Rattle.rrd_spec.specs.Journal.Survivors.{State}
 use Rattle.rrd_tool.specs.Batch.{Told, Turn, Ran, Stopped}
-use Rattle.rrd_tool.specs.Commands.{effect}
+use Rattle.rrd_tool.specs.Commands.{effect, rrdi_app}
 use Rattle.rrd_tool.specs.Effects.{Effect, stored_of, next, text_on, verdict_on}
 use Rattle.rrd_tool.specs.Faults.{fault_line}
 use Rattle.rrd_tool.specs.Lines.{is_empty, lines_of, text_in, whole_lines, words_of}
 use Rattle.rrd_tool.specs.Commands.Reading.{reading}
-use Rattle.rrd_tool.specs.Commands.{rrdi_app}
 use Rattle.rrd_tool.specs.Fields.Parts.{Unread}
 use Rattle.rrd_tool.specs.declared.batch.StreamFault.{StreamFault}
 use Rattle.rrd_tool.specs.declared.batch.StreamFault.TheVariants as stream

@@ -1,9 +1,8 @@
 use Rattle.std.proofs.Common.{◌≡◌, ℕ, sym, ◌∙◌, ap, subst, suc, ◌+◌, ◌*◌, ◌^◌, ◌++◌, ◌<◌, take, drop, map, length, set, get_or, arith}
 use Rattle.std.proofs.lemmas.Nat.{mul-le}
 use Rattle.std.specs.List.{AllByRecursion}
-use Rattle.rrd_spec.specs.History.{Archive}
+use Rattle.rrd_spec.specs.History.{Archive, definitions}
 use Rattle.rrd_spec.specs.Laws.Passing.{archive_passed}
-use Rattle.rrd_spec.specs.History.{definitions}
 use Rattle.rrd_spec.specs.declared.settings.RraDef.{RraDef}
 use Rattle.rrd_spec.specs.Commands.Turns.{rows_pushed, least_of_steps, most_of_steps}
 use Rattle.rrd_spec.specs.Validity.{IsValidArchive}

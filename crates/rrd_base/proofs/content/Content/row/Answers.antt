@@ -11,8 +11,7 @@ use Rattle.rrd_fixed.specs.declared.cell.Cell.TheVariants.{Unknown}
 use Rattle.rrd_spec.specs.declared.settings.RraDef.{RraDef}
 use Rattle.rrd_spec.specs.History.{Content}
 use Rattle.rrd_base.specs.Content.{content_of}
-use Rattle.rrd_spec.specs.History.Cells.{row_at, row_of_age}
-use Rattle.rrd_spec.specs.History.Cells.{cell_at}
+use Rattle.rrd_spec.specs.History.Cells.{row_at, row_of_age, cell_at}
 use Rattle.rrd_spec.specs.Validity.{IsRow, IsValidArchive}
 use Rattle.rrd_spec.specs.Lemmas.Cells.{cell_of_archive}
 use Rattle.rrd_spec.specs.Lemmas.Lists.{All-at}

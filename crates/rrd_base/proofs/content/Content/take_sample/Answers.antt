@@ -1,4 +1,4 @@
-use Rattle.std.proofs.Common.{◌≡◌, sym, ◌∙◌, ap, subst, ◌-◌, replicate, length, arith}
+use Rattle.std.proofs.Common.{◌≡◌, sym, ◌∙◌, ap, subst, ◌-◌, replicate, length, arith, ℕ, Vec}
 use Rattle.rrd_spec.specs.Lemmas.Validity.{length-accepted, base_of_valid}
 use Rattle.rrd_spec.specs.History.{Content, Reading, rates}
 use Rattle.rrd_spec.specs.Laws.Passing.{passed}
@@ -6,7 +6,6 @@ use Rattle.rrd_spec.specs.Validity.{AreAccepted, IsValid, IsRow}
 use Rattle.rrd_base.specs.Content.{content_of}
 use Rattle.rrd_base.proofs.Catching.{with_raws}
 use Rattle.rrd_base.proofs.TurnLemmas.{leaves_of}
-use Rattle.std.proofs.Common.{ℕ, Vec}
 use Rattle.std.specs.Global.{Global}
 use Rattle.rrd_fixed.specs.declared.raw.Raw.{Raw}
 use Rattle.rrd_base.specs.declared.walk.Walk.{Walk}

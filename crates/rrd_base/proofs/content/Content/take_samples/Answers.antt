@@ -2,10 +2,9 @@ use Rattle.std.proofs.Common.{◌≡◌, refl, sym, ◌∙◌, ap, subst, ◌+�
 use Rattle.std.specs.List.{AllByRecursion}
 use Rattle.rrd_spec.specs.declared.settings.DsDef.{DsDef}
 use Rattle.std.proofs.lemmas.List.{with_items_is, drop_all}
-use Rattle.rrd_spec.specs.History.{Content, Reading, Sampled}
+use Rattle.rrd_spec.specs.History.{Content, Reading, Sampled, definitions}
 use Rattle.rrd_spec.specs.Laws.ListedContent.{content_listed}
 use Rattle.rrd_spec.specs.Commands.{Updating, sample_of, value_for, raw_of}
-use Rattle.rrd_spec.specs.History.{definitions}
 use Rattle.rrd_spec.specs.Commands.Turns.{in_all, least_of_sample, most_of_sample}
 use Rattle.rrd_base.specs.Update.{template_of}
 use Rattle.rrd_spec.specs.Commands.Verdict.{sample_checks}

@@ -1,11 +1,9 @@
 use Rattle.std.proofs.Common.{◌≡◌, ◌+◌, ◌-◌, ◌*◌, ◌≤◌, length, map, drop}
 use Rattle.std.specs.List.{AllByRecursion}
-use Rattle.rrd_spec.specs.History.{Sampled}
-use Rattle.rrd_spec.specs.Laws.ListedContent.{content_listed}
+use Rattle.rrd_spec.specs.History.{Sampled, definitions}
+use Rattle.rrd_spec.specs.Laws.ListedContent.{content_listed, moved_listed}
 use Rattle.rrd_spec.specs.Commands.{Updating, sample_of}
-use Rattle.rrd_spec.specs.Laws.ListedContent.{moved_listed}
 use Rattle.rrd_base.specs.Walk.{HasPlaces}
-use Rattle.rrd_spec.specs.History.{definitions}
 use Rattle.rrd_spec.specs.Commands.Turns.{in_all, least_of_sample, most_of_sample}
 use Rattle.rrd_base.specs.Update.{template_of}
 use Rattle.rrd_spec.specs.Commands.Verdict.{sample_checks}

@@ -1,7 +1,6 @@
-use Rattle.std.proofs.Common.{◌≡◌, ◌∙◌, sym, ap, length, rules}
+use Rattle.std.proofs.Common.{◌≡◌, ◌∙◌, sym, ap, length, rules, to_z-of_z, FitsSigned}
 use Rattle.std.proofs.lemmas.Result.{err_from_is_err_and}
 use Rattle.rrd_file.specs.Stages.{body_size}
-use Rattle.std.proofs.Common.{to_z-of_z, FitsSigned}
 use Rattle.std.specs.Int.{w128}
 use Rattle.rrd_fold.specs.Parts.{Part}
 use Rattle.rrd_file.specs.Layout.Pieces.{spell}

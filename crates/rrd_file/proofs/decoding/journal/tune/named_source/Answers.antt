@@ -1,9 +1,7 @@
-use Rattle.std.proofs.Common.{◌≡◌, ◌∙◌, sym, length, rules}
+use Rattle.std.proofs.Common.{◌≡◌, ◌∙◌, sym, length, rules, ◌+◌, ◌++◌, ◌∷◌, [], List, append-nil, subst}
 use Rattle.std.proofs.lemmas.Result.{err_from_is_err_and}
-use Rattle.rrd_file.specs.Layout.Pieces.{spell}
-use Rattle.std.proofs.Common.{◌+◌, ◌++◌, ◌∷◌, [], List, append-nil, subst}
+use Rattle.rrd_file.specs.Layout.Pieces.{spell, OfSourceBefore}
 use Rattle.std.specs.Prelude.{false, true}
-use Rattle.rrd_file.specs.Layout.Pieces.{OfSourceBefore}
 use Rattle.rrd_file.specs.Stages.{DueInEntry, NamedDue, named_due}
 use Rattle.rrd_file.specs.Decoding.Progress.{Comes}
 use Rattle.rrd_file.proofs.Coming.{cut_within}

@@ -1,10 +1,8 @@
-use Rattle.std.proofs.Common.{◌≡◌, ◌∙◌, sym, length, rules}
+use Rattle.std.proofs.Common.{◌≡◌, ◌∙◌, sym, length, rules, arith, min}
 use Rattle.std.proofs.lemmas.Result.{err_from_is_err_and}
-use Rattle.rrd_file.specs.Layout.Pieces.{spell}
-use Rattle.std.proofs.Common.{arith, min}
+use Rattle.rrd_file.specs.Layout.Pieces.{spell, OfRows}
 use Rattle.rrd_spec.specs.Journal.Entries.{rows_between}
 use Rattle.rrd_spec.specs.Files.Rebuilding.{outline_left}
-use Rattle.rrd_file.specs.Layout.Pieces.{OfRows}
 use Rattle.rrd_file.specs.Layout.Values.{four_bytes}
 use Rattle.rrd_file.specs.Stages.{RowsDue}
 use Rattle.rrd_file.proofs.Coming.{cut_within}

@@ -1,12 +1,10 @@
-use Rattle.std.proofs.Common.{◌≡◌, sym, length, rules}
+use Rattle.std.proofs.Common.{◌≡◌, sym, length, rules, ◌++◌, ◌∷◌, [], ap, subst, to_z-of_z, FitsSigned}
 use Rattle.std.proofs.lemmas.Result.{err_from_is_err_and}
-use Rattle.rrd_file.specs.Layout.Pieces.{spell}
-use Rattle.std.proofs.Common.{◌++◌, ◌∷◌, [], ap, subst, to_z-of_z, FitsSigned}
+use Rattle.rrd_file.specs.Layout.Pieces.{spell, OfPrep}
 use Rattle.std.specs.Int.{w128}
 use Rattle.rrd_fold.specs.Bounds.{Consolidating}
 use Rattle.rrd_fold.specs.Parts.{Part}
 use Rattle.rrd_spec.specs.Files.Rebuilding.{IsRowPart}
-use Rattle.rrd_file.specs.Layout.Pieces.{OfPrep}
 use Rattle.rrd_file.specs.Layout.Values.{part_bytes}
 use Rattle.rrd_file.specs.Stages.{RowPrepDue}
 use Rattle.rrd_file.specs.Decoding.Progress.{Comes}

@@ -1,14 +1,12 @@
 use Rattle.std.proofs.Common.{◌≡◌, ◌∙◌, sym, length, rules}
 use Rattle.std.proofs.lemmas.Result.{err_from_is_err_and}
-use Rattle.rrd_file.specs.Layout.Pieces.{spell}
+use Rattle.rrd_file.specs.Layout.Pieces.{spell, OfTime}
 use Rattle.std.specs.Prelude.{false, true}
-use Rattle.rrd_file.specs.Layout.Pieces.{OfTime}
 use Rattle.rrd_file.specs.Layout.Values.{eight_bytes}
 use Rattle.rrd_file.proofs.Coming.{cut_within}
-use Rattle.rrd_file.proofs.Kept.{broken, kept}
+use Rattle.rrd_file.proofs.Kept.{broken, kept, ReadTime}
 use Rattle.rrd_file.proofs.Whole.{whole}
 use Rattle.rrd_file.specs.Stages.{TimeDue}
-use Rattle.rrd_file.proofs.Kept.{ReadTime}
 use Rattle.rrd_file.proofs.decoding.journal.update.time.Goals as goal
 
 pub returns-in_err-piece-clause-brings : goal.returns-in_err-piece-clause-brings

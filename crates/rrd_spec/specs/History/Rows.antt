@@ -1,0 +1,42 @@
+-- Definition: the rows of a history, each by itself (rrdcreate, "RRA").
+use Rattle.std.specs.Prelude.{◌-◌, ◌/◌, ℕ, ℤ, List, length, map, replicate, unsigned_abs}
+use Rattle.rrd_fixed.specs.declared.cell.Cell.{Cell}
+use Rattle.rrd_fold.specs.Parts.{Part, nothing, with_each, row_cell}
+use Rattle.rrd_spec.specs.declared.settings.RraDef.{RraDef}
+use Rattle.rrd_spec.specs.Settings.{resolution}
+use Rattle.rrd_spec.specs.History.{Archive, Content, Event}
+use Rattle.rrd_spec.specs.History.Groups.{Rule, finished, group_part, unfinished}
+use Rattle.rrd_spec.specs.History.Steps.{steps_of}
+
+-- the steps of a row of an archive, for so many sources
+abbrev pub steps_to_rows : RraDef → ℕ → Rule (List Cell) (List Part) (List Cell)
+steps_to_rows def sources =
+    record {
+      size = def.steps;
+      empty = replicate sources nothing;
+      add = with_each def.function;
+      close = map (row_cell def.function def.xff def.steps);
+    }
+
+-- the rows of an archive that end after the base's last time (rrdcreate, "RRA")
+unfoldable pub rows_of : Content → Archive → List Event → List (List Cell)
+rows_of base archive events =
+    finished (steps_to_rows archive.def (length base.sources)) (base.last / base.step) archive.parts (steps_of base events)
+
+-- what an archive's unfinished row has made of its steps (rrdcreate, "RRA")
+unfoldable pub row_parts_of : Content → Archive → List Event → List Part
+row_parts_of base archive events =
+    unfinished (steps_to_rows archive.def (length base.sources)) (base.last / base.step)
+    archive.parts (steps_of base events)
+
+-- the row of this number: it has the steps that end after so many rows. The base's unfinished row comes before them
+-- (rrdcreate, "RRA")
+abbrev pub row : Content → Archive → List Event → ℕ → List Cell
+row base archive events number =
+    let rule = steps_to_rows archive.def (length base.sources) in
+    rule.close (group_part rule (base.last / base.step) archive.parts (steps_of base events) number)
+
+-- the row that ends at a time after 1970, a multiple of the resolution
+abbrev pub row_ending : Content → Archive → List Event → ℤ → List Cell
+row_ending base archive events time =
+    row base archive events (unsigned_abs time / resolution base.step archive.def - 1)
