@@ -17,7 +17,8 @@ use Rattle.rrd_spec.specs.History.{Archive, Content, definitions}
 use Rattle.rrd_spec.specs.Laws.Journal.{JournalLeavesValid}
 use Rattle.rrd_spec.specs.Laws.Outlines.{FiledOutline, JournalTakes, OutlineFollows}
 use Rattle.rrd_spec.specs.Limits.{version_one}
-use Rattle.rrd_spec.specs.Journal.Outlines.{MayUndo, outline_of, outline_undone, rows_of}
+use Rattle.rrd_spec.specs.Journal.Outlines.{outline_of, outline_undone, rows_of}
+use Rattle.rrd_spec.specs.Journal.Fitting.{MayUndo}
 use Rattle.rrd_spec.specs.Files.Rebuilding.{after_heads, due, outline_filed, prep_or, unprepared, with_entry}
 use Rattle.rrd_spec.specs.Journal.Survivors.{Stored}
 use Rattle.rrd_spec.specs.Validity.{IsValid, IsValidArchive, IsValidJournal}

@@ -13,7 +13,8 @@ use Rattle.rrd_spec.specs.declared.settings.RraDef.{RraDef}
 use Rattle.rrd_spec.specs.Journal.Entries.{SavedArchive}
 use Rattle.rrd_spec.specs.Limits.{version_one}
 use Rattle.rrd_spec.specs.Lemmas.Lists.{All-at, drop_here}
-use Rattle.rrd_spec.specs.Journal.Outlines.{MaySave, MaySaveEach, rows_of, with_row_number, with_sources}
+use Rattle.rrd_spec.specs.Journal.Outlines.{rows_of, with_row_number, with_sources}
+use Rattle.rrd_spec.specs.Journal.Fitting.{MaySave, MaySaveEach}
 use Rattle.rrd_spec.specs.Settings.{names}
 use Rattle.rrd_spec.specs.Validity.{Rise}
 use Rattle.rrd_base.specs.Rebuild.EntryChecks.{with_names}

@@ -9,7 +9,7 @@ ghost use Rattle.rrd_spec.specs.declared.settings.RraDef.{RraDef};
 ghost use Rattle.rrd_spec.specs.Files.Filed.{Header, One, Source, filed};
 ghost use Rattle.rrd_spec.specs.Files.Rebuilding.{IsHeader, IsRowPart, MayCell, MayEntry, MayHead, MayPrep, MaySource, begun, due, limits, outline_left, unprepared, with_cell, with_entry, with_head, with_prep, with_source};
 ghost use Rattle.rrd_spec.specs.Journal.Entries.{rows_between};
-ghost use Rattle.rrd_spec.specs.Journal.Outlines.{AreOldRows};
+ghost use Rattle.rrd_spec.specs.Journal.Fitting.{AreOldRows};
 ghost use Rattle.rrd_spec.specs.Limits.{version_one};
 ghost use Rattle.rrd_spec.specs.Validity.{IsPart, IsValidDatabase};
 

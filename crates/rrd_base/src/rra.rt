@@ -14,7 +14,8 @@ ghost use Rattle.rrd_spec.specs.Laws.ListedContent.{keep_last};
 ghost use Rattle.rrd_spec.specs.Laws.Passing.{archive_passed};
 ghost use Rattle.rrd_spec.specs.History.Cells.{row_of_age};
 ghost use Rattle.rrd_base.specs.Rra.{CanPutBack, IsStepped};
-ghost use Rattle.rrd_base.specs.Walk.{AreSteps, cells_of, count_of, least_of_all, least_of_one, most_of_all, most_of_one, sources_of};
+ghost use Rattle.rrd_base.specs.Walk.{AreSteps, cells_of, count_of, sources_of};
+ghost use Rattle.rrd_base.specs.Walk.Turns.{least_of_all, least_of_one, most_of_all, most_of_one};
 ghost use Rattle.rrd_spec.specs.Validity.{IsRow, IsValidArchive};
 
 use crate::rows::{HasRows, rows_between};

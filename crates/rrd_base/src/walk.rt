@@ -93,7 +93,8 @@ impl Walk {
 }
 
 impl Content {
-    ghost use Rattle.rrd_base.specs.Walk.{HasPlaces, KeepsSample, least_of_ends, least_to, most_of_ends, most_to};
+    ghost use Rattle.rrd_base.specs.Walk.{HasPlaces, KeepsSample};
+    ghost use Rattle.rrd_base.specs.Walk.Turns.{least_of_ends, least_to, most_of_ends, most_to};
 
     // Lets so many seconds pass that leave the step unfinished. It is a turn for each source.
     fn begin(&mut self, seconds: u64, walk: &mut Walk)

@@ -16,7 +16,7 @@ use Rattle.rrd_spec.specs.declared.settings.RraDef.{RraDef}
 use Rattle.rrd_spec.specs.Journal.Entries.{BeforeUpdate, Entry, SavedArchive, UpdateEntry, TuneEntry, ResizeEntry}
 use Rattle.rrd_spec.specs.Files.Filed.{Filed}
 use Rattle.rrd_spec.specs.Limits.{Limits}
-use Rattle.rrd_spec.specs.Journal.Outlines.{IsSourceBefore, MayResize, MaySaveEach, MayTune, MayUpdate}
+use Rattle.rrd_spec.specs.Journal.Fitting.{IsSourceBefore, MayResize, MaySaveEach, MayTune, MayUpdate}
 use Rattle.rrd_spec.specs.Files.Rebuilding.{MayEntry, limits, outline_left, with_entry}
 use Rattle.rrd_spec.specs.Validity.{AreAccepted, IsPart, IsRow, Rise}
 use Rattle.rrd_file.specs.Layout.{entry_pieces, raws_and_parts, row_pieces, saved_pieces}

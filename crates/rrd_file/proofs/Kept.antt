@@ -11,7 +11,7 @@ use Rattle.rrd_spec.specs.declared.settings.DsDef.{DsDef}
 use Rattle.rrd_spec.specs.declared.settings.RraDef.{RraDef}
 use Rattle.rrd_spec.specs.Files.Filed.{Filed}
 use Rattle.rrd_spec.specs.Limits.{Limits}
-use Rattle.rrd_spec.specs.Journal.Outlines.{IsSourceBefore}
+use Rattle.rrd_spec.specs.Journal.Fitting.{IsSourceBefore}
 use Rattle.rrd_spec.specs.Validity.{IsPart}
 use Rattle.rrd_spec.specs.Files.Rebuilding.{limits, outline_left}
 use Rattle.rrd_file.specs.declared.fault.FileFault.TheVariants.{BadEntry}

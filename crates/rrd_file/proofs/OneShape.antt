@@ -13,7 +13,7 @@ use Rattle.rrd_spec.specs.declared.settings.RraDef.{RraDef}
 use Rattle.rrd_spec.specs.Journal.Entries.{BeforeUpdate, Entry, SavedArchive, UpdateEntry, TuneEntry, ResizeEntry}
 use Rattle.rrd_spec.specs.Files.Filed.{Filed}
 use Rattle.rrd_spec.specs.Limits.{Limits}
-use Rattle.rrd_spec.specs.Journal.Outlines.{MaySaveEach, MayUndo}
+use Rattle.rrd_spec.specs.Journal.Fitting.{MaySaveEach, MayUndo}
 use Rattle.rrd_spec.specs.Files.Rebuilding.{MayEntry, limits, outline_left}
 use Rattle.rrd_spec.specs.Validity.{IsRow}
 use Rattle.rrd_file.specs.Layout.{entry_pieces, raws_and_parts, row_pieces, saved_pieces}

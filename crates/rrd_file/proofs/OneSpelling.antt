@@ -23,7 +23,7 @@ use Rattle.rrd_spec.specs.Limits.{Limits}
 use Rattle.rrd_spec.specs.Files.Filed.{Filed, Head, Header, Source, Version, One}
 use Rattle.rrd_spec.specs.Files.Rebuilding.{IsArchiveDef, IsHeader, MaySource, MayPrep, due, limits, outline_left, unprepared}
 use Rattle.rrd_spec.specs.Validity.{IsPart, IsSourceWithin}
-use Rattle.rrd_spec.specs.Journal.Outlines.{IsSourceBefore}
+use Rattle.rrd_spec.specs.Journal.Fitting.{IsSourceBefore}
 use Rattle.rrd_spec.specs.Commands.Verdict.{is_crossed, is_far}
 use Rattle.rrd_file.specs.Layout.Pieces.{Piece, OfVersion, OfHeader, OfSource, OfArchive, OfPrep, OfCell, Tag, OfTag, AnUpdate, ATune, AResize, OfTime, OfRawAndPart, OfRows, OfCount, OfSourceBefore, OfNumber, header_bytes, spell, tag_byte}
 use Rattle.rrd_file.specs.Stages.{Stage, Start, DueInEntry, Runs, Takes}

@@ -12,7 +12,7 @@ use Rattle.rrd_spec.specs.declared.settings.DsDef.{DsDef}
 use Rattle.rrd_spec.specs.declared.settings.RraDef.{RraDef}
 use Rattle.rrd_spec.specs.Files.Filed.{Filed, Header, Source, Version}
 use Rattle.rrd_spec.specs.Limits.{Limits}
-use Rattle.rrd_spec.specs.Journal.Outlines.{AreOldRows, IsSourceBefore}
+use Rattle.rrd_spec.specs.Journal.Fitting.{AreOldRows, IsSourceBefore}
 use Rattle.rrd_spec.specs.Files.Rebuilding.{IsHeader, IsRowPart, MayCell, MayHead, MayPrep, MaySource, begun, due, limits, outline_left, with_cell, with_head, with_prep, with_source}
 use Rattle.rrd_spec.specs.Validity.{IsPart}
 use Rattle.rrd_file.specs.Layout.Pieces.{Piece, Mark, OfVersion, OfHeader, OfSource, OfArchive, OfPrep, OfCell, Tag, OfTag, OfTime, OfRawAndPart, OfRows, OfCount, OfSourceBefore, OfNumber}

@@ -12,7 +12,7 @@ use Rattle.rrd_spec.specs.declared.due.Due.TheVariants.{SourceDue, HeadDue, Prep
 use Rattle.rrd_spec.specs.Limits.{Limits}
 use Rattle.rrd_spec.specs.Journal.Entries.{Entry, rows_between}
 use Rattle.rrd_spec.specs.Files.Filed.{Filed, Version, One}
-use Rattle.rrd_spec.specs.Journal.Outlines.{AreOldRows, IsSourceBefore}
+use Rattle.rrd_spec.specs.Journal.Fitting.{AreOldRows, IsSourceBefore}
 use Rattle.rrd_spec.specs.Files.Rebuilding.{IsHeader, MaySource, MayHead, MayPrep, MayCell, MayEntry, IsRowPart, begun, due, limits, outline_left, with_source, with_head, with_prep, with_cell, with_entry}
 use Rattle.rrd_spec.specs.Validity.{IsPart}
 use Rattle.rrd_file.specs.Layout.Pieces.{Piece, Mark, OfVersion, OfHeader, OfSource, OfArchive, OfPrep, OfCell, Tag, OfTag, OfTime, OfRawAndPart, OfRows, OfCount, OfSourceBefore, OfNumber, AnUpdate, ATune, AResize}

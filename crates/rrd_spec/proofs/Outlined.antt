@@ -20,7 +20,8 @@ use Rattle.rrd_spec.specs.Files.Filed.{Head, Version, head_of}
 use Rattle.rrd_spec.specs.Laws.Journal.{JournalLeavesValid, JournalParts, JournalsJoin}
 use Rattle.rrd_spec.specs.Laws.Outlines.{FiledOutline, JournalTakes, JournalTook, MayUndoEach, OutlineFollows, OutlineIsNeeded, OutlineSuffices, OutlinesAreNeeded, OutlinesSuffice}
 use Rattle.rrd_spec.specs.Lemmas.Lists.{All-append, All-at, All-take}
-use Rattle.rrd_spec.specs.Journal.Outlines.{IsSourceBefore, MaySave, MaySaveEach, MayUndo, outline_of, outline_undone, rows_of, with_row_number, with_sources}
+use Rattle.rrd_spec.specs.Journal.Outlines.{outline_of, outline_undone, rows_of, with_row_number, with_sources}
+use Rattle.rrd_spec.specs.Journal.Fitting.{IsSourceBefore, MaySave, MaySaveEach, MayUndo}
 use Rattle.rrd_spec.specs.Journal.Survivors.{Stored}
 use Rattle.rrd_spec.proofs.ReadBack.{gives_back}
 use Rattle.rrd_spec.specs.Validity.{AreAccepted, AreParts, FitEach, FitsArchive, IsRow, IsSourceWithin, IsValidArchiveWithin, IsValidWithin, Rise}

@@ -20,7 +20,7 @@ use Rattle.rrd_spec.specs.History.Cells.{content}
 use Rattle.rrd_spec.specs.Settings.{Settings, names}
 pub mod Creating
 pub mod Verdict
-pub mod Refusals
+pub mod RefusalTexts
 pub mod Answers
 pub mod Turns
 

@@ -2,3 +2,4 @@
 pub mod Entries
 pub mod Survivors
 pub mod Outlines
+pub mod Fitting

@@ -66,7 +66,7 @@ pub enum Refusal {
 }
 
 impl Refusal {
-    ghost use Rattle.rrd_spec.specs.Commands.Refusals.{refusal_text};
+    ghost use Rattle.rrd_spec.specs.Commands.RefusalTexts.{refusal_text};
 
     /// The text that says why, as faults print it: at most 60 bytes.
     pub fn text(self) -> ArrayString<96>

@@ -1,6 +1,5 @@
-//! Databases, by the calls of rrd_base, and the slow program of rrd_spec.
+//! Databases, by the calls of rrd_base.
 
 mod database;
 mod journal;
 mod rebuild;
-mod slow;

@@ -1,5 +1,4 @@
-//! The tests of all the libraries, by public items alone: a file or a folder for each library; those
-//! of `rrd_spec` are in `base`.
+//! The tests of all the libraries, by public items alone: a file or a folder for each library.
 #![tactic(auto)]
 
 #[cfg(test)]
@@ -14,6 +13,8 @@ mod fold;
 mod ring;
 #[cfg(test)]
 mod shared;
+#[cfg(test)]
+mod spec;
 #[cfg(test)]
 mod store;
 #[cfg(test)]

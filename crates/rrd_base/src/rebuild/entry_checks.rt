@@ -8,7 +8,8 @@ ghost use Rattle.rrd_fold.specs.declared.function.Function.TheVariants.{Average}
 ghost use Rattle.rrd_ring.specs.Rows.{row_at};
 ghost use Rattle.rrd_spec.specs.Preparations.{parts_in};
 ghost use Rattle.rrd_spec.specs.Limits.{version_one};
-ghost use Rattle.rrd_spec.specs.Journal.Outlines.{AreOldRows, IsSourceBefore, MayResize, MaySave, MaySaveEach, MayTune, MayUndo, MayUpdate, with_sources};
+ghost use Rattle.rrd_spec.specs.Journal.Outlines.{with_sources};
+ghost use Rattle.rrd_spec.specs.Journal.Fitting.{AreOldRows, IsSourceBefore, MayResize, MaySave, MaySaveEach, MayTune, MayUndo, MayUpdate};
 ghost use Rattle.rrd_spec.specs.Settings.{names};
 ghost use Rattle.rrd_spec.specs.Validity.{IsPart, IsRow, Rise};
 

@@ -7,7 +7,7 @@ use Rattle.rrd_spec.specs.declared.outline.Outline.{Outline}
 use Rattle.rrd_spec.specs.declared.settings.RraDef.{RraDef}
 use Rattle.rrd_spec.specs.Journal.Entries.{Entry, BeforeUpdate, SavedArchive, UpdateEntry, TuneEntry, ResizeEntry}
 use Rattle.rrd_spec.specs.Files.Filed.{Filed}
-use Rattle.rrd_spec.specs.Journal.Outlines.{IsSourceBefore}
+use Rattle.rrd_spec.specs.Journal.Fitting.{IsSourceBefore}
 use Rattle.rrd_spec.specs.Files.Rebuilding.{limits, outline_left, with_entry}
 use Rattle.rrd_file.specs.Layout.Pieces.{Tag, AnUpdate, ATune, AResize}
 use Rattle.rrd_file.specs.declared.decoding.journal.Tag.{Tag as TagRead}

@@ -14,7 +14,8 @@ use Rattle.rrd_spec.specs.Limits.{Limits, version_one}
 use Rattle.rrd_spec.specs.Settings.{has_source}
 use Rattle.rrd_spec.specs.Journal.Entries.{Entry}
 use Rattle.rrd_spec.specs.Files.Filed.{Filed, Header, Head, Source, Version, One}
-use Rattle.rrd_spec.specs.Journal.Outlines.{MayUndo, outline_undone}
+use Rattle.rrd_spec.specs.Journal.Outlines.{outline_undone}
+use Rattle.rrd_spec.specs.Journal.Fitting.{MayUndo}
 use Rattle.rrd_spec.specs.Validity.{IsPart, IsSourceWithin}
 
 -- the limits of a database in a file of a version

@@ -1,21 +1,13 @@
--- Definition: the outline of a database, which decides what journal entry fits it, and what is left of it once the
--- entry is undone (own).
-use Rattle.std.specs.Prelude.{◌≡◌, ◌≢◌, ℕ, zero, suc, ◌/◌, ◌%◌, ◌<◌, ◌≤◌, min, false, List, [], ◌∷◌, length, map, slice_set, slice_index_or}
-use Rattle.std.specs.List.{AllByRecursion, fold}
-use Rattle.rrd_fixed.specs.declared.cell.Cell.{Cell}
-use Rattle.rrd_fixed.specs.Rate.{IsAccepted}
-use Rattle.rrd_fold.specs.declared.function.Function.TheVariants.{Average}
+-- Definition: the outline of a database, by which a journal entry is judged, and what is left of it once the entry is
+-- undone (own).
+use Rattle.std.specs.Prelude.{ℕ, zero, suc, List, [], ◌∷◌, length, map, slice_set}
+use Rattle.std.specs.List.{fold}
 use Rattle.rrd_spec.specs.declared.entry.SourceBefore.{SourceBefore}
 use Rattle.rrd_spec.specs.declared.outline.Outline.{Outline}
 use Rattle.rrd_spec.specs.declared.settings.DsDef.{DsDef}
 use Rattle.rrd_spec.specs.declared.settings.RraDef.{RraDef}
-use Rattle.rrd_spec.specs.Limits.{Limits}
-use Rattle.rrd_spec.specs.Settings.{cells, is_double, names}
 use Rattle.rrd_spec.specs.History.{Content, definitions}
-use Rattle.rrd_spec.specs.Journal.Entries.{BeforeUpdate, Entry, UpdateEntry, TuneEntry, ResizeEntry, SavedArchive, rows_between}
-use Rattle.rrd_spec.specs.Validity.{AreAccepted, AreParts, IsRow, IsSourceWithin, Rise}
-
--- ---- outlines
+use Rattle.rrd_spec.specs.Journal.Entries.{Entry, UpdateEntry, TuneEntry, ResizeEntry}
 
 -- a content's
 abbrev pub outline_of : Content → Outline
@@ -39,58 +31,5 @@ outline_undone now (TuneEntry olds) = record now { sources = with_sources now.so
 outline_undone now (ResizeEntry archive rows) =
     record now { archives = with_row_number now.archives archive (length rows) }
 
--- ---- which entry fits
-
--- what an update from one time to another saved of an archive of these settings
-pub record MaySave (step from to sources : ℕ) (def : RraDef) (old : SavedArchive) : Type 0 where
-  pub same_function : old.function ≡ def.function
-  pub parts_are : AreParts def.function sources (from / step % def.steps) old.parts
-  pub as_many : length old.rows ≡ min (rows_between step def from to) def.rows
-  pub each_row : AllByRecursion (IsRow sources) old.rows
-
-abbrev pub MaySaveEach : ℕ → ℕ → ℕ → ℕ → List RraDef → List SavedArchive → Type 0
-MaySaveEach step from to sources [] [] = Unit {0}
-MaySaveEach step from to sources [] (old ∷ olds) = ⊥
-MaySaveEach step from to sources (def ∷ defs) [] = ⊥
-MaySaveEach step from to sources (def ∷ defs) (old ∷ olds) =
-    MaySave step from to sources def old × MaySaveEach step from to sources defs olds
-
-pub record MayUpdate (step : ℕ) (now : Outline) (old : BeforeUpdate) : Type 0 where
-  pub earlier : old.last < now.last
-  pub raws_are : AreAccepted now.sources old.raws
-  pub parts_are : AreParts Average (length now.sources) (old.last % step) old.parts
-  pub archives_are : MaySaveEach step old.last now.last (length now.sources) now.archives old.archives
-
--- a data source before a tune, by itself
-abbrev pub IsSourceBefore : Limits → SourceBefore → Type 0
-IsSourceBefore limits old = IsSourceWithin limits old.source × IsAccepted old.source.kind old.raw
-
-pub record MayTune (limits : Limits) (now : Outline) (olds : List SourceBefore) : Type 0 where
-  pub some : 0 < length olds
-  pub few : length olds ≤ 5
-  pub rise : Rise 0 (length now.sources) olds
-  pub each : AllByRecursion (IsSourceBefore limits) olds
-  pub names_differ : is_double (names (with_sources now.sources olds)) ≡ false
-
 abbrev pub rows_of : List RraDef → List ℕ
 rows_of defs = map (λ (def : RraDef). def.rows) defs
-
--- the old number of rows of a resized archive
-pub record AreOldRows (limits : Limits) (now : Outline) (archive rows : ℕ) : Type 0 where
-  pub some : 0 < rows
-  pub few : rows ≤ limits.most_rows
-  pub another : rows ≢ slice_index_or (rows_of now.archives) archive 0
-  pub few_cells :
-      cells (record { sources = now.sources; rows = rows_of (with_row_number now.archives archive rows) })
-      ≤ limits.most_cells
-
-pub record MayResize (limits : Limits) (now : Outline) (archive : ℕ) (rows : List (List Cell)) : Type 0 where
-  pub there : archive < length now.archives
-  pub old_rows : AreOldRows limits now archive (length rows)
-  pub each_row : AllByRecursion (IsRow (length now.sources)) rows
-
--- whether an entry fits, steps of so many seconds being taken
-abbrev pub MayUndo : Limits → ℕ → Outline → Entry → Type 0
-MayUndo limits step now (UpdateEntry old) = MayUpdate step now old
-MayUndo limits step now (TuneEntry olds) = MayTune limits now olds
-MayUndo limits step now (ResizeEntry archive rows) = MayResize limits now archive rows

@@ -8,7 +8,8 @@ use Rattle.rrd_spec.specs.Journal.Entries.{Entry, undone}
 use Rattle.rrd_spec.specs.Journal.Survivors.{Stored}
 use Rattle.rrd_spec.specs.Validity.{Fits, IsValidJournalWithin, IsValidWithin}
 use Rattle.rrd_spec.specs.Files.Filed.{Version, filed}
-use Rattle.rrd_spec.specs.Journal.Outlines.{MayUndo, outline_of, outline_undone}
+use Rattle.rrd_spec.specs.Journal.Outlines.{outline_of, outline_undone}
+use Rattle.rrd_spec.specs.Journal.Fitting.{MayUndo}
 use Rattle.rrd_spec.specs.Files.Rebuilding.{outline_filed}
 
 -- ---- outlines of contents

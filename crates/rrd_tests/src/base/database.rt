@@ -1,7 +1,7 @@
-//! Small databases, each call of rrd_base on its happy path: the readers, lists, and updates of fewer, as
-//! many and more rows than an archive has and back.
+//! Small databases, each call of rrd_base on its happy path: the readers, and updates of fewer, as many and
+//! more rows than an archive has and back.
 use crate::shared::databases::{assert_rows, database_of, updated};
-use rrd_base::{Database, List, Refusal};
+use rrd_base::{Database, Refusal};
 use rrd_fixed::{Kind, Raw};
 use rrd_fold::Function;
 use std::process::Abort;
@@ -46,19 +46,6 @@ fn settings_and_what_is_unfinished(rt: HostRuntime) -> Result<(), Fail> {
     let database = database_of(rt.alloc(), TWO_ARCHIVES)?;
     assert_settings(&rt, &database);
     assert_unfinished(&rt, &database);
-    Ok(())
-}
-
-#[test]
-fn lists(rt: HostRuntime) -> Result<(), Fail> {
-    let mut list = List::new(rt.alloc());
-    assert_eq!(rt; list.len(), 0);
-    for item in [3u8, 1, 2] {
-        list.push(item)?;
-    }
-    assert_eq!(rt; list.as_slice(), [3, 1, 2].as_slice());
-    assert_eq!(rt; list.len(), 3);
-    assert_eq!(rt; *list.get(1), 1);
     Ok(())
 }
 

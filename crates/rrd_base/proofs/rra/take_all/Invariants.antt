@@ -2,7 +2,8 @@ use Rattle.std.proofs.Common.{◌≡◌, ◌+◌, ◌≤◌, ◌++◌, take, dro
 use Rattle.std.specs.List.{AllByRecursion}
 use Rattle.rrd_spec.specs.Laws.Passing.{archive_passed}
 use Rattle.rrd_spec.specs.Validity.{IsValidArchive}
-use Rattle.rrd_base.specs.Walk.{cells_of, count_of, least_of_all, most_of_all, sources_of}
+use Rattle.rrd_base.specs.Walk.{cells_of, count_of, sources_of}
+use Rattle.rrd_base.specs.Walk.Turns.{least_of_all, most_of_all}
 use Rattle.rrd_base.proofs.rra.take_all.Given as goal
 
 abbrev pub invariant-loop-i : goal.invariant-loop-i

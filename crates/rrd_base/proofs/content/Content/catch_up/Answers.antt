@@ -3,7 +3,7 @@ use Rattle.rrd_spec.specs.History.{Content}
 use Rattle.rrd_spec.specs.Laws.Passing.{passed}
 use Rattle.rrd_spec.specs.Validity.{IsRow}
 use Rattle.rrd_base.specs.Content.{content_of}
-use Rattle.rrd_base.specs.Walk.{least_of_ends, least_to, most_of_ends, most_to}
+use Rattle.rrd_base.specs.Walk.Turns.{least_of_ends, least_to, most_of_ends, most_to}
 use Rattle.rrd_base.proofs.Catching.{at_last, caught_up, end_of_step, least_caught, least_within, most_caught, most_within, seconds_to_steps, steps_after}
 use Rattle.std.specs.Global.{Global}
 use Rattle.rrd_fixed.specs.declared.cell.Cell.{Cell}

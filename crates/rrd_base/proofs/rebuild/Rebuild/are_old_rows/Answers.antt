@@ -2,7 +2,7 @@ use Rattle.std.proofs.Common.{◌∙◌, ap, subst, sym}
 use Rattle.rrd_spec.specs.declared.outline.Outline.{Outline}
 use Rattle.rrd_spec.specs.Files.Filed.{Filed, One}
 use Rattle.rrd_spec.specs.Limits.{version_one}
-use Rattle.rrd_spec.specs.Journal.Outlines.{AreOldRows}
+use Rattle.rrd_spec.specs.Journal.Fitting.{AreOldRows}
 use Rattle.rrd_spec.specs.Files.Rebuilding.{due, limits, outline_left}
 use Rattle.rrd_base.specs.Rebuild.{coming}
 use Rattle.rrd_base.proofs.EntryComes.{at_entry, outline_fits}

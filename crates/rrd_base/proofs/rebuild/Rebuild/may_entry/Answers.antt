@@ -3,7 +3,7 @@ use Rattle.rrd_spec.specs.declared.due.Due.TheVariants.{EntryDue}
 use Rattle.rrd_spec.specs.declared.outline.Outline.{Outline}
 use Rattle.rrd_spec.specs.Files.Filed.{One}
 use Rattle.rrd_spec.specs.Limits.{version_one}
-use Rattle.rrd_spec.specs.Journal.Outlines.{MayUndo}
+use Rattle.rrd_spec.specs.Journal.Fitting.{MayUndo}
 use Rattle.rrd_spec.specs.Files.Rebuilding.{MayEntry, due}
 use Rattle.rrd_base.specs.Journal.{entry_of}
 use Rattle.rrd_base.specs.Rebuild.{coming, filed_in}

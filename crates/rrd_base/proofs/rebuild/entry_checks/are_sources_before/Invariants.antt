@@ -1,7 +1,7 @@
 use Rattle.std.proofs.Common.{drop, take}
 use Rattle.std.specs.List.{AllByRecursion}
 use Rattle.rrd_spec.specs.Limits.{version_one}
-use Rattle.rrd_spec.specs.Journal.Outlines.{IsSourceBefore}
+use Rattle.rrd_spec.specs.Journal.Fitting.{IsSourceBefore}
 use Rattle.rrd_base.proofs.FittingLemmas.{RiseLeft}
 use Rattle.rrd_base.proofs.rebuild.entry_checks.are_sources_before.Given as goal
 

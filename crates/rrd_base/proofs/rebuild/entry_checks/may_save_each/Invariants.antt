@@ -1,5 +1,5 @@
 use Rattle.std.proofs.Common.{take}
-use Rattle.rrd_spec.specs.Journal.Outlines.{MaySaveEach}
+use Rattle.rrd_spec.specs.Journal.Fitting.{MaySaveEach}
 use Rattle.rrd_base.proofs.rebuild.entry_checks.may_save_each.Given as goal
 
 abbrev pub invariant-loop-place : goal.invariant-loop-place

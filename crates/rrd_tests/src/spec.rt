@@ -1,0 +1,4 @@
+//! What a database means: lists, and the slow program beside the database.
+
+mod list;
+mod slow;
