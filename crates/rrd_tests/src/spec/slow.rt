@@ -1,7 +1,9 @@
 //! Worked examples, by the slow program and by the database, as the lines of batches ask for them.
 use crate::shared::batches::Case;
 use crate::shared::databases::{NONE, cell, command_of};
-use crate::tool::batches::cases::{CATCH_UP_AND_TIES, FIRST_PATH, HEARTBEAT_EDGE, ROAD_COUNTER_COARSE};
+use crate::tool::batches::cases::{
+    CATCH_UP_AND_TIES, FIRST_PATH, HEARTBEAT_EDGE, ROAD_COUNTER_COARSE,
+};
 use rrd_base::{Chosen, CreateSpec, Database, Given, List, Update, check_create};
 use rrd_fixed::{Cell, Kind, Raw, admit};
 use rrd_fold::Function;
