@@ -14,14 +14,14 @@ use Rattle.rrd_spec.specs.declared.settings.RraDef.{RraDef}
 use Rattle.rrd_spec.specs.Commands.{rows_of_archives}
 use Rattle.rrd_spec.specs.Files.Filed.{Filed, Head, Source, head_of, sources_of}
 use Rattle.rrd_spec.specs.History.{Archive}
-use Rattle.rrd_spec.specs.Limits.{version_one}
+use Rattle.rrd_spec.specs.Limits.{limits_of, present}
 use Rattle.rrd_spec.specs.Lemmas.Lists.{All-at, All-drop, drop_here}
 use Rattle.rrd_spec.specs.Journal.Outlines.{outline_undone}
 use Rattle.rrd_spec.specs.Laws.Slots.{PutsCell, SlotHasPlace}
 use Rattle.rrd_spec.specs.Files.Rebuilding.{IsArchiveDef, IsRowPart, after_heads, due, prep_or, unprepared, with_cell}
 use Rattle.rrd_spec.specs.Settings.{resolution}
 use Rattle.rrd_spec.specs.Files.Slots.{by_slot, cells_by_slot, place_in}
-use Rattle.rrd_spec.specs.Validity.{IsRow, IsValidJournal}
+use Rattle.rrd_spec.specs.Validity.{IsRow, IsValidJournalWithin}
 use Rattle.rrd_base.specs.declared.journal.Entry.{Entry}
 use Rattle.rrd_base.specs.declared.rebuild.cursor.Cursor.{Cursor}
 use Rattle.rrd_base.specs.Rebuild.Cursors.{Advances, AreFewer, KnowsPlace, KnowsPlaceIn, filled_by}
@@ -176,7 +176,7 @@ cell_keeps d a b cell archive filled is at put there few =
     let same = heads_set d.archives d.archive a b at.there put.is put.def_same put.parts_same in
     let old = archive_at d a is at.there put.is in
     let so_far : IsArchiveSoFar d.sources_due d.step d.last b = record {
-      def_is = subst (λ (def : RraDef). IsArchiveDef version_one def) (sym put.def_same) old.def_is;
+      def_is = subst (λ (def : RraDef). IsArchiveDef present def) (sym put.def_same) old.def_is;
       few_parts = omega (arith, ap length put.parts_same, old.few_parts);
       each_part = subst (λ (def : RraDef). AllByRecursion (IsRowPart d.step d.last def) b.parts) (sym put.def_same) (subst (AllByRecursion (IsRowPart d.step d.last a.def)) (sym put.parts_same) old.each_part);
       rows_are = put.as_many ∙ (old.rows_are ∙ ap (λ (def : RraDef). def.rows) (sym put.def_same));
@@ -195,11 +195,11 @@ cell_keeps d a b cell archive filled is at put there few =
       parts_are = is.parts_are;
       few_archives = omega (arith, count, is.few_archives);
       archives_are = All_set (IsArchiveSoFar d.sources_due d.step d.last) d.archives d.archive b is.archives_are so_far;
-      few_cells = subst (λ n. d.sources_due * n ≤ version_one.most_cells) (sym rows) is.few_cells;
+      few_cells = subst (λ n. d.sources_due * n ≤ (limits_of d.version).most_cells) (sym rows) is.few_cells;
       places = is.places;
       few_entries = is.few_entries;
       outline_is = is.outline_is ∙ ap (λ (heads : List Head). fold outline_undone (let s : Outline = record { last = d.last; sources = map (λ (source : Source). source.def) (sources_of d.sources d.raws d.preps); archives = map (λ (head : Head). head.def) heads } in s) (journal_of d.journal)) (sym same);
-      journal_is = subst (λ (j : List Entry). IsValidJournal (content_so_far new) (journal_of j)) (sym at.none) tt;
+      journal_is = subst (λ (j : List Entry). IsValidJournalWithin (limits_of d.version) (content_so_far new) (journal_of j)) (sym at.none) tt;
       sources_first = λ some. is.sources_first (omega (arith, some, count));
       archives_prepared = prepared_set d.sources_due d.archives d.archive a b at.there put.is put.parts_same is.archives_prepared;
       heads_first = λ some. record { all = count ∙ at.heads.all; prepared = ap (unprepared d.sources_due) same ∙ at.heads.prepared };

@@ -1,6 +1,7 @@
 -- What each piece keeps of a database that comes piece by piece.
 use Rattle.rrd_base.specs.declared.rebuild.cursor.Cursor.{Cursor}
-use Rattle.rrd_spec.specs.Limits.{version_one}
+use Rattle.rrd_spec.specs.Limits.{limits_of, newest, present}
+use Rattle.rrd_base.proofs.Versions.{archive_def_in, few_cells}
 use Rattle.rrd_spec.specs.Journal.Outlines.{outline_undone}
 use Rattle.rrd_spec.specs.Files.Rebuilding.{outline_left, IsArchiveDef, IsRowPart, MayHead, heads_with_part, MaySource, after_heads, due, prep_or, rows_in_all, unprepared, with_head, with_prep, with_source}
 use Rattle.rrd_spec.specs.Settings.{names, has_source, is_double}
@@ -27,7 +28,7 @@ use Rattle.rrd_spec.specs.History.{Archive}
 use Rattle.rrd_base.specs.Rebuild.{ArePrepared, Coming, IsArchiveSoFar, IsRebuilding, cells_before, content_so_far, filed_in, IsCursor}
 use Rattle.rrd_base.specs.Rebuild.Cursors.{AreFewer, KnowsPlaceIn, filled_by}
 use Rattle.rrd_base.specs.Journal.{journal_of}
-use Rattle.rrd_spec.specs.Validity.{AreAccepted, IsPart, IsRow, IsSource, IsValidJournal}
+use Rattle.rrd_spec.specs.Validity.{AreAccepted, IsPart, IsRow, IsSourceWithin, IsValidJournalWithin}
 use Rattle.rrd_base.proofs.Dues.{due_source, due_then, lengths_same, none_there, split_at, unprepared_is}
 use Rattle.rrd_spec.specs.Lemmas.Lists.{All-append, All-replicate}
 use Rattle.std.proofs.lemmas.List.{length-map, length-replicate}
@@ -102,6 +103,11 @@ plain_outline d is none =
     ∙ ap (λ (j : List Entry). outline_left (filed_in (record d { journal = j }))) none
     ∙ ap base (defs_of d.sources d.raws d.preps (lengths_same d.sources d.raws is.raws_are) is.one_part_each)
 
+-- while no entry has come it has the archives that came
+pub outlines_lengths : (d : Coming) → IsRebuilding d → d.journal ≡ [] → length d.outline.archives ≡ length d.archives
+outlines_lengths d is none =
+    ap (λ (o : Outline). length o.archives) (plain_outline d is none) ∙ length-map (map head_of d.archives) (λ (head : Head). head.def) ∙ length-map d.archives head_of
+
 pub knows_nothing : (step last : ℕ) (archives : List Archive) (sources : ℕ) (cursor : Cursor) → cursor.source < sources → filled_by sources cursor ≡ 0 → KnowsPlaceIn step last archives cursor
 knows_nothing step last [] sources cursor there none = tt
 knows_nothing step last (a ∷ archives) sources cursor there none = λ some.
@@ -167,7 +173,7 @@ source_keeps d def raw part is may =
     record {
       header_is = is.header_is;
       few_sources = omega (arith, few, length-append d.sources (def ∷ []));
-      sources_are = All-append IsSource d.sources (def ∷ []) is.sources_are (may.source_is, tt);
+      sources_are = All-append (IsSourceWithin (limits_of d.version)) d.sources (def ∷ []) is.sources_are (may.source_is, tt);
       names_differ = ap is_double (names_more d.sources def) ∙ double_more (names d.sources) def.name is.names_differ (any_name d.sources def.name (ap (λ ds. has_source ds def.name) (sym same) ∙ may.name_differs));
       raws_are = accepted_more d.sources d.raws def raw is.raws_are may.raw_is;
       one_part_each = omega (arith, length-append d.sources (def ∷ []), length-append d.preps (part ∷ []), is.one_part_each);
@@ -181,7 +187,7 @@ source_keeps d def raw part is may =
           ap (λ (s : Outline). let t : Outline = record s { sources = s.sources ++ def ∷ [] } in t) settled
           ∙ (ap (λ (defs : List DsDef). let t : Outline = record { last = d.last; sources = defs; archives = map (λ (head : Head). head.def) (map head_of d.archives) } in t) (sym defs_now)
           ∙ ap (λ (j : List Entry). outline_left (filed_in (record new { journal = j }))) (sym journal));
-      journal_is = subst (λ (j : List Entry). IsValidJournal (content_so_far new) (journal_of j)) (sym journal) tt;
+      journal_is = subst (λ (j : List Entry). IsValidJournalWithin (limits_of d.version) (content_so_far new) (journal_of j)) (sym journal) tt;
       sources_first = λ some. absurd (omega (arith, some, no_archives d is few));
       archives_prepared = is.archives_prepared;
       heads_first = λ some. record { all = (is.heads_first some).all; prepared = (is.heads_first some).prepared };
@@ -305,7 +311,7 @@ head_keeps d a is none rows may =
     let new = archive_came d a in
     let settled = plain_outline d is later.journal in
     let so_far : IsArchiveSoFar d.sources_due d.step d.last a = record {
-      def_is = may.def_is;
+      def_is = archive_def_in d.version newest a.def may.def_is;
       few_parts = omega (arith, ap length none);
       each_part = subst (λ (ps : List Part). AllByRecursion (IsRowPart d.step d.last a.def) ps) (sym none) tt;
       rows_are = ap length rows ∙ length-replicate a.def.rows (replicate d.sources_due Cell.Unknown);
@@ -324,7 +330,7 @@ head_keeps d a is none rows may =
       parts_are = is.parts_are;
       few_archives = omega (arith, at.few, length-append d.archives (a ∷ []));
       archives_are = All-append (IsArchiveSoFar d.sources_due d.step d.last) d.archives (a ∷ []) is.archives_are (so_far, tt);
-      few_cells = subst (λ n. d.sources_due * n ≤ version_one.most_cells) (sym (sum_more d.archives a)) (subst (λ n. d.sources_due * (n + a.def.rows) ≤ version_one.most_cells) (rows_all d.archives) may.few_cells);
+      few_cells = subst (λ n. d.sources_due * n ≤ (limits_of d.version).most_cells) (sym (sum_more d.archives a)) (subst (λ n. d.sources_due * (n + a.def.rows) ≤ (limits_of d.version).most_cells) (rows_all d.archives) may.few_cells);
       places = is.places;
       few_entries = is.few_entries;
       outline_is =
@@ -332,7 +338,7 @@ head_keeps d a is none rows may =
           ∙ (ap base (sym defs_now)
           ∙ (ap (λ (defs : List DsDef). let t : Outline = record { last = d.last; sources = defs; archives = map (λ (head : Head). head.def) (map head_of new.archives) } in t) (sym plain)
           ∙ ap (λ (j : List Entry). outline_left (filed_in (record new { journal = j }))) (sym later.journal)));
-      journal_is = subst (λ (j : List Entry). IsValidJournal (content_so_far new) (journal_of j)) (sym later.journal) tt;
+      journal_is = subst (λ (j : List Entry). IsValidJournalWithin (limits_of d.version) (content_so_far new) (journal_of j)) (sym later.journal) tt;
       sources_first = λ some. omega (arith, at.sources, is.few_sources);
       archives_prepared = prepared_more d.sources_due d.archives a is.archives_prepared (few_each d.sources_due d.step d.last d.archives is.archives_are) at.prepared;
       heads_first = λ some. absurd (omega (arith, some, later.archive, later.filled));
@@ -346,8 +352,8 @@ few_less zero n m some few = absurd (omega arith)
 few_less (suc s) n m some few = let p : suc s * n ≡ s * n + n = nat.suc-mul s n in omega (arith, p, few)
 
 -- the rows that came are few
-pub few_rows : (d : Coming) → IsRebuilding d → sum (rows_of_archives d.archives) ≤ version_one.most_cells
-few_rows d is = few_less d.sources_due (sum (rows_of_archives d.archives)) version_one.most_cells is.header_is.some_source is.few_cells
+pub few_rows : (d : Coming) → IsRebuilding d → sum (rows_of_archives d.archives) ≤ present.most_cells
+few_rows d is = omega (arith, few_less d.sources_due (sum (rows_of_archives d.archives)) (limits_of d.version).most_cells is.header_is.some_source is.few_cells, few_cells d.version)
 
 -- what isn't past a limit
 pub not_past : (limit n : ℕ) → not (nat_lt limit n) ≡ true → n ≤ limit
@@ -364,7 +370,7 @@ past_not limit n le = rw (le-ltb limit n le) refl
 pub record AtPrep (d : Coming) (def : RraDef) : Type 0 where
   pub is : unprepared d.sources_due (map head_of d.archives) ≡ Some def
   pub some : 0 < length d.archives
-  pub def_is : IsArchiveDef version_one def
+  pub def_is : IsArchiveDef present def
 
 after_no_prep : (f : Filed) (def : RraDef) → after_heads f ≡ PrepDue def → ⊥
 after_no_prep f def e = elim (cases_lt (length f.heads) f.header.archives) [
@@ -384,10 +390,10 @@ prep_some : (o : Option RraDef) (later : Due) (def : RraDef) → (later ≡ Prep
 prep_some None later def other e = absurd (other e)
 prep_some (Some x) later def other e = cc
 
-unprepared_def : (sources step last : ℕ) (archives : List Archive) (def : RraDef) → AllByRecursion (IsArchiveSoFar sources step last) archives → unprepared sources (map head_of archives) ≡ Some def → IsArchiveDef version_one def
+unprepared_def : (sources step last : ℕ) (archives : List Archive) (def : RraDef) → AllByRecursion (IsArchiveSoFar sources step last) archives → unprepared sources (map head_of archives) ≡ Some def → IsArchiveDef present def
 unprepared_def sources step last [] def all e = absurd cc
 unprepared_def sources step last (a ∷ archives) def all e = elim (cases_lt (length a.parts) sources) [
-  | inl lt ↦ let e2 = rw (lt-ltb (length a.parts) sources lt) at e in let same : a.def ≡ def = cc in subst (IsArchiveDef version_one) same all.0.def_is
+  | inl lt ↦ let e2 = rw (lt-ltb (length a.parts) sources lt) at e in let same : a.def ≡ def = cc in subst (IsArchiveDef present) same all.0.def_is
   | inr le ↦ unprepared_def sources step last archives def all.1 (rw (le-ltb (length a.parts) sources le) at e)
 ]
 
@@ -473,11 +479,11 @@ front_keeps d front x part is later few one =
         rows_are = a.rows_are;
         each_row = a.each_row;
       });
-      few_cells = subst (λ n. d.sources_due * n ≤ version_one.most_cells) rows is.few_cells;
+      few_cells = subst (λ n. d.sources_due * n ≤ (limits_of d.version).most_cells) rows is.few_cells;
       places = is.places;
       few_entries = is.few_entries;
       outline_is = is.outline_is ∙ ap (λ (archives : List RraDef). fold outline_undone (let s : Outline = record { last = d.last; sources = map (λ (source : Source). source.def) (sources_of d.sources d.raws d.preps); archives = archives } in s) (journal_of d.journal)) defs;
-      journal_is = subst (λ (j : List Entry). IsValidJournal (content_so_far new) (journal_of j)) (sym later.journal) tt;
+      journal_is = subst (λ (j : List Entry). IsValidJournalWithin (limits_of d.version) (content_so_far new) (journal_of j)) (sym later.journal) tt;
       sources_first = λ some. is.sources_first (omega (arith, some, counts));
       archives_prepared = prepared_front d.sources_due front x y is.archives_prepared;
       heads_first = λ some. absurd (omega (arith, some, later.archive, later.filled));

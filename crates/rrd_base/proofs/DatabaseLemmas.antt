@@ -5,7 +5,8 @@ use Rattle.rrd_spec.specs.declared.requests.update.Sample.{Sample}
 use Rattle.rrd_spec.specs.declared.requests.update.Update.{Update}
 use Rattle.rrd_spec.specs.declared.settings.DsDef.{DsDef}
 use Rattle.rrd_fixed.specs.declared.name.Name.{Name}
-use Rattle.rrd_spec.specs.History.{Content, Sampled, Moment, moment_of, moment_after}
+use Rattle.rrd_spec.specs.History.{Content, Reading, Sampled, Moment, moment_of, moment_after}
+use Rattle.rrd_spec.specs.Laws.ListedContent.{KeepsArchives}
 use Rattle.rrd_spec.specs.Commands.{Updating, sample_of, moved, Command}
 use Rattle.rrd_base.specs.Update.{last_time, template_of}
 use Rattle.rrd_spec.specs.Laws.Commands.{PassesAll}
@@ -35,3 +36,9 @@ some_samples passes base update h = some update.samples (passes base (Updating u
   some : (samples : List Sample) → no_sample samples ≡ false → 0 < length samples
   some [] e = cc
   some (sample ∷ samples) e = omega arith
+
+-- ---- an update lets no archive come or go
+
+pub samples_keep : (readings : List Reading) → KeepsArchives (map Sampled readings)
+samples_keep [] = tt
+samples_keep (reading ∷ readings) = samples_keep readings

@@ -12,21 +12,23 @@ use Rattle.rrd_spec.specs.declared.settings.RraDef.{RraDef}
 use Rattle.rrd_spec.specs.Commands.{rows_of_archives}
 use Rattle.rrd_spec.specs.Journal.Entries as entries
 use Rattle.rrd_spec.specs.Journal.Entries.{undone}
-use Rattle.rrd_spec.specs.Files.Filed.{Filed, One, head_of}
+use Rattle.rrd_spec.specs.Files.Filed.{Filed, head_of}
 use Rattle.rrd_spec.specs.History.{Archive, Content, definitions}
 use Rattle.rrd_spec.specs.Laws.Journal.{JournalLeavesValid}
 use Rattle.rrd_spec.specs.Laws.Outlines.{FiledOutline, JournalTakes, OutlineFollows}
-use Rattle.rrd_spec.specs.Limits.{version_one}
+use Rattle.rrd_spec.specs.Limits.{Limits, limits_of, present}
+use Rattle.rrd_spec.specs.declared.version.Version.{Version}
 use Rattle.rrd_spec.specs.Journal.Outlines.{outline_of, outline_undone, rows_of}
 use Rattle.rrd_spec.specs.Journal.Fitting.{MayUndo}
 use Rattle.rrd_spec.specs.Files.Rebuilding.{after_heads, due, outline_filed, prep_or, unprepared, with_entry}
 use Rattle.rrd_spec.specs.Journal.Survivors.{Stored}
-use Rattle.rrd_spec.specs.Validity.{IsValid, IsValidArchive, IsValidJournal}
+use Rattle.rrd_spec.specs.Validity.{IsValidArchiveWithin, IsValidJournalWithin, IsValidWithin}
 use Rattle.rrd_base.specs.declared.journal.Entry.{Entry}
 use Rattle.rrd_base.specs.Rebuild.EntryChecks.{HasSteps, IsOutline}
 use Rattle.rrd_base.specs.Journal.{entry_of, journal_of}
 use Rattle.rrd_base.specs.Rebuild.{Coming, HeadsCame, IsRebuilding, content_so_far, filed_in}
 use Rattle.rrd_base.proofs.Comes.{few_less}
+use Rattle.rrd_base.proofs.Versions.{few_cells}
 use Rattle.rrd_base.proofs.Dues.{AllAsMany, due_cell, due_head, due_nothing, due_source, due_then, lengths_same}
 use Rattle.rrd_base.proofs.Rebuilt.{content_is_valid}
 
@@ -71,44 +73,44 @@ abbrev pub AllFollow : Type 0
 AllFollow = (now : Content) (journal : List entries.Entry) → OutlineFollows now journal
 
 abbrev pub AllFiled : Type 0
-AllFiled = (d : Stored) → FiledOutline One d
+AllFiled = (version : Version) (d : Stored) → FiledOutline version d
 
 abbrev pub AllLeave : Type 0
-AllLeave = (now : Content) (journal : List entries.Entry) → JournalLeavesValid version_one now journal
+AllLeave = (limits : Limits) (now : Content) (journal : List entries.Entry) → JournalLeavesValid limits now journal
 
 abbrev pub AllTake : Type 0
-AllTake = (now : Content) (journal : List entries.Entry) (entry : entries.Entry) → JournalTakes version_one now journal entry
+AllTake = (limits : Limits) (now : Content) (journal : List entries.Entry) (entry : entries.Entry) → JournalTakes limits now journal entry
 
-pub at_entry_valid : (d : Coming) → IsRebuilding d → AtEntry d → IsValid (content_so_far d)
+pub at_entry_valid : (d : Coming) → IsRebuilding d → AtEntry d → IsValidWithin (limits_of d.version) (content_so_far d)
 at_entry_valid d is at = content_is_valid d is at.sources at.heads.all at.heads.prepared
 
 -- that of the content before all changes, said by its outline now
 pub outline_by : AllFiled → (d : Coming) → IsRebuilding d → d.outline ≡ fold outline_undone (outline_of (content_so_far d)) (journal_of d.journal)
 outline_by filed d is =
-    let lists : outline_filed (filed_in d) ≡ outline_of (content_so_far d) = filed (record { content = content_so_far d; journal = journal_of d.journal }) (lengths_same d.sources d.raws is.raws_are) is.one_part_each in
+    let lists : outline_filed (filed_in d) ≡ outline_of (content_so_far d) = filed d.version (record { content = content_so_far d; journal = journal_of d.journal }) (lengths_same d.sources d.raws is.raws_are) is.one_part_each in
     is.outline_is ∙ ap (λ (o : Outline). fold outline_undone o (journal_of d.journal)) lists
 
-steps_of : (sources steps : ℕ) (archives : List Archive) → AllByRecursion (IsValidArchive sources steps) archives → AllByRecursion HasSteps (definitions archives)
-steps_of sources steps [] all = tt
-steps_of sources steps (a ∷ archives) all = (record { some_steps = all.0.some_steps; few_steps = all.0.few_steps }, steps_of sources steps archives all.1)
+steps_of : (version : Version) (sources steps : ℕ) (archives : List Archive) → AllByRecursion (IsValidArchiveWithin (limits_of version) sources steps) archives → AllByRecursion HasSteps (definitions archives)
+steps_of version sources steps [] all = tt
+steps_of version sources steps (a ∷ archives) all = (record { some_steps = all.0.some_steps; few_steps = all.0.few_steps }, steps_of version sources steps archives all.1)
 
 rows_by_def : (archives : List Archive) → rows_of (definitions archives) ≡ rows_of_archives archives
 rows_by_def [] = refl
 rows_by_def (a ∷ archives) = ap (λ (rows : List ℕ). a.def.rows ∷ rows) (rows_by_def archives)
 
-outline_valid : (now : Content) → IsValid now → IsOutline (outline_of now)
-outline_valid now is = record {
+outline_valid : (version : Version) (now : Content) → IsValidWithin (limits_of version) now → IsOutline (outline_of now)
+outline_valid version now is = record {
   few_sources = is.few_sources;
-  have_steps = steps_of (length now.sources) (now.last / now.step) now.archives is.archives_are;
-  few_rows = subst (λ (rows : List ℕ). sum rows ≤ version_one.most_cells) (sym (rows_by_def now.archives)) (few_less (length now.sources) (sum (rows_of_archives now.archives)) version_one.most_cells is.some_source is.few_cells);
+  have_steps = steps_of version (length now.sources) (now.last / now.step) now.archives is.archives_are;
+  few_rows = subst (λ (rows : List ℕ). sum rows ≤ present.most_cells) (sym (rows_by_def now.archives)) (omega (arith, few_less (length now.sources) (sum (rows_of_archives now.archives)) (limits_of version).most_cells is.some_source is.few_cells, few_cells version));
 }
 
 pub outline_fits : AllFollow → AllFiled → AllLeave → (d : Coming) → IsRebuilding d → AtEntry d → IsOutline d.outline
 outline_fits follow filed leave d is at =
     let now = content_so_far d in
     let journal = journal_of d.journal in
-    let left = leave now journal (at_entry_valid d is at) is.journal_is in
-    subst IsOutline (sym (outline_by filed d is ∙ sym (follow now journal).outline_is)) (outline_valid (fold undone now journal) left)
+    let left = leave (limits_of d.version) now journal (at_entry_valid d is at) is.journal_is in
+    subst IsOutline (sym (outline_by filed d is ∙ sym (follow now journal).outline_is)) (outline_valid d.version (fold undone now journal) left)
 
 -- ---- the entry
 
@@ -118,13 +120,13 @@ entry_came d e outline = record d { journal = e ∷ d.journal; outline = outline
 journal_more : (e : Entry) (journal : List Entry) → journal_of (e ∷ journal) ≡ journal_of journal ++ entry_of e ∷ []
 journal_more e journal = reverse-append (entry_of e ∷ []) (map entry_of journal)
 
-pub entry_keeps : AllTake → AllFiled → (d : Coming) (e : Entry) → IsRebuilding d → AtEntry d → MayUndo version_one d.step d.outline (entry_of e) → IsRebuilding (entry_came d e (outline_undone d.outline (entry_of e)))
+pub entry_keeps : AllTake → AllFiled → (d : Coming) (e : Entry) → IsRebuilding d → AtEntry d → MayUndo (limits_of d.version) d.step d.outline (entry_of e) → IsRebuilding (entry_came d e (outline_undone d.outline (entry_of e)))
 entry_keeps take filed d e is at fits =
     let now = content_so_far d in
     let journal = journal_of d.journal in
     let new = entry_came d e (outline_undone d.outline (entry_of e)) in
     let more = journal_more e d.journal in
-    let valid : IsValidJournal now (journal ++ entry_of e ∷ []) = take now journal (entry_of e) (at_entry_valid d is at) is.journal_is (subst (λ (o : Outline). MayUndo version_one d.step o (entry_of e)) (outline_by filed d is) fits) in
+    let valid : IsValidJournalWithin (limits_of d.version) now (journal ++ entry_of e ∷ []) = take (limits_of d.version) now journal (entry_of e) (at_entry_valid d is at) is.journal_is (subst (λ (o : Outline). MayUndo (limits_of d.version) d.step o (entry_of e)) (outline_by filed d is) fits) in
     record {
       header_is = is.header_is;
       few_sources = is.few_sources;
@@ -142,7 +144,7 @@ entry_keeps take filed d e is at fits =
           ap (λ (o : Outline). outline_undone o (entry_of e)) is.outline_is
           ∙ (sym (fold-append outline_undone (outline_filed (filed_in d)) journal (entry_of e ∷ []))
           ∙ ap (λ (j : List entries.Entry). fold outline_undone (outline_filed (filed_in d)) j) (sym more));
-      journal_is = subst (IsValidJournal now) (sym more) valid;
+      journal_is = subst (IsValidJournalWithin (limits_of d.version) now) (sym more) valid;
       sources_first = is.sources_first;
       archives_prepared = is.archives_prepared;
       heads_first = λ some. record { all = at.heads.all; prepared = at.heads.prepared };

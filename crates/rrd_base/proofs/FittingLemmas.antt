@@ -11,7 +11,7 @@ use Rattle.rrd_spec.specs.declared.entry.SourceBefore.{SourceBefore}
 use Rattle.rrd_spec.specs.declared.settings.DsDef.{DsDef}
 use Rattle.rrd_spec.specs.declared.settings.RraDef.{RraDef}
 use Rattle.rrd_spec.specs.Journal.Entries.{SavedArchive}
-use Rattle.rrd_spec.specs.Limits.{version_one}
+use Rattle.rrd_spec.specs.Limits.{present}
 use Rattle.rrd_spec.specs.Lemmas.Lists.{All-at, drop_here}
 use Rattle.rrd_spec.specs.Journal.Outlines.{rows_of, with_row_number, with_sources}
 use Rattle.rrd_spec.specs.Journal.Fitting.{MaySave, MaySaveEach}
@@ -141,7 +141,7 @@ pub record RowsPut (defs : List RraDef) (i : ℕ) (d : RraDef) (rows all : ℕ) 
   pub old_is : (get_or defs i d).rows ≡ slice_index_or (rows_of defs) i 0
   pub all_is : all - (get_or defs i d).rows + rows ≡ sum (rows_of (with_row_number defs i rows))
 
-pub rows_are_put : (defs : List RraDef) (i : ℕ) (d : RraDef) (rows all : ℕ) → i < length defs → sum (rows_of defs) ≤ version_one.most_cells → all ≡ min (sum (rows_of defs)) (2 ^ 64 - 1) → RowsPut defs i d rows all
+pub rows_are_put : (defs : List RraDef) (i : ℕ) (d : RraDef) (rows all : ℕ) → i < length defs → sum (rows_of defs) ≤ present.most_cells → all ≡ min (sum (rows_of defs)) (2 ^ 64 - 1) → RowsPut defs i d rows all
 rows_are_put defs i d rows all h few e =
     let old = rows_at_is defs i d h in
     let put = rows_put defs i rows h in

@@ -25,6 +25,8 @@ can_undo : (now : Content) (e : Entry) → IsValid now → Fits now (entry_of e)
 can_undo now (entry.Update b) is fits = can_put_back_each now.step (length now.sources) (now.last / now.step) b.last now.last now.archives b.archives.items is.archives_are fits.archives_fit
 can_undo now (entry.Tune olds) is fits = tt
 can_undo now (entry.Resize number old) is fits = fits.there
+can_undo now entry.Added is fits = tt
+can_undo now (entry.Removed number old) is fits = fits.1.there
 
 pub record Newest (now : Content) (items : List Entry) (e : Entry) : Type 0 where
   pub newest_is : journal_of items ≡ entry_of e ∷ journal_of (take (length items - 1) items)

@@ -1,3 +1,4 @@
+pub mod Versions
 pub mod PushedRows
 pub mod TurnLemmas
 pub mod Taking
@@ -21,3 +22,4 @@ pub mod CellComes
 pub mod FittingLemmas
 pub mod EntryComes
 pub mod Entering
+pub mod Checks

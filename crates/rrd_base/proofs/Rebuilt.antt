@@ -1,5 +1,6 @@
 -- A database of which all pieces came is whole and valid.
-use Rattle.rrd_spec.specs.Limits.{version_one}
+use Rattle.rrd_spec.specs.Limits.{limits_of}
+use Rattle.rrd_spec.specs.declared.version.Version.{Version}
 use Rattle.rrd_spec.specs.Settings.{resolution}
 use Rattle.rrd_spec.specs.declared.due.Due.{Due}
 use Rattle.rrd_spec.specs.declared.due.Due.TheVariants.{HeadDue, NothingDue}
@@ -13,13 +14,13 @@ use Rattle.rrd_spec.specs.declared.settings.RraDef.{RraDef}
 use Rattle.rrd_fixed.specs.declared.raw.Raw.{Raw}
 use Rattle.rrd_fold.specs.Parts.{Part}
 use Rattle.rrd_spec.specs.Commands.{rows_of_archives}
-use Rattle.rrd_spec.specs.Files.Filed.{Filed, Head, One, filed, head_of, sources_of}
+use Rattle.rrd_spec.specs.Files.Filed.{Filed, Head, filed, head_of, sources_of}
 use Rattle.rrd_spec.specs.History.{Archive}
 use Rattle.rrd_spec.specs.Files.Rebuilding.{after_heads, due, prep_or, rows_in_all, unprepared}
 use Rattle.rrd_base.specs.Rebuild.{Coming, IsArchiveSoFar, IsRebuilding, cells_before, content_so_far, filed_in}
 use Rattle.rrd_spec.specs.Files.Slots.{cells_by_slot, row_in, stands_in}
 use Rattle.rrd_base.specs.Journal.{entry_of, journal_of}
-use Rattle.rrd_spec.specs.Validity.{IsRow, IsValid, IsValidArchive, IsValidDatabase}
+use Rattle.rrd_spec.specs.Validity.{IsRow, IsValidArchiveWithin, IsValidDatabaseWithin, IsValidWithin}
 use Rattle.rrd_fixed.specs.declared.cell.Cell.{Cell}
 use Rattle.std.specs.Option.{option_map_or}
 use Rattle.std.proofs.lemmas.Grind.{flat_map-append}
@@ -71,9 +72,9 @@ all_came f e = elim (cases_lt (length f.sources) f.header.sources) [
 ]
 
 -- all preparations came
-pub archives_whole : (sources step last : ℕ) (archives : List Archive) → AllByRecursion (IsArchiveSoFar sources step last) archives → unprepared sources (map head_of archives) ≡ None → AllByRecursion (IsValidArchive sources (last / step)) archives
-archives_whole sources step last [] all e = tt
-archives_whole sources step last (a ∷ archives) all e = elim (cases_lt (length a.parts) sources) [
+pub archives_whole : (version : Version) (sources step last : ℕ) (archives : List Archive) → AllByRecursion (IsArchiveSoFar sources step last) archives → unprepared sources (map head_of archives) ≡ None → AllByRecursion (IsValidArchiveWithin (limits_of version) sources (last / step)) archives
+archives_whole version sources step last [] all e = tt
+archives_whole version sources step last (a ∷ archives) all e = elim (cases_lt (length a.parts) sources) [
   | inl lt ↦ absurd (let e2 = rw (lt-ltb (length a.parts) sources lt) at e in cc)
   | inr le ↦ let e2 = rw (le-ltb (length a.parts) sources le) at e in (
     record {
@@ -87,7 +88,7 @@ archives_whole sources step last (a ∷ archives) all e = elim (cases_lt (length
       rows_are = all.0.rows_are;
       each_row = all.0.each_row;
     },
-    archives_whole sources step last archives all.1 e2,
+    archives_whole version sources step last archives all.1 e2,
   )
 ]
 
@@ -113,7 +114,7 @@ entries_all d is came = omega (arith, came.entries, is.few_entries, journal_leng
 
 -- ---- the content
 
-pub content_is_valid : (d : Coming) → IsRebuilding d → length d.sources ≡ d.sources_due → length d.archives ≡ d.archives_due → unprepared d.sources_due (map head_of d.archives) ≡ None → IsValid (content_so_far d)
+pub content_is_valid : (d : Coming) → IsRebuilding d → length d.sources ≡ d.sources_due → length d.archives ≡ d.archives_due → unprepared d.sources_due (map head_of d.archives) ≡ None → IsValidWithin (limits_of d.version) (content_so_far d)
 content_is_valid d is sources archives prepared =
     let h = is.header_is in
     record {
@@ -126,18 +127,18 @@ content_is_valid d is sources archives prepared =
       few_sources = omega (arith, sources, h.few_sources);
       some_archive = omega (arith, archives, h.some_archive);
       few_archives = omega (arith, archives, h.few_archives);
-      few_cells = subst (λ n. n * sum (rows_of_archives d.archives) ≤ version_one.most_cells) (sym sources) is.few_cells;
+      few_cells = subst (λ n. n * sum (rows_of_archives d.archives) ≤ (limits_of d.version).most_cells) (sym sources) is.few_cells;
       sources_are = is.sources_are;
       names_differ = is.names_differ;
       raws_are = is.raws_are;
       parts_are = record { one_each = is.one_part_each; each = is.parts_are };
-      archives_are = subst (λ n. AllByRecursion (IsValidArchive n (d.last / d.step)) d.archives) (sym sources) (archives_whole d.sources_due d.step d.last d.archives is.archives_are prepared);
+      archives_are = subst (λ n. AllByRecursion (IsValidArchiveWithin (limits_of d.version) n (d.last / d.step)) d.archives) (sym sources) (archives_whole d.version d.sources_due d.step d.last d.archives is.archives_are prepared);
     }
 
-pub content_valid : (d : Coming) → IsRebuilding d → AllCame (filed_in d) → IsValid (content_so_far d)
+pub content_valid : (d : Coming) → IsRebuilding d → AllCame (filed_in d) → IsValidWithin (limits_of d.version) (content_so_far d)
 content_valid d is came = content_is_valid d is (sources_whole d is came) (archives_all d is came) came.preps
 
-pub database_valid : (d : Coming) → IsRebuilding d → AllCame (filed_in d) → IsValidDatabase (content_so_far d) (journal_of d.journal)
+pub database_valid : (d : Coming) → IsRebuilding d → AllCame (filed_in d) → IsValidDatabaseWithin (limits_of d.version) (content_so_far d) (journal_of d.journal)
 database_valid d is came = record { content_is = content_valid d is came; journal_is = is.journal_is; few = omega (arith, entries_all d is came, is.header_is.few_entries) }
 
 -- ---- cells
@@ -196,9 +197,9 @@ cells_all d is came =
     let enough : length back ≤ d.filled = omega (arith, came.cells, few, all, sum, taken) in
     ap (λ l. front ++ l) (take_all d.filled back enough) ∙ whole
 
-pub filed_whole : (d : Coming) → IsRebuilding d → AllCame (filed_in d) → filed One (record { content = content_so_far d; journal = journal_of d.journal }) ≡ filed_in d
+pub filed_whole : (d : Coming) → IsRebuilding d → AllCame (filed_in d) → filed d.version (record { content = content_so_far d; journal = journal_of d.journal }) ≡ filed_in d
 filed_whole d is came = λ i. record {
-  header = record { version = One; step = d.step; last = d.last; depth = d.depth; sources = sources_whole d is came i; archives = archives_all d is came i; entries = entries_all d is came i };
+  header = record { version = d.version; step = d.step; last = d.last; depth = d.depth; sources = sources_whole d is came i; archives = archives_all d is came i; entries = entries_all d is came i };
   sources = sources_of d.sources d.raws d.preps;
   heads = map head_of d.archives;
   cells = sym (cells_all d is came) i;

@@ -1,11 +1,10 @@
 -- An archive with another number of rows.
-use Rattle.std.proofs.Common.{◌≡◌, refl, sym, ◌∙◌, ap, ℕ, zero, suc, ◌+◌, ◌-◌, ◌*◌, ◌/◌, ◌<◌, ◌≤◌, cond, eqb, List, [], ◌∷◌, ◌++◌, length, drop, map, replicate, get_or, sum, arith, eq-eqb, None}
-use Rattle.std.proofs.lemmas.Bool.{ne_eqb}
+use Rattle.std.proofs.Common.{◌≡◌, refl, sym, ◌∙◌, ap, ℕ, zero, suc, ◌+◌, ◌-◌, ◌*◌, ◌/◌, ◌<◌, ◌≤◌, List, [], ◌∷◌, ◌++◌, length, drop, replicate, get_or, set, sum, arith, None}
 use Rattle.std.proofs.lemmas.List.{length-drop}
-use Rattle.std.specs.List.{fold, enumerate_from, AllByRecursion}
+use Rattle.std.specs.List.{fold, AllByRecursion}
 use Rattle.rrd_fixed.specs.declared.cell.Cell.{Cell}
 use Rattle.rrd_ring.specs.Rows.{newest_rows, width}
-use Rattle.rrd_spec.specs.History.{Archive, Content, Resized, rows_after}
+use Rattle.rrd_spec.specs.History.{Archive, Content}
 use Rattle.rrd_spec.specs.declared.requests.resize.Change.{Change}
 use Rattle.rrd_spec.specs.declared.requests.resize.Change.TheVariants.{Grow, Shrink}
 use Rattle.rrd_spec.specs.Commands.{Resizing, moved, rows_changed, rows_of_archives}
@@ -18,41 +17,23 @@ use Rattle.rrd_base.proofs.RraLemmas.{width_is}
 
 -- ---- the number of all rows
 
--- all numbers of rows, an archive's being another
-abbrev pub changed_rows : (at new from : ℕ) → List ℕ → List ℕ
-changed_rows at new from rows = map (λ (index, old). rows_after index old (Resized at new)) (enumerate_from from rows)
-
 sum_more : (x : ℕ) (xs : List ℕ) → sum (x ∷ xs) ≡ x + sum xs
 sum_more x xs = from_any (0 + x) xs ∙ ap (λ n. n + sum xs) {x = 0 + x} {y = x} (omega arith) where
   from_any : (a : ℕ) (xs : List ℕ) → fold ◌+◌ a xs ≡ a + sum xs
   from_any a [] = omega arith
   from_any a (x ∷ xs) = from_any (a + x) xs ∙ omega (arith, from_any (0 + x) xs)
 
-changed_more : (at new from r : ℕ) (rows : List ℕ) → sum (changed_rows at new from (r ∷ rows)) ≡ cond (eqb at from) new r + sum (changed_rows at new (from + 1) rows)
-changed_more at new from r rows = sum_more (cond (eqb at from) new r) (changed_rows at new (from + 1) rows)
+-- all numbers of rows, an archive's being another
+pub sum_set : (k new : ℕ) (rows : List ℕ) → k < length rows → sum (set rows k new) + get_or rows k 0 ≡ sum rows + new
+sum_set k new [] h = absurd (omega arith)
+sum_set zero new (r ∷ rows) h = omega (arith, sum_more new rows, sum_more r rows)
+sum_set (suc k) new (r ∷ rows) h =
+    omega (arith, sum_set k new rows (omega arith), sum_more r rows, sum_more r (set rows k new))
 
-others_same : (at new from : ℕ) (rows : List ℕ) → at < from → sum (changed_rows at new from rows) ≡ sum rows
-others_same at new from [] h = refl
-others_same at new from (r ∷ rows) h =
-    changed_more at new from r rows
-    ∙ ap (λ b. cond b new r + sum (changed_rows at new (from + 1) rows)) (ne_eqb at from (λ e. absurd (omega arith)))
-    ∙ ap (λ m. r + m) (others_same at new (from + 1) rows (omega arith))
-    ∙ sym (sum_more r rows)
-
-pub sum_set : (first k at new : ℕ) (rows : List ℕ) → at ≡ first + k → k < length rows → sum (changed_rows at new first rows) + get_or rows k 0 ≡ sum rows + new
-sum_set first k at new [] e h = absurd (omega arith)
-sum_set first zero at new (r ∷ rows) e h =
-    let here : cond (eqb at first) new r ≡ new = ap (λ b. cond b new r) (eq-eqb at first (omega arith)) in
-    let rest = others_same at new (first + 1) rows (omega arith) in
-    let all = changed_more at new first r rows in
-    let old = sum_more r rows in
-    omega (arith, here, rest, all, old)
-sum_set first (suc k) at new (r ∷ rows) e h =
-    let here : cond (eqb at first) new r ≡ r = ap (λ b. cond b new r) (ne_eqb at first (λ f. absurd (omega arith))) in
-    let rest = sum_set (first + 1) k at new rows (omega arith) (omega arith) in
-    let all = changed_more at new first r rows in
-    let old = sum_more r rows in
-    omega (arith, here, rest, all, old)
+-- and with one more
+pub sum_push : (rows : List ℕ) (row : ℕ) → sum (rows ++ row ∷ []) ≡ sum rows + row
+sum_push [] row = omega (arith, sum_more row [])
+sum_push (r ∷ rows) row = omega (arith, sum_push rows row, sum_more r rows, sum_more r (rows ++ row ∷ []))
 
 pub changed_few : (change : Change) (old rows : ℕ) → rows_changed change old rows ≤ old + rows
 changed_few Grow old rows = omega arith

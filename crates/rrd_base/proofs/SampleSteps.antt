@@ -16,12 +16,12 @@ use Rattle.rrd_spec.specs.Laws.Commands.{AreKept, Passes}
 use Rattle.rrd_spec.specs.Laws.History.{GoesOnListed}
 use Rattle.rrd_spec.specs.Lemmas.Commands.{readings_rise}
 use Rattle.rrd_spec.specs.Lemmas.Validity.{base_of_valid}
-use Rattle.rrd_spec.specs.Limits.{version_one}
+use Rattle.rrd_spec.specs.Limits.{present}
 
 -- the content after a sample, and those that are left
 pub record Taken (now next : Content) (sources : List DsDef) (template : List Name) (sample : Sample) (rest : List Sample) : Type 0 where
   pub comes_to : content_listed now (map Sampled (map (sample_of sources template) (sample ∷ rest))) ≡ content_listed next (map Sampled (map (sample_of sources template) rest))
-  pub pass : AllByRecursion Passes (sample_checks version_one sources template next.last rest)
+  pub pass : AllByRecursion Passes (sample_checks present sources template next.last rest)
   pub same_sources : next.sources ≡ now.sources
   pub last_is : next.last ≡ sample.time
 
@@ -30,7 +30,7 @@ unfolding content_listed
 moment_of-content base es = refl
 
 -- by the law of histories that are cut
-pub one_taken : (goes_on : (base : Content) (first second : List Event) → GoesOnListed base first second) (now next : Content) (sources : List DsDef) (template : List Name) (sample : Sample) (rest : List Sample) → IsValid now → now.sources ≡ sources → AllByRecursion Passes (sample_checks version_one sources template now.last (sample ∷ rest)) → next ≡ content_listed now (Sampled (sample_of sources template sample) ∷ []) → Taken now next sources template sample rest
+pub one_taken : (goes_on : (base : Content) (first second : List Event) → GoesOnListed base first second) (now next : Content) (sources : List DsDef) (template : List Name) (sample : Sample) (rest : List Sample) → IsValid now → now.sources ≡ sources → AllByRecursion Passes (sample_checks present sources template now.last (sample ∷ rest)) → next ≡ content_listed now (Sampled (sample_of sources template sample) ∷ []) → Taken now next sources template sample rest
 one_taken goes_on now next sources template sample rest is same pass e =
     let reading = sample_of sources template sample in
     let all = readings_rise sources template (moment_of now) (sample ∷ rest) pass in
@@ -40,7 +40,7 @@ one_taken goes_on now next sources template sample rest is same pass e =
     record {
       comes_to = goes_on now (Sampled reading ∷ []) (map Sampled (map (sample_of sources template) rest)) (base_of_valid now is) (all.0, tt) all.1
           ∙ ap (λ c. content_listed c (map Sampled (map (sample_of sources template) rest))) (sym e);
-      pass = subst (λ t. AllByRecursion Passes (sample_checks version_one sources template t rest)) (sym last) pass.1.1.1.1;
+      pass = subst (λ t. AllByRecursion Passes (sample_checks present sources template t rest)) (sym last) pass.1.1.1.1;
       same_sources = ap (λ (m : Moment). m.sources) end;
       last_is = last;
     }
@@ -49,5 +49,5 @@ one_taken goes_on now next sources template sample rest is same pass e =
 pub accepted_raws : (kept : (given : DsDef → Given) (sources : List DsDef) → AreKept given sources) (now : Content) (sources : List DsDef) (template : List Name) (values : List Given) (raws : List Raw) → now.sources ≡ sources → raws ≡ map (λ (source : DsDef). raw_of source.kind (value_for template values source)) sources → AreAccepted now.sources raws
 accepted_raws kept now sources template values raws same e = subst (λ ss. AreAccepted ss raws) (sym same) (subst (AreAccepted sources) (sym e) (kept (value_for template values) sources))
 
-pub later_sample : (sources : List DsDef) (template : List Name) (last : ℕ) (sample : Sample) (rest : List Sample) → AllByRecursion Passes (sample_checks version_one sources template last (sample ∷ rest)) → last < sample.time
+pub later_sample : (sources : List DsDef) (template : List Name) (last : ℕ) (sample : Sample) (rest : List Sample) → AllByRecursion Passes (sample_checks present sources template last (sample ∷ rest)) → last < sample.time
 later_sample sources template last sample rest pass = let h = pass.1.0 in grind (arith, nat_tests, h)

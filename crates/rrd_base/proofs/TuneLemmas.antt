@@ -1,15 +1,22 @@
 -- A tune, source by source.
-use Rattle.std.proofs.Common.{◌≡◌, refl, ◌∙◌, ap, ℕ, zero, suc, ◌+◌, ◌<◌, ◌≤◌, Bool, true, false, cond, List, [], ◌∷◌, ◌++◌, length, take, map, set, get_or, arith}
-use Rattle.std.specs.List.{fold}
+use Rattle.std.proofs.Common.{◌≡◌, refl, ◌∙◌, ap, ℕ, zero, suc, ◌+◌, ◌<◌, ◌≤◌, Bool, true, false, cond, List, [], ◌∷◌, ◌++◌, append-nil, drop, length, length-append, length-drop, take, take_all, map, set, get_or, arith, None, Some}
+use Rattle.std.proofs.lemmas.List.{drop_all, length-take}
+use Rattle.std.specs.List.{AllByRecursion, fold, insert, refill}
 use Rattle.rrd_fixed.specs.declared.raw.Raw.{Raw}
 use Rattle.rrd_spec.specs.declared.settings.DsDef.{DsDef}
 use Rattle.rrd_spec.specs.declared.entry.SourceBefore.{SourceBefore}
 use Rattle.rrd_spec.specs.declared.requests.tune.Tuning.{Tuning}
 use Rattle.rrd_fixed.specs.declared.cell.Cell.{Cell}
 use Rattle.rrd_spec.specs.History.{Archive, Content, raws_under}
-use Rattle.rrd_spec.specs.Commands.{raw_under}
+use Rattle.rrd_spec.specs.Commands.{TuningBy, moved, raw_under}
 use Rattle.rrd_spec.specs.Journal.Entries.{sources_before, is_named, with_source, with_rows_at}
-use Rattle.rrd_base.specs.Tune.{with_raws}
+use Rattle.rrd_base.specs.Tune.{IsThere, with_archive_tuned, with_raws}
+use Rattle.rrd_spec.specs.declared.requests.tune.ArchiveTune.{ArchiveTune}
+use Rattle.rrd_spec.specs.declared.requests.tune.ArchiveTune.TheVariants.{Add, Remove}
+use Rattle.rrd_spec.specs.declared.settings.RraDef.{RraDef}
+use Rattle.rrd_spec.specs.Commands.Verdict.{verdict}
+use Rattle.rrd_spec.specs.Laws.Commands.{TuneAdds, TuneRemoves}
+use Rattle.rrd_spec.specs.Validity.{IsValid}
 use Rattle.rrd_spec.specs.Journal.Outlines.{with_sources}
 
 -- one raw value more
@@ -82,3 +89,38 @@ with_settings now sources raws = record now { sources = sources; raws = raws }
 pub settings_are : (now : Content) (sources : List DsDef) (raws : List Raw) (ss : List DsDef) (rs : List Raw) → sources ≡ ss → raws ≡ rs → (let x : Content = record now { sources = sources; raws = raws } in x) ≡ (let x : Content = record now { sources = ss; raws = rs } in x)
 unfolding with_settings
 settings_are now sources raws ss rs e f = ap (λ s. with_settings now s raws) e ∙ ap (with_settings now ss) f
+
+-- ---- archives that come and go
+
+-- a content with other archives
+unfoldable pub with_archives : Content → List Archive → Content
+with_archives now archives = record now { archives = archives }
+
+pub length-insert : {A : Type 0} (xs : List A) (n : ℕ) (x : A) → n ≤ length xs → length (insert xs n x) ≡ length xs + 1
+length-insert xs n x h = omega (arith, length-append (take n xs) (x ∷ drop n xs), length-take n xs, length-drop n xs)
+
+-- an item that is there, whatever would stand for one that isn't
+pub any_default : {A : Type 0} (xs : List A) (n : ℕ) (x y : A) → n < length xs → get_or xs n x ≡ get_or xs n y
+any_default [] n x y h = absurd (omega arith)
+any_default (z ∷ xs) zero x y h = refl
+any_default (z ∷ xs) (suc n) x y h = any_default xs n x y (omega arith)
+
+pub last_valid : {A : Type 0} (P : A → Type 0) (xs : List A) (x : A) → AllByRecursion P (xs ++ x ∷ []) → P x
+last_valid P [] x all = all.0
+last_valid P (y ∷ xs) x all = last_valid P xs x all.1
+
+-- as many items written over all of them
+pub refilled : {A : Type 0} (xs ys : List A) → length ys ≡ length xs → refill (length xs) xs ys ≡ ys
+refilled xs ys h =
+    rw (drop_all (length ys) xs (omega (arith, h)), append-nil) (take_all (length xs) ys (omega (arith, h)))
+
+-- what an accepted tune of an archive makes, and that the archive that goes is there
+pub record ArchiveTuned (now : Content) (tuning : Tuning) (asked : ArchiveTune) : Type 0 where
+  pub there : IsThere now asked
+  pub content_is : moved now (TuningBy tuning) ≡ with_archive_tuned now asked
+
+pub archive_tuned : ((base : Content) (tuning : Tuning) (def : RraDef) → TuneAdds base tuning def) → ((base : Content) (tuning : Tuning) (number : ℕ) → TuneRemoves base tuning number) → (now : Content) (tuning : Tuning) (asked : ArchiveTune) → IsValid now → tuning.archive ≡ Some asked → verdict now (TuningBy tuning) ≡ None → ArchiveTuned now tuning asked
+archive_tuned adds removes now tuning (Add def) is e h = record { there = tt; content_is = adds now tuning def is e h }
+archive_tuned adds removes now tuning (Remove number) is e h =
+    let gone = removes now tuning number is e h in
+    record { there = gone.0; content_is = gone.1 }

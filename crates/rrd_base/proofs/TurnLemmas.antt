@@ -50,7 +50,7 @@ most_in_all step from to (a ∷ rest) =
     let rows = sum_first a.def.rows (rows_of_archives rest) in
     omega (arith, most_in_all step from to rest)
 
-pub few_turns : (base : Content) (from to : ℕ) → IsValid base → most_of_sample (length base.sources) base.step (definitions base.archives) from to ≤ 5000000
+pub few_turns : (base : Content) (from to : ℕ) → IsValid base → most_of_sample (length base.sources) base.step (definitions base.archives) from to ≤ 9000000
 few_turns base from to is =
     let n = length base.sources in
     let m = length base.archives in
@@ -58,8 +58,8 @@ few_turns base from to is =
     let s = sum (map (λ (def : RraDef). 8 + rows_shown base.step from to def) (definitions base.archives)) in
     let all = mul-le n (3 + s) n (3 + (8 * m + r)) (omega arith) (omega (arith, most_in_all base.step from to base.archives)) in
     let sources = is.few_sources in
-    let places = mul-le n m 64 64 is.few_sources is.few_archives in
-    let cells : n * r ≤ 4000000 = is.few_cells in
+    let places = mul-le n m 64 128 is.few_sources is.few_archives in
+    let cells : n * r ≤ 8000000 = is.few_cells in
     let split : n * (3 + (8 * m + r)) ≡ 3 * n + 8 * (n * m) + n * r = omega arith in
     omega arith
 

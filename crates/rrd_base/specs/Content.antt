@@ -11,7 +11,7 @@ content_of d = record {
   last = d.last;
   raws = d.raws.items;
   parts = d.preps.items;
-  archives = d.archives.items;
+  archives = d.archives;
 }
 
 abbrev pub IsValidContent : Inside → Type 0

@@ -4,7 +4,7 @@ use Rattle.rrd_spec.specs.declared.requests.fetch.Candidate.{Candidate}
 use Rattle.rrd_spec.specs.declared.requests.fetch.Request.{Request}
 use Rattle.rrd_spec.specs.declared.settings.RraDef.{RraDef}
 use Rattle.rrd_spec.specs.Choice.{candidates, covers, is_farther, is_nearer, taken}
-use Rattle.rrd_spec.specs.Limits.{version_one}
+use Rattle.rrd_spec.specs.Limits.{present}
 
 -- what is asked for, and the one that is taken of the archives so far
 pub record Searched : Type 0 where
@@ -24,10 +24,10 @@ searched step last request defs = record {
 -- what keeps its sums within 64 bits
 pub record IsSearch (step last : ℕ) (request : Request) (best : Option Candidate) : Type 0 where
   pub some_step : 0 < step
-  pub small_step : step ≤ version_one.longest_step
-  pub good_last : last ≤ version_one.latest_time
+  pub small_step : step ≤ present.longest_step
+  pub good_last : last ≤ present.latest_time
   pub in_order : request.start ≤ request.end
-  pub good_end : request.end ≤ version_one.latest_time
+  pub good_end : request.end ≤ present.latest_time
   pub usable : IfSome best (λ (one : Candidate). (0 < one.resolution) × (one.resolution ≤ 10 ^ 12))
 
 -- whether an archive is taken rather than one with a lower number

@@ -1,5 +1,5 @@
 -- Definition: an entry as the definitions have it; and, as glue, the journal that a database's fields hold.
-use Rattle.std.specs.Prelude.{◌<◌, List, length, map, reverse}
+use Rattle.std.specs.Prelude.{◌<◌, ◌≤◌, List, length, map, reverse}
 use Rattle.rrd_spec.specs.History.{Archive}
 use Rattle.rrd_spec.specs.Journal.Entries as entries
 pub use Rattle.rrd_spec.specs.Journal.Entries.{before}
@@ -16,12 +16,16 @@ abbrev pub entry_of : Entry → entries.Entry
 entry_of (entry.Update b) = entries.UpdateEntry (update_of b)
 entry_of (entry.Tune olds) = entries.TuneEntry olds.items
 entry_of (entry.Resize number old) = entries.ResizeEntry number old
+entry_of entry.Added = entries.AddedEntry
+entry_of (entry.Removed number old) = entries.RemovedEntry number old
 
 -- the entry can be put back
 abbrev pub CanUndo : List Archive → Entry → Type 0
 CanUndo archives (entry.Update b) = CanPutBackEach archives b.archives.items
 CanUndo archives (entry.Tune olds) = Unit {0}
 CanUndo archives (entry.Resize number old) = number < length archives
+CanUndo archives entry.Added = Unit {0}
+CanUndo archives (entry.Removed number old) = number ≤ length archives
 
 -- the journal, newest first
 abbrev pub journal_of : List Entry → List entries.Entry

@@ -8,13 +8,14 @@ use Rattle.rrd_fold.specs.declared.function.Function.TheVariants.{Average}
 use Rattle.rrd_spec.specs.declared.outline.Outline.{Outline}
 use Rattle.rrd_spec.specs.declared.settings.DsDef.{DsDef}
 use Rattle.rrd_spec.specs.Commands.{rows_of_archives}
-use Rattle.rrd_spec.specs.Files.Filed.{Filed, One, head_of, sources_of}
+use Rattle.rrd_spec.specs.Files.Filed.{Filed, head_of, sources_of}
 use Rattle.rrd_spec.specs.History.{Archive, Content}
-use Rattle.rrd_spec.specs.Limits.{version_one}
+use Rattle.rrd_spec.specs.Limits.{limits_of, present}
+use Rattle.rrd_spec.specs.declared.version.Version.{Version}
 use Rattle.rrd_spec.specs.Files.Rebuilding.{IsArchiveDef, IsHeader, IsRowPart, outline_left, unprepared}
-use Rattle.rrd_spec.specs.Settings.{is_double, names, resolution}
+use Rattle.rrd_spec.specs.Settings.{is_double, names}
 use Rattle.rrd_spec.specs.Files.Slots.{cells_by_slot}
-use Rattle.rrd_spec.specs.Validity.{AreAccepted, IsPart, IsRow, IsSource, IsValidJournal}
+use Rattle.rrd_spec.specs.Validity.{AreAccepted, IsPart, IsRow, IsSourceWithin, IsValidJournalWithin}
 use Rattle.rrd_base.specs.Rebuild.Cursors.{AreFewer, KnowsPlaceIn, filled_by}
 use Rattle.rrd_base.specs.Journal.{journal_of}
 use Rattle.rrd_base.specs.declared.journal.Entry.{Entry}
@@ -31,6 +32,7 @@ cells_before step last archives archive filled =
 
 -- what has come, as the fields hold it: so many cells of the archive of this number, and those before it
 pub record Coming : Type 0 where
+  pub version : Version
   pub step : ℕ
   pub last : ℕ
   pub depth : ℕ
@@ -49,6 +51,7 @@ pub record Coming : Type 0 where
 
 abbrev pub coming : Inside → Coming
 coming d = record {
+  version = d.version;
   step = d.step;
   last = d.last;
   depth = d.depth;
@@ -58,7 +61,7 @@ coming d = record {
   sources = d.sources.items;
   raws = d.raws.items;
   preps = d.preps.items;
-  archives = d.archives.items;
+  archives = d.archives;
   archive = d.cursor.archive;
   filled = filled_by d.sources_due d.cursor;
   places = d.journal.capacity;
@@ -71,7 +74,7 @@ abbrev pub filed_in : Coming → Filed
 filed_in d = record {
   header =
       record {
-        version = One;
+        version = d.version;
         step = d.step;
         last = d.last;
         depth = d.depth;
@@ -97,9 +100,9 @@ content_so_far d = record {
   archives = d.archives;
 }
 
--- an archive whose preparations may still come
+-- an archive whose preparations may still come; what is asked of its settings is the same in each version
 pub record IsArchiveSoFar (sources step last : ℕ) (archive : Archive) : Type 0 where
-  pub def_is : IsArchiveDef version_one archive.def
+  pub def_is : IsArchiveDef present archive.def
   pub few_parts : length archive.parts ≤ sources
   pub each_part : AllByRecursion (IsRowPart step last archive.def) archive.parts
   pub rows_are : length archive.rows ≡ archive.def.rows
@@ -125,18 +128,18 @@ pub record CellsCame (d : Coming) : Type 0 where
 pub record IsRebuilding (d : Coming) : Type 0 where
   pub header_is : IsHeader (filed_in d).header
   pub few_sources : length d.sources ≤ d.sources_due
-  pub sources_are : AllByRecursion IsSource d.sources
+  pub sources_are : AllByRecursion (IsSourceWithin (limits_of d.version)) d.sources
   pub names_differ : is_double (names d.sources) ≡ false
   pub raws_are : AreAccepted d.sources d.raws
   pub one_part_each : length d.preps ≡ length d.sources
   pub parts_are : AllByRecursion (IsPart Average (d.last % d.step)) d.preps
   pub few_archives : length d.archives ≤ d.archives_due
   pub archives_are : AllByRecursion (IsArchiveSoFar d.sources_due d.step d.last) d.archives
-  pub few_cells : d.sources_due * sum (rows_of_archives d.archives) ≤ version_one.most_cells
+  pub few_cells : d.sources_due * sum (rows_of_archives d.archives) ≤ (limits_of d.version).most_cells
   pub places : d.places ≡ d.depth
   pub few_entries : length d.journal ≤ d.entries_due
   pub outline_is : d.outline ≡ outline_left (filed_in d)
-  pub journal_is : IsValidJournal (content_so_far d) (journal_of d.journal)
+  pub journal_is : IsValidJournalWithin (limits_of d.version) (content_so_far d) (journal_of d.journal)
   pub sources_first : 0 < length d.archives → length d.sources ≡ d.sources_due
   pub archives_prepared : ArePrepared d.sources_due d.archives
   pub heads_first : 0 < d.archive + d.filled → HeadsCame d

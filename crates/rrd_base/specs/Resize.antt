@@ -2,7 +2,7 @@
 use Rattle.std.specs.Prelude.{◌≤◌, List}
 use Rattle.rrd_spec.specs.declared.settings.DsDef.{DsDef}
 use Rattle.rrd_spec.specs.History.{Archive}
-use Rattle.rrd_spec.specs.Limits.{version_one}
+use Rattle.rrd_spec.specs.Limits.{present}
 use Rattle.rrd_spec.specs.Settings.{Settings}
 use Rattle.rrd_spec.specs.Commands.{rows_of_archives}
 
@@ -11,4 +11,4 @@ abbrev pub settings : List DsDef → List Archive → Settings
 settings sources archives = record { sources = sources; rows = rows_of_archives archives }
 
 pub record HasFewRows (archive : Archive) : Type 0 where
-  pub few : archive.def.rows ≤ version_one.most_rows
+  pub few : archive.def.rows ≤ present.most_rows

@@ -1,14 +1,14 @@
 -- Glue: an archive of a database, and what can be put back into one.
 use Rattle.std.specs.Prelude.{◌≡◌, ◌<◌, ◌≤◌, List, [], ◌∷◌, length}
 use Rattle.rrd_ring.specs.Rows.{HasWidth, width}
-use Rattle.rrd_spec.specs.Limits.{version_one}
+use Rattle.rrd_spec.specs.Limits.{present}
 use Rattle.rrd_spec.specs.History.{Archive}
 use Rattle.rrd_spec.specs.Journal.Entries.{SavedArchive}
 
 -- the resolution of an archive is a number above 0, and a small one
 pub record IsStepped (archive : Archive) : Type 0 where
   pub some_steps : 0 < archive.def.steps
-  pub few_steps : archive.def.steps ≤ version_one.most_steps
+  pub few_steps : archive.def.steps ≤ present.most_steps
 
 -- what can be put back: it is of the archive's function, and there is a place for each of its rows and for each of
 -- their cells

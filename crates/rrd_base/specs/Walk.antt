@@ -1,7 +1,7 @@
 -- Glue: the places of a walk, and the steps that it takes at once.
 use Rattle.std.specs.Prelude.{◌≡◌, ◌≤◌, ℕ, ◌+◌, List, ◌∷◌, length, replicate, vec_len}
 use Rattle.rrd_fixed.specs.declared.cell.Cell.{Cell}
-use Rattle.rrd_spec.specs.Limits.{version_one}
+use Rattle.rrd_spec.specs.Limits.{present}
 use Rattle.rrd_spec.specs.Validity.{IsRow}
 use Rattle.rrd_base.specs.declared.walk.Steps.{Steps}
 use Rattle.rrd_base.specs.declared.walk.Walk.{Walk}
@@ -35,6 +35,6 @@ cells_of steps = steps.first.now ∷ replicate steps.count steps.then.now
 
 -- they end in time, and their cells are bounded
 pub record AreSteps (steps : Steps) : Type 0 where
-  pub in_time : steps.before + count_of steps ≤ version_one.latest_time
+  pub in_time : steps.before + count_of steps ≤ present.latest_time
   pub first : IsRow (sources_of steps) steps.first.now
   pub then : IsRow (sources_of steps) steps.then.now

@@ -8,7 +8,7 @@ ghost use Rattle.rrd_spec.specs.History.{Archive as ArchiveContent};
 ghost use Rattle.rrd_spec.specs.History.Cells.{prep_at};
 
 use crate::rra::{Rra, new_all};
-use crate::{CreateSpec, DsDef};
+use crate::{ArchiveList, CreateSpec, DsDef};
 use rrd_fixed::{Cell, Raw};
 use rrd_fold::{RowPrep, StepPrep};
 use rrd_spec::laws;
@@ -24,7 +24,7 @@ pub(crate) struct Content {
     pub(crate) sources: Vec<DsDef>,
     pub(crate) raws: Vec<Raw>,
     pub(crate) preps: Vec<StepPrep>,
-    pub(crate) archives: Vec<Rra>,
+    pub(crate) archives: ArchiveList<Rra>,
 }
 
 impl Model for Content {
@@ -83,7 +83,7 @@ impl Content {
         requires source_there { source < length self.now.sources }
         ensures { result ≡ prep_at self.now archive source }
     {
-        self.archives[archive].prep(source)
+        self.archives.get(archive).prep(source)
     }
 
     /// The cells of an archive's row at a place, 0 the oldest.
@@ -94,7 +94,7 @@ impl Content {
         ensures { (a : ArchiveContent) → slice_get self.now.archives archive ≡ Some a
             → result.now ≡ slice_index_or a.rows place [] }
     {
-        self.archives[archive].row(place)
+        self.archives.get(archive).row(place)
     }
 
     /// So many of an archive's oldest rows were never written, so that all their cells are unknown.
@@ -104,6 +104,6 @@ impl Content {
         ensures unknown { (a : ArchiveContent) → slice_get self.now.archives archive ≡ Some a
             → take result a.rows ≡ replicate result (replicate (length self.now.sources) CellUnknown) }
     {
-        self.archives[archive].unwritten_rows()
+        self.archives.get(archive).unwritten_rows()
     }
 }

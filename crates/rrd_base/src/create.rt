@@ -1,10 +1,10 @@
 //! Making a database.
-ghost use Rattle.std.specs.Prelude.{◌≡◌, ◌*◌, nat_lt, not};
+ghost use Rattle.std.specs.Prelude.{◌≡◌, ◌*◌, ◌≤◌, nat_lt, not};
 ghost use Rattle.std.specs.List.{list_any};
 ghost use Rattle.std.specs.Result.{result_err};
 ghost use Rattle.rrd_fixed.specs.Names.{is_good};
 ghost use Rattle.rrd_spec.specs.Commands.Creating as creating;
-ghost use Rattle.rrd_spec.specs.Limits.{version_one};
+ghost use Rattle.rrd_spec.specs.Limits.{present};
 ghost use Rattle.rrd_spec.specs.Commands.Verdict as verdict;
 
 use crate::named::is_double;
@@ -27,7 +27,7 @@ pub fn check_create(spec: &CreateSpec) -> Result<(), Refusal>
 }
 
 fn check_first(spec: &CreateSpec) -> Result<(), Refusal>
-    ensures { result_err result ≡ verdict.first_refusal (creating.first_checks version_one spec.now) }
+    ensures { result_err result ≡ verdict.first_refusal (creating.first_checks present spec.now) }
 {
     if is_bad_step(spec.step) {
         return Err(Refusal::BadStep);
@@ -45,7 +45,7 @@ fn check_first(spec: &CreateSpec) -> Result<(), Refusal>
 }
 
 fn check_sources(sources: &[DsDef]) -> Result<(), Refusal>
-    ensures { result_err result ≡ verdict.first_refusal (creating.source_checks version_one sources.now) }
+    ensures { result_err result ≡ verdict.first_refusal (creating.source_checks present sources.now) }
 {
     if any_bad_name(sources) {
         return Err(Refusal::BadName);
@@ -63,7 +63,7 @@ fn check_sources(sources: &[DsDef]) -> Result<(), Refusal>
 }
 
 fn check_archives(archives: &[RraDef]) -> Result<(), Refusal>
-    ensures { result_err result ≡ verdict.first_refusal (creating.archive_checks version_one archives.now) }
+    ensures { result_err result ≡ verdict.first_refusal (creating.archive_checks present archives.now) }
 {
     if any_bad_xff(archives) {
         return Err(Refusal::BadXff);
@@ -78,7 +78,7 @@ fn check_archives(archives: &[RraDef]) -> Result<(), Refusal>
 }
 
 fn check_size(spec: &CreateSpec) -> Result<(), Refusal>
-    ensures { result_err result ≡ verdict.first_refusal (creating.size_checks version_one spec.now) }
+    ensures { result_err result ≡ verdict.first_refusal (creating.size_checks present spec.now) }
 {
     if is_too_large(spec) {
         return Err(Refusal::TooLarge);
@@ -91,14 +91,14 @@ fn check_size(spec: &CreateSpec) -> Result<(), Refusal>
 
 /// Whether a step is not 1 to 1,000,000 seconds.
 pub(crate) fn is_bad_step(seconds: u64) -> bool
-    ensures { result ≡ creating.is_bad_step version_one seconds }
+    ensures { result ≡ creating.is_bad_step present seconds }
 {
     seconds == 0 || seconds > LONGEST_STEP
 }
 
-/// Whether a journal's depth is not 1 to 1,000.
-pub(crate) fn is_bad_depth(depth: u64) -> bool
-    ensures { result ≡ creating.is_bad_depth version_one depth }
+/// Whether a journal's depth is not 1 to 100,000.
+fn is_bad_depth(depth: u64) -> bool
+    ensures { result ≡ creating.is_bad_depth present depth }
 {
     depth == 0 || depth > DEEPEST_JOURNAL
 }
@@ -112,7 +112,7 @@ fn any_bad_name(sources: &[DsDef]) -> bool
 }
 
 fn any_bad_heartbeat(sources: &[DsDef]) -> bool
-    ensures { result ≡ list_any (λ source. verdict.is_bad_heartbeat version_one source.heartbeat) sources.now }
+    ensures { result ≡ list_any (λ source. verdict.is_bad_heartbeat present source.heartbeat) sources.now }
 {
     sources
         .iter()
@@ -120,27 +120,27 @@ fn any_bad_heartbeat(sources: &[DsDef]) -> bool
 }
 
 fn any_bad_bounds(sources: &[DsDef]) -> bool
-    ensures { result ≡ list_any (verdict.has_bad_bounds version_one) sources.now }
+    ensures { result ≡ list_any (verdict.has_bad_bounds present) sources.now }
 {
     sources.iter().any(|source| has_bad_bounds(source))
 }
 
 /// Whether a heartbeat is not 1 to 9,999,999,999 seconds.
 pub(crate) fn is_bad_heartbeat(seconds: u64) -> bool
-    ensures { result ≡ verdict.is_bad_heartbeat version_one seconds }
+    ensures { result ≡ verdict.is_bad_heartbeat present seconds }
 {
     seconds == 0 || seconds > LONGEST_HEARTBEAT
 }
 
 /// Whether a bound is past the greatest rate, or the least is above the greatest.
 pub(crate) fn has_bad_bounds(source: &DsDef) -> bool
-    ensures { result ≡ verdict.has_bad_bounds version_one source.now }
+    ensures { result ≡ verdict.has_bad_bounds present source.now }
 {
     is_far(source.min) || is_far(source.max) || is_crossed(source.min, source.max)
 }
 
 fn is_far(bound: Option<i128>) -> bool
-    ensures { result ≡ verdict.is_far version_one bound }
+    ensures { result ≡ verdict.is_far present bound }
 {
     match bound {
         Some(bound) => bound.unsigned_abs() > GREATEST_BOUND,
@@ -160,40 +160,40 @@ fn is_crossed(min: Option<i128>, max: Option<i128>) -> bool
 // ---- the archives
 
 fn any_bad_xff(archives: &[RraDef]) -> bool
-    ensures { result ≡ list_any (λ archive. creating.is_bad_xff version_one archive.xff) archives.now }
+    ensures { result ≡ list_any (λ archive. creating.is_bad_xff present archive.xff) archives.now }
 {
     archives.iter().any(|archive| is_bad_xff(archive.xff))
 }
 
 fn any_bad_steps(archives: &[RraDef]) -> bool
-    ensures { result ≡ list_any (λ archive. creating.is_bad_steps version_one archive.steps) archives.now }
+    ensures { result ≡ list_any (λ archive. creating.is_bad_steps present archive.steps) archives.now }
 {
     archives.iter().any(|archive| is_bad_steps(archive.steps))
 }
 
 fn any_bad_rows(archives: &[RraDef]) -> bool
-    ensures { result ≡ list_any (λ archive. verdict.is_bad_rows version_one archive.rows) archives.now }
+    ensures { result ≡ list_any (λ archive. verdict.is_bad_rows present archive.rows) archives.now }
 {
     archives.iter().any(|archive| is_bad_rows(archive.rows))
 }
 
 /// Whether a share, in millionths, is not from 0 to below 1.
 pub(crate) fn is_bad_xff(xff: i128) -> bool
-    ensures { result ≡ creating.is_bad_xff version_one xff }
+    ensures { result ≡ creating.is_bad_xff present xff }
 {
     xff < 0 || xff > GREATEST_SHARE
 }
 
 /// Whether a number of steps in a row is not 1 to 1,000,000.
 pub(crate) fn is_bad_steps(steps: u64) -> bool
-    ensures { result ≡ creating.is_bad_steps version_one steps }
+    ensures { result ≡ creating.is_bad_steps present steps }
 {
     steps == 0 || steps > MOST_STEPS
 }
 
 /// Whether a number of rows is not 1 to 1,000,000.
 pub(crate) fn is_bad_rows(rows: u64) -> bool
-    ensures { result ≡ verdict.is_bad_rows version_one rows }
+    ensures { result ≡ verdict.is_bad_rows present rows }
 {
     rows == 0 || rows > MOST_ROWS
 }
@@ -202,18 +202,19 @@ pub(crate) fn is_bad_rows(rows: u64) -> bool
 
 // Whether there are too many sources, archives or cells.
 fn is_too_large(spec: &CreateSpec) -> bool
-    ensures { result ≡ creating.is_too_large version_one spec.now }
+    ensures { result ≡ creating.is_too_large present spec.now }
 {
     let sources = spec.sources.len();
     let archives = spec.archives.len();
     sources > MOST_SOURCES
         || archives > MOST_ARCHIVES
-        || has_too_many_cells(sources, all_rows(spec.archives.as_slice()))
+        || has_too_many_cells(MOST_CELLS, sources, all_rows(spec.archives.as_slice()))
 }
 
-/// Whether so many sources with so many rows have too many cells.
-pub(crate) fn has_too_many_cells(sources: usize, rows: u64) -> bool
-    ensures { result ≡ nat_lt version_one.most_cells (sources * rows) }
+/// Whether so many sources with so many rows have more cells than that.
+pub(crate) fn has_too_many_cells(most: u64, sources: usize, rows: u64) -> bool
+    requires { most ≤ present.most_cells }
+    ensures { result ≡ nat_lt most (sources * rows) }
 {
-    (sources as u64).saturating_mul(rows) > MOST_CELLS
+    (sources as u64).saturating_mul(rows) > most
 }

@@ -11,7 +11,7 @@ ghost use Rattle.rrd_base.specs.Fetch.{is_preferred, searched};
 ghost use Rattle.rrd_spec.specs.Choice as choice;
 ghost use Rattle.rrd_spec.specs.History.{definitions};
 ghost use Rattle.rrd_spec.specs.History.Cells.{cell_at, oldest, oldest_time};
-ghost use Rattle.rrd_spec.specs.Limits.{version_one};
+ghost use Rattle.rrd_spec.specs.Limits.{present};
 ghost use Rattle.rrd_spec.specs.Commands.Verdict.{first_refusal};
 
 use crate::content::Content;
@@ -46,11 +46,11 @@ impl Search {
     /// Begins with no archive, or refuses what can't be fetched of any database.
     pub(crate) fn begin(step: u64, last: u64, request: Request) -> Result<Search, Refusal>
         requires some_step { 0 < step }
-        requires small_step { step ≤ version_one.longest_step }
-        requires good_last { last ≤ version_one.latest_time }
+        requires small_step { step ≤ present.longest_step }
+        requires good_last { last ≤ present.latest_time }
         ensures { MatchResult result
             (λ search. search ≡ searched step last request [])
-            (λ refusal. (defs : List RraDef) → choice.choice_of version_one step last defs request ≡ Err refusal) }
+            (λ refusal. (defs : List RraDef) → choice.choice_of present step last defs request ≡ Err refusal) }
     {
         check_span(request)?;
         Ok(Search {
@@ -64,8 +64,8 @@ impl Search {
     /// Offers the next archive.
     pub(crate) fn offer(&mut self, number: u64, def: &RraDef)
         requires some_steps { 0 < def.now.steps }
-        requires few_steps { def.now.steps ≤ version_one.most_steps }
-        requires few_rows { def.now.rows ≤ version_one.most_rows }
+        requires few_steps { def.now.steps ≤ present.most_steps }
+        requires few_rows { def.now.rows ≤ present.most_rows }
         ensures { (step last : ℕ) (request : Request) (defs : List RraDef) →
             number ≡ length defs →
             self.old ≡ searched step last request defs →
@@ -88,7 +88,7 @@ impl Search {
     pub(crate) fn finish(&self) -> Result<Chosen, Refusal>
         ensures { (step last : ℕ) (request : Request) (defs : List RraDef) →
             self.now ≡ searched step last request defs →
-            result ≡ choice.choice_of version_one step last defs request }
+            result ≡ choice.choice_of present step last defs request }
     {
         let Some(best) = self.best else {
             return Err(Refusal::NoArchiveForFunction);
@@ -103,7 +103,7 @@ impl Search {
 
 // Whether a span can't be fetched of any database.
 fn check_span(request: Request) -> Result<(), Refusal>
-    ensures { result_err result ≡ first_refusal (choice.span_checks version_one request) }
+    ensures { result_err result ≡ first_refusal (choice.span_checks present request) }
 {
     if request.start > LATEST_TIME {
         return Err(Refusal::BadTime);
@@ -126,11 +126,11 @@ fn is_same_function(one: Function, other: Function) -> bool
 // What is judged of an archive.
 fn candidate(step: u64, last: u64, number: u64, def: &RraDef) -> Candidate
     requires some_step { 0 < step }
-    requires small_step { step ≤ version_one.longest_step }
-    requires good_last { last ≤ version_one.latest_time }
+    requires small_step { step ≤ present.longest_step }
+    requires good_last { last ≤ present.latest_time }
     requires some_steps { 0 < def.now.steps }
-    requires few_steps { def.now.steps ≤ version_one.most_steps }
-    requires few_rows { def.now.rows ≤ version_one.most_rows }
+    requires few_steps { def.now.steps ≤ present.most_steps }
+    requires few_rows { def.now.rows ≤ present.most_rows }
     ensures value { result ≡ choice.candidate step last (number, def.now) }
     ensures some_resolution { 0 < result.resolution }
     ensures small_resolution { result.resolution ≤ 10 ^ 12 }
@@ -182,7 +182,7 @@ fn span(request: Request, one: &Candidate) -> Chosen
     requires some_resolution { 0 < one.now.resolution }
     requires small_resolution { one.now.resolution ≤ 10 ^ 12 }
     requires in_order { request.start ≤ request.end }
-    requires good_end { request.end ≤ version_one.latest_time }
+    requires good_end { request.end ≤ present.latest_time }
     ensures value { result ≡ choice.span request one.now }
     ensures some { 0 < result.res }
     ensures in_order { result.lo ≤ result.hi }
@@ -200,10 +200,10 @@ impl Content {
     /// Which archive a fetch reads, and which of its rows.
     pub(crate) fn choose(&self, request: Request) -> Result<Chosen, Refusal>
         ensures { result
-            ≡ choice.choice_of version_one self.now.step self.now.last (definitions self.now.archives) request }
+            ≡ choice.choice_of present self.now.step self.now.last (definitions self.now.archives) request }
     {
         let mut search = Search::begin(self.step, self.last, request)?;
-        for (number, rra) in self.archives.iter().enumerate() {
+        for (number, rra) in self.archives.as_slice().iter().enumerate() {
             search.offer(number as u64, &rra.def());
         }
         search.finish()
@@ -213,9 +213,10 @@ impl Content {
     pub(crate) fn first(&self, archive: u64) -> Result<i64, Refusal>
         ensures { result ≡ oldest_time self.now archive }
     {
-        let Some(rra) = self.archives.get(archive as usize) else {
+        if archive >= self.archives.len() as u64 {
             return Err(Refusal::NoSuchArchive);
-        };
+        }
+        let rra = self.archives.get(archive as usize);
         Ok(oldest(self.step, self.last, &rra.def()))
     }
 
@@ -229,7 +230,7 @@ impl Content {
         ensures none { IfNone result ((source : ℕ) → source < length self.now.sources
             → cell_at self.now archive time source ≡ Unknown) }
     {
-        let rra = &self.archives[archive];
+        let rra = self.archives.get(archive);
         let resolution = rra.def().resolution(self.step);
         rra.row_of_age(age(self.last, resolution, time))
     }
@@ -248,12 +249,12 @@ fn age(last: u64, resolution: u64, time: i64) -> i128
 /// The time of an archive's oldest row.
 fn oldest(step: u64, last: u64, def: &RraDef) -> i64
     requires some_step { 0 < step }
-    requires small_step { step ≤ version_one.longest_step }
-    requires good_last { last ≤ version_one.latest_time }
+    requires small_step { step ≤ present.longest_step }
+    requires good_last { last ≤ present.latest_time }
     requires some_steps { 0 < def.now.steps }
-    requires few_steps { def.now.steps ≤ version_one.most_steps }
+    requires few_steps { def.now.steps ≤ present.most_steps }
     requires some_rows { 0 < def.now.rows }
-    requires few_rows { def.now.rows ≤ version_one.most_rows }
+    requires few_rows { def.now.rows ≤ present.most_rows }
     ensures { result ≡ oldest step last def.now }
 {
     let resolution = def.resolution(step);

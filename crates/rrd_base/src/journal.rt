@@ -4,11 +4,12 @@ ghost use Rattle.std.specs.List.{AllByRecursion};
 ghost use Rattle.rrd_base.specs.Journal.{CanUndo, entry_of};
 ghost use Rattle.rrd_ring.specs.Rows.{HasWidth};
 ghost use Rattle.rrd_spec.specs.Journal.Entries.{SavedArchive as Saved, cells_saved, undone};
-ghost use Rattle.rrd_spec.specs.Limits.{version_one};
+ghost use Rattle.rrd_spec.specs.Limits.{present};
 ghost use Rattle.rrd_spec.specs.Validity.{IsValid};
 
 use crate::SourceBefore;
 use crate::content::Content;
+use crate::rra::Rra;
 use arrayvec::ArrayVec;
 use rrd_fixed::Raw;
 use rrd_fold::StepPrep;
@@ -31,7 +32,7 @@ pub struct BeforeUpdate {
     pub archives: Vec<SavedArchive>,
 }
 
-/// A journal entry: what an update, a tune or a resize replaced.
+/// A journal entry: what an update, a tune or a resize replaced, or which archive came or went.
 #[derive(Drop)]
 pub enum Entry {
     /// What was before an update.
@@ -40,12 +41,16 @@ pub enum Entry {
     Tune(ArrayVec<SourceBefore, 5>),
     /// The number of an archive that was resized, and its rows before.
     Resize { archive: u64, old: Archive },
+    /// An archive was added, as the last one.
+    Added,
+    /// The number of an archive that was removed, and the archive as it was.
+    Removed { archive: u64, old: Rra },
 }
 
 /// How many cells are kept of all archives, so many sources having been defined.
 pub(crate) fn count_cells(archives: &[SavedArchive], sources: u64) -> u64
-    requires few_archives { length archives.now ≤ version_one.most_archives }
-    requires few_sources { sources ≤ version_one.most_sources }
+    requires few_archives { length archives.now ≤ present.most_archives }
+    requires few_sources { sources ≤ present.most_sources }
     requires one_each { AllByRecursion (λ (old : Saved). HasWidth sources old.rows) archives.now }
     ensures { result ≡ cells_saved archives.now }
 {
@@ -67,6 +72,8 @@ impl Content {
             Entry::Update(before) => self.undo_update(before),
             Entry::Tune(olds) => self.undo_tune(&olds),
             Entry::Resize { archive, old } => self.undo_resize(archive as usize, old),
+            Entry::Added => self.undo_added(),
+            Entry::Removed { archive, old } => self.undo_removed(archive as usize, old),
         }
     }
 }

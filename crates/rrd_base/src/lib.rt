@@ -1,6 +1,7 @@
 //! A round-robin database of many data sources and archives, with a journal of what its changes replaced.
 #![tactic(auto)]
 
+mod archives;
 mod content;
 mod create;
 mod database;
@@ -19,7 +20,8 @@ pub use create::check_create;
 pub use database::Database;
 pub use journal::{BeforeUpdate, Entry, SavedArchive};
 pub use rebuild::{PieceFault, Rebuild, is_bounded, is_source};
+pub use rra::Rra;
 pub use rrd_spec::{
-    Change, Chosen, CreateSpec, DsDef, Due, Given, List, Outline, Receipt, Refusal, RraDef, Sample,
-    SourceBefore, Tuning, Update,
+    ArchiveList, ArchiveTune, Change, Chosen, CreateSpec, DsDef, Due, Given, List, Outline,
+    Receipt, Refusal, RraDef, Sample, SourceBefore, Tuning, Update, Version,
 };

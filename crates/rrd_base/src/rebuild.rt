@@ -6,30 +6,30 @@ ghost use Rattle.rrd_fold.specs.declared.function.Function.TheVariants.{Average}
 ghost use Rattle.rrd_base.specs.declared.rebuild.PieceFault.TheVariants.{Bad};
 ghost use Rattle.rrd_spec.specs.declared.due.Due.TheVariants.{EntryDue, NothingDue};
 ghost use Rattle.rrd_spec.specs.declared.settings.RraDef.{RraDef};
-ghost use Rattle.rrd_spec.specs.Files.Filed.{Header, One, Source, filed};
+ghost use Rattle.rrd_spec.specs.Files.Filed.{Header, Source, filed};
 ghost use Rattle.rrd_spec.specs.Files.Rebuilding.{IsHeader, IsRowPart, MayCell, MayEntry, MayHead, MayPrep, MaySource, begun, due, limits, outline_left, unprepared, with_cell, with_entry, with_head, with_prep, with_source};
 ghost use Rattle.rrd_spec.specs.Journal.Entries.{rows_between};
-ghost use Rattle.rrd_spec.specs.Journal.Fitting.{AreOldRows};
-ghost use Rattle.rrd_spec.specs.Limits.{version_one};
-ghost use Rattle.rrd_spec.specs.Validity.{IsPart, IsValidDatabase};
+ghost use Rattle.rrd_spec.specs.Journal.Fitting.{AreOldRows, AreRemovedSettings, IsRemovedNumber};
+ghost use Rattle.rrd_spec.specs.Limits.{present};
+ghost use Rattle.rrd_spec.specs.Validity.{IsPart, IsValidDatabaseWithin};
 
 use crate::content::Content;
-use crate::create::{has_too_many_cells, is_bad_depth, is_bad_step};
+use crate::create::{has_too_many_cells, is_bad_step};
 use crate::journal::Entry;
 use crate::named::has_source;
 use crate::rows::{all_rows, rows_between};
 use crate::rra::Rra;
-use crate::{Database, DsDef, Due, List, Outline, RraDef};
+use crate::{ArchiveList, Database, DsDef, Due, List, Outline, RraDef};
 use circular_buffer::HeapCircularBuffer;
 use cursor::Cursor;
-use entry_checks::{had_rows, may_undo};
+use entry_checks::{had_number, had_rows, had_settings, may_undo};
 use outline::undo;
 use piece_checks::{is_archive, is_part};
 use preparations::{made_row, made_step};
 use rrd_fixed::{Cell, Raw};
 use rrd_fold::{Function, RowPrep, StepPrep};
-use rrd_spec::laws;
-use rrd_spec::limits::{LATEST_TIME, MOST_ARCHIVES, MOST_SOURCES};
+use rrd_spec::limits::{LATEST_TIME, MOST_SOURCES};
+use rrd_spec::{Version, laws};
 use std::alloc::{AllocError, Global};
 use std::marker::Model;
 
@@ -54,6 +54,7 @@ pub enum PieceFault {
 #[derive(Drop)]
 pub struct Rebuild {
     alloc: Global,
+    version: Version,
     step: u64,
     last: u64,
     depth: u64,
@@ -64,7 +65,7 @@ pub struct Rebuild {
     sources: Vec<DsDef>,
     raws: Vec<Raw>,
     preps: Vec<StepPrep>,
-    archives: Vec<Rra>,
+    archives: ArchiveList<Rra>,
     cursor: Cursor,
     journal: HeapCircularBuffer<Entry>,
     // Once the entries that came have been undone.
@@ -83,11 +84,13 @@ impl Model for Rebuild {
 }
 
 impl Rebuild {
-    /// Begins with a header: seconds in a step (1 to 1,000,000), the last time (seconds since 1970, up
-    /// to 9,999,999,999), the journal's depth (1 to 1,000), and how many sources (1 to 64), archives
-    /// (1 to 64) and entries (at most the depth) will come. Bad where a number is none of these.
+    /// Begins with a header: the version, to whose limits all pieces are held, seconds in a step (1 to
+    /// 1,000,000), the last time (seconds since 1970, up to 9,999,999,999), the journal's depth (1 to
+    /// 100,000, in the first version 1,000), and how many sources (1 to 64), archives (1 to 128, in the
+    /// first version 64) and entries (at most the depth) will come. Bad where a number is none of these.
     pub fn begin(
         alloc: Global,
+        version: Version,
         step: u64,
         last: u64,
         depth: u64,
@@ -96,7 +99,7 @@ impl Rebuild {
         entries: u64,
     ) -> Result<Rebuild, PieceFault>
         ensures ok { let header : Header = record {
-          version = One;
+          version = version;
           step = step;
           last = last;
           depth = depth;
@@ -105,7 +108,7 @@ impl Rebuild {
           entries = entries;
         } in IfOk result (λ r. IsHeader header × (r ≡ begun header)) }
         ensures bad { let header : Header = record {
-          version = One;
+          version = version;
           step = step;
           last = last;
           depth = depth;
@@ -114,20 +117,30 @@ impl Rebuild {
           entries = entries;
         } in IfErr result (λ e. e ≡ Bad → IsHeader header → ⊥) }
     {
-        if is_bad_step(step) || last > LATEST_TIME || is_bad_depth(depth) || entries > depth {
+        if is_bad_step(step) || last > LATEST_TIME {
+            return Err(PieceFault::Bad);
+        }
+        if depth == 0 || depth > version.deepest_journal() || entries > depth {
             return Err(PieceFault::Bad);
         }
         if sources == 0 || sources > MOST_SOURCES as u64 {
             return Err(PieceFault::Bad);
         }
-        if archives == 0 || archives > MOST_ARCHIVES as u64 {
+        if archives == 0 || archives > version.most_archives() as u64 {
             return Err(PieceFault::Bad);
         }
         let Ok(journal) = HeapCircularBuffer::with_capacity(alloc, depth as usize) else {
             return Err(PieceFault::OutOfMemory);
         };
+        let Ok(rras) = ArchiveList::new(alloc) else {
+            return Err(PieceFault::OutOfMemory);
+        };
+        let Ok(defs) = ArchiveList::new(alloc) else {
+            return Err(PieceFault::OutOfMemory);
+        };
         Ok(Rebuild {
             alloc,
+            version,
             step,
             last,
             depth,
@@ -137,13 +150,13 @@ impl Rebuild {
             sources: Vec::new(alloc),
             raws: Vec::new(alloc),
             preps: Vec::new(alloc),
-            archives: Vec::new(alloc),
+            archives: rras,
             cursor: Cursor::new(),
             journal,
             outline: Outline {
                 last,
                 sources: List::new(alloc),
-                archives: List::new(alloc),
+                archives: defs,
             },
         })
     }
@@ -156,7 +169,7 @@ impl Rebuild {
         if archives == 0 {
             return None;
         }
-        let rra = &self.archives[archives - 1];
+        let rra = self.archives.get(archives - 1);
         if (rra.prep_count() as u64) < self.sources_due {
             return Some(rra.def());
         }
@@ -257,13 +270,13 @@ impl Rebuild {
         if !is_archive(def) {
             return false;
         }
-        let rows = all_rows(&self.archives) + def.rows;
-        !has_too_many_cells(self.sources_due as usize, rows)
+        let rows = all_rows(self.archives.as_slice()) + def.rows;
+        !has_too_many_cells(self.version.most_cells(), self.sources_due as usize, rows)
     }
 
     /// Takes the next archive's settings. Bad where another piece is due or a rule is broken;
     /// refused, it changes nothing. It takes memory for the archive's rows once its settings are good
-    /// and all cells are at most 4,000,000.
+    /// and all cells are at most 8,000,000, in the first version 4,000,000.
     pub fn archive(&mut self, def: RraDef) -> Result<(), PieceFault>
         ensures ok { OnOk result (MayHead self.old def × (self.new ≡ with_head self.old def)) }
         ensures bad { IfErr result (λ e. e ≡ Bad → MayHead self.old def → ⊥) }
@@ -275,9 +288,8 @@ impl Rebuild {
         let Ok(rra) = Rra::begin(self.alloc, def, self.sources_due) else {
             return Err(PieceFault::OutOfMemory);
         };
-        let Ok(()) = push_archive(&mut self.archives, &mut self.outline.archives, rra, def) else {
-            return Err(PieceFault::OutOfMemory);
-        };
+        self.archives.push(rra);
+        self.outline.archives.push(def);
         Ok(())
     }
 
@@ -306,9 +318,9 @@ impl Rebuild {
             return Err(PieceFault::Bad);
         }
         let last = self.archives.len() - 1;
-        let function = self.archives[last].def().function;
+        let function = self.archives.get(last).def().function;
         let prep = made_row(function, known, value);
-        let Ok(()) = self.archives[last].push_prep(prep) else {
+        let Ok(()) = self.archives.get_mut(last).push_prep(prep) else {
             return Err(PieceFault::OutOfMemory);
         };
         Ok(())
@@ -339,7 +351,7 @@ impl Rebuild {
         if !self.may_cell(cell) {
             return Err(PieceFault::Bad);
         }
-        let rra = &mut self.archives[self.cursor.archive];
+        let rra = self.archives.get_mut(self.cursor.archive);
         let def = rra.def();
         let place = self.cursor.place(&def, self.step, self.last);
         rra.put(place, self.cursor.source, cell);
@@ -350,22 +362,22 @@ impl Rebuild {
 
     // ---- what the pieces of the next entry are judged by, before there is an entry
 
-    /// How many entries came, at most 1,000.
+    /// How many entries came, at most 100,000.
     pub fn entries(&self) -> u64
         ensures count { result ≡ length self.now.entries }
-        ensures few { result ≤ version_one.deepest_journal }
+        ensures few { result ≤ present.deepest_journal }
     {
         self.journal.len() as u64
     }
 
-    // The settings of an archive, once the entries that came have been undone.
-    fn archive_left(&self, archive: usize) -> &RraDef
+    /// The settings of an archive, once the entries that came have been undone.
+    pub fn archive_left(&self, archive: usize) -> &RraDef
         requires is_due { due self.now ≡ EntryDue }
         requires there { archive < length (outline_left self.now).archives }
         ensures value { slice_get (outline_left self.now).archives archive ≡ Some result.now }
         ensures some_steps { 0 < result.now.steps }
-        ensures few_steps { result.now.steps ≤ version_one.most_steps }
-        ensures few_rows { result.now.rows ≤ version_one.most_rows }
+        ensures few_steps { result.now.steps ≤ present.most_steps }
+        ensures few_rows { result.now.rows ≤ present.most_rows }
     {
         laws::cells_stand_in_slots();
         laws::journals_in_pieces();
@@ -378,7 +390,7 @@ impl Rebuild {
         requires { due self.now ≡ EntryDue }
         ensures count { result ≡ length (outline_left self.now).sources }
         ensures some { 0 < result }
-        ensures few { result ≤ version_one.most_sources }
+        ensures few { result ≤ present.most_sources }
     {
         laws::cells_stand_in_slots();
         laws::journals_in_pieces();
@@ -400,18 +412,17 @@ impl Rebuild {
         Some(made_step(known, sum))
     }
 
-    /// The preparation of an unfinished row of an archive at a time, in seconds since 1970: how many
-    /// steps are known, and what they come to in millionths. None where no preparation can be this.
-    pub fn row_part(&self, last: u64, archive: usize, known: u64, value: i128) -> Option<RowPrep>
-        requires is_due { due self.now ≡ EntryDue }
-        requires there { archive < length (outline_left self.now).archives }
-        ensures some { (def : RraDef) → slice_get (outline_left self.now).archives archive ≡ Some def
-            → IfSome result (λ prep. IsRowPart self.now.header.step last def prep.part
-            × (prep ≡ record { function = def.function; part = record { known = known; value = value } })) }
-        ensures none { (def : RraDef) → slice_get (outline_left self.now).archives archive ≡ Some def
-            → result ≡ None → IsRowPart self.now.header.step last def (record { known = known; value = value }) → ⊥ }
+    /// The preparation of an unfinished row of an archive of these settings at a time, in seconds since
+    /// 1970: how many steps are known, and what they come to in millionths. None where no preparation can
+    /// be this.
+    pub fn row_part(&self, last: u64, def: &RraDef, known: u64, value: i128) -> Option<RowPrep>
+        requires some_steps { 0 < def.now.steps }
+        requires few_steps { def.now.steps ≤ present.most_steps }
+        ensures some { IfSome result (λ prep. IsRowPart self.now.header.step last def.now prep.part
+            × (prep ≡ record { function = def.now.function; part = record { known = known; value = value } })) }
+        ensures none { result ≡ None
+            → IsRowPart self.now.header.step last def.now (record { known = known; value = value }) → ⊥ }
     {
-        let def = self.archive_left(archive);
         let passed = last / self.step % def.steps;
         if !is_part(def.function, passed, known, value) {
             return None;
@@ -427,7 +438,7 @@ impl Rebuild {
         requires earlier { last < (outline_left self.now).last }
         ensures value { (def : RraDef) → slice_get (outline_left self.now).archives archive ≡ Some def
             → result ≡ min (rows_between self.now.header.step def last (outline_left self.now).last) def.rows }
-        ensures few { result ≤ version_one.most_rows }
+        ensures few { result ≤ present.most_rows }
     {
         let def = self.archive_left(archive);
         rows_between(def, self.step, last, self.outline.last).min(def.rows)
@@ -443,7 +454,34 @@ impl Rebuild {
         laws::cells_stand_in_slots();
         laws::journals_in_pieces();
         laws::outlines_follow();
-        had_rows(&self.outline, archive, rows)
+        had_rows(self.version, &self.outline, archive, rows)
+    }
+
+    /// Whether the file's version lets archives come and go.
+    pub fn archives_come_and_go(&self) -> bool
+        ensures { result ≡ (limits self.now).archives_come_and_go }
+    {
+        self.version.archives_come_and_go()
+    }
+
+    /// Whether a removed archive can have had this number: there is a place for it.
+    pub fn is_removed_number(&self, number: u64) -> bool
+        ensures good { result ≡ true → IsRemovedNumber (limits self.now) (outline_left self.now) number }
+        ensures bad { IsRemovedNumber (limits self.now) (outline_left self.now) number → result ≡ true }
+    {
+        had_number(self.version, &self.outline, number)
+    }
+
+    /// Whether a removed archive can have had these settings.
+    pub fn are_removed_settings(&self, def: &RraDef) -> bool
+        requires { due self.now ≡ EntryDue }
+        ensures good { result ≡ true → AreRemovedSettings (limits self.now) (outline_left self.now) def.now }
+        ensures bad { AreRemovedSettings (limits self.now) (outline_left self.now) def.now → result ≡ true }
+    {
+        laws::cells_stand_in_slots();
+        laws::journals_in_pieces();
+        laws::outlines_follow();
+        had_settings(self.version, &self.outline, def)
     }
 
     // ---- entries
@@ -459,7 +497,7 @@ impl Rebuild {
         let Due::EntryDue = self.due() else {
             return false;
         };
-        may_undo(self.step, &self.outline, entry)
+        may_undo(self.version, self.step, &self.outline, entry)
     }
 
     /// Takes the next entry, newest first. Bad where another piece is due or it doesn't fit the
@@ -486,9 +524,10 @@ impl Rebuild {
     /// The database, once all announced pieces came. It takes no memory.
     pub fn finish(self) -> Database
         requires { due self ≡ NothingDue }
-        ensures filed { filed One result ≡ self }
-        ensures valid { IsValidDatabase result.content result.journal }
+        ensures filed { filed self.header.version result ≡ self }
+        ensures valid { IsValidDatabaseWithin (limits self) result.content result.journal }
     {
+        laws::versions_stay_within();
         let Rebuild {
             step,
             last,
@@ -539,22 +578,5 @@ fn push_source(
     sources.push_reserved(def);
     raws.push_reserved(raw);
     preps.push_reserved(prep);
-    Ok(())
-}
-
-// Takes an archive, and its settings once more; both or none.
-fn push_archive(
-    archives: &mut Vec<Rra>,
-    defs: &mut List<RraDef>,
-    rra: Rra,
-    def: RraDef,
-) -> Result<(), AllocError>
-    ensures ok { OnOk result ((archives.new.items ≡ archives.old.items ++ rra ∷ [])
-        × (defs.new ≡ defs.old ++ def ∷ [])) }
-    ensures err { OnErr result ((archives.new.items ≡ archives.old.items) × (defs.new ≡ defs.old)) }
-{
-    archives.reserve(1)?;
-    defs.push(def)?;
-    archives.push_reserved(rra);
     Ok(())
 }

@@ -6,7 +6,7 @@ ghost use Rattle.rrd_ring.specs.Rows.{newest_rows};
 ghost use Rattle.rrd_spec.specs.Commands.{Resizing, all_rows_after, rows_changed, rows_of_archives};
 ghost use Rattle.rrd_spec.specs.History.{Resized};
 ghost use Rattle.rrd_spec.specs.Journal.Entries.{ResizeEntry, rows_at, undone, with_rows_at};
-ghost use Rattle.rrd_spec.specs.Limits.{version_one};
+ghost use Rattle.rrd_spec.specs.Limits.{present};
 ghost use Rattle.rrd_base.specs.Resize.{HasFewRows, settings};
 ghost use Rattle.rrd_spec.specs.Commands.Verdict as verdict;
 ghost use Rattle.rrd_spec.specs.Validity.{IsValid};
@@ -18,14 +18,14 @@ use crate::rra::Rra;
 use crate::{Change, DsDef, Refusal};
 use rrd_ring::Archive;
 use rrd_spec::laws;
-use rrd_spec::limits::MOST_ROWS;
+use rrd_spec::limits::{MOST_CELLS, MOST_ROWS};
 use std::alloc::{AllocError, Global};
 
 // Whether the archive would have too many rows.
 fn grows_too_far(change: Change, old: u64, rows: u64) -> bool
-    requires small { old ≤ version_one.most_rows }
-    requires few { rows ≤ version_one.most_rows }
-    ensures { result ≡ verdict.grows_too_far version_one change old rows }
+    requires small { old ≤ present.most_rows }
+    requires few { rows ≤ present.most_rows }
+    ensures { result ≡ verdict.grows_too_far present change old rows }
 {
     match change {
         Change::Grow => old + rows > MOST_ROWS,
@@ -45,8 +45,8 @@ fn shrinks_too_far(change: Change, old: u64, rows: u64) -> bool
 
 // How many rows the archive would have.
 fn rows_changed(change: Change, old: u64, rows: u64) -> u64
-    requires small { old ≤ version_one.most_rows }
-    requires few { rows ≤ version_one.most_rows }
+    requires small { old ≤ present.most_rows }
+    requires few { rows ≤ present.most_rows }
     ensures { result ≡ rows_changed change old rows }
 {
     match change {
@@ -59,13 +59,13 @@ fn rows_changed(change: Change, old: u64, rows: u64) -> u64
 fn all_rows_then(archives: &[Rra], index: usize, change: Change, rows: u64) -> u64
     requires there { index < length archives.now }
     requires few_rows { AllByRecursion HasFewRows archives.now }
-    requires few_archives { length archives.now ≤ version_one.most_archives }
-    requires few { rows ≤ version_one.most_rows }
+    requires few_archives { length archives.now ≤ present.most_archives }
+    requires few { rows ≤ present.most_rows }
     ensures rows { result ≡ sum
         (all_rows_after (Resized index (rows_changed change (slice_index_or
         (rows_of_archives archives.now) index 0) rows))
         (rows_of_archives archives.now)) }
-    ensures few { result ≤ 66000000 }
+    ensures few { result ≤ 130000000 }
 {
     let old = archives[index].def().rows;
     all_rows(archives) - old + rows_changed(change, old, rows)
@@ -79,11 +79,11 @@ fn check_resize(
     change: Change,
     rows: u64,
 ) -> Result<(), Refusal>
-    requires few_sources { length sources.now ≤ version_one.most_sources }
+    requires few_sources { length sources.now ≤ present.most_sources }
     requires few_rows { AllByRecursion HasFewRows archives.now }
-    requires few { length archives.now ≤ version_one.most_archives }
+    requires few { length archives.now ≤ present.most_archives }
     ensures { result_err result ≡ verdict.first_refusal
-        (verdict.resize_checks version_one (settings sources.now archives.now) index change rows) }
+        (verdict.resize_checks present (settings sources.now archives.now) index change rows) }
 {
     if index >= archives.len() as u64 {
         return Err(Refusal::NoSuchArchive);
@@ -96,7 +96,7 @@ fn check_resize(
         return Err(Refusal::ShrinkTooFar);
     }
     let all = all_rows_then(archives, index as usize, change, rows);
-    if has_too_many_cells(sources.len(), all) {
+    if has_too_many_cells(MOST_CELLS, sources.len(), all) {
         return Err(Refusal::TooLarge);
     }
     Ok(())
@@ -112,7 +112,13 @@ impl Content {
     ) -> Result<(), Refusal>
         ensures { result_err result ≡ verdict.verdict self.now (Resizing archive change rows) }
     {
-        check_resize(&self.sources, &self.archives, archive, change, rows)
+        check_resize(
+            &self.sources,
+            self.archives.as_slice(),
+            archive,
+            change,
+            rows,
+        )
     }
 
     /// The rows that an archive has after an accepted resize.
@@ -129,7 +135,7 @@ impl Content {
             (rows_at self.now.archives archive)) }
     {
         laws::resize_changes_rows();
-        let rra = &self.archives[archive];
+        let rra = self.archives.get(archive);
         rra.resized(alloc, rows_changed(change, rra.def().rows, rows))
     }
 
@@ -140,7 +146,7 @@ impl Content {
         ensures content { self.new ≡ record self.old { archives = with_rows_at self.old.archives archive rows } }
         ensures old { result ≡ rows_at self.old.archives archive }
     {
-        self.archives[archive].swap_rows(&mut rows);
+        self.archives.get_mut(archive).swap_rows(&mut rows);
         rows
     }
 
@@ -150,6 +156,6 @@ impl Content {
         requires valid { IsValid (undone self.old (ResizeEntry archive old)) }
         ensures { self.new ≡ undone self.old (ResizeEntry archive old) }
     {
-        self.archives[archive].swap_rows(&mut old);
+        self.archives.get_mut(archive).swap_rows(&mut old);
     }
 }

@@ -1,7 +1,7 @@
 //! Numbers of rows: those of all archives, and those that end between two times.
 ghost use Rattle.std.specs.Prelude.{◌≡◌, ℕ, ◌-◌, ◌<◌, ◌^◌, ◌≤◌, map, min, sum};
 ghost use Rattle.rrd_spec.specs.Journal.Entries.{rows_between};
-ghost use Rattle.rrd_spec.specs.Limits.{version_one};
+ghost use Rattle.rrd_spec.specs.Limits.{present};
 
 use crate::RraDef;
 
@@ -37,9 +37,9 @@ pub(crate) fn all_rows<T: HasRows>(archives: &[T]) -> u64
 /// How many rows of an archive end after one time and up to another, in steps of so many seconds.
 pub(crate) fn rows_between(def: &RraDef, step: u64, from: u64, to: u64) -> u64
     requires some_step { 0 < step }
-    requires small_step { step ≤ version_one.longest_step }
+    requires small_step { step ≤ present.longest_step }
     requires some_steps { 0 < def.now.steps }
-    requires few_steps { def.now.steps ≤ version_one.most_steps }
+    requires few_steps { def.now.steps ≤ present.most_steps }
     ensures { result ≡ rows_between step def.now from to }
 {
     let resolution = def.resolution(step);

@@ -7,7 +7,7 @@ ghost use Rattle.rrd_fold.specs.Bounds.{most_known};
 ghost use Rattle.rrd_fold.specs.Parts.{Part, nothing, row_cell, with_each};
 ghost use Rattle.rrd_ring.specs.Rows.{HasWidth, newest_rows, row_at, unknown_rows, width};
 ghost use Rattle.rrd_spec.specs.Journal.Entries.{put_back as after_put_back, saved};
-ghost use Rattle.rrd_spec.specs.Limits.{version_one};
+ghost use Rattle.rrd_spec.specs.Limits.{present};
 ghost use Rattle.rrd_spec.specs.Commands.Creating.{new_archive};
 ghost use Rattle.rrd_spec.specs.Preparations.{AllOf, parts_in};
 ghost use Rattle.rrd_spec.specs.Laws.ListedContent.{keep_last};
@@ -21,7 +21,7 @@ ghost use Rattle.rrd_spec.specs.Validity.{IsRow, IsValidArchive};
 use crate::rows::{HasRows, rows_between};
 use crate::walk::Steps;
 use crate::walk::preparations::{add_steps, close_rows};
-use crate::{RraDef, SavedArchive};
+use crate::{ArchiveList, RraDef, SavedArchive};
 use rrd_fixed::{Cell, Meter};
 use rrd_fold::RowPrep;
 use rrd_ring::Archive;
@@ -30,9 +30,9 @@ use std::alloc::{AllocError, Global};
 use std::marker::Model;
 
 /// An archive: its settings, for each source the preparation of its unfinished row, and its rows,
-/// oldest first.
+/// oldest first. The journal keeps one as a whole once it is removed.
 #[derive(Drop)]
-pub(crate) struct Rra {
+pub struct Rra {
     def: RraDef,
     preps: Vec<RowPrep>,
     rows: Archive,
@@ -58,12 +58,21 @@ impl HasRows for Rra {
 }
 
 impl Rra {
+    /// The archive of these settings, these preparations, one for each source and each of its function, and
+    /// these rows.
+    pub fn of(def: RraDef, preps: Vec<RowPrep>, rows: Archive) -> Rra
+        requires { AllOf def.function preps.items }
+        ensures { result ≡ record { def = def; parts = parts_in preps.items; rows = rows } }
+    {
+        Rra { def, preps, rows }
+    }
+
     /// An archive without steps, so many sources having been defined: all its rows are unknown.
     pub(crate) fn new(alloc: Global, def: RraDef, sources: u64) -> Result<Rra, AllocError>
         requires some_rows { 0 < def.rows }
-        requires few_rows { def.rows ≤ version_one.most_rows }
+        requires few_rows { def.rows ≤ present.most_rows }
         requires some_sources { 0 < sources }
-        requires few_sources { sources ≤ version_one.most_sources }
+        requires few_sources { sources ≤ present.most_sources }
         ensures { IfOk result (λ s. s
             ≡ record {
               def = def;
@@ -80,9 +89,9 @@ impl Rra {
     /// are unknown.
     pub(crate) fn begin(alloc: Global, def: RraDef, sources: u64) -> Result<Rra, AllocError>
         requires some_rows { 0 < def.rows }
-        requires few_rows { def.rows ≤ version_one.most_rows }
+        requires few_rows { def.rows ≤ present.most_rows }
         requires some_sources { 0 < sources }
-        requires few_sources { sources ≤ version_one.most_sources }
+        requires few_sources { sources ≤ present.most_sources }
         ensures { IfOk result (λ s. s
             ≡ record { def = def; parts = []; rows = replicate def.rows (replicate sources Unknown) }) }
     {
@@ -122,7 +131,7 @@ impl Rra {
     }
 
     /// The settings.
-    pub(crate) fn def(&self) -> RraDef
+    pub fn def(&self) -> RraDef
         ensures { result ≡ self.now.def }
     {
         self.def
@@ -163,6 +172,21 @@ impl Rra {
         Some(self.row(rows - 1 - age as u64))
     }
 
+    /// For each data source the preparation of its unfinished row.
+    pub fn preps(&self) -> &[RowPrep]
+        ensures parts { parts_in result.now ≡ self.now.parts }
+        ensures function { AllOf self.now.def.function result.now }
+    {
+        self.preps.as_slice()
+    }
+
+    /// The rows with their cells.
+    pub fn archive(&self) -> &Archive
+        ensures { result.now ≡ self.now.rows }
+    {
+        &self.rows
+    }
+
     /// The preparation of a source's unfinished row.
     pub(crate) fn prep(&self, source: usize) -> RowPrep
         requires { source < length self.now.parts }
@@ -190,9 +214,9 @@ impl Rra {
     fn close_row(&mut self, row: &mut [Cell], meter: &mut Meter)
         requires places { length row.old ≡ length self.old.parts }
         requires some_steps { 0 < self.old.def.steps }
-        requires few_steps { self.old.def.steps ≤ version_one.most_steps }
+        requires few_steps { self.old.def.steps ≤ present.most_steps }
         requires xff_low { pos 0 ≤ℤ self.old.def.xff }
-        requires xff_high { self.old.def.xff ≤ℤ pos version_one.greatest_share }
+        requires xff_high { self.old.def.xff ≤ℤ pos present.greatest_share }
         requires fits { AllByRecursion (λ (p : Part). p.known ≤ self.old.def.steps) self.old.parts }
         requires turns { meter.old + length row.old < 2 ^ 64 }
         ensures cells { let def = self.old.def in
@@ -273,7 +297,7 @@ impl Rra {
     ) -> Result<SavedArchive, AllocError>
         requires stepped { IsStepped self.now }
         requires some_step { 0 < step }
-        requires small_step { step ≤ version_one.longest_step }
+        requires small_step { step ≤ present.longest_step }
         ensures { IfOk result (λ s. s ≡ saved step from to self.now) }
     {
         let ended = rows_between(&self.def, step, from, to);
@@ -294,7 +318,7 @@ impl Rra {
     /// (rrdresize).
     pub(crate) fn resized(&self, alloc: Global, rows: u64) -> Result<Archive, AllocError>
         requires some_rows { 0 < rows }
-        requires few_rows { rows ≤ version_one.most_rows }
+        requires few_rows { rows ≤ present.most_rows }
         ensures { IfOk result (λ new. new ≡ newest_rows rows self.now.rows) }
     {
         self.rows.resized(alloc, rows)
@@ -342,15 +366,20 @@ fn push_times(rows: &mut Archive, row: &[Cell], times: u64, meter: &mut Meter)
 }
 
 /// New archives of these settings, so many sources having been defined.
-pub(crate) fn new_all(alloc: Global, defs: &[RraDef], sources: u64) -> Result<Vec<Rra>, AllocError>
-    requires rows { AllByRecursion (λ def. (0 < def.rows) × (def.rows ≤ version_one.most_rows)) defs.now }
+pub(crate) fn new_all(
+    alloc: Global,
+    defs: &[RraDef],
+    sources: u64,
+) -> Result<ArchiveList<Rra>, AllocError>
+    requires few { length defs.now ≤ present.most_archives }
+    requires rows { AllByRecursion (λ def. (0 < def.rows) × (def.rows ≤ present.most_rows)) defs.now }
     requires some_sources { 0 < sources }
-    requires few_sources { sources ≤ version_one.most_sources }
-    ensures { IfOk result (λ archives. archives.items ≡ map (new_archive sources) defs.now) }
+    requires few_sources { sources ≤ present.most_sources }
+    ensures { IfOk result (λ archives. archives ≡ map (new_archive sources) defs.now) }
 {
-    let mut archives = Vec::with_capacity(alloc, defs.len())?;
+    let mut archives = ArchiveList::new(alloc)?;
     for def in defs {
-        archives.push(Rra::new(alloc, *def, sources)?)?;
+        archives.push(Rra::new(alloc, *def, sources)?);
     }
     Ok(archives)
 }

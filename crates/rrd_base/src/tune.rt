@@ -1,36 +1,63 @@
-//! Changes of sources' settings: which tunes are accepted, what they make, what the journal keeps of one, and how that
-//! is put back.
-ghost use Rattle.std.specs.Prelude.{◌≡◌, ◌≤◌, None, length, map};
-ghost use Rattle.std.specs.List.{list_any};
+//! Tunes: which are accepted, what they make of the sources' settings and of the archives, what the journal keeps of one,
+//! and how sources are put back.
+ghost use Rattle.std.specs.Prelude.{◌≡◌, ◌≤◌, ◌*◌, ◌++◌, ◌∷◌, [], ◌||◌, List, None, Some, IfOk, OnErr, OnOk, length, map, nat_lt, sum, true};
+ghost use Rattle.std.specs.List.{AllByRecursion, list_any};
 ghost use Rattle.std.specs.Result.{result_err};
 ghost use Rattle.rrd_spec.specs.Commands as commands;
+ghost use Rattle.rrd_spec.specs.Commands.{rows_of_archives};
+ghost use Rattle.rrd_spec.specs.Settings.{Settings};
+ghost use Rattle.rrd_spec.specs.declared.settings.DsDef.{DsDef};
+ghost use Rattle.rrd_spec.specs.declared.requests.tune.ArchiveTune.TheVariants.{Add, Remove};
+ghost use Rattle.rrd_base.specs.Journal.{entry_of};
+ghost use Rattle.rrd_base.specs.Resize.{HasFewRows, settings};
 ghost use Rattle.rrd_spec.specs.Journal.Entries as entries;
 ghost use Rattle.rrd_spec.specs.History.{raws_under};
-ghost use Rattle.rrd_base.specs.Tune.{with_raws};
+ghost use Rattle.rrd_base.specs.Tune.{IsThere, with_archive_tuned, with_raws};
 ghost use Rattle.rrd_spec.specs.Journal.Outlines.{with_sources};
-ghost use Rattle.rrd_spec.specs.Limits.{version_one};
+ghost use Rattle.rrd_spec.specs.Limits.{present};
 ghost use Rattle.rrd_spec.specs.Commands.Verdict as verdict;
 ghost use Rattle.rrd_spec.specs.Validity.{IsValid};
 
 use crate::content::Content;
-use crate::create::{has_bad_bounds, is_bad_heartbeat};
+use crate::create::{
+    has_bad_bounds, has_too_many_cells, is_bad_heartbeat, is_bad_rows, is_bad_steps, is_bad_xff,
+};
+use crate::journal::Entry;
 use crate::named::has_source;
-use crate::{DsDef, Refusal, SourceBefore, Tuning};
+use crate::rows::all_rows;
+use crate::rra::Rra;
+use crate::{ArchiveTune, DsDef, Refusal, RraDef, SourceBefore, Tuning};
 use arrayvec::ArrayVec;
 use rrd_fixed::{Kind, Name, Raw};
 use rrd_spec::laws;
+use rrd_spec::limits::{MOST_ARCHIVES, MOST_CELLS};
+use std::alloc::{AllocError, Global};
 
 // ---- which tunes are accepted
 
-// Whether nothing is asked.
-fn asks_nothing(tuning: &Tuning) -> bool
-    ensures { result ≡ verdict.asks_nothing tuning.now }
+// Whether no option is given.
+fn has_no_option(tuning: &Tuning) -> bool
+    ensures { result ≡ verdict.has_no_option tuning.now }
 {
     tuning.heartbeat.is_none()
         && tuning.minimum.is_none()
         && tuning.maximum.is_none()
         && tuning.kind.is_none()
         && tuning.rename.is_none()
+}
+
+// Whether nothing is asked.
+fn asks_nothing(tuning: &Tuning) -> bool
+    ensures { result ≡ verdict.asks_nothing tuning.now }
+{
+    has_no_option(tuning) && tuning.archive.is_none()
+}
+
+// Whether an archive is asked for beside an option.
+fn is_mixed(tuning: &Tuning) -> bool
+    ensures { result ≡ verdict.is_mixed tuning.now }
+{
+    !has_no_option(tuning) && tuning.archive.is_some()
 }
 
 // Whether an option names no source.
@@ -77,7 +104,7 @@ fn doubles_name(sources: &[DsDef], tuning: &Tuning) -> bool
 // Whether a source would have bad bounds.
 fn any_bad_bounds(sources: &[DsDef], tuning: &Tuning) -> bool
     ensures { result
-        ≡ list_any (λ source. verdict.has_bad_bounds version_one (commands.tuned tuning.now source)) sources.now }
+        ≡ list_any (λ source. verdict.has_bad_bounds present (commands.tuned tuning.now source)) sources.now }
 {
     sources
         .iter()
@@ -86,7 +113,7 @@ fn any_bad_bounds(sources: &[DsDef], tuning: &Tuning) -> bool
 
 // Whether the new heartbeat is a bad one.
 fn has_bad_heartbeat(tuning: &Tuning) -> bool
-    ensures { result ≡ verdict.asks_bad_heartbeat version_one tuning.now }
+    ensures { result ≡ verdict.asks_bad_heartbeat present tuning.now }
 {
     match &tuning.heartbeat {
         Some((_, seconds)) => is_bad_heartbeat(*seconds),
@@ -94,12 +121,15 @@ fn has_bad_heartbeat(tuning: &Tuning) -> bool
     }
 }
 
-// Whether a tune is accepted, or the first refusal (rrdtune).
-fn check_tune(sources: &[DsDef], tuning: &Tuning) -> Result<(), Refusal>
-    ensures { result_err result ≡ verdict.first_refusal (verdict.tune_checks version_one sources.now tuning.now) }
+// Whether what a tune asks of sources is accepted, or the first refusal (rrdtune).
+fn check_options(sources: &[DsDef], tuning: &Tuning) -> Result<(), Refusal>
+    ensures { result_err result ≡ verdict.first_refusal (verdict.option_checks present sources.now tuning.now) }
 {
     if asks_nothing(tuning) {
         return Err(Refusal::NothingToTune);
+    }
+    if is_mixed(tuning) {
+        return Err(Refusal::MixedTune);
     }
     if any_names_no_source(sources, tuning) {
         return Err(Refusal::NoSuchSource);
@@ -117,6 +147,81 @@ fn check_tune(sources: &[DsDef], tuning: &Tuning) -> Result<(), Refusal>
         return Err(Refusal::BadBounds);
     }
     Ok(())
+}
+
+// Whether the database would be too large with an archive of so many rows more, at most 1,000,000.
+fn is_too_large(sources: usize, archives: &[Rra], rows: u64) -> bool
+    requires few_rows { AllByRecursion HasFewRows archives.now }
+    requires few_archives { length archives.now ≤ present.most_archives }
+    requires few { rows ≤ present.most_rows }
+    ensures { let all = rows_of_archives archives.now ++ rows ∷ [] in
+        result ≡ nat_lt present.most_archives (length all) || nat_lt present.most_cells (sources * sum all) }
+{
+    archives.len() >= MOST_ARCHIVES
+        || has_too_many_cells(MOST_CELLS, sources, all_rows(archives) + rows)
+}
+
+// Whether an archive of these settings can be added, or the first refusal.
+fn check_added(sources: usize, archives: &[Rra], def: &RraDef) -> Result<(), Refusal>
+    requires few_rows { AllByRecursion HasFewRows archives.now }
+    requires few { length archives.now ≤ present.most_archives }
+    ensures { (all : List DsDef) → length all ≡ sources → result_err result
+        ≡ verdict.first_refusal (verdict.archive_tune_checks present (settings all archives.now) (Some (Add def.now))) }
+{
+    if is_bad_xff(def.xff) {
+        return Err(Refusal::BadXff);
+    }
+    if is_bad_steps(def.steps) {
+        return Err(Refusal::BadSteps);
+    }
+    if is_bad_rows(def.rows) {
+        return Err(Refusal::BadRows);
+    }
+    if is_too_large(sources, archives, def.rows) {
+        return Err(Refusal::TooLarge);
+    }
+    Ok(())
+}
+
+// Whether the archive of this number can be removed, one of so many, or the first refusal.
+fn check_removed(archives: usize, number: u64) -> Result<(), Refusal>
+    ensures { (all : Settings) → length all.rows ≡ archives → result_err result
+        ≡ verdict.first_refusal (verdict.archive_tune_checks present all (Some (Remove number))) }
+{
+    if number >= archives as u64 {
+        return Err(Refusal::NoSuchArchive);
+    }
+    if archives <= 1 {
+        return Err(Refusal::NoArchive);
+    }
+    Ok(())
+}
+
+// Whether an archive can come or go as is asked, or the first refusal.
+fn check_archive(sources: &[DsDef], archives: &[Rra], asked: &ArchiveTune) -> Result<(), Refusal>
+    requires few_rows { AllByRecursion HasFewRows archives.now }
+    requires few { length archives.now ≤ present.most_archives }
+    ensures { result_err result ≡ verdict.first_refusal
+        (verdict.archive_tune_checks present (settings sources.now archives.now) (Some asked.now)) }
+{
+    match asked {
+        ArchiveTune::Add(def) => check_added(sources.len(), archives, def),
+        ArchiveTune::Remove(number) => check_removed(archives.len(), *number),
+    }
+}
+
+// Whether a tune is accepted, or the first refusal (rrdtune).
+fn check_tune(sources: &[DsDef], archives: &[Rra], tuning: &Tuning) -> Result<(), Refusal>
+    requires few_rows { AllByRecursion HasFewRows archives.now }
+    requires few { length archives.now ≤ present.most_archives }
+    ensures { result_err result ≡ verdict.first_refusal
+        (verdict.tune_checks present (settings sources.now archives.now) tuning.now) }
+{
+    check_options(sources, tuning)?;
+    match &tuning.archive {
+        Some(asked) => check_archive(sources, archives, asked),
+        None => Ok(()),
+    }
 }
 
 // ---- what a tune makes
@@ -247,12 +352,58 @@ impl Content {
     pub(crate) fn check_tune(&self, tuning: &Tuning) -> Result<(), Refusal>
         ensures { result_err result ≡ verdict.verdict self.now (commands.TuningBy tuning.now) }
     {
-        check_tune(&self.sources, tuning)
+        check_tune(&self.sources, self.archives.as_slice(), tuning)
     }
 
-    /// Gives the sources the settings that a tune asks.
-    pub(crate) fn tune(&mut self, tuning: &Tuning)
-        requires { verdict.verdict self.old (commands.TuningBy tuning.now) ≡ None }
+    /// Makes what an accepted tune asks, and gives what the journal keeps of it. Only an archive that is
+    /// added takes memory.
+    pub(crate) fn tune(&mut self, alloc: Global, tuning: &Tuning) -> Result<Entry, AllocError>
+        requires valid { IsValid self.old }
+        requires accepted { verdict.verdict self.old (commands.TuningBy tuning.now) ≡ None }
+        ensures ok { OnOk result (self.new ≡ commands.moved self.old (commands.TuningBy tuning.now)) }
+        ensures entry { IfOk result (λ entry. entry_of entry
+            ≡ entries.entry self.old (commands.TuningBy tuning.now)) }
+        ensures err { OnErr result (self.new ≡ self.old) }
+        ensures memory { OnErr result (commands.is_addition tuning.now.archive ≡ true) }
+    {
+        laws::stays_valid();
+        laws::tune_changes_archives();
+        match &tuning.archive {
+            None => {
+                let olds = self.keep_sources(tuning);
+                self.tune_sources(tuning);
+                Ok(Entry::Tune(olds))
+            }
+            Some(asked) => self.tune_archive(alloc, asked),
+        }
+    }
+
+    // Lets an archive come or go, and gives what the journal keeps of that.
+    fn tune_archive(&mut self, alloc: Global, asked: &ArchiveTune) -> Result<Entry, AllocError>
+        requires there { IsThere self.old asked.now }
+        requires valid { IsValid (with_archive_tuned self.old asked.now) }
+        ensures ok { OnOk result (self.new ≡ with_archive_tuned self.old asked.now) }
+        ensures entry { IfOk result (λ entry. entry_of entry ≡ entries.archive_entry self.old asked.now) }
+        ensures err { OnErr result (self.new ≡ self.old) }
+        ensures memory { OnErr result (commands.is_addition (Some asked.now) ≡ true) }
+    {
+        match asked {
+            ArchiveTune::Add(def) => {
+                self.add_archive(alloc, *def)?;
+                Ok(Entry::Added)
+            }
+            ArchiveTune::Remove(number) => {
+                let archive = *number;
+                let old = self.remove_archive(archive as usize);
+                Ok(Entry::Removed { archive, old })
+            }
+        }
+    }
+
+    // Gives the sources the settings that a tune asks.
+    fn tune_sources(&mut self, tuning: &Tuning)
+        requires accepted { verdict.verdict self.old (commands.TuningBy tuning.now) ≡ None }
+        requires alone { tuning.now.archive ≡ None }
         ensures { self.new ≡ commands.moved self.old (commands.TuningBy tuning.now) }
     {
         laws::tune_changes_sources();
@@ -260,9 +411,10 @@ impl Content {
         tune_all(&mut self.sources, &mut self.raws, tuning);
     }
 
-    /// The sources that an accepted tune names, as they are.
-    pub(crate) fn keep_sources(&self, tuning: &Tuning) -> ArrayVec<SourceBefore, 5>
-        requires { verdict.verdict self.now (commands.TuningBy tuning.now) ≡ None }
+    // The sources that an accepted tune names, as they are.
+    fn keep_sources(&self, tuning: &Tuning) -> ArrayVec<SourceBefore, 5>
+        requires accepted { verdict.verdict self.now (commands.TuningBy tuning.now) ≡ None }
+        requires alone { tuning.now.archive ≡ None }
         ensures { entries.TuneEntry result.items ≡ entries.entry self.now (commands.TuningBy tuning.now) }
     {
         laws::entry_fits();

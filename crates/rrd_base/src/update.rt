@@ -6,7 +6,7 @@ ghost use Rattle.std.specs.List.{AllByRecursion, list_any, list_all};
 ghost use Rattle.std.specs.Result.{result_err};
 ghost use Rattle.rrd_spec.specs.Settings.{names, has_source, is_double};
 ghost use Rattle.rrd_spec.specs.Commands.{Updating, raw_of, value_for};
-ghost use Rattle.rrd_spec.specs.Limits.{version_one};
+ghost use Rattle.rrd_spec.specs.Limits.{present};
 ghost use Rattle.rrd_spec.specs.Commands.Verdict.{first_refusal, is_admitted, sample_checks, update_checks, verdict};
 ghost use Rattle.rrd_spec.specs.Journal.Entries.{UpdateEntry, put_back_each, saved, undone};
 ghost use Rattle.rrd_spec.specs.Validity.{IsValid};
@@ -109,7 +109,7 @@ fn check_sample(
 ) -> Result<(), Refusal>
     requires { is_double (names sources.now) ≡ false }
     ensures { result_err result ≡ first_refusal
-        (sample_checks version_one sources.now (template_of sources.now template.now) last (sample.now ∷ [])) }
+        (sample_checks present sources.now (template_of sources.now template.now) last (sample.now ∷ [])) }
 {
     if sample.time > LATEST_TIME {
         return Err(Refusal::BadTime);
@@ -135,7 +135,7 @@ fn check_samples(
 ) -> Result<(), Refusal>
     requires { is_double (names sources.now) ≡ false }
     ensures { result_err result ≡ first_refusal
-        (sample_checks version_one sources.now (template_of sources.now template.now) last samples.now) }
+        (sample_checks present sources.now (template_of sources.now template.now) last samples.now) }
 {
     let mut last = last;
     for sample in samples {
@@ -171,7 +171,7 @@ fn check_template(template: &Option<List<Name>>, sources: &[DsDef]) -> Result<()
 // Whether an update is accepted, or the first refusal (rrdupdate).
 fn check_update(sources: &[DsDef], last: u64, update: &Update) -> Result<(), Refusal>
     requires { is_double (names sources.now) ≡ false }
-    ensures { result_err result ≡ first_refusal (update_checks version_one sources.now last update.now) }
+    ensures { result_err result ≡ first_refusal (update_checks present sources.now last update.now) }
 {
     check_template(&update.template, sources)?;
     let samples = update.samples.as_slice();
@@ -239,7 +239,7 @@ impl Content {
             last: self.last,
             raws: Vec::from_slice(alloc, &self.raws)?,
             preps: Vec::from_slice(alloc, &self.preps)?,
-            archives: save_all(alloc, &self.archives, self.step, self.last, end)?,
+            archives: save_all(alloc, self.archives.as_slice(), self.step, self.last, end)?,
         })
     }
 
@@ -258,7 +258,7 @@ impl Content {
         self.last = last;
         self.raws = raws;
         self.preps = preps;
-        put_back_all(&mut self.archives, archives);
+        put_back_all(self.archives.as_mut_slice(), archives);
     }
 }
 
@@ -273,7 +273,7 @@ fn save_all(
 ) -> Result<Vec<SavedArchive>, AllocError>
     requires stepped { AllByRecursion IsStepped archives.now }
     requires some_step { 0 < step }
-    requires small_step { step ≤ version_one.longest_step }
+    requires small_step { step ≤ present.longest_step }
     ensures { IfOk result (λ all. all.items ≡ map (saved step from to) archives.now) }
 {
     let mut all = Vec::with_capacity(alloc, archives.len())?;

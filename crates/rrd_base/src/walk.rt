@@ -4,7 +4,7 @@ ghost use Rattle.rrd_spec.specs.Commands.{Updating};
 ghost use Rattle.rrd_spec.specs.Laws.ListedContent.{moved_listed, content_listed};
 ghost use Rattle.rrd_spec.specs.History.{Sampled};
 ghost use Rattle.rrd_spec.specs.History as history;
-ghost use Rattle.rrd_spec.specs.Limits.{version_one};
+ghost use Rattle.rrd_spec.specs.Limits.{present};
 ghost use Rattle.rrd_spec.specs.Laws.Passing.{passed};
 ghost use Rattle.rrd_spec.specs.Commands.Turns.{AreTurns};
 ghost use Rattle.rrd_spec.specs.Validity.{AreAccepted, IsRow, IsValid};
@@ -99,7 +99,7 @@ impl Content {
     // Lets so many seconds pass that leave the step unfinished. It is a turn for each source.
     fn begin(&mut self, seconds: u64, walk: &mut Walk)
         requires within { self.old.last + seconds < (self.old.last / self.old.step + 1) * self.old.step }
-        requires in_time { self.old.last + seconds ≤ version_one.latest_time }
+        requires in_time { self.old.last + seconds ≤ present.latest_time }
         requires rates_are { IsRow (length self.old.sources) walk.old.rates.items }
         requires turns { walk.old.meter + length self.old.sources < 2 ^ 64 }
         ensures value { self.new ≡ passed self.old (replicate seconds walk.old.rates.items) }
@@ -115,7 +115,7 @@ impl Content {
     // at once: their cells are the rates.
     fn end_steps(&mut self, seconds: u64, count: u64, walk: &mut Walk)
         requires fills { self.old.last + seconds ≡ (self.old.last / self.old.step + 1) * self.old.step }
-        requires in_time { self.old.last + (seconds + count * self.old.step) ≤ version_one.latest_time }
+        requires in_time { self.old.last + (seconds + count * self.old.step) ≤ present.latest_time }
         requires places { HasPlaces walk.old (length self.old.sources) }
         requires rates_are { IsRow (length self.old.sources) walk.old.rates.items }
         requires turns { walk.old.meter + most_of_ends self.old count < 2 ^ 64 }
@@ -138,14 +138,15 @@ impl Content {
             then: &walk.rates,
             count,
         };
-        take_all(&mut self.archives, &steps, &mut walk.row, &mut walk.meter);
+        let archives = self.archives.as_mut_slice();
+        take_all(archives, &steps, &mut walk.row, &mut walk.meter);
     }
 
     // Lets all seconds up to a time pass: the rest of the step in progress with all whole steps after
     // it, and the begin of the next.
     fn catch_up(&mut self, time: u64, walk: &mut Walk)
         requires later { self.old.last < time }
-        requires in_time { time ≤ version_one.latest_time }
+        requires in_time { time ≤ present.latest_time }
         requires places { HasPlaces walk.old (length self.old.sources) }
         requires rates_are { IsRow (length self.old.sources) walk.old.rates.items }
         requires turns { walk.old.meter + most_to self.old time < 2 ^ 64 }
@@ -170,7 +171,7 @@ impl Content {
     // Takes the sample at a time after the last one, whose raw values the walk holds.
     fn take_sample(&mut self, time: u64, walk: &mut Walk)
         requires later { self.old.last < time }
-        requires in_time { time ≤ version_one.latest_time }
+        requires in_time { time ≤ present.latest_time }
         requires accepted { AreAccepted self.old.sources walk.old.raws.items }
         requires places { HasPlaces walk.old (length self.old.sources) }
         requires turns { walk.old.meter + most_to self.old time < 2 ^ 64 }

@@ -18,7 +18,8 @@ use Rattle.rrd_spec.specs.declared.settings.DsDef.{DsDef}
 use Rattle.rrd_spec.specs.declared.settings.RraDef.{RraDef}
 use Rattle.rrd_spec.specs.Journal.Entries.{Entry}
 use Rattle.rrd_spec.specs.Files.Filed.{Filed, Head, Header, Source}
-use Rattle.rrd_spec.specs.Files.Rebuilding.{IsArchiveDef, due, heads_with_part, limits_of, rows_in_all, unprepared}
+use Rattle.rrd_spec.specs.Limits.{limits_of}
+use Rattle.rrd_spec.specs.Files.Rebuilding.{IsArchiveDef, due, heads_with_part, rows_in_all, unprepared}
 use Rattle.rrd_spec.specs.Settings.{has_source, is_double, names}
 use Rattle.rrd_spec.specs.Validity.{AreParts, IsPart, IsSourceWithin}
 use Rattle.rrd_file.specs.Layout.{head_pieces}

@@ -10,9 +10,9 @@ use Rattle.rrd_file.specs.declared.fault.FileFault.TheVariants.{BadEntry}
 use Rattle.rrd_file.specs.Faults.{Front, IsBad, IsFault, bad_in_body}
 use Rattle.rrd_file.specs.Decoding.Input.{Gives, Input, IsCut, left}
 use Rattle.rrd_file.specs.Layout.{entry_pieces}
-use Rattle.rrd_file.specs.Layout.Pieces.{AResize, ATune, AnUpdate, OfTag, Piece, Tag, spell, tag_byte}
+use Rattle.rrd_file.specs.Layout.Pieces.{ARemoval, AResize, ATune, AnAddition, AnUpdate, OfTag, Piece, Tag, spell, tag_byte}
 use Rattle.rrd_file.specs.Decoding.Journal.{IsShaped}
-use Rattle.rrd_file.specs.Stages.{BeforeDue, Body, CountDue, DueInEntry, NamedDue, NumberDue, OldRowsDue, RowCellDue, RowPrepDue, RowsDue, TimeDue, GoesOn, Keeps, Stage, Takes, Within, behind, body_size, first_due, size, size_due}
+use Rattle.rrd_file.specs.Stages.{BeforeDue, Body, CountDue, DueInEntry, NamedDue, NumberDue, OldRowsDue, RemovedHeadDue, RemovedNumberDue, RowCellDue, RowPrepDue, RowsDue, TimeDue, GoesOn, IsTagWithin, Keeps, MayTag, Stage, Takes, Within, behind, body_size, first_due, size, size_due}
 use Rattle.rrd_file.specs.Decoding.Progress.{Comes, Stands}
 use Rattle.rrd_file.proofs.OneShape.{shaped_one, undo_shaped}
 use Rattle.rrd_file.proofs.Reached.{cut, front_more, gives_rest, refused}
@@ -28,6 +28,8 @@ some_due CountDue = omega arith
 some_due (NamedDue lowest more) = omega arith
 some_due NumberDue = omega arith
 some_due (OldRowsDue archive) = omega arith
+some_due RemovedNumberDue = omega arith
+some_due RemovedHeadDue = omega arith
 
 -- the stage, where something is due
 pub inside : (bytes : List ℕ) (f : Filed) (pieces : List Piece) (d : DueInEntry) (later : List DueInEntry) (input : Input) → Comes bytes f pieces (d ∷ later) input → Stands bytes (Within f pieces (d ∷ later)) input
@@ -79,32 +81,30 @@ cut_within bytes f pieces d later old n fault c len is = cut bytes (Within f pie
 
 -- ---- the tag
 
-tag_same : (t u : Tag) → tag_byte t ≡ tag_byte u → t ≡ u
+pub tag_same : (t u : Tag) → tag_byte t ≡ tag_byte u → t ≡ u
 tag_same AnUpdate AnUpdate e = refl
 tag_same ATune ATune e = refl
 tag_same AResize AResize e = refl
-tag_same AnUpdate ATune e = absurd (let bad : 1 ≡ 2 = e in omega (arith, bad))
-tag_same AnUpdate AResize e = absurd (let bad : 1 ≡ 3 = e in omega (arith, bad))
-tag_same ATune AnUpdate e = absurd (let bad : 2 ≡ 1 = e in omega (arith, bad))
-tag_same ATune AResize e = absurd (let bad : 2 ≡ 3 = e in omega (arith, bad))
-tag_same AResize AnUpdate e = absurd (let bad : 3 ≡ 1 = e in omega (arith, bad))
-tag_same AResize ATune e = absurd (let bad : 3 ≡ 2 = e in omega (arith, bad))
+tag_same AnAddition AnAddition e = refl
+tag_same ARemoval ARemoval e = refl
+tag_same t u e = absurd (omega (arith, e))
 
 -- where an entry is due, a piece is its tag
-tag_step : {f : Filed} {q : Piece} {next : Stage} → due f ≡ EntryDue → Step (Body f) q next → (u : Tag) × (q ≡ OfTag u) × GoesOn f (OfTag u ∷ []) (first_due u) next
+tag_step : {f : Filed} {q : Piece} {next : Stage} → due f ≡ EntryDue → Step (Body f) q next → (u : Tag) × (q ≡ OfTag u) × IsTagWithin (limits f) u × GoesOn f (OfTag u ∷ []) (first_due u) next
 tag_step e (ToSource f s k) = absurd (let both = sym e ∙ k.is_due in cc)
 tag_step e (ToHead f def k) = absurd (let both = sym e ∙ k.is_due in cc)
 tag_step e (ToPrep f part k) = absurd (let both = sym e ∙ k.is_due in cc)
 tag_step e (ToCell f cell k) = absurd (let both = sym e ∙ k.is_due in cc)
-tag_step e (ToEntry f u next is goes) = (u, refl, goes)
+tag_step e (ToEntry f u next may goes) = (u, refl, may.within, goes)
 
 byte_of : (t u : Tag) → spell (OfTag u) ≡ spell (OfTag t) → tag_byte u ≡ tag_byte t
 unfolding spell
 byte_of t u e = ap (λ l. get_or l 0 0) e
 
-pub came_first : (bytes : List ℕ) (f : Filed) (t : Tag) (old new : Input) (piece : List ℕ) → due f ≡ EntryDue → Stands bytes (Body f) old → Gives old piece new → spell (OfTag t) ≡ piece → length piece ≡ 1 → Comes bytes f (OfTag t ∷ []) (first_due t) new
+pub came_first : (bytes : List ℕ) (f : Filed) (t : Tag) (old new : Input) (piece : List ℕ) → MayTag f t → Stands bytes (Body f) old → Gives old piece new → spell (OfTag t) ≡ piece → length piece ≡ 1 → Comes bytes f (OfTag t ∷ []) (first_due t) new
 unfolding Takes size
-came_first bytes f t old new piece is_due st g e len =
+came_first bytes f t old new piece may st g e len =
+    let is_due = may.is_due in
     let after = gives_rest (left old) (left new) piece st.rest st.left_is g.consumed in
     let is : st.rest ≡ spell (OfTag t) ++ after.0 = after.2 ∙ ap (λ l. l ++ after.0) (sym e) in
     record {
@@ -114,22 +114,22 @@ came_first bytes f t old new piece is_due st g e len =
       some = omega (arith, ap length e, len);
       front = subst (Front bytes (Body f)) is st.front;
       whole = ap length e ∙ len ∙ sym (ap body_size is_due);
-      goes_on = λ next goes. (is_due, goes);
+      goes_on = λ next goes. (may, goes);
       only = λ q next taken same.
           let it = tag_step is_due (step_of (Body f) q next taken) in
           let byte : tag_byte it.0 ≡ tag_byte t = byte_of t it.0 (sym (ap spell it.1) ∙ same) in
-          subst (λ (u : Tag). GoesOn f (OfTag u ∷ []) (first_due u) next) (tag_same it.0 t byte) it.2;
+          subst (λ (u : Tag). GoesOn f (OfTag u ∷ []) (first_due u) next) (tag_same it.0 t byte) it.3;
       fault_is = λ at. sym (ap (bad_in_body f at) is_due);
       left_is = after.1;
       place = omega (arith, st.place, g.advanced, ap length after.2, length-append piece after.0);
     }
 
 -- no tag is spelled so
-pub wrong_tag : (bytes : List ℕ) (f : Filed) (old new : Input) (piece : List ℕ) → due f ≡ EntryDue → Stands bytes (Body f) old → Gives old piece new → length piece ≡ 1 → ((u : Tag) → spell (OfTag u) ≢ piece) → IsBad bytes (BadEntry (suc (length f.entries)))
+pub wrong_tag : (bytes : List ℕ) (f : Filed) (old new : Input) (piece : List ℕ) → due f ≡ EntryDue → Stands bytes (Body f) old → Gives old piece new → length piece ≡ 1 → ((u : Tag) → IsTagWithin (limits f) u → spell (OfTag u) ≢ piece) → IsBad bytes (BadEntry (suc (length f.entries)))
 unfolding size
 wrong_tag bytes f old new piece is_due st g len none =
     refused bytes (Body f) piece old new (BadEntry (suc (length f.entries))) st g (ap body_size is_due ∙ sym len) (omega (arith, len))
-    (λ q n t e. let it = tag_step is_due (step_of (Body f) q n t) in none it.0 (sym (ap spell it.1) ∙ e)) (sym (ap (bad_in_body f old.at) is_due))
+    (λ q n t e. let it = tag_step is_due (step_of (Body f) q n t) in none it.0 it.2 (sym (ap spell it.1) ∙ e)) (sym (ap (bad_in_body f old.at) is_due))
 
 pub cut_tag : (bytes : List ℕ) (f : Filed) (old : Input) (n : ℕ) (fault : FileFault) → due f ≡ EntryDue → Stands bytes (Body f) old → n ≡ 1 → IsCut old n fault → IsFault bytes fault
 unfolding size

@@ -1,11 +1,15 @@
 -- What an entry of a valid database keeps to.
-use Rattle.std.proofs.Common.{◌≡◌, ◌<◌, ◌≤◌, ◌^◌, ◌+◌, ℕ, zero, suc, List, [], ◌∷◌, Some, ap, subst, length, get_or, arith}
+use Rattle.std.proofs.Common.{◌≡◌, ◌<◌, ◌≤◌, ◌^◌, ◌+◌, ◌/◌, ℕ, zero, suc, List, [], ◌∷◌, Some, ap, subst, length, get_or, arith}
 use Rattle.std.specs.Prelude.{slice_get}
-use Rattle.std.specs.List.{AllByRecursion}
+use Rattle.std.specs.List.{AllByRecursion, insert}
 use Rattle.rrd_spec.specs.declared.entry.SourceBefore.{SourceBefore}
-use Rattle.rrd_spec.specs.History.{Content}
-use Rattle.rrd_spec.specs.Journal.Entries.{Entry, undone}
-use Rattle.rrd_spec.specs.Validity.{IsValid, IsValidJournal, IsValidDatabase, Fits, Rise}
+use Rattle.rrd_spec.specs.History.{Archive, Content}
+use Rattle.rrd_spec.specs.Journal.Entries.{Entry, RemovedEntry, undone}
+use Rattle.rrd_spec.specs.Validity.{IsValid, IsValidArchive, IsValidJournal, IsValidDatabase, Fits, Rise}
+use Rattle.rrd_spec.specs.Limits.{newest, present}
+use Rattle.rrd_file.specs.Decoding.Values.{FitsArchive}
+use Rattle.rrd_file.proofs.OneSpelling.{archive_fits}
+use Rattle.rrd_file.proofs.Sound.{small_limits}
 use Rattle.rrd_file.proofs.Told.{some_is}
 use Rattle.rrd_file.specs.Encoding.Journal.{HasSmallNumber, IsEntryOfSome}
 
@@ -19,7 +23,7 @@ small_at olds i x all h is = omega (arith, small_in olds i x all h, ap (λ (y : 
 
 some_entry : (now : Content) (journal : List Entry) (i : ℕ) (e : Entry) → IsValid now → IsValidJournal now journal → slice_get journal i ≡ Some e → IsEntryOfSome e
 some_entry now [] i e v j is = absurd cc
-some_entry now (x ∷ journal) zero e v j is = record { now = now; valid = v; fits = subst (Fits now) (some_is x e is) j.0 }
+some_entry now (x ∷ journal) zero e v j is = record { now = now; valid = v; fits = subst (Fits now) (some_is x e is) j.0; before = subst (λ (y : Entry). IsValid (undone now y)) (some_is x e is) j.1 }
 some_entry now (x ∷ journal) (suc i) e v j is = some_entry (undone now x) journal i e j.1 j.2 is
 
 pub entry_of_some : (now : Content) (journal : List Entry) (i : ℕ) (e : Entry) → IsValidDatabase now journal → slice_get journal i ≡ Some e → IsEntryOfSome e
@@ -29,3 +33,22 @@ entry_of_some now journal i e v is = some_entry now journal i e v.content_is v.j
 pub small_numbers : (lowest limit : ℕ) (olds : List SourceBefore) → limit ≤ 64 → Rise lowest limit olds → AllByRecursion HasSmallNumber olds
 small_numbers lowest limit [] few r = tt
 small_numbers lowest limit (old ∷ olds) few r = (omega (arith, r.1), small_numbers (old.number + 1) limit olds few r.2)
+
+-- the settings of a removed archive
+inserted : {A : Type 0} (P : A → Type 0) (xs : List A) (n : ℕ) (x : A) → n ≤ length xs → AllByRecursion P (insert xs n x) → P x
+inserted P [] zero x h is = is.0
+inserted P [] (suc n) x h is = absurd (omega arith)
+inserted P (y ∷ xs) zero x h is = is.0
+inserted P (y ∷ xs) (suc n) x h is = inserted P xs n x (omega arith) is.1
+
+pub removed_fits : (now : Content) (number : ℕ) (archive : Archive) → number ≤ length now.archives → IsValid (undone now (RemovedEntry number archive)) → FitsArchive archive.def
+removed_fits now number archive there is =
+    let a = inserted (IsValidArchive (length now.sources) (now.last / now.step)) now.archives number archive there is.archives_are in
+    archive_fits present archive.def (small_limits newest) (record {
+      some_steps = a.some_steps;
+      few_steps = a.few_steps;
+      some_rows = a.some_rows;
+      few_rows = a.few_rows;
+      xff_low = a.xff_low;
+      xff_high = a.xff_high;
+    })

@@ -13,15 +13,16 @@ use Rattle.rrd_spec.specs.declared.entry.SourceBefore.{SourceBefore}
 use Rattle.rrd_spec.specs.declared.outline.Outline.{Outline}
 use Rattle.rrd_spec.specs.declared.settings.DsDef.{DsDef}
 use Rattle.rrd_spec.specs.declared.settings.RraDef.{RraDef}
-use Rattle.rrd_spec.specs.Journal.Entries.{BeforeUpdate, Entry, SavedArchive, UpdateEntry, TuneEntry, ResizeEntry}
+use Rattle.rrd_spec.specs.Journal.Entries.{BeforeUpdate, Entry, SavedArchive, UpdateEntry, TuneEntry, ResizeEntry, AddedEntry, RemovedEntry}
+use Rattle.rrd_spec.specs.History.{Archive}
 use Rattle.rrd_spec.specs.Files.Filed.{Filed}
 use Rattle.rrd_spec.specs.Limits.{Limits}
-use Rattle.rrd_spec.specs.Journal.Fitting.{IsSourceBefore, MayResize, MaySaveEach, MayTune, MayUpdate}
+use Rattle.rrd_spec.specs.Journal.Fitting.{IsSourceBefore, MayRemove, MayResize, MaySaveEach, MayTune, MayUpdate}
 use Rattle.rrd_spec.specs.Files.Rebuilding.{MayEntry, limits, outline_left, with_entry}
 use Rattle.rrd_spec.specs.Validity.{AreAccepted, IsPart, IsRow, Rise}
 use Rattle.rrd_file.specs.Layout.{entry_pieces, raws_and_parts, row_pieces, saved_pieces}
-use Rattle.rrd_file.specs.Layout.Pieces.{Piece, OfCell, OfCount, OfNumber, OfPrep, OfRows, OfSourceBefore, Tag, OfTag, OfTime, AnUpdate, ATune, AResize}
-use Rattle.rrd_file.specs.Stages.{Stage, Body, Within, DueInEntry, BeforeDue, RowPrepDue, RowCellDue, GoesOn, Keeps, Runs, Takes, archive_due, behind, cells_due, first_due, named_due}
+use Rattle.rrd_file.specs.Layout.Pieces.{Piece, OfArchive, OfCell, OfCount, OfNumber, OfPrep, OfRows, OfSourceBefore, Tag, OfTag, OfTime, AnUpdate, ATune, AResize, AnAddition, ARemoval}
+use Rattle.rrd_file.specs.Stages.{Stage, Body, Within, DueInEntry, BeforeDue, RowPrepDue, RowCellDue, GoesOn, IsTagWithin, Keeps, Runs, Takes, archive_due, behind, cells_due, first_due, named_due}
 
 -- ---- what is due is what comes
 
@@ -108,6 +109,8 @@ abbrev pieces_behind : Entry → List Piece
 pieces_behind (UpdateEntry old) = OfTime old.last ∷ raws_and_parts old.raws old.parts ++ flat_map saved_pieces old.archives
 pieces_behind (TuneEntry olds) = OfCount (length olds) ∷ map OfSourceBefore olds
 pieces_behind (ResizeEntry archive rows) = OfNumber archive ∷ OfRows (length rows) ∷ row_pieces rows
+pieces_behind AddedEntry = []
+pieces_behind (RemovedEntry number archive) = OfNumber number ∷ OfArchive archive.def ∷ (map OfPrep archive.parts ++ row_pieces archive.rows)
 
 update_meets : (l : Limits) (step : ℕ) (now : Outline) (old : BeforeUpdate) → MayUpdate step now old → Meets l step now (first_due AnUpdate) (OfTime old.last ∷ raws_and_parts old.raws old.parts ++ flat_map saved_pieces old.archives)
 update_meets l step now old h =
@@ -121,6 +124,14 @@ tune_meets l step now olds h = ((h.some, h.few), alone l step now (named_due 0 (
 
 resize_meets : (l : Limits) (step : ℕ) (now : Outline) (archive : ℕ) (rows : List (List Cell)) → MayResize l now archive rows → Meets l step now (first_due AResize) (OfNumber archive ∷ OfRows (length rows) ∷ row_pieces rows)
 resize_meets l step now archive rows h = (h.there, (h.old_rows, alone l step now (cells_due (length rows) now) (row_pieces rows) (rows_meet l step now rows h.each_row)))
+
+removed_meets : (l : Limits) (step : ℕ) (now : Outline) (number : ℕ) (archive : Archive) → MayRemove l step now number archive → Meets l step now (first_due ARemoval) (OfNumber number ∷ OfArchive archive.def ∷ (map OfPrep archive.parts ++ row_pieces archive.rows))
+removed_meets l step now number archive h =
+    let n = length now.sources in
+    let preps = preps_meet l step now now.last archive.def n archive.parts h.parts_are.one_each h.parts_are.each in
+    let rows = as_many_meet l step now archive.def.rows archive.rows h.rows_are h.each_row in
+    let due = replicate n (RowPrepDue now.last archive.def) ++ cells_due archive.def.rows now in
+    (h.number_is, (h.settings_are, alone l step now due (map OfPrep archive.parts ++ row_pieces archive.rows) (both_meet l step now (replicate n (RowPrepDue now.last archive.def)) (cells_due archive.def.rows now) (map OfPrep archive.parts) (row_pieces archive.rows) preps rows)))
 
 -- ---- runs
 
@@ -143,13 +154,15 @@ goes_on f entry may pieces (due ∷ later) (p ∷ more) h e =
     let next = goes_on f entry may (pieces ++ p ∷ []) (behind f.header.step (outline_left f) due p ++ later) more h.1 (append_assoc pieces (p ∷ []) more ∙ e) in
     record { stage = Within f pieces (due ∷ later); goes = refl; runs = (next.stage, within f pieces due later p next.stage h.0 next.goes, next.runs) }
 
-tag_runs : (f : Filed) (entry : Entry) (tag : Tag) (more : List Piece) → MayEntry f entry → Meets (limits f) f.header.step (outline_left f) (first_due tag) more → OfTag tag ∷ more ≡ entry_pieces entry → Runs (Body f) (OfTag tag ∷ more) (Body (with_entry f entry))
+tag_runs : (f : Filed) (entry : Entry) (tag : Tag) (more : List Piece) → MayEntry f entry → IsTagWithin (limits f) tag → Meets (limits f) f.header.step (outline_left f) (first_due tag) more → OfTag tag ∷ more ≡ entry_pieces entry → Runs (Body f) (OfTag tag ∷ more) (Body (with_entry f entry))
 unfolding Takes
-tag_runs f entry tag more may h e =
+tag_runs f entry tag more may within h e =
     let next = goes_on f entry may (OfTag tag ∷ []) (first_due tag) more h e in
-    (next.stage, (may.is_due, next.goes), next.runs)
+    (next.stage, (record { is_due = may.is_due; within = within }, next.goes), next.runs)
 
 pub entry_runs : (f : Filed) (entry : Entry) → MayEntry f entry → Runs (Body f) (entry_pieces entry) (Body (with_entry f entry))
-entry_runs f (UpdateEntry old) may = tag_runs f (UpdateEntry old) AnUpdate (pieces_behind (UpdateEntry old)) may (update_meets (limits f) f.header.step (outline_left f) old may.fits) refl
-entry_runs f (TuneEntry olds) may = tag_runs f (TuneEntry olds) ATune (pieces_behind (TuneEntry olds)) may (tune_meets (limits f) f.header.step (outline_left f) olds may.fits) refl
-entry_runs f (ResizeEntry archive rows) may = tag_runs f (ResizeEntry archive rows) AResize (pieces_behind (ResizeEntry archive rows)) may (resize_meets (limits f) f.header.step (outline_left f) archive rows may.fits) refl
+entry_runs f (UpdateEntry old) may = tag_runs f (UpdateEntry old) AnUpdate (pieces_behind (UpdateEntry old)) may tt (update_meets (limits f) f.header.step (outline_left f) old may.fits) refl
+entry_runs f (TuneEntry olds) may = tag_runs f (TuneEntry olds) ATune (pieces_behind (TuneEntry olds)) may tt (tune_meets (limits f) f.header.step (outline_left f) olds may.fits) refl
+entry_runs f (ResizeEntry archive rows) may = tag_runs f (ResizeEntry archive rows) AResize (pieces_behind (ResizeEntry archive rows)) may tt (resize_meets (limits f) f.header.step (outline_left f) archive rows may.fits) refl
+entry_runs f AddedEntry may = tag_runs f AddedEntry AnAddition [] may may.fits.0 tt refl
+entry_runs f (RemovedEntry number archive) may = tag_runs f (RemovedEntry number archive) ARemoval (pieces_behind (RemovedEntry number archive)) may may.fits.0 (removed_meets (limits f) f.header.step (outline_left f) number archive may.fits.1) refl

@@ -3,7 +3,8 @@ use Rattle.std.proofs.Common.{◌≡◌, ◌∙◌, ◌++◌, ◌∷◌, [], Lis
 use Rattle.std.specs.List.{flat_map}
 use Rattle.std.proofs.lemmas.Grind.{flat_map-append}
 use Rattle.rrd_spec.specs.Journal.Entries.{SavedArchive}
-use Rattle.rrd_spec.specs.Files.Filed.{Filed, One, filed, head_of, header_of}
+use Rattle.rrd_spec.specs.Limits.{newest}
+use Rattle.rrd_spec.specs.Files.Filed.{Filed, filed, head_of, header_of}
 use Rattle.rrd_spec.specs.History.{Archive}
 use Rattle.rrd_spec.specs.Journal.Survivors.{Stored}
 use Rattle.rrd_file.specs.Layout.{body_pieces, saved_pieces, entry_pieces, head_pieces, layout, row_pieces, spelled}
@@ -47,5 +48,5 @@ joined_saved old = flat_map-append spell (map OfPrep old.parts) (OfRows (length 
 pub joined_body : (f : Filed) → spelled (body_pieces f) ≡ spelled (map OfSource f.sources) ++ (spelled (flat_map head_pieces f.heads) ++ spelled (map OfCell f.cells))
 joined_body f = ap spelled (append_assoc (map OfSource f.sources) (flat_map head_pieces f.heads) (map OfCell f.cells)) ∙ joined_three (map OfSource f.sources) (flat_map head_pieces f.heads) (map OfCell f.cells)
 
-pub joined_whole : (d : Stored) → layout d ≡ spelled (Mark ∷ OfVersion One ∷ OfHeader (header_of One d) ∷ []) ++ (spelled (body_pieces (filed One d)) ++ spelled (flat_map entry_pieces d.journal))
-joined_whole d = joined_three (Mark ∷ OfVersion One ∷ OfHeader (header_of One d) ∷ []) (body_pieces (filed One d)) (flat_map entry_pieces d.journal)
+pub joined_whole : (d : Stored) → layout d ≡ spelled (Mark ∷ OfVersion newest ∷ OfHeader (header_of newest d) ∷ []) ++ (spelled (body_pieces (filed newest d)) ++ spelled (flat_map entry_pieces d.journal))
+joined_whole d = joined_three (Mark ∷ OfVersion newest ∷ OfHeader (header_of newest d) ∷ []) (body_pieces (filed newest d)) (flat_map entry_pieces d.journal)

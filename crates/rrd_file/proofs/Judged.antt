@@ -6,20 +6,22 @@ use Rattle.rrd_base.specs.declared.rebuild.PieceFault.{PieceFault}
 use Rattle.rrd_base.specs.declared.rebuild.PieceFault.TheVariants as refusal
 use Rattle.rrd_spec.specs.declared.due.Due.TheVariants.{SourceDue, HeadDue, PrepDue, CellDue, NothingDue}
 use Rattle.rrd_spec.specs.declared.settings.RraDef.{RraDef}
-use Rattle.rrd_spec.specs.Files.Filed.{Filed, Header, Source, One}
+use Rattle.rrd_spec.specs.declared.version.Version.{Version}
+use Rattle.rrd_spec.specs.declared.version.Version.TheVariants.{One, Two}
+use Rattle.rrd_spec.specs.Files.Filed.{Filed, Header, Source}
 use Rattle.rrd_spec.specs.Files.Rebuilding.{IsHeader, MayCell, MayHead, MayPrep, MaySource, begun, due, limits, with_cell, with_head, with_prep, with_source}
 use Rattle.rrd_file.specs.declared.fault.FileFault.{FileFault}
 use Rattle.rrd_file.specs.declared.fault.FileFault.TheVariants.{NotOurs, Version as WrongVersion, BadBlock, BadEntry}
 use Rattle.std.specs.Prelude.{Some}
 use Rattle.rrd_file.specs.Faults.{Front, IsBad, IsFault, IsTrailing, IsWhole, bad_in_body}
 use Rattle.rrd_file.specs.Decoding.Input.{Gives, Input, IsCut, left}
-use Rattle.rrd_file.specs.Layout.Pieces.{Mark, OfArchive, OfCell, OfHeader, OfPrep, OfSource, OfVersion, Piece, header_bytes, spell}
+use Rattle.rrd_file.specs.Layout.Pieces.{Mark, OfArchive, OfCell, OfHeader, OfPrep, OfSource, OfVersion, Piece, spell, version_number}
 use Rattle.rrd_file.specs.Layout.Values.{four_bytes, two_bytes}
-use Rattle.rrd_file.specs.Stages.{Body, Marked, Stage, Start, Takes, Versioned, body_size, size}
+use Rattle.rrd_file.specs.Stages.{Body, Marked, Stage, Start, Takes, Versioned, body_size, header_size, size}
 use Rattle.rrd_file.specs.Decoding.Progress.{Stands}
 use Rattle.rrd_file.specs.Decoding.Faults.{fault_in_block, fault_in_entry}
 use Rattle.rrd_file.specs.Decoding.Values.{FitsArchive, FitsCell, FitsHeader, FitsPart, FitsSource}
-use Rattle.rrd_file.proofs.OneSpelling.{archive_fits, cell_fits, header_fits, is_one, prep_fits, source_fits}
+use Rattle.rrd_file.proofs.OneSpelling.{archive_fits, cell_fits, header_fits, prep_fits, source_fits}
 use Rattle.rrd_file.proofs.Reached.{cut, refused, taken}
 use Rattle.rrd_file.proofs.Sound.{IsSound, reached_sound, small_limits}
 use Rattle.rrd_file.proofs.Spelled.{archive_one, cell_one, four_one, header_one, part_one, source_one, two_one}
@@ -64,50 +66,57 @@ pub cut_version : (bytes : List ℕ) (old : Input) (n : ℕ) (fault : FileFault)
 unfolding size
 cut_version bytes old n fault len st c = cut bytes Marked n old fault st (sym len) c
 
-version_is : spell (OfVersion One) ≡ two_bytes 1
+version_is : (version : Version) → spell (OfVersion version) ≡ two_bytes (version_number version)
 unfolding spell
-version_is = refl
+version_is version = refl
 
-pub version_taken : (bytes piece : List ℕ) (old new : Input) (number : ℕ) → Stands bytes Marked old → Gives old piece new → two_bytes number ≡ piece → number ≡ 1 → Stands bytes (Versioned One) new
+pub version_taken : (version : Version) (bytes piece : List ℕ) (old new : Input) (number : ℕ) → Stands bytes Marked old → Gives old piece new → two_bytes number ≡ piece → number ≡ version_number version → Stands bytes (Versioned version) new
 unfolding Takes
-version_taken bytes piece old new number st g is same = taken bytes Marked (Versioned One) (OfVersion One) piece old new st g (version_is ∙ ap (λ n. two_bytes n) (sym same) ∙ is) refl
+version_taken version bytes piece old new number st g is same = taken bytes Marked (Versioned version) (OfVersion version) piece old new st g (version_is version ∙ ap (λ n. two_bytes n) (sym same) ∙ is) refl
 
-version_step : {q : Piece} {n : Stage} → Step Marked q n → q ≡ OfVersion One
-version_step (ToVersion v) = ap OfVersion (is_one v)
+version_step : {q : Piece} {n : Stage} → Step Marked q n → (version : Version) × (q ≡ OfVersion version)
+version_step (ToVersion v) = (v, refl)
 
-pub version_refused : (bytes piece : List ℕ) (old new : Input) (number : ℕ) → Stands bytes Marked old → Gives old piece new → length piece ≡ 2 → two_bytes number ≡ piece → number < 2 ^ 16 → number ≢ 1 → IsBad bytes WrongVersion
+-- a number that is none of theirs
+pub no_version : (number : ℕ) → (number ≡ 1 → ⊥) → (number ≡ 2 → ⊥) → (version : Version) → number ≢ version_number version
+no_version number a b One e = a e
+no_version number a b Two e = b e
+
+small_number : (version : Version) → version_number version < 2 ^ 16
+small_number One = omega arith
+small_number Two = omega arith
+
+pub version_refused : (bytes piece : List ℕ) (old new : Input) (number : ℕ) → Stands bytes Marked old → Gives old piece new → length piece ≡ 2 → two_bytes number ≡ piece → number < 2 ^ 16 → ((version : Version) → number ≢ version_number version) → IsBad bytes WrongVersion
 unfolding size
 version_refused bytes piece old new number st g len is small never =
     refused bytes Marked piece old new WrongVersion st g (sym len) (omega (arith, len))
-    (λ q n t e. never (two_one number 1 small (omega arith) (is ∙ sym e ∙ ap spell (version_step (step_of Marked q n t)) ∙ version_is))) refl
+    (λ q n t e. let v = version_step (step_of Marked q n t) in
+    never v.0 (two_one number (version_number v.0) small (small_number v.0) (is ∙ sym e ∙ ap spell v.1 ∙ version_is v.0))) refl
 
 -- ---- the header
 
-pub cut_header : (bytes : List ℕ) (old : Input) (n : ℕ) (fault : FileFault) → n ≡ 20 → Stands bytes (Versioned One) old → IsCut old n fault → IsFault bytes fault
+pub cut_header : (version : Version) (bytes : List ℕ) (old : Input) (n : ℕ) (fault : FileFault) → n ≡ header_size version → Stands bytes (Versioned version) old → IsCut old n fault → IsFault bytes fault
 unfolding size
-cut_header bytes old n fault len st c = cut bytes (Versioned One) n old fault st (sym len) c
+cut_header version bytes old n fault len st c = cut bytes (Versioned version) n old fault st (sym len) c
 
-pub header_taken : (bytes piece : List ℕ) (old new : Input) (h : Header) (f : Filed) → Stands bytes (Versioned One) old → Gives old piece new → spell (OfHeader h) ≡ piece → IsHeader h × (f ≡ begun h) → Stands bytes (Body f) new
+pub header_taken : (bytes piece : List ℕ) (old new : Input) (h : Header) (f : Filed) → Stands bytes (Versioned h.version) old → Gives old piece new → spell (OfHeader h) ≡ piece → IsHeader h × (f ≡ begun h) → Stands bytes (Body f) new
 unfolding Takes
-header_taken bytes piece old new h f st g is m = taken bytes (Versioned One) (Body f) (OfHeader h) piece old new st g is (is_one h.version, m.0, ap Body m.1)
+header_taken bytes piece old new h f st g is m = taken bytes (Versioned h.version) (Body f) (OfHeader h) piece old new st g is (refl, m.0, ap Body m.1)
 
-header_step : {q : Piece} {n : Stage} → Step (Versioned One) q n → (h : Header) × (q ≡ OfHeader h) × IsHeader h
-header_step (ToHeader v h same is) = (h, refl, is)
+header_step : {version : Version} {q : Piece} {n : Stage} → Step (Versioned version) q n → (h : Header) × (q ≡ OfHeader h) × IsHeader h × (h.version ≡ version)
+header_step (ToHeader v h same is) = (h, refl, is, same)
 
-header_same : (x y : Header) → FitsHeader x → FitsHeader y → spell (OfHeader x) ≡ spell (OfHeader y) → x ≡ y
+header_same : (x y : Header) → x.version ≡ y.version → FitsHeader x → FitsHeader y → spell (OfHeader x) ≡ spell (OfHeader y) → x ≡ y
 unfolding spell
-header_same x y a b e =
-    let vx = is_one x.version in
-    let vy = is_one y.version in
-    header_one x y vx vy a b (ap (λ v. header_bytes v x) (sym vx) ∙ e ∙ ap (λ v. header_bytes v y) vy)
+header_same x y v a b e = header_one x y v a b e
 
-pub header_refused : (bytes piece : List ℕ) (old new : Input) (h : Header) → Stands bytes (Versioned One) old → Gives old piece new → length piece ≡ 20 → spell (OfHeader h) ≡ piece → FitsHeader h → (IsHeader h → ⊥) → IsBad bytes (BadBlock old.at)
+pub header_refused : (bytes piece : List ℕ) (old new : Input) (h : Header) → Stands bytes (Versioned h.version) old → Gives old piece new → length piece ≡ header_size h.version → spell (OfHeader h) ≡ piece → FitsHeader h → (IsHeader h → ⊥) → IsBad bytes (BadBlock old.at)
 unfolding size
 header_refused bytes piece old new h st g len is fits never =
-    refused bytes (Versioned One) piece old new (BadBlock old.at) st g (sym len) (omega (arith, len))
+    refused bytes (Versioned h.version) piece old new (BadBlock old.at) st g (sym len) (omega (arith, len))
     (λ q n t e.
-    let it = header_step (step_of (Versioned One) q n t) in
-    never (subst IsHeader (header_same it.0 h (header_fits it.0 it.2) fits (sym (ap spell it.1) ∙ e ∙ sym is)) it.2)) refl
+    let it = header_step (step_of (Versioned h.version) q n t) in
+    never (subst IsHeader (header_same it.0 h it.3 (header_fits it.0 it.2) fits (sym (ap spell it.1) ∙ e ∙ sym is)) it.2)) refl
 
 -- ---- pieces of the body
 
@@ -127,7 +136,7 @@ source_step e (ToSource f s k) = (s, refl, k)
 source_step e (ToHead f def k) = absurd (let both = sym e ∙ k.is_due in cc)
 source_step e (ToPrep f part k) = absurd (let both = sym e ∙ k.is_due in cc)
 source_step e (ToCell f cell k) = absurd (let both = sym e ∙ k.is_due in cc)
-source_step e (ToEntry f u next k goes) = absurd (let both = sym e ∙ k in cc)
+source_step e (ToEntry f u next k goes) = absurd (let both = sym e ∙ k.is_due in cc)
 
 source_same : (x y : Source) → FitsSource x → FitsSource y → spell (OfSource x) ≡ spell (OfSource y) → x ≡ y
 unfolding spell
@@ -160,7 +169,7 @@ head_step e (ToHead f def k) = (def, refl, k)
 head_step e (ToSource f s k) = absurd (let both = sym e ∙ k.is_due in cc)
 head_step e (ToPrep f part k) = absurd (let both = sym e ∙ k.is_due in cc)
 head_step e (ToCell f cell k) = absurd (let both = sym e ∙ k.is_due in cc)
-head_step e (ToEntry f u next k goes) = absurd (let both = sym e ∙ k in cc)
+head_step e (ToEntry f u next k goes) = absurd (let both = sym e ∙ k.is_due in cc)
 
 archive_same : (x y : RraDef) → FitsArchive x → FitsArchive y → spell (OfArchive x) ≡ spell (OfArchive y) → x ≡ y
 unfolding spell
@@ -191,7 +200,7 @@ prep_step def e (ToPrep f part k) = (part, refl, k)
 prep_step def e (ToSource f s k) = absurd (let both = sym e ∙ k.is_due in cc)
 prep_step def e (ToHead f x k) = absurd (let both = sym e ∙ k.is_due in cc)
 prep_step def e (ToCell f cell k) = absurd (let both = sym e ∙ k.is_due in cc)
-prep_step def e (ToEntry f u next k goes) = absurd (let both = sym e ∙ k in cc)
+prep_step def e (ToEntry f u next k goes) = absurd (let both = sym e ∙ k.is_due in cc)
 
 prep_same : (x y : Part) → FitsPart x → FitsPart y → spell (OfPrep x) ≡ spell (OfPrep y) → x ≡ y
 unfolding spell
@@ -215,7 +224,7 @@ cell_step e (ToCell f cell k) = (cell, refl, k)
 cell_step e (ToSource f s k) = absurd (let both = sym e ∙ k.is_due in cc)
 cell_step e (ToHead f x k) = absurd (let both = sym e ∙ k.is_due in cc)
 cell_step e (ToPrep f part k) = absurd (let both = sym e ∙ k.is_due in cc)
-cell_step e (ToEntry f u next k goes) = absurd (let both = sym e ∙ k in cc)
+cell_step e (ToEntry f u next k goes) = absurd (let both = sym e ∙ k.is_due in cc)
 
 cell_same : (x y : Cell) → FitsCell x → FitsCell y → spell (OfCell x) ≡ spell (OfCell y) → x ≡ y
 unfolding spell

@@ -17,15 +17,15 @@ use Rattle.rrd_spec.specs.Files.Rebuilding.{limits, outline_left}
 use Rattle.rrd_file.specs.declared.fault.FileFault.TheVariants.{BadEntry}
 use Rattle.rrd_file.specs.Faults.{IsBad}
 use Rattle.rrd_file.specs.Decoding.Input.{Gives, Input}
-use Rattle.rrd_file.specs.Layout.Pieces.{OfCell, OfCount, OfNumber, OfPrep, OfRawAndPart, OfRows, OfSourceBefore, OfTime, Piece, spell}
-use Rattle.rrd_file.specs.Stages.{BeforeDue, CountDue, DueInEntry, Keeps, NamedDue, NumberDue, OldRowsDue, RowCellDue, RowPrepDue, RowsDue, TimeDue, Within, behind, size_due}
+use Rattle.rrd_file.specs.Layout.Pieces.{OfArchive, OfCell, OfCount, OfNumber, OfPrep, OfRawAndPart, OfRows, OfSourceBefore, OfTime, Piece, spell}
+use Rattle.rrd_file.specs.Stages.{BeforeDue, CountDue, DueInEntry, Keeps, NamedDue, NumberDue, OldRowsDue, RemovedHeadDue, RemovedNumberDue, RowCellDue, RowPrepDue, RowsDue, TimeDue, Within, behind, size_due}
 use Rattle.rrd_file.specs.Decoding.Progress.{Comes}
-use Rattle.rrd_file.specs.Decoding.Values.{FitsCell, FitsPart, FitsRaw, FitsSourceBefore}
+use Rattle.rrd_file.specs.Decoding.Values.{FitsArchive, FitsCell, FitsPart, FitsRaw, FitsSourceBefore}
 use Rattle.rrd_file.proofs.Coming.{came, inside, wrong}
-use Rattle.rrd_file.proofs.OneSpelling.{cell_fits, def_fits, part_fits, raw_fits}
-use Rattle.rrd_file.proofs.Sound.{AreSmall, AreSound, HasSomeSteps, IsSound, IsSoundDue, now_sound, reached_sound, small_limits}
-use Rattle.rrd_file.proofs.Spelled.{cell_one, eight_one, four_one, part_one, raw_and_part_one, source_before_one, two_one}
-use Rattle.rrd_file.proofs.Ways.{Way, ByTime, ByRawAndPart, ByRowPrep, ByRows, ByRowCell, ByCount, ByNamed, ByNumber, ByOldRows, way}
+use Rattle.rrd_file.proofs.OneSpelling.{archive_fits, cell_fits, def_fits, part_fits, raw_fits}
+use Rattle.rrd_file.proofs.Sound.{AreSmall, AreSound, HasSomeSteps, IsSound, IsSoundDue, reached_sound, small_limits}
+use Rattle.rrd_file.proofs.Spelled.{archive_one, cell_one, eight_one, four_one, part_one, raw_and_part_one, source_before_one, two_one}
+use Rattle.rrd_file.proofs.Ways.{Way, ByTime, ByRawAndPart, ByRowPrep, ByRows, ByRowCell, ByCount, ByNamed, ByNumber, ByOldRows, ByRemovedNumber, ByRemovedHead, way}
 
 -- a piece of the kind that is due, whose values fit their bytes
 pub data Read : DueInEntry → Piece → Type 0 where
@@ -38,6 +38,8 @@ pub data Read : DueInEntry → Piece → Type 0 where
   ReadNamed : (lowest more : ℕ) (old : SourceBefore) → FitsSourceBefore old → Read (NamedDue lowest more) (OfSourceBefore old)
   ReadNumber : (archive : ℕ) → archive < 2 ^ 16 → Read NumberDue (OfNumber archive)
   ReadOldRows : (archive rows : ℕ) → rows < 2 ^ 32 → Read (OldRowsDue archive) (OfRows rows)
+  ReadRemovedNumber : (number : ℕ) → number < 2 ^ 16 → Read RemovedNumberDue (OfNumber number)
+  ReadRemovedHead : (def : RraDef) → FitsArchive def → Read RemovedHeadDue (OfArchive def)
 
 -- the limits, the step and the outline at a stage that a file reaches
 record IsHere (l : Limits) (step : ℕ) (now : Outline) : Type 0 where
@@ -49,7 +51,7 @@ record IsHere (l : Limits) (step : ℕ) (now : Outline) : Type 0 where
 here : (f : Filed) → IsSound f → IsHere (limits f) f.header.step (outline_left f)
 here f h =
     let small = small_limits f.header.version in
-    record { small = small; sound = now_sound f h; some_step = h.header.some_step; small_step = omega (arith, h.header.small_step, small.step) }
+    record { small = small; sound = h.left; some_step = h.header.some_step; small_step = omega (arith, h.header.small_step, small.step) }
 
 row_part_fits : (step last : ℕ) (def : RraDef) (part : Part) → HasSomeSteps def → IsPart def.function (last / step % def.steps) part → FitsPart part
 row_part_fits step last def part h p = part_fits def.function (last / step % def.steps) part (omega (arith, nat.mod-lt (last / step) h.some, h.few)) p
@@ -72,6 +74,8 @@ read_one l step now h s (ReadCount x f) (ByCount y some few) e = ap OfCount (two
 read_one l step now h s (ReadNamed lowest more x f) (ByNamed _ _ y low there is) e = ap OfSourceBefore (source_before_one y x (source_before_fits l y now h.small h.sound there is) f e)
 read_one l step now h s (ReadNumber x f) (ByNumber y k) e = ap OfNumber (two_one y x (omega (arith, k, h.sound.archives)) f e)
 read_one l step now h s (ReadOldRows archive x f) (ByOldRows _ y k) e = ap OfRows (four_one y x (omega (arith, k.few, h.small.rows)) f e)
+read_one l step now h s (ReadRemovedNumber x f) (ByRemovedNumber y k) e = ap OfNumber (two_one y x (omega (arith, k.there, h.sound.archives)) f e)
+read_one l step now h s (ReadRemovedHead x f) (ByRemovedHead y k) e = ap OfArchive (archive_one y x (archive_fits l y h.small k.def_is) f e)
 
 record IsHereNow (f : Filed) (d : DueInEntry) : Type 0 where
   here_is : IsHere (limits f) f.header.step (outline_left f)
@@ -114,3 +118,15 @@ unread bytes f pieces lowest more later old new piece c g len none =
     (λ q m same.
     let it = named_way (limits f) f.header.step (outline_left f) s.here_is (way (limits f) f.header.step (outline_left f) (NamedDue lowest more) q m) in
     none it.0 it.2 (sym (ap spell it.1) ∙ same))
+
+-- settings of a removed archive that can't be read
+pub unread_head : (bytes : List ℕ) (f : Filed) (pieces : List Piece) (later : List DueInEntry) (old new : Input) (piece : List ℕ)
+    → Comes bytes f pieces (RemovedHeadDue ∷ later) old → Gives old piece new → 13 ≡ length piece → ((def : RraDef) → spell (OfArchive def) ≢ piece)
+    → IsBad bytes (BadEntry (suc (length f.entries)))
+unread_head bytes f pieces later old new piece c g len none =
+    wrong bytes f pieces RemovedHeadDue later old new piece c g len
+    (λ q m same.
+    let it = head_way (way (limits f) f.header.step (outline_left f) RemovedHeadDue q m) in
+    none it.0 (sym (ap spell it.1) ∙ same)) where
+      head_way : {l : Limits} {step : ℕ} {now : Outline} {q : Piece} → Way l step now RemovedHeadDue q → (def : RraDef) × (q ≡ OfArchive def)
+      head_way (ByRemovedHead def is) = (def, refl)

@@ -8,7 +8,9 @@ use Rattle.rrd_fixed.specs.declared.name.Name.{Name}
 use Rattle.rrd_fixed.specs.Names.{is_good, is_letter}
 use Rattle.rrd_fold.specs.Parts.{Part}
 use Rattle.rrd_spec.specs.declared.settings.DsDef.{DsDef}
-use Rattle.rrd_spec.specs.Files.Filed.{Header, Version, One}
+use Rattle.rrd_spec.specs.declared.version.Version.{Version}
+use Rattle.rrd_spec.specs.declared.version.Version.TheVariants.{One, Two}
+use Rattle.rrd_spec.specs.Files.Filed.{Header}
 use Rattle.rrd_file.specs.Layout.Values.{bound_bytes, eight_bytes, name_bytes, kind_byte, part_bytes, bound_number, source_bytes}
 use Rattle.rrd_file.specs.Layout.Pieces.{header_bytes}
 use Rattle.rrd_file.specs.Stages.{header_size}
@@ -31,6 +33,7 @@ part_length part = omega (arith, signed_length part.value)
 
 pub header_length : (version : Version) (h : Header) → length (header_bytes version h) ≡ header_size version
 header_length One h = refl
+header_length Two h = refl
 
 pub length_source : (def : DsDef) (a b : List ℕ) → length def.name ≤ 19 → length (source_bytes def ++ a ++ b) ≡ 61 + length a + length b
 length_source def a b short = omega (arith, source_length def short, length-append (source_bytes def ++ a) b, length-append (source_bytes def) a)

@@ -31,3 +31,4 @@ pub mod Kept
 pub mod Whole
 pub mod Turns
 pub mod Rowed
+pub mod Filing

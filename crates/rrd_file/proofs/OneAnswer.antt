@@ -3,23 +3,24 @@ use Rattle.std.proofs.Common.{◌≡◌, ◌∙◌, ◌++◌, ◌+◌, ◌-◌, 
 use Rattle.std.specs.Prelude.{if◌then◌else◌, nat_lt, Result, Ok, Err}
 use Rattle.std.proofs.lemmas.Bool.{lt-ltb, le-ltb}
 use Rattle.std.proofs.lemmas.List.{take_all}
-use Rattle.rrd_spec.specs.Files.Filed.{Filed, Version, One, filed}
+use Rattle.rrd_spec.specs.declared.version.Version.{Version}
+use Rattle.rrd_spec.specs.Files.Filed.{Filed, filed}
 use Rattle.rrd_spec.specs.Commands.{Command}
 use Rattle.rrd_spec.specs.Journal.Entries.{Entry}
 use Rattle.rrd_spec.specs.Laws.FiledOnce.{FiledOnce}
 use Rattle.rrd_spec.specs.History.{Content}
 use Rattle.rrd_spec.specs.Laws.Journal.{RevertTakesBack}
-use Rattle.rrd_spec.specs.Limits.{version_one}
+use Rattle.rrd_spec.specs.Limits.{Limits, limits_of}
+use Rattle.rrd_spec.specs.Validity.{IsValidWithin}
 use Rattle.rrd_spec.specs.Journal.Survivors.{Stored}
 use Rattle.rrd_file.specs.declared.fault.FileFault.{FileFault}
 use Rattle.rrd_file.specs.declared.fault.FileFault.TheVariants.{NotOurs, Version as WrongVersion, Truncated, BadBlock, BadEntry, Trailing, Read, OutOfMemory}
 use Rattle.rrd_file.specs.Faults.{Front, IsAnswer, IsBad, IsFault, IsFile, IsTrailing, IsTruncated, IsWhole, bad_at}
-use Rattle.rrd_file.specs.Laws.{BytesComeBack, BytesComeBackButOldest, IsOfFile, IsValidStored}
+use Rattle.rrd_file.specs.Laws.{BytesComeBack, BytesComeBackButOldest, IsOfFile, IsValidIn}
 use Rattle.rrd_file.specs.Layout.{layout, layout_in}
 use Rattle.rrd_file.specs.Stages.{Stage, Start, Body, size}
 use Rattle.rrd_file.proofs.Came.{whole_is_layout}
 use Rattle.rrd_file.proofs.OneEnd.{EndsAt, ends_bad, ends_done, ends_short, one_end, one_layout, same_body}
-use Rattle.rrd_file.proofs.OneSpelling.{is_one}
 use Rattle.rrd_file.proofs.ValidRuns.{Outlining, valid_is_whole}
 
 -- ---- faults
@@ -97,10 +98,12 @@ no_fault bytes f x w h =
 
 -- no two valid databases have the same lists
 abbrev pub OneDatabase : Type 0
-OneDatabase = (d e : Stored) → FiledOnce version_one One d e
+OneDatabase = (limits : Limits) (version : Version) (d e : Stored) → FiledOnce limits version d e
 
-one_filed : OneDatabase → (v w : Version) (d e : Stored) → IsValidStored d → IsValidStored e → filed v d ≡ filed w e → d ≡ e
-one_filed one v w d e a b same = one d e a.content_is b.content_is (ap (λ x. filed x d) (sym (is_one v)) ∙ same ∙ ap (λ x. filed x e) (is_one w))
+one_filed : OneDatabase → (v w : Version) (d e : Stored) → IsValidIn v d → IsValidIn w e → filed v d ≡ filed w e → d ≡ e
+one_filed one v w d e a b same =
+    let version : w ≡ v = sym (ap (λ (f : Filed). f.header.version) same) in
+    one (limits_of v) v d e a.content_is (subst (λ x. IsValidWithin (limits_of x) e.content) version b.content_is) (same ∙ ap (λ x. filed x e) version)
 
 one_file : OneDatabase → (bytes : List ℕ) (d e : Stored) → IsFile bytes d → IsFile bytes e → d ≡ e
 one_file one bytes d e f g =
@@ -115,21 +118,21 @@ one_answer one bytes (Err x) (Err y) h k a b = ap Err (one_fault bytes x y (stop
 
 -- ---- layouts
 
-pub layout_is_file : Outlining → (d : Stored) → IsValidStored d → IsAnswer (layout d) (Ok d)
-layout_is_file laws d v = record { version = One; whole = valid_is_whole laws d.content d.journal v; valid = v }
+pub layout_is_file : Outlining → (version : Version) (d : Stored) → IsValidIn version d → IsAnswer (layout_in version d) (Ok d)
+layout_is_file laws version d v = record { version = version; whole = valid_is_whole laws version d.content d.journal v; valid = v }
 
-pub layout_is_no_other : Outlining → OneDatabase → (d : Stored) → IsValidStored d → (x : Result Stored FileFault) → IsAnswer (layout d) x → IsOfFile x → x ≡ Ok d
-layout_is_no_other laws one d v x h a = one_answer one (layout d) x (Ok d) h (layout_is_file laws d v) a tt
+pub layout_is_no_other : Outlining → OneDatabase → (version : Version) (d : Stored) → IsValidIn version d → (x : Result Stored FileFault) → IsAnswer (layout_in version d) x → IsOfFile x → x ≡ Ok d
+layout_is_no_other laws one version d v x h a = one_answer one (layout_in version d) x (Ok d) h (layout_is_file laws version d v) a tt
 
 pub file_is_layout : (bytes : List ℕ) (d : Stored) (file : IsFile bytes d) → bytes ≡ layout_in file.version d
 file_is_layout bytes d file = whole_is_layout bytes (filed file.version d) file.whole
 
-pub layouts_differ : Outlining → OneDatabase → (d e : Stored) (more : List ℕ) → IsValidStored d → IsValidStored e → layout d ++ more ≡ layout e → (d ≡ e) × (more ≡ [])
-layouts_differ laws one d e more a b same =
-    let w = valid_is_whole laws d.content d.journal a in
-    let v = subst (λ (bytes : List ℕ). IsWhole bytes (filed One e)) (sym same) (valid_is_whole laws e.content e.journal b) in
-    let both = one_layout (layout d) more (filed One d) (filed One e) w v in
-    (one d e a.content_is b.content_is both.0, both.1)
+pub layouts_differ : Outlining → OneDatabase → (v w : Version) (d e : Stored) (more : List ℕ) → IsValidIn v d → IsValidIn w e → layout_in v d ++ more ≡ layout_in w e → (v ≡ w) × (d ≡ e) × (more ≡ [])
+layouts_differ laws one v w d e more a b same =
+    let mine = valid_is_whole laws v d.content d.journal a in
+    let its = subst (λ (bytes : List ℕ). IsWhole bytes (filed w e)) (sym same) (valid_is_whole laws w e.content e.journal b) in
+    let both = one_layout (layout_in v d) more (filed v d) (filed w e) mine its in
+    (ap (λ (f : Filed). f.header.version) both.0, one_filed one v w d e a b both.0, both.1)
 
 -- ---- reverts
 

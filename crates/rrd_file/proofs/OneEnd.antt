@@ -8,10 +8,10 @@ use Rattle.rrd_file.specs.Faults.{Front, IsWhole}
 use Rattle.rrd_file.specs.Layout.{spelled}
 use Rattle.rrd_file.specs.Layout.Pieces.{Piece, Mark, OfVersion, OfHeader, OfSource, OfArchive, OfPrep, OfCell, OfTag, OfTime, OfRawAndPart, OfRows, OfCount, OfSourceBefore, OfNumber, spell}
 use Rattle.rrd_file.specs.Layout.Values.{cell_number, raw_bytes, part_bytes}
-use Rattle.rrd_file.specs.Stages.{Stage, Start, Body, Runs, Takes, header_size, size}
+use Rattle.rrd_file.specs.Stages.{Stage, Start, Body, Runs, Takes, size}
 use Rattle.rrd_file.proofs.Lengths.{header_length, part_length}
 use Rattle.rrd_file.proofs.OneEntry.{one_next}
-use Rattle.rrd_file.proofs.OneSpelling.{is_one, one_at}
+use Rattle.rrd_file.proofs.OneSpelling.{one_at}
 use Rattle.rrd_file.proofs.SignedBytes.{signed_length}
 use Rattle.rrd_file.proofs.Sizes.{sizes}
 use Rattle.rrd_file.proofs.Sound.{IsSoundStage, takes_sound}
@@ -27,7 +27,7 @@ some_bytes : (p : Piece) → 0 < length (spell p)
 unfolding spell
 some_bytes Mark = omega arith
 some_bytes (OfVersion x) = omega arith
-some_bytes (OfHeader x) = omega (arith, header_length x.version x, ap header_size (is_one x.version))
+some_bytes (OfHeader x) = omega (arith, header_length x.version x)
 some_bytes (OfSource x) = omega arith
 some_bytes (OfArchive x) = omega arith
 some_bytes (OfPrep x) = omega (arith, part_length x)

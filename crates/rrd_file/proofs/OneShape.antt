@@ -10,15 +10,16 @@ use Rattle.rrd_ring.specs.Rows.{HasWidth}
 use Rattle.rrd_spec.specs.declared.entry.SourceBefore.{SourceBefore}
 use Rattle.rrd_spec.specs.declared.outline.Outline.{Outline}
 use Rattle.rrd_spec.specs.declared.settings.RraDef.{RraDef}
-use Rattle.rrd_spec.specs.Journal.Entries.{BeforeUpdate, Entry, SavedArchive, UpdateEntry, TuneEntry, ResizeEntry}
+use Rattle.rrd_spec.specs.Journal.Entries.{BeforeUpdate, Entry, SavedArchive, UpdateEntry, TuneEntry, ResizeEntry, AddedEntry, RemovedEntry}
+use Rattle.rrd_spec.specs.History.{Archive}
 use Rattle.rrd_spec.specs.Files.Filed.{Filed}
 use Rattle.rrd_spec.specs.Limits.{Limits}
 use Rattle.rrd_spec.specs.Journal.Fitting.{MaySaveEach, MayUndo}
 use Rattle.rrd_spec.specs.Files.Rebuilding.{MayEntry, limits, outline_left}
 use Rattle.rrd_spec.specs.Validity.{IsRow}
 use Rattle.rrd_file.specs.Layout.{entry_pieces, raws_and_parts, row_pieces, saved_pieces}
-use Rattle.rrd_file.specs.Layout.Pieces.{Piece, Mark, OfCell, OfCount, OfNumber, OfPrep, OfRawAndPart, OfRows, OfSourceBefore, OfTag, OfTime, AnUpdate, ATune, AResize}
-use Rattle.rrd_file.specs.Decoding.Journal.{AreSavedShaped, IsShaped, IsUpdateShaped}
+use Rattle.rrd_file.specs.Layout.Pieces.{Piece, Mark, OfArchive, OfCell, OfCount, OfNumber, OfPrep, OfRawAndPart, OfRows, OfSourceBefore, OfTag, OfTime, AnUpdate, ATune, AResize, AnAddition, ARemoval}
+use Rattle.rrd_file.specs.Decoding.Journal.{AreSavedShaped, IsRemovedShaped, IsShaped, IsUpdateShaped}
 use Rattle.rrd_file.proofs.Spelled.{append_same}
 use Rattle.rrd_file.proofs.Told.{accepted_length, length_before}
 
@@ -131,16 +132,45 @@ tune_one x y e =
     let rest : map OfSourceBefore x ≡ map OfSourceBefore y = cc in
     ap TuneEntry (map_one OfSourceBefore before_same x y rest)
 
+removed_one : (now : Outline) (x y : ℕ) (a b : Archive) → IsRemovedShaped now a → IsRemovedShaped now b → entry_pieces (RemovedEntry x a) ≡ entry_pieces (RemovedEntry y b) → RemovedEntry x a ≡ RemovedEntry y b
+removed_one now x y a b h k e =
+    let whole : OfTag ARemoval ∷ OfNumber x ∷ OfArchive a.def ∷ (map OfPrep a.parts ++ row_pieces a.rows) ≡ OfTag ARemoval ∷ OfNumber y ∷ OfArchive b.def ∷ (map OfPrep b.parts ++ row_pieces b.rows) = e in
+    let number : x ≡ y = cc in
+    let def : a.def ≡ b.def = cc in
+    let rest : map OfPrep a.parts ++ row_pieces a.rows ≡ map OfPrep b.parts ++ row_pieces b.rows = cc in
+    let same : length (map OfPrep a.parts) ≡ length (map OfPrep b.parts) = length-map a.parts OfPrep ∙ h.one_part_each ∙ sym k.one_part_each ∙ sym (length-map b.parts OfPrep) in
+    let both = append_same (map OfPrep a.parts) (row_pieces a.rows) (map OfPrep b.parts) (row_pieces b.rows) same rest in
+    let parts = map_one OfPrep prep_same a.parts b.parts both.0 in
+    let count : length a.rows ≡ length b.rows = h.rows_are ∙ ap (λ (d : RraDef). d.rows) def ∙ sym k.rows_are in
+    let rows = rows_one (length now.sources) a.rows b.rows [] [] h.one_cell_each k.one_cell_each count (ap (λ l. l ++ []) both.1) in
+    λ i. RemovedEntry (number i) (record { def = def i; parts = parts i; rows = rows.0 i })
+
 pub shaped_one : (now : Outline) (x y : Entry) → IsShaped now x → IsShaped now y → entry_pieces x ≡ entry_pieces y → x ≡ y
 shaped_one now (UpdateEntry x) (UpdateEntry y) h k e = ap UpdateEntry (update_one now x y h k e)
 shaped_one now (TuneEntry x) (TuneEntry y) h k e = tune_one x y e
 shaped_one now (ResizeEntry x rows) (ResizeEntry y olds) h k e = resize_one (length now.sources) x y rows olds h k e
+shaped_one now AddedEntry AddedEntry h k e = refl
+shaped_one now (RemovedEntry x a) (RemovedEntry y b) h k e = removed_one now x y a b h k e
 shaped_one now (UpdateEntry x) (TuneEntry y) h k e = absurd (let bad : OfTag AnUpdate ≡ OfTag ATune = ap (λ l. get_or l 0 Mark) e in cc)
 shaped_one now (UpdateEntry x) (ResizeEntry y olds) h k e = absurd (let bad : OfTag AnUpdate ≡ OfTag AResize = ap (λ l. get_or l 0 Mark) e in cc)
 shaped_one now (TuneEntry x) (UpdateEntry y) h k e = absurd (let bad : OfTag ATune ≡ OfTag AnUpdate = ap (λ l. get_or l 0 Mark) e in cc)
 shaped_one now (TuneEntry x) (ResizeEntry y olds) h k e = absurd (let bad : OfTag ATune ≡ OfTag AResize = ap (λ l. get_or l 0 Mark) e in cc)
 shaped_one now (ResizeEntry x rows) (UpdateEntry y) h k e = absurd (let bad : OfTag AResize ≡ OfTag AnUpdate = ap (λ l. get_or l 0 Mark) e in cc)
 shaped_one now (ResizeEntry x rows) (TuneEntry y) h k e = absurd (let bad : OfTag AResize ≡ OfTag ATune = ap (λ l. get_or l 0 Mark) e in cc)
+shaped_one now (UpdateEntry x) AddedEntry h k e = absurd (let bad : OfTag AnUpdate ≡ OfTag AnAddition = ap (λ l. get_or l 0 Mark) e in cc)
+shaped_one now (UpdateEntry x) (RemovedEntry y b) h k e = absurd (let bad : OfTag AnUpdate ≡ OfTag ARemoval = ap (λ l. get_or l 0 Mark) e in cc)
+shaped_one now (TuneEntry x) AddedEntry h k e = absurd (let bad : OfTag ATune ≡ OfTag AnAddition = ap (λ l. get_or l 0 Mark) e in cc)
+shaped_one now (TuneEntry x) (RemovedEntry y b) h k e = absurd (let bad : OfTag ATune ≡ OfTag ARemoval = ap (λ l. get_or l 0 Mark) e in cc)
+shaped_one now (ResizeEntry x rows) AddedEntry h k e = absurd (let bad : OfTag AResize ≡ OfTag AnAddition = ap (λ l. get_or l 0 Mark) e in cc)
+shaped_one now (ResizeEntry x rows) (RemovedEntry y b) h k e = absurd (let bad : OfTag AResize ≡ OfTag ARemoval = ap (λ l. get_or l 0 Mark) e in cc)
+shaped_one now AddedEntry (UpdateEntry y) h k e = absurd (let bad : OfTag AnAddition ≡ OfTag AnUpdate = ap (λ l. get_or l 0 Mark) e in cc)
+shaped_one now AddedEntry (TuneEntry y) h k e = absurd (let bad : OfTag AnAddition ≡ OfTag ATune = ap (λ l. get_or l 0 Mark) e in cc)
+shaped_one now AddedEntry (ResizeEntry y olds) h k e = absurd (let bad : OfTag AnAddition ≡ OfTag AResize = ap (λ l. get_or l 0 Mark) e in cc)
+shaped_one now AddedEntry (RemovedEntry y b) h k e = absurd (let bad : OfTag AnAddition ≡ OfTag ARemoval = ap (λ l. get_or l 0 Mark) e in cc)
+shaped_one now (RemovedEntry x a) (UpdateEntry y) h k e = absurd (let bad : OfTag ARemoval ≡ OfTag AnUpdate = ap (λ l. get_or l 0 Mark) e in cc)
+shaped_one now (RemovedEntry x a) (TuneEntry y) h k e = absurd (let bad : OfTag ARemoval ≡ OfTag ATune = ap (λ l. get_or l 0 Mark) e in cc)
+shaped_one now (RemovedEntry x a) (ResizeEntry y olds) h k e = absurd (let bad : OfTag ARemoval ≡ OfTag AResize = ap (λ l. get_or l 0 Mark) e in cc)
+shaped_one now (RemovedEntry x a) AddedEntry h k e = absurd (let bad : OfTag ARemoval ≡ OfTag AnAddition = ap (λ l. get_or l 0 Mark) e in cc)
 
 -- ---- an entry that fits has such lists
 
@@ -163,6 +193,8 @@ fits_shaped l step now (UpdateEntry old) m = record {
 }
 fits_shaped l step now (TuneEntry olds) m = tt
 fits_shaped l step now (ResizeEntry archive rows) m = rows_shaped (length now.sources) rows m.each_row
+fits_shaped l step now AddedEntry m = tt
+fits_shaped l step now (RemovedEntry number archive) m = record { one_part_each = m.1.parts_are.one_each; rows_are = m.1.rows_are; one_cell_each = rows_shaped (length now.sources) archive.rows m.1.each_row }
 
 pub undo_shaped : (f : Filed) (e : Entry) → MayEntry f e → IsShaped (outline_left f) e
 undo_shaped f e m = fits_shaped (limits f) f.header.step (outline_left f) e m.fits

@@ -19,18 +19,21 @@ use Rattle.rrd_spec.specs.declared.settings.DsDef.{DsDef}
 use Rattle.rrd_spec.specs.declared.settings.RraDef.{RraDef}
 use Rattle.rrd_spec.specs.declared.outline.Outline.{Outline}
 use Rattle.rrd_spec.specs.declared.entry.SourceBefore.{SourceBefore}
-use Rattle.rrd_spec.specs.Limits.{Limits}
-use Rattle.rrd_spec.specs.Files.Filed.{Filed, Head, Header, Source, Version, One}
+use Rattle.rrd_spec.specs.Limits.{Limits, deepest_journal_of}
+use Rattle.rrd_spec.specs.declared.version.Version.{Version}
+use Rattle.rrd_spec.specs.declared.version.Version.TheVariants.{One, Two}
+use Rattle.rrd_spec.specs.Files.Filed.{Filed, Head, Header, Source}
 use Rattle.rrd_spec.specs.Files.Rebuilding.{IsArchiveDef, IsHeader, MaySource, MayPrep, due, limits, outline_left, unprepared}
 use Rattle.rrd_spec.specs.Validity.{IsPart, IsSourceWithin}
 use Rattle.rrd_spec.specs.Journal.Fitting.{IsSourceBefore}
 use Rattle.rrd_spec.specs.Commands.Verdict.{is_crossed, is_far}
-use Rattle.rrd_file.specs.Layout.Pieces.{Piece, OfVersion, OfHeader, OfSource, OfArchive, OfPrep, OfCell, Tag, OfTag, AnUpdate, ATune, AResize, OfTime, OfRawAndPart, OfRows, OfCount, OfSourceBefore, OfNumber, header_bytes, spell, tag_byte}
+use Rattle.rrd_file.specs.Layout.Pieces.{Piece, OfVersion, OfHeader, OfSource, OfArchive, OfPrep, OfCell, Tag, OfTag, AnUpdate, ATune, AResize, AnAddition, ARemoval, OfTime, OfRawAndPart, OfRows, OfCount, OfSourceBefore, OfNumber, header_bytes, spell, tag_byte, version_number}
+use Rattle.rrd_file.specs.Layout.Values.{two_bytes}
 use Rattle.rrd_file.specs.Stages.{Stage, Start, DueInEntry, Runs, Takes}
-use Rattle.rrd_file.specs.Decoding.Values.{FitsArchive, FitsBound, FitsCell, FitsDef, FitsHeader, FitsSourceBefore, FitsPart, FitsRaw, FitsSource}
+use Rattle.rrd_file.specs.Decoding.Values.{counts, FitsArchive, FitsBound, FitsCell, FitsDef, FitsHeader, FitsSourceBefore, FitsPart, FitsRaw, FitsSource}
 use Rattle.rrd_file.proofs.Order.{prep_before}
-use Rattle.rrd_file.proofs.Ways.{Step, ToMark, ToVersion, ToHeader, ToSource, ToHead, ToPrep, ToCell, ToEntry, ToPiece, Way, ByTime, ByRawAndPart, ByRowPrep, ByRows, ByRowCell, ByCount, ByNamed, ByNumber, ByOldRows, step_of}
-use Rattle.rrd_file.proofs.Sound.{AreSmall, AreSound, HasSomeSteps, IsSound, IsSoundDue, IsSoundStage, now_sound, reached_sound, small_limits}
+use Rattle.rrd_file.proofs.Ways.{Step, ToMark, ToVersion, ToHeader, ToSource, ToHead, ToPrep, ToCell, ToEntry, ToPiece, Way, ByTime, ByRawAndPart, ByRowPrep, ByRows, ByRowCell, ByCount, ByNamed, ByNumber, ByOldRows, ByRemovedNumber, ByRemovedHead, step_of}
+use Rattle.rrd_file.proofs.Sound.{AreSmall, AreSound, HasSomeSteps, IsSound, IsSoundDue, IsSoundStage, reached_sound, small_limits}
 use Rattle.rrd_file.proofs.Spelled.{archive_one, raw_and_part_one, cell_one, eight_one, four_one, header_one, source_before_one, head_same, part_one, source_one, two_one}
 use Rattle.rrd_file.proofs.Tests.{and_left, and_right, or_left, or_right}
 
@@ -95,10 +98,14 @@ source_fits f s h m = record {
 pub archive_fits : (l : Limits) (def : RraDef) → AreSmall l → IsArchiveDef l def → FitsArchive def
 archive_fits l def small h = record { steps = omega (arith, h.few_steps, small.steps); xff_low = h.xff_low; xff_high = omega (arith, ints, h.xff_low, h.xff_high, small.share); rows = omega (arith, h.few_rows, small.rows) }
 
+depth_counts : (version : Version) → deepest_journal_of version < counts version
+depth_counts One = omega arith
+depth_counts Two = omega arith
+
 pub header_fits : (h : Header) → IsHeader h → FitsHeader h
 header_fits h is =
     let small = small_limits h.version in
-    record { step = omega (arith, is.small_step, small.step); last = omega (arith, is.good_time, small.last); depth = omega (arith, is.small_depth, small.depth); sources = omega (arith, is.few_sources, small.sources); archives = omega (arith, is.few_archives, small.archives); entries = omega (arith, is.few_entries, is.small_depth, small.depth) }
+    record { step = omega (arith, is.small_step, small.step); last = omega (arith, is.good_time, small.last); depth = omega (arith, is.small_depth, depth_counts h.version); sources = omega (arith, is.few_sources, small.sources); archives = omega (arith, is.few_archives, small.archives); entries = omega (arith, is.few_entries, is.small_depth, depth_counts h.version) }
 
 row_part_fits : (step last : ℕ) (def : RraDef) (part : Part) → HasSomeSteps def → IsPart def.function (last / step % def.steps) part → FitsPart part
 row_part_fits step last def part h p = part_fits def.function (last / step % def.steps) part (omega (arith, nat.mod-lt (last / step) h.some, h.few)) p
@@ -129,6 +136,8 @@ tag_one : (t u : Tag) → tag_byte t ≡ tag_byte u → t ≡ u
 tag_one AnUpdate AnUpdate e = refl
 tag_one ATune ATune e = refl
 tag_one AResize AResize e = refl
+tag_one AnAddition AnAddition e = refl
+tag_one ARemoval ARemoval e = refl
 tag_one t u e = absurd (omega (arith, e))
 
 -- ---- within an entry
@@ -159,29 +168,32 @@ one_way l step now h d (ByNamed lowest more x kl k kx) (ByNamed _ _ y ml m my) e
     ap OfSourceBefore (source_before_one x y (source_before_fits l x now h.small h.sound k kx) (source_before_fits l y now h.small h.sound m my) e)
 one_way l step now h d (ByNumber x k) (ByNumber y m) e = ap OfNumber (two_one x y (omega (arith, k, h.sound.archives)) (omega (arith, m, h.sound.archives)) e)
 one_way l step now h d (ByOldRows archive x k) (ByOldRows _ y m) e = ap OfRows (four_one x y (omega (arith, k.few, h.small.rows)) (omega (arith, m.few, h.small.rows)) e)
+one_way l step now h d (ByRemovedNumber x k) (ByRemovedNumber y m) e = ap OfNumber (two_one x y (omega (arith, k.there, h.sound.archives)) (omega (arith, m.there, h.sound.archives)) e)
+one_way l step now h d (ByRemovedHead x k) (ByRemovedHead y m) e = ap OfArchive (archive_one x y (archive_fits l x h.small k.def_is) (archive_fits l y h.small m.def_is) e)
 
 -- ---- in the body
 
-pub is_one : (v : Version) → v ≡ One
-is_one One = refl
+-- the numbers of two versions differ
+version_one : (v w : Version) → two_bytes (version_number v) ≡ two_bytes (version_number w) → v ≡ w
+version_one One One e = refl
+version_one Two Two e = refl
+version_one One Two e = let n = two_one 1 2 (omega arith) (omega arith) e in absurd (omega (arith, n))
+version_one Two One e = let n = two_one 2 1 (omega arith) (omega arith) e in absurd (omega (arith, n))
 
-same_header : (x y : Header) → IsHeader x → IsHeader y → header_bytes x.version x ≡ header_bytes y.version y → x ≡ y
-same_header x y a b e =
-    let vx = is_one x.version in
-    let vy = is_one y.version in
-    header_one x y vx vy (header_fits x a) (header_fits y b) (ap (λ v. header_bytes v x) (sym vx) ∙ e ∙ ap (λ v. header_bytes v y) vy)
+same_header : (x y : Header) → x.version ≡ y.version → IsHeader x → IsHeader y → header_bytes x.version x ≡ header_bytes y.version y → x ≡ y
+same_header x y v a b e = header_one x y v (header_fits x a) (header_fits y b) e
 
 here : (f : Filed) → IsSound f → IsHere (limits f) f.header.step (outline_left f)
 here f h =
     let small = small_limits f.header.version in
-    record { small = small; sound = now_sound f h; some_step = h.header.some_step; small_step = omega (arith, h.header.small_step, small.step) }
+    record { small = small; sound = h.left; some_step = h.header.some_step; small_step = omega (arith, h.header.small_step, small.step) }
 
 -- two pieces at a stage that a file reaches
 one_step : {s : Stage} {p q : Piece} {n m : Stage} → IsSoundStage s → Step s p n → Step s q m → spell p ≡ spell q → p ≡ q
 unfolding spell
 one_step h ToMark ToMark e = refl
-one_step h (ToVersion x) (ToVersion y) e = ap OfVersion (is_one x ∙ sym (is_one y))
-one_step h (ToHeader version x kx k) (ToHeader _ y my m) e = ap OfHeader (same_header x y k m e)
+one_step h (ToVersion x) (ToVersion y) e = ap OfVersion (version_one x y e)
+one_step h (ToHeader version x kx k) (ToHeader _ y my m) e = ap OfHeader (same_header x y (kx ∙ sym my) k m e)
 one_step h (ToSource f x k) (ToSource _ y m) e = ap OfSource (source_one x y (source_fits f x h.header k) (source_fits f y h.header m) e)
 one_step h (ToHead f x k) (ToHead _ y m) e =
     let small = small_limits f.header.version in
@@ -192,23 +204,23 @@ one_step h (ToEntry f x n k goes) (ToEntry _ y m j on) e = ap OfTag (tag_one x y
 one_step h (ToSource f x k) (ToHead _ y m) e = absurd (let both = sym k.is_due ∙ m.is_due in cc)
 one_step h (ToSource f x k) (ToPrep _ y m) e = absurd (let both = sym k.is_due ∙ m.is_due in cc)
 one_step h (ToSource f x k) (ToCell _ y m) e = absurd (let both = sym k.is_due ∙ m.is_due in cc)
-one_step h (ToSource f x k) (ToEntry _ y m j on) e = absurd (let both = sym k.is_due ∙ j in cc)
+one_step h (ToSource f x k) (ToEntry _ y m j on) e = absurd (let both = sym k.is_due ∙ j.is_due in cc)
 one_step h (ToHead f x k) (ToSource _ y m) e = absurd (let both = sym k.is_due ∙ m.is_due in cc)
 one_step h (ToHead f x k) (ToPrep _ y m) e = absurd (let both = sym k.is_due ∙ m.is_due in cc)
 one_step h (ToHead f x k) (ToCell _ y m) e = absurd (let both = sym k.is_due ∙ m.is_due in cc)
-one_step h (ToHead f x k) (ToEntry _ y m j on) e = absurd (let both = sym k.is_due ∙ j in cc)
+one_step h (ToHead f x k) (ToEntry _ y m j on) e = absurd (let both = sym k.is_due ∙ j.is_due in cc)
 one_step h (ToPrep f x k) (ToSource _ y m) e = absurd (let both = sym k.is_due ∙ m.is_due in cc)
 one_step h (ToPrep f x k) (ToHead _ y m) e = absurd (let both = sym k.is_due ∙ m.is_due in cc)
 one_step h (ToPrep f x k) (ToCell _ y m) e = absurd (let both = sym k.is_due ∙ m.is_due in cc)
-one_step h (ToPrep f x k) (ToEntry _ y m j on) e = absurd (let both = sym k.is_due ∙ j in cc)
+one_step h (ToPrep f x k) (ToEntry _ y m j on) e = absurd (let both = sym k.is_due ∙ j.is_due in cc)
 one_step h (ToCell f x k) (ToSource _ y m) e = absurd (let both = sym k.is_due ∙ m.is_due in cc)
 one_step h (ToCell f x k) (ToHead _ y m) e = absurd (let both = sym k.is_due ∙ m.is_due in cc)
 one_step h (ToCell f x k) (ToPrep _ y m) e = absurd (let both = sym k.is_due ∙ m.is_due in cc)
-one_step h (ToCell f x k) (ToEntry _ y m j on) e = absurd (let both = sym k.is_due ∙ j in cc)
-one_step h (ToEntry f x n k goes) (ToSource _ y m) e = absurd (let both = sym k ∙ m.is_due in cc)
-one_step h (ToEntry f x n k goes) (ToHead _ y m) e = absurd (let both = sym k ∙ m.is_due in cc)
-one_step h (ToEntry f x n k goes) (ToPrep _ y m) e = absurd (let both = sym k ∙ m.is_due in cc)
-one_step h (ToEntry f x n k goes) (ToCell _ y m) e = absurd (let both = sym k ∙ m.is_due in cc)
+one_step h (ToCell f x k) (ToEntry _ y m j on) e = absurd (let both = sym k.is_due ∙ j.is_due in cc)
+one_step h (ToEntry f x n k goes) (ToSource _ y m) e = absurd (let both = sym k.is_due ∙ m.is_due in cc)
+one_step h (ToEntry f x n k goes) (ToHead _ y m) e = absurd (let both = sym k.is_due ∙ m.is_due in cc)
+one_step h (ToEntry f x n k goes) (ToPrep _ y m) e = absurd (let both = sym k.is_due ∙ m.is_due in cc)
+one_step h (ToEntry f x n k goes) (ToCell _ y m) e = absurd (let both = sym k.is_due ∙ m.is_due in cc)
 one_step h (ToPiece f pieces due later p n k goes) (ToPiece _ _ _ _ q m j on) e = one_way (limits f) f.header.step (outline_left f) (here f h.0) h.1.0 k j e
 
 pub one_at : (s : Stage) (p q : Piece) (n m : Stage) → IsSoundStage s → Takes s p n → Takes s q m → spell p ≡ spell q → p ≡ q

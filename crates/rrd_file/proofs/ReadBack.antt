@@ -7,10 +7,12 @@ use Rattle.rrd_fixed.specs.Names.{fits}
 use Rattle.rrd_fold.specs.declared.function.Function.{Function}
 use Rattle.rrd_spec.specs.declared.settings.RraDef.{RraDef}
 use Rattle.rrd_spec.specs.declared.entry.SourceBefore.{SourceBefore}
-use Rattle.rrd_file.specs.Layout.Pieces.{OfSourceBefore, OfArchive, OfHeader, OfSource, OfRawAndPart, spell}
+use Rattle.rrd_file.specs.Layout.Pieces.{OfSourceBefore, OfArchive, OfHeader, OfSource, OfRawAndPart, count_bytes, spell}
+use Rattle.rrd_file.specs.Stages.{header_size}
 use Rattle.rrd_file.specs.Decoding.Values.{FitsSourceBefore, FitsArchive, FitsDef, FitsNumber, FitsSource}
-use Rattle.rrd_spec.specs.Files.Filed.{One, Source}
-use Rattle.rrd_file.proofs.Spelled.{append_same, short_fit}
+use Rattle.rrd_spec.specs.declared.version.Version.{Version}
+use Rattle.rrd_spec.specs.Files.Filed.{Source}
+use Rattle.rrd_file.proofs.Spelled.{append_same, header_parts, short_fit}
 use Rattle.rrd_file.proofs.Lengths.{name_length, source_length}
 use Rattle.rrd_fixed.specs.declared.raw.Raw.{Raw}
 use Rattle.rrd_fold.specs.Parts.{Part}
@@ -64,12 +66,13 @@ nothing_left : (bs : List ℕ) → length bs ≡ 0 → bs ≡ []
 nothing_left [] l = refl
 nothing_left (b ∷ bs) l = absurd (omega (arith, l))
 
-pub header_back : (bs r s t u v w : List ℕ) (a b c d e f : ℕ) → length bs ≡ 20 → bs ≡ four_bytes a ++ r → r ≡ eight_bytes b ++ s → s ≡ two_bytes c ++ t → t ≡ two_bytes d ++ u → u ≡ two_bytes e ++ v → v ≡ two_bytes f ++ w → length w + 20 ≡ length bs
-    → spell (OfHeader (record { version = One; step = a; last = b; depth = c; sources = d; archives = e; entries = f })) ≡ bs
+pub header_back : (version : Version) (bs r s t u v w : List ℕ) (a b c d e f : ℕ) → length bs ≡ header_size version → bs ≡ four_bytes a ++ r → r ≡ eight_bytes b ++ s → s ≡ count_bytes version c ++ t → t ≡ two_bytes d ++ u → u ≡ two_bytes e ++ v → v ≡ count_bytes version f ++ w → length w + header_size version ≡ length bs
+    → spell (OfHeader (record { version = version; step = a; last = b; depth = c; sources = d; archives = e; entries = f })) ≡ bs
 unfolding spell
-header_back bs r s t u v w a b c d e f l p q x y z o n =
+header_back version bs r s t u v w a b c d e f l p q x y z o n =
     let none : w ≡ [] = nothing_left w (omega (arith, l, n)) in
-    sym (p ∙ ap (λ k. four_bytes a ++ k) (q ∙ ap (λ k. eight_bytes b ++ k) (x ∙ ap (λ k. two_bytes c ++ k) (y ∙ ap (λ k. two_bytes d ++ k) (z ∙ ap (λ k. two_bytes e ++ k) (o ∙ ap (λ k. two_bytes f ++ k) none))))))
+    header_parts version (record { version = version; step = a; last = b; depth = c; sources = d; archives = e; entries = f })
+    ∙ sym (p ∙ ap (λ k. four_bytes a ++ k) (q ∙ ap (λ k. eight_bytes b ++ k) (x ∙ ap (λ k. count_bytes version c ++ k) (y ∙ ap (λ k. two_bytes d ++ k) (z ∙ ap (λ k. two_bytes e ++ k) (o ∙ ap (λ k. count_bytes version f ++ k) none ∙ append-nil (count_bytes version f)))))))
 
 pub archive_back : (bs first r s t u : List ℕ) (function : Function) (a b c : ℕ) → length bs ≡ 13 → first ≡ take 1 bs → r ≡ drop 1 bs → function_byte function ≡ get_or first 0 0 → r ≡ four_bytes a ++ s → s ≡ four_bytes b ++ t → t ≡ four_bytes c ++ u → length u + 12 ≡ length r
     → spell (OfArchive (record { function = function; xff = pos b; steps = a; rows = c })) ≡ bs

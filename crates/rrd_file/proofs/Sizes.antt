@@ -7,7 +7,7 @@ use Rattle.rrd_file.specs.Layout.Pieces.{Piece, spell}
 use Rattle.rrd_file.specs.Stages.{Stage, DueInEntry, Takes, body_size, header_size, size, size_due}
 use Rattle.rrd_file.proofs.SignedBytes.{signed_length}
 use Rattle.rrd_file.proofs.Lengths.{header_length, length_source, part_length, short_name, source_length}
-use Rattle.rrd_file.proofs.Ways.{Step, ToMark, ToVersion, ToHeader, ToSource, ToHead, ToPrep, ToCell, ToEntry, ToPiece, Way, ByTime, ByRawAndPart, ByRowPrep, ByRows, ByRowCell, ByCount, ByNamed, ByNumber, ByOldRows, step_of}
+use Rattle.rrd_file.proofs.Ways.{Step, ToMark, ToVersion, ToHeader, ToSource, ToHead, ToPrep, ToCell, ToEntry, ToPiece, Way, ByTime, ByRawAndPart, ByRowPrep, ByRows, ByRowCell, ByCount, ByNamed, ByNumber, ByOldRows, ByRemovedNumber, ByRemovedHead, step_of}
 
 way_size : (l : Limits) (step : ℕ) (now : Outline) {due : DueInEntry} {p : Piece} → Way l step now due p → length (spell p) ≡ size_due due
 unfolding spell
@@ -20,6 +20,8 @@ way_size l step now (ByCount count h k) = refl
 way_size l step now (ByNamed lowest more old h k is) = omega (arith, length-append (source_bytes old.source) (raw_bytes old.raw), signed_length (raw_number old.raw), source_length old.source (short_name old.source.name is.0.good_name))
 way_size l step now (ByNumber archive h) = refl
 way_size l step now (ByOldRows archive rows h) = refl
+way_size l step now (ByRemovedNumber number h) = refl
+way_size l step now (ByRemovedHead def h) = refl
 
 step_size : {s : Stage} {p : Piece} {n : Stage} → Step s p n → length (spell p) ≡ size s
 unfolding spell size
@@ -30,7 +32,7 @@ step_size (ToSource f s may) = omega (arith, length_source s.def (raw_bytes s.ra
 step_size (ToHead f def may) = sym (ap body_size may.is_due)
 step_size (ToPrep f part may) = part_length part ∙ sym (ap body_size may.is_due)
 step_size (ToCell f cell may) = signed_length (cell_number cell) ∙ sym (ap body_size may.is_due)
-step_size (ToEntry f tag next is_due goes) = sym (ap body_size is_due)
+step_size (ToEntry f tag next may goes) = sym (ap body_size may.is_due)
 step_size (ToPiece f pieces due later p next w goes) = way_size _ _ _ w
 
 pub sizes : (s : Stage) (p : Piece) (n : Stage) → Takes s p n → length (spell p) ≡ size s

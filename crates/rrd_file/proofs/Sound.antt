@@ -1,8 +1,9 @@
 -- At each stage that a file reaches, the settings keep to their limits.
-use Rattle.std.proofs.Common.{◌≡◌, ◌∙◌, ◌++◌, ◌∷◌, ◌+◌, ◌<◌, ◌≤◌, ℕ, zero, suc, List, [], sym, ap, refl, subst, length, arith, map, length-append}
+use Rattle.std.proofs.Common.{◌≡◌, ◌∙◌, ◌++◌, ◌∷◌, ◌+◌, ◌<◌, ◌≤◌, ℕ, zero, suc, List, [], sym, ap, refl, subst, length, arith, map, ◌-◌, drop, take, length-append, length-drop}
 use Rattle.std.specs.Prelude.{replicate, slice_set}
 use Rattle.std.specs.List.{AllByRecursion, flat_map, fold}
-use Rattle.std.proofs.lemmas.List.{length-map}
+use Rattle.std.proofs.lemmas.List.{length-map, length-take}
+use Rattle.std.proofs.lemmas.List.Sums.{fold-append}
 use Rattle.std.proofs.lemmas.List.Concat.{flat_map-cons}
 use Rattle.rrd_fixed.specs.Rate.{top}
 use Rattle.rrd_fold.specs.Parts.{Part}
@@ -10,37 +11,42 @@ use Rattle.rrd_spec.specs.declared.settings.DsDef.{DsDef}
 use Rattle.rrd_spec.specs.declared.settings.RraDef.{RraDef}
 use Rattle.rrd_spec.specs.declared.outline.Outline.{Outline}
 use Rattle.rrd_spec.specs.declared.entry.SourceBefore.{SourceBefore}
-use Rattle.rrd_spec.specs.Limits.{Limits}
-use Rattle.rrd_spec.specs.Journal.Entries.{Entry, UpdateEntry, TuneEntry, ResizeEntry}
-use Rattle.rrd_spec.specs.Files.Filed.{Filed, Head, Source, Version, One}
-use Rattle.rrd_spec.specs.Lemmas.Lists.{All-append, All-replicate}
-use Rattle.rrd_spec.specs.Files.Rebuilding.{IsHeader, MayEntry, due, heads_with_part, limits, limits_of, outline_left}
+use Rattle.rrd_spec.specs.Limits.{Limits, limits_of, most_archives_of}
+use Rattle.rrd_spec.specs.Journal.Entries.{Entry, UpdateEntry, TuneEntry, ResizeEntry, AddedEntry, RemovedEntry}
+use Rattle.rrd_spec.specs.declared.version.Version.{Version}
+use Rattle.rrd_spec.specs.declared.version.Version.TheVariants.{One, Two}
+use Rattle.rrd_spec.specs.Files.Filed.{Filed, Head, Source}
+use Rattle.rrd_spec.specs.Lemmas.Lists.{All-append, All-drop, All-replicate, All-take}
+use Rattle.rrd_spec.specs.Files.Rebuilding.{IsHeader, begun, heads_with_part, limits, outline_filed, outline_left, with_head, with_source}
+use Rattle.rrd_spec.specs.Journal.Fitting.{MayUndo}
 use Rattle.rrd_spec.specs.Journal.Outlines.{outline_undone, with_row_number, with_sources}
-use Rattle.rrd_file.specs.Layout.Pieces.{Piece, Tag, OfTag, AnUpdate, ATune, AResize}
-use Rattle.rrd_file.specs.Stages.{Stage, Start, Marked, Versioned, Body, Within, DueInEntry, TimeDue, BeforeDue, RowPrepDue, RowsDue, RowCellDue, CountDue, NamedDue, NumberDue, OldRowsDue, GoesOn, Runs, Takes, archive_due, behind, first_due, named_due}
-use Rattle.rrd_file.proofs.Order.{source_before, before_head}
-use Rattle.rrd_file.proofs.Ways.{Step, ToMark, ToVersion, ToHeader, ToSource, ToHead, ToPrep, ToCell, ToEntry, ToPiece, Way, ByTime, ByRawAndPart, ByRowPrep, ByRows, ByRowCell, ByCount, ByNamed, ByNumber, ByOldRows, step_of}
+use Rattle.rrd_file.specs.Layout.Pieces.{Piece, Tag, OfTag, AnUpdate, ATune, AResize, AnAddition, ARemoval}
+use Rattle.rrd_file.specs.Stages.{Stage, Start, Marked, Versioned, Body, Within, DueInEntry, TimeDue, BeforeDue, RowPrepDue, RowsDue, RowCellDue, CountDue, NamedDue, NumberDue, OldRowsDue, RemovedNumberDue, RemovedHeadDue, GoesOn, Runs, Takes, archive_due, behind, first_due, named_due}
+use Rattle.rrd_file.proofs.Order.{before_entry, before_head, source_before}
+use Rattle.rrd_file.proofs.Ways.{Step, ToMark, ToVersion, ToHeader, ToSource, ToHead, ToPrep, ToCell, ToEntry, ToPiece, Way, ByTime, ByRawAndPart, ByRowPrep, ByRows, ByRowCell, ByCount, ByNamed, ByNumber, ByOldRows, ByRemovedNumber, ByRemovedHead, step_of}
 
 -- limits that no version exceeds
 pub record AreSmall (l : Limits) : Type 0 where
   pub step : l.longest_step ≤ 1000000
   pub last : l.latest_time ≤ 9999999999
-  pub depth : l.deepest_journal ≤ 1000
   pub sources : l.most_sources ≤ 64
-  pub archives : l.most_archives ≤ 64
+  pub archives : l.most_archives ≤ 128
   pub heartbeat : l.longest_heartbeat ≤ 9999999999
   pub bound : l.greatest_bound ≤ top
   pub share : l.greatest_share ≤ 999999
   pub steps : l.most_steps ≤ 1000000
   pub rows : l.most_rows ≤ 1000000
 
+few_archives : (version : Version) → most_archives_of version ≤ 128
+few_archives One = omega arith
+few_archives Two = omega arith
+
 pub small_limits : (version : Version) → AreSmall (limits_of version)
-small_limits One = record {
+small_limits version = record {
   step = omega arith;
   last = omega arith;
-  depth = omega arith;
   sources = omega arith;
-  archives = omega arith;
+  archives = few_archives version;
   heartbeat = omega arith;
   bound = omega arith;
   share = omega arith;
@@ -55,20 +61,16 @@ pub record HasSomeSteps (def : RraDef) : Type 0 where
 pub record AreSound (s : Outline) : Type 0 where
   pub last : s.last ≤ 9999999999
   pub sources : length s.sources ≤ 64
-  pub archives : length s.archives ≤ 64
+  pub archives : length s.archives ≤ 128
   pub steps : AllByRecursion HasSomeSteps s.archives
-
-abbrev pub IsSoundEntry : Entry → Type 0
-IsSoundEntry (UpdateEntry old) = old.last ≤ 9999999999
-IsSoundEntry (TuneEntry olds) = Unit {0}
-IsSoundEntry (ResizeEntry archive rows) = Unit {0}
 
 pub record IsSound (f : Filed) : Type 0 where
   pub header : IsHeader f.header
   pub sources : length f.sources ≤ f.header.sources
   pub heads : length f.heads ≤ f.header.archives
   pub steps : AllByRecursion HasSomeSteps (map (λ (head : Head). head.def) f.heads)
-  pub entries : AllByRecursion IsSoundEntry f.entries
+  pub late : 0 < length f.entries → (f.header.sources ≤ length f.sources) × (f.header.archives ≤ length f.heads)
+  pub left : AreSound (outline_left f)
 
 abbrev pub IsSoundDue : DueInEntry → Type 0
 IsSoundDue TimeDue = Unit {0}
@@ -80,6 +82,8 @@ IsSoundDue CountDue = Unit {0}
 IsSoundDue (NamedDue lowest more) = Unit {0}
 IsSoundDue NumberDue = Unit {0}
 IsSoundDue (OldRowsDue archive) = Unit {0}
+IsSoundDue RemovedNumberDue = Unit {0}
+IsSoundDue RemovedHeadDue = Unit {0}
 
 abbrev pub IsSoundStage : Stage → Type 0
 IsSoundStage Start = Unit {0}
@@ -109,24 +113,42 @@ resized_steps [] i rows h = tt
 resized_steps (def ∷ defs) zero rows h = (record { some = h.0.some; few = h.0.few }, h.1)
 resized_steps (def ∷ defs) (suc i) rows h = (h.0, resized_steps defs i rows h.1)
 
-undone_sound : (s : Outline) (e : Entry) → AreSound s → IsSoundEntry e → AreSound (outline_undone s e)
-undone_sound s (UpdateEntry old) h k = record { last = k; sources = h.sources; archives = h.archives; steps = h.steps }
-undone_sound s (TuneEntry olds) h k = record { last = h.last; sources = omega (arith, h.sources, tuned_length s.sources olds); archives = h.archives; steps = h.steps }
-undone_sound s (ResizeEntry archive rows) h k = record { last = h.last; sources = h.sources; archives = omega (arith, h.archives, resized_length s.archives archive (length rows)); steps = resized_steps s.archives archive (length rows) h.steps }
+undone_sound : (l : Limits) (step : ℕ) (s : Outline) (e : Entry) → AreSmall l → AreSound s → MayUndo l step s e → AreSound (outline_undone s e)
+undone_sound l step s (UpdateEntry old) small h m = record { last = omega (arith, h.last, m.earlier); sources = h.sources; archives = h.archives; steps = h.steps }
+undone_sound l step s (TuneEntry olds) small h m = record { last = h.last; sources = omega (arith, h.sources, tuned_length s.sources olds); archives = h.archives; steps = h.steps }
+undone_sound l step s (ResizeEntry archive rows) small h m = record { last = h.last; sources = h.sources; archives = omega (arith, h.archives, resized_length s.archives archive (length rows)); steps = resized_steps s.archives archive (length rows) h.steps }
+undone_sound l step s AddedEntry small h m =
+    let n = length s.archives - 1 in
+    record { last = h.last; sources = h.sources; archives = omega (arith, h.archives, length-take n s.archives); steps = All-take HasSomeSteps n s.archives h.steps }
+undone_sound l step s (RemovedEntry number archive) small h m =
+    let is = m.1 in
+    let front = take number s.archives in
+    let back = drop number s.archives in
+    let steps : HasSomeSteps archive.def = record { some = is.settings_are.def_is.some_steps; few = omega (arith, is.settings_are.def_is.few_steps, small.steps) } in
+    record {
+      last = h.last;
+      sources = h.sources;
+      archives = omega (arith, is.number_is.few, small.archives, is.number_is.there, length-append front (archive.def ∷ back), length-take number s.archives, length-drop number s.archives);
+      steps = All-append HasSomeSteps front (archive.def ∷ back) (All-take HasSomeSteps number s.archives h.steps) (steps, All-drop HasSomeSteps number s.archives h.steps);
+    }
 
-fold_sound : (s : Outline) (es : List Entry) → AreSound s → AllByRecursion IsSoundEntry es → AreSound (fold outline_undone s es)
-fold_sound s [] h k = h
-fold_sound s (e ∷ es) h k = fold_sound (outline_undone s e) es (undone_sound s e h k.0) k.1
-
-pub now_sound : (f : Filed) → IsSound f → AreSound (outline_left f)
-now_sound f h =
+-- before the first entry
+filed_sound : (f : Filed) → IsHeader f.header → length f.sources ≤ f.header.sources → length f.heads ≤ f.header.archives → AllByRecursion HasSomeSteps (map (λ (head : Head). head.def) f.heads) → AreSound (outline_filed f)
+filed_sound f is sources heads steps =
     let small = small_limits f.header.version in
-    fold_sound _ f.entries (record {
-      last = omega (arith, h.header.good_time, small.last);
-      sources = omega (arith, length-map f.sources (λ (source : Source). source.def), h.sources, h.header.few_sources, small.sources);
-      archives = omega (arith, length-map f.heads (λ (head : Head). head.def), h.heads, h.header.few_archives, small.archives);
-      steps = h.steps;
-    }) h.entries
+    record {
+      last = omega (arith, is.good_time, small.last);
+      sources = omega (arith, length-map f.sources (λ (source : Source). source.def), sources, is.few_sources, small.sources);
+      archives = omega (arith, length-map f.heads (λ (head : Head). head.def), heads, is.few_archives, small.archives);
+      steps = steps;
+    }
+
+none_of : {A : Type 0} (xs : List A) → (0 < length xs → ⊥) → xs ≡ []
+none_of [] h = refl
+none_of (x ∷ xs) h = absurd (h (omega arith))
+
+none_left : (f : Filed) → f.entries ≡ [] → AreSound (outline_filed f) → AreSound (outline_left f)
+none_left f none h = subst (λ (es : List Entry). AreSound (fold outline_undone (outline_filed f) es)) (sym none) h
 
 -- ---- within an entry
 
@@ -154,16 +176,22 @@ first_sound : (tag : Tag) → AllByRecursion IsSoundDue (first_due tag)
 first_sound AnUpdate = (tt, tt)
 first_sound ATune = (tt, tt)
 first_sound AResize = (tt, tt)
-
-entry_sound : (f : Filed) (e : Entry) → IsSound f → MayEntry f e → IsSoundEntry e
-entry_sound f (UpdateEntry old) h m = let now = now_sound f h in omega (arith, now.last, m.fits.earlier)
-entry_sound f (TuneEntry olds) h m = tt
-entry_sound f (ResizeEntry archive rows) h m = tt
+first_sound AnAddition = tt
+first_sound ARemoval = (tt, tt)
 
 goes_sound : (f : Filed) (pieces : List Piece) (due : List DueInEntry) (next : Stage) → IsSound f → AllByRecursion IsSoundDue due → GoesOn f pieces due next → IsSoundStage next
 goes_sound f pieces (due ∷ later) next h k g = subst IsSoundStage (sym g) (h, k)
 goes_sound f pieces [] next h k g =
-    subst IsSoundStage (sym g.3) (record { header = h.header; sources = h.sources; heads = h.heads; steps = h.steps; entries = All-append IsSoundEntry f.entries (g.0 ∷ []) h.entries (entry_sound f g.0 h g.2, tt) })
+    let before = before_entry f g.2.is_due in
+    let left = undone_sound (limits f) f.header.step (outline_left f) g.0 (small_limits f.header.version) h.left g.2.fits in
+    subst IsSoundStage (sym g.3) (record {
+      header = h.header;
+      sources = h.sources;
+      heads = h.heads;
+      steps = h.steps;
+      late = λ some. (before.sources, before.heads);
+      left = subst AreSound (sym (fold-append outline_undone (outline_filed f) f.entries (g.0 ∷ []))) left;
+    })
 
 -- ---- what a piece adds
 
@@ -181,43 +209,59 @@ head_steps : (heads : List Head) (head : Head) → AllByRecursion HasSomeSteps (
 head_steps [] head h k = (k, tt)
 head_steps (x ∷ heads) head h k = (h.0, head_steps heads head h.1 k)
 
-behind_sound : (l : Limits) (step : ℕ) (now : Outline) {due : DueInEntry} {p : Piece} → AreSound now → Way l step now due p → AllByRecursion IsSoundDue (behind step now due p)
-behind_sound l step now h (ByTime last is) = All-append IsSoundDue (map (BeforeDue last) now.sources) (flat_map (archive_due step now last) now.archives) (sources_sound last now.sources) (archives_sound step now last now.archives h.steps)
-behind_sound l step now h (ByRawAndPart last def raw part is has) = tt
-behind_sound l step now h (ByRowPrep last def part is) = tt
-behind_sound l step now h (ByRows rows count is) = tt
-behind_sound l step now h (ByRowCell cell is) = tt
-behind_sound l step now h (ByCount count some few) = named_sound 0 count
-behind_sound l step now h (ByNamed lowest more old from to is) = named_sound (old.number + 1) more
-behind_sound l step now h (ByNumber archive is) = (tt, tt)
-behind_sound l step now h (ByOldRows archive rows is) = cells_sound _
+behind_sound : (l : Limits) (step : ℕ) (now : Outline) {due : DueInEntry} {p : Piece} → AreSmall l → AreSound now → Way l step now due p → AllByRecursion IsSoundDue (behind step now due p)
+behind_sound l step now small h (ByTime last is) = All-append IsSoundDue (map (BeforeDue last) now.sources) (flat_map (archive_due step now last) now.archives) (sources_sound last now.sources) (archives_sound step now last now.archives h.steps)
+behind_sound l step now small h (ByRawAndPart last def raw part is has) = tt
+behind_sound l step now small h (ByRowPrep last def part is) = tt
+behind_sound l step now small h (ByRows rows count is) = tt
+behind_sound l step now small h (ByRowCell cell is) = tt
+behind_sound l step now small h (ByCount count some few) = named_sound 0 count
+behind_sound l step now small h (ByNamed lowest more old from to is) = named_sound (old.number + 1) more
+behind_sound l step now small h (ByNumber archive is) = (tt, tt)
+behind_sound l step now small h (ByOldRows archive rows is) = cells_sound _
+behind_sound l step now small h (ByRemovedNumber number is) = (tt, tt)
+behind_sound l step now small h (ByRemovedHead def is) = All-append IsSoundDue (replicate (length now.sources) (RowPrepDue now.last def)) _ (All-replicate IsSoundDue (length now.sources) (RowPrepDue now.last def) (record { some = is.def_is.some_steps; few = omega (arith, is.def_is.few_steps, small.steps) })) (cells_sound _)
 
 -- what a piece leads to
 step_sound : {s : Stage} {p : Piece} {n : Stage} → IsSoundStage s → Step s p n → IsSoundStage n
 step_sound h ToMark = tt
 step_sound h (ToVersion version) = tt
-step_sound h (ToHeader version header same is) = record { header = is; sources = omega arith; heads = omega arith; steps = tt; entries = tt }
+step_sound h (ToHeader version header same is) =
+    let few : 0 ≤ header.sources = omega arith in
+    let none : 0 ≤ header.archives = omega arith in
+    record { header = is; sources = few; heads = none; steps = tt; late = λ some. absurd (omega (arith, some)); left = filed_sound (begun header) is few none tt }
 step_sound h (ToSource f s may) =
     let more = source_before f may.is_due in
-    record { header = h.header; sources = omega (arith, more, length-append f.sources (s ∷ [])); heads = h.heads; steps = h.steps; entries = h.entries }
+    let new = with_source f s in
+    let sources : length new.sources ≤ f.header.sources = omega (arith, more, length-append f.sources (s ∷ [])) in
+    let none = none_of f.entries (λ some. absurd (omega (arith, more, (h.late some).0))) in
+    record { header = h.header; sources = sources; heads = h.heads; steps = h.steps; late = λ some. absurd (omega (arith, some, ap length none)); left = none_left new none (filed_sound new h.header sources h.heads h.steps) }
 step_sound h (ToHead f def may) =
     let before = before_head f may.is_due in
     let head : Head = record { def = def; parts = [] } in
+    let new = with_head f def in
     let small = small_limits f.header.version in
+    let heads : length new.heads ≤ f.header.archives = omega (arith, before.more, length-append f.heads (head ∷ [])) in
+    let steps = head_steps f.heads head h.steps (record { some = may.def_is.some_steps; few = omega (arith, may.def_is.few_steps, small.steps) }) in
+    let none = none_of f.entries (λ some. absurd (omega (arith, before.more, (h.late some).1))) in
+    record { header = h.header; sources = h.sources; heads = heads; steps = steps; late = λ some. absurd (omega (arith, some, ap length none)); left = none_left new none (filed_sound new h.header h.sources heads steps) }
+step_sound h (ToPrep f part may) =
+    let defs = part_same f.heads part in
+    let count = part_length f.heads part in
     record {
       header = h.header;
       sources = h.sources;
-      heads = omega (arith, before.more, length-append f.heads (head ∷ []));
-      steps = head_steps f.heads head h.steps (record { some = may.def_is.some_steps; few = omega (arith, may.def_is.few_steps, small.steps) });
-      entries = h.entries;
+      heads = omega (arith, h.heads, count);
+      steps = subst (AllByRecursion HasSomeSteps) (sym defs) h.steps;
+      late = λ some. ((h.late some).0, omega (arith, (h.late some).1, count));
+      left = subst (λ (ds : List RraDef). AreSound (fold outline_undone (record { last = f.header.last; sources = map (λ (source : Source). source.def) f.sources; archives = ds }) f.entries)) (sym defs) h.left;
     }
-step_sound h (ToPrep f part may) = record { header = h.header; sources = h.sources; heads = omega (arith, h.heads, part_length f.heads part); steps = subst (AllByRecursion HasSomeSteps) (sym (part_same f.heads part)) h.steps; entries = h.entries }
-step_sound h (ToCell f cell may) = record { header = h.header; sources = h.sources; heads = h.heads; steps = h.steps; entries = h.entries }
-step_sound h (ToEntry f tag next is_due goes) = goes_sound f (OfTag tag ∷ []) (first_due tag) next h (first_sound tag) goes
+step_sound h (ToCell f cell may) = record { header = h.header; sources = h.sources; heads = h.heads; steps = h.steps; late = h.late; left = h.left }
+step_sound h (ToEntry f tag next may goes) = goes_sound f (OfTag tag ∷ []) (first_due tag) next h (first_sound tag) goes
 step_sound h (ToPiece f pieces due later p next w goes) =
     let now = outline_left f in
     goes_sound f (pieces ++ p ∷ []) (behind f.header.step now due p ++ later) next h.0
-    (All-append IsSoundDue (behind f.header.step now due p) later (behind_sound (limits f) f.header.step now (now_sound f h.0) w) h.1.1) goes
+    (All-append IsSoundDue (behind f.header.step now due p) later (behind_sound (limits f) f.header.step now (small_limits f.header.version) h.0.left w) h.1.1) goes
 
 pub takes_sound : (s : Stage) (p : Piece) (n : Stage) → IsSoundStage s → Takes s p n → IsSoundStage n
 takes_sound s p n h t = step_sound h (step_of s p n t)

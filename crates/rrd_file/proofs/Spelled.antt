@@ -1,5 +1,5 @@
 -- A value that its bytes can stand for has bytes that no other such value has.
-use Rattle.std.proofs.Common.{◌≡◌, ◌∙◌, ◌++◌, ◌∷◌, ◌-◌, ◌^◌, ◌<◌, ◌≤◌, ℕ, List, [], sym, ap, refl, get_or, drop, length, replicate, arith, length-append}
+use Rattle.std.proofs.Common.{◌≡◌, ◌∙◌, ◌++◌, ◌∷◌, ◌-◌, ◌^◌, ◌<◌, ◌≤◌, ℕ, List, [], sym, ap, refl, subst, get_or, drop, length, replicate, arith, length-append}
 use Rattle.std.specs.Prelude.{◌≤ℤ◌, ℤ, negsuc, pos, unsigned_abs, nat_lt, true, Option, Some, None}
 use Rattle.std.specs.List.{list_all}
 use Rattle.std.specs.Int.{w16, w32, w64, w128, from_be_bytes}
@@ -19,10 +19,12 @@ use Rattle.rrd_fold.specs.Parts.{Part}
 use Rattle.rrd_spec.specs.declared.settings.DsDef.{DsDef}
 use Rattle.rrd_spec.specs.declared.settings.RraDef.{RraDef}
 use Rattle.rrd_spec.specs.declared.entry.SourceBefore.{SourceBefore}
-use Rattle.rrd_spec.specs.Files.Filed.{Header, Source, One}
-use Rattle.rrd_file.specs.Layout.Pieces.{header_bytes}
+use Rattle.rrd_spec.specs.declared.version.Version.{Version}
+use Rattle.rrd_spec.specs.declared.version.Version.TheVariants.{One, Two}
+use Rattle.rrd_spec.specs.Files.Filed.{Header, Source}
+use Rattle.rrd_file.specs.Layout.Pieces.{count_bytes, header_bytes}
 use Rattle.rrd_file.specs.Layout.Values.{archive_bytes, bound_bytes, bound_number, cell_bytes, eight_bytes, four_bytes, function_byte, kind_byte, least, name_bytes, part_bytes, raw_bytes, raw_number, signed_bytes, source_bytes, two_bytes}
-use Rattle.rrd_file.specs.Decoding.Values.{FitsArchive, FitsBound, FitsCell, FitsDef, FitsHeader, FitsSourceBefore, FitsNumber, FitsPart, FitsRaw, FitsSource}
+use Rattle.rrd_file.specs.Decoding.Values.{counts, FitsArchive, FitsBound, FitsCell, FitsDef, FitsHeader, FitsSourceBefore, FitsNumber, FitsPart, FitsRaw, FitsSource}
 use Rattle.rrd_file.proofs.SignedBytes.{signed_length, signed_one}
 use Rattle.rrd_file.proofs.Lengths.{name_length, source_length}
 use Rattle.rrd_file.proofs.Tests.{and_left}
@@ -183,18 +185,46 @@ archive_one a b fa fb e =
     let rows = four_one a.rows b.rows fa.rows fb.rows u.1 in
     λ i. record { function = function i; steps = steps i; xff = xff i; rows = rows i }
 
-pub header_one : (a b : Header) → a.version ≡ One → b.version ≡ One → FitsHeader a → FitsHeader b → header_bytes One a ≡ header_bytes One b → a ≡ b
-header_one a b va vb fa fb e =
-    let s = append_same (four_bytes a.step) (eight_bytes a.last ++ (two_bytes a.depth ++ (two_bytes a.sources ++ (two_bytes a.archives ++ two_bytes a.entries)))) (four_bytes b.step) (eight_bytes b.last ++ (two_bytes b.depth ++ (two_bytes b.sources ++ (two_bytes b.archives ++ two_bytes b.entries)))) refl e in
-    let t = append_same (eight_bytes a.last) (two_bytes a.depth ++ (two_bytes a.sources ++ (two_bytes a.archives ++ two_bytes a.entries))) (eight_bytes b.last) (two_bytes b.depth ++ (two_bytes b.sources ++ (two_bytes b.archives ++ two_bytes b.entries))) refl s.1 in
-    let u = append_same (two_bytes a.depth) (two_bytes a.sources ++ (two_bytes a.archives ++ two_bytes a.entries)) (two_bytes b.depth) (two_bytes b.sources ++ (two_bytes b.archives ++ two_bytes b.entries)) refl t.1 in
-    let v = append_same (two_bytes a.sources) (two_bytes a.archives ++ two_bytes a.entries) (two_bytes b.sources) (two_bytes b.archives ++ two_bytes b.entries) refl u.1 in
-    let w = append_same (two_bytes a.archives) (two_bytes a.entries) (two_bytes b.archives) (two_bytes b.entries) refl v.1 in
-    let version : a.version ≡ b.version = va ∙ sym vb in
-    let step = four_one a.step b.step fa.step fb.step s.0 in
-    let last = eight_one a.last b.last fa.last fb.last t.0 in
-    let depth = two_one a.depth b.depth fa.depth fb.depth u.0 in
-    let sources = two_one a.sources b.sources fa.sources fb.sources v.0 in
-    let archives = two_one a.archives b.archives fa.archives fb.archives w.0 in
-    let entries = two_one a.entries b.entries fa.entries fb.entries w.1 in
-    λ i. record { version = version i; step = step i; last = last i; depth = depth i; sources = sources i; archives = archives i; entries = entries i }
+-- a count of a header
+count_one : (version : Version) (a b : ℕ) → a < counts version → b < counts version → count_bytes version a ≡ count_bytes version b → a ≡ b
+count_one One a b fa fb e = two_one a b fa fb e
+count_one Two a b fa fb e = four_one a b fa fb e
+
+count_length : (version : Version) (a b : ℕ) → length (count_bytes version a) ≡ length (count_bytes version b)
+count_length One a b = refl
+count_length Two a b = refl
+
+-- all of a header but its version
+record IsSame (a b : Header) : Type 0 where
+  step : a.step ≡ b.step
+  last : a.last ≡ b.last
+  depth : a.depth ≡ b.depth
+  sources : a.sources ≡ b.sources
+  archives : a.archives ≡ b.archives
+  entries : a.entries ≡ b.entries
+
+-- the bytes of a header, part by part
+pub header_parts : (version : Version) (h : Header) → header_bytes version h ≡ four_bytes h.step ++ (eight_bytes h.last ++ (count_bytes version h.depth ++ (two_bytes h.sources ++ (two_bytes h.archives ++ count_bytes version h.entries))))
+header_parts One h = refl
+header_parts Two h = refl
+
+header_in : (version : Version) (a b : Header) → a.version ≡ version → b.version ≡ version → FitsHeader a → FitsHeader b → header_bytes version a ≡ header_bytes version b → IsSame a b
+header_in version a b va vb fa fb e =
+    let s = append_same (four_bytes a.step) (eight_bytes a.last ++ (count_bytes version a.depth ++ (two_bytes a.sources ++ (two_bytes a.archives ++ count_bytes version a.entries)))) (four_bytes b.step) (eight_bytes b.last ++ (count_bytes version b.depth ++ (two_bytes b.sources ++ (two_bytes b.archives ++ count_bytes version b.entries)))) refl (sym (header_parts version a) ∙ e ∙ header_parts version b) in
+    let t = append_same (eight_bytes a.last) (count_bytes version a.depth ++ (two_bytes a.sources ++ (two_bytes a.archives ++ count_bytes version a.entries))) (eight_bytes b.last) (count_bytes version b.depth ++ (two_bytes b.sources ++ (two_bytes b.archives ++ count_bytes version b.entries))) refl s.1 in
+    let u = append_same (count_bytes version a.depth) (two_bytes a.sources ++ (two_bytes a.archives ++ count_bytes version a.entries)) (count_bytes version b.depth) (two_bytes b.sources ++ (two_bytes b.archives ++ count_bytes version b.entries)) (count_length version a.depth b.depth) t.1 in
+    let v = append_same (two_bytes a.sources) (two_bytes a.archives ++ count_bytes version a.entries) (two_bytes b.sources) (two_bytes b.archives ++ count_bytes version b.entries) refl u.1 in
+    let w = append_same (two_bytes a.archives) (count_bytes version a.entries) (two_bytes b.archives) (count_bytes version b.entries) refl v.1 in
+    record {
+      step = four_one a.step b.step fa.step fb.step s.0;
+      last = eight_one a.last b.last fa.last fb.last t.0;
+      depth = count_one version a.depth b.depth (subst (λ x. a.depth < counts x) va fa.depth) (subst (λ x. b.depth < counts x) vb fb.depth) u.0;
+      sources = two_one a.sources b.sources fa.sources fb.sources v.0;
+      archives = two_one a.archives b.archives fa.archives fb.archives w.0;
+      entries = count_one version a.entries b.entries (subst (λ x. a.entries < counts x) va fa.entries) (subst (λ x. b.entries < counts x) vb fb.entries) w.1;
+    }
+
+pub header_one : (a b : Header) → a.version ≡ b.version → FitsHeader a → FitsHeader b → header_bytes a.version a ≡ header_bytes b.version b → a ≡ b
+header_one a b same fa fb e =
+    let is = header_in b.version a b same refl fa fb (ap (λ v. header_bytes v a) (sym same) ∙ e) in
+    λ i. record { version = same i; step = is.step i; last = is.last i; depth = is.depth i; sources = is.sources i; archives = is.archives i; entries = is.entries i }

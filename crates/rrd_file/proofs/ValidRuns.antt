@@ -16,20 +16,22 @@ use Rattle.rrd_fold.specs.Parts.{Part}
 use Rattle.rrd_spec.specs.declared.outline.Outline.{Outline}
 use Rattle.rrd_spec.specs.declared.settings.DsDef.{DsDef}
 use Rattle.rrd_spec.specs.Journal.Entries.{Entry}
-use Rattle.rrd_spec.specs.Files.Filed.{Head, Header, Source, One, filed, head_of, header_of, sources_of}
+use Rattle.rrd_spec.specs.declared.version.Version.{Version}
+use Rattle.rrd_spec.specs.Files.Filed.{Head, Header, Source, filed, head_of, header_of, sources_of}
 use Rattle.rrd_spec.specs.History.{Archive, Content}
 use Rattle.rrd_spec.specs.Laws.Outlines.{FiledOutline, MayUndoEach, OutlinesAreNeeded}
-use Rattle.rrd_spec.specs.Limits.{version_one}
+use Rattle.rrd_spec.specs.Limits.{Limits, limits_of}
+use Rattle.rrd_spec.specs.Laws.Versions.{DatabaseIsWithin}
 use Rattle.rrd_spec.specs.Lemmas.Lists.{All-append}
 use Rattle.rrd_spec.specs.Journal.Outlines.{outline_of, outline_undone}
 use Rattle.rrd_spec.specs.Laws.Slots.{AsManyCells, HasOneEach}
-use Rattle.rrd_spec.specs.Files.Rebuilding.{IsArchiveDef, IsHeader, limits_of, outline_filed, outline_left, rows_in_all}
+use Rattle.rrd_spec.specs.Files.Rebuilding.{IsArchiveDef, IsHeader, outline_filed, outline_left, rows_in_all}
 use Rattle.rrd_spec.specs.Settings.{is_double, names, resolution}
 use Rattle.rrd_spec.specs.Files.Slots.{all_cells, cells_by_slot, row_in, stands_in}
 use Rattle.rrd_spec.specs.Journal.Survivors.{Stored}
-use Rattle.rrd_spec.specs.Validity.{AreAccepted, IsPart, IsRow, IsSourceWithin, IsValid, IsValidArchive, IsValidDatabase}
+use Rattle.rrd_spec.specs.Validity.{AreAccepted, IsPart, IsRow, IsSourceWithin, IsValid, IsValidArchive, IsValidArchiveWithin, IsValidDatabaseWithin}
 use Rattle.rrd_file.specs.Faults.{IsWhole}
-use Rattle.rrd_file.specs.Layout.{body_pieces, entry_pieces, head_pieces, layout, pieces_filed, spelled}
+use Rattle.rrd_file.specs.Layout.{body_pieces, entry_pieces, head_pieces, layout_in, pieces_filed, spelled}
 use Rattle.rrd_file.specs.Layout.Pieces.{Piece, Mark, OfVersion, OfHeader, OfSource, OfCell}
 use Rattle.rrd_file.specs.Stages.{Start, Marked, Versioned, Body, Runs, Takes, body_size, size}
 use Rattle.rrd_file.proofs.BodyRuns.{AreHeadsThere, IsBodyIn, IsFiledHead, IsFiledSource, body, cells_run, defs_of, entry_due, heads_run, heads_there, nothing_due, rows_first, runs_append, sources_run}
@@ -63,11 +65,11 @@ sources_filed h (def ∷ defs) (raw ∷ raws) [] a b e c = absurd (omega (arith,
 sources_filed h (def ∷ defs) (raw ∷ raws) (part ∷ parts) a b e c =
     (record { source_is = a.0; raw_is = b.0; part_is = c.0 }, sources_filed h defs raws parts a.1 b.1 (omega (arith, e)) c.1)
 
-heads_filed : (h : Header) (archives : List Archive) → AllByRecursion (IsValidArchive h.sources (h.last / h.step)) archives → h.version ≡ One → AllByRecursion (IsFiledHead h) (map head_of archives)
-heads_filed h [] a v = tt
-heads_filed h (archive ∷ archives) a v =
-    let def_is : IsArchiveDef version_one archive.def = record { some_steps = a.0.some_steps; few_steps = a.0.few_steps; some_rows = a.0.some_rows; few_rows = a.0.few_rows; xff_low = a.0.xff_low; xff_high = a.0.xff_high } in
-    (record { def_is = subst (λ v. IsArchiveDef (limits_of v) archive.def) (sym v) def_is; parts_are = a.0.parts_are }, heads_filed h archives a.1 v)
+heads_filed : (h : Header) (archives : List Archive) → AllByRecursion (IsValidArchiveWithin (limits_of h.version) h.sources (h.last / h.step)) archives → AllByRecursion (IsFiledHead h) (map head_of archives)
+heads_filed h [] a = tt
+heads_filed h (archive ∷ archives) a =
+    let def_is : IsArchiveDef (limits_of h.version) archive.def = record { some_steps = a.0.some_steps; few_steps = a.0.few_steps; some_rows = a.0.some_rows; few_rows = a.0.few_rows; xff_low = a.0.xff_low; xff_high = a.0.xff_high } in
+    (record { def_is = def_is; parts_are = a.0.parts_are }, heads_filed h archives a.1)
 
 rows_same : (archives : List Archive) → rows_in_all (map head_of archives) ≡ sum (map (λ (archive : Archive). archive.def.rows) archives)
 rows_same archives = ap sum (each archives)
@@ -134,8 +136,8 @@ archives_cells many sources step last steps (archive ∷ archives) some h =
 
 -- ---- the whole
 
-header_is : (c : Content) (j : List Entry) → IsValidDatabase c j → IsHeader (header_of One (record { content = c; journal = j }))
-header_is c j v = record {
+header_is : (version : Version) (c : Content) (j : List Entry) → IsValidDatabaseWithin (limits_of version) c j → IsHeader (header_of version (record { content = c; journal = j }))
+header_is version c j v = record {
   some_step = v.content_is.some_step;
   small_step = v.content_is.small_step;
   good_time = v.content_is.good_time;
@@ -148,37 +150,39 @@ header_is c j v = record {
   few_entries = v.few;
 }
 
-begin_runs : (h : Header) → h.version ≡ One → IsHeader h → Runs Start (Mark ∷ OfVersion h.version ∷ OfHeader h ∷ []) (Body (body h [] [] [] []))
+begin_runs : (h : Header) → IsHeader h → Runs Start (Mark ∷ OfVersion h.version ∷ OfHeader h ∷ []) (Body (body h [] [] [] []))
 unfolding Takes
-begin_runs h v is = (Marked, refl, (Versioned h.version, refl, (Body (body h [] [] [] []), (refl, is, refl), refl)))
+begin_runs h is = (Marked, refl, (Versioned h.version, refl, (Body (body h [] [] [] []), (refl, is, refl), refl)))
 
 -- what the laws of outlines and slots say
 pub record Outlining : Type 0 where
-  pub needed : (now : Content) (journal : List Entry) → OutlinesAreNeeded version_one now journal
-  pub filed_is : (d : Stored) → FiledOutline One d
+  pub needed : (limits : Limits) (now : Content) (journal : List Entry) → OutlinesAreNeeded limits now journal
+  pub filed_is : (version : Version) (d : Stored) → FiledOutline version d
+  pub within : (version : Version) (now : Content) (journal : List Entry) → DatabaseIsWithin version now journal
   pub many : ManyCells
 
-pub valid_is_whole : Outlining → (c : Content) (j : List Entry) → IsValidDatabase c j → let d : Stored = record { content = c; journal = j } in IsWhole (layout d) (filed One d)
+pub valid_is_whole : Outlining → (version : Version) (c : Content) (j : List Entry) → IsValidDatabaseWithin (limits_of version) c j → let d : Stored = record { content = c; journal = j } in IsWhole (layout_in version d) (filed version d)
 unfolding size
-valid_is_whole laws c j v =
+valid_is_whole laws version c j v =
     let d : Stored = record { content = c; journal = j } in
-    let h = header_of One d in
-    let f = filed One d in
-    let long = lengths c v.content_is in
-    let outline : outline_filed f ≡ outline_of c = laws.filed_is d long.raws_are long.parts_are in
+    let h = header_of version d in
+    let f = filed version d in
+    let valid = (laws.within version c j v).content_is in
+    let long = lengths c valid in
+    let outline : outline_filed f ≡ outline_of c = laws.filed_is version d long.raws_are long.parts_are in
     let defs : defs_of f.sources ≡ c.sources = ap (λ (o : Outline). o.sources) outline in
     let count : length f.sources ≡ h.sources = sym (length-map f.sources (λ (source : Source). source.def)) ∙ ap length defs in
     let sources_are = sources_filed h c.sources c.raws c.parts v.content_is.sources_are v.content_is.raws_are v.content_is.parts_are.one_each v.content_is.parts_are.each in
     let once : is_double (names (defs_of f.sources)) ≡ false = ap (λ (l : List DsDef). is_double (names l)) defs ∙ v.content_is.names_differ in
-    let heads_are = heads_filed h c.archives v.content_is.archives_are refl in
+    let heads_are = heads_filed h c.archives v.content_is.archives_are in
     let heads_count : length f.heads ≡ h.archives = length-map c.archives head_of in
-    let few : h.sources * rows_in_all f.heads ≤ version_one.most_cells = omega (arith, v.content_is.few_cells, ap (λ n. h.sources * n) (rows_same c.archives)) in
+    let few : h.sources * rows_in_all f.heads ≤ (limits_of version).most_cells = omega (arith, v.content_is.few_cells, ap (λ n. h.sources * n) (rows_same c.archives)) in
     let there = heads_there h f.sources f.heads (omega (arith, count)) heads_count heads_are in
-    let many : length f.cells ≡ h.sources * rows_in_all f.heads = archives_cells laws.many h.sources c.step c.last (c.last / c.step) c.archives v.content_is.some_step v.content_is.archives_are in
-    let may = subst (λ (o : Outline). MayUndoEach version_one c.step o j) (sym outline) (laws.needed c j v.content_is v.journal_is) in
+    let many : length f.cells ≡ h.sources * rows_in_all f.heads = archives_cells laws.many h.sources c.step c.last (c.last / c.step) c.archives v.content_is.some_step valid.archives_are in
+    let may = subst (λ (o : Outline). MayUndoEach (limits_of version) c.step o j) (sym outline) (laws.needed (limits_of version) c j v.content_is v.journal_is) in
     let a = sources_run h [] f.sources f.sources refl count once sources_are in
     let b = heads_run h f.sources [] f.heads f.heads refl (omega (arith, count)) heads_count few tt heads_are in
-    let e = cells_run h f.sources f.heads [] f.cells f.cells refl there many (cells_bounded c v.content_is) in
+    let e = cells_run h f.sources f.heads [] f.cells f.cells refl there many (cells_bounded c valid) in
     let g = entries_run h f.sources f.heads f.cells [] j j refl there many refl may in
     let s0 = Body (body h [] [] [] []) in
     let s1 = Body (body h f.sources [] [] []) in
@@ -190,7 +194,7 @@ valid_is_whole laws c j v =
     record {
       front = record {
         pieces = pieces_filed f;
-        runs = runs_append Start s0 (Body f) (Mark ∷ OfVersion One ∷ OfHeader h ∷ []) (body_pieces f ++ flat_map entry_pieces j) (begin_runs h refl (header_is c j v)) all;
+        runs = runs_append Start s0 (Body f) (Mark ∷ OfVersion version ∷ OfHeader h ∷ []) (body_pieces f ++ flat_map entry_pieces j) (begin_runs h (header_is version c j v)) all;
         parts = sym (append-nil (spelled (pieces_filed f)));
       };
       done = ap body_size (nothing_due f (body_in h f.sources f.heads f.cells j there many) (omega arith));

@@ -5,18 +5,18 @@ use Rattle.rrd_fixed.specs.declared.raw.Raw.{Raw}
 use Rattle.rrd_fixed.specs.Rate.{IsAccepted, IsBounded}
 use Rattle.rrd_fold.specs.declared.function.Function.TheVariants.{Average}
 use Rattle.rrd_fold.specs.Parts.{Part}
-use Rattle.rrd_spec.specs.declared.due.Due.TheVariants.{EntryDue}
 use Rattle.rrd_spec.specs.declared.entry.SourceBefore.{SourceBefore}
 use Rattle.rrd_spec.specs.declared.outline.Outline.{Outline}
 use Rattle.rrd_spec.specs.declared.settings.DsDef.{DsDef}
 use Rattle.rrd_spec.specs.declared.settings.RraDef.{RraDef}
-use Rattle.rrd_spec.specs.Files.Filed.{Filed, Header, Source, Version}
+use Rattle.rrd_spec.specs.declared.version.Version.{Version}
+use Rattle.rrd_spec.specs.Files.Filed.{Filed, Header, Source}
 use Rattle.rrd_spec.specs.Limits.{Limits}
-use Rattle.rrd_spec.specs.Journal.Fitting.{AreOldRows, IsSourceBefore}
+use Rattle.rrd_spec.specs.Journal.Fitting.{AreOldRows, AreRemovedSettings, IsRemovedNumber, IsSourceBefore}
 use Rattle.rrd_spec.specs.Files.Rebuilding.{IsHeader, IsRowPart, MayCell, MayHead, MayPrep, MaySource, begun, due, limits, outline_left, with_cell, with_head, with_prep, with_source}
 use Rattle.rrd_spec.specs.Validity.{IsPart}
 use Rattle.rrd_file.specs.Layout.Pieces.{Piece, Mark, OfVersion, OfHeader, OfSource, OfArchive, OfPrep, OfCell, Tag, OfTag, OfTime, OfRawAndPart, OfRows, OfCount, OfSourceBefore, OfNumber}
-use Rattle.rrd_file.specs.Stages.{Stage, Start, Marked, Versioned, Body, Within, DueInEntry, TimeDue, BeforeDue, RowPrepDue, RowsDue, RowCellDue, CountDue, NamedDue, NumberDue, OldRowsDue, GoesOn, Keeps, Takes, behind, first_due}
+use Rattle.rrd_file.specs.Stages.{Stage, Start, Marked, Versioned, Body, Within, DueInEntry, TimeDue, BeforeDue, RowPrepDue, RowsDue, RowCellDue, CountDue, NamedDue, NumberDue, OldRowsDue, RemovedNumberDue, RemovedHeadDue, GoesOn, Keeps, MayTag, Takes, behind, first_due}
 
 -- ---- within an entry
 
@@ -30,6 +30,8 @@ pub data Way (l : Limits) (step : ℕ) (now : Outline) : DueInEntry → Piece �
   ByNamed : (lowest more : ℕ) (old : SourceBefore) → lowest ≤ old.number → old.number < length now.sources → IsSourceBefore l old → Way l step now (NamedDue lowest more) (OfSourceBefore old)
   ByNumber : (archive : ℕ) → archive < length now.archives → Way l step now NumberDue (OfNumber archive)
   ByOldRows : (archive rows : ℕ) → AreOldRows l now archive rows → Way l step now (OldRowsDue archive) (OfRows rows)
+  ByRemovedNumber : (number : ℕ) → IsRemovedNumber l now number → Way l step now RemovedNumberDue (OfNumber number)
+  ByRemovedHead : (def : RraDef) → AreRemovedSettings l now def → Way l step now RemovedHeadDue (OfArchive def)
 
 pub way : (l : Limits) (step : ℕ) (now : Outline) (due : DueInEntry) (p : Piece) → Keeps l step now due p → Way l step now due p
 way l step now TimeDue (OfTime x) k = ByTime x k
@@ -41,6 +43,8 @@ way l step now CountDue (OfCount x) k = ByCount x k.0 k.1
 way l step now (NamedDue u v) (OfSourceBefore x) k = ByNamed u v x k.0 k.1 k.2
 way l step now NumberDue (OfNumber x) k = ByNumber x k
 way l step now (OldRowsDue u) (OfRows x) k = ByOldRows u x k
+way l step now RemovedNumberDue (OfNumber x) k = ByRemovedNumber x k
+way l step now RemovedHeadDue (OfArchive x) k = ByRemovedHead x k
 way l step now due p k = absurd k
 
 -- ---- in the whole file
@@ -53,7 +57,7 @@ pub data Step : Stage → Piece → Stage → Type 0 where
   ToHead : (f : Filed) (def : RraDef) → MayHead f def → Step (Body f) (OfArchive def) (Body (with_head f def))
   ToPrep : (f : Filed) (part : Part) → MayPrep f part → Step (Body f) (OfPrep part) (Body (with_prep f part))
   ToCell : (f : Filed) (cell : Cell) → MayCell f cell → Step (Body f) (OfCell cell) (Body (with_cell f cell))
-  ToEntry : (f : Filed) (tag : Tag) (next : Stage) → due f ≡ EntryDue → GoesOn f (OfTag tag ∷ []) (first_due tag) next → Step (Body f) (OfTag tag) next
+  ToEntry : (f : Filed) (tag : Tag) (next : Stage) → MayTag f tag → GoesOn f (OfTag tag ∷ []) (first_due tag) next → Step (Body f) (OfTag tag) next
   ToPiece : (f : Filed) (pieces : List Piece) (due : DueInEntry) (later : List DueInEntry) (p : Piece) (next : Stage) → Way (limits f) f.header.step (outline_left f) due p → GoesOn f (pieces ++ p ∷ []) (behind f.header.step (outline_left f) due p ++ later) next → Step (Within f pieces (due ∷ later)) p next
 
 pub step_of : (s : Stage) (p : Piece) (n : Stage) → Takes s p n → Step s p n

@@ -9,7 +9,9 @@ use Rattle.rrd_spec.specs.declared.requests.update.Update.{Update}
 use Rattle.rrd_spec.specs.Commands.{Updating}
 use Rattle.rrd_spec.specs.Journal.Survivors.{Stored, changed}
 use Rattle.rrd_spec.specs.Examples.{created, archive}
-use Rattle.rrd_file.specs.Layout.{layout}
+use Rattle.rrd_file.specs.Layout.{layout, layout_in}
+use Rattle.rrd_spec.specs.declared.version.Version.{Version}
+use Rattle.rrd_spec.specs.declared.version.Version.TheVariants.{One, Two}
 
 -- ---- the databases
 
@@ -48,10 +50,13 @@ nothing = zeros 4 ++ zeros 16
 -- ---- the files
 
 -- the mark, the version, step 10, the last time, depth 16, a source, an archive, and so many entries
-abbrev head_of_file : ℕ → ℕ → List ℕ
-head_of_file last entries =
+abbrev head_of_file : Version → ℕ → ℕ → List ℕ
+head_of_file One last entries =
     82 ∷ 82 ∷ 68 ∷ 73 ∷ 0 ∷ 1 ∷
     0 ∷ 0 ∷ 0 ∷ 10 ∷ zeros 7 ++ last ∷ 0 ∷ 16 ∷ 0 ∷ 1 ∷ 0 ∷ 1 ∷ 0 ∷ entries ∷ []
+head_of_file Two last entries =
+    82 ∷ 82 ∷ 68 ∷ 73 ∷ 0 ∷ 2 ∷
+    0 ∷ 0 ∷ 0 ∷ 10 ∷ zeros 7 ++ last ∷ 0 ∷ 0 ∷ 0 ∷ 16 ∷ 0 ∷ 1 ∷ 0 ∷ 1 ∷ 0 ∷ 0 ∷ 0 ∷ entries ∷ []
 
 -- the source: its name, type, heartbeat and bounds, a last raw value, and an empty preparation
 abbrev source_with : List ℕ → List ℕ
@@ -65,17 +70,23 @@ head = 3 ∷ 0 ∷ 0 ∷ 0 ∷ 1 ∷ 0 ∷ 7 ∷ 161 ∷ 32 ∷ 0 ∷ 0 ∷ 0 �
 abbrev entry : List ℕ
 entry = 1 ∷ zeros 8 ++ absent ++ nothing ++ nothing ++ 0 ∷ 0 ∷ 0 ∷ 1 ∷ absent
 
-abbrev pub new_bytes : List ℕ
-new_bytes = head_of_file 0 0 ++ source_with absent ++ head ++ absent ++ absent ++ absent ++ absent
+abbrev pub new_bytes : Version → List ℕ
+new_bytes version = head_of_file version 0 0 ++ source_with absent ++ head ++ absent ++ absent ++ absent ++ absent
 
 -- the row at 10 stands in slot 1
-abbrev pub sampled_bytes : List ℕ
-sampled_bytes = head_of_file 10 1 ++ source_with million ++ head ++ absent ++ million ++ absent ++ absent ++ entry
+abbrev pub sampled_bytes : Version → List ℕ
+sampled_bytes version =
+    head_of_file version 10 1 ++ source_with million ++ head ++ absent ++ million ++ absent ++ absent ++ entry
 
 -- ---- what the definitions give
 
 abbrev pub NewFile : Type 0
-NewFile = (layout new_database ≡ new_bytes) × (length new_bytes ≡ 220)
+NewFile =
+    (layout new_database ≡ new_bytes Two) × (length (new_bytes Two) ≡ 224)
+    × (layout_in One new_database ≡ new_bytes One) × (length (new_bytes One) ≡ 220)
 
 abbrev pub SampledFile : Type 0
-SampledFile = (layout (changed new_database (Updating one_sample)) ≡ sampled_bytes) × (length sampled_bytes ≡ 305)
+SampledFile =
+    let sampled = changed new_database (Updating one_sample) in
+    (layout sampled ≡ sampled_bytes Two) × (length (sampled_bytes Two) ≡ 309)
+    × (layout_in One sampled ≡ sampled_bytes One) × (length (sampled_bytes One) ≡ 305)

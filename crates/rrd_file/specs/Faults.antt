@@ -1,12 +1,14 @@
 -- Definition: what reading a file answers: its database, or the first fault in file order.
 use Rattle.std.specs.Prelude.{◌≡◌, ◌≢◌, ◌+◌, ◌<◌, ◌≤◌, ℕ, suc, List, [], ◌++◌, length, take, Result, Ok, Err, ⊤}
 use Rattle.std.specs.List.{flat_map}
-use Rattle.rrd_spec.specs.Files.Filed.{Filed, Version, filed}
+use Rattle.rrd_spec.specs.declared.version.Version.{Version}
+use Rattle.rrd_spec.specs.Files.Filed.{Filed, filed}
 use Rattle.rrd_spec.specs.declared.due.Due.TheVariants.{SourceDue, HeadDue, PrepDue, CellDue, EntryDue, NothingDue}
 use Rattle.rrd_spec.specs.Files.Rebuilding.{due}
 use Rattle.rrd_spec.specs.declared.due.Due.{Due}
 use Rattle.rrd_spec.specs.Journal.Survivors.{Stored}
-use Rattle.rrd_spec.specs.Validity.{IsValidDatabase}
+use Rattle.rrd_spec.specs.Limits.{limits_of}
+use Rattle.rrd_spec.specs.Validity.{IsValidDatabaseWithin}
 use Rattle.rrd_file.specs.declared.fault.FileFault.{FileFault}
 use Rattle.rrd_file.specs.declared.fault.FileFault.TheVariants.{NotOurs, Version as WrongVersion, Truncated, BadBlock, BadEntry, Trailing, Read, OutOfMemory}
 use Rattle.rrd_file.specs.Layout.Pieces.{Piece, spell}
@@ -70,11 +72,11 @@ pub record IsWhole (bytes : List ℕ) (f : Filed) : Type 0 where
   pub front : Front bytes (Body f) []
   pub done : size (Body f) ≡ 0
 
--- the input is the file of a valid database, in a version
+-- the input is the file of a database, in a version, within whose limits it is
 pub record IsFile (bytes : List ℕ) (d : Stored) : Type 0 where
   pub version : Version
   pub whole : IsWhole bytes (filed version d)
-  pub valid : IsValidDatabase d.content d.journal
+  pub valid : IsValidDatabaseWithin (limits_of version) d.content d.journal
 
 abbrev pub IsFault : List ℕ → FileFault → Type 0
 IsFault bytes NotOurs = IsBad bytes NotOurs

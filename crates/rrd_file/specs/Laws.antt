@@ -10,7 +10,9 @@ use Rattle.rrd_spec.specs.Journal.Entries.{Entry}
 use Rattle.rrd_spec.specs.Files.Filed.{Filed, Source}
 use Rattle.rrd_spec.specs.Files.Rebuilding.{MayEntry}
 use Rattle.rrd_spec.specs.Journal.Survivors.{Stored, changed, reverted}
-use Rattle.rrd_spec.specs.Validity.{IsValidDatabase}
+use Rattle.rrd_spec.specs.Limits.{limits_of}
+use Rattle.rrd_spec.specs.declared.version.Version.{Version}
+use Rattle.rrd_spec.specs.Validity.{IsValidDatabase, IsValidDatabaseWithin}
 use Rattle.rrd_spec.specs.Commands.Verdict.{verdict}
 use Rattle.rrd_file.specs.declared.fault.FileFault.{FileFault}
 use Rattle.rrd_file.specs.declared.fault.FileFault.TheVariants.{NotOurs, Version as WrongVersion, Truncated, BadBlock, BadEntry, Trailing, Read, OutOfMemory}
@@ -71,22 +73,26 @@ abbrev pub HasOneAnswer : List ℕ → Type 0
 HasOneAnswer bytes =
     (x y : Result Stored FileFault) → IsAnswer bytes x → IsAnswer bytes y → IsOfFile x → IsOfFile y → x ≡ y
 
--- the layout of a valid database is the file of it, and of nothing else
-abbrev pub LayoutIsItsFile : Stored → Type 0
-LayoutIsItsFile d = IsValidStored d → IsAnswer (layout d) (Ok d)
+-- a database that a version of the layout can have
+abbrev pub IsValidIn : Version → Stored → Type 0
+IsValidIn version d = IsValidDatabaseWithin (limits_of version) d.content d.journal
 
-abbrev pub LayoutIsNoOther : Stored → Type 0
-LayoutIsNoOther d =
-    IsValidStored d → (x : Result Stored FileFault) → IsAnswer (layout d) x → IsOfFile x → x ≡ Ok d
+-- the layout of a valid database in a version is the file of it, and of nothing else
+abbrev pub LayoutIsItsFile : Version → Stored → Type 0
+LayoutIsItsFile version d = IsValidIn version d → IsAnswer (layout_in version d) (Ok d)
+
+abbrev pub LayoutIsNoOther : Version → Stored → Type 0
+LayoutIsNoOther version d =
+    IsValidIn version d → (x : Result Stored FileFault) → IsAnswer (layout_in version d) x → IsOfFile x → x ≡ Ok d
 
 -- a database's file is its layout, in the file's version
 abbrev pub FileIsLayout : List ℕ → Stored → Type 0
 FileIsLayout bytes d = (file : IsFile bytes d) → bytes ≡ layout_in file.version d
 
--- different valid databases have different layouts, and none is the front of another
-abbrev pub NoFrontOfAnother : Stored → Stored → List ℕ → Type 0
-NoFrontOfAnother d e more =
-    IsValidStored d → IsValidStored e → layout d ++ more ≡ layout e → (d ≡ e) × (more ≡ [])
+-- different valid databases have different layouts, in one version and in two, and none is the front of another
+abbrev pub NoFrontOfAnother : Version → Version → Stored → Stored → List ℕ → Type 0
+NoFrontOfAnother v w d e more =
+    IsValidIn v d → IsValidIn w e → layout_in v d ++ more ≡ layout_in w e → (v ≡ w) × (d ≡ e) × (more ≡ [])
 
 -- a revert of an accepted command gives the file back, byte by byte, but for the oldest entry of a full journal
 abbrev pub BytesComeBack : Stored → Command → Type 0

@@ -4,10 +4,12 @@ use Rattle.std.specs.List.{flat_map}
 use Rattle.rrd_fixed.specs.declared.cell.Cell.{Cell}
 use Rattle.rrd_fixed.specs.declared.raw.Raw.{Raw}
 use Rattle.rrd_fold.specs.Parts.{Part}
-use Rattle.rrd_spec.specs.Journal.Entries.{Entry, SavedArchive, UpdateEntry, TuneEntry, ResizeEntry}
-use Rattle.rrd_spec.specs.Files.Filed.{Filed, Head, Version, One, filed}
+use Rattle.rrd_spec.specs.Journal.Entries.{Entry, SavedArchive, UpdateEntry, TuneEntry, ResizeEntry, AddedEntry, RemovedEntry}
+use Rattle.rrd_spec.specs.declared.version.Version.{Version}
+use Rattle.rrd_spec.specs.Files.Filed.{Filed, Head, filed}
 use Rattle.rrd_spec.specs.Journal.Survivors.{Stored}
-use Rattle.rrd_file.specs.Layout.Pieces.{Piece, Mark, OfVersion, OfHeader, OfSource, OfArchive, OfPrep, OfCell, OfTag, OfTime, OfRawAndPart, OfRows, OfCount, OfSourceBefore, OfNumber, AnUpdate, ATune, AResize, spell}
+use Rattle.rrd_spec.specs.Limits.{newest}
+use Rattle.rrd_file.specs.Layout.Pieces.{Piece, Mark, OfVersion, OfHeader, OfSource, OfArchive, OfPrep, OfCell, OfTag, OfTime, OfRawAndPart, OfRows, OfCount, OfSourceBefore, OfNumber, AnUpdate, ATune, AResize, AnAddition, ARemoval, spell}
 pub mod Values
 pub mod Pieces
 
@@ -40,6 +42,10 @@ entry_pieces (UpdateEntry old) =
     OfTag AnUpdate ∷ OfTime old.last ∷ raws_and_parts old.raws old.parts ++ flat_map saved_pieces old.archives
 entry_pieces (TuneEntry olds) = OfTag ATune ∷ OfCount (length olds) ∷ map OfSourceBefore olds
 entry_pieces (ResizeEntry archive rows) = OfTag AResize ∷ OfNumber archive ∷ OfRows (length rows) ∷ row_pieces rows
+entry_pieces AddedEntry = OfTag AnAddition ∷ []
+-- its settings say how many rows it has
+entry_pieces (RemovedEntry number archive) =
+    OfTag ARemoval ∷ OfNumber number ∷ OfArchive archive.def ∷ (map OfPrep archive.parts ++ row_pieces archive.rows)
 
 -- ---- the whole
 
@@ -57,4 +63,4 @@ layout_in version d = spelled (pieces_filed (filed version d))
 
 -- the layout that is written
 abbrev pub layout : Stored → List ℕ
-layout d = layout_in One d
+layout d = layout_in newest d

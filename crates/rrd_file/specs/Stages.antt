@@ -1,6 +1,6 @@
 -- Definition: how far a file has come: which piece is due there, how many bytes it has, which piece may come, and what
 -- stage it leads to.
-use Rattle.std.specs.Prelude.{◌≡◌, ℕ, zero, suc, ◌+◌, ◌*◌, ◌%◌, ◌<◌, ◌≤◌, min, List, [], ◌∷◌, ◌++◌, length, map, replicate}
+use Rattle.std.specs.Prelude.{◌≡◌, ℕ, zero, suc, ◌+◌, ◌*◌, ◌%◌, ◌<◌, ◌≤◌, min, true, List, [], ◌∷◌, ◌++◌, length, map, replicate}
 use Rattle.std.specs.List.{flat_map}
 use Rattle.rrd_fixed.specs.Rate.{IsAccepted, IsBounded}
 use Rattle.rrd_fold.specs.declared.function.Function.TheVariants.{Average}
@@ -11,11 +11,13 @@ use Rattle.rrd_spec.specs.declared.due.Due.{Due}
 use Rattle.rrd_spec.specs.declared.due.Due.TheVariants.{SourceDue, HeadDue, PrepDue, CellDue, EntryDue, NothingDue}
 use Rattle.rrd_spec.specs.Limits.{Limits}
 use Rattle.rrd_spec.specs.Journal.Entries.{Entry, rows_between}
-use Rattle.rrd_spec.specs.Files.Filed.{Filed, Version, One}
-use Rattle.rrd_spec.specs.Journal.Fitting.{AreOldRows, IsSourceBefore}
+use Rattle.rrd_spec.specs.declared.version.Version.{Version}
+use Rattle.rrd_spec.specs.declared.version.Version.TheVariants.{One, Two}
+use Rattle.rrd_spec.specs.Files.Filed.{Filed}
+use Rattle.rrd_spec.specs.Journal.Fitting.{AreOldRows, AreRemovedSettings, IsRemovedNumber, IsSourceBefore}
 use Rattle.rrd_spec.specs.Files.Rebuilding.{IsHeader, MaySource, MayHead, MayPrep, MayCell, MayEntry, IsRowPart, begun, due, limits, outline_left, with_source, with_head, with_prep, with_cell, with_entry}
 use Rattle.rrd_spec.specs.Validity.{IsPart}
-use Rattle.rrd_file.specs.Layout.Pieces.{Piece, Mark, OfVersion, OfHeader, OfSource, OfArchive, OfPrep, OfCell, Tag, OfTag, OfTime, OfRawAndPart, OfRows, OfCount, OfSourceBefore, OfNumber, AnUpdate, ATune, AResize}
+use Rattle.rrd_file.specs.Layout.Pieces.{Piece, Mark, OfVersion, OfHeader, OfSource, OfArchive, OfPrep, OfCell, Tag, OfTag, OfTime, OfRawAndPart, OfRows, OfCount, OfSourceBefore, OfNumber, AnUpdate, ATune, AResize, AnAddition, ARemoval}
 use Rattle.rrd_file.specs.Layout.{entry_pieces}
 
 -- ---- within an entry
@@ -25,7 +27,8 @@ pub data DueInEntry : Type 0 where
   -- an update's last time; then for each source, under that time
   TimeDue : DueInEntry
   BeforeDue : ℕ → DsDef → DueInEntry
-  -- for each archive a preparation for each source, under that time, and this number of rows
+  -- for each archive a preparation for each source, under that time, and this number of rows; so for a removed archive,
+  -- under the present last time
   RowPrepDue : ℕ → RraDef → DueInEntry
   RowsDue : ℕ → DueInEntry
   RowCellDue : DueInEntry
@@ -35,6 +38,9 @@ pub data DueInEntry : Type 0 where
   -- a resized archive's number; then its old number of rows
   NumberDue : DueInEntry
   OldRowsDue : ℕ → DueInEntry
+  -- a removed archive's number; then its settings
+  RemovedNumberDue : DueInEntry
+  RemovedHeadDue : DueInEntry
 
 -- its bytes
 abbrev pub size_due : DueInEntry → ℕ
@@ -47,6 +53,8 @@ size_due CountDue = 2
 size_due (NamedDue lowest more) = 79
 size_due NumberDue = 2
 size_due (OldRowsDue archive) = 4
+size_due RemovedNumberDue = 2
+size_due RemovedHeadDue = 13
 
 -- the cells of so many rows
 abbrev pub cells_due : ℕ → Outline → List DueInEntry
@@ -63,6 +71,8 @@ abbrev pub first_due : Tag → List DueInEntry
 first_due AnUpdate = TimeDue ∷ []
 first_due ATune = CountDue ∷ []
 first_due AResize = NumberDue ∷ []
+first_due AnAddition = []
+first_due ARemoval = RemovedNumberDue ∷ []
 
 -- what a piece makes due right behind itself
 abbrev pub named_due : ℕ → ℕ → List DueInEntry
@@ -76,6 +86,9 @@ behind step now CountDue (OfCount count) = named_due 0 count
 behind step now (NamedDue lowest more) (OfSourceBefore old) = named_due (old.number + 1) more
 behind step now NumberDue (OfNumber archive) = OldRowsDue archive ∷ []
 behind step now (OldRowsDue archive) (OfRows rows) = cells_due rows now
+behind step now RemovedNumberDue (OfNumber number) = RemovedHeadDue ∷ []
+behind step now RemovedHeadDue (OfArchive def) =
+    replicate (length now.sources) (RowPrepDue now.last def) ++ cells_due def.rows now
 behind step now due piece = []
 
 -- which piece may come where one is due, by itself
@@ -91,6 +104,8 @@ Keeps limits step now (NamedDue lowest more) (OfSourceBefore old) =
     (lowest ≤ old.number) × (old.number < length now.sources) × IsSourceBefore limits old
 Keeps limits step now NumberDue (OfNumber archive) = archive < length now.archives
 Keeps limits step now (OldRowsDue archive) (OfRows rows) = AreOldRows limits now archive rows
+Keeps limits step now RemovedNumberDue (OfNumber number) = IsRemovedNumber limits now number
+Keeps limits step now RemovedHeadDue (OfArchive def) = AreRemovedSettings limits now def
 Keeps limits step now due piece = ⊥
 
 -- ---- the whole file
@@ -105,9 +120,13 @@ pub data Stage : Type 0 where
   -- and an entry that is begun, with its pieces so far and what is still due of it
   Within : Filed → List Piece → List DueInEntry → Stage
 
--- the bytes of a header
+-- the bytes of a count in a header, and of a header
+abbrev pub count_size : Version → ℕ
+count_size One = 2
+count_size Two = 4
+
 abbrev pub header_size : Version → ℕ
-header_size One = 20
+header_size version = 16 + 2 * count_size version
 
 abbrev pub body_size : Due → ℕ
 body_size SourceDue = 97
@@ -136,6 +155,18 @@ GoesOn f pieces (due ∷ later) next = next ≡ Within f pieces (due ∷ later)
 GoesOn f pieces [] next =
     (entry : Entry) × (entry_pieces entry ≡ pieces) × MayEntry f entry × (next ≡ Body (with_entry f entry))
 
+-- archives come and go where the version lets them
+abbrev pub IsTagWithin : Limits → Tag → Type 0
+IsTagWithin limits AnUpdate = Unit {0}
+IsTagWithin limits ATune = Unit {0}
+IsTagWithin limits AResize = Unit {0}
+IsTagWithin limits AnAddition = limits.archives_come_and_go ≡ true
+IsTagWithin limits ARemoval = limits.archives_come_and_go ≡ true
+
+pub record MayTag (f : Filed) (tag : Tag) : Type 0 where
+  pub is_due : due f ≡ EntryDue
+  pub within : IsTagWithin (limits f) tag
+
 -- that a piece may come at a stage, and the stage that it leads to
 unfoldable pub Takes : Stage → Piece → Stage → Type 0
 Takes Start Mark next = next ≡ Marked
@@ -145,7 +176,7 @@ Takes (Body f) (OfSource s) next = MaySource f s × (next ≡ Body (with_source 
 Takes (Body f) (OfArchive def) next = MayHead f def × (next ≡ Body (with_head f def))
 Takes (Body f) (OfPrep part) next = MayPrep f part × (next ≡ Body (with_prep f part))
 Takes (Body f) (OfCell cell) next = MayCell f cell × (next ≡ Body (with_cell f cell))
-Takes (Body f) (OfTag tag) next = (due f ≡ EntryDue) × GoesOn f (OfTag tag ∷ []) (first_due tag) next
+Takes (Body f) (OfTag tag) next = MayTag f tag × GoesOn f (OfTag tag ∷ []) (first_due tag) next
 Takes (Within f pieces (due ∷ later)) piece next =
     let now = outline_left f in
     Keeps (limits f) f.header.step now due piece

@@ -1,20 +1,21 @@
 //! A database from its bytes.
-ghost use Rattle.std.specs.Prelude.{◌≡◌, ◌+◌, ◌⊎◌, ◌<◌, ℕ, List, [], Some, IfOk, OnOk};
-ghost use Rattle.rrd_spec.specs.Files.Filed.{Filed, One};
+ghost use Rattle.std.specs.Prelude.{◌≡◌, ◌+◌, ◌⊎◌, ◌<◌, ℕ, List, Some, OnOk};
+ghost use Rattle.rrd_spec.specs.Files.Filed.{Filed};
+ghost use Rattle.rrd_spec.specs.declared.version.Version.TheVariants.{One, Two};
 ghost use Rattle.rrd_spec.specs.Files.Rebuilding.{due};
 ghost use Rattle.rrd_spec.specs.declared.due.Due.TheVariants.{EntryDue, NothingDue};
 ghost use Rattle.rrd_file.specs.Faults.{IsAnswer};
 ghost use Rattle.rrd_file.specs.Stages.{Body, Marked, Start, Versioned};
-ghost use Rattle.rrd_file.specs.Decoding.Progress.{Ends, Reaches, Stands};
+ghost use Rattle.rrd_file.specs.Decoding.Progress.{Ends, Reaches, ReadsHeader, Stands};
 
 use crate::FileFault;
 use crate::decoding::input::PieceReader;
-use crate::decoding::pieces::header_of;
+use crate::decoding::pieces::{HeaderRead, header_of};
 use crate::decoding::values::{four_of, two_of};
 use body::{cells, head, prep, source};
 use faults::block_fault;
 use journal::entry;
-use rrd_base::{Database, Due, Rebuild};
+use rrd_base::{Database, Due, Rebuild, Version};
 use std::alloc::Global;
 use std::io::Read;
 
@@ -41,30 +42,70 @@ fn mark<R: Read + Drop>(input: &mut PieceReader<R>) -> Result<(), FileFault>
     Ok(())
 }
 
-// Reads the version, which is 1.
-fn version<R: Read + Drop>(input: &mut PieceReader<R>) -> Result<(), FileFault>
-    ensures { (bytes : List ℕ) → Stands bytes Marked input.old
-        → Reaches bytes (λ x. Versioned One) input.new result }
+// Reads the version.
+fn version<R: Read + Drop>(input: &mut PieceReader<R>) -> Result<Version, FileFault>
+    ensures { (bytes : List ℕ) → Stands bytes Marked input.old → Reaches bytes Versioned input.new result }
 {
     let mut piece = [0u8; 2];
     input.piece(&mut piece)?;
     let (number, _) = two_of(&piece);
-    if number != 1 {
-        return Err(FileFault::Version);
+    if number == 1 {
+        return Ok(Version::One);
     }
-    Ok(())
+    if number == 2 {
+        return Ok(Version::Two);
+    }
+    Err(FileFault::Version)
+}
+
+// Reads a header of the first version.
+fn first_header<R: Read + Drop>(input: &mut PieceReader<R>) -> Result<HeaderRead, FileFault>
+    ensures { (bytes : List ℕ) → Stands bytes (Versioned One) input.old
+        → ReadsHeader bytes One input.old input.new result }
+{
+    let mut piece = [0u8; 20];
+    input.piece(&mut piece)?;
+    Ok(header_of(Version::One, &piece))
+}
+
+// Reads a header of the second version.
+fn second_header<R: Read + Drop>(input: &mut PieceReader<R>) -> Result<HeaderRead, FileFault>
+    ensures { (bytes : List ℕ) → Stands bytes (Versioned Two) input.old
+        → ReadsHeader bytes Two input.old input.new result }
+{
+    let mut piece = [0u8; 24];
+    input.piece(&mut piece)?;
+    Ok(header_of(Version::Two, &piece))
+}
+
+// Reads a header.
+fn said_header<R: Read + Drop>(
+    input: &mut PieceReader<R>,
+    version: Version,
+) -> Result<HeaderRead, FileFault>
+    ensures { (bytes : List ℕ) → Stands bytes (Versioned version) input.old
+        → ReadsHeader bytes version input.old input.new result }
+{
+    match version {
+        Version::One => first_header(input),
+        Version::Two => second_header(input),
+    }
 }
 
 // Reads the header, and begins the database.
-fn header<R: Read + Drop>(alloc: Global, input: &mut PieceReader<R>) -> Result<Rebuild, FileFault>
-    ensures { (bytes : List ℕ) → Stands bytes (Versioned One) input.old → Reaches bytes Body input.new result }
+fn header<R: Read + Drop>(
+    alloc: Global,
+    input: &mut PieceReader<R>,
+    version: Version,
+) -> Result<Rebuild, FileFault>
+    ensures { (bytes : List ℕ) → Stands bytes (Versioned version) input.old
+        → Reaches bytes Body input.new result }
 {
     let at = input.at();
-    let mut piece = [0u8; 20];
-    input.piece(&mut piece)?;
-    let said = header_of(&piece);
+    let said = said_header(input, version)?;
     let begun = Rebuild::begin(
         alloc,
+        version,
         said.step,
         said.last,
         said.depth,
@@ -136,8 +177,8 @@ pub fn decode<R: Read + Drop>(alloc: Global, reader: R) -> Result<Database, File
         return Err(FileFault::OutOfMemory);
     };
     mark(&mut input)?;
-    version(&mut input)?;
-    let mut build = header(alloc, &mut input)?;
+    let version = version(&mut input)?;
+    let mut build = header(alloc, &mut input, version)?;
     until_entries(&mut input, &mut build)?;
     entries(alloc, &mut input, &mut build)?;
     end(&mut input)?;

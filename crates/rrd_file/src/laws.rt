@@ -2,12 +2,13 @@
 ghost use Rattle.std.specs.Prelude.{ℕ, List};
 ghost use Rattle.rrd_spec.specs.Commands.{Command};
 ghost use Rattle.rrd_spec.specs.Journal.Survivors.{Stored};
+ghost use Rattle.rrd_spec.specs.declared.version.Version.{Version};
 ghost use Rattle.rrd_file.specs.Laws as laws;
 ghost use Rattle.rrd_file.specs.Examples as worked;
 
 use rrd_spec::laws::{
     cells_stand_in_slots, databases_are_filed_once, outlines_follow, outlines_judge_journals,
-    revert_takes_back,
+    revert_takes_back, versions_stay_within,
 };
 
 /// The definition gives two files that are known byte by byte.
@@ -48,25 +49,28 @@ pub fn one_answer()
     databases_are_filed_once();
 }
 
-/// The layout of a valid database is the file of that database, and of no other.
+/// The layout of a valid database, in each version, is the file of that database, and of no other.
 pub fn layout_is_file()
-    ensures read { (d : Stored) → laws.LayoutIsItsFile d }
-    ensures no_other { (d : Stored) → laws.LayoutIsNoOther d }
+    ensures read { (version : Version) (d : Stored) → laws.LayoutIsItsFile version d }
+    ensures no_other { (version : Version) (d : Stored) → laws.LayoutIsNoOther version d }
 {
     cells_stand_in_slots();
     databases_are_filed_once();
     outlines_follow();
     outlines_judge_journals();
+    versions_stay_within();
 }
 
-/// Different valid databases have different layouts, and none is the front of another.
+/// Different valid databases have different layouts, in one version and in two, and none is the front
+/// of another.
 pub fn layouts_differ()
-    ensures { (d e : Stored) (more : List ℕ) → laws.NoFrontOfAnother d e more }
+    ensures { (v w : Version) (d e : Stored) (more : List ℕ) → laws.NoFrontOfAnother v w d e more }
 {
     cells_stand_in_slots();
     databases_are_filed_once();
     outlines_follow();
     outlines_judge_journals();
+    versions_stay_within();
 }
 
 /// A revert of an accepted command gives the file back, byte by byte, but for the oldest entry of a

@@ -1,5 +1,5 @@
 -- What an accepted command is known to be.
-use Rattle.std.proofs.Common.{◌≡◌, refl, sym, ◌∙◌, ap, ℕ, suc, ◌<◌, Bool, true, false, cond, ltb, eqb, ◌||◌, List, [], ◌∷◌, length, map, Option, Some, None, arith, get_or}
+use Rattle.std.proofs.Common.{◌≡◌, refl, sym, ◌∙◌, ap, subst, ℕ, suc, ◌<◌, Bool, true, false, cond, ltb, eqb, ◌||◌, List, [], ◌∷◌, length, map, Option, Some, None, arith, get_or}
 use Rattle.std.proofs.lemmas.Bool.{leb-false, eqb-false, or_parts}
 use Rattle.std.proofs.lemmas.List.{length-map}
 use Rattle.std.specs.List.{fold, AllByRecursion}
@@ -7,17 +7,22 @@ use Rattle.std.specs.Option.{unwrap_or}
 use Rattle.rrd_fixed.specs.declared.raw.Raw.{Raw}
 use Rattle.rrd_fixed.specs.declared.name.Name.{Name}
 use Rattle.rrd_spec.specs.declared.settings.DsDef.{DsDef}
-use Rattle.rrd_spec.specs.History.{Content, Sampled, Moment, moment_after, moment_of, moment_at_end, raws_under, IsHistory}
-use Rattle.rrd_spec.specs.Commands.{Command, Updating, TuningBy, Resizing, settings_of, sample_of, tuned, rows_changed, events}
-use Rattle.rrd_spec.specs.Settings.{names}
-use Rattle.rrd_spec.specs.Commands.Verdict.{Check, first_refusal, is_bad_rows, grows_too_far, shrinks_too_far, checks, verdict, verdict_within}
+use Rattle.rrd_spec.specs.History.{Content, Sampled, Tuned, Moment, moment_after, moment_of, moment_at_end, raws_under, IsHistory}
+use Rattle.rrd_spec.specs.Commands.{Command, Updating, TuningBy, Resizing, archive_event, settings_of, sample_of, tuned, rows_changed, events}
+use Rattle.rrd_spec.specs.Settings.{Settings, names}
+use Rattle.std.specs.Option.{option_map_or}
+use Rattle.rrd_spec.specs.declared.settings.RraDef.{RraDef}
+use Rattle.rrd_spec.specs.declared.requests.tune.Tuning.{Tuning}
+use Rattle.rrd_spec.specs.declared.requests.tune.ArchiveTune.{ArchiveTune}
+use Rattle.rrd_spec.specs.declared.requests.tune.ArchiveTune.TheVariants.{Add, Remove}
+use Rattle.rrd_spec.specs.Commands.Verdict.{Check, archive_tune_checks, first_refusal, is_bad_rows, grows_too_far, shrinks_too_far, checks, verdict, verdict_within}
 use Rattle.rrd_spec.specs.Lemmas.Commands.{readings_rise}
 use Rattle.rrd_spec.specs.Laws.Commands.{Passes}
 use Rattle.rrd_spec.specs.declared.requests.update.Sample.{Sample}
 use Rattle.rrd_spec.specs.declared.requests.resize.Change.{Change}
 use Rattle.rrd_spec.specs.declared.requests.resize.Change.TheVariants.{Grow, Shrink}
 use Rattle.rrd_spec.specs.declared.refusal.Refusal.{Refusal}
-use Rattle.rrd_spec.specs.Limits.{version_one}
+use Rattle.rrd_spec.specs.Limits.{present}
 
 -- ---- every check passes
 
@@ -29,22 +34,37 @@ pub all_pass : (list : List Check) → first_refusal list ≡ None → AllByRecu
 all_pass [] h = tt
 all_pass (check ∷ list) h = let this = by_case check.wrong check.refusal (first_refusal list) h in (this.0, all_pass list this.1)
 
-pub accepted_passes : (base : Content) (command : Command) → verdict base command ≡ None → AllByRecursion Passes (checks version_one base command)
+pub accepted_passes : (base : Content) (command : Command) → verdict base command ≡ None → AllByRecursion Passes (checks present base command)
 unfolding verdict_within
-accepted_passes base command h = all_pass (checks version_one base command) h
+accepted_passes base command h = all_pass (checks present base command) h
 
 -- ---- its events are a history
 
-pub some_rows : (change : Change) (old rows : ℕ) → (is_bad_rows version_one rows || grows_too_far version_one change old rows) ≡ false → shrinks_too_far change old rows ≡ false → 0 < rows_changed change old rows
+pub some_rows : (change : Change) (old rows : ℕ) → (is_bad_rows present rows || grows_too_far present change old rows) ≡ false → shrinks_too_far change old rows ≡ false → 0 < rows_changed change old rows
 some_rows Grow old rows h k =
-    let some = eqb-false rows 0 (or_parts (eqb rows 0) (ltb 1000000 rows) (or_parts (is_bad_rows version_one rows) (grows_too_far version_one Grow old rows) h).0).0 in
+    let some = eqb-false rows 0 (or_parts (eqb rows 0) (ltb 1000000 rows) (or_parts (is_bad_rows present rows) (grows_too_far present Grow old rows) h).0).0 in
     omega (arith, some)
 some_rows Shrink old rows h k = omega (arith, leb-false old rows k)
+
+-- an archive's settings that pass have a step and a row
+pub some_of_archive : (settings : Settings) (def : RraDef) → AllByRecursion Passes (archive_tune_checks present settings (Some (Add def))) → (0 < def.steps) × (0 < def.rows)
+some_of_archive settings def p =
+    (omega (arith, eqb-false def.steps 0 (or_parts (eqb def.steps 0) (ltb 1000000 def.steps) p.1.0).0), omega (arith, eqb-false def.rows 0 (or_parts (eqb def.rows 0) (ltb 1000000 def.rows) p.1.1.0).0))
+
+archive_history : (settings : Settings) (now : Moment) (sources : List DsDef) (archive : Option ArchiveTune) → length sources ≡ length now.sources → AllByRecursion Passes (archive_tune_checks present settings archive) → IsHistory now (option_map_or archive_event archive (Tuned sources) ∷ [])
+archive_history settings now sources None e p = (e, tt)
+archive_history settings now sources (Some (Add def)) e p = let some = some_of_archive settings def p in (some.0, some.1, tt)
+archive_history settings now sources (Some (Remove number)) e p = tt
+
+-- what comes or goes, or the sources' new settings
+pub tune_passes : (base : Content) (tuning : Tuning) (archive : Option ArchiveTune) → tuning.archive ≡ archive → verdict base (TuningBy tuning) ≡ None → AllByRecursion Passes (archive_tune_checks present (settings_of base) archive)
+tune_passes base tuning archive e h = subst (λ a. AllByRecursion Passes (archive_tune_checks present (settings_of base) a)) e (accepted_passes base (TuningBy tuning) h).1.1.1.1.1.1.1
 
 pub accepted_history : (base : Content) (command : Command) → verdict base command ≡ None → IsHistory (moment_of base) (events (settings_of base) command)
 accepted_history base (Updating update) h =
     readings_rise base.sources (unwrap_or update.template (names base.sources)) (moment_of base) update.samples (accepted_passes base (Updating update) h).1.1.1
-accepted_history base (TuningBy tuning) h = (length-map base.sources (tuned tuning), tt)
+accepted_history base (TuningBy tuning) h =
+    archive_history (settings_of base) (moment_of base) (map (tuned tuning) base.sources) tuning.archive (length-map base.sources (tuned tuning)) (accepted_passes base (TuningBy tuning) h).1.1.1.1.1.1.1
 accepted_history base (Resizing archive change rows) h =
     let p = accepted_passes base (Resizing archive change rows) h in
     (some_rows change (get_or (settings_of base).rows archive 0) rows p.1.0 p.1.1.0, tt)
@@ -64,5 +84,9 @@ readings_raws sources template now (reading ∷ readings) same each =
 
 pub command_raws : (base : Content) (command : Command) → length base.raws ≡ length base.sources → let end = moment_at_end base (events (settings_of base) command) in length end.raws ≡ length end.sources
 command_raws base (Updating update) each = readings_raws base.sources (unwrap_or update.template (names base.sources)) (moment_of base) update.samples refl each
-command_raws base (TuningBy tuning) each = length-raws_under base.sources (map (tuned tuning) base.sources) base.raws ∙ each ∙ sym (length-map base.sources (tuned tuning))
+command_raws base (TuningBy tuning) each = by_archive tuning.archive (length-raws_under base.sources (map (tuned tuning) base.sources) base.raws ∙ each ∙ sym (length-map base.sources (tuned tuning))) where
+  by_archive : (archive : Option ArchiveTune) → length (raws_under base.sources (map (tuned tuning) base.sources) base.raws) ≡ length (map (tuned tuning) base.sources) → let end = moment_at_end base (option_map_or archive_event archive (Tuned (map (tuned tuning) base.sources)) ∷ []) in length end.raws ≡ length end.sources
+  by_archive None tuned_each = tuned_each
+  by_archive (Some (Add def)) tuned_each = each
+  by_archive (Some (Remove number)) tuned_each = each
 command_raws base (Resizing archive change rows) each = each

@@ -2,7 +2,7 @@
 use Rattle.std.proofs.Common.{◌≡◌, refl, sym, ◌∙◌, ap, subst, ℕ, zero, suc, ◌+◌, ◌-◌, ◌*◌, ◌/◌, ◌%◌, ◌<◌, ◌≤◌, Bool, true, false, cond, ltb, List, [], ◌∷◌, ◌++◌, length, map, replicate, get_or, arith, length-append, Some, ⊎_elim, ℤ, pos, negsuc, ◌+ℤ◌, ◌-ℤ◌, ◌<ℤ◌, ◌≤ℤ◌, unsigned_abs}
 use Rattle.std.specs.Prelude.{int_lt, int_le, slice_get}
 use Rattle.std.specs.Int.{int_max, int_div_euclid}
-use Rattle.std.specs.List.{fold, enumerate_from, range_with_len, AllByRecursion}
+use Rattle.std.specs.List.{fold, range_with_len, AllByRecursion}
 use Rattle.std.proofs.Math.Nat.{div-div-eq-div-mul}
 use Rattle.std.proofs.lemmas.Bool.{cases_lt, cases_Bool, cond-false, cond-true, cond_both, lt-ltb, le-ltb}
 use Rattle.std.proofs.lemmas.Int.{ints, clamps, int_rem_euclid_is}
@@ -11,18 +11,21 @@ use Rattle.std.proofs.lemmas.List.FromFn.{length-map-range_with_len, get_or-map-
 use Rattle.std.proofs.lemmas.Nat.{mul-le, mul-lt, div-mul-add, mod-mul-add}
 use Rattle.rrd_fixed.specs.declared.cell.Cell.{Cell}
 use Rattle.rrd_spec.specs.History.Steps.{seconds_to_steps, steps_of}
-use Rattle.rrd_spec.specs.History.Rows.{steps_to_rows, rows_of, row, row_ending}
-use Rattle.rrd_spec.specs.History.{Archive, Content, Event, Sampled, Tuned, Resized, Moment, moment_after, moment_of, moment_at_end, seconds_of, rows_after, IsHistory, IsArchive, IsBase}
-use Rattle.rrd_spec.specs.Laws.ListedContent.{rows_never_lost, keep_last, filled_up, kept_rows, archive_of, content_listed}
+use Rattle.rrd_spec.specs.History.Rows.{steps_to_rows, steps_before, steps_for, rows_of, row, row_ending}
+use Rattle.rrd_spec.specs.History.{Archive, Content, Event, Sampled, Tuned, Resized, Added, Removed, Moment, moment_after, moment_of, moment_at_end, seconds_of, rows_after, IsHistory, IsBase}
+use Rattle.rrd_spec.specs.Laws.ListedContent.{rows_never_lost, keep_last, filled_up}
+use Rattle.rrd_spec.specs.Laws.ListedLives.{archive_for, content_lived, kept_for, rows_for}
+use Rattle.rrd_spec.specs.Laws.Archives.{IsLived}
+use Rattle.rrd_spec.specs.History.Lives.{Life, lives}
+use Rattle.rrd_spec.proofs.Lives.{LifeAt, length-kept_for, length-rows_for, lives_are}
 use Rattle.rrd_spec.specs.History.Groups.{Rule, group_part, finished}
 use Rattle.rrd_spec.proofs.GroupLemmas.{reached_before}
-use Rattle.rrd_spec.specs.History.Cells.{row_of_age, row_at, newest, reach, prefixes, greatest, reach_after, horizon, row_by_time, time_of, rows_by_time, archive_by_time, content}
+use Rattle.rrd_spec.specs.History.Cells.{row_of_age, row_at, row_then, newest, reach, prefixes, greatest, reach_after, horizon, row_by_time, time_of, rows_by_time, archive_by_time, content}
 use Rattle.rrd_spec.specs.Settings.{resolution}
-use Rattle.rrd_spec.specs.Laws.Cells.{IsMultiple, IsListed, ShowsByTime, ListsByNumber}
+use Rattle.rrd_spec.specs.Laws.Cells.{IsMultiple, ShowsByTime, ListsByNumber}
 use Rattle.rrd_spec.proofs.HistoryLemmas.{last_rises, length-sources}
 use Rattle.rrd_spec.proofs.RowLemmas.{length-filled_up, room_first, room_last, row_by_age}
 use Rattle.rrd_spec.specs.Lemmas.Lists.{length-keep_last}
-use Rattle.rrd_spec.proofs.ContentLemmas.{length-rows_of}
 
 -- ---- tests
 
@@ -93,6 +96,8 @@ rest_of_history : (now : Moment) (e : Event) (es : List Event) → IsHistory now
 rest_of_history now (Sampled sample) es h = h.1
 rest_of_history now (Tuned sources) es h = h.1
 rest_of_history now (Resized archive rows) es h = h.1
+rest_of_history now (Added def) es h = h.2
+rest_of_history now (Removed archive) es h = h
 
 abbrev reach_from : ℕ → ℕ → ℕ → Moment → List Event → ℤ
 reach_from size index rows now events = reach size (fold (rows_after index) rows events) (fold moment_after now events).last
@@ -147,22 +152,22 @@ some_prefix : {A : Type 0} (xs : List A) → 0 < length (prefixes xs)
 some_prefix [] = omega arith
 some_prefix (x ∷ xs) = omega arith
 
-in_sight : (base : Content) (index : ℕ) (archive : Archive) (es : List Event) (age n m : ℕ) (time : ℤ) → let size = resolution base.step archive.def in let end = (moment_at_end base es).last in 0 < size → IsHistory (moment_of base) es → IsAt size time n m → age + n ≡ end / size + m → age < rows_never_lost index (λ t. end / size - t / size) archive.def.rows (moment_of base) es → int_le time (horizon base index archive es) ≡ false
-in_sight base index archive es age n m time some h at aged k =
-    let size = resolution base.step archive.def in
-    after time (horizon base index archive es)
-    (greatest_under time (map (reach_after base index archive) (prefixes es)) (omega (arith, some_prefix es, length-map (prefixes es) (reach_after base index archive)))
-    (room_under size index (moment_at_end base es).last age n m time some at aged archive.def.rows (moment_of base) es h refl k))
+in_sight : (step : ℕ) (life : Life) (end age n m : ℕ) (time : ℤ) → let size = resolution step life.begun.def in 0 < size → IsHistory life.birth life.since → (fold moment_after life.birth life.since).last ≡ end → IsAt size time n m → age + n ≡ end / size + m → age < rows_never_lost 0 (λ t. end / size - t / size) life.begun.def.rows life.birth life.since → int_le time (horizon step life) ≡ false
+in_sight step life end age n m time some h e at aged k =
+    let size = resolution step life.begun.def in
+    after time (horizon step life)
+    (greatest_under time (map (reach_after step life) (prefixes life.since)) (omega (arith, some_prefix life.since, length-map (prefixes life.since) (reach_after step life)))
+    (room_under size 0 end age n m time some at aged life.begun.def.rows life.birth life.since h e k))
 
-out_of_sight : (base : Content) (index : ℕ) (archive : Archive) (es : List Event) (age n m : ℕ) (time : ℤ) → let size = resolution base.step archive.def in let end = (moment_at_end base es).last in 0 < size → IsHistory (moment_of base) es → IsAt size time n m → age + n ≡ end / size + m → rows_never_lost index (λ t. end / size - t / size) archive.def.rows (moment_of base) es ≤ age → int_le time (horizon base index archive es) ≡ true
-out_of_sight base index archive es age n m time some h at aged k =
-    let size = resolution base.step archive.def in
-    let reached = horizon base index archive es in
+out_of_sight : (step : ℕ) (life : Life) (end age n m : ℕ) (time : ℤ) → let size = resolution step life.begun.def in 0 < size → IsHistory life.birth life.since → (fold moment_after life.birth life.since).last ≡ end → IsAt size time n m → age + n ≡ end / size + m → rows_never_lost 0 (λ t. end / size - t / size) life.begun.def.rows life.birth life.since ≤ age → int_le time (horizon step life) ≡ true
+out_of_sight step life end age n m time some h e at aged k =
+    let size = resolution step life.begun.def in
+    let reached = horizon step life in
     ⊎_elim
     (λ (hidden : int_le time reached ≡ true). hidden)
     (λ (seen : int_le time reached ≡ false).
-    let later : reached <ℤ time = grind (arith, ints) in
-    absurd (omega (arith, under_room size index (moment_at_end base es).last age n m time some at aged archive.def.rows (moment_of base) es h refl (under_greatest time (map (reach_after base index archive) (prefixes es)) later))))
+    let after_it : reached <ℤ time = grind (arith, ints) in
+    absurd (omega (arith, under_room size 0 end age n m time some at aged life.begun.def.rows life.birth life.since h e (under_greatest time (map (reach_after step life) (prefixes life.since)) after_it))))
     (cases_Bool (int_le time reached))
 
 -- ---- the rows that an archive has, by their ages
@@ -184,11 +189,11 @@ finished_at rule begun_at begun items i d h =
     let count = (begun_at + length items) / rule.size - begun_at / rule.size in
     get_or-map-range_with_len close_at (begun_at / rule.size) count i (begun_at / rule.size + i) d (omega (arith, length-map-range_with_len close_at (begun_at / rule.size) count)) refl
 
--- a row that ended since the base
-new_row : (base : Content) (archive : Archive) (es : List Event) (i number : ℕ) (d : List Cell) → i < length (rows_of base archive es) → base.last / base.step / archive.def.steps + i ≡ number → get_or (rows_of base archive es) i d ≡ row base archive es number
-unfolding rows_of
-new_row base archive es i number d h e =
-    finished_at (steps_to_rows archive.def (length base.sources)) (base.last / base.step) archive.parts (steps_of base es) i d h ∙ ap (row base archive es) e
+-- a row that ended since the archive began
+new_row : (base : Content) (life : Life) (es : List Event) (i number : ℕ) (d : List Cell) → i < length (rows_for base es life) → life.birth.last / base.step / life.begun.def.steps + i ≡ number → get_or (rows_for base es life) i d ≡ row base life es number
+unfolding rows_for
+new_row base life es i number d h e =
+    finished_at (steps_to_rows life.begun.def (length base.sources)) (steps_before base life) life.begun.parts (steps_for base life es) i d h ∙ ap (row base life es) e
 
 -- the number of the row that ends n - m rows after 1970
 row_number : (size n m : ℕ) (time : ℤ) → 0 < size → IsAt size time n m → m < n → unsigned_abs time / size ≡ n - m
@@ -198,56 +203,60 @@ row_number size n m time some at h =
 
 -- ---- the three cases of a row that is in sight
 
-old_row : (base : Content) (archive : Archive) (es : List Event) (u : List Cell) (age n m first end : ℕ) (time : ℤ) → let size = resolution base.step archive.def in IsAt size time n m → base.last / size ≡ first → first ≤ end → age + n ≡ end + m → n ≤ first + m → age < length archive.rows + (end - first) → get_or (archive.rows ++ rows_of base archive es) (length archive.rows + (end - first) - 1 - age) u ≡ row_of_age archive.rows u (pos (base.last / size) -ℤ int_div_euclid time (pos size))
-old_row base archive es u age n m first end time at first_is rises aged older seen =
-    let size = resolution base.step archive.def in
+old_row : (size last : ℕ) (rows news : List (List Cell)) (u : List Cell) (age n m first end : ℕ) (time : ℤ) → IsAt size time n m → last / size ≡ first → first ≤ end → age + n ≡ end + m → n ≤ first + m → age < length rows + (end - first) → get_or (rows ++ news) (length rows + (end - first) - 1 - age) u ≡ row_of_age rows u (pos (last / size) -ℤ int_div_euclid time (pos size))
+old_row size last rows news u age n m first end time at first_is rises aged older seen =
     let back = first + m - n in
-    let ago : pos (base.last / size) -ℤ int_div_euclid time (pos size) ≡ pos back = omega (arith, ints, at.count_is) in
-    get_or_append_left archive.rows (rows_of base archive es) u (length archive.rows + (end - first) - 1 - age) (omega arith)
-    ∙ ap (λ i. get_or archive.rows i u) {x = length archive.rows + (end - first) - 1 - age} {y = length archive.rows - 1 - back} (omega arith)
-    ∙ sym (cond-true (ltb back (length archive.rows)) (get_or archive.rows (length archive.rows - 1 - back) u) u (lt-ltb back (length archive.rows) (omega arith)))
-    ∙ sym (ap (row_of_age archive.rows u) ago)
+    let ago : pos (last / size) -ℤ int_div_euclid time (pos size) ≡ pos back = omega (arith, ints, at.count_is) in
+    get_or_append_left rows news u (length rows + (end - first) - 1 - age) (omega arith)
+    ∙ ap (λ i. get_or rows i u) {x = length rows + (end - first) - 1 - age} {y = length rows - 1 - back} (omega arith)
+    ∙ sym (cond-true (ltb back (length rows)) (get_or rows (length rows - 1 - back) u) u (lt-ltb back (length rows) (omega arith)))
+    ∙ sym (ap (row_of_age rows u) ago)
 
-recent_row : (base : Content) (archive : Archive) (es : List Event) (u : List Cell) (age n m first end : ℕ) (time : ℤ) → let size = resolution base.step archive.def in 0 < size → IsAt size time n m → base.last / size ≡ first → base.last / base.step / archive.def.steps ≡ first → length (rows_of base archive es) ≡ end - first → age + n ≡ end + m → first + m < n → get_or (archive.rows ++ rows_of base archive es) (length archive.rows + (end - first) - 1 - age) u ≡ row_ending base archive es time
-recent_row base archive es u age n m first end time some at first_is first_step count aged newer =
-    let size = resolution base.step archive.def in
+recent_row : (base : Content) (life : Life) (es : List Event) (u : List Cell) (age n m first end : ℕ) (time : ℤ) → let size = resolution base.step life.begun.def in 0 < size → IsAt size time n m → life.birth.last / base.step / life.begun.def.steps ≡ first → length (rows_for base es life) ≡ end - first → age + n ≡ end + m → first + m < n → get_or (life.begun.rows ++ rows_for base es life) (length life.begun.rows + (end - first) - 1 - age) u ≡ row_ending base life es time
+recent_row base life es u age n m first end time some at first_step count aged newer =
+    let size = resolution base.step life.begun.def in
+    let rows = life.begun.rows in
     let i = n - m - 1 - first in
-    get_or-append_right archive.rows (rows_of base archive es) (length archive.rows) (length archive.rows + (end - first) - 1 - age) u refl (omega arith)
-    ∙ ap (λ k. get_or (rows_of base archive es) k u) {x = length archive.rows + (end - first) - 1 - age - length archive.rows} {y = i} (omega arith)
-    ∙ new_row base archive es i (n - m - 1) u (omega arith) (omega arith)
-    ∙ sym (ap (λ k. row base archive es (k - 1)) (row_number size n m time some at (omega arith)))
+    get_or-append_right rows (rows_for base es life) (length rows) (length rows + (end - first) - 1 - age) u refl (omega arith)
+    ∙ ap (λ k. get_or (rows_for base es life) k u) {x = length rows + (end - first) - 1 - age - length rows} {y = i} (omega arith)
+    ∙ new_row base life es i (n - m - 1) u (omega arith) (omega arith)
+    ∙ sym (ap (λ k. row base life es (k - 1)) (row_number size n m time some at (omega arith)))
 
 -- ---- an archive
 
 -- the kept row of a time, by its age
-kept_by_time : (base : Content) (index : ℕ) (archive : Archive) (es : List Event) (time : ℤ) → 0 < base.step → IsArchive archive → IsHistory (moment_of base) es → IsMultiple time (resolution base.step archive.def) → row_of_age (kept_rows base index archive es) (replicate (length base.sources) Cell.Unknown) (pos ((moment_at_end base es).last / resolution base.step archive.def) -ℤ int_div_euclid time (pos (resolution base.step archive.def))) ≡ row_by_time base index archive es time
-unfolding kept_rows
-kept_by_time base index archive es time some_step is h multiple =
-    let size = resolution base.step archive.def in
+kept_by_time : (base : Content) (es : List Event) (life : Life) (time : ℤ) → 0 < base.step → IsHistory (moment_of base) es → LifeAt base (moment_at_end base es) life → IsMultiple time (resolution base.step life.begun.def) → row_of_age (kept_for base es life) (replicate (length base.sources) Cell.Unknown) (pos ((moment_at_end base es).last / resolution base.step life.begun.def) -ℤ int_div_euclid time (pos (resolution base.step life.begun.def))) ≡ row_by_time base life es time
+unfolding kept_for
+kept_by_time base es life time some_step h alive multiple =
+    let size = resolution base.step life.begun.def in
+    let is = alive.archive_is in
+    let olds = life.begun.rows in
     let last = (moment_at_end base es).last in
-    let first = base.last / size in
+    let first = life.birth.last / size in
     let end = last / size in
-    let some : 0 < size = omega (arith, mul-lt 0 0 base.step archive.def.steps some_step is.some_steps) in
+    let some : 0 < size = omega (arith, mul-lt 0 0 base.step life.begun.def.steps some_step is.some_steps) in
     let place = multiple_at size time some multiple in
     let n = place.0 in
     let m = place.1 in
     let at : IsAt size time n m = place.2 in
     let u = replicate (length base.sources) Cell.Unknown in
-    let all = archive.rows ++ rows_of base archive es in
+    let all = olds ++ rows_for base es life in
     let since = λ (t : ℕ). end - t / size in
-    let now = moment_of base in
-    let rows_end = fold (rows_after index) archive.def.rows es in
-    let kept_room = rows_never_lost index since archive.def.rows now es in
+    let now = life.birth in
+    let here : (fold moment_after now life.since).last ≡ last = ap (λ (e : Moment). e.last) alive.now_is in
+    let rows_end = fold (rows_after 0) life.begun.def.rows life.since in
+    let kept_room = rows_never_lost 0 since life.begun.def.rows now life.since in
     let kept = filled_up rows_end u (keep_last kept_room all) in
-    let count_new : first + length (rows_of base archive es) ≡ end = length-rows_of base archive es some_step is.some_steps h in
-    let count_all = length-append archive.rows (rows_of base archive es) in
-    let most = room_first index since archive.def.rows now es in
-    let fits = room_last index since archive.def.rows now es in
-    let reached = horizon base index archive es in
-    let hidden = int_le time reached in
+    let count_new : first + length (rows_for base es life) ≡ end = length-rows_for base es life some_step h alive in
+    let count_all = length-append olds (rows_for base es life) in
+    let most = room_first 0 since life.begun.def.rows now life.since in
+    let none_since : since (fold moment_after now life.since).last ≡ 0 = omega (arith, ap (λ t. t / size) here) in
+    let fits = room_last 0 since life.begun.def.rows now life.since in
+    let hidden = int_le time (horizon base.step life) in
     let ahead = int_lt (pos (newest size last)) time in
-    let old = int_le time (pos (newest size base.last)) in
-    let later = cond old (row_at base archive time) (row_ending base archive es time) in
+    let old = int_le time (pos (newest size life.birth.last)) in
+    let begun_row = row_then (length base.sources) base.step life.birth.last life.begun time in
+    let later = cond old begun_row (row_ending base life es time) in
     ⊎_elim
     (λ (after_end : end + m < n).
     let ago : pos end -ℤ int_div_euclid time (pos size) ≡ negsuc (n - (end + m) - 1) = omega (arith, ints, at.count_is) in
@@ -262,21 +271,21 @@ kept_by_time base index archive es time some_step is h multiple =
     ap (row_of_age kept u) ago ∙ shown
     ∙ ⊎_elim
     (λ (young : age < kept_room).
-    let rest : cond hidden u (cond ahead u later) ≡ later = cond-false hidden u (cond ahead u later) (in_sight base index archive es age n m time some h at aged young) ∙ not_ahead in
-    let place_is : get_or all (length all - 1 - age) u ≡ get_or all (length archive.rows + (end - first) - 1 - age) u = ap (λ k. get_or all (k - 1 - age) u) {x = length all} {y = length archive.rows + (end - first)} (omega arith) in
+    let rest : cond hidden u (cond ahead u later) ≡ later = cond-false hidden u (cond ahead u later) (in_sight base.step life last age n m time some alive.history here at aged young) ∙ not_ahead in
+    let place_is : get_or all (length all - 1 - age) u ≡ get_or all (length olds + (end - first) - 1 - age) u = ap (λ k. get_or all (k - 1 - age) u) {x = length all} {y = length olds + (end - first)} (omega arith) in
     cond-true (ltb age kept_room) (get_or all (length all - 1 - age) u) u (lt-ltb age kept_room young)
     ∙ place_is
     ∙ ⊎_elim
     (λ (newer : first + m < n).
-    recent_row base archive es u age n m first end time some at refl (div-div-eq-div-mul base.last base.step archive.def.steps) (omega arith) aged newer
-    ∙ sym (rest ∙ cond-false old (row_at base archive time) (row_ending base archive es time) (after time (pos (newest size base.last)) (ends_under size first n m time some at newer))))
+    recent_row base life es u age n m first end time some at (div-div-eq-div-mul life.birth.last base.step life.begun.def.steps) (omega arith) aged newer
+    ∙ sym (rest ∙ cond-false old begun_row (row_ending base life es time) (after time (pos (newest size life.birth.last)) (ends_under size first n m time some at newer))))
     (λ (older : n ≤ first + m).
-    old_row base archive es u age n m first end time at refl (omega arith) aged older (omega (arith, is.rows_are))
-    ∙ sym (rest ∙ cond-true old (row_at base archive time) (row_ending base archive es time) (at_or_before time (pos (newest size base.last)) (ends_over size first n m time at older))))
+    old_row size life.birth.last olds (rows_for base es life) u age n m first end time at refl (omega arith) aged older (omega (arith, is.rows_are))
+    ∙ sym (rest ∙ cond-true old begun_row (row_ending base life es time) (at_or_before time (pos (newest size life.birth.last)) (ends_over size first n m time at older))))
     (cases_lt (first + m) n))
     (λ (gone : kept_room ≤ age).
     cond-false (ltb age kept_room) (get_or all (length all - 1 - age) u) u (le-ltb age kept_room gone)
-    ∙ sym (cond-true hidden u (cond ahead u later) (out_of_sight base index archive es age n m time some h at aged gone)))
+    ∙ sym (cond-true hidden u (cond ahead u later) (out_of_sight base.step life last age n m time some alive.history here at aged gone)))
     (cases_lt age kept_room))
     (cases_lt (end + m) n)
   where
@@ -284,13 +293,13 @@ kept_by_time base index archive es time some_step is h multiple =
     either true x = refl
     either false x = refl
 
-row_shown : (base : Content) (index : ℕ) (archive : Archive) (es : List Event) (time : ℤ) → 0 < base.step → IsArchive archive → IsHistory (moment_of base) es → IsMultiple time (resolution base.step archive.def) → row_at (content_listed base es) (archive_of base es (index, archive)) time ≡ row_by_time base index archive es time
-unfolding content_listed
-row_shown base index archive es time some_step is h multiple =
-    let size = resolution base.step archive.def in
+row_shown : (base : Content) (es : List Event) (life : Life) (time : ℤ) → 0 < base.step → IsHistory (moment_of base) es → LifeAt base (moment_at_end base es) life → IsMultiple time (resolution base.step life.begun.def) → row_at (content_lived base es) (archive_for base es life) time ≡ row_by_time base life es time
+unfolding content_lived
+row_shown base es life time some_step h alive multiple =
+    let size = resolution base.step life.begun.def in
     let age = pos ((moment_at_end base es).last / size) -ℤ int_div_euclid time (pos size) in
-    ap (λ k. row_of_age (kept_rows base index archive es) (replicate k Cell.Unknown) age) (length-sources (moment_of base) es h)
-    ∙ kept_by_time base index archive es time some_step is h multiple
+    ap (λ k. row_of_age (kept_for base es life) (replicate k Cell.Unknown) age) (length-sources (moment_of base) es h)
+    ∙ kept_by_time base es life time some_step h alive multiple
 
 -- ---- all rows of an archive
 
@@ -320,25 +329,17 @@ age_of size rows end place time some within is =
     let same : n + rows ≡ end + (place + 1) + m = same_count size (n + rows) (end + (place + 1) + m) some (omega (arith, ints, whole, at.time_is)) in
     (multiple, omega (arith, ints, at.count_is, same))
 
-rows_are_by_time : (base : Content) (index : ℕ) (archive : Archive) (es : List Event) → 0 < base.step → IsArchive archive → IsHistory (moment_of base) es → kept_rows base index archive es ≡ rows_by_time base index archive es
-unfolding kept_rows
-rows_are_by_time base index archive es some_step is h =
-    let size = resolution base.step archive.def in
+rows_are_by_time : (base : Content) (es : List Event) (life : Life) → 0 < base.step → IsHistory (moment_of base) es → LifeAt base (moment_at_end base es) life → kept_for base es life ≡ rows_by_time base es life
+rows_are_by_time base es life some_step h alive =
+    let size = resolution base.step life.begun.def in
     let last = (moment_at_end base es).last in
     let end = last / size in
-    let some : 0 < size = omega (arith, mul-lt 0 0 base.step archive.def.steps some_step is.some_steps) in
+    let some : 0 < size = omega (arith, mul-lt 0 0 base.step life.begun.def.steps some_step alive.archive_is.some_steps) in
     let u = replicate (length base.sources) Cell.Unknown in
-    let all = archive.rows ++ rows_of base archive es in
-    let since = λ (t : ℕ). end - t / size in
-    let rows = fold (rows_after index) archive.def.rows es in
-    let kept_room = rows_never_lost index since archive.def.rows (moment_of base) es in
-    let kept = filled_up rows u (keep_last kept_room all) in
-    let one = λ (place : ℕ). row_by_time base index archive es (time_of size rows last place) in
-    let count_new : base.last / size + length (rows_of base archive es) ≡ end = length-rows_of base archive es some_step is.some_steps h in
-    let count_all = length-append archive.rows (rows_of base archive es) in
-    let most = room_first index since archive.def.rows (moment_of base) es in
-    let fits = room_last index since archive.def.rows (moment_of base) es in
-    let count : length kept ≡ rows = length-filled_up rows u (keep_last kept_room all) (omega (arith, is.rows_are, most, fits, length-keep_last kept_room all (omega (arith, is.rows_are)))) in
+    let rows = fold (rows_after 0) life.begun.def.rows life.since in
+    let kept = kept_for base es life in
+    let one = λ (place : ℕ). row_by_time base life es (time_of size rows last place) in
+    let count : length kept ≡ rows = length-kept_for base es life some_step h alive in
     let listed = length-map-range_with_len one 0 rows in
     ext_get_or u kept (map one (range_with_len 0 rows)) (omega (arith, count, listed))
     (λ place within.
@@ -348,46 +349,45 @@ rows_are_by_time base index archive es some_step is h =
     = cond-true (ltb (rows - 1 - place) (length kept)) (get_or kept (length kept - 1 - (rows - 1 - place)) u) u (lt-ltb (rows - 1 - place) (length kept) (omega (arith, count, here)))
     ∙ ap (λ k. get_or kept k u) {x = length kept - 1 - (rows - 1 - place)} {y = place} (omega (arith, count, here)) in
     sym by_age ∙ sym (ap (row_of_age kept u) age.1)
-    ∙ kept_by_time base index archive es (time_of size rows last place) some_step is h age.0
+    ∙ kept_by_time base es life (time_of size rows last place) some_step h alive age.0
     ∙ sym (get_or-map-range_with_len one 0 rows place place u (omega (arith, listed, here)) (omega arith)))
 
-each_by_time : (base : Content) (es : List Event) (n : ℕ) (archives : List Archive) → 0 < base.step → IsHistory (moment_of base) es → AllByRecursion IsArchive archives → map (archive_of base es) (enumerate_from n archives) ≡ map (archive_by_time base es) (enumerate_from n archives)
-each_by_time base es n [] some h is = refl
-each_by_time base es n (archive ∷ archives) some h is =
-    ap (λ rows. let a : Archive = record (archive_of base es (n, archive)) { rows = rows } in a ∷ map (archive_of base es) (enumerate_from (n + 1) archives)) (rows_are_by_time base n archive es some is.0 h)
-    ∙ ap (λ rest. archive_by_time base es (n, archive) ∷ rest) (each_by_time base es (n + 1) archives some h is.1)
+each_by_time : (base : Content) (es : List Event) (all : List Life) → 0 < base.step → IsHistory (moment_of base) es → AllByRecursion (LifeAt base (moment_at_end base es)) all → map (archive_for base es) all ≡ map (archive_by_time base es) all
+each_by_time base es [] some h is = refl
+each_by_time base es (life ∷ all) some h is =
+    ap (λ rows. let a : Archive = record (archive_for base es life) { rows = rows } in a ∷ map (archive_for base es) all) (rows_are_by_time base es life some h is.0)
+    ∙ ap (λ rest. archive_by_time base es life ∷ rest) (each_by_time base es all some h is.1)
 
-pub is_listed : (base : Content) (es : List Event) → IsListed base es
-unfolding content_listed
-is_listed base es is h = ap (λ archives. let x : Content = record (content base es) { archives = archives } in x) (each_by_time base es 0 base.archives is.some_step h is.archives_are)
+pub is_lived : (base : Content) (es : List Event) → IsLived base es
+unfolding content_lived
+is_lived base es is h = ap (λ archives. let x : Content = record (content base es) { archives = archives } in x) (each_by_time base es (lives base es) is.some_step h (lives_are base es is h))
 
 -- ---- each archive of a content
 
-shown_is : (f : ℕ × Archive → Archive) (n : ℕ) (archives : List Archive) (index : ℕ) (archive shown : Archive) → slice_get archives index ≡ Some archive → slice_get (map f (enumerate_from n archives)) index ≡ Some shown → f (n + index, archive) ≡ shown
-shown_is f n [] index archive shown h k = absurd cc
-shown_is f n (first ∷ archives) zero archive shown h k =
-    let here : first ≡ archive = cc in
-    let there : f (n, first) ≡ shown = cc in
-    ap (λ i. f (i, archive)) {x = n + 0} {y = n} (omega arith) ∙ ap (λ a. f (n, a)) (sym here) ∙ there
-shown_is f n (first ∷ archives) (suc index) archive shown h k =
-    ap (λ i. f (i, archive)) {x = n + suc index} {y = n + 1 + index} (omega arith) ∙ shown_is f (n + 1) archives index archive shown h k
+shown_is : (f : Life → Archive) (all : List Life) (index : ℕ) (life : Life) (shown : Archive) → slice_get all index ≡ Some life → slice_get (map f all) index ≡ Some shown → f life ≡ shown
+shown_is f [] index life shown h k = absurd cc
+shown_is f (first ∷ all) zero life shown h k =
+    let here : first ≡ life = cc in
+    let there : f first ≡ shown = cc in
+    ap f (sym here) ∙ there
+shown_is f (first ∷ all) (suc index) life shown h k = shown_is f all index life shown h k
 
-pub one_of : (archives : List Archive) (index : ℕ) (archive : Archive) → AllByRecursion IsArchive archives → slice_get archives index ≡ Some archive → IsArchive archive
-one_of [] index archive is h = absurd cc
-one_of (first ∷ archives) zero archive is h = let here : first ≡ archive = cc in subst IsArchive here is.0
-one_of (first ∷ archives) (suc index) archive is h = one_of archives index archive is.1 h
+one_alive : (base : Content) (now : Moment) (all : List Life) (index : ℕ) (life : Life) → AllByRecursion (LifeAt base now) all → slice_get all index ≡ Some life → LifeAt base now life
+one_alive base now [] index life is h = absurd cc
+one_alive base now (first ∷ all) zero life is h = let here : first ≡ life = cc in subst (LifeAt base now) here is.0
+one_alive base now (first ∷ all) (suc index) life is h = one_alive base now all index life is.1 h
 
-shows_listed : (base : Content) (es : List Event) → IsBase base → IsHistory (moment_of base) es → (index : ℕ) (archive shown : Archive) → slice_get base.archives index ≡ Some archive → slice_get (content_listed base es).archives index ≡ Some shown → (time : ℤ) → IsMultiple time (resolution base.step archive.def) → row_at (content_listed base es) shown time ≡ row_by_time base index archive es time
-unfolding content_listed
-shows_listed base es is h index archive shown there then time multiple =
-    let this = shown_is (archive_of base es) 0 base.archives index archive shown there then in
-    let number : archive_of base es (index, archive) ≡ shown = ap (λ i. archive_of base es (i, archive)) {x = index} {y = 0 + index} (omega arith) ∙ this in
-    sym (ap (λ a. row_at (content_listed base es) a time) number) ∙ row_shown base index archive es time is.some_step (one_of base.archives index archive is.archives_are there) h multiple
+shows_listed : (base : Content) (es : List Event) → IsBase base → IsHistory (moment_of base) es → (index : ℕ) (life : Life) (shown : Archive) → slice_get (lives base es) index ≡ Some life → slice_get (content_lived base es).archives index ≡ Some shown → (time : ℤ) → IsMultiple time (resolution base.step life.begun.def) → row_at (content_lived base es) shown time ≡ row_by_time base life es time
+unfolding content_lived
+shows_listed base es is h index life shown there then time multiple =
+    let this = shown_is (archive_for base es) (lives base es) index life shown there then in
+    let alive = one_alive base (moment_at_end base es) (lives base es) index life (lives_are base es is h) there in
+    sym (ap (λ a. row_at (content_lived base es) a time) this) ∙ row_shown base es life time is.some_step h alive multiple
 
 pub shows_by_time : (base : Content) (es : List Event) → ShowsByTime base es
 shows_by_time base es is h = subst
-    (λ (x : Content). (index : ℕ) (archive shown : Archive) → slice_get base.archives index ≡ Some archive → slice_get x.archives index ≡ Some shown → (time : ℤ) → IsMultiple time (resolution base.step archive.def) → row_at x shown time ≡ row_by_time base index archive es time)
-    (is_listed base es is h)
+    (λ (x : Content). (index : ℕ) (life : Life) (shown : Archive) → slice_get (lives base es) index ≡ Some life → slice_get x.archives index ≡ Some shown → (time : ℤ) → IsMultiple time (resolution base.step life.begun.def) → row_at x shown time ≡ row_by_time base life es time)
+    (is_lived base es is h)
     (shows_listed base es is h)
 
 -- ---- steps and rows by themselves

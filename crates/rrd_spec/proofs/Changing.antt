@@ -15,19 +15,20 @@ use Rattle.rrd_spec.specs.History.Rows.{rows_of, row_parts_of}
 use Rattle.rrd_spec.specs.Laws.ListedContent.{rows_never_lost, keep_last, filled_up, kept_rows, archive_of}
 use Rattle.rrd_spec.specs.Commands.Verdict.{grows_too_far, is_bad_rows}
 use Rattle.rrd_spec.proofs.Accepted.{accepted_passes, some_rows}
-use Rattle.rrd_spec.proofs.CellLemmas.{is_listed}
+use Rattle.rrd_spec.proofs.LivesPlain.{is_listed}
+use Rattle.rrd_spec.proofs.ArchiveTunes.{tune_alone}
 use Rattle.rrd_spec.proofs.Moving.{moved_is}
 use Rattle.rrd_spec.proofs.Quiet.{content_resized, content_tuned, made, resized_elsewhere, resized_other, row_parts_same, rows_none}
 use Rattle.rrd_spec.proofs.RowLemmas.{length-filled_up}
 use Rattle.rrd_spec.proofs.Staying.{few_changed, few_rows_at}
-use Rattle.rrd_spec.specs.Limits.{version_one}
+use Rattle.rrd_spec.specs.Limits.{present}
 
 -- ---- a tune
 
 pub tune_changes : (base : Content) (tuning : Tuning) → TuneChanges base tuning
-tune_changes base tuning is =
+tune_changes base tuning is none =
     let sources = map (tuned tuning) base.sources in
-    sym (is_listed base (Tuned sources ∷ []) is (length-map base.sources (tuned tuning), tt)) ∙ content_tuned base sources is
+    tune_alone base tuning none ∙ sym (is_listed base (Tuned sources ∷ []) is (length-map base.sources (tuned tuning), tt) tt) ∙ content_tuned base sources is
 
 -- ---- a resize
 
@@ -38,7 +39,7 @@ resize_fits base archive change rows is h =
     let low = leb-false (length (rows_of_archives base.archives)) archive passes.0 in
     record {
       there = omega (arith, low, length-map base.archives (λ (a : Archive). a.def.rows));
-      few_asked = ltb-false 1000000 rows (or_parts (eqb rows 0) (ltb 1000000 rows) (or_parts (is_bad_rows version_one rows) (grows_too_far version_one change old rows) passes.1.0).0).1;
+      few_asked = ltb-false 1000000 rows (or_parts (eqb rows 0) (ltb 1000000 rows) (or_parts (is_bad_rows present rows) (grows_too_far present change old rows) passes.1.0).0).1;
       some_then = some_rows change old rows passes.1.0 passes.1.1.0;
       few_then = few_changed change old rows (few_rows_at (length base.sources) (base.last / base.step) archive base.archives is.archives_are) passes.1.0;
     }
@@ -99,6 +100,6 @@ resize_changes base archive change rows is h =
     let n = rows_then base archive change rows in
     let there = (resize_fits base archive change rows is h).there in
     let base_is = base_of_valid base is in
-    sym (moved_is base (Resizing archive change rows) (sound base is) h)
+    sym (moved_is base (Resizing archive change rows) (sound base is) h tt)
     ∙ content_resized base archive n base_is
     ∙ ap (λ xs. let x : Content = record base { archives = xs } in x) (resized_at base archive n 0 archive base.archives (omega arith) there base_is.archives_are)

@@ -7,7 +7,7 @@ use Rattle.std.specs.List.{fold, enumerate_from, AllByRecursion}
 use Rattle.rrd_fixed.specs.declared.cell.Cell.{Cell}
 use Rattle.rrd_fold.specs.Parts.{Part}
 use Rattle.rrd_spec.specs.History.Rows.{steps_to_rows, rows_of}
-use Rattle.rrd_spec.specs.History.{Archive, Content, Event, Sampled, Tuned, Resized, Moment, moment_after, moment_of, moment_at_end, rows_after, IsHistory, IsArchive, IsBase}
+use Rattle.rrd_spec.specs.History.{Archive, Content, Event, Sampled, Tuned, Resized, Added, Removed, Moment, moment_after, moment_of, moment_at_end, rows_after, IsHistory, IsArchive, IsBase}
 use Rattle.rrd_spec.specs.History.Steps.{steps_of, parts_of}
 use Rattle.rrd_spec.specs.Laws.ListedContent.{rows_never_lost, keep_last, filled_up, kept_rows, archive_of, content_listed}
 use Rattle.rrd_spec.proofs.GroupLemmas.{length-finished, reached_before}
@@ -42,7 +42,7 @@ length-kept_rows base index archive es pos is h =
 mul_positive : (a b : ℕ) → 0 < a → 0 < b → 0 < a * b
 mul_positive a b h k = omega (arith, mul-lt 0 0 a b h k)
 
-div_rises : (m n size : ℕ) → 0 < size → m ≤ n → m / size ≤ n / size
+pub div_rises : (m n size : ℕ) → 0 < size → m ≤ n → m / size ≤ n / size
 div_rises m n size pos h = omega (arith, reached_before m (n - m) size pos, ap (λ k. k / size) {x = m + (n - m)} {y = n} (omega arith))
 
 kept_rows-append : (base : Content) (index : ℕ) (archive : Archive) (es fs : List Event) → 0 < base.step → IsArchive archive → IsHistory (moment_of base) es → IsHistory (moment_at_end base es) fs → kept_rows base index archive (es ++ fs) ≡ kept_rows (content_listed base es) index (archive_of base es (index, archive)) fs
@@ -108,10 +108,12 @@ listed-append base es fs is h k =
     ∙ ap (with_moment base end (parts_of (content_listed base es) fs)) (archives-append base es fs 0 base.archives is.some_step is.archives_are h k)
 
 -- ---- the content is a base again
-rows_stay : (index rows : ℕ) (now : Moment) (es : List Event) → 0 < rows → IsHistory now es → 0 < fold (rows_after index) rows es
+pub rows_stay : (index rows : ℕ) (now : Moment) (es : List Event) → 0 < rows → IsHistory now es → 0 < fold (rows_after index) rows es
 rows_stay index rows now [] some h = some
 rows_stay index rows now (Sampled sample ∷ es) some h = rows_stay index rows (moment_after now (Sampled sample)) es some h.1
 rows_stay index rows now (Tuned sources ∷ es) some h = rows_stay index rows (moment_after now (Tuned sources)) es some h.1
+rows_stay index rows now (Added def ∷ es) some h = rows_stay index rows now es some h.2
+rows_stay index rows now (Removed archive ∷ es) some h = rows_stay index rows now es some h
 rows_stay index rows now (Resized archive new ∷ es) some h =
     rows_stay index (cond (eqb archive index) new rows) now es (either (eqb archive index)) h.1
   where

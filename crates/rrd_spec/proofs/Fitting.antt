@@ -1,41 +1,51 @@
 -- The entry of an accepted command fits, and the journal stays valid.
 use Rattle.std.proofs.Common.{◌≡◌, refl, sym, ◌∙◌, ap, subst, ℕ, zero, suc, ◌+◌, ◌-◌, ◌/◌, ◌<◌, ◌≤◌, min, Bool, true, false, cond, ◌||◌, eqb, List, [], ◌∷◌, length, map, take, get_or, arith, ⊎_elim, ◌⊎◌, inl, inr, ltb, Option, Some, None}
 use Rattle.std.specs.Prelude.{is_none}
-use Rattle.std.proofs.lemmas.Bool.{cases_Bool, cond_both, or_parts, not-false, both_ways, leb-false, eqb-false, eq-eqb}
+use Rattle.std.proofs.lemmas.Bool.{cases_Bool, cond_both, or_parts, not-false, both_ways, leb-false, eqb-false}
 use Rattle.std.proofs.lemmas.List.{length-map, length-take}
 use Rattle.std.specs.List.{fold, enumerate_from, list_any, AllByRecursion}
 use Rattle.rrd_fixed.specs.declared.raw.Raw.{Raw}
 use Rattle.rrd_fixed.specs.declared.name.Name.{Name}
 use Rattle.rrd_spec.specs.declared.settings.DsDef.{DsDef}
 use Rattle.rrd_spec.specs.declared.entry.SourceBefore.{SourceBefore}
-use Rattle.rrd_spec.specs.History.{Archive, Content, Reading, Sampled, Resized, Moment, moment_after, moment_of, moment_at_end, rows_after, IsHistory, IsArchive}
+use Rattle.rrd_spec.specs.History.{Archive, Content, Reading, Sampled, Tuned, Moment, moment_after, moment_of, moment_at_end, IsHistory, IsArchive}
 use Rattle.rrd_spec.specs.Laws.ListedContent.{archive_of, content_listed, moved_listed}
 use Rattle.rrd_spec.proofs.HistoryLemmas.{last_rises, length-sources}
 use Rattle.rrd_spec.proofs.SampleLemmas.{rows_of_samples}
 use Rattle.rrd_spec.specs.Commands.{Asked, Command, Updating, TuningBy, Resizing, settings_of, rows_of_archives, sample_of, samples_of, tuned, rows_changed, events, moved}
 use Rattle.rrd_spec.specs.Settings.{Settings, names, has_source, is_double}
 use Rattle.rrd_spec.specs.Commands.Verdict.{is_bad_rows, grows_too_far, shrinks_too_far, no_sample, asks_nothing, names_no_source, verdict, is_accepted}
-use Rattle.rrd_spec.specs.Journal.Entries.{Entry, rows_between, saved, is_asked, is_named, sources_before, rows_at, entry, undone}
+use Rattle.rrd_spec.specs.Journal.Entries.{Entry, AddedEntry, RemovedEntry, TuneEntry, archive_at, archive_entry, rows_between, saved, is_asked, is_named, sources_before, rows_at, entry, undone}
 use Rattle.rrd_spec.specs.Journal.Survivors.{Action, Changed, Reverted, Stored, changed, reverted, stored_after, AllUndo}
-use Rattle.rrd_spec.proofs.Accepted.{accepted_passes, accepted_history}
+use Rattle.rrd_spec.proofs.Accepted.{accepted_passes, accepted_history, tune_passes}
+use Rattle.rrd_spec.proofs.ArchiveTunes.{tune_added, tune_alone, tune_removed}
+use Rattle.rrd_spec.proofs.LivesPlain.{is_listed}
+use Rattle.rrd_spec.specs.History.Lives.{new_archive}
+use Rattle.rrd_spec.specs.declared.requests.tune.ArchiveTune.{ArchiveTune}
+use Rattle.rrd_spec.specs.declared.requests.tune.ArchiveTune.TheVariants.{Add, Remove}
+use Rattle.std.specs.Option.{option_map_or}
+use Rattle.std.specs.List.{remove}
+use Rattle.std.specs.Prelude.{slice_set}
+use Rattle.std.proofs.lemmas.List.{length_push}
+use Rattle.std.proofs.lemmas.List.Edits.{length-remove}
 use Rattle.rrd_spec.proofs.Undoing.{comes_back}
-use Rattle.rrd_spec.specs.Lemmas.Validity.{length-accepted, rows_wide, sound}
+use Rattle.rrd_spec.specs.Lemmas.Validity.{base_of_valid, length-accepted, rows_wide, sound}
 use Rattle.rrd_spec.specs.Lemmas.Journal.{undone_depth}
-use Rattle.rrd_spec.specs.Lemmas.Lists.{All-take}
+use Rattle.rrd_spec.specs.Lemmas.Lists.{All-at, All-take}
 use Rattle.rrd_spec.proofs.Runs.{runs_agree, is_none-true}
-use Rattle.rrd_spec.proofs.Moving.{listed_sound, moved_is, moved_depth, settings_of-content}
+use Rattle.rrd_spec.proofs.Moving.{listed_sound, moved_is, moved_depth, settings_by_time}
 use Rattle.std.proofs.lemmas.List.FromFn.{length-enumerate_from}
 use Rattle.rrd_spec.proofs.NameLemmas.{same_is, same_itself}
-use Rattle.rrd_spec.specs.Validity.{IsRow, IsValidArchive, IsValid, FitsArchive, FitEach, Rise, Fits, IsValidJournal, IsValidDatabase}
+use Rattle.rrd_spec.specs.Validity.{IsRow, IsValidArchive, IsValid, FitsArchive, FitEach, FitsRemoved, FitsTune, Rise, Fits, IsValidJournal, IsValidDatabase}
 use Rattle.rrd_spec.specs.Laws.Journal.{DatabaseStays, RevertTakesBack, RunsStay, Begins}
-use Rattle.rrd_spec.proofs.Staying.{stays_valid}
+use Rattle.rrd_spec.proofs.Staying.{sampled_keep, stays_valid}
 use Rattle.rrd_spec.specs.declared.requests.tune.Tuning.{Tuning}
 use Rattle.rrd_spec.specs.declared.requests.update.Update.{Update}
 use Rattle.rrd_spec.specs.declared.requests.update.Sample.{Sample}
 use Rattle.rrd_spec.specs.declared.requests.resize.Change.{Change}
 use Rattle.rrd_spec.specs.declared.requests.resize.Change.TheVariants.{Grow, Shrink}
 use Rattle.rrd_fixed.specs.Names.{same_name}
-use Rattle.rrd_spec.specs.Limits.{version_one}
+use Rattle.rrd_spec.specs.Limits.{present}
 
 -- ---- an update's entry
 
@@ -169,8 +179,8 @@ option_named sources None h = inl refl
 option_named sources (Some option) h =
     inr (list_any_more (λ (source : DsDef). same_name source.name option.0) (is_asked (Some option)) sources (λ source e. same_itself option.0 source.name (sym (same_is source.name option.0 e))) (not-false (has_source sources option.0) h))
 
-some_named : (sources : List DsDef) (tuning : Tuning) → asks_nothing tuning ≡ false → (names_no_source sources tuning.heartbeat || names_no_source sources tuning.minimum || names_no_source sources tuning.maximum || names_no_source sources tuning.kind || names_no_source sources tuning.rename) ≡ false → list_any (is_named tuning) sources ≡ true
-some_named sources tuning h k =
+some_named : (sources : List DsDef) (tuning : Tuning) → tuning.archive ≡ None → asks_nothing tuning ≡ false → (names_no_source sources tuning.heartbeat || names_no_source sources tuning.minimum || names_no_source sources tuning.maximum || names_no_source sources tuning.kind || names_no_source sources tuning.rename) ≡ false → list_any (is_named tuning) sources ≡ true
+some_named sources tuning alone h k =
     let e = or_parts _ (names_no_source sources tuning.rename) k in
     let d = or_parts _ (names_no_source sources tuning.kind) e.0 in
     let c = or_parts _ (names_no_source sources tuning.maximum) d.0 in
@@ -179,7 +189,7 @@ some_named sources tuning h k =
     ⊎_elim (λ (n2 : is_none tuning.minimum ≡ true).
     ⊎_elim (λ (n3 : is_none tuning.maximum ≡ true).
     ⊎_elim (λ (n4 : is_none tuning.kind ≡ true).
-    ⊎_elim (λ (n5 : is_none tuning.rename ≡ true). let all : asks_nothing tuning ≡ true = rw (n1, n2, n3, n4, n5) in absurd (both_ways (asks_nothing tuning) h all))
+    ⊎_elim (λ (n5 : is_none tuning.rename ≡ true). let all : asks_nothing tuning ≡ true = rw (n1, n2, n3, n4, n5, ap is_none alone) in absurd (both_ways (asks_nothing tuning) h all))
     (λ (s : list_any (is_asked tuning.rename) sources ≡ true). list_any_more (is_asked tuning.rename) (is_named tuning) sources (λ source is. or_there _ (is_asked tuning.rename source) is) s)
     (option_named sources tuning.rename e.1))
     (λ (s : list_any (is_asked tuning.kind) sources ≡ true). list_any_more (is_asked tuning.kind) (is_named tuning) sources (λ source is. or_here _ (is_asked tuning.rename source) (or_there _ (is_asked tuning.kind source) is)) s)
@@ -199,16 +209,39 @@ some_before tuning number (source ∷ sources) (raw ∷ raws) e h =
     (λ here. omega arith)
     (λ there. some_before tuning (number + 1) sources raws (omega arith) (sym (ap (λ b. b || list_any (is_named tuning) sources) there) ∙ h))
 
-pub tune_fits : (base : Content) (tuning : Tuning) → IsValid base → verdict base (TuningBy tuning) ≡ None → Fits (moved_listed base (TuningBy tuning)) (entry base (TuningBy tuning))
+tuned_fits : (base : Content) (tuning : Tuning) → tuning.archive ≡ None → IsValid base → verdict base (TuningBy tuning) ≡ None → FitsTune (content_listed base (Tuned (map (tuned tuning) base.sources) ∷ [])) (sources_before tuning 0 base.sources base.raws)
 unfolding content_listed
-tune_fits base tuning is h =
+tuned_fits base tuning alone is h =
     let p = accepted_passes base (TuningBy tuning) h in
     let P : ℕ → Type 0 = λ limit. Rise 0 limit (sources_before tuning 0 base.sources base.raws) in
     record {
-      some = some_before tuning 0 base.sources base.raws (length-accepted base.sources base.raws is.raws_are) (some_named base.sources tuning p.0 p.1.0);
+      some = some_before tuning 0 base.sources base.raws (length-accepted base.sources base.raws is.raws_are) (some_named base.sources tuning alone p.0 p.1.1.0);
       few = omega (arith, before_count tuning 0 base.sources base.raws, named_count tuning base.sources, asked_once tuning.heartbeat base.sources is.names_differ, asked_once tuning.minimum base.sources is.names_differ, asked_once tuning.maximum base.sources is.names_differ, asked_once tuning.kind base.sources is.names_differ, asked_once tuning.rename base.sources is.names_differ);
       rise = subst P (sym (length-map base.sources (tuned tuning))) (subst P {x = 0 + length base.sources} {y = length base.sources} (omega arith) (before_rise tuning 0 0 base.sources base.raws (omega arith)));
     }
+
+-- a tune's entry, or that of an archive that comes or goes
+tune_fits : (base : Content) (tuning : Tuning) (archive : Option ArchiveTune) → tuning.archive ≡ archive → IsValid base → verdict base (TuningBy tuning) ≡ None → Fits (moved base (TuningBy tuning)) (option_map_or (archive_entry base) archive (TuneEntry (sources_before tuning 0 base.sources base.raws)))
+tune_fits base tuning None e is h =
+    let olds = sources_before tuning 0 base.sources base.raws in
+    let es = Tuned (map (tuned tuning) base.sources) ∷ [] in
+    subst (λ now. FitsTune now olds) (is_listed base es (base_of_valid base is) (length-map base.sources (tuned tuning), tt) tt ∙ sym (tune_alone base tuning e)) (tuned_fits base tuning e is h)
+tune_fits base tuning (Some (Add def)) e is h =
+    let new = new_archive (length base.sources) def in
+    subst (λ now. Fits now AddedEntry) (sym (tune_added base tuning def (base_of_valid base is) e h)) (refl, omega (arith, length_push base.archives new, is.some_archive))
+tune_fits base tuning (Some (Remove number)) e is h =
+    let n = length base.sources in
+    let p = tune_passes base tuning (Some (Remove number)) e h in
+    let archive = archive_at base.archives number in
+    let there : number < length base.archives = omega (arith, leb-false (length (rows_of_archives base.archives)) number p.0, length-map base.archives (λ (a : Archive). a.def.rows)) in
+    let this = All-at (IsValidArchive n (base.last / base.step)) base.archives number _ is.archives_are there in
+    let fits : FitsRemoved (record base { archives = remove base.archives number }) number archive = record {
+      there = omega (arith, there, length-remove base.archives number there);
+      one_part_each = this.parts_are.one_each;
+      rows_are = this.rows_are;
+      one_cell_each = rows_wide n archive.rows this.each_row;
+    } in
+    subst (λ now. Fits now (RemovedEntry number archive)) (sym (tune_removed base tuning number (base_of_valid base is) e)) (refl, fits)
 
 -- ---- a resize's entry
 
@@ -222,17 +255,17 @@ length-rows_at index [] is = refl
 length-rows_at zero (archive ∷ archives) is = is.0.rows_are
 length-rows_at (suc index) (archive ∷ archives) is = length-rows_at index archives is.1
 
-changed_there : (at new first index : ℕ) (rows : List ℕ) → at ≡ first + index → index < length rows → get_or (map (λ (i, old). rows_after i old (Resized at new)) (enumerate_from first rows)) index 0 ≡ new
-changed_there at new first index [] e h = absurd (omega arith)
-changed_there at new first zero (row ∷ rows) e h = ap (λ b. cond b new row) (eq-eqb at first (omega arith))
-changed_there at new first (suc index) (row ∷ rows) e h = changed_there at new (first + 1) index rows (omega arith) (omega arith)
+changed_there : (new index : ℕ) (rows : List ℕ) → index < length rows → get_or (slice_set rows index new) index 0 ≡ new
+changed_there new index [] h = absurd (omega arith)
+changed_there new zero (row ∷ rows) h = refl
+changed_there new (suc index) (row ∷ rows) h = changed_there new index rows (omega arith)
 
-another : (change : Change) (old rows : ℕ) → (is_bad_rows version_one rows || grows_too_far version_one change old rows) ≡ false → shrinks_too_far change old rows ≡ false → old ≡ rows_changed change old rows → ⊥
+another : (change : Change) (old rows : ℕ) → (is_bad_rows present rows || grows_too_far present change old rows) ≡ false → shrinks_too_far change old rows ≡ false → old ≡ rows_changed change old rows → ⊥
 another Grow old rows h k e =
-    let some = eqb-false rows 0 (or_parts (eqb rows 0) (ltb 1000000 rows) (or_parts (is_bad_rows version_one rows) (grows_too_far version_one Grow old rows) h).0).0 in
+    let some = eqb-false rows 0 (or_parts (eqb rows 0) (ltb 1000000 rows) (or_parts (is_bad_rows present rows) (grows_too_far present Grow old rows) h).0).0 in
     omega (arith, some)
 another Shrink old rows h k e =
-    let some = eqb-false rows 0 (or_parts (eqb rows 0) (ltb 1000000 rows) (or_parts (is_bad_rows version_one rows) (grows_too_far version_one Shrink old rows) h).0).0 in
+    let some = eqb-false rows 0 (or_parts (eqb rows 0) (ltb 1000000 rows) (or_parts (is_bad_rows present rows) (grows_too_far present Shrink old rows) h).0).0 in
     omega (arith, some, leb-false old rows k)
 
 resize_fits : (base : Content) (archive : ℕ) (change : Change) (rows : ℕ) → IsValid base → verdict base (Resizing archive change rows) ≡ None → Fits (moved_listed base (Resizing archive change rows)) (entry base (Resizing archive change rows))
@@ -251,21 +284,20 @@ resize_fits base archive change rows is h =
     let was : length (rows_at base.archives archive) ≡ old = length-rows_at archive base.archives (sound base is).is_base.archives_are in
     let is_now : length (rows_at archives archive) ≡ new
     = length-rows_at archive archives (listed_sound base command (sound base is) h).is_base.archives_are
-    ∙ ap (λ (s : Settings). get_or s.rows archive 0) (settings_of-content base (events settings command))
-    ∙ changed_there archive new 0 archive settings.rows (omega arith) there in
+    ∙ ap (λ (s : Settings). get_or s.rows archive 0) (ap settings_of (is_listed base (events settings command) (base_of_valid base is) (accepted_history base command h) tt) ∙ settings_by_time base (events settings command))
+    ∙ changed_there new archive settings.rows there in
     record {
       there = omega arith;
       one_cell_each = rows_wide (length base.sources) (rows_at base.archives archive) (rows_at_all (length base.sources) (base.last / base.step) archive base.archives is.archives_are);
       another = λ e. another change old rows p.1.0 p.1.1.0 (sym was ∙ e ∙ is_now);
     }
 
-listed_fits : (base : Content) (command : Command) → IsValid base → verdict base command ≡ None → Fits (moved_listed base command) (entry base command)
-listed_fits base (Updating update) is h = update_fits base update is h
-listed_fits base (TuningBy tuning) is h = tune_fits base tuning is h
-listed_fits base (Resizing archive change rows) is h = resize_fits base archive change rows is h
-
 pub fits : (base : Content) (command : Command) → IsValid base → verdict base command ≡ None → Fits (moved base command) (entry base command)
-fits base command is h = subst (λ now. Fits now (entry base command)) (moved_is base command (sound base is) h) (listed_fits base command is h)
+fits base (Updating update) is h =
+    subst (λ now. Fits now (entry base (Updating update))) (moved_is base (Updating update) (sound base is) h (sampled_keep (samples_of base.sources update))) (update_fits base update is h)
+fits base (TuningBy tuning) is h = tune_fits base tuning tuning.archive refl is h
+fits base (Resizing archive change rows) is h =
+    subst (λ now. Fits now (entry base (Resizing archive change rows))) (moved_is base (Resizing archive change rows) (sound base is) h tt) (resize_fits base archive change rows is h)
 
 -- ---- the journal
 

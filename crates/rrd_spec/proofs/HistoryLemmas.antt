@@ -8,7 +8,7 @@ use Rattle.std.specs.List.{fold, range_with_len}
 use Rattle.rrd_spec.specs.History.Groups.{finished, unfinished}
 use Rattle.rrd_spec.specs.History.Steps.{seconds_to_steps, steps_of, parts_of}
 use Rattle.rrd_spec.specs.History.Rows.{steps_to_rows, rows_of, row_parts_of}
-use Rattle.rrd_spec.specs.History.{Archive, Content, Event, Sampled, Tuned, Resized, Moment, moment_after, moment_of, moment_at_end, rates, Taken, samples, second, seconds, seconds_of, IsHistory}
+use Rattle.rrd_spec.specs.History.{Archive, Content, Event, Sampled, Tuned, Resized, Added, Removed, Moment, moment_after, moment_of, moment_at_end, rates, Taken, samples, second, seconds, seconds_of, IsHistory}
 use Rattle.rrd_spec.specs.Laws.ListedContent.{archive_of, content_listed}
 use Rattle.rrd_spec.proofs.GroupLemmas.{goes_on, map_range_same, length-finished, reached_before}
 
@@ -19,6 +19,8 @@ samples-append now [] fs = refl
 samples-append now (Sampled sample ∷ es) fs = ap (λ rest. record { time = sample.time; rates = rates now.sources (sample.time - now.last) now.raws sample.raws } ∷ rest) (samples-append (moment_after now (Sampled sample)) es fs)
 samples-append now (Tuned sources ∷ es) fs = samples-append (moment_after now (Tuned sources)) es fs
 samples-append now (Resized archive rows ∷ es) fs = samples-append now es fs
+samples-append now (Added def ∷ es) fs = samples-append now es fs
+samples-append now (Removed archive ∷ es) fs = samples-append now es fs
 
 -- the last time doesn't fall
 pub last_rises : (now : Moment) (es : List Event) → IsHistory now es → now.last ≤ (fold moment_after now es).last
@@ -26,6 +28,8 @@ last_rises now [] h = omega arith
 last_rises now (Sampled sample ∷ es) h = omega (arith, h.0, last_rises (moment_after now (Sampled sample)) es h.1)
 last_rises now (Tuned sources ∷ es) h = last_rises (moment_after now (Tuned sources)) es h.1
 last_rises now (Resized archive rows ∷ es) h = last_rises now es h.1
+last_rises now (Added def ∷ es) h = last_rises now es h.2
+last_rises now (Removed archive ∷ es) h = last_rises now es h
 
 -- a second is the first history's up to its last time
 second_before : (now : Moment) (es : List Event) (later : List Taken) (at : ℕ) → IsHistory now es → now.last < at → at ≤ (fold moment_after now es).last → second (samples now es ++ later) at ≡ second (samples now es) at
@@ -39,6 +43,8 @@ second_before now (Sampled sample ∷ es) later at h low high =
     (cases_lt sample.time at)
 second_before now (Tuned sources ∷ es) later at h low high = second_before (moment_after now (Tuned sources)) es later at h.1 low high
 second_before now (Resized archive rows ∷ es) later at h low high = second_before now es later at h.1 low high
+second_before now (Added def ∷ es) later at h low high = second_before now es later at h.2 low high
+second_before now (Removed archive ∷ es) later at h low high = second_before now es later at h low high
 
 -- and the second one's from then on
 pub second_after : (now : Moment) (es : List Event) (later : List Taken) (at : ℕ) → IsHistory now es → (fold moment_after now es).last < at → second (samples now es ++ later) at ≡ second later at
@@ -49,6 +55,8 @@ second_after now (Sampled sample ∷ es) later at h low =
     rw (lt-leb at sample.time past) (second_after next es later at h.1 low)
 second_after now (Tuned sources ∷ es) later at h low = second_after (moment_after now (Tuned sources)) es later at h.1 low
 second_after now (Resized archive rows ∷ es) later at h low = second_after now es later at h.1 low
+second_after now (Added def ∷ es) later at h low = second_after now es later at h.2 low
+second_after now (Removed archive ∷ es) later at h low = second_after now es later at h low
 
 range_split : (a m n : ℕ) → range_with_len a (m + n) ≡ range_with_len a m ++ range_with_len (a + m) n
 range_split a zero n =
@@ -84,6 +92,8 @@ length-sources now [] h = refl
 length-sources now (Sampled sample ∷ es) h = length-sources (moment_after now (Sampled sample)) es h.1
 length-sources now (Tuned sources ∷ es) h = length-sources (moment_after now (Tuned sources)) es h.1 ∙ h.0
 length-sources now (Resized archive rows ∷ es) h = length-sources now es h.1
+length-sources now (Added def ∷ es) h = length-sources now es h.2
+length-sources now (Removed archive ∷ es) h = length-sources now es h
 
 pub seconds_of-append : (base : Content) (es fs : List Event) → IsHistory (moment_of base) es → IsHistory (moment_at_end base es) fs → seconds_of base (es ++ fs) ≡ seconds_of base es ++ seconds_of (content_listed base es) fs
 unfolding content_listed seconds_of
@@ -151,3 +161,13 @@ row_parts_of-append base index archive es fs pos some h k =
     ∙ on.unfinished_is
     ∙ ap (λ n. unfinished rule n (unfinished rule before archive.parts A) B) (length-steps_of base es pos h)
     ∙ ap (λ n. unfinished (steps_to_rows archive.def n) ((moment_at_end base es).last / base.step) (unfinished rule before archive.parts A) B) (sym (length-sources (moment_of base) es h))
+
+-- ---- two histories, one after the other
+
+pub IsHistory-append : (now : Moment) (es fs : List Event) → IsHistory now es → IsHistory (fold moment_after now es) fs → IsHistory now (es ++ fs)
+IsHistory-append now [] fs h k = k
+IsHistory-append now (Sampled sample ∷ es) fs h k = (h.0, IsHistory-append (moment_after now (Sampled sample)) es fs h.1 k)
+IsHistory-append now (Tuned sources ∷ es) fs h k = (h.0, IsHistory-append (moment_after now (Tuned sources)) es fs h.1 k)
+IsHistory-append now (Resized archive rows ∷ es) fs h k = (h.0, IsHistory-append now es fs h.1 k)
+IsHistory-append now (Added def ∷ es) fs h k = (h.0, h.1, IsHistory-append now es fs h.2 k)
+IsHistory-append now (Removed archive ∷ es) fs h k = IsHistory-append now es fs h k

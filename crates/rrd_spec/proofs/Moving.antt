@@ -1,16 +1,25 @@
 -- A history of commands, one command at a time.
-use Rattle.std.proofs.Common.{◌≡◌, refl, sym, ◌∙◌, ap, subst, ℕ, ◌+◌, List, [], ◌∷◌, ◌++◌, map, None, append-nil, append_assoc}
+use Rattle.std.proofs.Common.{◌≡◌, refl, sym, ◌∙◌, ap, subst, ℕ, zero, suc, List, [], ◌∷◌, ◌++◌, map, None, append-nil, append_assoc}
 use Rattle.std.specs.Prelude.{reverse}
 use Rattle.std.proofs.lemmas.List.{reverse-append}
 use Rattle.std.proofs.lemmas.List.Sums.{fold-append}
-use Rattle.std.specs.List.{fold, enumerate_from}
+use Rattle.std.specs.List.{fold}
 use Rattle.rrd_spec.specs.declared.settings.DsDef.{DsDef}
-use Rattle.rrd_spec.specs.History.{Archive, Content, Event, Sampled, Tuned, Resized, Moment, moment_after, moment_of, moment_at_end, rows_after, IsHistory, IsBase}
-use Rattle.rrd_spec.specs.Laws.ListedContent.{archive_of, content_listed, moved_listed}
+use Rattle.rrd_spec.specs.History.{Archive, Content, Event, Sampled, Tuned, Resized, Added, Removed, Moment, moment_after, moment_of, moment_at_end, rows_after, IsHistory, IsBase}
+use Rattle.rrd_spec.proofs.HistoryLemmas.{IsHistory-append}
+use Rattle.rrd_spec.specs.Laws.ListedContent.{KeepsArchives, content_listed, moved_listed}
 use Rattle.rrd_spec.specs.Laws.History.{GoesOnFromContent, StaysBase}
 use Rattle.rrd_spec.specs.History.Cells.{archive_by_time, content}
-use Rattle.rrd_spec.proofs.CellLemmas.{is_listed}
-use Rattle.rrd_spec.proofs.ContentLemmas.{listed-append, IsBase-listed}
+use Rattle.rrd_spec.proofs.CellLemmas.{is_lived}
+use Rattle.rrd_spec.proofs.Lives.{IsBase-lived}
+use Rattle.rrd_spec.proofs.LivesCut.{lived-cut, map-remove}
+use Rattle.rrd_spec.proofs.LivesPlain.{is_listed}
+use Rattle.rrd_spec.specs.History.Lives.{Life, change_at, life_added, life_of, lives, lives_from, with_event}
+use Rattle.rrd_spec.specs.Laws.ListedLives.{content_lived}
+use Rattle.std.proofs.lemmas.List.{map-append}
+use Rattle.std.specs.List.{remove}
+use Rattle.std.specs.Prelude.{slice_set}
+use Rattle.rrd_spec.proofs.ContentLemmas.{IsBase-listed}
 use Rattle.rrd_spec.specs.Commands.{Command, settings_of, rows_of_archives, settings_after, events, events_of, moved}
 use Rattle.rrd_spec.specs.Settings.{Settings}
 use Rattle.rrd_spec.specs.Commands.Verdict.{verdict}
@@ -26,50 +35,62 @@ same_sources now settings [] e = e
 same_sources now settings (Sampled sample ∷ es) e = same_sources (moment_after now (Sampled sample)) (settings_after settings (Sampled sample)) es e
 same_sources now settings (Tuned sources ∷ es) e = same_sources (moment_after now (Tuned sources)) (settings_after settings (Tuned sources)) es refl
 same_sources now settings (Resized archive rows ∷ es) e = same_sources now (settings_after settings (Resized archive rows)) es e
+same_sources now settings (Added def ∷ es) e = same_sources now (settings_after settings (Added def)) es e
+same_sources now settings (Removed archive ∷ es) e = same_sources now (settings_after settings (Removed archive)) es e
 
-rows_from : ℕ → List ℕ → Event → List ℕ
-rows_from first rows event = map (λ (index, old). rows_after index old event) (enumerate_from first rows)
+-- so are its archives' numbers of rows
 
-rows_from-nil : (first : ℕ) (es : List Event) → fold (rows_from first) [] es ≡ []
-unfolding rows_from
-rows_from-nil first [] = refl
-rows_from-nil first (e ∷ es) = rows_from-nil first es
+rows_now : Life → ℕ
+rows_now life = fold (rows_after 0) life.begun.def.rows life.since
 
-rows_from-cons : (first row : ℕ) (rows : List ℕ) (es : List Event) → fold (rows_from first) (row ∷ rows) es ≡ fold (rows_after first) row es ∷ fold (rows_from (first + 1)) rows es
-unfolding rows_from
-rows_from-cons first row rows [] = refl
-rows_from-cons first row rows (e ∷ es) = rows_from-cons first (rows_after first row e) (rows_from (first + 1) rows e) es
+rows_now-with : (e : Event) (life : Life) → rows_now (with_event e life) ≡ rows_after 0 (rows_now life) e
+unfolding rows_now
+rows_now-with e life = fold-append (rows_after 0) life.begun.def.rows life.since (e ∷ [])
 
-same_rows : (base : Content) (es : List Event) (first : ℕ) (archives : List Archive) → rows_of_archives (map (archive_of base es) (enumerate_from first archives)) ≡ fold (rows_from first) (rows_of_archives archives) es
-same_rows base es first [] = sym (rows_from-nil first es)
-same_rows base es first (archive ∷ archives) =
-    ap (λ rest. fold (rows_after first) archive.def.rows es ∷ rest) (same_rows base es (first + 1) archives)
-    ∙ sym (rows_from-cons first archive.def.rows (rows_of_archives archives) es)
+map_rows-with : (e : Event) (all : List Life) → ((rows : ℕ) → rows_after 0 rows e ≡ rows) → map rows_now (map (with_event e) all) ≡ map rows_now all
+map_rows-with e [] h = refl
+map_rows-with e (life ∷ all) h =
+    ap (λ n. n ∷ map rows_now (map (with_event e) all)) (rows_now-with e life ∙ h (rows_now life))
+    ∙ ap (λ rest. rows_now life ∷ rest) (map_rows-with e all h)
 
-rows_of_settings : (settings : Settings) (es : List Event) → (fold settings_after settings es).rows ≡ fold (rows_from 0) settings.rows es
-unfolding rows_from
-rows_of_settings settings [] = refl
-rows_of_settings settings (e ∷ es) = rows_of_settings (settings_after settings e) es
+map_rows-resized : (n : ℕ) (all : List Life) (number : ℕ) → slice_set (map rows_now all) number n ≡ map rows_now (change_at (with_event (Resized 0 n)) all number)
+map_rows-resized n [] number = refl
+map_rows-resized n (life ∷ all) zero = ap (λ r. r ∷ map rows_now all) (sym (rows_now-with (Resized 0 n) life))
+map_rows-resized n (life ∷ all) (suc number) = ap (λ rest. rows_now life ∷ rest) (map_rows-resized n all number)
+
+lives_rows : (base : Content) (now : Moment) (all : List Life) (settings : Settings) (es : List Event) → settings.rows ≡ map rows_now all → (fold settings_after settings es).rows ≡ map rows_now (lives_from base now all es)
+unfolding rows_now
+lives_rows base now all settings [] e = e
+lives_rows base now all settings (Sampled sample ∷ es) e =
+    lives_rows base (moment_after now (Sampled sample)) (map (with_event (Sampled sample)) all) (settings_after settings (Sampled sample)) es (e ∙ sym (map_rows-with (Sampled sample) all (λ rows. refl)))
+lives_rows base now all settings (Tuned sources ∷ es) e =
+    lives_rows base (moment_after now (Tuned sources)) (map (with_event (Tuned sources)) all) (settings_after settings (Tuned sources)) es (e ∙ sym (map_rows-with (Tuned sources) all (λ rows. refl)))
+lives_rows base now all settings (Resized archive n ∷ es) e =
+    lives_rows base now (change_at (with_event (Resized 0 n)) all archive) (settings_after settings (Resized archive n)) es (ap (λ rows. slice_set rows archive n) e ∙ map_rows-resized n all archive)
+lives_rows base now all settings (Added def ∷ es) e =
+    lives_rows base now (all ++ life_added base now def ∷ []) (settings_after settings (Added def)) es (ap (λ rows. rows ++ def.rows ∷ []) e ∙ sym (map-append rows_now all (life_added base now def ∷ [])))
+lives_rows base now all settings (Removed archive ∷ es) e =
+    lives_rows base now (remove all archive) (settings_after settings (Removed archive)) es (ap (λ rows. remove rows archive) e ∙ sym (map-remove rows_now all archive))
+
+rows_begun : (base : Content) (archives : List Archive) → rows_of_archives archives ≡ map rows_now (map (life_of base) archives)
+unfolding rows_now
+rows_begun base [] = refl
+rows_begun base (archive ∷ archives) = ap (λ rest. archive.def.rows ∷ rest) (rows_begun base archives)
+
+rows_shown : (base : Content) (es : List Event) (all : List Life) → rows_of_archives (map (archive_by_time base es) all) ≡ map rows_now all
+unfolding rows_now
+rows_shown base es [] = refl
+rows_shown base es (life ∷ all) = ap (λ rest. rows_now life ∷ rest) (rows_shown base es all)
 
 both : List DsDef → List ℕ → Settings
 both sources rows = record { sources = sources; rows = rows }
 
-pub settings_of-content : (base : Content) (es : List Event) → settings_of (content_listed base es) ≡ fold settings_after (settings_of base) es
-unfolding content_listed both
-settings_of-content base es =
+pub settings_by_time : (base : Content) (es : List Event) → settings_of (content base es) ≡ fold settings_after (settings_of base) es
+unfolding both
+settings_by_time base es =
     let end = fold settings_after (settings_of base) es in
-    let rows = rows_of_archives (map (archive_of base es) (enumerate_from 0 base.archives)) in
-    ap (λ sources. both sources rows) (same_sources (moment_of base) (settings_of base) es refl)
-    ∙ ap (both end.sources) (same_rows base es 0 base.archives ∙ sym (rows_of_settings (settings_of base) es))
-
--- so are those with the rows by their times
-rows_by_time_as_many : (base : Content) (es : List Event) (first : ℕ) (archives : List Archive) → rows_of_archives (map (archive_by_time base es) (enumerate_from first archives)) ≡ rows_of_archives (map (archive_of base es) (enumerate_from first archives))
-rows_by_time_as_many base es first [] = refl
-rows_by_time_as_many base es first (archive ∷ archives) = ap (λ rest. fold (rows_after first) archive.def.rows es ∷ rest) (rows_by_time_as_many base es (first + 1) archives)
-
-settings_by_time : (base : Content) (es : List Event) → settings_of (content base es) ≡ settings_of (content_listed base es)
-unfolding content_listed both
-settings_by_time base es = ap (both (moment_at_end base es).sources) (rows_by_time_as_many base es 0 base.archives)
+    ap (λ sources. both sources (rows_of_archives (map (archive_by_time base es) (lives base es)))) (same_sources (moment_of base) (settings_of base) es refl)
+    ∙ ap (both end.sources) (rows_shown base es (lives base es) ∙ sym (lives_rows base (moment_of base) (map (life_of base) base.archives) (settings_of base) es (rows_begun base base.archives)))
 
 -- ---- a command more
 
@@ -86,13 +107,7 @@ pub events_of-more : (base : Content) (commands : List Command) (command : Comma
 events_of-more base commands command =
     ap (events_of (settings_of base)) (reverse-append (command ∷ []) commands)
     ∙ events_of-push (settings_of base) (reverse commands) command
-    ∙ ap (λ s. events_of (settings_of base) (reverse commands) ++ events s command) (sym (settings_by_time base (events_of (settings_of base) (reverse commands)) ∙ settings_of-content base (events_of (settings_of base) (reverse commands))))
-
-IsHistory-append : (now : Moment) (es fs : List Event) → IsHistory now es → IsHistory (fold moment_after now es) fs → IsHistory now (es ++ fs)
-IsHistory-append now [] fs h k = k
-IsHistory-append now (Sampled sample ∷ es) fs h k = (h.0, IsHistory-append (moment_after now (Sampled sample)) es fs h.1 k)
-IsHistory-append now (Tuned sources ∷ es) fs h k = (h.0, IsHistory-append (moment_after now (Tuned sources)) es fs h.1 k)
-IsHistory-append now (Resized archive rows ∷ es) fs h k = (h.0, IsHistory-append now es fs h.1 k)
+    ∙ ap (λ s. events_of (settings_of base) (reverse commands) ++ events s command) (sym (settings_by_time base (events_of (settings_of base) (reverse commands))))
 
 -- the events of what survives are a history
 next_history : (base : Content) (commands : List Command) (command : Command) → verdict (survived base commands) command ≡ None → IsHistory (moment_at_end base (events_of (settings_of base) (reverse commands))) (events (settings_of (survived base commands)) command)
@@ -109,18 +124,18 @@ survivors_history base (command ∷ commands) h =
 -- ---- a history in two pieces
 
 pub stays_base : (base : Content) (events : List Event) → StaysBase base events
-stays_base base events is h = subst IsBase (is_listed base events is h) (IsBase-listed base events is h)
+stays_base base events is h = subst IsBase (is_lived base events is h) (IsBase-lived base events is h)
 
 pub goes_on : (base : Content) (first second : List Event) → GoesOnFromContent base first second
 goes_on base first second is h k =
-    sym (is_listed base (first ++ second) is (IsHistory-append (moment_of base) first second h k))
-    ∙ listed-append base first second is h k
-    ∙ ap (λ now. content_listed now second) (is_listed base first is h)
-    ∙ is_listed (content base first) second (stays_base base first is h) k
+    sym (is_lived base (first ++ second) is (IsHistory-append (moment_of base) first second h k))
+    ∙ lived-cut base first is h second k
+    ∙ ap (λ now. content_lived now second) (is_lived base first is h)
+    ∙ is_lived (content base first) second (stays_base base first is h) k
 
--- a content moved by an accepted command, by list and by time
-pub moved_is : (base : Content) (command : Command) → IsSound base → verdict base command ≡ None → moved_listed base command ≡ moved base command
-moved_is base command sound h = is_listed base (events (settings_of base) command) sound.is_base (accepted_history base command h)
+-- a content moved by an accepted command in which no archive comes or goes, by list and by time
+pub moved_is : (base : Content) (command : Command) → IsSound base → verdict base command ≡ None → KeepsArchives (events (settings_of base) command) → moved_listed base command ≡ moved base command
+moved_is base command sound h keeps = is_listed base (events (settings_of base) command) sound.is_base (accepted_history base command h) keeps
 
 pub moves : (base : Content) (commands : List Command) (command : Command) → Moves base commands command
 moves base commands command sound h =
@@ -139,7 +154,10 @@ listed_sound base command sound h = record {
 }
 
 pub moved_sound : (base : Content) (command : Command) → IsSound base → verdict base command ≡ None → IsSound (moved base command)
-moved_sound base command sound h = subst IsSound (moved_is base command sound h) (listed_sound base command sound h)
+moved_sound base command sound h = record {
+  is_base = stays_base base (events (settings_of base) command) sound.is_base (accepted_history base command h);
+  one_raw_each = command_raws base command sound.one_raw_each;
+}
 
 pub moved_depth : (base : Content) (command : Command) → (moved base command).depth ≡ base.depth
 moved_depth base command = refl

@@ -1,6 +1,9 @@
 -- Which entry a valid content can undo, by its outline alone.
 use Rattle.std.proofs.Common.{◌≡◌, ◌∙◌, ◌+◌, ◌-◌, ◌*◌, ◌/◌, ◌%◌, ◌<◌, ◌≤◌, ℕ, zero, suc, List, [], ◌∷◌, ◌++◌, refl, sym, ap, subst, arith, length, map, take, get_or, set, sum, length-append, length-take}
-use Rattle.std.specs.List.{AllByRecursion, fold}
+use Rattle.std.specs.List.{AllByRecursion, fold, insert}
+use Rattle.std.proofs.Common.{drop}
+use Rattle.std.proofs.lemmas.List.{take-map}
+use Rattle.rrd_spec.proofs.ArchiveTunes.{fewer_taken, inserted, length-insert, map-insert, sum-insert, valid_with}
 use Rattle.std.proofs.lemmas.List.{get_or-set_other, get_or-set_same, length-map, length-set}
 use Rattle.rrd_fixed.specs.declared.cell.Cell.{Cell}
 use Rattle.rrd_fixed.specs.declared.raw.Raw.{Raw}
@@ -14,12 +17,13 @@ use Rattle.rrd_spec.specs.Limits.{Limits}
 use Rattle.rrd_spec.specs.Settings.{cells}
 use Rattle.rrd_spec.specs.Commands.{rows_of_archives, settings_of}
 use Rattle.rrd_spec.specs.History.{Archive, Content, definitions}
-use Rattle.rrd_spec.specs.Journal.Entries.{BeforeUpdate, Entry, ResizeEntry, SavedArchive, TuneEntry, UpdateEntry, put_back, put_back_each, rows_at, undone, with_rows_at, with_source}
+use Rattle.rrd_spec.specs.Journal.Entries.{AddedEntry, BeforeUpdate, Entry, RemovedEntry, ResizeEntry, SavedArchive, TuneEntry, UpdateEntry, put_back, put_back_each, rows_at, undone, with_rows_at, with_source}
 use Rattle.rrd_spec.specs.Lemmas.Validity.{length-accepted, rows_wide}
-use Rattle.rrd_spec.specs.Files.Filed.{Head, Version, head_of}
+use Rattle.rrd_spec.specs.declared.version.Version.{Version}
+use Rattle.rrd_spec.specs.Files.Filed.{Head, head_of}
 use Rattle.rrd_spec.specs.Laws.Journal.{JournalLeavesValid, JournalParts, JournalsJoin}
 use Rattle.rrd_spec.specs.Laws.Outlines.{FiledOutline, JournalTakes, JournalTook, MayUndoEach, OutlineFollows, OutlineIsNeeded, OutlineSuffices, OutlinesAreNeeded, OutlinesSuffice}
-use Rattle.rrd_spec.specs.Lemmas.Lists.{All-append, All-at, All-take}
+use Rattle.rrd_spec.specs.Lemmas.Lists.{All-append, All-at, All-drop, All-take}
 use Rattle.rrd_spec.specs.Journal.Outlines.{outline_of, outline_undone, rows_of, with_row_number, with_sources}
 use Rattle.rrd_spec.specs.Journal.Fitting.{IsSourceBefore, MaySave, MaySaveEach, MayUndo}
 use Rattle.rrd_spec.specs.Journal.Survivors.{Stored}
@@ -359,17 +363,100 @@ resize_needed limits now archive rows is fits then =
       each_row = here.each;
     }
 
+-- ---- an archive that was added, and one that was removed
+
+added_suffices : (limits : Limits) (now : Content) → OutlineSuffices limits now AddedEntry
+added_suffices limits now is may =
+    let defs : length (definitions now.archives) ≡ length now.archives = length-map now.archives (λ (a : Archive). a.def) in
+    let two : 1 < length now.archives = omega (arith, defs, may.1) in
+    let n = length now.archives - 1 in
+    let count = length-take n now.archives in
+    let P = IsValidArchiveWithin limits (length now.sources) (now.last / now.step) in
+    ((may.0, two), valid_with limits now (take n now.archives) is (omega (arith, count, two)) (omega (arith, count, is.few_archives)) (fewer_taken (length now.sources) limits.most_cells now.archives n is.few_cells) (All-take P n now.archives is.archives_are))
+
+added_needed : (limits : Limits) (now : Content) → OutlineIsNeeded limits now AddedEntry
+added_needed limits now is fits then =
+    (fits.0, omega (arith, fits.1, length-map now.archives (λ (a : Archive). a.def)))
+
+rows_inserted : (archives : List Archive) (number : ℕ) (archive : Archive) → sum (rows_of (definitions archives)) + archive.def.rows ≡ sum (rows_of_archives (insert archives number archive))
+rows_inserted archives number archive =
+    ap (λ rows. sum rows + archive.def.rows) (rows_by_settings archives)
+    ∙ sym (sum-insert (rows_of_archives archives) number archive.def.rows)
+    ∙ ap sum (sym (map-insert (λ (a : Archive). a.def.rows) archives number archive))
+
+removed_suffices : (limits : Limits) (now : Content) (number : ℕ) (archive : Archive) → OutlineSuffices limits now (RemovedEntry number archive)
+removed_suffices limits now number archive is may =
+    let defs : length (definitions now.archives) ≡ length now.archives = length-map now.archives (λ (a : Archive). a.def) in
+    let n = length now.sources in
+    let there : number ≤ length now.archives = omega (arith, defs, may.1.number_is.there) in
+    let def_is = may.1.settings_are.def_is in
+    let count = length-insert now.archives number archive there in
+    let P = IsValidArchiveWithin limits n (now.last / now.step) in
+    let this : P archive = record {
+      some_steps = def_is.some_steps;
+      few_steps = def_is.few_steps;
+      some_rows = def_is.some_rows;
+      few_rows = def_is.few_rows;
+      xff_low = def_is.xff_low;
+      xff_high = def_is.xff_high;
+      parts_are = may.1.parts_are;
+      rows_are = may.1.rows_are;
+      each_row = may.1.each_row;
+    } in (
+      (may.0, record { there = there; one_part_each = may.1.parts_are.one_each; rows_are = may.1.rows_are; one_cell_each = rows_wide n archive.rows may.1.each_row }),
+      valid_with limits now (insert now.archives number archive) is (omega (arith, count)) (omega (arith, count, defs, may.1.number_is.few))
+          (subst (λ (all : ℕ). n * all ≤ limits.most_cells) (rows_inserted now.archives number archive) may.1.settings_are.few_cells)
+          (All-append P (take number now.archives) (archive ∷ drop number now.archives) (All-take P number now.archives is.archives_are) (this, All-drop P number now.archives is.archives_are)),
+    )
+
+removed_needed : (limits : Limits) (now : Content) (number : ℕ) (archive : Archive) → OutlineIsNeeded limits now (RemovedEntry number archive)
+removed_needed limits now number archive is fits then =
+    let defs : length (definitions now.archives) ≡ length now.archives = length-map now.archives (λ (a : Archive). a.def) in
+    let n = length now.sources in
+    let count = length-insert now.archives number archive fits.1.there in
+    let this = inserted (IsValidArchiveWithin limits n (now.last / now.step)) now.archives number archive fits.1.there then.archives_are in (
+      fits.0,
+      record {
+        number_is =
+            record {
+              there = omega (arith, defs, fits.1.there);
+              few = omega (arith, count, defs, then.few_archives);
+            };
+        settings_are =
+            record {
+              def_is =
+                  record {
+                    some_steps = this.some_steps;
+                    few_steps = this.few_steps;
+                    some_rows = this.some_rows;
+                    few_rows = this.few_rows;
+                    xff_low = this.xff_low;
+                    xff_high = this.xff_high;
+                  };
+              few_cells =
+                  subst (λ (all : ℕ). n * all ≤ limits.most_cells) (sym (rows_inserted now.archives number archive)) then.few_cells;
+            };
+        parts_are = this.parts_are;
+        rows_are = this.rows_are;
+        each_row = this.each_row;
+      },
+    )
+
 -- ---- one entry
 
 pub suffices : (limits : Limits) (now : Content) (entry : Entry) → OutlineSuffices limits now entry
 suffices limits now (UpdateEntry old) = update_suffices limits now old
 suffices limits now (TuneEntry olds) = tune_suffices limits now olds
 suffices limits now (ResizeEntry archive rows) = resize_suffices limits now archive rows
+suffices limits now AddedEntry = added_suffices limits now
+suffices limits now (RemovedEntry number archive) = removed_suffices limits now number archive
 
 pub needed : (limits : Limits) (now : Content) (entry : Entry) → OutlineIsNeeded limits now entry
 needed limits now (UpdateEntry old) = update_needed limits now old
 needed limits now (TuneEntry olds) = tune_needed limits now olds
 needed limits now (ResizeEntry archive rows) = resize_needed limits now archive rows
+needed limits now AddedEntry = added_needed limits now
+needed limits now (RemovedEntry number archive) = removed_needed limits now number archive
 
 -- ---- outlines
 
@@ -381,12 +468,17 @@ unfolding with_both
 step_stays now (UpdateEntry old) = refl
 step_stays now (TuneEntry olds) = ap (λ (content : Content). content.step) (sources_undone now olds)
 step_stays now (ResizeEntry archive rows) = refl
+step_stays now AddedEntry = refl
+step_stays now (RemovedEntry number archive) = refl
 
 outline_stays : (now : Content) (entry : Entry) → outline_of (undone now entry) ≡ outline_undone (outline_of now) entry
 unfolding with_both with_defs
 outline_stays now (UpdateEntry old) = ap (with_defs (record (outline_of now) { last = old.last })) (put_back_settings now.archives old.archives)
 outline_stays now (TuneEntry olds) = ap outline_of (sources_undone now olds)
 outline_stays now (ResizeEntry archive rows) = ap (with_defs (outline_of now)) (resized_settings now.archives archive rows)
+outline_stays now AddedEntry =
+    ap (with_defs (outline_of now)) (sym (take-map (λ (a : Archive). a.def) (length now.archives - 1) now.archives) ∙ ap (λ n. take (n - 1) (definitions now.archives)) (sym (length-map now.archives (λ (a : Archive). a.def))))
+outline_stays now (RemovedEntry number archive) = ap (with_defs (outline_of now)) (map-insert (λ (a : Archive). a.def) now.archives number archive)
 
 pub follows : (now : Content) (journal : List Entry) → OutlineFollows now journal
 follows now [] = record { step_stays = refl; outline_is = refl }

@@ -12,6 +12,7 @@ use Rattle.rrd_spec.specs.Lemmas.Lists.{All-append, All-drop, length-keep_last}
 use Rattle.rrd_spec.specs.Laws.Passing.{archive_passed, passed}
 use Rattle.rrd_spec.specs.History.Steps.{seconds_to_steps}
 use Rattle.rrd_spec.specs.History.Rows.{steps_to_rows}
+use Rattle.rrd_spec.specs.Limits.{present}
 use Rattle.rrd_spec.specs.Validity.{AreParts, IsRow, IsValidArchive}
 use Rattle.rrd_spec.proofs.Bounded.{rows_keep, steps_keep}
 use Rattle.rrd_spec.proofs.GroupLemmas.{length-finished, reached_before}
@@ -66,8 +67,8 @@ stays_valid_for base seconds is rows in_time =
       some_source = is.some_source;
       few_sources = is.few_sources;
       some_archive = subst (λ m. 0 < m) (sym count) is.some_archive;
-      few_archives = subst (λ m. m ≤ 64) (sym count) is.few_archives;
-      few_cells = subst (λ rs. n * sum rs ≤ 4000000) (sym (same_rows n before steps base.archives)) is.few_cells;
+      few_archives = subst (λ m. m ≤ present.most_archives) (sym count) is.few_archives;
+      few_cells = subst (λ rs. n * sum rs ≤ present.most_cells) (sym (same_rows n before steps base.archives)) is.few_cells;
       sources_are = is.sources_are;
       names_differ = is.names_differ;
       raws_are = is.raws_are;

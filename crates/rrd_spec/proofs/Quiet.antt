@@ -20,7 +20,7 @@ module _ (base : Content) (es : List Event) (same : (moment_at_end base es).last
   unfolding seconds_of
   seconds_none = ap (λ n. map (second (samples (moment_of base) es)) (range_with_len (base.last + 1) n)) {x = (moment_at_end base es).last - base.last} {y = 0} (omega arith)
 
-  steps_none : steps_of base es ≡ []
+  pub steps_none : steps_of base es ≡ []
   unfolding steps_of
   steps_none = ap (finished (seconds_to_steps base.step (length base.sources)) base.last base.parts) seconds_none ∙ finished_nil (seconds_to_steps base.step (length base.sources)) base.last base.parts
 

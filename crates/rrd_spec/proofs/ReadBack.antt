@@ -13,7 +13,8 @@ use Rattle.rrd_spec.specs.History.Cells.{time_of}
 use Rattle.rrd_spec.specs.History.{Archive, Content}
 use Rattle.rrd_spec.specs.Journal.Entries.{Entry}
 use Rattle.rrd_spec.specs.Lemmas.Validity.{length-accepted, rows_wide}
-use Rattle.rrd_spec.specs.Files.Filed.{Filed, Head, Source, Version, head_of, sources_of}
+use Rattle.rrd_spec.specs.declared.version.Version.{Version}
+use Rattle.rrd_spec.specs.Files.Filed.{Filed, Head, Source, head_of, sources_of}
 use Rattle.rrd_spec.specs.Laws.FiledOnce.{FiledOnce, RowsFiledOnce}
 use Rattle.rrd_spec.specs.Laws.Slots.{HasOneEach}
 use Rattle.rrd_spec.specs.Files.Slots.{by_slot, cells_by_slot, slot_of}

@@ -3,7 +3,7 @@ use Rattle.std.proofs.Common.{◌≡◌, refl, sym, ◌∙◌, ap, ℕ, ◌+◌,
 use Rattle.std.proofs.lemmas.Bool.{cases_lt, lt-ltb, le-ltb}
 use Rattle.std.proofs.lemmas.List.{drop-append-le, drop-replicate, length-drop, length-replicate, take-append-drop, replicate-append-replicate, take_at, get_or-append_right, get_or-drop, get_or_append_left, get_or-replicate}
 use Rattle.std.specs.List.{fold}
-use Rattle.rrd_spec.specs.History.{Event, Sampled, Tuned, Resized, Moment, moment_after, rows_after, IsHistory}
+use Rattle.rrd_spec.specs.History.{Event, Sampled, Tuned, Resized, Added, Removed, Moment, moment_after, rows_after, IsHistory}
 use Rattle.rrd_spec.specs.Laws.ListedContent.{rows_never_lost, keep_last, filled_up}
 use Rattle.rrd_spec.proofs.HistoryLemmas.{last_rises}
 use Rattle.rrd_spec.specs.Lemmas.Lists.{keep_all, keep_last_past, length-keep_last, split_last}
@@ -73,6 +73,10 @@ room-append index first second n rows now (Tuned sources ∷ es) fs h e =
     omega (arith, room-append index first second n rows next es fs h.1 e, e now.last (last_rises next es h.1))
 room-append index first second n rows now (Resized archive new ∷ es) fs h e =
     omega (arith, room-append index first second n (rows_after index rows (Resized archive new)) now es fs h.1 e, e now.last (last_rises now es h.1))
+room-append index first second n rows now (Added def ∷ es) fs h e =
+    omega (arith, room-append index first second n rows now es fs h.2 e, e now.last (last_rises now es h.2))
+room-append index first second n rows now (Removed archive ∷ es) fs h e =
+    omega (arith, room-append index first second n rows now es fs h e, e now.last (last_rises now es h))
 
 -- the rows that were dropped, before those that stayed, are the rows as they were
 pub put_back_rows : {A : Type 0} (old new : List A) (f : ℕ) → length new ≡ f → take (min f (length old)) old ++ take (length old - min f (length old)) (keep_last (length old) (old ++ new)) ≡ old

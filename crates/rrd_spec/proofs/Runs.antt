@@ -11,7 +11,7 @@ use Rattle.rrd_spec.specs.Journal.Entries.{Entry, entry, undone, IsSound}
 use Rattle.rrd_spec.specs.Journal.Survivors.{Action, Changed, Reverted, State, Stored, survived, entries, with_change, without_last, after, reverted, changed, stored_after, AllAccepted, AllUndo, Stands}
 use Rattle.rrd_spec.specs.Laws.Commands.{CommandsGoOn}
 use Rattle.rrd_spec.specs.Laws.Journal.{RunsAgree}
-use Rattle.rrd_spec.proofs.CellLemmas.{is_listed}
+use Rattle.rrd_spec.proofs.LivesPlain.{is_listed}
 use Rattle.rrd_spec.proofs.Moving.{moves, moved_sound}
 use Rattle.rrd_spec.proofs.Quiet.{content_nil}
 use Rattle.rrd_spec.proofs.Undoing.{comes_back}
@@ -33,7 +33,7 @@ is_none-true (Some x) h = absurd cc
 -- ---- what survived
 
 pub survived_nil : (base : Content) → IsSound base → survived base [] ≡ base
-survived_nil base sound = sym (is_listed base [] sound.is_base tt) ∙ content_nil base sound.is_base
+survived_nil base sound = sym (is_listed base [] sound.is_base tt tt) ∙ content_nil base sound.is_base
 
 pub survived_sound : (base : Content) (commands : List Command) → IsSound base → AllAccepted base commands → IsSound (survived base commands)
 survived_sound base [] sound h = subst IsSound (sym (survived_nil base sound)) sound

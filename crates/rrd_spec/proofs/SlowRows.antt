@@ -18,13 +18,14 @@ use Rattle.rrd_spec.specs.declared.slow.Reading.{Reading}
 use Rattle.rrd_spec.specs.declared.slow.Taken as slow
 use Rattle.rrd_spec.specs.Commands.Creating.{create_verdict, created, new_archive}
 use Rattle.rrd_spec.specs.History.Cells.{content}
-use Rattle.rrd_spec.specs.History.{Archive, Content, Event, Sampled, moment_of, moment_at_end, samples, seconds, seconds_of}
+use Rattle.rrd_spec.specs.History.{Archive, Content, Event, Sampled, moment_of, moment_at_end, samples, seconds, seconds_of, IsArchive}
 use Rattle.rrd_spec.specs.Laws.ListedContent.{archive_of, content_listed, keep_last}
 use Rattle.rrd_spec.specs.History.Rows.{rows_of}
 use Rattle.rrd_spec.specs.Slow.{event_of, reading_of, taken_of, AreInOrder, AreNewest, latest, rule_of, IsGroup}
 use Rattle.rrd_spec.specs.Validity.{AreParts, IsRow, IsValidArchive}
 use Rattle.rrd_spec.proofs.Bounded.{steps_keep}
-use Rattle.rrd_spec.proofs.CellLemmas.{is_listed, one_of}
+use Rattle.rrd_spec.proofs.LivesPlain.{is_listed}
+use Rattle.rrd_spec.proofs.Staying.{sampled_keep}
 use Rattle.rrd_spec.proofs.Created.{created_valid}
 use Rattle.rrd_spec.proofs.Kept.{kept}
 use Rattle.rrd_spec.specs.Lemmas.Validity.{base_of_valid}
@@ -119,6 +120,11 @@ shown_from f n (first ∷ archives) (suc index) shown h =
     let rest = shown_from f (n + 1) archives index shown h in
     (rest.0, rest.1, ap (λ i. f (i, rest.0)) {x = n + suc index} {y = n + 1 + index} (omega arith) ∙ rest.2)
 
+one_of : (archives : List Archive) (index : ℕ) (archive : Archive) → AllByRecursion IsArchive archives → slice_get archives index ≡ Some archive → IsArchive archive
+one_of [] index archive is h = absurd cc
+one_of (first ∷ archives) zero archive is h = let here : first ≡ archive = cc in subst IsArchive here is.0
+one_of (first ∷ archives) (suc index) archive is h = one_of archives index archive is.1 h
+
 pub are_newest : (spec : CreateSpec) (readings : List Reading) (number : ℕ) (d : RraDef) (rows : List (List Cell)) → create_verdict spec ≡ None → AreInOrder spec.sources spec.start readings
     → ((kept : Archive) → slice_get (created spec).archives number ≡ Some kept → rows ≡ rows_of (created spec) kept (map event_of readings))
     → AreNewest spec (map event_of readings) number rows
@@ -130,7 +136,7 @@ are_newest spec readings number d rows accepted order all shown there =
     let samples = map Sampled (map reading_of readings) in
     let is_base = base_of_valid base (created_valid spec accepted) in
     let listed : slice_get (content_listed base samples).archives number ≡ Some shown
-    = ap (λ (x : Content). slice_get x.archives number) (is_listed base samples is_base (is_history spec.sources spec.start (replicate n Unknown) readings order))
+    = ap (λ (x : Content). slice_get x.archives number) (is_listed base samples is_base (is_history spec.sources spec.start (replicate n Unknown) readings order) (sampled_keep (map reading_of readings)))
     ∙ ap (λ es. slice_get (content base es).archives number) (sym (events_are readings)) ∙ there in
     let from = shown_from (archive_of base samples) 0 base.archives number shown listed in
     let archive = from.0 in

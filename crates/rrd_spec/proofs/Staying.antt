@@ -16,21 +16,34 @@ use Rattle.rrd_fixed.specs.Rate.{IsAccepted}
 use Rattle.rrd_fixed.specs.declared.name.Name.{Name}
 use Rattle.rrd_spec.specs.declared.settings.DsDef.{DsDef}
 use Rattle.rrd_spec.specs.History.{Archive, Content, Reading, Event, Sampled, Tuned, Moment, moment_after, moment_of, moment_at_end, same_kind, raws_under, rows_after, seconds_of, IsHistory}
-use Rattle.rrd_spec.specs.Laws.ListedContent.{archive_of, content_listed, moved_listed}
+use Rattle.rrd_spec.specs.Laws.ListedContent.{KeepsArchives, archive_of, content_listed}
 use Rattle.rrd_spec.proofs.HistoryLemmas.{length-sources}
 use Rattle.rrd_spec.proofs.SampleLemmas.{rows_of_samples}
 use Rattle.rrd_spec.specs.Commands.{Asked, Command, Updating, TuningBy, Resizing, settings_of, settings_after, rows_of_archives, raw_of, value_for, sample_of, samples_of, asked, tuned, rows_changed, events}
 use Rattle.rrd_spec.specs.Settings.{names, has_source, is_double, cells}
 use Rattle.rrd_spec.specs.Laws.Commands.{Passes}
 use Rattle.rrd_spec.specs.Commands.Verdict.{is_bad_heartbeat, is_bad_rows, has_bad_bounds, grows_too_far, sample_checks, verdict}
-use Rattle.rrd_spec.proofs.Accepted.{accepted_passes, accepted_history}
-use Rattle.rrd_spec.proofs.Moving.{moved_is, settings_of-content}
+use Rattle.rrd_spec.proofs.Accepted.{accepted_passes, accepted_history, tune_passes}
+use Rattle.rrd_spec.proofs.Moving.{moved_is, settings_by_time}
+use Rattle.rrd_spec.proofs.ArchiveTunes.{fewer_removed, tune_added, tune_alone, tune_removed, valid_with}
+use Rattle.rrd_spec.proofs.Created.{archive_valid}
+use Rattle.rrd_spec.proofs.LivesPlain.{is_listed}
+use Rattle.rrd_spec.specs.History.Lives.{new_archive}
+use Rattle.rrd_spec.specs.Lemmas.Lists.{All-append, All-drop, All-take}
+use Rattle.std.proofs.lemmas.List.{length_push, map-append}
+use Rattle.std.proofs.lemmas.List.Edits.{length-remove}
+use Rattle.rrd_spec.specs.declared.requests.tune.ArchiveTune.{ArchiveTune}
+use Rattle.rrd_spec.specs.declared.requests.tune.ArchiveTune.TheVariants.{Add, Remove}
+use Rattle.std.proofs.Common.{◌++◌, drop, take}
+use Rattle.std.proofs.lemmas.Bool.{leb-false}
+use Rattle.rrd_spec.specs.Commands.{moved}
+use Rattle.std.specs.List.{remove}
 use Rattle.rrd_spec.proofs.Quiet.{seconds_none}
 use Rattle.rrd_spec.specs.Validity.{IsSource, AreAccepted, AreParts, IsRow, IsValidArchive, IsValid}
 use Rattle.rrd_spec.specs.Laws.Validity.{StaysValid}
 use Rattle.rrd_spec.proofs.Rates.{seconds_rows}
 use Rattle.rrd_spec.proofs.Held.{LeavesGoodRows, parts_valid, archives_valid}
-use Rattle.rrd_spec.specs.Lemmas.Validity.{sound}
+use Rattle.rrd_spec.specs.Lemmas.Validity.{base_of_valid, sound}
 use Rattle.rrd_spec.proofs.NameLemmas.{names_differ, names_tuned}
 use Rattle.rrd_fixed.specs.Rounding.{floor_of}
 use Rattle.rrd_spec.specs.declared.requests.update.Given.{Given}
@@ -41,7 +54,7 @@ use Rattle.rrd_spec.specs.declared.requests.resize.Change.{Change}
 use Rattle.rrd_spec.specs.declared.requests.resize.Change.TheVariants.{Grow, Shrink}
 use Rattle.rrd_fixed.specs.Admitted.{in_range, is_whole}
 use Rattle.rrd_fixed.specs.Names.{same_name, is_good}
-use Rattle.rrd_spec.specs.Limits.{version_one}
+use Rattle.rrd_spec.specs.Limits.{present}
 
 -- ---- raw values
 
@@ -112,7 +125,7 @@ record Leaves (base : Content) (es : List Event) : Type 0 where
   raws_are : AreAccepted (moment_at_end base es).sources (moment_at_end base es).raws
   seconds_are : AllByRecursion (IsRow (length base.sources)) (seconds_of base es)
   good_rows : LeavesGoodRows es
-  few_cells : length (moment_at_end base es).sources * sum (rows_of_archives (map (archive_of base es) (enumerate_from 0 base.archives))) ≤ 4000000
+  few_cells : length (moment_at_end base es).sources * sum (rows_of_archives (map (archive_of base es) (enumerate_from 0 base.archives))) ≤ present.most_cells
 
 left_valid : (base : Content) (es : List Event) → IsValid base → Leaves base es → IsValid (content_listed base es)
 unfolding content_listed
@@ -140,7 +153,7 @@ left_valid base es is left =
       archives_are = subst AP (sym as_many) (archives_valid base es 0 base.archives is left.history left.good_rows left.seconds_are is.archives_are);
     }
 
-below : (n : ℕ) (m : ℕ) → m ≡ n → n ≤ 4000000 → m ≤ 4000000
+below : (n : ℕ) (m : ℕ) → m ≡ n → n ≤ present.most_cells → m ≤ present.most_cells
 below n m e h = omega arith
 
 -- ---- an update
@@ -157,7 +170,7 @@ end_raws : (now : Moment) (list : List Reading) → AreAccepted now.sources now.
 end_raws now [] a is = a
 end_raws now (sample ∷ list) a is = end_raws (moment_after now (Sampled sample)) list is.0 is.1
 
-end_time : (sources : List DsDef) (template : List Name) (now : Moment) (readings : List Sample) → AllByRecursion Passes (sample_checks version_one sources template now.last readings) → now.last ≤ 9999999999 → (fold moment_after now (map Sampled (map (sample_of sources template) readings))).last ≤ 9999999999
+end_time : (sources : List DsDef) (template : List Name) (now : Moment) (readings : List Sample) → AllByRecursion Passes (sample_checks present sources template now.last readings) → now.last ≤ 9999999999 → (fold moment_after now (map Sampled (map (sample_of sources template) readings))).last ≤ 9999999999
 end_time sources template now [] p h = h
 end_time sources template now (reading ∷ readings) p h =
     end_time sources template (moment_after now (Sampled (sample_of sources template reading))) readings p.1.1.1.1 (ltb-false 9999999999 reading.time p.0)
@@ -190,14 +203,14 @@ good_name : (rename : Option (Asked Name)) (name : Name) → option_map_or (λ (
 good_name None name k h = h
 good_name (Some option) name k h = cond_both (same_name option.0 name) option.1 name (λ n. is_good n ≡ true) (λ e. not-false (is_good option.1) k) (λ e. h)
 
-good_heartbeat : (heartbeat : Option (Asked ℕ)) (name : Name) (old : ℕ) → option_map_or (λ (option : Asked ℕ). is_bad_heartbeat version_one option.1) heartbeat false ≡ false → is_bad_heartbeat version_one old ≡ false → is_bad_heartbeat version_one (asked heartbeat name old) ≡ false
+good_heartbeat : (heartbeat : Option (Asked ℕ)) (name : Name) (old : ℕ) → option_map_or (λ (option : Asked ℕ). is_bad_heartbeat present option.1) heartbeat false ≡ false → is_bad_heartbeat present old ≡ false → is_bad_heartbeat present (asked heartbeat name old) ≡ false
 good_heartbeat None name old k h = h
-good_heartbeat (Some option) name old k h = cond_both (same_name option.0 name) option.1 old (λ n. is_bad_heartbeat version_one n ≡ false) (λ e. k) (λ e. h)
+good_heartbeat (Some option) name old k h = cond_both (same_name option.0 name) option.1 old (λ n. is_bad_heartbeat present n ≡ false) (λ e. k) (λ e. h)
 
-tuned_sources : (tuning : Tuning) (sources : List DsDef) → option_map_or (λ (option : Asked Name). not (is_good option.1)) tuning.rename false ≡ false → option_map_or (λ (option : Asked ℕ). is_bad_heartbeat version_one option.1) tuning.heartbeat false ≡ false → list_any (λ (source : DsDef). has_bad_bounds version_one (tuned tuning source)) sources ≡ false → AllByRecursion IsSource sources → AllByRecursion IsSource (map (tuned tuning) sources)
+tuned_sources : (tuning : Tuning) (sources : List DsDef) → option_map_or (λ (option : Asked Name). not (is_good option.1)) tuning.rename false ≡ false → option_map_or (λ (option : Asked ℕ). is_bad_heartbeat present option.1) tuning.heartbeat false ≡ false → list_any (λ (source : DsDef). has_bad_bounds present (tuned tuning source)) sources ≡ false → AllByRecursion IsSource sources → AllByRecursion IsSource (map (tuned tuning) sources)
 tuned_sources tuning [] a b c is = tt
 tuned_sources tuning (source ∷ sources) a b c is =
-    let d = or_parts (has_bad_bounds version_one (tuned tuning source)) (list_any (λ (source : DsDef). has_bad_bounds version_one (tuned tuning source)) sources) c in (
+    let d = or_parts (has_bad_bounds present (tuned tuning source)) (list_any (λ (source : DsDef). has_bad_bounds present (tuned tuning source)) sources) c in (
       record {
         good_name = good_name tuning.rename source.name a is.0.good_name;
         good_heartbeat = good_heartbeat tuning.heartbeat source.name source.heartbeat b is.0.good_heartbeat;
@@ -206,18 +219,18 @@ tuned_sources tuning (source ∷ sources) a b c is =
       tuned_sources tuning sources a b d.1 is.1,
     )
 
-tune_leaves : (base : Content) (tuning : Tuning) → IsValid base → verdict base (TuningBy tuning) ≡ None → Leaves base (events (settings_of base) (TuningBy tuning))
+tune_leaves : (base : Content) (tuning : Tuning) → IsValid base → verdict base (TuningBy tuning) ≡ None → Leaves base (Tuned (map (tuned tuning) base.sources) ∷ [])
 tune_leaves base tuning is h =
     let news = map (tuned tuning) base.sources in
     let es = Tuned news ∷ [] in
     let p = accepted_passes base (TuningBy tuning) h in
     let f = λ (option : Asked Name). not (same_name option.0 option.1) && has_source base.sources option.1 in
-    let free = λ (option : Asked Name) (e : tuning.rename ≡ Some option). sym (ap (λ r. option_map_or f r false) e) ∙ p.1.1.1.0 in
+    let free = λ (option : Asked Name) (e : tuning.rename ≡ Some option). sym (ap (λ r. option_map_or f r false) e) ∙ p.1.1.1.1.0 in
     let SP : List (List _) → Type 0 = λ rows. AllByRecursion (IsRow (length base.sources)) rows in
     record {
-      history = accepted_history base (TuningBy tuning) h;
+      history = (length-map base.sources (tuned tuning), tt);
       good_time = is.good_time;
-      sources_are = tuned_sources tuning base.sources p.1.1.0 p.1.1.1.1.0 p.1.1.1.1.1.0 is.sources_are;
+      sources_are = tuned_sources tuning base.sources p.1.1.1.0 p.1.1.1.1.1.0 p.1.1.1.1.1.1.0 is.sources_are;
       names_differ = ap is_double (names_tuned tuning base.sources) ∙ names_differ tuning.rename base.sources is.names_differ free;
       raws_are = raws_tuned (tuned tuning) base.sources base.raws is.raws_are;
       seconds_are = subst SP (sym (seconds_none base es refl)) tt;
@@ -232,8 +245,8 @@ few_rows_at sources steps index [] is = omega arith
 few_rows_at sources steps zero (archive ∷ archives) is = is.0.few_rows
 few_rows_at sources steps (suc index) (archive ∷ archives) is = few_rows_at sources steps index archives is.1
 
-pub few_changed : (change : Change) (old rows : ℕ) → old ≤ 1000000 → (is_bad_rows version_one rows || grows_too_far version_one change old rows) ≡ false → rows_changed change old rows ≤ 1000000
-few_changed Grow old rows h k = ltb-false 1000000 (old + rows) (or_parts (is_bad_rows version_one rows) (grows_too_far version_one Grow old rows) k).1
+pub few_changed : (change : Change) (old rows : ℕ) → old ≤ 1000000 → (is_bad_rows present rows || grows_too_far present change old rows) ≡ false → rows_changed change old rows ≤ 1000000
+few_changed Grow old rows h k = ltb-false 1000000 (old + rows) (or_parts (is_bad_rows present rows) (grows_too_far present Grow old rows) k).1
 few_changed Shrink old rows h k = omega arith
 
 resize_leaves : (base : Content) (archive : ℕ) (change : Change) (rows : ℕ) → IsValid base → verdict base (Resizing archive change rows) ≡ None → Leaves base (events (settings_of base) (Resizing archive change rows))
@@ -256,15 +269,54 @@ resize_leaves base archive change rows is h =
       raws_are = is.raws_are;
       seconds_are = subst SP (sym (seconds_none base es refl)) tt;
       good_rows = λ index there some few. cond_both (eqb archive index) new there (λ n. (0 < n) × (n ≤ 1000000)) (λ e. (history.0, few_new)) (λ e. (some, few));
-      few_cells = below (cells (fold settings_after settings es)) _ (ap cells (settings_of-content base es)) (ltb-false 4000000 (cells (fold settings_after settings es)) p.1.1.1.0);
+      few_cells = below (cells (fold settings_after settings es)) _ (ap cells (ap settings_of (is_listed base es (base_of_valid base is) history tt) ∙ settings_by_time base es)) (ltb-false present.most_cells (cells (fold settings_after settings es)) p.1.1.1.0);
     }
 
 -- ---- what is valid stays so
 
-pub listed_valid : (base : Content) (command : Command) → IsValid base → verdict base command ≡ None → IsValid (moved_listed base command)
-listed_valid base (Updating update) is h = left_valid base (events (settings_of base) (Updating update)) is (update_leaves base update is h)
-listed_valid base (TuningBy tuning) is h = left_valid base (events (settings_of base) (TuningBy tuning)) is (tune_leaves base tuning is h)
-listed_valid base (Resizing archive change rows) is h = left_valid base (events (settings_of base) (Resizing archive change rows)) is (resize_leaves base archive change rows is h)
+pub sampled_keep : (list : List Reading) → KeepsArchives (map Sampled list)
+sampled_keep [] = tt
+sampled_keep (reading ∷ list) = sampled_keep list
+
+-- as it is with other archives
+tuned_valid : (base : Content) (tuning : Tuning) (archive : Option ArchiveTune) → tuning.archive ≡ archive → IsValid base → verdict base (TuningBy tuning) ≡ None → IsValid (moved base (TuningBy tuning))
+tuned_valid base tuning None e is h =
+    let es = Tuned (map (tuned tuning) base.sources) ∷ [] in
+    subst IsValid (is_listed base es (base_of_valid base is) (length-map base.sources (tuned tuning), tt) tt ∙ sym (tune_alone base tuning e)) (left_valid base es is (tune_leaves base tuning is h))
+tuned_valid base tuning (Some (Add def)) e is h =
+    let n = length base.sources in
+    let rows = rows_of_archives base.archives in
+    let new = new_archive n def in
+    let p = tune_passes base tuning (Some (Add def)) e h in
+    let small = or_parts (ltb present.most_archives (length (rows ++ def.rows ∷ []))) (ltb present.most_cells (n * sum (rows ++ def.rows ∷ []))) p.1.1.1.0 in
+    let few = ltb-false present.most_archives (length (rows ++ def.rows ∷ [])) small.0 in
+    let as_many : length rows ≡ length base.archives = length-map base.archives (λ (a : Archive). a.def.rows) in
+    let same : rows_of_archives (base.archives ++ new ∷ []) ≡ rows ++ def.rows ∷ [] = map-append (λ (a : Archive). a.def.rows) base.archives (new ∷ []) in
+    subst IsValid (sym (tune_added base tuning def (base_of_valid base is) e h))
+    (valid_with present base (base.archives ++ new ∷ []) is
+    (omega (arith, length_push base.archives new))
+    (omega (arith, length_push base.archives new, length_push rows def.rows, few, as_many))
+    (subst (λ (all : List ℕ). n * sum all ≤ present.most_cells) (sym same) (ltb-false present.most_cells (n * sum (rows ++ def.rows ∷ [])) small.1))
+    (All-append (IsValidArchive n (base.last / base.step)) base.archives (new ∷ []) is.archives_are (archive_valid n (base.last / base.step) def p.0 p.1.0 p.1.1.0, tt)))
+tuned_valid base tuning (Some (Remove number)) e is h =
+    let n = length base.sources in
+    let rows = rows_of_archives base.archives in
+    let p = tune_passes base tuning (Some (Remove number)) e h in
+    let as_many : length rows ≡ length base.archives = length-map base.archives (λ (a : Archive). a.def.rows) in
+    let there : number < length base.archives = omega (arith, leb-false (length rows) number p.0, as_many) in
+    let two : 1 < length base.archives = omega (arith, leb-false (length rows) 1 p.1.0, as_many) in
+    let P = IsValidArchive n (base.last / base.step) in
+    let count = length-remove base.archives number there in
+    subst IsValid (sym (tune_removed base tuning number (base_of_valid base is) e))
+    (valid_with present base (remove base.archives number) is
+    (omega (arith, count, two))
+    (omega (arith, count, is.few_archives))
+    (fewer_removed n present.most_cells base.archives number is.few_cells)
+    (All-append P (take number base.archives) (drop (suc number) base.archives) (All-take P number base.archives is.archives_are) (All-drop P (suc number) base.archives is.archives_are)))
 
 pub stays_valid : (base : Content) (command : Command) → StaysValid base command
-stays_valid base command is h = subst IsValid (moved_is base command (sound base is) h) (listed_valid base command is h)
+stays_valid base (Updating update) is h =
+    subst IsValid (moved_is base (Updating update) (sound base is) h (sampled_keep (samples_of base.sources update))) (left_valid base (events (settings_of base) (Updating update)) is (update_leaves base update is h))
+stays_valid base (TuningBy tuning) is h = tuned_valid base tuning tuning.archive refl is h
+stays_valid base (Resizing archive change rows) is h =
+    subst IsValid (moved_is base (Resizing archive change rows) (sound base is) h tt) (left_valid base (events (settings_of base) (Resizing archive change rows)) is (resize_leaves base archive change rows is h))

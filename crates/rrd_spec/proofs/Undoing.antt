@@ -9,18 +9,27 @@ use Rattle.rrd_fixed.specs.declared.kind.Kind.TheVariants.{Gauge, Counter, Deriv
 use Rattle.rrd_fixed.specs.declared.name.Name.{Name}
 use Rattle.rrd_spec.specs.declared.settings.DsDef.{DsDef}
 use Rattle.rrd_spec.specs.declared.entry.SourceBefore.{SourceBefore}
-use Rattle.rrd_spec.specs.History.{Archive, Content, Reading, Sampled, Resized, Moment, moment_after, moment_of, moment_at_end, same_kind, raws_under, rows_after, IsHistory, IsArchive}
+use Rattle.rrd_spec.specs.History.{Archive, Reading, Sampled, Resized, Moment, moment_after, moment_of, moment_at_end, same_kind, raws_under, rows_after, IsHistory, IsArchive}
 use Rattle.rrd_spec.specs.History.Rows.{rows_of, row_parts_of}
 use Rattle.rrd_spec.specs.Laws.ListedContent.{kept_rows, archive_of, content_listed, moved_listed}
 use Rattle.rrd_spec.proofs.ContentLemmas.{length-rows_of, length-kept_rows}
 use Rattle.rrd_spec.proofs.SampleLemmas.{rows_of_samples, update_undone}
 use Rattle.rrd_spec.specs.Commands.{Asked, Command, Updating, TuningBy, Resizing, settings_of, samples_of, asked, tuned, rows_changed}
 use Rattle.rrd_spec.specs.Commands.Verdict.{verdict}
-use Rattle.rrd_spec.specs.Journal.Entries.{ResizeEntry, rows_between, saved, is_asked, is_named, sources_before, rows_at, put_back, put_back_each, with_source, with_rows_at, entry, undone, IsSound}
+use Rattle.rrd_spec.specs.Journal.Entries.{AddedEntry, RemovedEntry, ResizeEntry, TuneEntry, archive_at, archive_entry, rows_between, saved, is_asked, is_named, sources_before, rows_at, put_back, put_back_each, with_source, with_rows_at, entry, undone, IsSound}
 use Rattle.rrd_spec.specs.Laws.Journal.{ComesBack}
-use Rattle.rrd_spec.proofs.Accepted.{accepted_passes, accepted_history}
+use Rattle.rrd_spec.proofs.Accepted.{accepted_passes, accepted_history, tune_passes}
+use Rattle.rrd_spec.proofs.ArchiveTunes.{put_in_again, tune_added, tune_removed, without_added}
+use Rattle.rrd_spec.proofs.Changing.{tune_changes}
+use Rattle.rrd_spec.proofs.Staying.{sampled_keep}
+use Rattle.rrd_spec.specs.History.Lives.{new_archive}
+use Rattle.rrd_spec.specs.Commands.{moved}
+use Rattle.rrd_spec.specs.declared.requests.tune.ArchiveTune.{ArchiveTune}
+use Rattle.rrd_spec.specs.declared.requests.tune.ArchiveTune.TheVariants.{Add, Remove}
+use Rattle.std.specs.Option.{option_map_or}
+use Rattle.rrd_spec.specs.History.{Content}
 use Rattle.rrd_spec.proofs.Moving.{moved_is}
-use Rattle.rrd_spec.proofs.Quiet.{made, with_all, content_tuned, resized_other, resized_elsewhere, content_resized, row_parts_same}
+use Rattle.rrd_spec.proofs.Quiet.{made, with_all, resized_other, resized_elsewhere, content_resized, row_parts_same}
 use Rattle.rrd_spec.specs.declared.requests.tune.Tuning.{Tuning}
 use Rattle.rrd_spec.specs.declared.requests.update.Update.{Update}
 use Rattle.rrd_spec.specs.declared.requests.resize.Change.{Change}
@@ -137,11 +146,21 @@ sources_back base tuning number done done_raws (source ∷ sources) (raw ∷ raw
     ∙ go_on)
     (cases_Bool (is_named tuning source))
 
-tune_back : (base : Content) (tuning : Tuning) → ListedBack base (TuningBy tuning)
+-- other settings, or an archive that comes or goes
+tuned_back : (base : Content) (tuning : Tuning) (archive : Option ArchiveTune) → tuning.archive ≡ archive → IsSound base → verdict base (TuningBy tuning) ≡ None → undone (moved base (TuningBy tuning)) (option_map_or (archive_entry base) archive (TuneEntry (sources_before tuning 0 base.sources base.raws))) ≡ base
 unfolding with_sources
-tune_back base tuning sound h =
-    ap (λ now. fold with_source now (sources_before tuning 0 base.sources base.raws)) (content_tuned base (map (tuned tuning) base.sources) sound.is_base)
+tuned_back base tuning None e sound h =
+    ap (λ now. fold with_source now (sources_before tuning 0 base.sources base.raws)) (tune_changes base tuning sound.is_base e)
     ∙ sources_back base tuning 0 [] [] base.sources base.raws refl refl sound.one_raw_each
+tuned_back base tuning (Some (Add def)) e sound h =
+    let new = new_archive (length base.sources) def in
+    ap (λ now. undone now AddedEntry) (tune_added base tuning def sound.is_base e h)
+    ∙ ap (λ archives. let x : Content = record base { archives = archives } in x) (without_added base.archives new)
+tuned_back base tuning (Some (Remove number)) e sound h =
+    let p = tune_passes base tuning (Some (Remove number)) e h in
+    let there : number < length base.archives = omega (arith, leb-false (length (settings_of base).rows) number p.0, length-map base.archives (λ (a : Archive). a.def.rows)) in
+    ap (λ now. undone now (RemovedEntry number (archive_at base.archives number))) (tune_removed base tuning number sound.is_base e)
+    ∙ ap (λ archives. let x : Content = record base { archives = archives } in x) (put_in_again base.archives number _ there)
 
 -- ---- a resize
 
@@ -175,10 +194,11 @@ resize_back base archive change rows sound h =
     ap (λ now. undone now (ResizeEntry archive (rows_at base.archives archive))) (content_resized base archive new sound.is_base)
     ∙ ap (λ archives. with_archives base archives) (archives_resized_back base archive new 0 archive base.archives (omega arith) sound.is_base.archives_are there)
 
-listed_back : (base : Content) (command : Command) → ListedBack base command
-listed_back base (Updating update) = update_back base update
-listed_back base (TuningBy tuning) = tune_back base tuning
-listed_back base (Resizing archive change rows) = resize_back base archive change rows
-
 pub comes_back : (base : Content) (command : Command) → ComesBack base command
-comes_back base command sound h = ap (λ now. undone now (entry base command)) (sym (moved_is base command sound h)) ∙ listed_back base command sound h
+comes_back base (Updating update) sound h =
+    ap (λ now. undone now (entry base (Updating update))) (sym (moved_is base (Updating update) sound h (sampled_keep (samples_of base.sources update))))
+    ∙ update_back base update sound h
+comes_back base (TuningBy tuning) sound h = tuned_back base tuning tuning.archive refl sound h
+comes_back base (Resizing archive change rows) sound h =
+    ap (λ now. undone now (entry base (Resizing archive change rows))) (sym (moved_is base (Resizing archive change rows) sound h tt))
+    ∙ resize_back base archive change rows sound h

@@ -12,7 +12,7 @@ use Rattle.rrd_spec.specs.declared.requests.fetch.Chosen.{Chosen}
 use Rattle.rrd_spec.specs.declared.requests.fetch.Request.{Request}
 use Rattle.rrd_spec.specs.declared.refusal.Refusal.{Refusal}
 use Rattle.rrd_spec.specs.declared.refusal.Refusal.TheVariants.{BadTime, BadSpan, NoArchiveForFunction, SpanTooLong}
-use Rattle.rrd_spec.specs.Limits.{Limits, version_one}
+use Rattle.rrd_spec.specs.Limits.{Limits, present}
 use Rattle.rrd_spec.specs.History.{Content, definitions}
 use Rattle.rrd_spec.specs.Settings.{resolution}
 use Rattle.rrd_spec.specs.History.Cells.{reach}
@@ -108,4 +108,4 @@ choice_within limits content function asked start end =
     (record { function = function; asked = asked; start = start; end = end })
 
 abbrev pub choice : Content → Function → ℕ → ℕ → ℕ → Result Chosen Refusal
-choice = choice_within version_one
+choice = choice_within present

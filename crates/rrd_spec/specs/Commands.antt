@@ -1,6 +1,6 @@
 -- Definition: the commands that change a database, and what happens to it by them (rrdupdate, rrdtune, rrdresize).
-use Rattle.std.specs.Prelude.{ℕ, ◌+◌, ◌-◌, if◌then◌else◌, Option, Some, None, List, [], ◌∷◌, ◌++◌, map, slice_index_or}
-use Rattle.std.specs.List.{fold, enumerate_from}
+use Rattle.std.specs.Prelude.{ℕ, ◌+◌, ◌-◌, if◌then◌else◌, Bool, true, false, Option, Some, None, List, [], ◌∷◌, ◌++◌, map, slice_index_or, slice_set}
+use Rattle.std.specs.List.{fold, remove}
 use Rattle.std.specs.Option.{option_map_or, unwrap_or}
 use Rattle.rrd_fixed.specs.declared.raw.Raw.{Raw}
 use Rattle.rrd_fixed.specs.declared.kind.Kind.{Kind}
@@ -12,9 +12,11 @@ use Rattle.rrd_spec.specs.declared.requests.update.Given.{Given}
 use Rattle.rrd_spec.specs.declared.requests.update.Sample.{Sample}
 use Rattle.rrd_spec.specs.declared.requests.update.Update.{Update}
 use Rattle.rrd_spec.specs.declared.requests.tune.Tuning.{Tuning}
+use Rattle.rrd_spec.specs.declared.requests.tune.ArchiveTune.{ArchiveTune}
+use Rattle.rrd_spec.specs.declared.requests.tune.ArchiveTune.TheVariants.{Add, Remove}
 use Rattle.rrd_spec.specs.declared.requests.resize.Change.{Change}
 use Rattle.rrd_spec.specs.declared.requests.resize.Change.TheVariants.{Grow, Shrink}
-use Rattle.rrd_spec.specs.History.{Archive, Content, Reading, Event, Sampled, Tuned, Resized, rows_after}
+use Rattle.rrd_spec.specs.History.{Archive, Content, Reading, Event, Sampled, Tuned, Resized, Added, Removed}
 pub use Rattle.rrd_spec.specs.History.{raw_under}
 use Rattle.rrd_spec.specs.History.Cells.{content}
 use Rattle.rrd_spec.specs.Settings.{Settings, names}
@@ -61,12 +63,18 @@ abbrev pub settings_of : Content → Settings
 settings_of base = record { sources = base.sources; rows = rows_of_archives base.archives }
 
 abbrev pub all_rows_after : Event → List ℕ → List ℕ
-all_rows_after event rows = map (λ (index, old). rows_after index old event) (enumerate_from 0 rows)
+all_rows_after (Sampled sample) rows = rows
+all_rows_after (Tuned sources) rows = rows
+all_rows_after (Resized archive new) rows = slice_set rows archive new
+all_rows_after (Added def) rows = rows ++ def.rows ∷ []
+all_rows_after (Removed archive) rows = remove rows archive
 
 abbrev pub sources_after : List DsDef → Event → List DsDef
 sources_after sources (Sampled sample) = sources
 sources_after sources (Tuned new) = new
 sources_after sources (Resized archive rows) = sources
+sources_after sources (Added def) = sources
+sources_after sources (Removed archive) = sources
 
 abbrev pub settings_after : Settings → Event → Settings
 settings_after settings event =
@@ -102,10 +110,22 @@ abbrev pub rows_changed : Change → ℕ → ℕ → ℕ
 rows_changed Grow old rows = old + rows
 rows_changed Shrink old rows = old - rows
 
+-- an archive that comes or goes (rrdtune)
+abbrev pub archive_event : ArchiveTune → Event
+archive_event (Add def) = Added def
+archive_event (Remove archive) = Removed archive
+
+-- an archive is asked for, one more
+abbrev pub is_addition : Option ArchiveTune → Bool
+is_addition None = false
+is_addition (Some (Add def)) = true
+is_addition (Some (Remove archive)) = false
+
 -- the events of a command
 abbrev pub events : Settings → Command → List Event
 events settings (Updating update) = map Sampled (samples_of settings.sources update)
-events settings (TuningBy tuning) = Tuned (map (tuned tuning) settings.sources) ∷ []
+events settings (TuningBy tuning) =
+    option_map_or archive_event tuning.archive (Tuned (map (tuned tuning) settings.sources)) ∷ []
 events settings (Resizing archive change rows) =
     Resized archive (rows_changed change (slice_index_or settings.rows archive 0) rows) ∷ []
 

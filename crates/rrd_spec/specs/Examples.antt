@@ -20,6 +20,7 @@ pub mod Histories
 pub mod Commands
 pub mod Creates
 pub mod Resizes
+pub mod Archives
 pub mod Fetches
 
 abbrev pub created : ℕ → ℕ → DsDef → List RraDef → Content
@@ -74,7 +75,8 @@ abbrev pub update : List Sample → Command
 update samples = Updating (record { template = None; samples = samples })
 
 abbrev pub no_tuning : Tuning
-no_tuning = record { heartbeat = None; minimum = None; maximum = None; kind = None; rename = None }
+no_tuning =
+    record { heartbeat = None; minimum = None; maximum = None; kind = None; rename = None; archive = None }
 
 -- a gauge `g` and its archive of so many last values, a step each
 abbrev pub small : ℕ → Content

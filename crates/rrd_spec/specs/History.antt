@@ -13,6 +13,7 @@ use Rattle.rrd_spec.specs.declared.settings.RraDef.{RraDef}
 use Rattle.rrd_fold.specs.Parts.{Part}
 pub mod Groups
 pub mod Steps
+pub mod Lives
 pub mod Rows
 pub mod Cells
 
@@ -42,11 +43,14 @@ pub record Reading : Type 0 where
   pub time : ℕ
   pub raws : List Raw
 
--- a sample comes; the sources get other settings; an archive gets another number of rows
+-- a sample comes; the sources get other settings; an archive gets another number of rows, is added behind the others,
+-- or is removed
 pub data Event : Type 0 where
   Sampled : Reading → Event
   Tuned : List DsDef → Event
   Resized : ℕ → ℕ → Event
+  Added : RraDef → Event
+  Removed : ℕ → Event
 
 -- ---- the sources: their settings, last time and raw values
 
@@ -76,6 +80,8 @@ moment_after now (Sampled sample) = record { sources = now.sources; last = sampl
 moment_after now (Tuned sources) =
     record { sources = sources; last = now.last; raws = raws_under now.sources sources now.raws }
 moment_after now (Resized archive rows) = now
+moment_after now (Added def) = now
+moment_after now (Removed archive) = now
 
 -- the rates of a sample's interval, by the settings in force and the raw values of the sample before (rrdcreate, "DS";
 -- that the settings in force hold for the whole interval is this project's)
@@ -98,6 +104,8 @@ samples now (Sampled sample ∷ events) =
     ∷ samples (moment_after now (Sampled sample)) events
 samples now (Tuned sources ∷ events) = samples (moment_after now (Tuned sources)) events
 samples now (Resized archive rows ∷ events) = samples now events
+samples now (Added def ∷ events) = samples now events
+samples now (Removed archive ∷ events) = samples now events
 
 -- the rates in a second: those of the first sample at or after it (rrdcreate, "The HEARTBEAT and the STEP")
 abbrev pub second : List Taken → ℕ → List Cell
@@ -125,13 +133,15 @@ abbrev pub rows_after : ℕ → ℕ → Event → ℕ
 rows_after index rows (Sampled sample) = rows
 rows_after index rows (Tuned sources) = rows
 rows_after index rows (Resized archive new) = if archive == index then new else rows
+rows_after index rows (Added def) = rows
+rows_after index rows (Removed archive) = rows
 
 abbrev pub rows_at_end : ℕ → ℕ → List Event → ℕ
 rows_at_end index rows events = fold (rows_after index) rows events
 
 -- ---- what is accepted
 
--- times rise, a tune keeps the number of sources, and an archive keeps a row
+-- times rise, a tune keeps the number of sources, and an archive has a row, and a step in each
 abbrev pub IsHistory : Moment → List Event → Type 0
 IsHistory now [] = Unit {0}
 IsHistory now (Sampled sample ∷ events) =
@@ -139,6 +149,8 @@ IsHistory now (Sampled sample ∷ events) =
 IsHistory now (Tuned sources ∷ events) =
     (length sources ≡ length now.sources) × IsHistory (moment_after now (Tuned sources)) events
 IsHistory now (Resized archive rows ∷ events) = (0 < rows) × IsHistory now events
+IsHistory now (Added def ∷ events) = (0 < def.steps) × (0 < def.rows) × IsHistory now events
+IsHistory now (Removed archive ∷ events) = IsHistory now events
 
 pub record IsArchive (archive : Archive) : Type 0 where
   pub some_steps : 0 < archive.def.steps

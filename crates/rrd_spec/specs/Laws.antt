@@ -2,6 +2,8 @@
 pub mod History
 pub mod Cells
 pub mod ListedContent
+pub mod ListedLives
+pub mod Archives
 pub mod Passing
 pub mod EqualSteps
 pub mod Commands
@@ -10,3 +12,4 @@ pub mod Journal
 pub mod Outlines
 pub mod Slots
 pub mod FiledOnce
+pub mod Versions

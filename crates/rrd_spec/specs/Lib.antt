@@ -1,4 +1,5 @@
 pub mod Limits
+pub mod ArchiveLists
 pub mod Settings
 pub mod History
 pub mod Commands

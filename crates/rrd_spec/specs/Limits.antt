@@ -1,6 +1,8 @@
 -- Definition: What a database may have at most. The limits are this project's.
-use Rattle.std.specs.Prelude.{ℕ}
+use Rattle.std.specs.Prelude.{ℕ, Bool, true, false}
 use Rattle.rrd_fixed.specs.Rate.{top}
+use Rattle.rrd_spec.specs.declared.version.Version.{Version}
+use Rattle.rrd_spec.specs.declared.version.Version.TheVariants.{One, Two}
 
 -- the limits of one version of the file's layout
 pub record Limits : Type 0 where
@@ -26,20 +28,50 @@ pub record Limits : Type 0 where
   pub most_rows : ℕ
   -- the rows that one fetch reads (rrdfetch)
   pub longest_span : ℕ
+  -- whether archives come and go, and a journal tells of it (rrdtune, "RRA", "DELRRA")
+  pub archives_come_and_go : Bool
 
--- those of the first version
-abbrev pub version_one : Limits
-version_one = record {
+-- ---- what differs from version to version
+
+abbrev pub deepest_journal_of : Version → ℕ
+deepest_journal_of One = 1000
+deepest_journal_of Two = 100000
+
+abbrev pub most_archives_of : Version → ℕ
+most_archives_of One = 64
+most_archives_of Two = 128
+
+abbrev pub most_cells_of : Version → ℕ
+most_cells_of One = 4000000
+most_cells_of Two = 8000000
+
+abbrev pub archives_come_and_go_of : Version → Bool
+archives_come_and_go_of One = false
+archives_come_and_go_of Two = true
+
+-- ---- the limits
+
+-- those of a version
+abbrev pub limits_of : Version → Limits
+limits_of version = record {
   longest_step = 1000000;
   latest_time = 9999999999;
-  deepest_journal = 1000;
+  deepest_journal = deepest_journal_of version;
   most_sources = 64;
-  most_archives = 64;
-  most_cells = 4000000;
+  most_archives = most_archives_of version;
+  most_cells = most_cells_of version;
   longest_heartbeat = 9999999999;
   greatest_bound = top;
   greatest_share = 999999;
   most_steps = 1000000;
   most_rows = 1000000;
   longest_span = 1000000;
+  archives_come_and_go = archives_come_and_go_of version;
 }
+
+-- the version that is written, and those of every database
+abbrev pub newest : Version
+newest = Two
+
+abbrev pub present : Limits
+present = limits_of newest

@@ -13,7 +13,7 @@ use Rattle.rrd_spec.specs.declared.slow.Reading as given
 use Rattle.rrd_spec.specs.declared.slow.Taken as slow
 use Rattle.rrd_spec.specs.History.Cells.{content}
 use Rattle.rrd_spec.specs.Commands.Creating.{created}
-use Rattle.rrd_spec.specs.Limits.{version_one}
+use Rattle.rrd_spec.specs.Limits.{present}
 use Rattle.rrd_spec.specs.History.{Archive, Event, Reading, Sampled, Taken}
 use Rattle.rrd_spec.specs.Validity.{AreAccepted}
 
@@ -34,7 +34,7 @@ taken_of sample = record { time = sample.time; rates = sample.rates }
 abbrev pub AreInOrder : List DsDef → ℕ → List given.Reading → Type 0
 AreInOrder sources last [] = Unit {0}
 AreInOrder sources last (reading ∷ readings) =
-    (last < reading.time) × (reading.time ≤ version_one.latest_time) × AreAccepted sources reading.raws
+    (last < reading.time) × (reading.time ≤ present.latest_time) × AreAccepted sources reading.raws
     × AreInOrder sources reading.time readings
 
 -- the time of the last sample, or the start
@@ -69,10 +69,10 @@ rule_of group sources =
 
 -- a group within the limits of rrdcreate
 abbrev pub IsGroup : Group → Type 0
-IsGroup (Step seconds) = (0 < seconds) × (seconds ≤ version_one.longest_step)
+IsGroup (Step seconds) = (0 < seconds) × (seconds ≤ present.longest_step)
 IsGroup (Row def) =
-    (0 < def.steps) × (def.steps ≤ version_one.most_steps) × (pos 0 ≤ℤ def.xff)
-    × (def.xff ≤ℤ pos version_one.greatest_share)
+    (0 < def.steps) × (def.steps ≤ present.most_steps) × (pos 0 ≤ℤ def.xff)
+    × (def.xff ≤ℤ pos present.greatest_share)
 
 -- ---- what an archive then shows
 

@@ -10,13 +10,13 @@ use Rattle.rrd_fold.specs.declared.function.Function.{Function}
 use Rattle.rrd_fold.specs.declared.function.Function.TheVariants.{Average}
 use Rattle.rrd_fold.specs.Parts.{Part}
 pub use Rattle.rrd_fold.specs.Bounds.{weight}
-use Rattle.rrd_spec.specs.Limits.{Limits, version_one}
+use Rattle.rrd_spec.specs.Limits.{Limits, present}
 use Rattle.rrd_spec.specs.History.{Archive, Content}
 use Rattle.rrd_spec.specs.Commands.{settings_of}
 use Rattle.rrd_spec.specs.Settings.{names, is_double, cells}
 use Rattle.rrd_fixed.specs.Names.{is_good}
 use Rattle.rrd_spec.specs.Commands.Verdict.{is_bad_heartbeat, has_bad_bounds}
-use Rattle.rrd_spec.specs.Journal.Entries.{SavedArchive, BeforeUpdate, Entry, UpdateEntry, TuneEntry, ResizeEntry, rows_between, rows_at, entry, undone}
+use Rattle.rrd_spec.specs.Journal.Entries.{SavedArchive, BeforeUpdate, Entry, UpdateEntry, TuneEntry, ResizeEntry, AddedEntry, RemovedEntry, rows_between, rows_at, entry, undone}
 
 -- ---- a content
 
@@ -79,15 +79,15 @@ pub record IsValidWithin (limits : Limits) (content : Content) : Type 0 where
       AllByRecursion (IsValidArchiveWithin limits (length content.sources) (content.last / content.step))
       content.archives
 
--- by the limits of the first version
+-- by the limits of every database
 abbrev pub IsSource : DsDef → Type 0
-IsSource = IsSourceWithin version_one
+IsSource = IsSourceWithin present
 
 abbrev pub IsValidArchive : ℕ → ℕ → Archive → Type 0
-IsValidArchive = IsValidArchiveWithin version_one
+IsValidArchive = IsValidArchiveWithin present
 
 abbrev pub IsValid : Content → Type 0
-IsValid = IsValidWithin version_one
+IsValid = IsValidWithin present
 
 -- ---- its journal
 
@@ -127,25 +127,39 @@ pub record FitsResize (now : Content) (archive : ℕ) (rows : List (List Cell)) 
   pub one_cell_each : AllByRecursion (λ (row : List Cell). length row ≡ length now.sources) rows
   pub another : length rows ≢ length (rows_at now.archives archive)
 
+-- a removed archive has its place, a preparation for each source, its rows, and a cell for each source in each
+pub record FitsRemoved (now : Content) (number : ℕ) (archive : Archive) : Type 0 where
+  pub there : number ≤ length now.archives
+  pub one_part_each : length archive.parts ≡ length now.sources
+  pub rows_are : length archive.rows ≡ archive.def.rows
+  pub one_cell_each : AllByRecursion (λ (row : List Cell). length row ≡ length now.sources) archive.rows
+
+-- an archive comes or goes within limits that let it
+abbrev pub FitsWithin : Limits → Content → Entry → Type 0
+FitsWithin limits now (UpdateEntry old) = FitsUpdate now old
+FitsWithin limits now (TuneEntry olds) = FitsTune now olds
+FitsWithin limits now (ResizeEntry archive rows) = FitsResize now archive rows
+FitsWithin limits now AddedEntry = (limits.archives_come_and_go ≡ true) × (1 < length now.archives)
+FitsWithin limits now (RemovedEntry number archive) =
+    (limits.archives_come_and_go ≡ true) × FitsRemoved now number archive
+
 abbrev pub Fits : Content → Entry → Type 0
-Fits now (UpdateEntry old) = FitsUpdate now old
-Fits now (TuneEntry olds) = FitsTune now olds
-Fits now (ResizeEntry archive rows) = FitsResize now archive rows
+Fits = FitsWithin present
 
 -- each entry fits, and undoing it gives a valid content, on which the older ones are valid
 abbrev pub IsValidJournalWithin : Limits → Content → List Entry → Type 0
 IsValidJournalWithin limits now [] = Unit {0}
 IsValidJournalWithin limits now (entry ∷ journal) =
-    Fits now entry × IsValidWithin limits (undone now entry) × IsValidJournalWithin limits (undone now entry) journal
+    FitsWithin limits now entry × IsValidWithin limits (undone now entry) × IsValidJournalWithin limits (undone now entry) journal
 
 pub record IsValidDatabaseWithin (limits : Limits) (now : Content) (journal : List Entry) : Type 0 where
   pub content_is : IsValidWithin limits now
   pub journal_is : IsValidJournalWithin limits now journal
   pub few : length journal ≤ now.depth
 
--- by the limits of the first version
+-- by the limits of every database
 abbrev pub IsValidJournal : Content → List Entry → Type 0
-IsValidJournal = IsValidJournalWithin version_one
+IsValidJournal = IsValidJournalWithin present
 
 abbrev pub IsValidDatabase : Content → List Entry → Type 0
-IsValidDatabase = IsValidDatabaseWithin version_one
+IsValidDatabase = IsValidDatabaseWithin present

@@ -1,11 +1,11 @@
 //! Laws of the definitions alone. Each is the contract of a function that does nothing: a call of it
 //! makes the law known where it stands.
-ghost use Rattle.std.specs.Prelude.{ℕ, ◌<◌, List, replicate};
+ghost use Rattle.std.specs.Prelude.{ℕ, ◌<◌, ℤ, List, replicate};
 ghost use Rattle.rrd_fixed.specs.declared.cell.Cell.{Cell};
 ghost use Rattle.rrd_fold.specs.declared.function.Function.{Function};
 ghost use Rattle.rrd_fold.specs.Parts.{Part, nothing};
 ghost use Rattle.rrd_spec.specs.Laws.Validity.{ArchiveStaysValid, PartsGrow, StaysValidFor, StaysValid, CreatedIsValid};
-ghost use Rattle.rrd_spec.specs.Laws.Commands.{AreKept, MovesListed, ResizeChanges, ResizeFits, TuneChanges, CommandsGoOn, Moves, PassesAll};
+ghost use Rattle.rrd_spec.specs.Laws.Commands.{AreKept, MovesListed, ResizeChanges, ResizeFits, TuneAdds, TuneChanges, TuneRemoves, CommandsGoOn, Moves, PassesAll};
 ghost use Rattle.rrd_spec.specs.Laws.Journal.{EntryFits, JournalLeavesValid, JournalParts, JournalsJoin, ComesBack, RunsAgree, ActsOn, Begins, DatabaseStays, RevertStays, RevertTakesBack, RunsStay};
 ghost use Rattle.rrd_spec.specs.Laws.History.{GoesOnListed, StaysAsItIs, GoesOn, GoesOnFromContent, StaysBase};
 ghost use Rattle.rrd_spec.specs.Laws.Passing.{PassesWithin, PassesInPieces, SampledPasses};
@@ -14,24 +14,29 @@ ghost use Rattle.rrd_spec.specs.History.{Archive, Content, Event, Reading};
 ghost use Rattle.rrd_spec.specs.Laws.Cells.{RowsComeBack, ShowsByAge, IsListed, ListsByNumber, ShowsByTime, ShowsCells};
 ghost use Rattle.rrd_spec.specs.Commands.{Command};
 ghost use Rattle.rrd_spec.specs.Journal.Entries.{Entry};
-ghost use Rattle.rrd_spec.specs.Files.Filed.{Version};
+ghost use Rattle.rrd_spec.specs.Files.Filed.{Filed};
 ghost use Rattle.rrd_spec.specs.Laws.FiledOnce.{FiledOnce, RowsFiledOnce};
 ghost use Rattle.rrd_spec.specs.Laws.Outlines.{FiledOutline, JournalTakes, JournalTook, OutlineFollows, OutlineIsNeeded, OutlineSuffices, OutlinesAreNeeded, OutlinesSuffice};
+ghost use Rattle.rrd_spec.specs.Laws.Archives.{AddChanges, BlankAtFirst, CutsLives, IsLived, RemoveChanges};
 ghost use Rattle.rrd_spec.specs.Limits.{Limits};
 ghost use Rattle.rrd_spec.specs.Laws.Slots.{AsManyCells, CellStandsInSlot, KeepsRow, PlaceHasSlot, PlacesDiffer, PutsBlock, PutsCell, PutsRow, ShowsInPlace, SlotHasPlace, StandsInPlace};
 ghost use Rattle.rrd_spec.specs.Laws.EqualSteps.{SecondsOver, StepsInPieces, StepsOver, StepsWithin};
+ghost use Rattle.rrd_spec.specs.Laws.Versions.{ContentIsWithin, DatabaseIsWithin, EntryIsWithin, FirstTellsNoArchive, JournalIsWithin};
 ghost use Rattle.rrd_spec.specs.Journal.Survivors.{Action, Stored, State};
 ghost use Rattle.rrd_spec.specs.Validity.{AreParts};
 ghost use Rattle.rrd_spec.specs.declared.requests.create.CreateSpec.{CreateSpec};
 ghost use Rattle.rrd_spec.specs.declared.requests.resize.Change.{Change};
 ghost use Rattle.rrd_spec.specs.declared.settings.DsDef.{DsDef};
+ghost use Rattle.rrd_spec.specs.declared.settings.RraDef.{RraDef};
 ghost use Rattle.rrd_spec.specs.declared.requests.tune.Tuning.{Tuning};
 ghost use Rattle.rrd_spec.specs.declared.requests.update.Given.{Given};
+ghost use Rattle.rrd_spec.specs.declared.version.Version.{Version};
 ghost use Rattle.rrd_spec.specs.Examples.Histories as worked;
 ghost use Rattle.rrd_spec.specs.Examples.Commands as commands;
 ghost use Rattle.rrd_spec.specs.Examples.Creates as creates;
 ghost use Rattle.rrd_spec.specs.Examples.Fetches as fetches;
 ghost use Rattle.rrd_spec.specs.Examples.Resizes as resizes;
+ghost use Rattle.rrd_spec.specs.Examples.Archives as archives;
 
 use rrd_fold::laws::one_cell_alone;
 
@@ -198,6 +203,12 @@ pub fn tune_changes_sources()
     ensures { (base : Content) (tuning : Tuning) → TuneChanges base tuning }
 {}
 
+/// An accepted tune of an archive adds a new one, or removes one that is there, and changes nothing else.
+pub fn tune_changes_archives()
+    ensures added { (base : Content) (tuning : Tuning) (def : RraDef) → TuneAdds base tuning def }
+    ensures removed { (base : Content) (tuning : Tuning) (number : ℕ) → TuneRemoves base tuning number }
+{}
+
 /// An accepted resize is of an archive that is there. It leaves that archive its newest rows, after
 /// unknown ones where they are too few, and changes nothing else.
 pub fn resize_changes_rows()
@@ -237,6 +248,21 @@ pub fn database_stays()
     ensures changed { (now : Content) (journal : List Entry) (command : Command) →
         DatabaseStays now journal command }
     ensures reverted { (now : Content) (journal : List Entry) → RevertStays now journal }
+{}
+
+/// What is within the limits of a version is within those of every database.
+pub fn versions_stay_within()
+    ensures content { (version : Version) (content : Content) → ContentIsWithin version content }
+    ensures entry { (version : Version) (now : Content) (entry : Entry) → EntryIsWithin version now entry }
+    ensures journal { (version : Version) (now : Content) (journal : List Entry) →
+        JournalIsWithin version now journal }
+    ensures database { (version : Version) (now : Content) (journal : List Entry) →
+        DatabaseIsWithin version now journal }
+{}
+
+/// In a file of the first version no entry tells of an archive that was added or removed.
+pub fn first_version_tells_no_archive()
+    ensures { (f : Filed) → FirstTellsNoArchive f }
 {}
 
 /// A revert takes an accepted command back, content and journal, but for the oldest entry of a full
@@ -313,4 +339,23 @@ pub fn examples_by_time()
     ensures resizing { resizes.Resizing }
     ensures fetched { fetches.Fetched }
     ensures oldest { fetches.Oldest }
+{}
+
+/// So they do for archives that are added and removed.
+pub fn examples_of_archives()
+    ensures added { archives.TwoAdded }
+    ensures removed { archives.OneRemoved }
+    ensures limits { archives.AtTheLimits }
+    ensures versions { archives.InVersions }
+{}
+
+/// A history in which archives come and go may be cut anywhere, and its rows, by list and by time, are the same. An
+/// archive that is added is a new one behind the others, which shows nothing of the time before it; one that is removed
+/// takes nothing else along.
+pub fn archives_come_and_go()
+    ensures cut { (base : Content) (es : List Event) → CutsLives base es }
+    ensures by_time { (base : Content) (es : List Event) → IsLived base es }
+    ensures add { (base : Content) (def : RraDef) → AddChanges base def }
+    ensures remove { (base : Content) (number : ℕ) → RemoveChanges base number }
+    ensures blank { (sources step last : ℕ) (def : RraDef) (time : ℤ) → BlankAtFirst sources step last def time }
 {}

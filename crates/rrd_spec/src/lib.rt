@@ -2,6 +2,7 @@
 //! at every second and every row by themselves, their laws, and a slow program that works them out.
 #![tactic(auto)]
 
+mod archive_list;
 mod due;
 mod entry;
 pub mod laws;
@@ -13,14 +14,18 @@ mod requests;
 mod settings;
 mod slots;
 pub mod slow;
+mod version;
 
+pub use archive_list::ArchiveList;
 pub use due::Due;
 pub use entry::SourceBefore;
 pub use list::List;
 pub use outline::Outline;
 pub use refusal::Refusal;
 pub use requests::{
-    Candidate, Change, Chosen, CreateSpec, Given, Receipt, Request, Sample, Tuning, Update,
+    ArchiveTune, Candidate, Change, Chosen, CreateSpec, Given, Receipt, Request, Sample, Tuning,
+    Update,
 };
 pub use settings::{DsDef, RraDef, are_accepted};
 pub use slots::first_place;
+pub use version::Version;

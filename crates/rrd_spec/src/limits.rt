@@ -8,16 +8,16 @@ pub const LONGEST_STEP: u64 = 1_000_000;
 pub const LATEST_TIME: u64 = 9_999_999_999;
 
 /// Changes that can be reverted.
-pub const DEEPEST_JOURNAL: u64 = 1_000;
+pub const DEEPEST_JOURNAL: u64 = 100_000;
 
 /// Data sources of a database (rrdcreate, "DS").
 pub const MOST_SOURCES: usize = 64;
 
 /// Archives of a database (rrdcreate, "RRA").
-pub const MOST_ARCHIVES: usize = 64;
+pub const MOST_ARCHIVES: usize = 128;
 
 /// Cells of a database: the data sources times the rows of all archives.
-pub const MOST_CELLS: u64 = 4_000_000;
+pub const MOST_CELLS: u64 = 8_000_000;
 
 /// Seconds: a data source's heartbeat (rrdcreate, "DS").
 pub const LONGEST_HEARTBEAT: u64 = 9_999_999_999;

@@ -1,6 +1,6 @@
 //! Outlines of databases.
 
-use crate::{DsDef, List, RraDef};
+use crate::{ArchiveList, DsDef, List, RraDef};
 
 /// What of a database decides which journal entry fits it: its last time and its settings.
 #[derive(Drop)]
@@ -10,5 +10,5 @@ pub struct Outline {
     /// The settings of the data sources.
     pub sources: List<DsDef>,
     /// The settings of the archives.
-    pub archives: List<RraDef>,
+    pub archives: ArchiveList<RraDef>,
 }

@@ -31,9 +31,9 @@ pub enum Refusal {
     BadSteps,
     /// The rows are not 1 to 1,000,000.
     BadRows,
-    /// There are more than 64 sources, 64 archives or 4,000,000 cells.
+    /// There are more than 64 sources, 128 archives or 8,000,000 cells.
     TooLarge,
-    /// The journal's depth is not 1 to 1,000.
+    /// The journal's depth is not 1 to 100,000.
     BadDepth,
     /// No source has that name.
     NoSuchSource,
@@ -63,6 +63,8 @@ pub enum Refusal {
     OutOfMemory,
     /// A time is after 9,999,999,999.
     BadTime,
+    /// A tune asks for an archive and for something else.
+    MixedTune,
 }
 
 impl Refusal {
@@ -101,6 +103,7 @@ impl Refusal {
             Refusal::BadSpan => short_text("bad span"),
             Refusal::OutOfMemory => short_text("out of memory"),
             Refusal::BadTime => short_text("bad time"),
+            Refusal::MixedTune => short_text("mixed tune"),
         }
     }
 }

@@ -9,5 +9,5 @@ mod update;
 pub use create::CreateSpec;
 pub use fetch::{Candidate, Chosen, Request};
 pub use resize::Change;
-pub use tune::Tuning;
+pub use tune::{ArchiveTune, Tuning};
 pub use update::{Given, Receipt, Sample, Update};

@@ -1,7 +1,7 @@
 //! Settings of data sources and archives.
 ghost use Rattle.std.specs.Prelude.{◌≡◌, ◌^◌, ◌<◌, ◌↔◌, ◌≤◌, ◌≤ℤ◌, IsTrue, pos};
 ghost use Rattle.rrd_fixed.specs.Rate.{IsAccepted, IsBounded, rate as rate_of};
-ghost use Rattle.rrd_spec.specs.Limits.{version_one};
+ghost use Rattle.rrd_spec.specs.Limits.{present};
 ghost use Rattle.rrd_spec.specs.Settings.{resolution};
 ghost use Rattle.rrd_spec.specs.Validity.{AreAccepted};
 
@@ -71,7 +71,7 @@ impl RraDef {
     /// The share of a row's steps that may be unknown, as an unsigned number of millionths.
     pub fn share(&self) -> u64
         requires low { pos 0 ≤ℤ self.now.xff }
-        requires high { self.now.xff ≤ℤ pos version_one.greatest_share }
+        requires high { self.now.xff ≤ℤ pos present.greatest_share }
         ensures { pos result ≡ self.now.xff }
     {
         self.xff as u64
@@ -81,9 +81,9 @@ impl RraDef {
     /// are 1 to 1,000,000, and so are the steps of a row.
     pub fn resolution(&self, step: u64) -> u64
         requires some_step { 0 < step }
-        requires small_step { step ≤ version_one.longest_step }
+        requires small_step { step ≤ present.longest_step }
         requires some_steps { 0 < self.now.steps }
-        requires few_steps { self.now.steps ≤ version_one.most_steps }
+        requires few_steps { self.now.steps ≤ present.most_steps }
         ensures value { result ≡ resolution step self.now }
         ensures some { 0 < result }
         ensures small { result ≤ 10 ^ 12 }

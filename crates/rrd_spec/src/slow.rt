@@ -14,7 +14,7 @@ ghost use Rattle.rrd_spec.specs.Commands.Creating.{create_verdict, created};
 ghost use Rattle.rrd_spec.specs.History as history;
 ghost use Rattle.rrd_spec.specs.History.Rows as rows_def;
 ghost use Rattle.rrd_spec.specs.History.{Archive};
-ghost use Rattle.rrd_spec.specs.Limits.{version_one};
+ghost use Rattle.rrd_spec.specs.Limits.{present};
 ghost use Rattle.rrd_spec.specs.Slow.{AreInOrder, AreNewest, IsGroup, cell_of, event_of, function_of, latest, rule_of, size_of, taken_of};
 ghost use Rattle.rrd_spec.specs.Validity.{AreAccepted, AreParts, IsPart, IsRow};
 
@@ -101,7 +101,7 @@ impl Part {
     // The step of so many seconds that it stands for.
     fn step_cell(self, step: u64) -> Cell
         requires some { 0 < step }
-        requires few { step ≤ version_one.longest_step }
+        requires few { step ≤ present.longest_step }
         requires part { IsPart Average step self }
         ensures { result ≡ step_cell step self }
     {

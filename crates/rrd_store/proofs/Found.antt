@@ -1,7 +1,11 @@
 -- What is found in the file of a state, and what is left in it.
-use Rattle.std.proofs.Common.{◌≡◌, ◌∙◌, ◌++◌, ◌∷◌, [], ℕ, List, Option, Some, None, Result, Ok, Err, sym, ap, refl, subst, arith, inl, inr, length, length-append, option_map}
+use Rattle.std.proofs.Common.{◌≡◌, ◌∙◌, ◌++◌, ◌∷◌, [], ℕ, List, Option, Some, None, Result, Ok, Err, sym, ap, refl, subst, arith, inl, inr, length, length-append}
 use Rattle.std.proofs.lemmas.List.Concat.{flat_map-cons}
-use Rattle.rrd_spec.specs.Files.Filed.{Version, One, filed}
+use Rattle.rrd_spec.specs.Files.Filed.{filed}
+use Rattle.rrd_spec.specs.History.{Content}
+use Rattle.rrd_spec.specs.Journal.Entries.{Entry}
+use Rattle.rrd_spec.specs.Laws.Versions.{DatabaseIsWithin}
+use Rattle.rrd_spec.specs.declared.version.Version.{Version}
 use Rattle.rrd_spec.specs.Journal.Survivors.{State, Stored}
 use Rattle.rrd_file.specs.declared.fault.FileFault.{FileFault}
 use Rattle.rrd_file.specs.declared.fault.FileFault.TheVariants.{Truncated}
@@ -14,19 +18,17 @@ use Rattle.std.specs.List.{flat_map}
 use Rattle.std.specs.Result.{result_err}
 use Rattle.rrd_tool.specs.Effects.{StandsFor, stored_of}
 use Rattle.rrd_store.specs.Places.{Finds, Leaves}
-use Rattle.rrd_store.specs.Runs.{Holds, IsCut, IsLeft, IsUnread, MayStop}
+use Rattle.rrd_store.specs.Runs.{Filing, Holds, IsCut, IsLeft, IsUnread, MayStop, as_written, database_in, state_in}
 use Rattle.rrd_store.specs.declared.faults.TaskFault.{TaskFault}
 use Rattle.rrd_store.specs.declared.faults.TaskFault.TheVariants.{Command, Stream, File, CannotOpen, CannotWrite}
 use Rattle.rrd_store.proofs.ValidStates.{Valid, is_kept}
 
 -- what the laws of the layout say
 pub record Reading : Type 0 where
-  pub no_other : (d : Stored) → LayoutIsNoOther d
+  pub no_other : (version : Version) (d : Stored) → LayoutIsNoOther version d
   pub is_layout : (bytes : List ℕ) (d : Stored) → FileIsLayout bytes d
   pub one : (bytes : List ℕ) → HasOneAnswer bytes
-
-is_one : (version : Version) → version ≡ One
-is_one One = refl
+  pub within : (version : Version) (now : Content) (journal : List Entry) → DatabaseIsWithin version now journal
 
 -- ---- layouts
 
@@ -41,11 +43,11 @@ some_layout version d h =
     let f = filed version d in
     begins (OfVersion f.header.version ∷ OfHeader f.header ∷ (body_pieces f ++ flat_map entry_pieces f.entries)) h
 
-pub file_layout : Reading → (bytes : List ℕ) (d : Stored) → IsFile bytes d → bytes ≡ layout d
-file_layout laws bytes d file = laws.is_layout bytes d file ∙ ap (λ version. layout_in version d) (is_one file.version)
+pub file_layout : Reading → (bytes : List ℕ) (d : Stored) (file : IsFile bytes d) → bytes ≡ layout_in file.version d
+file_layout laws bytes d file = laws.is_layout bytes d file
 
 no_file : Reading → (bytes : List ℕ) (d : Stored) → bytes ≡ [] → IsFile bytes d → ⊥
-no_file laws bytes d h file = some_layout One d (sym (file_layout laws bytes d file) ∙ h)
+no_file laws bytes d h file = some_layout file.version d (sym (file_layout laws bytes d file) ∙ h)
 
 -- an input without a byte ends before its first piece
 nothing_is_short : IsTruncated [] 0
@@ -64,20 +66,20 @@ fault_or or (Err fault) = fault
 
 module _ (laws : Reading) (bytes : List ℕ) where
   -- the answer to the bytes of a state
-  one_database : (s : State) → Holds bytes (Some s) → (x : Result Stored FileFault) → IsAnswer bytes x → IsOfFile x → x ≡ Ok (stored_of s)
-  one_database s h x a of = laws.no_other (stored_of s) h.1.1 x (subst (λ (b : List ℕ). IsAnswer b x) h.0 a) of
+  one_database : (k : Filing) → Holds bytes (Some k) → (x : Result Stored FileFault) → IsAnswer bytes x → IsOfFile x → x ≡ Ok (stored_of k.state)
+  one_database k h x a of = laws.no_other k.version (stored_of k.state) h.1.1 x (subst (λ (b : List ℕ). IsAnswer b x) h.0 a) of
 
-  pub found_same : (s : State) (d : Stored) → Holds bytes (Some s) → IsFile bytes d → d ≡ stored_of s
-  found_same s d h file = ap (database_or (stored_of s)) (one_database s h (Ok d) file tt)
+  pub found_same : (k : Filing) (d : Stored) → Holds bytes (Some k) → IsFile bytes d → d ≡ stored_of k.state
+  found_same k d h file = ap (database_or (stored_of k.state)) (one_database k h (Ok d) file tt)
 
-  unread : (s : Option State) (fault : FileFault) → Holds bytes s → IsAnswer bytes (Err fault) → IsUnread s fault
+  unread : (s : Option Filing) (fault : FileFault) → Holds bytes s → IsAnswer bytes (Err fault) → IsUnread s fault
   unread None fault h a = λ of.
       let short = laws.one [] (Err fault) (Err (Truncated 0)) (subst (λ (b : List ℕ). IsAnswer b (Err fault)) h a) nothing_is_short of tt in
       ap (fault_or fault) short
   unread (Some s) fault h a = λ of. let same = one_database s h (Err fault) a of in absurd cc
 
   -- the fault that was found
-  pub may_stop : (s : Option State) (fault : TaskFault) → Holds bytes s → Finds (Some bytes) (Err fault) → MayStop s fault
+  pub may_stop : (s : Option Filing) (fault : TaskFault) → Holds bytes s → Finds (Some bytes) (Err fault) → MayStop s fault
   may_stop s (File fault) h f = unread s fault h f
   may_stop s CannotOpen h f = tt
   may_stop s CannotWrite h f = absurd f
@@ -85,17 +87,17 @@ module _ (laws : Reading) (bytes : List ℕ) where
   may_stop s (Stream fault) h f = absurd f
 
   -- the database that was found
-  pub found_is : (s : Option State) (found : Option Stored) → Holds bytes s → Finds (Some bytes) (Ok found) → found ≡ option_map stored_of s
+  pub found_is : (s : Option Filing) (found : Option Stored) → Holds bytes s → Finds (Some bytes) (Ok found) → found ≡ database_in s
   found_is None None h f = refl
   found_is None (Some d) h f = absurd (no_file laws bytes d h f)
-  found_is (Some s) None h f = absurd (some_layout One (stored_of s) (sym h.0 ∙ f))
+  found_is (Some s) None h f = absurd (some_layout s.version (stored_of s.state) (sym h.0 ∙ f))
   found_is (Some s) (Some d) h f = ap (λ (k : Stored). Some k) (found_same s d h f)
 
 -- ---- what is left
 
-pub valid_held : (bytes : List ℕ) (s : Option State) → Holds bytes s → Valid (bytes ≡ []) s
-valid_held bytes None h = h
-valid_held bytes (Some s) h = h.1
+pub valid_held : Reading → (bytes : List ℕ) (s : Option Filing) → Holds bytes s → Valid (bytes ≡ []) (state_in s)
+valid_held laws bytes None h = h
+valid_held laws bytes (Some k) h = (h.1.0, laws.within k.version (stored_of k.state).content (stored_of k.state).journal h.1.1)
 
 abbrev bytes_or : List ℕ → Option (List ℕ) → List ℕ
 bytes_or or None = or
@@ -103,14 +105,14 @@ bytes_or or (Some bytes) = bytes
 
 module _ (old new : List ℕ) where
   -- the database in the end is in the file
-  pub left_held : {T : Type 0} (last : Option Stored) (s : Option State) (x : T) → StandsFor last s → Valid (old ≡ []) s → Leaves last (Some old) (Some new) (Ok x) → Holds new s
+  pub left_held : {T : Type 0} (last : Option Stored) (s : Option State) (x : T) → StandsFor last s → Valid (old ≡ []) s → Leaves last (Some old) (Some new) (Ok x) → Holds new (as_written s)
   left_held None None x h v k = k ∙ v
   left_held None (Some s) x h v k = absurd h
   left_held (Some d) None x h v k = absurd h
   left_held (Some d) (Some s) x h v k = (ap (bytes_or []) k ∙ ap layout (is_kept s d h), v)
 
   -- where a write failed a front of it is
-  pub left_cut : (last : Option Stored) (s : Option State) → StandsFor last s → Leaves {T = Unit {0}} last (Some old) (Some new) (Err CannotWrite) → IsCut old new s
+  pub left_cut : (last : Option Stored) (s : Option State) → StandsFor last s → Leaves {T = Unit {0}} last (Some old) (Some new) (Err CannotWrite) → IsCut old new (as_written s)
   left_cut None s h k = absurd k
   left_cut (Some d) None h k = absurd h
   left_cut (Some d) (Some s) h k = elim k [
@@ -128,7 +130,7 @@ module _ (old new : List ℕ) where
   unleft (Some d) (Stream fault) k = absurd k
 
   -- the file after a write of the database, by its end
-  pub left_after : (last : Option Stored) (s : Option State) (end : Result (Unit {0}) TaskFault) → StandsFor last s → Valid (old ≡ []) s → Leaves last (Some old) (Some new) end → IsLeft old new s (result_err end)
+  pub left_after : (last : Option Stored) (s : Option State) (end : Result (Unit {0}) TaskFault) → StandsFor last s → Valid (old ≡ []) s → Leaves last (Some old) (Some new) end → IsLeft old new (as_written s) (result_err end)
   left_after last s (Ok x) h v k = left_held last s x h v k
   left_after last s (Err CannotWrite) h v k = left_cut last s h k
   left_after last s (Err CannotOpen) h v k = absurd (let e = unleft last CannotOpen k in cc)

@@ -5,3 +5,4 @@ pub mod Found
 pub mod CommandRuns
 pub mod FileRuns
 pub mod FaultRuns
+pub mod Fallen

@@ -9,6 +9,7 @@ use Rattle.rrd_spec.specs.History.{Content}
 use Rattle.rrd_spec.specs.Laws.Journal.{ActsOn, Begins, DatabaseStays, RevertStays}
 use Rattle.rrd_spec.specs.Laws.Validity.{CreatedIsValid}
 use Rattle.rrd_spec.specs.Journal.Survivors.{Action, Changed, Reverted, Stands, State, Stored, stored_after}
+use Rattle.rrd_spec.specs.Limits.{newest}
 use Rattle.rrd_spec.specs.Validity.{IsValidDatabase}
 use Rattle.rrd_spec.specs.Commands.Verdict.{verdict}
 use Rattle.rrd_file.specs.Laws.{IsValidStored}
@@ -36,14 +37,14 @@ pub record Staying : Type 0 where
 -- the state's database is valid, and this is so where there is none
 abbrev pub Valid : Type 0 → Option State → Type 0
 Valid None_is None = None_is
-Valid None_is (Some s) = IsValidState s
+Valid None_is (Some s) = IsValidState newest s
 
 -- ---- the database of a state
 
 pub is_kept : (s : State) (d : Stored) → Stands s d → d ≡ stored_of s
 is_kept s d h = λ i. record { content = h.content_is i; journal = h.journal_is i }
 
-pub valid_state : (s : State) (d : Stored) → Stands s d → IsValidStored d → IsValidState s
+pub valid_state : (s : State) (d : Stored) → Stands s d → IsValidStored d → IsValidState newest s
 valid_state s d h v = subst (λ (k : Stored). Stands s k × IsValidStored k) (is_kept s d h) (h, v)
 
 no_refusal : (verdict : Option Refusal) → option_map Refused verdict ≡ None → verdict ≡ None
@@ -77,7 +78,7 @@ module _ (laws : Staying) where
   created_valid spec h = record { content_is = laws.created spec h; journal_is = tt; few = omega arith }
 
   -- a valid database with its journal begins one
-  pub first_valid : (base : Content) (brought : List Entry) → IsValidDatabase base brought → IsValidState (record { base = base; brought = brought; survivors = []; revertible = 0 })
+  pub first_valid : (base : Content) (brought : List Entry) → IsValidDatabase base brought → IsValidState newest (record { base = base; brought = brought; survivors = []; revertible = 0 })
   first_valid base brought v = valid_state (record { base = base; brought = brought; survivors = []; revertible = 0 }) (record { content = base; journal = brought }) (laws.begins base brought v) v
 
   -- what is accepted leads on

@@ -1,5 +1,5 @@
 -- Definition: what a place keeps, what is found there, and what is left there.
-use Rattle.std.specs.Prelude.{◌≡◌, ◌⊎◌, ◌++◌, [], ◌∷◌, ℕ, List, Option, Some, None, Result, Ok, Err, ⊤}
+use Rattle.std.specs.Prelude.{◌≡◌, ◌⊎◌, ◌++◌, ◌∷◌, ℕ, List, Option, Some, None, Result, Ok, Err, ⊤}
 use Rattle.std.specs.Io.KnownBytes.{IsAtEnd, Keeps}
 use Rattle.rrd_file.specs.Faults.{IsAnswer}
 use Rattle.rrd_file.specs.Layout.{layout}
@@ -20,9 +20,27 @@ abbrev pub Becomes : Option (List ℕ) → Option (List ℕ) → List ℕ → Ty
 Becomes None new bytes = ⊤
 Becomes (Some old) new bytes = new ≡ Some bytes
 
--- no byte is left
-abbrev pub Empties : Option (List ℕ) → Option (List ℕ) → Type 0
-Empties old new = Becomes old new []
+-- known bytes are now those that were written
+abbrev pub TakesOver : Option (List ℕ) → Option (List ℕ) → Option (List ℕ) → Type 0
+TakesOver None new written = ⊤
+TakesOver (Some old) new written = new ≡ written
+
+-- known bytes stay, or a front of these is there, and not all
+abbrev pub IsCutFrom : Option (List ℕ) → Option (List ℕ) → List ℕ → Type 0
+IsCutFrom old new bytes =
+    Keeps old new
+    ⊎ ((front : List ℕ) × (next : ℕ) × (rest : List ℕ) × (bytes ≡ front ++ next ∷ rest) × Becomes old new front)
+
+-- so it is of those that were written
+abbrev pub Cuts : Option (List ℕ) → Option (List ℕ) → Option (List ℕ) → Type 0
+Cuts old new None = ⊤
+Cuts old new (Some written) = IsCutFrom old new written
+
+-- known bytes stay, or a front of those that were written is there, or all of them
+abbrev pub FallsBack : Option (List ℕ) → Option (List ℕ) → Option (List ℕ) → Type 0
+FallsBack old new None = ⊤
+FallsBack old new (Some written) =
+    Keeps old new ⊎ ((front : List ℕ) × (rest : List ℕ) × (written ≡ front ++ rest) × Becomes old new front)
 
 -- ---- what is found
 
@@ -46,9 +64,7 @@ Finds held (Err (Stream fault)) = ⊥
 -- the bytes take the place of those that were there; or these stay; or a front of the new ones is there, and not all
 abbrev pub Replaces : {T : Type 0} → Option (List ℕ) → Option (List ℕ) → List ℕ → Result T TaskFault → Type 0
 Replaces old new bytes (Ok x) = Becomes old new bytes
-Replaces old new bytes (Err CannotWrite) =
-    Keeps old new
-    ⊎ ((front : List ℕ) × (next : ℕ) × (rest : List ℕ) × (bytes ≡ front ++ next ∷ rest) × Becomes old new front)
+Replaces old new bytes (Err CannotWrite) = IsCutFrom old new bytes
 Replaces old new bytes (Err CannotOpen) = ⊥
 Replaces old new bytes (Err (File fault)) = ⊥
 Replaces old new bytes (Err (Command fault)) = ⊥

@@ -1,18 +1,20 @@
 -- Law: after any list of runs over one file, its bytes and all that was printed are what the definitions compute.
-use Rattle.std.specs.Prelude.{◌≡◌, ◌≢◌, ◌⊎◌, ◌++◌, ◌∷◌, [], ℕ, List, Option, Some, None, Result, Ok, Err, option_map}
+use Rattle.std.specs.Prelude.{◌≡◌, ◌≢◌, ◌⊎◌, ◌++◌, ◌∷◌, [], ℕ, List, Option, Some, None, Result, Ok, Err, if◌then◌else◌, option_map}
 use Rattle.std.specs.List.{AllByRecursion}
 use Rattle.std.specs.Result.{result_err}
 use Rattle.std.specs.Io.KnownBytes.{Appends, Consumes, Keeps}
 use Rattle.rrd_file.specs.declared.fault.FileFault.{FileFault}
 use Rattle.rrd_file.specs.declared.fault.FileFault.TheVariants.{Truncated}
 use Rattle.rrd_file.specs.Faults.{IsFile}
-use Rattle.rrd_file.specs.Laws.{IsOfFile, IsValidStored}
-use Rattle.rrd_file.specs.Layout.{layout}
+use Rattle.rrd_file.specs.Laws.{IsOfFile, IsValidIn}
+use Rattle.rrd_file.specs.Layout.{layout_in}
 use Rattle.rrd_spec.specs.Journal.Survivors.{State, Stored, Stands}
+use Rattle.rrd_spec.specs.Limits.{newest}
+use Rattle.rrd_spec.specs.declared.version.Version.{Version}
 use Rattle.rrd_tool.specs.Batch.Run.{RunOver}
 use Rattle.rrd_tool.specs.Commands.{effect}
 use Rattle.rrd_tool.specs.Commands.Reading.{IsReading}
-use Rattle.rrd_tool.specs.Effects.{Effect, Makes, Changes, Reverts, Shows, stored_of, next, text_on, verdict_on}
+use Rattle.rrd_tool.specs.Effects.{Effect, Makes, Changes, Reverts, Shows, is_change, stored_of, next, text_on, verdict_on}
 use Rattle.rrd_tool.specs.Execution.{IsFault}
 use Rattle.rrd_tool.specs.declared.commands.Command.{Command}
 use Rattle.rrd_tool.specs.declared.faults.Fault.{Fault}
@@ -73,26 +75,39 @@ IsWritten run = fault_of run ≢ Some task.CannotWrite
 
 -- ---- the file of a state
 
--- the database that a state's survivors make, with the journal of those that can be reverted and of what was brought,
--- stands for the state, and is within the limits
-abbrev pub IsValidState : State → Type 0
-IsValidState s = Stands s (stored_of s) × IsValidStored (stored_of s)
+-- what a file keeps: a state, in a version of the layout
+pub record Filing : Type 0 where
+  pub version : Version
+  pub state : State
 
--- the file has the layout of that database, and no byte where there is none. What survived, how many of these can be
--- reverted and what was brought say every byte of it
-abbrev pub Holds : List ℕ → Option State → Type 0
+abbrev pub state_in : Option Filing → Option State
+state_in kept = option_map (λ (k : Filing). k.state) kept
+
+-- a state as it is written, which is in the newest version
+abbrev pub as_written : Option State → Option Filing
+as_written state = option_map (λ (s : State). let k : Filing = record { version = newest; state = s } in k) state
+
+-- the database that a state's survivors make, with the journal of those that can be reverted and of what was brought,
+-- stands for the state, and is within the limits of the version
+abbrev pub IsValidState : Version → State → Type 0
+IsValidState version s = Stands s (stored_of s) × IsValidIn version (stored_of s)
+
+-- the file has the layout of that database in its version, and no byte where there is none. The version, what
+-- survived, how many of these can be reverted and what was brought say every byte of it
+abbrev pub Holds : List ℕ → Option Filing → Type 0
 Holds bytes None = bytes ≡ []
-Holds bytes (Some s) = (bytes ≡ layout (stored_of s)) × IsValidState s
+Holds bytes (Some k) = (bytes ≡ layout_in k.version (stored_of k.state)) × IsValidState k.version k.state
 
 -- the file after a write that failed: its bytes are those from before, or a front of the new ones and not all
-abbrev pub IsCut : List ℕ → List ℕ → Option State → Type 0
+abbrev pub IsCut : List ℕ → List ℕ → Option Filing → Type 0
 IsCut old new None = ⊥
-IsCut old new (Some s) =
+IsCut old new (Some k) =
     (new ≡ old)
-    ⊎ ((front : List ℕ) × (next : ℕ) × (rest : List ℕ) × (layout (stored_of s) ≡ front ++ next ∷ rest) × (new ≡ front))
+    ⊎ ((front : List ℕ) × (next : ℕ) × (rest : List ℕ)
+    × (layout_in k.version (stored_of k.state) ≡ front ++ next ∷ rest) × (new ≡ front))
 
--- the file after a run that led to this state, by the fault that it ended with
-abbrev pub IsLeft : List ℕ → List ℕ → Option State → Option TaskFault → Type 0
+-- the file after a run that led to this, by the fault that it ended with
+abbrev pub IsLeft : List ℕ → List ℕ → Option Filing → Option TaskFault → Type 0
 IsLeft old new s None = Holds new s
 IsLeft old new s (Some task.CannotWrite) = IsCut old new s
 IsLeft old new s (Some task.CannotOpen) = Holds new s
@@ -100,15 +115,15 @@ IsLeft old new s (Some (task.File fault)) = Holds new s
 IsLeft old new s (Some (task.Command fault)) = Holds new s
 IsLeft old new s (Some (task.Stream fault)) = Holds new s
 
--- ---- what the definitions compute of a run: the next state, what is printed, and how it ends
+-- ---- what the definitions compute of a run: the next state and its version, what is printed, and how it ends
 
 -- what is in the way of reading the file of a state. The bytes of a database are never at fault, so the reader failed
 -- or memory was wanting; without a database the file isn't there, or has no byte; and any file may not open
-abbrev pub IsUnread : Option State → FileFault → Type 0
+abbrev pub IsUnread : Option Filing → FileFault → Type 0
 IsUnread None fault = IsOfFile (Err fault) → fault ≡ Truncated 0
 IsUnread (Some s) fault = ¬ IsOfFile (Err fault)
 
-abbrev pub MayStop : Option State → TaskFault → Type 0
+abbrev pub MayStop : Option Filing → TaskFault → Type 0
 MayStop state (task.File fault) = IsUnread state fault
 MayStop state task.CannotOpen = Unit {0}
 MayStop state task.CannotWrite = ⊥
@@ -123,91 +138,103 @@ ReadsFile Reverts = Unit {0}
 ReadsFile (Shows show) = Unit {0}
 
 -- nothing came of it
-abbrev pub IsNothing : Option State → Option State → Option (List ℕ) → Option (List ℕ) → Type 0
+abbrev pub IsNothing : Option Filing → Option Filing → Option (List ℕ) → Option (List ℕ) → Type 0
 IsNothing s s1 c0 c1 = (s1 ≡ s) × Keeps c0 c1
 
 -- a front of the text was printed, or all of it
 abbrev pub PrintsFront : Option (List ℕ) → Option (List ℕ) → List ℕ → Type 0
 PrintsFront c0 c1 text = (front : List ℕ) × (unwritten : List ℕ) × (text ≡ front ++ unwritten) × Appends c0 c1 front
 
+-- the database of what a file keeps
+abbrev pub database_in : Option Filing → Option Stored
+database_in kept = option_map stored_of (state_in kept)
+
+-- the next state, and the version that it is kept in: a change writes the file, and all else leaves it as it is
+abbrev pub kept_next : Option Filing → Effect → Option Filing
+kept_next s e = if is_change e then as_written (next (state_in s) e) else s
+
 -- the command is accepted, and leads to the next state
-abbrev pub IsDone : Option State → Effect → Option State → Type 0
-IsDone s e s1 = (verdict_on (option_map stored_of s) e ≡ None) × (s1 ≡ next s e)
+abbrev pub IsDone : Option Filing → Effect → Option Filing → Type 0
+IsDone s e s1 = (verdict_on (database_in s) e ≡ None) × (s1 ≡ kept_next s e)
 
 -- refused by the verdict, or accepted and memory was wanting
-abbrev pub IsRefused : Option State → Effect → Fault → Option State → Option (List ℕ) → Option (List ℕ) → Type 0
-IsRefused s e fault s1 c0 c1 = IsFault (verdict_on (option_map stored_of s) e) e fault × IsNothing s s1 c0 c1
+abbrev pub IsRefused : Option Filing → Effect → Fault → Option Filing → Option (List ℕ) → Option (List ℕ) → Type 0
+IsRefused s e fault s1 c0 c1 = IsFault (verdict_on (database_in s) e) e fault × IsNothing s s1 c0 c1
 
 -- a command of this effect that ends by a fault of its own. Where its output failed it was done
-abbrev pub Fails : Option State → Effect → Fault → Option State → Option (List ℕ) → Option (List ℕ) → Type 0
-Fails s e Output s1 c0 c1 = IsDone s e s1 × PrintsFront c0 c1 (text_on (option_map stored_of s) e)
+abbrev pub Fails : Option Filing → Effect → Fault → Option Filing → Option (List ℕ) → Option (List ℕ) → Type 0
+Fails s e Output s1 c0 c1 = IsDone s e s1 × PrintsFront c0 c1 (text_on (database_in s) e)
 Fails s e (Refused refusal) s1 c0 c1 = IsRefused s e (Refused refusal) s1 c0 c1
 Fails s e NoDatabase s1 c0 c1 = IsRefused s e NoDatabase s1 c0 c1
 Fails s e (Line fault) s1 c0 c1 = IsRefused s e (Line fault) s1 c0 c1
 
 -- or by one of the file
-abbrev pub Stops : Option State → Effect → TaskFault → Option State → Option (List ℕ) → Option (List ℕ) → Type 0
+abbrev pub Stops : Option Filing → Effect → TaskFault → Option Filing → Option (List ℕ) → Option (List ℕ) → Type 0
 Stops s e fault s1 c0 c1 = ReadsFile e × MayStop s fault × IsNothing s s1 c0 c1
 
 -- a command of this effect in any of its ends. Where the file could not be written it was done too
-abbrev pub Answers : Option State → Effect → Option State → Option (List ℕ) → Option (List ℕ)
+abbrev pub Answers : Option Filing → Effect → Option Filing → Option (List ℕ) → Option (List ℕ)
     → Result (Unit {0}) TaskFault → Type 0
-Answers s e s1 c0 c1 (Ok x) = IsDone s e s1 × Appends c0 c1 (text_on (option_map stored_of s) e)
+Answers s e s1 c0 c1 (Ok x) = IsDone s e s1 × Appends c0 c1 (text_on (database_in s) e)
 Answers s e s1 c0 c1 (Err (task.Command fault)) = Fails s e fault s1 c0 c1
 Answers s e s1 c0 c1 (Err (task.File fault)) = Stops s e (task.File fault) s1 c0 c1
 Answers s e s1 c0 c1 (Err task.CannotOpen) = Stops s e task.CannotOpen s1 c0 c1
-Answers s e s1 c0 c1 (Err task.CannotWrite) = IsDone s e s1 × Appends c0 c1 (text_on (option_map stored_of s) e)
+Answers s e s1 c0 c1 (Err task.CannotWrite) = IsDone s e s1 × Appends c0 c1 (text_on (database_in s) e)
 Answers s e s1 c0 c1 (Err (task.Stream fault)) = ⊥
 
 -- what was read of the words; nothing comes of words that are no command
-abbrev pub AnswersRead : Option State → Result Command LineFault → Option State → Option (List ℕ) → Option (List ℕ)
+abbrev pub AnswersRead : Option Filing → Result Command LineFault → Option Filing → Option (List ℕ) → Option (List ℕ)
     → Result (Unit {0}) TaskFault → Type 0
 AnswersRead s (Ok command) s1 c0 c1 end = Answers s (effect command) s1 c0 c1 end
 AnswersRead s (Err fault) s1 c0 c1 end = (end ≡ Err (task.Command (Line fault))) × IsNothing s s1 c0 c1
 
--- the run over the lines that were read; or the file could not be read, and no line was
-abbrev pub AnswersLines : ℕ → Option State → Option State → Option (List ℕ) → Option (List ℕ) → Option (List ℕ)
+-- the run over the lines that were read, after which the file is written; or it could not be read, and no line was
+abbrev pub AnswersLines : ℕ → Option Filing → Option Filing → Option (List ℕ) → Option (List ℕ) → Option (List ℕ)
     → Option (List ℕ) → Result FileBatchEnd TaskFault → Type 0
 AnswersLines now s s1 r0 r1 c0 c1 (Ok end) =
-    (seen : List ℕ) × Consumes r0 r1 seen × RunOver now seen r1 s s1 end.refused c0 c1 end.stream
+    (seen : List ℕ) × Consumes r0 r1 seen × (last : Option State)
+    × RunOver now seen r1 (state_in s) last end.refused c0 c1 end.stream × (s1 ≡ as_written last)
 AnswersLines now s s1 r0 r1 c0 c1 (Err fault) = MayStop s fault × IsNothing s s1 c0 c1 × Keeps r0 r1
 
 -- from this state the run leads to that one
-abbrev pub Computes : Option State → Run → Option State → Type 0
+abbrev pub Computes : Option Filing → Run → Option Filing → Type 0
 Computes s (ByCommand r) s1 =
     (read : Result Command LineFault)
     × IsReading r.words r.now read
     × AnswersRead s read s1 r.out_before r.out_after r.end
 Computes s (ByBatch r) s1 = AnswersLines r.now s s1 r.in_before r.in_after r.out_before r.out_after r.end
 
-abbrev pub ComputesAll : Option State → List Run → Option State → Type 0
+abbrev pub ComputesAll : Option Filing → List Run → Option Filing → Type 0
 ComputesAll s [] s1 = s1 ≡ s
-ComputesAll s (run ∷ runs) s1 = (between : Option State) × Computes s run between × ComputesAll between runs s1
+ComputesAll s (run ∷ runs) s1 = (between : Option Filing) × Computes s run between × ComputesAll between runs s1
 
 -- ---- the laws
 
 -- a run over the file of a state leads to the state that the definitions compute, and prints what they do. The file is
 -- that of the new state, unless it could not be written
-abbrev pub RunIsComputed : List ℕ → Option State → Run → List ℕ → Type 0
+abbrev pub RunIsComputed : List ℕ → Option Filing → Run → List ℕ → Type 0
 RunIsComputed old s run new =
-    Holds old s → Did old run new → (s1 : Option State) × Computes s run s1 × IsLeft old new s1 (fault_of run)
+    Holds old s → Did old run new → (s1 : Option Filing) × Computes s run s1 × IsLeft old new s1 (fault_of run)
 
--- the first file: no byte, or the file of a valid database
+-- the first file: no byte, or the file of a valid database, in any version
 abbrev pub IsFirst : List ℕ → Option Stored → Type 0
 IsFirst bytes None = bytes ≡ []
 IsFirst bytes (Some d) = IsFile bytes d
 
 -- its content is the base, its journal is brought along, and nothing survives on it yet
-abbrev pub first_of : Option Stored → Option State
-first_of None = None
-first_of (Some d) = Some (record { base = d.content; brought = d.journal; survivors = []; revertible = 0 })
+abbrev pub begun : Stored → State
+begun d = record { base = d.content; brought = d.journal; survivors = []; revertible = 0 }
+
+abbrev pub first_of : (bytes : List ℕ) (first : Option Stored) → IsFirst bytes first → Option Filing
+first_of bytes None is = None
+first_of bytes (Some d) is = Some (record { version = is.version; state = begun d })
 
 -- the headline: after any list of runs, batches and single commands, with any outcome of memory, the file has the
 -- bytes, and the outputs have the texts, that the definitions compute from the first file
 abbrev pub RunsAreComputed : List ℕ → Option Stored → List Run → List ℕ → Type 0
 RunsAreComputed old first runs new =
-    IsFirst old first → DidAll old runs new → AllByRecursion IsWritten runs
-    → (last : Option State) × ComputesAll (first_of first) runs last × Holds new last
+    (is : IsFirst old first) → DidAll old runs new → AllByRecursion IsWritten runs
+    → (last : Option Filing) × ComputesAll (first_of old first is) runs last × Holds new last
 
 -- what the output held before and after
 abbrev pub OutputStays : Run → Type 0

@@ -1,9 +1,9 @@
 -- Definition: what one command over the database in a place comes to (own).
-use Rattle.std.specs.Prelude.{◌≡◌, ℕ, Bool, List, Option, Some, None, Result, Ok, Err, false, true}
+use Rattle.std.specs.Prelude.{◌≡◌, ℕ, Bool, List, Option, Some, None, Result, Ok, Err, false, true, if◌then◌else◌}
 use Rattle.std.specs.Io.KnownBytes.{Keeps}
 use Rattle.rrd_spec.specs.Journal.Survivors.{Stored}
 use Rattle.rrd_tool.specs.Commands.{effect}
-use Rattle.rrd_tool.specs.Effects.{Effect, Makes, Changes, Reverts, Shows}
+use Rattle.rrd_tool.specs.Effects.{Effect, Makes, Changes, Reverts, Shows, is_change}
 use Rattle.rrd_tool.specs.Execution.{Executes}
 use Rattle.rrd_tool.specs.Commands.Reading.{IsReading}
 use Rattle.rrd_tool.specs.declared.commands.Command.{Command}
@@ -13,9 +13,15 @@ use Rattle.rrd_tool.specs.declared.faults.Fault.TheVariants.{Line, Output}
 use Rattle.rrd_tool.specs.declared.faults.LineFault.{LineFault}
 use Rattle.rrd_store.specs.Places.{Finds, Leaves}
 use Rattle.rrd_store.specs.declared.faults.TaskFault.{TaskFault}
+use Rattle.rrd_store.specs.declared.place.Access.{Access}
+use Rattle.rrd_store.specs.declared.place.Access.TheVariants.{Change, Read}
 use Rattle.rrd_store.specs.declared.faults.TaskFault.TheVariants as task
 
 -- ---- the database before the command
+
+-- what may change is asked for to be changed, what shows something to be read
+abbrev pub access_for : Effect → Access
+access_for effect = if is_change effect then Change else Read
 
 -- a place where nothing is can't be opened
 abbrev pub FindsOne : Option (List ℕ) → Result (Option Stored) TaskFault → Type 0

@@ -1,9 +1,8 @@
 //! A batch over the database in a place.
-ghost use Rattle.std.specs.Prelude.{◌≡◌};
 ghost use Rattle.rrd_store.specs.Batch.{IsFileBatch};
 
 use crate::stored::{load, store};
-use crate::{Place, TaskFault};
+use crate::{Access, Place, TaskFault};
 use rrd_tool::{StreamFault, run_batch};
 use std::alloc::Global;
 use std::io::{Read, Write};
@@ -21,6 +20,7 @@ pub struct FileBatchEnd {
 
 /// Runs each line of the reader over the database in a place, or over none where nothing is there, as
 /// `run_batch` does, and writes the database, where there is one in the end, in place of what is there.
+/// From the first read to that write nobody else changes the place.
 ///
 /// Errors: `File` and `CannotOpen` where the place has no database that can be read. Nothing was read
 /// of the lines then, nothing written, and the place is as it was.
@@ -34,7 +34,7 @@ pub fn run_file_batch<P: Place, R: Read, W: Write>(
     ensures { IsFileBatch now (P.contents place.old) (P.contents place.new)
         (R.remaining reader.old) (R.remaining reader.new) (W.contents out.old) (W.contents out.new) result }
 {
-    let database = load(alloc, place)?;
+    let database = load(alloc, place, Access::Change)?;
     let end = run_batch(alloc, database, now, reader, out);
     let unstored = store(place, end.database.as_ref()).err();
     Ok(FileBatchEnd {

@@ -1,22 +1,55 @@
 //! A place that keeps a database as bytes.
-ghost use Rattle.std.specs.Prelude.{IfOk, OnErr, OnOk};
-ghost use Rattle.std.specs.Io.KnownBytes.{Keeps};
-ghost use Rattle.rrd_store.specs.Places.{Empties, Opens};
+ghost use Rattle.std.specs.Prelude.{◌≡◌, [], IfOk, List, None, OnErr, OnOk, Option, ℕ};
+ghost use Rattle.rrd_store.specs.Places.{Becomes, Cuts, FallsBack, Opens, TakesOver};
 
 use std::io;
 use std::io::{Read, Write};
 
-/// A place for bytes, as a file at a path. `contents` of `Write` are the bytes that it has.
-pub trait Place: Write {
+/// What a place is opened for.
+#[derive(Clone, Copy, Debug, PartialEq, Eq)]
+pub enum Access {
+    /// Its bytes are read.
+    Read,
+    /// They are read, and may be replaced.
+    Change,
+}
+
+/// A place for bytes, as a file at a path, of which others may hold a part in time: it keeps its bytes
+/// until all of them are replaced, or tells that they aren't.
+pub trait Place {
+    // The bytes that it has, where they are known.
+    ghost contents: { Self → Option (List ℕ) } = { λ _. None };
+
     /// What reads its bytes.
     type Reader: Read + Drop;
 
-    /// A reader of its bytes, from the first on; none where nothing is there.
-    fn open(&self) -> io::Result<Option<Self::Reader>>
-        ensures { IfOk result (Opens (Self.contents self.now) Self.Reader.remaining) };
+    /// What takes the bytes that are to replace them.
+    type Writer: Write + Drop;
 
-    /// Takes all its bytes away, so that others can be written. What is not there is made.
-    fn empty(&mut self) -> io::Result<()>
-        ensures ok { OnOk result (Empties (Self.contents self.old) (Self.contents self.new)) }
-        ensures err { OnErr result (Keeps (Self.contents self.old) (Self.contents self.new)) };
+    /// A reader of its bytes, from the first on; none where nothing is there. While they are read nobody
+    /// else changes them, and once it was opened for a change nobody else does until that is written.
+    ///
+    /// Errors: they can't be read, or another one has them.
+    fn open(&mut self, access: Access) -> io::Result<Option<Self::Reader>>
+        ensures stays { contents self.new ≡ contents self.old }
+        ensures reads { IfOk result (Opens (contents self.old) Self.Reader.remaining) };
+
+    /// Readies it for so many bytes in place of those that it has, and for no other number. What is not
+    /// there is made. The bytes count from `end` on.
+    ///
+    /// Errors: they can't be written, or there is no room for them.
+    fn begin(&mut self, length: u64) -> io::Result<Self::Writer>
+        ensures stays { contents self.new ≡ contents self.old }
+        ensures new { IfOk result (λ writer. Becomes (contents self.old) (Self.Writer.contents writer) []) };
+
+    /// Has the bytes that were written in place of its own.
+    ///
+    /// Errors: its bytes stay, or a front of the others is there, and not all.
+    fn end(&mut self, writer: Self::Writer) -> io::Result<()>
+        ensures ok { OnOk result (TakesOver (contents self.old) (contents self.new) (Self.Writer.contents writer)) }
+        ensures err { OnErr result (Cuts (contents self.old) (contents self.new) (Self.Writer.contents writer)) };
+
+    /// Ends a change of which a write failed: its bytes stay, or a front of those that were written is there.
+    fn give_up(&mut self, writer: Self::Writer)
+        ensures { FallsBack (contents self.old) (contents self.new) (Self.Writer.contents writer) };
 }

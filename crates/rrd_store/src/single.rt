@@ -1,28 +1,44 @@
 //! One command over the database in a place.
 ghost use Rattle.std.specs.Prelude.{◌≡◌, Result};
 ghost use Rattle.std.specs.Io.KnownBytes.{Keeps};
-ghost use Rattle.rrd_store.specs.Single.{Ends, IsSingle, StartsFrom};
+ghost use Rattle.rrd_tool.specs.Commands.{effect};
+ghost use Rattle.rrd_store.specs.Single.{Ends, IsSingle, StartsFrom, access_for};
 
 use crate::stored::{load, store};
-use crate::{Place, TaskFault};
+use crate::{Access, Place, TaskFault};
 use rrd_base::Database;
 use rrd_fixed::flush;
 use rrd_tool::{Command, Fault, Outcome, Words, execute, read_command};
 use std::alloc::Global;
 use std::io::Write;
 
+// What a command needs its place for.
+fn access_of(command: &Command) -> Access
+    ensures { result ≡ access_for (effect command.now) }
+{
+    match command {
+        Command::Fetch { .. }
+        | Command::First { .. }
+        | Command::Last
+        | Command::Lastupdate
+        | Command::Info => Access::Read,
+        _ => Access::Change,
+    }
+}
+
 // The database that a command runs over. One that makes a database doesn't ask what the place has.
 fn start<P: Place>(
     alloc: Global,
     command: &Command,
-    place: &P,
+    place: &mut P,
 ) -> Result<Option<Database>, TaskFault>
-    ensures { StartsFrom command.now (P.contents place.now) result }
+    ensures start { StartsFrom command.now (P.contents place.old) result }
+    ensures stays { P.contents place.new ≡ P.contents place.old }
 {
     if let Command::Create(_) = command {
         return Ok(None);
     }
-    match load(alloc, place)? {
+    match load(alloc, place, access_of(command))? {
         Some(database) => Ok(Some(database)),
         None => Err(TaskFault::CannotOpen),
     }

@@ -1,18 +1,24 @@
 //! Reading a database from a place, and writing it there.
-ghost use Rattle.std.specs.Prelude.{option_map};
+ghost use Rattle.std.specs.Prelude.{◌≡◌, option_map};
 ghost use Rattle.rrd_store.specs.Places.{Finds, Leaves, Replaces};
 ghost use Rattle.rrd_file.specs.Layout.{layout};
 
-use crate::{Place, TaskFault};
+use crate::length::length_of;
+use crate::{Access, Place, TaskFault};
 use rrd_base::Database;
 use rrd_file::{decode, encode};
 use std::alloc::Global;
 
 /// The database in a place; none where nothing is there.
-pub(crate) fn load<P: Place>(alloc: Global, place: &P) -> Result<Option<Database>, TaskFault>
-    ensures { Finds (P.contents place.now) result }
+pub(crate) fn load<P: Place>(
+    alloc: Global,
+    place: &mut P,
+    access: Access,
+) -> Result<Option<Database>, TaskFault>
+    ensures found { Finds (P.contents place.old) result }
+    ensures stays { P.contents place.new ≡ P.contents place.old }
 {
-    let Ok(found) = place.open() else {
+    let Ok(found) = place.open(access) else {
         return Err(TaskFault::CannotOpen);
     };
     let Some(reader) = found else {
@@ -28,13 +34,17 @@ pub(crate) fn load<P: Place>(alloc: Global, place: &P) -> Result<Option<Database
 fn replace<P: Place>(place: &mut P, database: &Database) -> Result<(), TaskFault>
     ensures { Replaces (P.contents place.old) (P.contents place.new) (layout database.now) result }
 {
-    if place.empty().is_err() {
+    let Ok(mut writer) = place.begin(length_of(database)) else {
+        return Err(TaskFault::CannotWrite);
+    };
+    if encode(database, &mut writer).is_err() {
+        place.give_up(writer);
         return Err(TaskFault::CannotWrite);
     }
-    if encode(database, place).is_err() {
-        return Err(TaskFault::CannotWrite);
+    match place.end(writer) {
+        Ok(()) => Ok(()),
+        Err(_) => Err(TaskFault::CannotWrite),
     }
-    Ok(())
 }
 
 /// Writes a database, where there is one, in place of what is there.

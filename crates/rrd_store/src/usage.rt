@@ -19,6 +19,7 @@ commands:
   tune   FILE [--heartbeat NAME:SECONDS] [-i|--minimum NAME:MIN]
          [-a|--maximum NAME:MAX] [-d|--data-source-type NAME:TYPE]
          [-r|--data-source-rename NAME:NEW]
+         [RRA:AVERAGE|MIN|MAX|LAST:xff:steps:rows | DELRRA:ARCHIVE]
   resize FILE ARCHIVE GROW|SHRINK ROWS
   fetch  FILE AVERAGE|MIN|MAX|LAST [-r|--resolution SECONDS] [-s|--start TIME]
          [-e|--end TIME]

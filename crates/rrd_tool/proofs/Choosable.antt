@@ -17,7 +17,7 @@ use Rattle.rrd_spec.specs.Choice.{best, candidate, candidates, choice, covers, i
 use Rattle.rrd_spec.specs.Validity.{IsValid, IsValidArchive}
 use Rattle.rrd_spec.specs.Commands.Verdict.{◌refuses◌, first_refusal}
 use Rattle.rrd_tool.specs.Commands.Fetched.{IsReadable}
-use Rattle.rrd_spec.specs.Limits.{version_one}
+use Rattle.rrd_spec.specs.Limits.{present}
 
 -- ---- lists
 
@@ -88,7 +88,7 @@ unrefused : (verdict : Option Refusal) (answer : Result Chosen Refusal) (chosen 
 unrefused None answer chosen e = (refl, e)
 unrefused (Some refusal) answer chosen e = absurd cc
 
-spanned : (request : Request) (found : Option Candidate) (chosen : Chosen) → span_of version_one request found ≡ Ok chosen → (one : Candidate) × (found ≡ Some one) × (span request one ≡ chosen)
+spanned : (request : Request) (found : Option Candidate) (chosen : Chosen) → span_of present request found ≡ Ok chosen → (one : Candidate) × (found ≡ Some one) × (span request one ≡ chosen)
 spanned request None chosen e = absurd cc
 spanned request (Some one) chosen e = ⊎_elim
     (λ (long : nat_lt 1000000 (span_rows (span request one)) ≡ true). absurd (let bad = rw long at e in cc))
@@ -115,7 +115,7 @@ unfolding choice_within
 chosen_readable content function asked start end chosen valid e =
     let request : Request = record { function = function; asked = asked; start = start; end = end } in
     let list = candidates content.step content.last function (map (λ (archive : Archive). archive.def) content.archives) in
-    let answered = unrefused _ (span_of version_one request (taken asked start list)) chosen e in
+    let answered = unrefused _ (span_of present request (taken asked start list)) chosen e in
     let found = spanned request (taken asked start list) chosen answered.1 in
     let late = second_passes (nat_lt 9999999999 start) (nat_lt 9999999999 end) (nat_lt end start) BadTime BadTime BadSpan answered.0 in
     let can = taken_usable (length content.archives) asked start list found.0 (all_usable content function valid) found.1 in

@@ -17,6 +17,10 @@ letter_rule id long letter = record (new_rule id) { long = Some long; short = So
 abbrev pub required_rule : Text → Rule
 required_rule id = record (new_rule id) { required = true }
 
+-- a word that may be there
+abbrev pub word_rule : Text → Rule
+word_rule id = new_rule id
+
 -- any number of words
 abbrev pub many_rule : Text → Rule
 many_rule id = record (new_rule id) { action = Some Append }

@@ -5,7 +5,7 @@ use Rattle.rrd_spec.specs.declared.requests.create.CreateSpec.{CreateSpec}
 use Rattle.rrd_spec.specs.declared.refusal.Refusal.{Refusal}
 use Rattle.rrd_spec.specs.declared.refusal.Refusal.TheVariants.{NothingToRevert}
 use Rattle.rrd_spec.specs.History.{Content}
-use Rattle.rrd_spec.specs.Commands.{Command, Resizing, TuningBy, Updating}
+use Rattle.rrd_spec.specs.Commands.{Command, Resizing, TuningBy, Updating, is_addition}
 use Rattle.rrd_spec.specs.Commands.Creating.{create_verdict, created}
 use Rattle.rrd_spec.specs.Journal.Entries.{Entry}
 use Rattle.rrd_spec.specs.Journal.Survivors.{State, Stored, Changed, Reverted, Stands, after, changed, journal_of, reverted, survived}
@@ -55,7 +55,8 @@ is_change (Shows show) = false
 abbrev pub takes_memory : Effect → Bool
 takes_memory (Makes spec) = true
 takes_memory (Changes (Updating update)) = true
-takes_memory (Changes (TuningBy tuning)) = false
+-- for an archive that is added
+takes_memory (Changes (TuningBy tuning)) = is_addition tuning.archive
 takes_memory (Changes (Resizing archive change rows)) = true
 takes_memory Reverts = false
 takes_memory (Shows show) = false

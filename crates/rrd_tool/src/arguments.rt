@@ -2,7 +2,7 @@
 ghost use Rattle.std.specs.Prelude.{◌≡◌, IfOk, false, map, option_map};
 ghost use Rattle.clap.specs.Words.{App, all_of, app_of, first_of, found_of, rows_of, rule_of};
 ghost use Rattle.rrd_tool.specs.Arguments.Shapes.{HasApp, IsParsedBy, ServesOrRefuses, app_with, begins_with_minus};
-ghost use Rattle.rrd_tool.specs.Arguments.{bare_top, letter_rule, many_rule, option_rule, required_rule};
+ghost use Rattle.rrd_tool.specs.Arguments.{bare_top, letter_rule, many_rule, option_rule, required_rule, word_rule};
 
 use crate::commands::{command_named, rrdi_command};
 use crate::{LineFault, Words};
@@ -32,6 +32,14 @@ pub(crate) fn required_arg<'a>(alloc: Global, id: &'a str) -> Arg<'a>
     ensures local { result.global ≡ false }
 {
     Arg::new(alloc, id).required(true)
+}
+
+/// A word that may be there.
+pub(crate) fn word_arg<'a>(alloc: Global, id: &'a str) -> Arg<'a>
+    ensures rule { rule_of result ≡ word_rule id.entry.now }
+    ensures local { result.global ≡ false }
+{
+    Arg::new(alloc, id)
 }
 
 /// Any number of words.

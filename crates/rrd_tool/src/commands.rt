@@ -35,7 +35,7 @@ pub enum Command {
     Create(CreateSpec),
     /// Take in samples (rrdupdate).
     Update(Update),
-    /// Change the settings of sources (rrdtune).
+    /// Change the settings of sources, or add or remove an archive (rrdtune).
     Tune(Tuning),
     /// Change the number of rows of the archive with this number by so many rows (rrdresize).
     Resize {
@@ -177,8 +177,8 @@ fn read_entered(alloc: Global, matches: &ArgMatches<'_>, now: u64) -> Result<Com
 ///
 /// Errors: `Usage` where clap refuses the words, a request for help included. `BadWord` names the
 /// first part that can't be read, in this order: of create step, start, journal, definitions; of
-/// update template, samples; of tune heartbeat, minimum, maximum, type, rename; of resize archive,
-/// change, rows; of fetch function, resolution, start, end; of first archive. `OutOfMemory` where a
+/// update template, samples; of tune heartbeat, minimum, maximum, type, rename, the archive's definition;
+/// of resize archive, change, rows; of fetch function, resolution, start, end; of first archive. `OutOfMemory` where a
 /// growth was refused.
 pub fn read_command(alloc: Global, words: &Words, now: u64) -> Result<Command, LineFault>
     ensures { IsReading words.now now result }
@@ -210,7 +210,7 @@ pub(crate) fn run<W: Write>(
         Command::Lastupdate => lastupdate::run(database, out),
         Command::Info => info::run(database, out),
         Command::Revert => revert::run(database),
-        Command::Tune(tuning) => tune::run(database, &tuning),
+        Command::Tune(tuning) => tune::run(alloc, database, &tuning),
         Command::Resize {
             index,
             change,

@@ -5,19 +5,29 @@ use Rattle.rrd_fixed.specs.declared.name.Name.{Name}
 use Rattle.rrd_spec.specs.declared.entry.SourceBefore.{SourceBefore}
 use Rattle.rrd_spec.specs.declared.outline.Outline.{Outline}
 use Rattle.rrd_spec.specs.declared.settings.RraDef.{RraDef}
-use Rattle.rrd_spec.specs.Limits.{version_one}
+use Rattle.rrd_spec.specs.Limits.{present}
+use Rattle.rrd_spec.specs.Journal.Entries.{AddedEntry, Entry, RemovedEntry, ResizeEntry, TuneEntry, UpdateEntry}
+use Rattle.rrd_spec.specs.Journal.Fitting.{IsRemovedNumber}
 use Rattle.rrd_spec.specs.Journal.Outlines.{rows_of}
 
 -- the resolution of an archive of these settings is a number above 0, and a small one
 pub record HasSteps (def : RraDef) : Type 0 where
   pub some_steps : 0 < def.steps
-  pub few_steps : def.steps ≤ version_one.most_steps
+  pub few_steps : def.steps ≤ present.most_steps
 
 -- that of a valid content
 pub record IsOutline (outline : Outline) : Type 0 where
-  pub few_sources : length outline.sources ≤ version_one.most_sources
+  pub few_sources : length outline.sources ≤ present.most_sources
   pub have_steps : AllByRecursion HasSteps outline.archives
-  pub few_rows : sum (rows_of outline.archives) ≤ version_one.most_cells
+  pub few_rows : sum (rows_of outline.archives) ≤ present.most_cells
+
+-- there is a place for a removed archive
+abbrev pub HasPlace : Outline → Entry → Type 0
+HasPlace now (UpdateEntry old) = Unit {0}
+HasPlace now (TuneEntry olds) = Unit {0}
+HasPlace now (ResizeEntry archive rows) = Unit {0}
+HasPlace now AddedEntry = Unit {0}
+HasPlace now (RemovedEntry number archive) = IsRemovedNumber present now number
 
 -- the names with those of the sources that a tune's entry puts back
 abbrev pub with_names : List Name → List SourceBefore → List Name

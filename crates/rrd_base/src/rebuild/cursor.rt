@@ -1,7 +1,7 @@
 //! Where the next cell of a file goes.
 ghost use Rattle.std.specs.Prelude.{◌≡◌, ◌+◌, ◌%◌, ◌<◌, ◌≤◌};
 ghost use Rattle.rrd_base.specs.Rebuild.Cursors.{Advances, KnowsPlace};
-ghost use Rattle.rrd_spec.specs.Limits.{version_one};
+ghost use Rattle.rrd_spec.specs.Limits.{present};
 ghost use Rattle.rrd_spec.specs.Files.Rebuilding.{IsArchiveDef};
 ghost use Rattle.rrd_spec.specs.Settings.{resolution};
 ghost use Rattle.rrd_spec.specs.Files.Slots.{place_in};
@@ -24,7 +24,7 @@ pub(crate) struct Cursor {
 // The place after a place, among so many rows: the first one follows the last.
 fn next_place(place: u64, rows: u64) -> u64
     requires there { place < rows }
-    requires few { rows ≤ version_one.most_rows }
+    requires few { rows ≤ present.most_rows }
     ensures { result ≡ (place + 1) % rows }
 {
     let next = place + 1;
@@ -47,10 +47,10 @@ impl Cursor {
     /// The place of its row in an archive of these settings, with steps of so many seconds and a last
     /// time.
     pub(super) fn place(&self, def: &RraDef, step: u64, last: u64) -> u64
-        requires def_is { IsArchiveDef version_one def.now }
+        requires def_is { IsArchiveDef present def.now }
         requires some_step { 0 < step }
-        requires small_step { step ≤ version_one.longest_step }
-        requires in_time { last ≤ version_one.latest_time }
+        requires small_step { step ≤ present.longest_step }
+        requires in_time { last ≤ present.latest_time }
         requires known { KnowsPlace (resolution step def.now) last def.now.rows self.now }
         ensures { result ≡ place_in (resolution step def.now) last def.now.rows self.now.slot }
     {
@@ -63,11 +63,11 @@ impl Cursor {
     /// Goes on from a cell in the row of this place to the next: of the next source, or slot, or
     /// archive. There are so many sources, and the archive has so many rows.
     pub(super) fn advance(&mut self, place: u64, sources: usize, rows: u64)
-        requires archive_there { self.old.archive < version_one.most_archives }
+        requires archive_there { self.old.archive < present.most_archives }
         requires slot_there { self.old.slot < rows }
         requires source_there { self.old.source < sources }
         requires place_there { place < rows }
-        requires few_rows { rows ≤ version_one.most_rows }
+        requires few_rows { rows ≤ present.most_rows }
         ensures { Advances sources rows place self.old self.new }
     {
         self.place = place;

@@ -1,29 +1,31 @@
 //! Tests of which journal entry fits an outline.
-ghost use Rattle.std.specs.Prelude.{◌≡◌, ℕ, List, ◌<◌, ◌≤◌, length, map, true};
-ghost use Rattle.std.specs.List.{AllByRecursion, fold};
+ghost use Rattle.std.specs.Prelude.{◌≡◌, ◌%◌, List, ◌<◌, ◌≤◌, length, true};
+ghost use Rattle.std.specs.List.{AllByRecursion};
 ghost use Rattle.rrd_base.specs.Rebuild.EntryChecks.{HasSteps, IsOutline, with_names};
 ghost use Rattle.rrd_base.specs.Journal.{entry_of, update_of};
 ghost use Rattle.rrd_fixed.specs.declared.cell.Cell.{Cell};
 ghost use Rattle.rrd_fold.specs.declared.function.Function.TheVariants.{Average};
 ghost use Rattle.rrd_ring.specs.Rows.{row_at};
 ghost use Rattle.rrd_spec.specs.Preparations.{parts_in};
-ghost use Rattle.rrd_spec.specs.Limits.{version_one};
+ghost use Rattle.rrd_spec.specs.Limits.{limits_of, present};
+ghost use Rattle.rrd_spec.specs.Journal.Entries.{AddedEntry};
 ghost use Rattle.rrd_spec.specs.Journal.Outlines.{with_sources};
-ghost use Rattle.rrd_spec.specs.Journal.Fitting.{AreOldRows, IsSourceBefore, MayResize, MaySave, MaySaveEach, MayTune, MayUndo, MayUpdate};
+ghost use Rattle.rrd_spec.specs.Journal.Fitting.{AreOldRows, AreRemovedSettings, IsRemovedNumber, IsSourceBefore, MayRemove, MayResize, MaySave, MaySaveEach, MayTune, MayUndo, MayUpdate};
 ghost use Rattle.rrd_spec.specs.Settings.{names};
-ghost use Rattle.rrd_spec.specs.Validity.{IsPart, IsRow, Rise};
+ghost use Rattle.rrd_spec.specs.Validity.{AreParts, IsPart, IsRow, Rise};
 
-use super::piece_checks::{is_bounded, is_part, is_source};
+use super::piece_checks::{is_archive, is_bounded, is_part, is_source};
 use crate::create::{has_too_many_cells, is_bad_rows};
 use crate::journal::{BeforeUpdate, Entry, SavedArchive};
 use crate::named::is_double;
 use crate::rows::{all_rows, rows_between};
+use crate::rra::Rra;
 use crate::{DsDef, Outline, RraDef, SourceBefore};
 use arrayvec::ArrayVec;
 use rrd_fixed::{Cell, Name};
 use rrd_fold::{Function, RowPrep, StepPrep};
 use rrd_ring::{Archive, Dropped};
-use rrd_spec::are_accepted;
+use rrd_spec::{Version, are_accepted};
 
 // ---- rows
 
@@ -99,7 +101,7 @@ fn are_rows<T: Table>(rows: &T, sources: usize) -> bool
 
 // Whether the preparations can each be those of at most so many seconds.
 fn are_step_parts(preps: &[StepPrep], passed: u64) -> bool
-    requires { passed ≤ version_one.most_steps }
+    requires { passed ≤ present.most_steps }
     ensures good { result ≡ true → AllByRecursion (IsPart Average passed) preps.now }
     ensures bad { AllByRecursion (IsPart Average passed) preps.now → result ≡ true }
 {
@@ -113,7 +115,7 @@ fn are_step_parts(preps: &[StepPrep], passed: u64) -> bool
 
 // The same of so many steps, by this function.
 fn are_row_parts(function: Function, preps: &[RowPrep], passed: u64) -> bool
-    requires { passed ≤ version_one.most_steps }
+    requires { passed ≤ present.most_steps }
     ensures good { result ≡ true → AllByRecursion (IsPart function passed) (parts_in preps.now) }
     ensures bad { AllByRecursion (IsPart function passed) (parts_in preps.now) → result ≡ true }
 {
@@ -137,7 +139,7 @@ struct Span {
 // Whether an update may have saved that of an archive of these settings.
 fn may_save(span: Span, def: &RraDef, old: &SavedArchive) -> bool
     requires some_step { 0 < span.step }
-    requires small_step { span.step ≤ version_one.longest_step }
+    requires small_step { span.step ≤ present.longest_step }
     requires has_steps { HasSteps def.now }
     ensures good { result ≡ true → MaySave span.step span.from span.to span.sources def.now old.now }
     ensures bad { MaySave span.step span.from span.to span.sources def.now old.now → result ≡ true }
@@ -156,7 +158,7 @@ fn may_save(span: Span, def: &RraDef, old: &SavedArchive) -> bool
 // Whether it may have saved that of each archive.
 fn may_save_each(span: Span, defs: &[RraDef], olds: &[SavedArchive]) -> bool
     requires some_step { 0 < span.step }
-    requires small_step { span.step ≤ version_one.longest_step }
+    requires small_step { span.step ≤ present.longest_step }
     requires have_steps { AllByRecursion HasSteps defs.now }
     ensures good { result ≡ true → MaySaveEach span.step span.from span.to span.sources defs.now olds.now }
     ensures bad { MaySaveEach span.step span.from span.to span.sources defs.now olds.now → result ≡ true }
@@ -175,7 +177,7 @@ fn may_save_each(span: Span, defs: &[RraDef], olds: &[SavedArchive]) -> bool
 // Whether an update may have left this outline.
 fn may_update(step: u64, now: &Outline, old: &BeforeUpdate) -> bool
     requires some_step { 0 < step }
-    requires small_step { step ≤ version_one.longest_step }
+    requires small_step { step ≤ present.longest_step }
     requires now_is { IsOutline now.now }
     ensures good { result ≡ true → MayUpdate step now.now (update_of old.now) }
     ensures bad { MayUpdate step now.now (update_of old.now) → result ≡ true }
@@ -201,8 +203,8 @@ fn may_update(step: u64, now: &Outline, old: &BeforeUpdate) -> bool
 // Whether these are good sources by rising number, below so many.
 fn are_sources_before(olds: &[SourceBefore], sources: u64) -> bool
     ensures rise { result ≡ true → Rise 0 sources olds.now }
-    ensures each { result ≡ true → AllByRecursion (IsSourceBefore version_one) olds.now }
-    ensures bad { Rise 0 sources olds.now → AllByRecursion (IsSourceBefore version_one) olds.now → result ≡ true }
+    ensures each { result ≡ true → AllByRecursion (IsSourceBefore present) olds.now }
+    ensures bad { Rise 0 sources olds.now → AllByRecursion (IsSourceBefore present) olds.now → result ≡ true }
 {
     let mut lowest = 0;
     for old in olds {
@@ -219,7 +221,7 @@ fn are_sources_before(olds: &[SourceBefore], sources: u64) -> bool
 
 // The names of the sources. It takes no memory.
 fn names_of(sources: &[DsDef]) -> ArrayVec<Name, 64>
-    requires { length sources.now ≤ version_one.most_sources }
+    requires { length sources.now ≤ present.most_sources }
     ensures { result.items ≡ names sources.now }
 {
     let mut all = ArrayVec::new();
@@ -243,7 +245,7 @@ fn put_names(names: &mut [Name], olds: &[SourceBefore])
 
 // The names of the sources with those of a tune's entry.
 fn names_with(sources: &[DsDef], olds: &[SourceBefore]) -> ArrayVec<Name, 64>
-    requires { length sources.now ≤ version_one.most_sources }
+    requires { length sources.now ≤ present.most_sources }
     ensures { result.items ≡ names (with_sources sources.now olds.now) }
 {
     let mut all = names_of(sources);
@@ -251,11 +253,11 @@ fn names_with(sources: &[DsDef], olds: &[SourceBefore]) -> ArrayVec<Name, 64>
     all
 }
 
-// Whether a tune may have left this outline.
+// Whether a tune may have left this outline, which is the same in each version.
 fn may_tune(now: &Outline, olds: &[SourceBefore]) -> bool
     requires { IsOutline now.now }
-    ensures good { result ≡ true → MayTune version_one now.now olds.now }
-    ensures bad { MayTune version_one now.now olds.now → result ≡ true }
+    ensures good { result ≡ true → MayTune present now.now olds.now }
+    ensures bad { MayTune present now.now olds.now → result ≡ true }
 {
     let sources = now.sources.as_slice();
     if olds.is_empty() || olds.len() > 5 {
@@ -270,43 +272,108 @@ fn may_tune(now: &Outline, olds: &[SourceBefore]) -> bool
 // ---- a resize
 
 /// Whether an archive of this outline can have had so many rows before it was resized.
-pub(super) fn had_rows(now: &Outline, archive: usize, rows: u64) -> bool
+pub(super) fn had_rows(version: Version, now: &Outline, archive: usize, rows: u64) -> bool
     requires now_is { IsOutline now.now }
     requires there { archive < length now.now.archives }
-    ensures good { result ≡ true → AreOldRows version_one now.now archive rows }
-    ensures bad { AreOldRows version_one now.now archive rows → result ≡ true }
+    ensures good { result ≡ true → AreOldRows (limits_of version) now.now archive rows }
+    ensures bad { AreOldRows (limits_of version) now.now archive rows → result ≡ true }
 {
     let archives = now.archives.as_slice();
-    let present = archives[archive].rows;
-    if is_bad_rows(rows) || rows == present {
+    let held = archives[archive].rows;
+    if is_bad_rows(rows) || rows == held {
         return false;
     }
-    let all = all_rows(archives) - present + rows;
-    !has_too_many_cells(now.sources.len(), all)
+    let all = all_rows(archives) - held + rows;
+    !has_too_many_cells(version.most_cells(), now.sources.len(), all)
 }
 
 // Whether a resize may have left this outline.
-fn may_resize(now: &Outline, archive: u64, old: &Archive) -> bool
+fn may_resize(version: Version, now: &Outline, archive: u64, old: &Archive) -> bool
     requires { IsOutline now.now }
-    ensures good { result ≡ true → MayResize version_one now.now archive old.now }
-    ensures bad { MayResize version_one now.now archive old.now → result ≡ true }
+    ensures good { result ≡ true → MayResize (limits_of version) now.now archive old.now }
+    ensures bad { MayResize (limits_of version) now.now archive old.now → result ≡ true }
 {
     archive < now.archives.len() as u64
-        && had_rows(now, archive as usize, old.rows())
+        && had_rows(version, now, archive as usize, old.rows())
         && are_rows(old, now.sources.len())
 }
 
-/// Whether an entry fits an outline, steps of so many seconds being taken.
-pub(super) fn may_undo(step: u64, now: &Outline, entry: &Entry) -> bool
+// ---- an archive that was added or removed
+
+// Whether archives may have come and gone, and one has been added to others.
+fn may_add(version: Version, now: &Outline) -> bool
+    ensures good { result ≡ true → MayUndo (limits_of version) 0 now.now AddedEntry }
+    ensures bad { MayUndo (limits_of version) 0 now.now AddedEntry → result ≡ true }
+{
+    version.archives_come_and_go() && now.archives.len() > 1
+}
+
+/// Whether a removed archive can have had this number: there is a place for it.
+pub(super) fn had_number(version: Version, now: &Outline, number: u64) -> bool
+    ensures good { result ≡ true → IsRemovedNumber (limits_of version) now.now number }
+    ensures bad { IsRemovedNumber (limits_of version) now.now number → result ≡ true }
+{
+    let archives = now.archives.len();
+    number <= archives as u64 && archives < version.most_archives()
+}
+
+/// Whether a removed archive can have had these settings.
+pub(super) fn had_settings(version: Version, now: &Outline, def: &RraDef) -> bool
+    requires { IsOutline now.now }
+    ensures good { result ≡ true → AreRemovedSettings (limits_of version) now.now def.now }
+    ensures bad { AreRemovedSettings (limits_of version) now.now def.now → result ≡ true }
+{
+    if !is_archive(def) {
+        return false;
+    }
+    let all = all_rows(now.archives.as_slice()) + def.rows;
+    !has_too_many_cells(version.most_cells(), now.sources.len(), all)
+}
+
+// Whether these are the preparations of an archive of these settings, so many steps having ended.
+fn are_preps(def: &RraDef, preps: &[RowPrep], steps: u64, sources: usize) -> bool
+    requires some_steps { 0 < def.now.steps }
+    requires few_steps { def.now.steps ≤ present.most_steps }
+    ensures good { result ≡ true
+        → AreParts def.now.function sources (steps % def.now.steps) (parts_in preps.now) }
+    ensures bad { AreParts def.now.function sources (steps % def.now.steps) (parts_in preps.now)
+        → result ≡ true }
+{
+    preps.len() == sources && are_row_parts(def.function, preps, steps % def.steps)
+}
+
+// Whether a removal may have left this outline.
+fn may_remove(version: Version, step: u64, now: &Outline, number: u64, old: &Rra) -> bool
     requires some_step { 0 < step }
-    requires small_step { step ≤ version_one.longest_step }
     requires now_is { IsOutline now.now }
-    ensures good { result ≡ true → MayUndo version_one step now.now (entry_of entry.now) }
-    ensures bad { MayUndo version_one step now.now (entry_of entry.now) → result ≡ true }
+    ensures good { result ≡ true → MayRemove (limits_of version) step now.now number old.now }
+    ensures bad { MayRemove (limits_of version) step now.now number old.now → result ≡ true }
+{
+    let def = old.def();
+    if !had_number(version, now, number) || !had_settings(version, now, &def) {
+        return false;
+    }
+    let sources = now.sources.len();
+    are_preps(&def, old.preps(), now.last / step, sources)
+        && old.rows() == def.rows
+        && are_rows(old.archive(), sources)
+}
+
+/// Whether an entry fits an outline by the limits of a version, steps of so many seconds being taken.
+pub(super) fn may_undo(version: Version, step: u64, now: &Outline, entry: &Entry) -> bool
+    requires some_step { 0 < step }
+    requires small_step { step ≤ present.longest_step }
+    requires now_is { IsOutline now.now }
+    ensures good { result ≡ true → MayUndo (limits_of version) step now.now (entry_of entry.now) }
+    ensures bad { MayUndo (limits_of version) step now.now (entry_of entry.now) → result ≡ true }
 {
     match entry {
         Entry::Update(old) => may_update(step, now, old),
         Entry::Tune(olds) => may_tune(now, olds.as_slice()),
-        Entry::Resize { archive, old } => may_resize(now, *archive, old),
+        Entry::Resize { archive, old } => may_resize(version, now, *archive, old),
+        Entry::Added => may_add(version, now),
+        Entry::Removed { archive, old } => {
+            version.archives_come_and_go() && may_remove(version, step, now, *archive, old)
+        }
     }
 }

@@ -2,7 +2,7 @@
 ghost use Rattle.std.specs.Prelude.{◌≡◌, ◌≤◌, true};
 ghost use Rattle.rrd_fixed.specs.Rate.{IsBounded};
 ghost use Rattle.rrd_fold.specs.Bounds.{weight};
-ghost use Rattle.rrd_spec.specs.Limits.{version_one};
+ghost use Rattle.rrd_spec.specs.Limits.{present};
 ghost use Rattle.rrd_spec.specs.Files.Rebuilding.{IsArchiveDef};
 ghost use Rattle.rrd_spec.specs.Validity.{IsPart, IsSource};
 
@@ -32,7 +32,7 @@ fn weight(function: Function, known: u64) -> u64
 
 /// Whether a preparation can be that of at most so many cells.
 pub(super) fn is_part(function: Function, passed: u64, known: u64, value: i128) -> bool
-    requires { passed ≤ version_one.most_steps }
+    requires { passed ≤ present.most_steps }
     ensures good { result ≡ true → IsPart function passed (record { known = known; value = value }) }
     ensures bad { IsPart function passed (record { known = known; value = value }) → result ≡ true }
 {
@@ -45,8 +45,8 @@ pub(super) fn is_part(function: Function, passed: u64, known: u64, value: i128) 
 
 /// Whether an archive's settings are good.
 pub(super) fn is_archive(def: &RraDef) -> bool
-    ensures good { result ≡ true → IsArchiveDef version_one def.now }
-    ensures bad { IsArchiveDef version_one def.now → result ≡ true }
+    ensures good { result ≡ true → IsArchiveDef present def.now }
+    ensures bad { IsArchiveDef present def.now → result ≡ true }
 {
     !is_bad_steps(def.steps) && !is_bad_rows(def.rows) && !is_bad_xff(def.xff)
 }

@@ -5,11 +5,12 @@ use Rattle.rrd_ring.specs.Rows.{HasWidth}
 use Rattle.rrd_spec.specs.declared.entry.SourceBefore.{SourceBefore}
 use Rattle.rrd_spec.specs.declared.outline.Outline.{Outline}
 use Rattle.rrd_spec.specs.declared.settings.RraDef.{RraDef}
-use Rattle.rrd_spec.specs.Journal.Entries.{Entry, BeforeUpdate, SavedArchive, UpdateEntry, TuneEntry, ResizeEntry}
+use Rattle.rrd_spec.specs.Journal.Entries.{Entry, BeforeUpdate, SavedArchive, UpdateEntry, TuneEntry, ResizeEntry, AddedEntry, RemovedEntry}
 use Rattle.rrd_spec.specs.Files.Filed.{Filed}
+use Rattle.rrd_spec.specs.History.{Archive}
 use Rattle.rrd_spec.specs.Journal.Fitting.{IsSourceBefore}
 use Rattle.rrd_spec.specs.Files.Rebuilding.{limits, outline_left, with_entry}
-use Rattle.rrd_file.specs.Layout.Pieces.{Tag, AnUpdate, ATune, AResize}
+use Rattle.rrd_file.specs.Layout.Pieces.{Tag, AnUpdate, ATune, AResize, AnAddition, ARemoval}
 use Rattle.rrd_file.specs.declared.decoding.journal.Tag.{Tag as TagRead}
 use Rattle.rrd_file.specs.declared.decoding.journal.Tag.TheVariants as read
 
@@ -35,10 +36,18 @@ pub record IsUpdateShaped (now : Outline) (old : BeforeUpdate) : Type 0 where
   pub one_part_each : length old.parts ≡ length now.sources
   pub archives_are : AreSavedShaped (length now.sources) now.archives old.archives
 
+-- a removed archive
+pub record IsRemovedShaped (now : Outline) (archive : Archive) : Type 0 where
+  pub one_part_each : length archive.parts ≡ length now.sources
+  pub rows_are : length archive.rows ≡ archive.def.rows
+  pub one_cell_each : HasWidth (length now.sources) archive.rows
+
 abbrev pub IsShaped : Outline → Entry → Type 0
 IsShaped now (UpdateEntry old) = IsUpdateShaped now old
 IsShaped now (TuneEntry olds) = Unit {0}
 IsShaped now (ResizeEntry archive rows) = HasWidth (length now.sources) rows
+IsShaped now AddedEntry = Unit {0}
+IsShaped now (RemovedEntry number archive) = IsRemovedShaped now archive
 
 -- a source that a tune named, from the lowest number that it may have
 abbrev pub KeepsNamed : Filed → ℕ → SourceBefore → Type 0
@@ -54,3 +63,5 @@ abbrev pub tag_said : TagRead → Tag
 tag_said read.AnUpdate = AnUpdate
 tag_said read.ATune = ATune
 tag_said read.AResize = AResize
+tag_said read.AnAddition = AnAddition
+tag_said read.ARemoval = ARemoval

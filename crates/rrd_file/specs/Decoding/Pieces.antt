@@ -1,11 +1,12 @@
 -- Glue: what a piece was read as.
-use Rattle.rrd_spec.specs.Files.Filed.{Header, Source, One}
+use Rattle.rrd_spec.specs.declared.version.Version.{Version}
+use Rattle.rrd_spec.specs.Files.Filed.{Header, Source}
 use Rattle.rrd_file.specs.declared.decoding.pieces.HeaderRead.{HeaderRead}
 use Rattle.rrd_file.specs.declared.decoding.pieces.SourceRead.{SourceRead}
 
-abbrev pub header_said : HeaderRead → Header
-header_said h = record {
-  version = One;
+abbrev pub header_said : Version → HeaderRead → Header
+header_said version h = record {
+  version = version;
   step = h.step;
   last = h.last;
   depth = h.depth;

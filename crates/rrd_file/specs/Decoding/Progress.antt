@@ -6,10 +6,14 @@ use Rattle.rrd_file.specs.declared.fault.FileFault.TheVariants.{BadEntry}
 use Rattle.rrd_base.specs.Journal.{entry_of}
 use Rattle.rrd_base.specs.declared.journal.Entry.{Entry as EntryRead}
 use Rattle.rrd_file.specs.Faults.{Front, IsFault, IsWhole, bad_at}
-use Rattle.rrd_file.specs.Decoding.Input.{Input, left}
+use Rattle.rrd_file.specs.Decoding.Input.{Gives, Input, left}
+use Rattle.rrd_file.specs.Decoding.Pieces.{header_said}
+use Rattle.rrd_file.specs.Decoding.Values.{FitsHeader}
+use Rattle.rrd_file.specs.declared.decoding.pieces.HeaderRead.{HeaderRead}
+use Rattle.rrd_spec.specs.declared.version.Version.{Version}
 use Rattle.rrd_file.specs.Layout.{entry_pieces}
-use Rattle.rrd_file.specs.Layout.Pieces.{Piece, spell}
-use Rattle.rrd_file.specs.Stages.{DueInEntry, GoesOn, Stage, Takes, size}
+use Rattle.rrd_file.specs.Layout.Pieces.{OfHeader, Piece, spell}
+use Rattle.rrd_file.specs.Stages.{DueInEntry, GoesOn, Stage, Takes, header_size, size}
 
 -- what came of some bytes leads to the stage, and the rest is left
 pub record Stands (bytes : List ℕ) (stage : Stage) (input : Input) : Type 0 where
@@ -22,6 +26,18 @@ pub record Stands (bytes : List ℕ) (stage : Stage) (input : Input) : Type 0 wh
 abbrev pub Reaches : {T : Type 0} → List ℕ → (T → Stage) → Input → Result T FileFault → Type 0
 Reaches bytes stage input (Ok x) = Stands bytes (stage x) input
 Reaches bytes stage input (Err fault) = IsFault bytes fault
+
+-- a header was read, or the step leads to the input's fault
+pub record HeaderCame (version : Version) (old new : Input) (said : HeaderRead) : Type 0 where
+  pub piece : List ℕ
+  pub size_is : length piece ≡ header_size version
+  pub gives : Gives old piece new
+  pub spelled : spell (OfHeader (header_said version said)) ≡ piece
+  pub fits : FitsHeader (header_said version said)
+
+abbrev pub ReadsHeader : List ℕ → Version → Input → Input → Result HeaderRead FileFault → Type 0
+ReadsHeader bytes version old new (Ok said) = HeaderCame version old new said
+ReadsHeader bytes version old new (Err fault) = IsFault bytes fault
 
 -- of an entry, after what came of the body, these pieces came, and these are still due; where none is, the last piece
 -- is right if there is an entry of all of them that may come

@@ -1,5 +1,5 @@
 -- Definition: which values the bytes of a piece can stand for, of which a law says that no two have the same bytes.
-use Rattle.std.specs.Prelude.{◌≡◌, ◌^◌, ◌<◌, ◌≤ℤ◌, ℤ, pos, unsigned_abs, true, Option, Some, None}
+use Rattle.std.specs.Prelude.{◌≡◌, ◌^◌, ◌<◌, ◌≤ℤ◌, ℕ, ℤ, pos, unsigned_abs, true, Option, Some, None}
 use Rattle.std.specs.Int.{w128}
 use Rattle.std.specs.Int.RustNames.{FitsSigned}
 use Rattle.rrd_fixed.specs.declared.cell.Cell.{Cell}
@@ -10,6 +10,8 @@ use Rattle.rrd_spec.specs.declared.settings.DsDef.{DsDef}
 use Rattle.rrd_spec.specs.declared.settings.RraDef.{RraDef}
 use Rattle.rrd_spec.specs.declared.entry.SourceBefore.{SourceBefore}
 use Rattle.rrd_spec.specs.Files.Filed.{Header, Source}
+use Rattle.rrd_spec.specs.declared.version.Version.{Version}
+use Rattle.rrd_spec.specs.declared.version.Version.TheVariants.{One, Two}
 
 -- a number other than the least, which stands for none
 abbrev pub FitsNumber : ℤ → Type 0
@@ -48,13 +50,18 @@ pub record FitsArchive (def : RraDef) : Type 0 where
   pub xff_high : unsigned_abs def.xff < 2 ^ 32
   pub rows : def.rows < 2 ^ 32
 
+-- the numbers that the bytes of a count can be
+abbrev pub counts : Version → ℕ
+counts One = 2 ^ 16
+counts Two = 2 ^ 32
+
 pub record FitsHeader (h : Header) : Type 0 where
   pub step : h.step < 2 ^ 32
   pub last : h.last < 2 ^ 64
-  pub depth : h.depth < 2 ^ 16
+  pub depth : h.depth < counts h.version
   pub sources : h.sources < 2 ^ 16
   pub archives : h.archives < 2 ^ 16
-  pub entries : h.entries < 2 ^ 16
+  pub entries : h.entries < counts h.version
 
 pub record FitsSourceBefore (old : SourceBefore) : Type 0 where
   pub number : old.number < 2 ^ 16

@@ -5,7 +5,9 @@ use Rattle.rrd_fixed.specs.declared.raw.Raw.{Raw}
 use Rattle.rrd_fold.specs.Parts.{Part}
 use Rattle.rrd_spec.specs.declared.settings.RraDef.{RraDef}
 use Rattle.rrd_spec.specs.declared.entry.SourceBefore.{SourceBefore}
-use Rattle.rrd_spec.specs.Files.Filed.{Header, Source, Version, One}
+use Rattle.rrd_spec.specs.declared.version.Version.{Version}
+use Rattle.rrd_spec.specs.declared.version.Version.TheVariants.{One, Two}
+use Rattle.rrd_spec.specs.Files.Filed.{Header, Source}
 use Rattle.rrd_file.specs.Layout.Values.{archive_bytes, cell_bytes, eight_bytes, four_bytes, part_bytes, raw_bytes, source_bytes, two_bytes}
 
 -- what an entry undoes
@@ -13,6 +15,8 @@ pub data Tag : Type 0 where
   AnUpdate : Tag
   ATune : Tag
   AResize : Tag
+  AnAddition : Tag
+  ARemoval : Tag
 
 pub data Piece : Type 0 where
   -- of the body
@@ -32,22 +36,30 @@ pub data Piece : Type 0 where
   -- how many sources a tune named, and each of them before it
   OfCount : ℕ → Piece
   OfSourceBefore : SourceBefore → Piece
-  -- the number of the archive that was resized
+  -- the number of the archive that was resized or removed
   OfNumber : ℕ → Piece
 
 abbrev pub version_number : Version → ℕ
 version_number One = 1
+version_number Two = 2
 
 abbrev pub tag_byte : Tag → ℕ
 tag_byte AnUpdate = 1
 tag_byte ATune = 2
 tag_byte AResize = 3
+tag_byte AnAddition = 4
+tag_byte ARemoval = 5
 
--- step (4), last time (8), and in version 1 depth, sources, archives and entries (2 each)
+-- how many entries there are, or can be
+abbrev pub count_bytes : Version → ℕ → List ℕ
+count_bytes One n = two_bytes n
+count_bytes Two n = four_bytes n
+
+-- step (4), last time (8), depth, sources (2), archives (2), entries
 abbrev pub header_bytes : Version → Header → List ℕ
-header_bytes One h =
+header_bytes version h =
     four_bytes h.step ++ eight_bytes h.last
-    ++ two_bytes h.depth ++ two_bytes h.sources ++ two_bytes h.archives ++ two_bytes h.entries
+    ++ count_bytes version h.depth ++ two_bytes h.sources ++ two_bytes h.archives ++ count_bytes version h.entries
 
 -- the bytes of a piece
 unfoldable pub spell : Piece → List ℕ

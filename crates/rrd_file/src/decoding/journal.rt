@@ -1,16 +1,17 @@
 //! Entries of the journal.
-ghost use Rattle.std.specs.Prelude.{◌≡◌, ◌≢◌, ◌∷◌, [], ℕ, List, IfOk, IfSome, None, OnOk};
+ghost use Rattle.std.specs.Prelude.{◌≡◌, ◌≢◌, ◌∷◌, [], ℕ, List, true, IfOk, IfSome, None, OnOk};
 ghost use Rattle.rrd_base.specs.Journal.{entry_of};
-ghost use Rattle.rrd_spec.specs.Files.Rebuilding.{due, outline_left};
+ghost use Rattle.rrd_spec.specs.Files.Rebuilding.{due, limits, outline_left};
 ghost use Rattle.rrd_spec.specs.declared.due.Due.TheVariants.{EntryDue};
 ghost use Rattle.rrd_file.specs.Layout.Pieces.{OfTag, Tag as TagPiece, tag_byte};
 ghost use Rattle.rrd_file.specs.Decoding.Journal.{HasOneMore, IsShaped, tag_said};
-ghost use Rattle.rrd_file.specs.Stages.{Body, first_due};
+ghost use Rattle.rrd_file.specs.Stages.{Body, IsTagWithin, first_due};
 ghost use Rattle.rrd_file.specs.Decoding.Progress.{Brings, Closes, Reaches, Stands};
 
 use super::faults::{bad_entry, entry_fault};
 use crate::FileFault;
 use crate::decoding::input::PieceReader;
+use removed::removed;
 use resize::resize;
 use rrd_base::{Entry, Rebuild};
 use std::alloc::Global;
@@ -18,6 +19,8 @@ use std::io::Read;
 use tune::tune;
 use update::update;
 
+mod preps;
+mod removed;
 mod resize;
 mod rows;
 mod tune;
@@ -29,6 +32,8 @@ pub(crate) enum Tag {
     AnUpdate,
     ATune,
     AResize,
+    AnAddition,
+    ARemoval,
 }
 
 fn tag_of(byte: u8) -> Option<Tag>
@@ -39,7 +44,20 @@ fn tag_of(byte: u8) -> Option<Tag>
         1 => Some(Tag::AnUpdate),
         2 => Some(Tag::ATune),
         3 => Some(Tag::AResize),
+        4 => Some(Tag::AnAddition),
+        5 => Some(Tag::ARemoval),
         _ => None,
+    }
+}
+
+// Whether the file's version has this tag: archives come and go in the newest alone.
+fn is_within(tag: Tag, build: &Rebuild) -> bool
+    ensures good { result ≡ true → IsTagWithin (limits build.now) (tag_said tag) }
+    ensures bad { IsTagWithin (limits build.now) (tag_said tag) → result ≡ true }
+{
+    match tag {
+        Tag::AnUpdate | Tag::ATune | Tag::AResize => true,
+        Tag::AnAddition | Tag::ARemoval => build.archives_come_and_go(),
     }
 }
 
@@ -51,10 +69,13 @@ fn entry_tag<R: Read + Drop>(input: &mut PieceReader<R>, build: &Rebuild) -> Res
 {
     let mut piece = [0u8; 1];
     input.piece(&mut piece)?;
-    match tag_of(piece[0]) {
-        Some(tag) => Ok(tag),
-        None => Err(bad_entry(build)),
+    let Some(tag) = tag_of(piece[0]) else {
+        return Err(bad_entry(build));
+    };
+    if !is_within(tag, build) {
+        return Err(bad_entry(build));
     }
+    Ok(tag)
 }
 
 // Reads all pieces of an entry.
@@ -72,6 +93,8 @@ fn pieces<R: Read + Drop>(
         Tag::AnUpdate => update(alloc, input, build),
         Tag::ATune => tune(input, build),
         Tag::AResize => resize(alloc, input, build),
+        Tag::AnAddition => Ok(Entry::Added),
+        Tag::ARemoval => removed(alloc, input, build),
     }
 }
 

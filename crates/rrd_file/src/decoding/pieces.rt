@@ -1,14 +1,15 @@
 //! Pieces of several values from their bytes: the header, a source, an archive's settings, and what entries hold.
-ghost use Rattle.std.specs.Prelude.{◌≡◌, ◌≢◌, None, IfSome, length};
+ghost use Rattle.std.specs.Prelude.{◌≡◌, ◌≢◌, ◌+◌, ◌++◌, ◌<◌, ◌≤◌, None, IfSome, length};
 ghost use Rattle.rrd_spec.specs.declared.entry.SourceBefore.{SourceBefore};
 ghost use Rattle.rrd_spec.specs.declared.settings.RraDef.{RraDef};
 ghost use Rattle.rrd_spec.specs.Files.Filed.{Source};
-ghost use Rattle.rrd_file.specs.Layout.Pieces.{spell, OfArchive, OfHeader, OfRawAndPart, OfSource, OfSourceBefore};
+ghost use Rattle.rrd_file.specs.Stages.{count_size, header_size};
+ghost use Rattle.rrd_file.specs.Layout.Pieces.{count_bytes, spell, OfArchive, OfHeader, OfRawAndPart, OfSource, OfSourceBefore};
 ghost use Rattle.rrd_file.specs.Decoding.Pieces.{header_said, source_said};
-ghost use Rattle.rrd_file.specs.Decoding.Values.{FitsArchive, FitsHeader, FitsPart, FitsRaw, FitsSource, FitsSourceBefore};
+ghost use Rattle.rrd_file.specs.Decoding.Values.{counts, FitsArchive, FitsHeader, FitsPart, FitsRaw, FitsSource, FitsSourceBefore};
 
 use super::values::{def_of, eight_of, four_of, function_of, part_of, raw_of, two_of};
-use rrd_base::{DsDef, RraDef, SourceBefore};
+use rrd_base::{DsDef, RraDef, SourceBefore, Version};
 use rrd_fixed::Raw;
 
 /// What a header says.
@@ -22,18 +23,31 @@ pub(crate) struct HeaderRead {
     pub(crate) entries: u64,
 }
 
-/// The header of twenty bytes.
-pub(crate) fn header_of(bytes: &[u8]) -> HeaderRead
-    requires { length bytes.now ≡ 20 }
-    ensures spelled { spell (OfHeader (header_said result)) ≡ bytes.now }
-    ensures fits { FitsHeader (header_said result) }
+// A count of a header in a version, and the bytes behind it.
+fn count_of(version: Version, bytes: &[u8]) -> (u64, &[u8])
+    requires { count_size version ≤ length bytes.now }
+    ensures spelled { bytes.now ≡ count_bytes version result.0 ++ result.1.now }
+    ensures small { result.0 < counts version }
+    ensures room { length result.1.now + count_size version ≡ length bytes.now }
+{
+    match version {
+        Version::One => two_of(bytes),
+        Version::Two => four_of(bytes),
+    }
+}
+
+/// The header of a version.
+pub(crate) fn header_of(version: Version, bytes: &[u8]) -> HeaderRead
+    requires { length bytes.now ≡ header_size version }
+    ensures spelled { spell (OfHeader (header_said version result)) ≡ bytes.now }
+    ensures fits { FitsHeader (header_said version result) }
 {
     let (step, rest) = four_of(bytes);
     let (last, rest) = eight_of(rest);
-    let (depth, rest) = two_of(rest);
+    let (depth, rest) = count_of(version, rest);
     let (sources, rest) = two_of(rest);
     let (archives, rest) = two_of(rest);
-    let (entries, _) = two_of(rest);
+    let (entries, _) = count_of(version, rest);
     HeaderRead {
         step,
         last,

@@ -1,7 +1,8 @@
 //! The body of a file: header, data sources, archives, and the cells of all archives, slot by slot.
 ghost use Rattle.std.specs.Prelude.{◌≡◌, ◌<◌, ◌≤◌, ◌∷◌, [], length, map, slice_get, slice_range, Some};
 ghost use Rattle.std.specs.List.{flat_map};
-ghost use Rattle.rrd_spec.specs.Files.Filed.{One, Source, filed, head_of, header_of};
+ghost use Rattle.rrd_spec.specs.Files.Filed.{Source, filed, head_of, header_of};
+ghost use Rattle.rrd_spec.specs.Limits.{newest};
 ghost use Rattle.rrd_spec.specs.Files.Slots.{all_cells, cells_by_slot};
 ghost use Rattle.rrd_spec.specs.History.{Archive};
 ghost use Rattle.rrd_file.specs.Encoding.Block.{Gathers};
@@ -24,18 +25,18 @@ pub(crate) fn write_header<W: Write>(
     database: &Database,
 ) -> Result<(), WriteFault>
     ensures { Gathers (W.contents out.old) block.old (W.contents out.new) block.new
-        (spelled (Mark ∷ OfVersion One ∷ OfHeader (header_of One database.now) ∷ [])) result }
+        (spelled (Mark ∷ OfVersion newest ∷ OfHeader (header_of newest database.now) ∷ [])) result }
 {
     let entries = database.undoable();
     block.make_room(out)?;
     block.add(b"RRDI");
-    block.two(1);
+    block.two(2);
     block.four(database.step());
     block.eight(database.last());
-    block.two(database.depth());
+    block.four(database.depth());
     block.two(database.sources());
     block.two(database.archives());
-    block.two(entries);
+    block.four(entries);
     Ok(())
 }
 
@@ -48,7 +49,7 @@ fn write_source<W: Write>(
     number: u64,
 ) -> Result<(), WriteFault>
     requires { number < length database.now.content.sources }
-    ensures { (s : Source) → slice_get (filed One database.now).sources number ≡ Some s
+    ensures { (s : Source) → slice_get (filed newest database.now).sources number ≡ Some s
         → Gathers (W.contents out.old) block.old (W.contents out.new) block.new (spell (OfSource s)) result }
 {
     let prep = database.step_prep(number);
@@ -66,7 +67,7 @@ fn write_sources<W: Write>(
     database: &Database,
 ) -> Result<(), WriteFault>
     ensures { Gathers (W.contents out.old) block.old (W.contents out.new) block.new
-        (spelled (map OfSource (filed One database.now).sources)) result }
+        (spelled (map OfSource (filed newest database.now).sources)) result }
 {
     for number in 0..database.sources() {
         write_source(out, block, database, number)?;
@@ -134,7 +135,7 @@ fn write_heads<W: Write>(
     database: &Database,
 ) -> Result<(), WriteFault>
     ensures { Gathers (W.contents out.old) block.old (W.contents out.new) block.new
-        (spelled (flat_map head_pieces (filed One database.now).heads)) result }
+        (spelled (flat_map head_pieces (filed newest database.now).heads)) result }
 {
     for archive in 0..database.archives() {
         write_head(out, block, database, archive)?;
@@ -232,7 +233,7 @@ pub(crate) fn write_body<W: Write>(
     database: &Database,
 ) -> Result<(), WriteFault>
     ensures { Gathers (W.contents out.old) block.old (W.contents out.new) block.new
-        (spelled (body_pieces (filed One database.now))) result }
+        (spelled (body_pieces (filed newest database.now))) result }
 {
     write_sources(out, block, database)?;
     write_heads(out, block, database)?;

@@ -1,5 +1,4 @@
 //! The journal's entries, newest first.
-ghost use Rattle.std.specs.Prelude.{◌≡◌};
 ghost use Rattle.std.specs.List.{flat_map};
 ghost use Rattle.rrd_base.specs.Journal.{entry_of};
 ghost use Rattle.rrd_file.specs.Encoding.Block.{Gathers};
@@ -7,6 +6,7 @@ ghost use Rattle.rrd_file.specs.Encoding.Journal.{IsEntryOfSome};
 ghost use Rattle.rrd_file.specs.Layout.{entry_pieces, spelled};
 
 use crate::encoding::block::Block;
+use archives::{write_added, write_removed};
 use resize::write_resize;
 use rrd_base::{Database, Entry};
 use rrd_fixed::WriteFault;
@@ -14,6 +14,7 @@ use std::io::Write;
 use tune::write_tune;
 use update::write_update;
 
+mod archives;
 mod resize;
 mod tune;
 mod update;
@@ -28,6 +29,8 @@ fn write_entry<W: Write>(out: &mut W, block: &mut Block, entry: &Entry) -> Resul
         Entry::Update(before) => write_update(out, block, before),
         Entry::Tune(olds) => write_tune(out, block, olds.as_slice()),
         Entry::Resize { archive, old } => write_resize(out, block, *archive, old),
+        Entry::Added => write_added(out, block),
+        Entry::Removed { archive, old } => write_removed(out, block, *archive, old),
     }
 }
 

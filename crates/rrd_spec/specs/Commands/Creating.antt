@@ -1,7 +1,6 @@
 -- Definition: which databases can be made, and how a new one stands (rrdcreate).
-use Rattle.std.specs.Prelude.{ℕ, ℤ, pos, int_lt, nat_lt, ◌==◌, Bool, not, ◌||◌, Option, List, [], ◌∷◌, ◌++◌, length, map, replicate}
+use Rattle.std.specs.Prelude.{ℕ, nat_lt, ◌==◌, Bool, not, ◌||◌, Option, List, [], ◌∷◌, ◌++◌, length, map, replicate}
 use Rattle.std.specs.List.{list_any}
-use Rattle.rrd_fixed.specs.declared.cell.Cell.{Cell}
 use Rattle.rrd_fixed.specs.declared.raw.Raw.{Raw}
 use Rattle.rrd_fixed.specs.Names.{is_good}
 use Rattle.rrd_fold.specs.Parts.{nothing}
@@ -10,23 +9,18 @@ use Rattle.rrd_spec.specs.declared.settings.DsDef.{DsDef}
 use Rattle.rrd_spec.specs.declared.settings.RraDef.{RraDef}
 use Rattle.rrd_spec.specs.declared.refusal.Refusal.{Refusal}
 use Rattle.rrd_spec.specs.declared.refusal.Refusal.TheVariants.{BadStep, BadStart, NoSource, NoArchive, BadName, DoubleName, BadHeartbeat, BadBounds, BadXff, BadSteps, BadRows, TooLarge, BadDepth}
-use Rattle.rrd_spec.specs.Limits.{Limits, version_one}
-use Rattle.rrd_spec.specs.History.{Archive, Content}
+use Rattle.rrd_spec.specs.Limits.{Limits, present}
+use Rattle.rrd_spec.specs.History.{Content}
+pub use Rattle.rrd_spec.specs.History.Lives.{new_archive}
 use Rattle.rrd_spec.specs.Settings.{Settings, names, is_double, cells}
 use Rattle.rrd_spec.specs.Commands.Verdict.{Check, ◌refuses◌, first_refusal, has_bad_bounds, is_bad_heartbeat, is_bad_rows, is_out}
+pub use Rattle.rrd_spec.specs.Commands.Verdict.{is_bad_steps, is_bad_xff}
 use Rattle.rrd_spec.specs.History.Steps.{step}
 
 -- ---- what is refused
 
 abbrev pub is_bad_step : Limits → ℕ → Bool
 is_bad_step limits step = is_out limits.longest_step step
-
--- a share that isn't from 0 to the greatest one
-abbrev pub is_bad_xff : Limits → ℤ → Bool
-is_bad_xff limits xff = int_lt xff (pos 0) || int_lt (pos limits.greatest_share) xff
-
-abbrev pub is_bad_steps : Limits → ℕ → Bool
-is_bad_steps limits steps = is_out limits.most_steps steps
 
 abbrev pub is_bad_depth : Limits → ℕ → Bool
 is_bad_depth limits depth = is_out limits.deepest_journal depth
@@ -86,14 +80,9 @@ unfoldable pub create_verdict_within : Limits → CreateSpec → Option Refusal
 create_verdict_within limits spec = first_refusal (create_checks limits spec)
 
 abbrev pub create_verdict : CreateSpec → Option Refusal
-create_verdict = create_verdict_within version_one
+create_verdict = create_verdict_within present
 
 -- ---- the new database
-
--- an archive in which every row is unknown, for so many sources
-abbrev pub new_archive : ℕ → RraDef → Archive
-new_archive sources def =
-    record { def = def; parts = replicate sources nothing; rows = replicate def.rows (replicate sources Cell.Unknown) }
 
 -- the base that is made: its last time is the start, and nothing is known yet
 abbrev pub created : CreateSpec → Content

@@ -1,6 +1,6 @@
 -- Definition: which commands are accepted, and what refuses the others. What can be wrong is that of rrdupdate,
 -- rrdtune and rrdresize; the limits and the order of the refusals are this project's.
-use Rattle.std.specs.Prelude.{ℕ, ◌+◌, ℤ, int_lt, unsigned_abs, nat_lt, nat_le, ◌==◌, if◌then◌else◌, Bool, true, false, not, ◌&&◌, ◌||◌, Option, Some, None, is_none, List, [], ◌∷◌, ◌++◌, length, slice_index_or}
+use Rattle.std.specs.Prelude.{ℕ, ◌+◌, ℤ, pos, int_lt, unsigned_abs, nat_lt, nat_le, ◌==◌, if◌then◌else◌, Bool, true, false, not, ◌&&◌, ◌||◌, Option, Some, None, is_none, List, [], ◌∷◌, ◌++◌, length, slice_index_or}
 use Rattle.std.specs.List.{fold, list_any, list_all}
 use Rattle.std.specs.Option.{option_map_or, unwrap_or}
 use Rattle.rrd_fixed.specs.declared.name.Name.{Name}
@@ -8,16 +8,18 @@ use Rattle.rrd_fixed.specs.Names.{is_good, same_name}
 use Rattle.rrd_fixed.specs.Admitted.{admit}
 use Rattle.rrd_spec.specs.declared.settings.DsDef.{DsDef}
 use Rattle.rrd_spec.specs.declared.refusal.Refusal.{Refusal}
-use Rattle.rrd_spec.specs.declared.refusal.Refusal.TheVariants.{BadName, DoubleName, BadHeartbeat, BadBounds, BadRows, TooLarge, NoSuchSource, WrongCount, BadValue, NotLater, NoSample, NothingToTune, NoSuchArchive, ShrinkTooFar, BadTime}
+use Rattle.rrd_spec.specs.declared.refusal.Refusal.TheVariants.{BadName, DoubleName, BadHeartbeat, BadBounds, BadRows, TooLarge, NoSuchSource, WrongCount, BadValue, NotLater, NoSample, NothingToTune, NoSuchArchive, ShrinkTooFar, BadTime, MixedTune, BadXff, BadSteps, NoArchive}
 use Rattle.rrd_spec.specs.declared.requests.update.Given.{Given}
 use Rattle.rrd_spec.specs.declared.requests.update.Sample.{Sample}
 use Rattle.rrd_spec.specs.declared.requests.update.Update.{Update}
 use Rattle.rrd_spec.specs.declared.requests.tune.Tuning.{Tuning}
+use Rattle.rrd_spec.specs.declared.requests.tune.ArchiveTune.{ArchiveTune}
+use Rattle.rrd_spec.specs.declared.requests.tune.ArchiveTune.TheVariants.{Add, Remove}
 use Rattle.rrd_spec.specs.declared.requests.resize.Change.{Change}
 use Rattle.rrd_spec.specs.declared.requests.resize.Change.TheVariants.{Grow, Shrink}
-use Rattle.rrd_spec.specs.Limits.{Limits, version_one}
+use Rattle.rrd_spec.specs.Limits.{Limits, present}
 use Rattle.rrd_spec.specs.History.{Content}
-use Rattle.rrd_spec.specs.Commands.{Asked, Command, Updating, TuningBy, Resizing, settings_of, settings_after, events, value_for, tuned}
+use Rattle.rrd_spec.specs.Commands.{Asked, Command, Updating, TuningBy, Resizing, settings_of, settings_after, archive_event, events, value_for, tuned}
 use Rattle.rrd_spec.specs.Settings.{Settings, names, cells, has_source, is_double}
 
 -- what can be wrong, and the refusal that says so
@@ -57,6 +59,13 @@ is_bad_heartbeat limits seconds = is_out limits.longest_heartbeat seconds
 
 abbrev pub is_bad_rows : Limits → ℕ → Bool
 is_bad_rows limits rows = is_out limits.most_rows rows
+
+-- a share that isn't from 0 to the greatest one
+abbrev pub is_bad_xff : Limits → ℤ → Bool
+is_bad_xff limits xff = int_lt xff (pos 0) || int_lt (pos limits.greatest_share) xff
+
+abbrev pub is_bad_steps : Limits → ℕ → Bool
+is_bad_steps limits steps = is_out limits.most_steps steps
 
 -- ---- each command
 
@@ -100,13 +109,21 @@ abbrev pub names_no_source : {A : Type 0} → List DsDef → Option (Asked A) �
 names_no_source sources None = false
 names_no_source sources (Some option) = not (has_source sources option.0)
 
-abbrev pub asks_nothing : Tuning → Bool
-asks_nothing tuning =
+-- there is no option
+abbrev pub has_no_option : Tuning → Bool
+has_no_option tuning =
     is_none tuning.heartbeat
     && is_none tuning.minimum
     && is_none tuning.maximum
     && is_none tuning.kind
     && is_none tuning.rename
+
+abbrev pub asks_nothing : Tuning → Bool
+asks_nothing tuning = has_no_option tuning && is_none tuning.archive
+
+-- an archive stands alone
+abbrev pub is_mixed : Tuning → Bool
+is_mixed tuning = not (has_no_option tuning) && not (is_none tuning.archive)
 
 -- an option names no source
 abbrev pub any_names_no_source : List DsDef → Tuning → Bool
@@ -130,15 +147,39 @@ abbrev pub asks_bad_heartbeat : Limits → Tuning → Bool
 asks_bad_heartbeat limits tuning =
     option_map_or (λ (option : Asked ℕ). is_bad_heartbeat limits option.1) tuning.heartbeat false
 
-abbrev pub tune_checks : Limits → List DsDef → Tuning → List Check
-tune_checks limits sources tuning =
+-- the database would be too large with one archive more
+abbrev pub archive_is_too_large : Limits → Settings → Bool
+archive_is_too_large limits settings =
+    nat_lt limits.most_archives (length settings.rows) || nat_lt limits.most_cells (cells settings)
+
+abbrev pub archive_tune_checks : Limits → Settings → Option ArchiveTune → List Check
+archive_tune_checks limits settings None = []
+archive_tune_checks limits settings (Some (Add def)) =
+    ◌refuses◌ (is_bad_xff limits def.xff) BadXff
+    ∷ ◌refuses◌ (is_bad_steps limits def.steps) BadSteps
+    ∷ ◌refuses◌ (is_bad_rows limits def.rows) BadRows
+    ∷ ◌refuses◌ (archive_is_too_large limits (settings_after settings (archive_event (Add def)))) TooLarge
+    ∷ []
+archive_tune_checks limits settings (Some (Remove archive)) =
+    ◌refuses◌ (nat_le (length settings.rows) archive) NoSuchArchive
+    ∷ ◌refuses◌ (nat_le (length settings.rows) 1) NoArchive
+    ∷ []
+
+abbrev pub option_checks : Limits → List DsDef → Tuning → List Check
+option_checks limits sources tuning =
     ◌refuses◌ (asks_nothing tuning) NothingToTune
+    ∷ ◌refuses◌ (is_mixed tuning) MixedTune
     ∷ ◌refuses◌ (any_names_no_source sources tuning) NoSuchSource
     ∷ ◌refuses◌ (asks_bad_name tuning) BadName
     ∷ ◌refuses◌ (asks_double_name sources tuning) DoubleName
     ∷ ◌refuses◌ (asks_bad_heartbeat limits tuning) BadHeartbeat
     ∷ ◌refuses◌ (list_any (λ (source : DsDef). has_bad_bounds limits (tuned tuning source)) sources) BadBounds
     ∷ []
+
+-- the options, and then what is asked of an archive
+abbrev pub tune_checks : Limits → Settings → Tuning → List Check
+tune_checks limits settings tuning =
+    option_checks limits settings.sources tuning ++ archive_tune_checks limits settings tuning.archive
 
 -- the rows that the archive would have are too many
 abbrev pub grows_too_far : Limits → Change → ℕ → ℕ → Bool
@@ -164,7 +205,7 @@ resize_checks limits settings archive change rows =
 
 abbrev pub checks : Limits → Content → Command → List Check
 checks limits base (Updating update) = update_checks limits base.sources base.last update
-checks limits base (TuningBy tuning) = tune_checks limits base.sources tuning
+checks limits base (TuningBy tuning) = tune_checks limits (settings_of base) tuning
 checks limits base (Resizing archive change rows) = resize_checks limits (settings_of base) archive change rows
 
 -- the refusal of a command, none if it is accepted. Memory isn't spoken of
@@ -172,7 +213,7 @@ unfoldable pub verdict_within : Limits → Content → Command → Option Refusa
 verdict_within limits base command = first_refusal (checks limits base command)
 
 abbrev pub verdict : Content → Command → Option Refusal
-verdict = verdict_within version_one
+verdict = verdict_within present
 
 abbrev pub is_accepted : Content → Command → Bool
 is_accepted now command = is_none (verdict now command)

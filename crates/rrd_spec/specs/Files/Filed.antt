@@ -5,16 +5,13 @@ use Rattle.rrd_fixed.specs.declared.raw.Raw.{Raw}
 use Rattle.rrd_fold.specs.Parts.{Part}
 use Rattle.rrd_spec.specs.declared.settings.DsDef.{DsDef}
 use Rattle.rrd_spec.specs.declared.settings.RraDef.{RraDef}
+use Rattle.rrd_spec.specs.declared.version.Version.{Version}
 use Rattle.rrd_spec.specs.History.{Archive}
 use Rattle.rrd_spec.specs.Journal.Entries.{Entry}
 use Rattle.rrd_spec.specs.Files.Slots.{all_cells}
 use Rattle.rrd_spec.specs.Journal.Survivors.{Stored}
 
 -- ---- the lists
-
--- a version of the layout
-pub data Version : Type 0 where
-  One : Version
 
 -- step and last time in seconds, the journal's depth, and how many sources, archives and entries there are
 pub record Header : Type 0 where

@@ -1,6 +1,6 @@
 -- Definition: which piece of a database is due when it comes piece by piece, as a file has it, which piece may come,
 -- and what it adds (own).
-use Rattle.std.specs.Prelude.{◌≡◌, ℕ, ◌+◌, ◌*◌, ◌/◌, ◌%◌, ◌<◌, ◌≤◌, ◌≤ℤ◌, pos, false, nat_lt, if◌then◌else◌, Option, Some, None, List, [], ◌∷◌, ◌++◌, length, map, sum}
+use Rattle.std.specs.Prelude.{◌≡◌, ℕ, ◌+◌, ◌*◌, ◌/◌, ◌%◌, ◌<◌, ◌≤◌, false, nat_lt, if◌then◌else◌, Option, Some, None, List, [], ◌∷◌, ◌++◌, length, map, sum}
 use Rattle.std.specs.List.{fold}
 use Rattle.rrd_fixed.specs.declared.cell.Cell.{Cell}
 use Rattle.rrd_fixed.specs.Rate.{IsAccepted, IsBounded}
@@ -10,18 +10,16 @@ use Rattle.rrd_spec.specs.declared.due.Due.{Due}
 use Rattle.rrd_spec.specs.declared.due.Due.TheVariants.{SourceDue, HeadDue, PrepDue, CellDue, EntryDue, NothingDue}
 use Rattle.rrd_spec.specs.declared.outline.Outline.{Outline}
 use Rattle.rrd_spec.specs.declared.settings.RraDef.{RraDef}
-use Rattle.rrd_spec.specs.Limits.{Limits, version_one}
+use Rattle.rrd_spec.specs.Limits.{Limits, limits_of}
 use Rattle.rrd_spec.specs.Settings.{has_source}
 use Rattle.rrd_spec.specs.Journal.Entries.{Entry}
-use Rattle.rrd_spec.specs.Files.Filed.{Filed, Header, Head, Source, Version, One}
+use Rattle.rrd_spec.specs.Files.Filed.{Filed, Header, Head, Source}
 use Rattle.rrd_spec.specs.Journal.Outlines.{outline_undone}
+pub use Rattle.rrd_spec.specs.Journal.Fitting.{IsArchiveDef}
 use Rattle.rrd_spec.specs.Journal.Fitting.{MayUndo}
 use Rattle.rrd_spec.specs.Validity.{IsPart, IsSourceWithin}
 
--- the limits of a database in a file of a version
-abbrev pub limits_of : Version → Limits
-limits_of One = version_one
-
+-- the limits of a database in a file of this version
 abbrev pub limits : Filed → Limits
 limits f = limits_of f.header.version
 
@@ -74,15 +72,6 @@ pub record MaySource (f : Filed) (s : Source) : Type 0 where
   pub raw_is : IsAccepted s.def.kind s.raw
   pub part_is : IsPart Average (f.header.last % f.header.step) s.part
   pub name_differs : has_source (map (λ (source : Source). source.def) f.sources) s.def.name ≡ false
-
--- an archive's settings
-pub record IsArchiveDef (limits : Limits) (def : RraDef) : Type 0 where
-  pub some_steps : 0 < def.steps
-  pub few_steps : def.steps ≤ limits.most_steps
-  pub some_rows : 0 < def.rows
-  pub few_rows : def.rows ≤ limits.most_rows
-  pub xff_low : pos 0 ≤ℤ def.xff
-  pub xff_high : def.xff ≤ℤ pos limits.greatest_share
 
 pub record MayHead (f : Filed) (def : RraDef) : Type 0 where
   pub is_due : due f ≡ HeadDue

@@ -1,15 +1,16 @@
 -- Definition: what an archive shows at each time.
 use Rattle.std.specs.Prelude.{ℕ, ◌+◌, ◌-◌, ◌*◌, ◌/◌, ℤ, pos, ◌+ℤ◌, ◌-ℤ◌, int_lt, int_le, if◌then◌else◌, List, [], ◌∷◌, map, length, replicate, slice_index_or, negsuc, nat_lt, zero, suc, Result, ok_or, option_map, slice_get}
-use Rattle.std.specs.List.{fold, enumerate_from, range_with_len}
+use Rattle.std.specs.List.{fold, range_with_len}
 use Rattle.std.specs.Int.{int_max, int_div_euclid}
 use Rattle.rrd_fixed.specs.declared.cell.Cell.{Cell}
 use Rattle.rrd_spec.specs.declared.refusal.Refusal.{Refusal}
 use Rattle.rrd_spec.specs.declared.refusal.Refusal.TheVariants.{NoSuchArchive}
 use Rattle.rrd_spec.specs.declared.settings.RraDef.{RraDef}
 use Rattle.rrd_spec.specs.Settings.{resolution}
-use Rattle.rrd_spec.specs.History.{Archive, Content, Event, definitions, moment_at_end, rows_at_end}
+use Rattle.rrd_spec.specs.History.{Archive, Content, Event, definitions, moment_after, moment_at_end, rows_at_end}
+use Rattle.rrd_spec.specs.History.Lives.{Life, lives}
 use Rattle.rrd_spec.specs.History.Steps.{parts_of}
-use Rattle.rrd_spec.specs.History.Rows.{row_parts_of, row_ending}
+use Rattle.rrd_spec.specs.History.Rows.{row_parts, row_ending}
 use Rattle.rrd_fixed.specs.declared.cell.Cell.TheVariants.{Unknown}
 use Rattle.rrd_fold.specs.declared.function.Function.TheVariants.{Average}
 use Rattle.rrd_fold.specs.Bounds.{Consolidating}
@@ -21,11 +22,14 @@ row_of_age rows unknown (pos age) =
     if nat_lt age (length rows) then slice_index_or rows (length rows - 1 - age) unknown else unknown
 row_of_age rows unknown (negsuc ahead) = unknown
 
+-- of an archive with cells of so many sources, steps of so many seconds, at a last time
+abbrev pub row_then : ℕ → ℕ → ℕ → Archive → ℤ → List Cell
+row_then sources step last archive time =
+    let size = resolution step archive.def in
+    row_of_age archive.rows (replicate sources Cell.Unknown) (pos (last / size) -ℤ int_div_euclid time (pos size))
+
 abbrev pub row_at : Content → Archive → ℤ → List Cell
-row_at content archive time =
-    let size = resolution content.step archive.def in
-    row_of_age archive.rows (replicate (length content.sources) Cell.Unknown)
-    (pos (content.last / size) -ℤ int_div_euclid time (pos size))
+row_at content archive time = row_then (length content.sources) content.step content.last archive time
 
 -- the cell of a source in the row at a time of the archive of this number; unknown where there is none
 abbrev pub cell_in : Content → List Archive → ℕ → ℤ → ℕ → Cell
@@ -67,36 +71,37 @@ abbrev pub greatest : List ℤ → ℤ
 greatest [] = pos 0
 greatest (x ∷ xs) = fold int_max x xs
 
--- the time after which an archive's rows reach once the events have come
-abbrev pub reach_after : Content → ℕ → Archive → List Event → ℤ
-reach_after base index archive events =
-    reach (resolution base.step archive.def) (rows_at_end index archive.def.rows events)
-    (moment_at_end base events).last
+-- the time after which an archive's rows reach once some of what happened to it since it began has come
+abbrev pub reach_after : ℕ → Life → List Event → ℤ
+reach_after step life since =
+    reach (resolution step life.begun.def) (rows_at_end 0 life.begun.def.rows since)
+    (fold moment_after life.birth since).last
 
--- the time up to which rows have been lost: an archive never shows again what at any moment it had no place for
--- (rrdresize)
-abbrev pub horizon : Content → ℕ → Archive → List Event → ℤ
-horizon base index archive events = greatest (map (reach_after base index archive) (prefixes events))
+-- the time up to which rows have been lost: an archive never shows again what at any moment since it began it had no
+-- place for (rrdresize)
+abbrev pub horizon : ℕ → Life → ℤ
+horizon step life = greatest (map (reach_after step life) (prefixes life.since))
 
 -- ---- what an archive shows
 
 -- Each second by itself is `second` in History, and each step and row by itself is `step` and `row` in History/Steps.
 
--- the row at a time, a multiple of the resolution: unknown up to the horizon and after the end; else the base's where
--- the base has come so far; else that of its steps (rrdresize)
-abbrev pub row_by_time : Content → ℕ → Archive → List Event → ℤ → List Cell
-row_by_time base index archive events time =
-    let size = resolution base.step archive.def in
+-- the row at a time, a multiple of the resolution: unknown up to the horizon and after the end; else the one that it
+-- began with where it had come so far, which is the base's, or unknown in an archive that was added; else that of its
+-- steps (rrdresize)
+abbrev pub row_by_time : Content → Life → List Event → ℤ → List Cell
+row_by_time base life events time =
+    let size = resolution base.step life.begun.def in
     let unknown = replicate (length base.sources) Cell.Unknown in
-    if int_le time (horizon base index archive events) then unknown
+    if int_le time (horizon base.step life) then unknown
     else (if int_lt (pos (newest size (moment_at_end base events).last)) time then unknown
-    else (if int_le time (pos (newest size base.last)) then row_at base archive time
-    else row_ending base archive events time))
+    else (if int_le time (pos (newest size life.birth.last))
+    then row_then (length base.sources) base.step life.birth.last life.begun time
+    else row_ending base life events time))
 
 -- a source's cell at a time (rrdfetch)
-abbrev pub cell : Content → ℕ → Archive → List Event → ℤ → ℕ → Cell
-cell base index archive events time source =
-    slice_index_or (row_by_time base index archive events time) source Cell.Unknown
+abbrev pub cell : Content → Life → List Event → ℤ → ℕ → Cell
+cell base life events time source = slice_index_or (row_by_time base life events time) source Cell.Unknown
 
 -- ---- a content by the times of its rows
 
@@ -115,20 +120,19 @@ oldest_time content number =
     NoSuchArchive
 
 -- an archive's rows, oldest first: those at the last multiples of the resolution up to the end
-abbrev pub rows_by_time : Content → ℕ → Archive → List Event → List (List Cell)
-rows_by_time base index archive events =
-    let size = resolution base.step archive.def in
-    let rows = rows_at_end index archive.def.rows events in
-    map (λ (place : ℕ). row_by_time base index archive events
-    (time_of size rows (moment_at_end base events).last place)) (range_with_len 0 rows)
+abbrev pub rows_by_time : Content → List Event → Life → List (List Cell)
+rows_by_time base events life =
+    let rows = rows_at_end 0 life.begun.def.rows life.since in
+    map (λ (place : ℕ). row_by_time base life events
+    (time_of (resolution base.step life.begun.def) rows (moment_at_end base events).last place)) (range_with_len 0 rows)
 
 -- an archive after the events: its settings with its number of rows, what its unfinished row has made of its steps,
 -- and its rows
-abbrev pub archive_by_time : Content → List Event → ℕ × Archive → Archive
-archive_by_time base events (index, archive) = record {
-  def = record archive.def { rows = rows_at_end index archive.def.rows events };
-  parts = row_parts_of base archive events;
-  rows = rows_by_time base index archive events;
+abbrev pub archive_by_time : Content → List Event → Life → Archive
+archive_by_time base events life = record {
+  def = record life.begun.def { rows = rows_at_end 0 life.begun.def.rows life.since };
+  parts = row_parts base life events;
+  rows = rows_by_time base events life;
 }
 
 -- the content of a history, each row being that of its time
@@ -140,5 +144,5 @@ content base events = record {
   last = (moment_at_end base events).last;
   raws = (moment_at_end base events).raws;
   parts = parts_of base events;
-  archives = map (archive_by_time base events) (enumerate_from 0 base.archives);
+  archives = map (archive_by_time base events) (lives base events);
 }

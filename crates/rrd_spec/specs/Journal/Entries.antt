@@ -1,18 +1,22 @@
 -- Definition: what the journal keeps of a command, and how it is undone (own).
-use Rattle.std.specs.Prelude.{◌≡◌, ℕ, zero, suc, ◌+◌, ◌-◌, ◌/◌, min, Bool, false, ◌||◌, if◌then◌else◌, Option, Some, None, List, [], ◌∷◌, ◌++◌, map, length, take, slice_set}
-use Rattle.std.specs.List.{fold}
+use Rattle.std.specs.Prelude.{◌≡◌, ℕ, zero, suc, pos, ◌+◌, ◌-◌, ◌/◌, min, Bool, false, ◌||◌, if◌then◌else◌, Option, Some, None, List, [], ◌∷◌, ◌++◌, map, length, take, slice_index_or, slice_set}
+use Rattle.std.specs.List.{fold, insert}
 use Rattle.rrd_fixed.specs.declared.cell.Cell.{Cell}
 use Rattle.rrd_fixed.specs.declared.raw.Raw.{Raw}
 use Rattle.rrd_spec.specs.declared.settings.DsDef.{DsDef}
 use Rattle.rrd_spec.specs.declared.entry.SourceBefore.{SourceBefore}
 use Rattle.rrd_spec.specs.declared.settings.RraDef.{RraDef}
 use Rattle.rrd_fold.specs.declared.function.Function.{Function}
+use Rattle.rrd_fold.specs.declared.function.Function.TheVariants.{Average}
 use Rattle.rrd_fold.specs.Parts.{Part}
+use Rattle.std.specs.Option.{option_map_or}
 use Rattle.rrd_spec.specs.Settings.{resolution}
 use Rattle.rrd_spec.specs.History.{Archive, Content, IsBase}
 use Rattle.rrd_spec.specs.Commands.{Asked, Command, Updating, TuningBy, Resizing, moved}
 use Rattle.rrd_fixed.specs.Names.{same_name}
 use Rattle.rrd_spec.specs.declared.requests.tune.Tuning.{Tuning}
+use Rattle.rrd_spec.specs.declared.requests.tune.ArchiveTune.{ArchiveTune}
+use Rattle.rrd_spec.specs.declared.requests.tune.ArchiveTune.TheVariants.{Add, Remove}
 use Rattle.rrd_spec.specs.History.Rows.{row}
 use Rattle.rrd_spec.specs.History.Steps.{step}
 
@@ -32,6 +36,9 @@ pub data Entry : Type 0 where
   UpdateEntry : BeforeUpdate → Entry
   TuneEntry : List SourceBefore → Entry
   ResizeEntry : ℕ → List (List Cell) → Entry
+  -- an archive was added; the archive of a number was removed
+  AddedEntry : Entry
+  RemovedEntry : ℕ → Archive → Entry
 
 -- ---- the entry of a command
 
@@ -69,6 +76,20 @@ rows_at [] index = []
 rows_at (archive ∷ archives) zero = archive.rows
 rows_at (archive ∷ archives) (suc index) = rows_at archives index
 
+-- the archive of a number, which is there
+abbrev pub archive_at : List Archive → ℕ → Archive
+archive_at archives number =
+    slice_index_or archives number (record {
+      def = record { function = Average; xff = pos 0; steps = 0; rows = 0 };
+      parts = [];
+      rows = [];
+    })
+
+-- what is kept of an archive that comes or goes
+abbrev pub archive_entry : Content → ArchiveTune → Entry
+archive_entry base (Add def) = AddedEntry
+archive_entry base (Remove number) = RemovedEntry number (archive_at base.archives number)
+
 -- what is kept of a content before an update that ends at a time
 abbrev pub before : Content → ℕ → BeforeUpdate
 before base end =
@@ -81,7 +102,8 @@ before base end =
 
 abbrev pub entry : Content → Command → Entry
 entry base (Updating update) = UpdateEntry (before base (moved base (Updating update)).last)
-entry base (TuningBy tuning) = TuneEntry (sources_before tuning 0 base.sources base.raws)
+entry base (TuningBy tuning) =
+    option_map_or (archive_entry base) tuning.archive (TuneEntry (sources_before tuning 0 base.sources base.raws))
 entry base (Resizing archive change rows) = ResizeEntry archive (rows_at base.archives archive)
 
 -- how many cells there are in rows, in what an update saved, and in an entry
@@ -97,6 +119,8 @@ abbrev pub entry_cells : Entry → ℕ
 entry_cells (UpdateEntry old) = cells_saved old.archives
 entry_cells (TuneEntry olds) = 0
 entry_cells (ResizeEntry archive rows) = cells_in rows
+entry_cells AddedEntry = 0
+entry_cells (RemovedEntry number archive) = cells_in archive.rows
 
 -- ---- undoing
 
@@ -130,6 +154,8 @@ undone now (UpdateEntry old) =
     }
 undone now (TuneEntry olds) = fold with_source now olds
 undone now (ResizeEntry archive rows) = record now { archives = with_rows_at now.archives archive rows }
+undone now AddedEntry = record now { archives = take (length now.archives - 1) now.archives }
+undone now (RemovedEntry number archive) = record now { archives = insert now.archives number archive }
 
 -- ---- what can be undone
 

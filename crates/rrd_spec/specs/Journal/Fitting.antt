@@ -1,5 +1,5 @@
 -- Definition: which journal entry fits an outline (own).
-use Rattle.std.specs.Prelude.{◌≡◌, ◌≢◌, ℕ, ◌/◌, ◌%◌, ◌<◌, ◌≤◌, min, false, List, [], ◌∷◌, length, slice_index_or}
+use Rattle.std.specs.Prelude.{◌≡◌, ◌≢◌, ℕ, ◌/◌, ◌%◌, ◌<◌, ◌≤◌, ◌≤ℤ◌, pos, min, true, false, List, [], ◌∷◌, ◌*◌, ◌+◌, length, slice_index_or, sum}
 use Rattle.std.specs.List.{AllByRecursion}
 use Rattle.rrd_fixed.specs.declared.cell.Cell.{Cell}
 use Rattle.rrd_fixed.specs.Rate.{IsAccepted}
@@ -8,8 +8,9 @@ use Rattle.rrd_spec.specs.declared.entry.SourceBefore.{SourceBefore}
 use Rattle.rrd_spec.specs.declared.outline.Outline.{Outline}
 use Rattle.rrd_spec.specs.declared.settings.RraDef.{RraDef}
 use Rattle.rrd_spec.specs.Limits.{Limits}
+use Rattle.rrd_spec.specs.History.{Archive}
 use Rattle.rrd_spec.specs.Settings.{cells, is_double, names}
-use Rattle.rrd_spec.specs.Journal.Entries.{BeforeUpdate, Entry, UpdateEntry, TuneEntry, ResizeEntry, SavedArchive, rows_between}
+use Rattle.rrd_spec.specs.Journal.Entries.{BeforeUpdate, Entry, UpdateEntry, TuneEntry, ResizeEntry, AddedEntry, RemovedEntry, SavedArchive, rows_between}
 use Rattle.rrd_spec.specs.Journal.Outlines.{rows_of, with_row_number, with_sources}
 use Rattle.rrd_spec.specs.Validity.{AreAccepted, AreParts, IsRow, IsSourceWithin, Rise}
 
@@ -58,8 +59,39 @@ pub record MayResize (limits : Limits) (now : Outline) (archive : ℕ) (rows : L
   pub old_rows : AreOldRows limits now archive (length rows)
   pub each_row : AllByRecursion (IsRow (length now.sources)) rows
 
+-- an archive's settings
+pub record IsArchiveDef (limits : Limits) (def : RraDef) : Type 0 where
+  pub some_steps : 0 < def.steps
+  pub few_steps : def.steps ≤ limits.most_steps
+  pub some_rows : 0 < def.rows
+  pub few_rows : def.rows ≤ limits.most_rows
+  pub xff_low : pos 0 ≤ℤ def.xff
+  pub xff_high : def.xff ≤ℤ pos limits.greatest_share
+
+-- the number of a removed archive: there is a place for it
+pub record IsRemovedNumber (limits : Limits) (now : Outline) (number : ℕ) : Type 0 where
+  pub there : number ≤ length now.archives
+  pub few : length now.archives < limits.most_archives
+
+-- its settings: with its rows the cells are still few enough
+pub record AreRemovedSettings (limits : Limits) (now : Outline) (def : RraDef) : Type 0 where
+  pub def_is : IsArchiveDef limits def
+  pub few_cells : length now.sources * (sum (rows_of now.archives) + def.rows) ≤ limits.most_cells
+
+-- a removed archive, as an archive of the last time
+pub record MayRemove (limits : Limits) (step : ℕ) (now : Outline) (number : ℕ) (archive : Archive) : Type 0 where
+  pub number_is : IsRemovedNumber limits now number
+  pub settings_are : AreRemovedSettings limits now archive.def
+  pub parts_are :
+      AreParts archive.def.function (length now.sources) (now.last / step % archive.def.steps) archive.parts
+  pub rows_are : length archive.rows ≡ archive.def.rows
+  pub each_row : AllByRecursion (IsRow (length now.sources)) archive.rows
+
 -- whether an entry fits, steps of so many seconds being taken
 abbrev pub MayUndo : Limits → ℕ → Outline → Entry → Type 0
 MayUndo limits step now (UpdateEntry old) = MayUpdate step now old
 MayUndo limits step now (TuneEntry olds) = MayTune limits now olds
 MayUndo limits step now (ResizeEntry archive rows) = MayResize limits now archive rows
+MayUndo limits step now AddedEntry = (limits.archives_come_and_go ≡ true) × (1 < length now.archives)
+MayUndo limits step now (RemovedEntry number archive) =
+    (limits.archives_come_and_go ≡ true) × MayRemove limits step now number archive

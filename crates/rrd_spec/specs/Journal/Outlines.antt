@@ -1,13 +1,13 @@
 -- Definition: the outline of a database, by which a journal entry is judged, and what is left of it once the entry is
 -- undone (own).
-use Rattle.std.specs.Prelude.{ℕ, zero, suc, List, [], ◌∷◌, length, map, slice_set}
-use Rattle.std.specs.List.{fold}
+use Rattle.std.specs.Prelude.{ℕ, zero, suc, List, [], ◌∷◌, ◌-◌, length, map, slice_set, take}
+use Rattle.std.specs.List.{fold, insert}
 use Rattle.rrd_spec.specs.declared.entry.SourceBefore.{SourceBefore}
 use Rattle.rrd_spec.specs.declared.outline.Outline.{Outline}
 use Rattle.rrd_spec.specs.declared.settings.DsDef.{DsDef}
 use Rattle.rrd_spec.specs.declared.settings.RraDef.{RraDef}
 use Rattle.rrd_spec.specs.History.{Content, definitions}
-use Rattle.rrd_spec.specs.Journal.Entries.{Entry, UpdateEntry, TuneEntry, ResizeEntry}
+use Rattle.rrd_spec.specs.Journal.Entries.{Entry, UpdateEntry, TuneEntry, ResizeEntry, AddedEntry, RemovedEntry}
 
 -- a content's
 abbrev pub outline_of : Content → Outline
@@ -30,6 +30,9 @@ outline_undone now (UpdateEntry old) = record now { last = old.last }
 outline_undone now (TuneEntry olds) = record now { sources = with_sources now.sources olds }
 outline_undone now (ResizeEntry archive rows) =
     record now { archives = with_row_number now.archives archive (length rows) }
+outline_undone now AddedEntry = record now { archives = take (length now.archives - 1) now.archives }
+outline_undone now (RemovedEntry number archive) =
+    record now { archives = insert now.archives number archive.def }
 
 abbrev pub rows_of : List RraDef → List ℕ
 rows_of defs = map (λ (def : RraDef). def.rows) defs

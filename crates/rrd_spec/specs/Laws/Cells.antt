@@ -3,18 +3,20 @@ use Rattle.std.specs.Prelude.{◌≡◌, ◌++◌, ℕ, ◌-◌, ◌/◌, List, 
 use Rattle.std.specs.List.{range_with_len}
 use Rattle.rrd_spec.specs.History.{Content, Archive, Event, moment_of, IsHistory, IsBase, Reading, Sampled, IsArchive}
 use Rattle.rrd_spec.specs.Commands.{events}
+use Rattle.rrd_spec.specs.History.Lives.{Life, life_of, lives}
 use Rattle.rrd_fixed.specs.declared.cell.Cell.{Cell}
 use Rattle.std.specs.Int.{int_rem_euclid}
 use Rattle.rrd_spec.specs.Settings.{resolution}
 use Rattle.rrd_spec.specs.History.Steps.{steps_of, step as step_numbered}
 use Rattle.rrd_spec.specs.History.Rows.{rows_of, row}
-use Rattle.rrd_spec.specs.Laws.ListedContent.{content_listed, keep_last, filled_up, kept_rows}
+use Rattle.rrd_spec.specs.Laws.ListedContent.{KeepsArchives, content_listed, keep_last, filled_up, kept_rows}
 use Rattle.rrd_spec.specs.History.Cells.{row_at, cell_at, cell, content, row_by_time}
 
--- the content's rows by list and by time are the same
+-- the content's rows by list and by time are the same, where no archive comes or goes
 abbrev pub IsListed : Content → List Event → Type 0
 IsListed base events =
-    IsBase base → IsHistory (moment_of base) events → content_listed base events ≡ content base events
+    IsBase base → IsHistory (moment_of base) events → KeepsArchives events
+    → content_listed base events ≡ content base events
 
 -- a time at which rows of this resolution end
 abbrev pub IsMultiple : ℤ → ℕ → Type 0
@@ -24,25 +26,25 @@ IsMultiple time size = int_rem_euclid time (pos size) ≡ pos 0
 abbrev pub ShowsByTime : Content → List Event → Type 0
 ShowsByTime base events =
     IsBase base → IsHistory (moment_of base) events →
-    (index : ℕ) (archive shown : Archive) → slice_get base.archives index ≡ Some archive
+    (index : ℕ) (life : Life) (shown : Archive) → slice_get (lives base events) index ≡ Some life
     → slice_get (content base events).archives index ≡ Some shown →
-    (time : ℤ) → IsMultiple time (resolution base.step archive.def)
-    → row_at (content base events) shown time ≡ row_by_time base index archive events time
+    (time : ℤ) → IsMultiple time (resolution base.step life.begun.def)
+    → row_at (content base events) shown time ≡ row_by_time base life events time
 
 -- so the content shows in each cell the one of that time
 abbrev pub ShowsCells : Content → List Event → Type 0
 ShowsCells base events =
     IsBase base → IsHistory (moment_of base) events →
-    (index : ℕ) (archive : Archive) → slice_get base.archives index ≡ Some archive →
-    (time : ℤ) (source : ℕ) → IsMultiple time (resolution base.step archive.def)
-    → cell_at (content base events) index time source ≡ cell base index archive events time source
+    (index : ℕ) (life : Life) → slice_get (lives base events) index ≡ Some life →
+    (time : ℤ) (source : ℕ) → IsMultiple time (resolution base.step life.begun.def)
+    → cell_at (content base events) index time source ≡ cell base life events time source
 
 -- the steps and rows of a history, each by itself
 pub record ListsByNumber (base : Content) (archive : Archive) (events : List Event) : Type 0 where
   pub steps_are : steps_of base events
       ≡ map (step_numbered base events) (range_with_len (base.last / base.step) (length (steps_of base events)))
   pub rows_are : rows_of base archive events
-      ≡ map (row base archive events)
+      ≡ map (row base (life_of base archive) events)
       (range_with_len (base.last / base.step / archive.def.steps) (length (rows_of base archive events)))
 
 -- the rows from before an update: the oldest of them, as many as the update finished, then those that it left

@@ -1,18 +1,21 @@
 -- Law: what an accepted command changes of a content, and what it keeps.
-use Rattle.std.specs.Prelude.{◌≡◌, ◌++◌, ℕ, List, length, map, false, None, ◌∷◌, slice_index_or, ◌<◌, ◌≤◌, replicate, reverse}
-use Rattle.std.specs.List.{AllByRecursion}
-use Rattle.rrd_spec.specs.Limits.{version_one}
+use Rattle.std.specs.Prelude.{◌≡◌, ◌++◌, ℕ, List, [], length, map, false, Some, None, ◌∷◌, slice_index_or, ◌<◌, ◌≤◌, replicate, reverse}
+use Rattle.std.specs.List.{AllByRecursion, remove}
+use Rattle.rrd_spec.specs.Limits.{present}
 use Rattle.rrd_spec.specs.History.{Content, IsBase, raws_under}
-use Rattle.rrd_spec.specs.Commands.{Command, moved, content_of, Resizing, TuningBy, raw_of, rows_changed, rows_of_archives, tuned}
+use Rattle.rrd_spec.specs.Commands.{Command, events, settings_of, moved, content_of, Resizing, TuningBy, raw_of, rows_changed, rows_of_archives, tuned}
 use Rattle.rrd_fixed.specs.declared.cell.Cell.{Cell}
 use Rattle.rrd_spec.specs.Commands.Verdict.{verdict, Check, checks}
 use Rattle.rrd_spec.specs.Journal.Entries.{IsSound, rows_at, with_rows_at}
 use Rattle.rrd_spec.specs.Journal.Survivors.{AllAccepted, survived}
-use Rattle.rrd_spec.specs.Laws.ListedContent.{keep_last, filled_up, moved_listed}
+use Rattle.rrd_spec.specs.Laws.ListedContent.{KeepsArchives, keep_last, filled_up, moved_listed}
 use Rattle.rrd_spec.specs.Validity.{IsValid, AreAccepted}
 use Rattle.rrd_spec.specs.declared.requests.resize.Change.{Change}
 use Rattle.rrd_spec.specs.declared.settings.DsDef.{DsDef}
 use Rattle.rrd_spec.specs.declared.requests.tune.Tuning.{Tuning}
+use Rattle.rrd_spec.specs.declared.requests.tune.ArchiveTune.TheVariants.{Add, Remove}
+use Rattle.rrd_spec.specs.declared.settings.RraDef.{RraDef}
+use Rattle.rrd_spec.specs.History.Lives.{new_archive}
 use Rattle.rrd_spec.specs.declared.requests.update.Given.{Given}
 
 abbrev pub Passes : Check → Type 0
@@ -20,7 +23,7 @@ Passes check = check.wrong ≡ false
 
 -- a command that is accepted passes each check
 abbrev pub PassesAll : Content → Command → Type 0
-PassesAll base command = verdict base command ≡ None → AllByRecursion Passes (checks version_one base command)
+PassesAll base command = verdict base command ≡ None → AllByRecursion Passes (checks present base command)
 
 -- each source accepts the raw value that it keeps of what is given
 abbrev pub AreKept : (DsDef → Given) → List DsDef → Type 0
@@ -28,7 +31,9 @@ AreKept given sources = AreAccepted sources (map (λ (source : DsDef). raw_of so
 
 -- an accepted command makes the same content by list and by time
 abbrev pub MovesListed : Content → Command → Type 0
-MovesListed base command = IsValid base → verdict base command ≡ None → moved_listed base command ≡ moved base command
+MovesListed base command =
+    IsValid base → verdict base command ≡ None → KeepsArchives (events (settings_of base) command)
+    → moved_listed base command ≡ moved base command
 
 -- one command more is one move more
 abbrev pub Moves : Content → List Command → Command → Type 0
@@ -42,13 +47,27 @@ CommandsGoOn base first second =
     IsSound base → AllAccepted base (reverse (first ++ second))
     → content_of base (first ++ second) ≡ content_of (content_of base first) second
 
--- a tune gives the sources their new settings, and makes the raw values of those unknown that get another type; all
--- else stays
+-- a tune without an archive gives the sources their new settings, and makes the raw values of those unknown that get
+-- another type; all else stays
 abbrev pub TuneChanges : Content → Tuning → Type 0
 TuneChanges base tuning =
     let sources = map (tuned tuning) base.sources in
-    IsBase base → moved base (TuningBy tuning)
+    IsBase base → tuning.archive ≡ None → moved base (TuningBy tuning)
     ≡ record base { sources = sources; raws = raws_under base.sources sources base.raws }
+
+-- one that adds an archive puts a new one behind the others; all else stays
+abbrev pub TuneAdds : Content → Tuning → RraDef → Type 0
+TuneAdds base tuning def =
+    IsValid base → tuning.archive ≡ Some (Add def) → verdict base (TuningBy tuning) ≡ None
+    → moved base (TuningBy tuning)
+    ≡ record base { archives = base.archives ++ new_archive (length base.sources) def ∷ [] }
+
+-- one that removes an archive removes one that is there; all else stays
+abbrev pub TuneRemoves : Content → Tuning → ℕ → Type 0
+TuneRemoves base tuning number =
+    IsValid base → tuning.archive ≡ Some (Remove number) → verdict base (TuningBy tuning) ≡ None
+    → (number < length base.archives)
+    × (moved base (TuningBy tuning) ≡ record base { archives = remove base.archives number })
 
 -- how many rows an archive has after a resize
 abbrev pub rows_then : Content → ℕ → Change → ℕ → ℕ
@@ -58,9 +77,9 @@ rows_then base archive change rows =
 -- an accepted resize asks for a number of rows that can be, of an archive that is there, and leaves it one that can be
 pub record IsResize (base : Content) (archive : ℕ) (change : Change) (rows : ℕ) : Type 0 where
   pub there : archive < length base.archives
-  pub few_asked : rows ≤ version_one.most_rows
+  pub few_asked : rows ≤ present.most_rows
   pub some_then : 0 < rows_then base archive change rows
-  pub few_then : rows_then base archive change rows ≤ version_one.most_rows
+  pub few_then : rows_then base archive change rows ≤ present.most_rows
 
 abbrev pub ResizeFits : Content → ℕ → Change → ℕ → Type 0
 ResizeFits base archive change rows =

@@ -4,7 +4,7 @@ use Rattle.std.specs.List.{fold}
 use Rattle.rrd_fixed.specs.declared.cell.Cell.{Cell}
 use Rattle.rrd_fold.specs.declared.function.Function.TheVariants.{Average}
 use Rattle.rrd_fold.specs.Parts.{nothing, row_cell, step_cell, with_each}
-use Rattle.rrd_spec.specs.Limits.{version_one}
+use Rattle.rrd_spec.specs.Limits.{present}
 use Rattle.rrd_spec.specs.History.{Archive, Content, IsBase}
 use Rattle.rrd_spec.specs.Laws.ListedContent.{keep_last}
 use Rattle.rrd_spec.specs.Laws.Passing.{archive_passed, passed}
@@ -38,7 +38,7 @@ StepsOver sources before count archive first then =
     let left = steps_left before def.steps in
     let full = fold (with_each def.function) archive.parts (first ∷ replicate left then) in
     let row = map (row_cell def.function def.xff def.steps) full in
-    0 < def.steps → pos 0 ≤ℤ def.xff → def.xff ≤ℤ pos version_one.greatest_share →
+    0 < def.steps → pos 0 ≤ℤ def.xff → def.xff ≤ℤ pos present.greatest_share →
     length then ≡ sources → left ≤ count →
     archive_passed sources before (first ∷ replicate count then) archive ≡ record archive {
       parts = fold (with_each def.function) (replicate sources nothing) (replicate ((count - left) % def.steps) then);

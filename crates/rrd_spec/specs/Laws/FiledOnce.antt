@@ -2,7 +2,8 @@
 use Rattle.std.specs.Prelude.{◌≡◌, ℕ, ◌<◌, List, length}
 use Rattle.std.specs.List.{AllByRecursion}
 use Rattle.rrd_fixed.specs.declared.cell.Cell.{Cell}
-use Rattle.rrd_spec.specs.Files.Filed.{Version, filed}
+use Rattle.rrd_spec.specs.declared.version.Version.{Version}
+use Rattle.rrd_spec.specs.Files.Filed.{filed}
 use Rattle.rrd_spec.specs.Limits.{Limits}
 use Rattle.rrd_spec.specs.Laws.Slots.{HasOneEach}
 use Rattle.rrd_spec.specs.Files.Slots.{by_slot}

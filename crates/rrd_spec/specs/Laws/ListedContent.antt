@@ -4,10 +4,19 @@ use Rattle.std.specs.Prelude.{ℕ, ◌+◌, ◌-◌, ◌/◌, min, List, [], ◌
 use Rattle.std.specs.List.{enumerate_from}
 use Rattle.rrd_fixed.specs.declared.cell.Cell.{Cell}
 use Rattle.rrd_spec.specs.Settings.{resolution}
-use Rattle.rrd_spec.specs.History.{Archive, Content, Event, rows_after, Moment, moment_after, moment_at_end, moment_of, rows_at_end}
+use Rattle.rrd_spec.specs.History.{Archive, Content, Event, Sampled, Tuned, Resized, Added, Removed, rows_after, Moment, moment_after, moment_at_end, moment_of, rows_at_end}
 use Rattle.rrd_spec.specs.History.Steps.{parts_of}
 use Rattle.rrd_spec.specs.History.Rows.{row_parts_of, rows_of}
 use Rattle.rrd_spec.specs.Commands.{Command, events, settings_of}
+
+-- no archive comes or goes: of such events the list below is made, all archives being the base's
+abbrev pub KeepsArchives : List Event → Type 0
+KeepsArchives [] = Unit {0}
+KeepsArchives (Sampled sample ∷ events) = KeepsArchives events
+KeepsArchives (Tuned sources ∷ events) = KeepsArchives events
+KeepsArchives (Resized archive rows ∷ events) = KeepsArchives events
+KeepsArchives (Added def ∷ events) = ⊥
+KeepsArchives (Removed archive ∷ events) = ⊥
 
 -- the newest items, so many of them
 abbrev pub keep_last : {A : Type 0} → ℕ → List A → List A

@@ -6,8 +6,9 @@ use Rattle.rrd_spec.specs.Limits.{Limits}
 use Rattle.rrd_spec.specs.History.{Content}
 use Rattle.rrd_spec.specs.Journal.Entries.{Entry, undone}
 use Rattle.rrd_spec.specs.Journal.Survivors.{Stored}
-use Rattle.rrd_spec.specs.Validity.{Fits, IsValidJournalWithin, IsValidWithin}
-use Rattle.rrd_spec.specs.Files.Filed.{Version, filed}
+use Rattle.rrd_spec.specs.Validity.{FitsWithin, IsValidJournalWithin, IsValidWithin}
+use Rattle.rrd_spec.specs.declared.version.Version.{Version}
+use Rattle.rrd_spec.specs.Files.Filed.{filed}
 use Rattle.rrd_spec.specs.Journal.Outlines.{outline_of, outline_undone}
 use Rattle.rrd_spec.specs.Journal.Fitting.{MayUndo}
 use Rattle.rrd_spec.specs.Files.Rebuilding.{outline_filed}
@@ -31,12 +32,12 @@ FiledOutline version d =
 abbrev pub OutlineSuffices : Limits → Content → Entry → Type 0
 OutlineSuffices limits now entry =
     IsValidWithin limits now → MayUndo limits now.step (outline_of now) entry
-    → Fits now entry × IsValidWithin limits (undone now entry)
+    → FitsWithin limits now entry × IsValidWithin limits (undone now entry)
 
 -- the outline lets through each entry that fits and leaves a valid content
 abbrev pub OutlineIsNeeded : Limits → Content → Entry → Type 0
 OutlineIsNeeded limits now entry =
-    IsValidWithin limits now → Fits now entry → IsValidWithin limits (undone now entry)
+    IsValidWithin limits now → FitsWithin limits now entry → IsValidWithin limits (undone now entry)
     → MayUndo limits now.step (outline_of now) entry
 
 -- ---- journals

@@ -1,7 +1,7 @@
 -- Law: what is made of something valid is valid.
 use Rattle.std.specs.Prelude.{◌≡◌, ℕ, ◌+◌, List, length, None, ◌≤◌}
 use Rattle.std.specs.List.{AllByRecursion}
-use Rattle.rrd_spec.specs.Limits.{version_one}
+use Rattle.rrd_spec.specs.Limits.{present}
 use Rattle.rrd_spec.specs.History.{Content, Archive}
 use Rattle.rrd_spec.specs.Commands.{Command, moved}
 use Rattle.rrd_fixed.specs.declared.cell.Cell.{Cell}
@@ -26,7 +26,7 @@ StaysValid base command = IsValid base → verdict base command ≡ None → IsV
 abbrev pub StaysValidFor : Content → List (List Cell) → Type 0
 StaysValidFor base seconds =
     IsValid base → AllByRecursion (IsRow (length base.sources)) seconds →
-    base.last + length seconds ≤ version_one.latest_time → IsValid (passed base seconds)
+    base.last + length seconds ≤ present.latest_time → IsValid (passed base seconds)
 
 abbrev pub ArchiveStaysValid : ℕ → ℕ → List (List Cell) → Archive → Type 0
 ArchiveStaysValid sources before steps archive =

@@ -9,10 +9,10 @@ use Rattle.rrd_spec.specs.Commands.{sample_of}
 use Rattle.rrd_spec.specs.Commands.Verdict.{sample_checks}
 use Rattle.rrd_spec.specs.History.{IsHistory, Moment, Sampled, moment_after}
 use Rattle.rrd_spec.specs.Laws.Commands.{Passes}
-use Rattle.rrd_spec.specs.Limits.{version_one}
+use Rattle.rrd_spec.specs.Limits.{present}
 
 pub readings_rise : (sources : List DsDef) (template : List Name) (now : Moment) (readings : List Sample)
-    → AllByRecursion Passes (sample_checks version_one sources template now.last readings)
+    → AllByRecursion Passes (sample_checks present sources template now.last readings)
     → IsHistory now (map Sampled (map (sample_of sources template) readings))
 readings_rise sources template now [] p = tt
 readings_rise sources template now (reading ∷ readings) p =

@@ -3,7 +3,7 @@ use Rattle.std.proofs.Common.{◌≡◌, refl, List, [], ◌∷◌}
 use Rattle.std.specs.List.{fold}
 use Rattle.rrd_spec.specs.declared.entry.SourceBefore.{SourceBefore}
 use Rattle.rrd_spec.specs.History.{Content}
-use Rattle.rrd_spec.specs.Journal.Entries.{Entry, ResizeEntry, TuneEntry, UpdateEntry, undone, with_source}
+use Rattle.rrd_spec.specs.Journal.Entries.{Entry, AddedEntry, RemovedEntry, ResizeEntry, TuneEntry, UpdateEntry, undone, with_source}
 
 sources_depth : (now : Content) (olds : List SourceBefore) → (fold with_source now olds).depth ≡ now.depth
 sources_depth now [] = refl
@@ -13,3 +13,5 @@ pub undone_depth : (now : Content) (old : Entry) → (undone now old).depth ≡ 
 undone_depth now (UpdateEntry old) = refl
 undone_depth now (TuneEntry olds) = sources_depth now olds
 undone_depth now (ResizeEntry archive rows) = refl
+undone_depth now AddedEntry = refl
+undone_depth now (RemovedEntry number archive) = refl

@@ -8,10 +8,10 @@ pub struct CreateSpec {
     pub step: u64,
     /// The time before the first second that is taken: 0 to 9,999,999,999.
     pub start: u64,
-    /// How many changes can be reverted: 1 to 1,000.
+    /// How many changes can be reverted: 1 to 100,000.
     pub depth: u64,
     /// The data sources, 1 to 64, numbered from 0.
     pub sources: List<DsDef>,
-    /// The archives, 1 to 64, numbered from 0.
+    /// The archives, 1 to 128, numbered from 0.
     pub archives: List<RraDef>,
 }

@@ -1,5 +1,13 @@
 //! What a tune asks.
+use crate::RraDef;
 use rrd_fixed::{Kind, Name};
+
+/// One archive more, behind the others, or one less: the higher numbers then fall by one (rrdtune).
+#[derive(Drop)]
+pub enum ArchiveTune {
+    Add(RraDef),
+    Remove(u64),
+}
 
 /// New settings, each for the source of a name (rrdtune). All names are those before the command.
 #[derive(Drop)]
@@ -14,4 +22,6 @@ pub struct Tuning {
     pub kind: Option<(Name, Kind)>,
     /// The new name: 1 to 19 letters, digits or `_`, no other source's.
     pub rename: Option<(Name, Name)>,
+    /// An archive that comes or goes. It stands alone: with another of these the command is refused.
+    pub archive: Option<ArchiveTune>,
 }

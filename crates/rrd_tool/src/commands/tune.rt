@@ -1,17 +1,17 @@
-//! `tune`: changes the settings of sources (rrdtune).
+//! `tune`: changes the settings of sources, or adds or removes an archive (rrdtune).
 ghost use Rattle.std.specs.Prelude.{IfOk, List, Option, Some, ℕ};
 ghost use Rattle.clap.specs.Words.{found_of, rows_of};
 ghost use Rattle.rrd_tool.specs.Arguments.Shapes.{HasApp};
-ghost use Rattle.rrd_tool.specs.Commands.Tune.{setting_of, tune_app, tune_of};
+ghost use Rattle.rrd_tool.specs.Commands.Tune.{archive_tune_of, setting_of, tune_app, tune_of};
 ghost use Rattle.rrd_tool.specs.Execution.{Executes};
 ghost use Rattle.rrd_tool.specs.Fields.Answers.{Meets};
 
-use crate::arguments::{letter_arg, option_arg, text_of};
+use crate::arguments::{letter_arg, option_arg, text_of, word_arg};
 use crate::execution::Outcome;
 use crate::fields::{Field, cut, read_optional};
 use crate::{Command, Fault, LineFault, Part};
 use clap::ArgMatches;
-use rrd_base::{Database, Tuning};
+use rrd_base::{ArchiveTune, Database, RraDef, Tuning};
 use rrd_fixed::Name;
 use std::alloc::{AllocError, Global};
 
@@ -24,7 +24,8 @@ pub(crate) fn shape<'a>(alloc: Global) -> Result<clap::Command<'a>, AllocError>
         .arg(letter_arg(alloc, "minimum", "minimum", 'i'))?
         .arg(letter_arg(alloc, "maximum", "maximum", 'a'))?
         .arg(letter_arg(alloc, "type", "data-source-type", 'd'))?
-        .arg(letter_arg(alloc, "rename", "data-source-rename", 'r'))
+        .arg(letter_arg(alloc, "rename", "data-source-rename", 'r'))?
+        .arg(word_arg(alloc, "definition"))
 }
 
 // A name, and a new value for the source of this name behind a colon.
@@ -39,6 +40,24 @@ impl<T: Field + Drop> Field for (Name, T) {
     }
 }
 
+// `RRA:` and an archive that is added, or `DELRRA:` and the number of one that is removed.
+impl Field for ArchiveTune {
+    ghost meaning = { archive_tune_of };
+
+    fn read(text: &str) -> Option<ArchiveTune> {
+        let (tag, rest) = cut(text)?;
+        if tag == "RRA" {
+            let archive = RraDef::read(rest)?;
+            Some(ArchiveTune::Add(archive))
+        } else if tag == "DELRRA" {
+            let number = u64::read(rest)?;
+            Some(ArchiveTune::Remove(number))
+        } else {
+            None
+        }
+    }
+}
+
 /// The command that the values are.
 pub(crate) fn read(matches: &ArgMatches<'_>) -> Result<Command, LineFault>
     ensures { Meets (tune_of (rows_of (found_of matches.now))) result }
@@ -48,20 +67,22 @@ pub(crate) fn read(matches: &ArgMatches<'_>) -> Result<Command, LineFault>
     let maximum = read_optional(Part::Maximum, text_of(matches, "maximum"))?;
     let kind = read_optional(Part::Class, text_of(matches, "type"))?;
     let rename = read_optional(Part::Rename, text_of(matches, "rename"))?;
+    let archive = read_optional(Part::Definition, text_of(matches, "definition"))?;
     Ok(Command::Tune(Tuning {
         heartbeat,
         minimum,
         maximum,
         kind,
         rename,
+        archive,
     }))
 }
 
-/// Changes the settings.
-pub(crate) fn run(mut database: Database, tuning: &Tuning) -> Outcome
+/// Changes the settings, or adds or removes the archive.
+pub(crate) fn run(alloc: Global, mut database: Database, tuning: &Tuning) -> Outcome
     ensures { (c : Option (List ℕ)) → Executes (Some database) (Command.Tune tuning.now) c c result }
 {
-    match database.tune(tuning) {
+    match database.tune(alloc, tuning) {
         Ok(()) => Outcome::of_change(database),
         Err(refusal) => Outcome::of_refusal(Some(database), Fault::Refused(refusal)),
     }

@@ -49,7 +49,7 @@ returns-clause-rows c =
     let is : get_or rows index 0 ≡ c.def-old.result.rows = rows_at_archive archives index c.index-archives-index.result c.requires.there ∙ sym this ∙ sym def in
     let some = some_of_all archives index c.index-archives-index.result c.requires.there in
     let new : c.rows_changed.result ≡ commands.rows_changed c.args.change old c.args.rows = c.rows_changed.ensures ∙ ap (λ n. commands.rows_changed c.args.change n c.args.rows) (sym is) in
-    let set = sum_set 0 index index (commands.rows_changed c.args.change old c.args.rows) rows (omega arith) (omega (arith, length-map archives (λ (a : Archive). a.def.rows), c.requires.there)) in
+    let set = sum_set index (commands.rows_changed c.args.change old c.args.rows) rows (omega (arith, length-map archives (λ (a : Archive). a.def.rows), c.requires.there)) in
     let sum_is : sum (all_rows_after (Resized index (commands.rows_changed c.args.change old c.args.rows)) rows) + old ≡ sum rows + commands.rows_changed c.args.change old c.args.rows = set in
     let most = few_sum archives c.requires.few_rows in
     omega (arith, this, def, is, some, most, new, sum_is, c.all_rows.ensures, c.requires.few_archives)

@@ -1,7 +1,6 @@
 use Rattle.std.proofs.Common.{sym, subst}
 use Rattle.std.proofs.lemmas.Result.{err_from_is_err_and}
-use Rattle.rrd_spec.specs.Files.Filed.{One}
-use Rattle.rrd_file.specs.Faults.{IsWhole}
+use Rattle.rrd_file.proofs.Filing.{file_of}
 use Rattle.rrd_file.specs.Stages.{Start}
 use Rattle.rrd_file.specs.Decoding.Progress.{Stands}
 use Rattle.rrd_file.proofs.Reached.{begins}
@@ -67,4 +66,4 @@ returns g c = λ bytes h.
     let s4 = c.in_ok-until_entries.ensures.steps bytes s3 in
     let s5 = c.in_ok-entries.ensures.steps bytes s4 in
     let s6 = c.in_ok-end.ensures bytes _ c.in_ok-entries.ensures.done s5 in
-    record { version = One; whole = subst (IsWhole bytes) (sym c.finish.ensures.filed) s6; valid = c.finish.ensures.valid }
+    file_of bytes _ _ s6 c.finish.ensures.filed c.finish.ensures.valid

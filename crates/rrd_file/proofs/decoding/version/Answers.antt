@@ -1,7 +1,8 @@
 use Rattle.std.proofs.Common.{◌≡◌, length, arith, rules}
 use Rattle.std.proofs.lemmas.Result.{err_from_is_err_and}
+use Rattle.rrd_spec.specs.declared.version.Version.TheVariants.{One, Two}
 use Rattle.rrd_file.specs.Layout.Values.{two_bytes}
-use Rattle.rrd_file.proofs.Judged.{cut_version, version_refused, version_taken}
+use Rattle.rrd_file.proofs.Judged.{cut_version, no_version, version_refused, version_taken}
 use Rattle.rrd_file.proofs.Whole.{whole}
 use Rattle.rrd_file.proofs.decoding.version.Goals as goal
 
@@ -11,14 +12,20 @@ returns-in_err-piece g c = λ bytes st.
     let len : length c.piece.new.piece ≡ 2 = search rules in
     rw (p.1, p.2) (cut_version bytes c.args.input.now _ _ len st c.in_err-piece.ensures.read)
 
-pub returns-then-number-ne1 : goal.returns-then-number-ne1
-returns-then-number-ne1 g c = λ bytes st.
+pub returns-then-number-eq1 : goal.returns-then-number-eq1
+returns-then-number-eq1 g c = λ bytes st.
     let len : length c.piece.new.piece ≡ 2 = search rules in
     let is = whole c.piece.new.piece (two_bytes c.two_of-number.result.0) c.two_of-number.result.1.now 2 c.two_of-number.ensures.spelled c.two_of-number.ensures.room len in
-    version_refused bytes c.piece.new.piece c.args.input.now c.piece.new.self c.two_of-number.result.0 st c.in_ok-piece.ensures.read len is c.two_of-number.ensures.small (λ e. absurd (omega (arith, e)))
+    version_taken One bytes c.piece.new.piece c.args.input.now c.piece.new.self c.two_of-number.result.0 st c.in_ok-piece.ensures.read is (omega arith)
+
+pub returns-then-number-eq2 : goal.returns-then-number-eq2
+returns-then-number-eq2 g c = λ bytes st.
+    let len : length c.piece.new.piece ≡ 2 = search rules in
+    let is = whole c.piece.new.piece (two_bytes c.two_of-number.result.0) c.two_of-number.result.1.now 2 c.two_of-number.ensures.spelled c.two_of-number.ensures.room len in
+    version_taken Two bytes c.piece.new.piece c.args.input.now c.piece.new.self c.two_of-number.result.0 st c.in_ok-piece.ensures.read is (omega arith)
 
 pub returns : goal.returns
 returns g c = λ bytes st.
     let len : length c.piece.new.piece ≡ 2 = search rules in
     let is = whole c.piece.new.piece (two_bytes c.two_of-number.result.0) c.two_of-number.result.1.now 2 c.two_of-number.ensures.spelled c.two_of-number.ensures.room len in
-    version_taken bytes c.piece.new.piece c.args.input.now c.piece.new.self c.two_of-number.result.0 st c.in_ok-piece.ensures.read is (omega arith)
+    version_refused bytes c.piece.new.piece c.args.input.now c.piece.new.self c.two_of-number.result.0 st c.in_ok-piece.ensures.read len is c.two_of-number.ensures.small (no_version c.two_of-number.result.0 (λ e. absurd (omega (arith, e))) (λ e. absurd (omega (arith, e))))

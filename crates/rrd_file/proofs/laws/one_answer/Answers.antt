@@ -1,7 +1,5 @@
-use Rattle.rrd_spec.specs.Files.Filed.{One}
-use Rattle.rrd_spec.specs.Limits.{version_one}
 use Rattle.rrd_file.proofs.OneAnswer.{one_answer}
 use Rattle.rrd_file.proofs.laws.one_answer.Goals as goal
 
 pub returns : goal.returns
-returns c = one_answer (c.databases_are_filed_once.ensures.databases version_one One)
+returns c = one_answer c.databases_are_filed_once.ensures.databases

@@ -2,7 +2,7 @@
 ghost use Rattle.std.specs.Prelude.{◌≡◌, true, ◌<◌, ◌≤◌, ◌++◌, ◌∷◌, [], ℕ, List, length, IfOk};
 ghost use Rattle.rrd_base.specs.Journal.{entry_of};
 ghost use Rattle.rrd_spec.specs.Files.Rebuilding.{due, outline_left};
-ghost use Rattle.rrd_spec.specs.Limits.{version_one};
+ghost use Rattle.rrd_spec.specs.Limits.{present};
 ghost use Rattle.rrd_spec.specs.declared.due.Due.TheVariants.{EntryDue};
 ghost use Rattle.rrd_file.specs.Layout.Pieces.{AResize, OfNumber, OfRows, OfTag, Piece};
 ghost use Rattle.rrd_file.specs.Decoding.Journal.{IsShaped};
@@ -56,7 +56,7 @@ fn row_count<R: Read + Drop>(
         → Brings bytes build.now (λ rows. pieces ++ OfRows rows ∷ [])
         (λ rows. cells_due rows (outline_left build.now) ++ later) input.new result }
     ensures some { IfOk result (λ rows. 0 < rows) }
-    ensures few { IfOk result (λ rows. rows ≤ version_one.most_rows) }
+    ensures few { IfOk result (λ rows. rows ≤ present.most_rows) }
 {
     let mut piece = [0u8; 4];
     input.piece(&mut piece)?;

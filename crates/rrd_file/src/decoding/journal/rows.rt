@@ -1,8 +1,7 @@
 //! The rows of an entry.
-ghost use Rattle.std.specs.Prelude.{◌≡◌, ◌≤◌, ◌<◌, ◌++◌, ◌∷◌, [], ℕ, List, length, map, replicate, IfOk, OnOk};
-ghost use Rattle.rrd_ring.specs.Rows.{HasWidth};
+ghost use Rattle.std.specs.Prelude.{◌≡◌, ◌≤◌, ◌<◌, ◌++◌, ◌∷◌, [], ℕ, List, length, map, replicate, IfOk};
 ghost use Rattle.rrd_spec.specs.Files.Rebuilding.{due, outline_left};
-ghost use Rattle.rrd_spec.specs.Limits.{version_one};
+ghost use Rattle.rrd_spec.specs.Limits.{present};
 ghost use Rattle.rrd_spec.specs.declared.due.Due.TheVariants.{EntryDue};
 ghost use Rattle.rrd_file.specs.Layout.{row_pieces};
 ghost use Rattle.rrd_file.specs.Layout.Pieces.{OfCell, Piece};
@@ -60,7 +59,7 @@ pub(super) fn saved_rows<R: Read + Drop>(
     count: u64,
 ) -> Result<Dropped, FileFault>
     requires is_due { due build.now ≡ EntryDue }
-    requires few { count ≤ version_one.most_rows }
+    requires few { count ≤ present.most_rows }
     ensures brings { (bytes : List ℕ) (pieces : List Piece) (later : List DueInEntry)
         → Comes bytes build.now pieces (cells_due count (outline_left build.now) ++ later) input.old
         → Brings bytes build.now (λ rows. pieces ++ row_pieces rows) (λ rows. later) input.new result }
@@ -84,7 +83,7 @@ pub(super) fn old_rows<R: Read + Drop>(
 ) -> Result<Archive, FileFault>
     requires is_due { due build.now ≡ EntryDue }
     requires some { 0 < count }
-    requires few { count ≤ version_one.most_rows }
+    requires few { count ≤ present.most_rows }
     ensures brings { (bytes : List ℕ) (pieces : List Piece) (later : List DueInEntry)
         → Comes bytes build.now pieces (cells_due count (outline_left build.now) ++ later) input.old
         → Brings bytes build.now (λ rows. pieces ++ row_pieces rows) (λ rows. later) input.new result }

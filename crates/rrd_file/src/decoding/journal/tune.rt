@@ -1,8 +1,8 @@
 //! What a tune replaced.
-ghost use Rattle.std.specs.Prelude.{◌≡◌, true, ◌+◌, ◌<◌, ◌≤◌, ◌++◌, ◌∷◌, [], ℕ, List, length, IfOk};
+ghost use Rattle.std.specs.Prelude.{◌≡◌, true, ◌+◌, ◌<◌, ◌≤◌, ◌++◌, ◌∷◌, [], ℕ, List, IfOk};
 ghost use Rattle.rrd_base.specs.Journal.{entry_of};
 ghost use Rattle.rrd_spec.specs.Files.Rebuilding.{due, outline_left};
-ghost use Rattle.rrd_spec.specs.Limits.{version_one};
+ghost use Rattle.rrd_spec.specs.Limits.{present};
 ghost use Rattle.rrd_spec.specs.declared.due.Due.TheVariants.{EntryDue};
 ghost use Rattle.rrd_file.specs.Layout.Pieces.{ATune, OfCount, OfSourceBefore, OfTag, Piece};
 ghost use Rattle.rrd_file.specs.Decoding.Journal.{IsShaped, KeepsNamed};
@@ -46,7 +46,7 @@ fn count<R: Read + Drop>(input: &mut PieceReader<R>, build: &Rebuild) -> Result<
 // Whether a source that a tune named may be this, from the lowest number that it may have.
 fn is_named(build: &Rebuild, old: &SourceBefore, lowest: u64) -> bool
     requires { due build.now ≡ EntryDue }
-    ensures few { result ≡ true → old.now.number < version_one.most_sources }
+    ensures few { result ≡ true → old.now.number < present.most_sources }
     ensures good { result ≡ true → KeepsNamed build.now lowest old.now }
     ensures bad { KeepsNamed build.now lowest old.now → result ≡ true }
 {
@@ -67,7 +67,7 @@ fn named_source<R: Read + Drop>(
         → Comes bytes build.now pieces (NamedDue lowest more ∷ []) input.old
         → Brings bytes build.now (λ old. pieces ++ OfSourceBefore old ∷ []) (λ old. named_due (old.number + 1) more)
         input.new result }
-    ensures few { IfOk result (λ old. old.number < version_one.most_sources) }
+    ensures few { IfOk result (λ old. old.number < present.most_sources) }
 {
     let mut piece = [0u8; 79];
     input.piece(&mut piece)?;

@@ -1,29 +1,29 @@
 //! What an update replaced.
-ghost use Rattle.std.specs.Prelude.{◌≡◌, true, ◌+◌, ◌<◌, ◌≤◌, ◌++◌, ◌∷◌, [], ℕ, List, Some, length, map, drop, min, replicate, slice_get, IfOk, OnOk};
+ghost use Rattle.std.specs.Prelude.{◌≡◌, true, ◌+◌, ◌<◌, ◌≤◌, ◌++◌, ◌∷◌, [], ℕ, List, Some, length, map, min, slice_get, IfOk};
 ghost use Rattle.std.specs.List.{flat_map};
 ghost use Rattle.rrd_base.specs.Journal.{entry_of};
-ghost use Rattle.rrd_spec.specs.Preparations.{AllOf, parts_in};
 ghost use Rattle.rrd_spec.specs.Journal.Entries.{rows_between};
 ghost use Rattle.rrd_spec.specs.Files.Rebuilding.{due, outline_left};
-ghost use Rattle.rrd_spec.specs.Limits.{version_one};
+ghost use Rattle.rrd_spec.specs.Limits.{present};
 ghost use Rattle.rrd_spec.specs.declared.due.Due.TheVariants.{EntryDue};
 ghost use Rattle.rrd_spec.specs.declared.settings.DsDef.{DsDef};
 ghost use Rattle.rrd_spec.specs.declared.settings.RraDef.{RraDef};
 ghost use Rattle.rrd_file.specs.Layout.{raws_and_parts, saved_pieces};
-ghost use Rattle.rrd_file.specs.Layout.Pieces.{AnUpdate, OfPrep, OfRawAndPart, OfRows, OfTag, OfTime, Piece};
+ghost use Rattle.rrd_file.specs.Layout.Pieces.{AnUpdate, OfRawAndPart, OfRows, OfTag, OfTime, Piece};
 ghost use Rattle.rrd_file.specs.Decoding.Journal.{IsShaped, AreSavedShaped, IsSavedShaped};
-ghost use Rattle.rrd_file.specs.Stages.{BeforeDue, DueInEntry, RowPrepDue, RowsDue, TimeDue, archive_due, behind, first_due};
+ghost use Rattle.rrd_file.specs.Stages.{BeforeDue, DueInEntry, RowsDue, TimeDue, archive_due, behind, first_due};
 ghost use Rattle.rrd_file.specs.Decoding.Progress.{Brings, Closes, Comes};
 
+use super::preps::row_preps;
 use super::rows::saved_rows;
 use crate::FileFault;
 use crate::decoding::faults::bad_entry;
 use crate::decoding::input::PieceReader;
 use crate::decoding::pieces::before_of;
-use crate::decoding::values::{eight_of, four_of, part_of};
+use crate::decoding::values::{eight_of, four_of};
 use rrd_base::{BeforeUpdate, Entry, Rebuild, SavedArchive};
 use rrd_fixed::Raw;
-use rrd_fold::{RowPrep, StepPrep};
+use rrd_fold::StepPrep;
 use std::alloc::Global;
 use std::io::Read;
 
@@ -104,62 +104,6 @@ fn sources<R: Read + Drop>(
     Ok((raws, preps))
 }
 
-// Reads the preparation of a source's unfinished row.
-fn row_prep<R: Read + Drop>(
-    input: &mut PieceReader<R>,
-    build: &Rebuild,
-    last: u64,
-    archive: usize,
-) -> Result<RowPrep, FileFault>
-    requires is_due { due build.now ≡ EntryDue }
-    requires there { archive < length (outline_left build.now).archives }
-    ensures brings { (bytes : List ℕ) (pieces : List Piece) (later : List DueInEntry) (def : RraDef)
-        → slice_get (outline_left build.now).archives archive ≡ Some def
-        → Comes bytes build.now pieces (RowPrepDue last def ∷ later) input.old
-        → Brings bytes build.now (λ prep. pieces ++ OfPrep prep.part ∷ []) (λ prep. later) input.new result }
-    ensures function { (def : RraDef) → slice_get (outline_left build.now).archives archive ≡ Some def
-        → IfOk result (λ prep. prep.function ≡ def.function) }
-{
-    let mut piece = [0u8; 20];
-    input.piece(&mut piece)?;
-    let (known, value, _) = part_of(&piece);
-    match build.row_part(last, archive, known, value) {
-        Some(prep) => Ok(prep),
-        None => Err(bad_entry(build)),
-    }
-}
-
-// Reads the preparations of an archive's unfinished row.
-fn row_preps<R: Read + Drop>(
-    alloc: Global,
-    input: &mut PieceReader<R>,
-    build: &Rebuild,
-    last: u64,
-    archive: usize,
-) -> Result<Vec<RowPrep>, FileFault>
-    requires is_due { due build.now ≡ EntryDue }
-    requires there { archive < length (outline_left build.now).archives }
-    ensures brings { (bytes : List ℕ) (pieces : List Piece) (later : List DueInEntry) (def : RraDef)
-        → slice_get (outline_left build.now).archives archive ≡ Some def
-        → Comes bytes build.now pieces
-        (replicate (length (outline_left build.now).sources) (RowPrepDue last def) ++ later)
-        input.old
-        → Brings bytes build.now (λ preps. pieces ++ map OfPrep (parts_in preps.items)) (λ preps. later)
-        input.new result }
-    ensures function { (def : RraDef) → slice_get (outline_left build.now).archives archive ≡ Some def
-        → IfOk result (λ preps. AllOf def.function preps.items) }
-    ensures shaped { IfOk result (λ preps. length preps.items ≡ length (outline_left build.now).sources) }
-{
-    let mut preps = Vec::new(alloc);
-    for _ in 0..build.sources() {
-        let prep = row_prep(input, build, last, archive)?;
-        if preps.push(prep).is_err() {
-            return Err(FileFault::OutOfMemory);
-        }
-    }
-    Ok(preps)
-}
-
 // Reads how many rows of an archive were replaced.
 fn row_count<R: Read + Drop>(
     input: &mut PieceReader<R>,
@@ -179,7 +123,7 @@ fn row_count<R: Read + Drop>(
     ensures value { (def : RraDef) → slice_get (outline_left build.now).archives archive ≡ Some def
         → IfOk result (λ rows. rows
         ≡ min (rows_between build.now.header.step def last (outline_left build.now).last) def.rows) }
-    ensures few { IfOk result (λ rows. rows ≤ version_one.most_rows) }
+    ensures few { IfOk result (λ rows. rows ≤ present.most_rows) }
 {
     let mut piece = [0u8; 4];
     input.piece(&mut piece)?;
@@ -209,11 +153,11 @@ fn saved_archive<R: Read + Drop>(
     ensures shaped { (def : RraDef) → slice_get (outline_left build.now).archives archive ≡ Some def
         → IfOk result (IsSavedShaped (length (outline_left build.now).sources) def) }
 {
-    let function = build.undone().archives.get(archive).function;
-    let preps = row_preps(alloc, input, build, last, archive)?;
+    let def = build.archive_left(archive);
+    let preps = row_preps(alloc, input, build, last, def)?;
     let count = row_count(input, build, last, archive)?;
     let rows = saved_rows(alloc, input, build, count)?;
-    Ok(SavedArchive::new(function, preps, rows))
+    Ok(SavedArchive::new(def.function, preps, rows))
 }
 
 // Reads what was before of each archive.

@@ -1,7 +1,7 @@
 //! What a resize replaced.
-ghost use Rattle.std.specs.Prelude.{◌≡◌, ◌<◌, ◌≤◌, ◌^◌, ◌∷◌, []};
+ghost use Rattle.std.specs.Prelude.{◌<◌, ◌≤◌, ◌^◌, ◌∷◌, []};
 ghost use Rattle.rrd_spec.specs.Journal.Entries.{ResizeEntry};
-ghost use Rattle.rrd_spec.specs.Limits.{version_one};
+ghost use Rattle.rrd_spec.specs.Limits.{present};
 ghost use Rattle.rrd_file.specs.Encoding.Block.{Gathers};
 ghost use Rattle.rrd_file.specs.Layout.{entry_pieces, row_pieces, spelled};
 ghost use Rattle.rrd_file.specs.Layout.Pieces.{AResize, OfNumber, OfRows, OfTag, spell};
@@ -21,7 +21,7 @@ fn write_resized<W: Write>(
     rows: u64,
 ) -> Result<(), WriteFault>
     requires archive_fits { archive < 2 ^ 16 }
-    requires rows_fit { rows ≤ version_one.most_rows }
+    requires rows_fit { rows ≤ present.most_rows }
     ensures { Gathers (W.contents out.old) block.old (W.contents out.new) block.new
         (spelled (OfTag AResize ∷ OfNumber archive ∷ OfRows rows ∷ [])) result }
 {
@@ -32,8 +32,12 @@ fn write_resized<W: Write>(
     Ok(())
 }
 
-// Writes the rows of an archive before a resize, oldest first.
-fn write_rows<W: Write>(out: &mut W, block: &mut Block, rows: &Archive) -> Result<(), WriteFault>
+/// Writes the rows of an archive, oldest first.
+pub(super) fn write_rows<W: Write>(
+    out: &mut W,
+    block: &mut Block,
+    rows: &Archive,
+) -> Result<(), WriteFault>
     ensures { Gathers (W.contents out.old) block.old (W.contents out.new) block.new
         (spelled (row_pieces rows.now)) result }
 {

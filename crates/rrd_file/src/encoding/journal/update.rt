@@ -2,7 +2,7 @@
 ghost use Rattle.std.specs.Prelude.{◌≡◌, ◌≤◌, ◌∷◌, [], length};
 ghost use Rattle.std.specs.List.{flat_map};
 ghost use Rattle.rrd_spec.specs.Journal.Entries.{UpdateEntry};
-ghost use Rattle.rrd_spec.specs.Limits.{version_one};
+ghost use Rattle.rrd_spec.specs.Limits.{present};
 ghost use Rattle.rrd_base.specs.Journal.{update_of};
 ghost use Rattle.rrd_file.specs.Encoding.Block.{Gathers};
 ghost use Rattle.rrd_file.specs.Layout.{entry_pieces, row_pieces, saved_pieces, raws_and_parts, spelled};
@@ -65,7 +65,7 @@ fn write_raws_and_parts<W: Write>(
 // Writes a number of rows.
 #[tactic(auto, unfolding(crate::specs::Layout::Pieces::spell))]
 fn write_row_count<W: Write>(out: &mut W, block: &mut Block, rows: u64) -> Result<(), WriteFault>
-    requires { rows ≤ version_one.most_rows }
+    requires { rows ≤ present.most_rows }
     ensures { Gathers (W.contents out.old) block.old (W.contents out.new) block.new (spell (OfRows rows)) result }
 {
     block.make_room(out)?;

@@ -3,12 +3,12 @@ use Rattle.rrd_spec.specs.History.Groups.{finished, unfinished}
 use Rattle.rrd_spec.specs.Laws.ListedContent.{content_listed, kept_rows}
 use Rattle.rrd_spec.specs.History.{seconds_of}
 use Rattle.rrd_spec.specs.History.Steps.{steps_of, parts_of}
-use Rattle.rrd_spec.specs.History.Rows.{rows_of, row_parts_of}
+use Rattle.rrd_spec.specs.History.Rows.{row_parts, rows_of, row_parts_of}
 use Rattle.rrd_spec.specs.Commands.Verdict.{verdict_within}
 use Rattle.rrd_spec.proofs.laws.examples.Goals as goal
 
 pub returns : goal.returns
-unfolding finished unfinished content_listed seconds_of steps_of parts_of rows_of row_parts_of kept_rows verdict_within
+unfolding finished unfinished content_listed seconds_of steps_of parts_of rows_of row_parts row_parts_of kept_rows verdict_within
 returns c = record {
   two = refl;
   heartbeat = refl;

@@ -4,11 +4,11 @@ use Rattle.rrd_store.proofs.batch.run_file_batch.Goals as goal
 
 pub returns : goal.returns
 returns g c =
-    let old = g.P.Write.contents c.args.place.now in
-    let new = g.P.Write.contents c.store.new.place in
-    let left : Leaves c.run_batch-end.result.database old new c.store.result = rw c.as_ref.ensures.value at c.store.ensures in (
+    let old = g.P.Place.contents c.args.place.now in
+    let new = g.P.Place.contents c.store.new.place in
+    let left : Leaves c.run_batch-end.result.database old new c.store.result = rw (c.load.ensures.stays, c.as_ref.ensures.value) at c.store.ensures in (
       c.in_ok-database.database,
-      c.in_ok-database.ensures,
+      c.in_ok-database.ensures.found,
       record {
         last = c.run_batch-end.result.database;
         runs = c.run_batch-end.ensures;

@@ -5,10 +5,10 @@ pub returns-clause-all : goal.returns-clause-all
 returns-clause-all c =
     runs_computed
     (record { created = c.created_is_valid.ensures; begins = c.database_begins.ensures; acts = c.action_goes_on.ensures; changed = c.database_stays.ensures.changed; reverted = c.database_stays.ensures.reverted })
-    (record { no_other = c.layout_is_file.ensures.no_other; is_layout = c.file_is_layout.ensures; one = c.one_answer.ensures })
+    (record { no_other = c.layout_is_file.ensures.no_other; is_layout = c.file_is_layout.ensures; one = c.one_answer.ensures; within = c.versions_stay_within.ensures.database })
 
 pub returns-clause-each : goal.returns-clause-each
 returns-clause-each c =
     run_computed
     (record { created = c.created_is_valid.ensures; begins = c.database_begins.ensures; acts = c.action_goes_on.ensures; changed = c.database_stays.ensures.changed; reverted = c.database_stays.ensures.reverted })
-    (record { no_other = c.layout_is_file.ensures.no_other; is_layout = c.file_is_layout.ensures; one = c.one_answer.ensures })
+    (record { no_other = c.layout_is_file.ensures.no_other; is_layout = c.file_is_layout.ensures; one = c.one_answer.ensures; within = c.versions_stay_within.ensures.database })

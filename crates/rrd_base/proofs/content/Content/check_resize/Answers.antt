@@ -4,7 +4,7 @@ use Rattle.rrd_spec.specs.History.{Content}
 use Rattle.rrd_base.specs.Resize.{settings}
 use Rattle.rrd_spec.specs.Commands.Verdict.{first_refusal, resize_checks, verdict, verdict_within}
 use Rattle.rrd_base.proofs.content.Content.check_resize.Goals as goal
-use Rattle.rrd_spec.specs.Limits.{version_one}
+use Rattle.rrd_spec.specs.Limits.{present}
 
 pub returns : goal.returns
 unfolding verdict_within
@@ -13,6 +13,6 @@ returns c =
     let change = c.args.change in
     let rows = c.args.rows in
     c.check_resize.ensures
-    ∙ ap (λ sources. first_refusal (resize_checks version_one (settings sources c.deref-2.result.now) archive change rows)) c.deref.ensures.value
-    ∙ ap (λ archives. first_refusal (resize_checks version_one (settings c.self.inside.sources.items archives) archive change rows)) c.deref-2.ensures.value
+    ∙ ap (λ sources. first_refusal (resize_checks present (settings sources c.as_slice.result.now) archive change rows)) c.deref.ensures.value
+    ∙ ap (λ archives. first_refusal (resize_checks present (settings c.self.inside.sources.items archives) archive change rows)) c.as_slice.ensures
     ∙ ap (λ (x : Content). verdict x (Resizing archive change rows)) c.self.view_is

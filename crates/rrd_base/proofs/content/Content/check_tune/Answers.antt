@@ -1,13 +1,16 @@
 use Rattle.std.proofs.Common.{◌∙◌, ap}
 use Rattle.rrd_spec.specs.Commands.{TuningBy}
 use Rattle.rrd_spec.specs.History.{Content}
+use Rattle.rrd_base.specs.Resize.{settings}
 use Rattle.rrd_spec.specs.Commands.Verdict.{first_refusal, tune_checks, verdict, verdict_within}
 use Rattle.rrd_base.proofs.content.Content.check_tune.Goals as goal
-use Rattle.rrd_spec.specs.Limits.{version_one}
+use Rattle.rrd_spec.specs.Limits.{present}
 
 pub returns : goal.returns
 unfolding verdict_within
 returns c =
     let tuning = c.args.tuning.now in
-    c.check_tune.ensures ∙ ap (λ sources. first_refusal (tune_checks version_one sources tuning)) c.deref.ensures.value
+    c.check_tune.ensures
+    ∙ ap (λ sources. first_refusal (tune_checks present (settings sources c.as_slice.result.now) tuning)) c.deref.ensures.value
+    ∙ ap (λ archives. first_refusal (tune_checks present (settings c.self.inside.sources.items archives) tuning)) c.as_slice.ensures
     ∙ ap (λ (x : Content). verdict x (TuningBy tuning)) c.self.view_is

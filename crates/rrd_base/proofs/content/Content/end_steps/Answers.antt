@@ -1,3 +1,5 @@
+use Rattle.std.specs.List.{refill}
+use Rattle.rrd_base.proofs.TuneLemmas.{refilled}
 use Rattle.std.proofs.Common.{◌≡◌, sym, ◌∙◌, ap, subst, ℕ, ◌+◌, ◌*◌, ◌/◌, ◌%◌, ◌≤◌, ◌∷◌, map, replicate, length, arith}
 use Rattle.std.specs.List.{fold, AllByRecursion}
 use Rattle.std.specs.Vec.{with_items}
@@ -52,14 +54,14 @@ invariant_of-self c =
     let cells_are : cells ≡ c.close_steps.new.cells = c.deref-2.ensures.value ∙ with_items_is c.args.walk.now.step c.close_steps.new.cells (omega (arith, c.args.walk.now.step.ok.0, ap length c.deref_mut-3.ensures.value)) in
     let wide : length cells ≡ k = ap length cells_are ∙ omega (arith, c.close_steps.ensures.row.one_each, count2) in
     let q = d.last / d.step in
-    let stored : (with_items d.archives c.take_all.new.archives).items ≡ c.take_all.new.archives = with_items_is d.archives c.take_all.new.archives (omega (arith, d.archives.ok.0, ap length c.deref_mut-4.ensures.value)) in
-    let archives : (with_items d.archives c.take_all.new.archives).items ≡ map (archive_passed k q (cells ∷ replicate m rates)) d.archives.items
+    let stored : refill (length d.archives) d.archives c.take_all.new.archives ≡ c.take_all.new.archives = refilled d.archives c.take_all.new.archives (omega (arith, ap length c.as_mut_slice-archives.ensures.value)) in
+    let archives : refill (length d.archives) d.archives c.take_all.new.archives ≡ map (archive_passed k q (cells ∷ replicate m rates)) d.archives
     = stored ∙ c.take_all.ensures.value
-    ∙ ap (λ xs. map (archive_passed (length cells) q (cells ∷ replicate m c.deref-3.result.now)) xs) c.deref_mut-4.ensures.value
-    ∙ ap (λ w. map (archive_passed w q (cells ∷ replicate m c.deref-3.result.now)) d.archives.items) wide
-    ∙ ap (λ row. map (archive_passed k q (cells ∷ replicate m row)) d.archives.items) c.deref-3.ensures.value in
+    ∙ ap (λ xs. map (archive_passed (length cells) q (cells ∷ replicate m c.deref-3.result.now)) xs) c.as_mut_slice-archives.ensures.value
+    ∙ ap (λ w. map (archive_passed w q (cells ∷ replicate m c.deref-3.result.now)) d.archives) wide
+    ∙ ap (λ row. map (archive_passed k q (cells ∷ replicate m row)) d.archives) c.deref-3.ensures.value in
     let made : cells ≡ map (step_cell d.step) whole = cells_are ∙ c.close_steps.ensures.cells ∙ ap (map (step_cell d.step)) added in
-    let now = ends c.seconds_pass_at_once.ensures (content_of d) n m rates cells (with_items added_vec c.close_steps.new.preps).items (with_items d.archives c.take_all.new.archives).items is row end made parts archives in
+    let now = ends c.seconds_pass_at_once.ensures (content_of d) n m rates cells (with_items added_vec c.close_steps.new.preps).items (refill (length d.archives) d.archives c.take_all.new.archives) is row end made parts archives in
     stays c.seconds_stay_valid.ensures.content (content_of d) _ (n + m * d.step) rates is row in_time now
 
 pub returns-clause-value : goal.returns-clause-value
@@ -84,12 +86,12 @@ returns-clause-value c =
     let cells_are : cells ≡ c.close_steps.new.cells = c.deref-2.ensures.value ∙ with_items_is c.args.walk.now.step c.close_steps.new.cells (omega (arith, c.args.walk.now.step.ok.0, ap length c.deref_mut-3.ensures.value)) in
     let wide : length cells ≡ k = ap length cells_are ∙ omega (arith, c.close_steps.ensures.row.one_each, count2) in
     let q = d.last / d.step in
-    let stored : (with_items d.archives c.take_all.new.archives).items ≡ c.take_all.new.archives = with_items_is d.archives c.take_all.new.archives (omega (arith, d.archives.ok.0, ap length c.deref_mut-4.ensures.value)) in
-    let archives : (with_items d.archives c.take_all.new.archives).items ≡ map (archive_passed k q (cells ∷ replicate m rates)) d.archives.items
+    let stored : refill (length d.archives) d.archives c.take_all.new.archives ≡ c.take_all.new.archives = refilled d.archives c.take_all.new.archives (omega (arith, ap length c.as_mut_slice-archives.ensures.value)) in
+    let archives : refill (length d.archives) d.archives c.take_all.new.archives ≡ map (archive_passed k q (cells ∷ replicate m rates)) d.archives
     = stored ∙ c.take_all.ensures.value
-    ∙ ap (λ xs. map (archive_passed (length cells) q (cells ∷ replicate m c.deref-3.result.now)) xs) c.deref_mut-4.ensures.value
-    ∙ ap (λ w. map (archive_passed w q (cells ∷ replicate m c.deref-3.result.now)) d.archives.items) wide
-    ∙ ap (λ row. map (archive_passed k q (cells ∷ replicate m row)) d.archives.items) c.deref-3.ensures.value in
+    ∙ ap (λ xs. map (archive_passed (length cells) q (cells ∷ replicate m c.deref-3.result.now)) xs) c.as_mut_slice-archives.ensures.value
+    ∙ ap (λ w. map (archive_passed w q (cells ∷ replicate m c.deref-3.result.now)) d.archives) wide
+    ∙ ap (λ row. map (archive_passed k q (cells ∷ replicate m row)) d.archives) c.deref-3.ensures.value in
     let made : cells ≡ map (step_cell d.step) whole = cells_are ∙ c.close_steps.ensures.cells ∙ ap (map (step_cell d.step)) added in
-    ends c.seconds_pass_at_once.ensures (content_of d) n m rates cells (with_items added_vec c.close_steps.new.preps).items (with_items d.archives c.take_all.new.archives).items is row end made parts archives
+    ends c.seconds_pass_at_once.ensures (content_of d) n m rates cells (with_items added_vec c.close_steps.new.preps).items (refill (length d.archives) d.archives c.take_all.new.archives) is row end made parts archives
     ∙ ap (λ (x : Content). passed x (replicate (n + m * x.step) rates)) c.self.view_is

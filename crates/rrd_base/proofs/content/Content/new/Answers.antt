@@ -1,4 +1,5 @@
-use Rattle.std.proofs.Common.{rules, ℕ, List, [], ◌∷◌, map, ◌≡◌, sym, ◌∙◌, ap, subst, length, replicate, ◌<◌, ◌≤◌, ◌/◌}
+use Rattle.std.proofs.lemmas.List.{length-map}
+use Rattle.std.proofs.Common.{arith, rules, ℕ, List, [], ◌∷◌, map, ◌≡◌, sym, ◌∙◌, ap, subst, length, replicate, ◌<◌, ◌≤◌, ◌/◌}
 use Rattle.std.specs.List.{AllByRecursion}
 use Rattle.rrd_spec.specs.declared.settings.RraDef.{RraDef}
 use Rattle.rrd_fixed.specs.declared.raw.Raw.TheVariants as Raw
@@ -25,6 +26,12 @@ new_all-requires-clause-some_sources c = subst (λ n. 0 < n) (sym c.len-sources.
 pub new_all-requires-clause-few_sources : goal.new_all-requires-clause-few_sources
 new_all-requires-clause-few_sources c = subst (λ n. n ≤ 64) (sym c.len-sources.ensures) (c.created_is_valid.ensures c.args.spec c.requires).few_sources
 
+pub new_all-requires-clause-few : goal.new_all-requires-clause-few
+new_all-requires-clause-few c =
+    let spec = c.args.spec in
+    let same : length (map (new_archive (length spec.sources)) spec.archives) ≡ length spec.archives = length-map spec.archives (new_archive (length spec.sources)) in
+    omega (arith, ap length c.as_slice.ensures, same, (c.created_is_valid.ensures spec c.requires).few_archives)
+
 pub invariant_of-result : goal.invariant_of-result
 invariant_of-result c =
     let spec = c.args.spec in
@@ -32,10 +39,10 @@ invariant_of-result c =
     let sources : c.into_vec.result.items ≡ spec.sources = c.into_vec.ensures in
     let raws : c.in_ok-raws.raws.items ≡ replicate n Raw.Unknown = search rules in
     let preps : c.in_ok-preps.preps.items ≡ replicate n nothing = search rules in
-    let archives : c.in_ok-archives.archives.items ≡ map (new_archive n) spec.archives = c.in_ok-archives.ensures ∙ ap (λ m. map (new_archive m) c.as_slice.result.now) c.len-sources.ensures ∙ ap (map (new_archive n)) c.as_slice.ensures in
-    let same : (let x : Content = record { step = spec.step; depth = spec.depth; sources = c.into_vec.result.items; last = spec.start; raws = c.in_ok-raws.raws.items; parts = c.in_ok-preps.preps.items; archives = c.in_ok-archives.archives.items } in x) ≡ created spec
-    = ap (λ ss. let x : Content = record { step = spec.step; depth = spec.depth; sources = ss; last = spec.start; raws = c.in_ok-raws.raws.items; parts = c.in_ok-preps.preps.items; archives = c.in_ok-archives.archives.items } in x) sources
-    ∙ ap (λ rs. let x : Content = record { step = spec.step; depth = spec.depth; sources = spec.sources; last = spec.start; raws = rs; parts = c.in_ok-preps.preps.items; archives = c.in_ok-archives.archives.items } in x) raws
-    ∙ ap (λ ps. let x : Content = record { step = spec.step; depth = spec.depth; sources = spec.sources; last = spec.start; raws = replicate n Raw.Unknown; parts = ps; archives = c.in_ok-archives.archives.items } in x) preps
+    let archives : c.in_ok-archives.archives ≡ map (new_archive n) spec.archives = c.in_ok-archives.ensures ∙ ap (λ m. map (new_archive m) c.as_slice.result.now) c.len-sources.ensures ∙ ap (map (new_archive n)) c.as_slice.ensures in
+    let same : (let x : Content = record { step = spec.step; depth = spec.depth; sources = c.into_vec.result.items; last = spec.start; raws = c.in_ok-raws.raws.items; parts = c.in_ok-preps.preps.items; archives = c.in_ok-archives.archives } in x) ≡ created spec
+    = ap (λ ss. let x : Content = record { step = spec.step; depth = spec.depth; sources = ss; last = spec.start; raws = c.in_ok-raws.raws.items; parts = c.in_ok-preps.preps.items; archives = c.in_ok-archives.archives } in x) sources
+    ∙ ap (λ rs. let x : Content = record { step = spec.step; depth = spec.depth; sources = spec.sources; last = spec.start; raws = rs; parts = c.in_ok-preps.preps.items; archives = c.in_ok-archives.archives } in x) raws
+    ∙ ap (λ ps. let x : Content = record { step = spec.step; depth = spec.depth; sources = spec.sources; last = spec.start; raws = replicate n Raw.Unknown; parts = ps; archives = c.in_ok-archives.archives } in x) preps
     ∙ ap (λ xs. let x : Content = record { step = spec.step; depth = spec.depth; sources = spec.sources; last = spec.start; raws = replicate n Raw.Unknown; parts = replicate n nothing; archives = xs } in x) archives in
     subst IsValid (sym same) (c.created_is_valid.ensures spec c.requires)

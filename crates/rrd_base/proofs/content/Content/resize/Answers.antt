@@ -12,10 +12,10 @@ invariant_of-self c =
     let d = c.self.inside in
     let k = c.args.archive in
     let rows = c.args.rows in
-    let there : k < length d.archives.items = subst (λ (x : Content). k < length x.archives) (sym c.self.view_is) c.requires.there in
-    let archives : set d.archives.items k c.swap_rows.new.self ≡ with_rows_at d.archives.items k rows
-    = ap (set d.archives.items k) (c.swap_rows.ensures.mine ∙ ap (λ (a : Archive). let b : Archive = record a { def = record a.def { rows = length rows }; rows = rows } in b) c.index_mut.ensures.value)
-    ∙ rows_set d.archives.items k c.index_mut.result.now rows there in
+    let there : k < length d.archives = subst (λ (x : Content). k < length x.archives) (sym c.self.view_is) c.requires.there in
+    let archives : set d.archives k c.swap_rows.new.self ≡ with_rows_at d.archives k rows
+    = ap (set d.archives k) (c.swap_rows.ensures.mine ∙ ap (λ (a : Archive). let b : Archive = record a { def = record a.def { rows = length rows }; rows = rows } in b) c.get_mut.ensures.value)
+    ∙ rows_set d.archives k c.get_mut.result.now rows there in
     subst (λ xs. IsValid (record (content_of d) { archives = xs })) (sym archives) (subst (λ (x : Content). IsValid (record x { archives = with_rows_at x.archives k rows })) (sym c.self.view_is) c.requires.valid)
 
 pub returns-clause-content : goal.returns-clause-content
@@ -23,15 +23,15 @@ returns-clause-content c =
     let d = c.self.inside in
     let k = c.args.archive in
     let rows = c.args.rows in
-    let there : k < length d.archives.items = subst (λ (x : Content). k < length x.archives) (sym c.self.view_is) c.requires.there in
-    let archives : set d.archives.items k c.swap_rows.new.self ≡ with_rows_at d.archives.items k rows
-    = ap (set d.archives.items k) (c.swap_rows.ensures.mine ∙ ap (λ (a : Archive). let b : Archive = record a { def = record a.def { rows = length rows }; rows = rows } in b) c.index_mut.ensures.value)
-    ∙ rows_set d.archives.items k c.index_mut.result.now rows there in
+    let there : k < length d.archives = subst (λ (x : Content). k < length x.archives) (sym c.self.view_is) c.requires.there in
+    let archives : set d.archives k c.swap_rows.new.self ≡ with_rows_at d.archives k rows
+    = ap (set d.archives k) (c.swap_rows.ensures.mine ∙ ap (λ (a : Archive). let b : Archive = record a { def = record a.def { rows = length rows }; rows = rows } in b) c.get_mut.ensures.value)
+    ∙ rows_set d.archives k c.get_mut.result.now rows there in
     ap (λ xs. let x : Content = record (content_of d) { archives = xs } in x) archives ∙ ap (λ (x : Content). let y : Content = record x { archives = with_rows_at x.archives k rows } in y) c.self.view_is
 
 pub returns-clause-old : goal.returns-clause-old
 returns-clause-old c =
     let d = c.self.inside in
     let k = c.args.archive in
-    let there : k < length d.archives.items = subst (λ (x : Content). k < length x.archives) (sym c.self.view_is) c.requires.there in
-    c.swap_rows.ensures.others ∙ ap (λ (a : Archive). a.rows) c.index_mut.ensures.value ∙ rows_of_place d.archives.items k c.index_mut.result.now there ∙ ap (λ (x : Content). rows_at x.archives k) c.self.view_is
+    let there : k < length d.archives = subst (λ (x : Content). k < length x.archives) (sym c.self.view_is) c.requires.there in
+    c.swap_rows.ensures.others ∙ ap (λ (a : Archive). a.rows) c.get_mut.ensures.value ∙ rows_of_place d.archives k c.get_mut.result.now there ∙ ap (λ (x : Content). rows_at x.archives k) c.self.view_is

@@ -9,18 +9,18 @@ use Rattle.rrd_ring.specs.Rows.{newest_rows}
 use Rattle.rrd_base.proofs.ResizeLemmas.{few_at, have_few, rows_at_archive, rows_of_place}
 use Rattle.rrd_base.proofs.content.Content.resized.Goals as goal
 
-pub index-rra-requires : goal.index-rra-requires
-index-rra-requires c =
+pub get-rra-requires : goal.get-rra-requires
+get-rra-requires c =
     let accepted = subst (λ (x : Content). verdict x (Resizing c.args.archive c.args.change c.args.rows) ≡ None) (sym c.self.view_is) c.requires in
-    omega (arith, (c.resize_changes_rows.ensures.fits (content_of c.self.inside) c.args.archive c.args.change c.args.rows c.self.invariant accepted).there, c.self.inside.archives.ok.0)
+    (c.resize_changes_rows.ensures.fits (content_of c.self.inside) c.args.archive c.args.change c.args.rows c.self.invariant accepted).there
 
 pub rows_changed-requires-clause-small : goal.rows_changed-requires-clause-small
 rows_changed-requires-clause-small c =
     let X = content_of c.self.inside in
     let k = c.args.archive in
     let accepted = subst (λ (x : Content). verdict x (Resizing k c.args.change c.args.rows) ≡ None) (sym c.self.view_is) c.requires in
-    let old : c.def.result.rows ≡ (get_or X.archives k c.index-rra.result.now).def.rows = ap (λ (d : RraDef). d.rows) c.def.ensures ∙ ap (λ (a : Archive). a.def.rows) c.index-rra.ensures in
-    omega (arith, old, few_at X.archives k c.index-rra.result.now (c.resize_changes_rows.ensures.fits X k c.args.change c.args.rows c.self.invariant accepted).there (have_few (length X.sources) (X.last / X.step) X.archives c.self.invariant.archives_are))
+    let old : c.def.result.rows ≡ (get_or X.archives k c.get-rra.result.now).def.rows = ap (λ (d : RraDef). d.rows) c.def.ensures ∙ ap (λ (a : Archive). a.def.rows) c.get-rra.ensures in
+    omega (arith, old, few_at X.archives k c.get-rra.result.now (c.resize_changes_rows.ensures.fits X k c.args.change c.args.rows c.self.invariant accepted).there (have_few (length X.sources) (X.last / X.step) X.archives c.self.invariant.archives_are))
 
 pub rows_changed-requires-clause-few : goal.rows_changed-requires-clause-few
 rows_changed-requires-clause-few c =
@@ -33,10 +33,10 @@ resized-requires-clause-some_rows c =
     let X = content_of c.self.inside in
     let k = c.args.archive in
     let accepted = subst (λ (x : Content). verdict x (Resizing k c.args.change c.args.rows) ≡ None) (sym c.self.view_is) c.requires in
-    let old : c.def.result.rows ≡ (get_or X.archives k c.index-rra.result.now).def.rows = ap (λ (d : RraDef). d.rows) c.def.ensures ∙ ap (λ (a : Archive). a.def.rows) c.index-rra.ensures in
+    let old : c.def.result.rows ≡ (get_or X.archives k c.get-rra.result.now).def.rows = ap (λ (d : RraDef). d.rows) c.def.ensures ∙ ap (λ (a : Archive). a.def.rows) c.get-rra.ensures in
     let fits = c.resize_changes_rows.ensures.fits X k c.args.change c.args.rows c.self.invariant accepted in
     let new : c.rows_changed.result ≡ rows_changed c.args.change (get_or (rows_of_archives X.archives) k 0) c.args.rows
-    = c.rows_changed.ensures ∙ ap (λ m. rows_changed c.args.change m c.args.rows) (old ∙ sym (rows_at_archive X.archives k c.index-rra.result.now fits.there)) in
+    = c.rows_changed.ensures ∙ ap (λ m. rows_changed c.args.change m c.args.rows) (old ∙ sym (rows_at_archive X.archives k c.get-rra.result.now fits.there)) in
     subst (λ m. 0 < m) (sym new) fits.some_then
 
 pub resized-requires-clause-few_rows : goal.resized-requires-clause-few_rows
@@ -44,10 +44,10 @@ resized-requires-clause-few_rows c =
     let X = content_of c.self.inside in
     let k = c.args.archive in
     let accepted = subst (λ (x : Content). verdict x (Resizing k c.args.change c.args.rows) ≡ None) (sym c.self.view_is) c.requires in
-    let old : c.def.result.rows ≡ (get_or X.archives k c.index-rra.result.now).def.rows = ap (λ (d : RraDef). d.rows) c.def.ensures ∙ ap (λ (a : Archive). a.def.rows) c.index-rra.ensures in
+    let old : c.def.result.rows ≡ (get_or X.archives k c.get-rra.result.now).def.rows = ap (λ (d : RraDef). d.rows) c.def.ensures ∙ ap (λ (a : Archive). a.def.rows) c.get-rra.ensures in
     let fits = c.resize_changes_rows.ensures.fits X k c.args.change c.args.rows c.self.invariant accepted in
     let new : c.rows_changed.result ≡ rows_changed c.args.change (get_or (rows_of_archives X.archives) k 0) c.args.rows
-    = c.rows_changed.ensures ∙ ap (λ m. rows_changed c.args.change m c.args.rows) (old ∙ sym (rows_at_archive X.archives k c.index-rra.result.now fits.there)) in
+    = c.rows_changed.ensures ∙ ap (λ m. rows_changed c.args.change m c.args.rows) (old ∙ sym (rows_at_archive X.archives k c.get-rra.result.now fits.there)) in
     subst (λ m. m ≤ 1000000) (sym new) fits.few_then
 
 pub returns : goal.returns
@@ -56,10 +56,10 @@ returns c =
     let k = c.args.archive in
     let accepted = subst (λ (x : Content). verdict x (Resizing k c.args.change c.args.rows) ≡ None) (sym c.self.view_is) c.requires in
     let there = (c.resize_changes_rows.ensures.fits X k c.args.change c.args.rows c.self.invariant accepted).there in
-    let old : c.def.result.rows ≡ (get_or X.archives k c.index-rra.result.now).def.rows = ap (λ (d : RraDef). d.rows) c.def.ensures ∙ ap (λ (a : Archive). a.def.rows) c.index-rra.ensures in
+    let old : c.def.result.rows ≡ (get_or X.archives k c.get-rra.result.now).def.rows = ap (λ (d : RraDef). d.rows) c.def.ensures ∙ ap (λ (a : Archive). a.def.rows) c.get-rra.ensures in
     let new : c.rows_changed.result ≡ rows_changed c.args.change (get_or (rows_of_archives X.archives) k 0) c.args.rows
-    = c.rows_changed.ensures ∙ ap (λ m. rows_changed c.args.change m c.args.rows) (old ∙ sym (rows_at_archive X.archives k c.index-rra.result.now there)) in
-    let place : c.index-rra.result.now.rows ≡ rows_at X.archives k = ap (λ (a : Archive). a.rows) c.index-rra.ensures ∙ rows_of_place X.archives k c.index-rra.result.now there in
+    = c.rows_changed.ensures ∙ ap (λ m. rows_changed c.args.change m c.args.rows) (old ∙ sym (rows_at_archive X.archives k c.get-rra.result.now there)) in
+    let place : c.get-rra.result.now.rows ≡ rows_at X.archives k = ap (λ (a : Archive). a.rows) c.get-rra.ensures ∙ rows_of_place X.archives k c.get-rra.result.now there in
     subst (λ (x : Content). IfOk c.resized.result (λ new. new ≡ newest_rows (rows_changed c.args.change (get_or (rows_of_archives x.archives) k 0) c.args.rows) (rows_at x.archives k))) c.self.view_is
     (subst (λ n. IfOk c.resized.result (λ new. new ≡ newest_rows n (rows_at X.archives k))) new
     (subst (λ rs. IfOk c.resized.result (λ new. new ≡ newest_rows c.rows_changed.result rs)) place c.resized.ensures))

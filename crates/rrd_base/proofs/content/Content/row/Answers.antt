@@ -34,9 +34,9 @@ pub returns-clause-cells : goal.returns-clause-cells
 returns-clause-cells c =
     let d = c.self.inside in
     let X : Content = content_of d in
-    let rra = c.index-rra.result.now in
+    let rra = c.get-rra.result.now in
     let unknown = replicate (length d.sources.items) Unknown in
-    let there : c.args.archive < length d.archives.items = subst (λ (x : Content). c.args.archive < length x.archives) (sym c.self.view_is) c.requires in
+    let there : c.args.archive < length d.archives = subst (λ (x : Content). c.args.archive < length x.archives) (sym c.self.view_is) c.requires in
     let fits : FitsSigned w64 c.args.time = search rules in
     let age : c.age.result ≡ (pos (d.last / (d.step * rra.def.steps)) -ℤ int_div_euclid c.args.time (pos (d.step * rra.def.steps)))
     = (simp to_z-of_z at c.age.ensures)
@@ -46,18 +46,18 @@ returns-clause-cells c =
     IfSome_then c.row_of_age.result c.row_of_age.ensures.some (λ row e source.
     let same : row.now ≡ row_of_age rra.rows unknown c.age.result = sym (simp to_z-of_z at (e unknown)) in
     ap (λ cells. get_or cells source Unknown) (same ∙ ap (row_of_age rra.rows unknown) age)
-    ∙ ap (λ a. get_or (row_at X a c.args.time) source Unknown) c.index-rra.ensures
-    ∙ cell_of_archive X d.archives.items c.args.archive rra c.args.time source there
+    ∙ ap (λ a. get_or (row_at X a c.args.time) source Unknown) c.get-rra.ensures
+    ∙ cell_of_archive X d.archives c.args.archive rra c.args.time source there
     ∙ ap (λ (x : Content). cell_at x c.args.archive c.args.time source) c.self.view_is)
 
 pub returns-clause-wide : goal.returns-clause-wide
 returns-clause-wide c =
     let d = c.self.inside in
     let n = length d.sources.items in
-    let rra = c.index-rra.result.now in
+    let rra = c.get-rra.result.now in
     let unknown = replicate n Unknown in
-    let there : c.args.archive < length d.archives.items = subst (λ (x : Content). c.args.archive < length x.archives) (sym c.self.view_is) c.requires in
-    let valid = subst (IsValidArchive n (d.last / d.step)) (sym c.index-rra.ensures) (All-at (IsValidArchive n (d.last / d.step)) d.archives.items c.args.archive rra c.self.invariant.archives_are there) in
+    let there : c.args.archive < length d.archives = subst (λ (x : Content). c.args.archive < length x.archives) (sym c.self.view_is) c.requires in
+    let valid = subst (IsValidArchive n (d.last / d.step)) (sym c.get-rra.ensures) (All-at (IsValidArchive n (d.last / d.step)) d.archives c.args.archive rra c.self.invariant.archives_are there) in
     IfSome_then c.row_of_age.result c.row_of_age.ensures.some (λ row e.
     ap length (sym (e unknown)) ∙ row_of_age_wide n rra.rows unknown _ valid.each_row (length-replicate n Unknown) ∙ ap (λ (x : Content). length x.sources) c.self.view_is)
 
@@ -65,9 +65,9 @@ pub returns-clause-none : goal.returns-clause-none
 returns-clause-none c =
     let d = c.self.inside in
     let X : Content = content_of d in
-    let rra = c.index-rra.result.now in
+    let rra = c.get-rra.result.now in
     let unknown = replicate (length d.sources.items) Unknown in
-    let there : c.args.archive < length d.archives.items = subst (λ (x : Content). c.args.archive < length x.archives) (sym c.self.view_is) c.requires in
+    let there : c.args.archive < length d.archives = subst (λ (x : Content). c.args.archive < length x.archives) (sym c.self.view_is) c.requires in
     let fits : FitsSigned w64 c.args.time = search rules in
     let age : c.age.result ≡ (pos (d.last / (d.step * rra.def.steps)) -ℤ int_div_euclid c.args.time (pos (d.step * rra.def.steps)))
     = (simp to_z-of_z at c.age.ensures)
@@ -78,7 +78,7 @@ returns-clause-none c =
     let same : row_of_age rra.rows unknown c.age.result ≡ unknown = simp to_z-of_z at (e unknown) in
     let inside : source < length d.sources.items = subst (λ (x : Content). source < length x.sources) (sym c.self.view_is) within in
     ap (λ (x : Content). cell_at x c.args.archive c.args.time source) (sym c.self.view_is)
-    ∙ sym (cell_of_archive X d.archives.items c.args.archive rra c.args.time source there)
-    ∙ ap (λ a. get_or (row_at X a c.args.time) source Unknown) (sym c.index-rra.ensures)
+    ∙ sym (cell_of_archive X d.archives c.args.archive rra c.args.time source there)
+    ∙ ap (λ a. get_or (row_at X a c.args.time) source Unknown) (sym c.get-rra.ensures)
     ∙ ap (λ cells. get_or cells source Unknown) (ap (row_of_age rra.rows unknown) (sym age) ∙ same)
     ∙ get_or-replicate (length d.sources.items) source Unknown Unknown inside)

@@ -17,7 +17,7 @@ use Rattle.rrd_base.proofs.TurnLemmas.{few_turns}
 use Rattle.rrd_base.proofs.SampleSteps.{one_taken, later_sample, accepted_raws}
 use Rattle.rrd_spec.specs.Lemmas.Lists.{drop_here}
 use Rattle.rrd_base.proofs.content.Content.take_samples.Goals as goal
-use Rattle.rrd_spec.specs.Limits.{version_one}
+use Rattle.rrd_spec.specs.Limits.{present}
 
 pub loop-sample-init : goal.loop-sample-init
 loop-sample-init c =
@@ -89,7 +89,7 @@ loop-sample-preserved c =
     let next = c.take_sample.new.self in
     let moved_is : next ≡ content_listed now (Sampled (sample_of X.sources template sample) ∷ [])
     = c.take_sample.ensures.value ∙ ap (λ rs. let r : Reading = record { time = sample.time; raws = rs } in content_listed now (Sampled r ∷ [])) (written ∙ raws_are) in
-    let pass = subst (λ zs. AllByRecursion Passes (sample_checks version_one X.sources template now.last zs)) here was.pass in
+    let pass = subst (λ zs. AllByRecursion Passes (sample_checks present X.sources template now.last zs)) here was.pass in
     let taken = one_taken c.content_goes_on.ensures.by_list now next X.sources template sample (drop (i + 1) all) was.valid was.same_sources pass moved_is in
     let later = later_sample X.sources template now.last sample (drop (i + 1) all) pass in
     let shape = sample_leaves c.sample_passes.ensures now next (let r : Reading = record { time = sample.time; raws = given } in r) (base_of_valid now was.valid) later c.take_sample.ensures.value in

@@ -11,7 +11,7 @@ use Rattle.rrd_spec.specs.Validity.{IsValid}
 use Rattle.rrd_spec.specs.Laws.Commands.{Passes}
 use Rattle.rrd_base.proofs.Catching.{SameShape}
 use Rattle.rrd_base.proofs.content.Content.take_samples.Given as goal
-use Rattle.rrd_spec.specs.Limits.{version_one}
+use Rattle.rrd_spec.specs.Limits.{present}
 
 abbrev pub invariant-loop-sample : goal.invariant-loop-sample
 invariant-loop-sample l =
@@ -23,7 +23,7 @@ invariant-loop-sample l =
     let most = most_of_sample (length sources) base.step (definitions base.archives) in
     record {
       comes_to : content_listed l.self (map Sampled (map (sample_of sources template) left)) ≡ moved_listed base (Updating l.update);
-      pass : AllByRecursion Passes (sample_checks version_one sources template l.self.last left);
+      pass : AllByRecursion Passes (sample_checks present sources template l.self.last left);
       same_sources : l.self.sources ≡ sources;
       same_shape : SameShape base l.self;
       valid : IsValid l.self;
@@ -31,5 +31,5 @@ invariant-loop-sample l =
       places : HasPlaces l.walk (length sources);
       least : in_all least base.last l.update.samples ≤ l.walk.meter + in_all least l.self.last left;
       most : l.walk.meter + in_all most l.self.last left ≤ in_all most base.last l.update.samples;
-      few : l.walk.meter ≤ 5000000 * (l.self.last - base.last);
+      few : l.walk.meter ≤ 9000000 * (l.self.last - base.last);
     }

@@ -11,10 +11,10 @@ invariant_of-self c =
     let d = c.self.inside in
     let k = c.args.archive in
     let old = c.args.old in
-    let there : k < length d.archives.items = subst (λ (x : Content). k < length x.archives) (sym c.self.view_is) c.requires.there in
-    let archives : set d.archives.items k c.swap_rows.new.self ≡ with_rows_at d.archives.items k old
-    = ap (set d.archives.items k) (c.swap_rows.ensures.mine ∙ ap (λ (a : Archive). let b : Archive = record a { def = record a.def { rows = length old }; rows = old } in b) c.index_mut.ensures.value)
-    ∙ rows_set d.archives.items k c.index_mut.result.now old there in
+    let there : k < length d.archives = subst (λ (x : Content). k < length x.archives) (sym c.self.view_is) c.requires.there in
+    let archives : set d.archives k c.swap_rows.new.self ≡ with_rows_at d.archives k old
+    = ap (set d.archives k) (c.swap_rows.ensures.mine ∙ ap (λ (a : Archive). let b : Archive = record a { def = record a.def { rows = length old }; rows = old } in b) c.get_mut.ensures.value)
+    ∙ rows_set d.archives k c.get_mut.result.now old there in
     subst (λ xs. IsValid (record (content_of d) { archives = xs })) (sym archives) (subst (λ (x : Content). IsValid (undone x (ResizeEntry k old))) (sym c.self.view_is) c.requires.valid)
 
 pub returns : goal.returns
@@ -22,8 +22,8 @@ returns c =
     let d = c.self.inside in
     let k = c.args.archive in
     let old = c.args.old in
-    let there : k < length d.archives.items = subst (λ (x : Content). k < length x.archives) (sym c.self.view_is) c.requires.there in
-    let archives : set d.archives.items k c.swap_rows.new.self ≡ with_rows_at d.archives.items k old
-    = ap (set d.archives.items k) (c.swap_rows.ensures.mine ∙ ap (λ (a : Archive). let b : Archive = record a { def = record a.def { rows = length old }; rows = old } in b) c.index_mut.ensures.value)
-    ∙ rows_set d.archives.items k c.index_mut.result.now old there in
+    let there : k < length d.archives = subst (λ (x : Content). k < length x.archives) (sym c.self.view_is) c.requires.there in
+    let archives : set d.archives k c.swap_rows.new.self ≡ with_rows_at d.archives k old
+    = ap (set d.archives k) (c.swap_rows.ensures.mine ∙ ap (λ (a : Archive). let b : Archive = record a { def = record a.def { rows = length old }; rows = old } in b) c.get_mut.ensures.value)
+    ∙ rows_set d.archives k c.get_mut.result.now old there in
     ap (λ xs. let x : Content = record (content_of d) { archives = xs } in x) archives ∙ ap (λ (x : Content). undone x (ResizeEntry k old)) c.self.view_is

@@ -13,21 +13,21 @@ pub returns-clause-few : goal.returns-clause-few
 returns-clause-few c = λ a e.
     let d = c.self.inside in
     let k = c.args.archive in
-    let rra = c.index.result.now in
-    let found : slice_get d.archives.items k ≡ Some a = subst (λ (x : Content). slice_get x.archives k ≡ Some a) (sym c.self.view_is) e in
-    subst (λ (x : Archive). c.unwritten_rows.result ≤ length x.rows) (c.index.ensures ∙ get_or_from_slice_get d.archives.items k a rra found) c.unwritten_rows.ensures.few
+    let rra = c.get.result.now in
+    let found : slice_get d.archives k ≡ Some a = subst (λ (x : Content). slice_get x.archives k ≡ Some a) (sym c.self.view_is) e in
+    subst (λ (x : Archive). c.unwritten_rows.result ≤ length x.rows) (c.get.ensures ∙ get_or_from_slice_get d.archives k a rra found) c.unwritten_rows.ensures.few
 
 pub returns-clause-unknown : goal.returns-clause-unknown
 returns-clause-unknown c = λ a e.
     let d = c.self.inside in
     let k = c.args.archive in
-    let rra = c.index.result.now in
+    let rra = c.get.result.now in
     let n = length d.sources.items in
     let count = c.unwritten_rows.result in
-    let there : k < length d.archives.items = subst (λ (x : Content). k < length x.archives) (sym c.self.view_is) c.requires in
-    let found : slice_get d.archives.items k ≡ Some a = subst (λ (x : Content). slice_get x.archives k ≡ Some a) (sym c.self.view_is) e in
-    let same = c.index.ensures ∙ get_or_from_slice_get d.archives.items k a rra found in
-    let valid = subst (IsValidArchive n (d.last / d.step)) (sym c.index.ensures) (All-at (IsValidArchive n (d.last / d.step)) d.archives.items k rra c.self.invariant.archives_are there) in
+    let there : k < length d.archives = subst (λ (x : Content). k < length x.archives) (sym c.self.view_is) c.requires in
+    let found : slice_get d.archives k ≡ Some a = subst (λ (x : Content). slice_get x.archives k ≡ Some a) (sym c.self.view_is) e in
+    let same = c.get.ensures ∙ get_or_from_slice_get d.archives k a rra found in
+    let valid = subst (IsValidArchive n (d.last / d.step)) (sym c.get.ensures) (All-at (IsValidArchive n (d.last / d.step)) d.archives k rra c.self.invariant.archives_are there) in
     let wide = width_is n rra.rows (omega (arith, valid.rows_are, valid.some_rows)) valid.each_row in
     ap (λ (x : Archive). take count x.rows) (sym same)
     ∙ c.unwritten_rows.ensures.unknown

@@ -4,10 +4,10 @@ use Rattle.rrd_spec.specs.Choice.{choice_within, choice_of}
 use Rattle.rrd_spec.specs.History.{definitions}
 use Rattle.rrd_spec.specs.Journal.Survivors.{Stored}
 use Rattle.rrd_base.proofs.database.Database.choose.Goals as goal
-use Rattle.rrd_spec.specs.Limits.{version_one}
+use Rattle.rrd_spec.specs.Limits.{present}
 
 pub returns : goal.returns
 unfolding choice_within
 returns c =
     let request : Request = record { function = c.args.function; asked = c.args.asked; start = c.args.start; end = c.args.end } in
-    c.choose.ensures ∙ ap (λ (k : Stored). choice_of version_one k.content.step k.content.last (definitions k.content.archives) request) c.self.view_is
+    c.choose.ensures ∙ ap (λ (k : Stored). choice_of present k.content.step k.content.last (definitions k.content.archives) request) c.self.view_is

@@ -1,17 +1,16 @@
 use Rattle.std.proofs.Common.{◌≡◌, refl, sym, ◌∙◌, ap}
-use Rattle.rrd_base.specs.declared.journal.Entry.TheVariants as entry
 use Rattle.rrd_spec.specs.Commands.{TuningBy, moved}
 use Rattle.rrd_spec.specs.Journal.Survivors.{Stored, changed}
 use Rattle.rrd_base.proofs.KeptLemmas.{added}
 use Rattle.rrd_base.proofs.database.Database.tune.Goals as goal
 
-pub invariant_of-self : goal.invariant_of-self
-invariant_of-self c =
+pub invariant_of-self-2 : goal.invariant_of-self-2
+invariant_of-self-2 c =
     let d = c.self.inside in
     let tuning = c.args.tuning.now in
     let accepted = sym c.in_ok-check_tune.ensures in
-    let one = added c.database_stays.ensures.changed d.content d.journal.items (TuningBy tuning) (entry.Tune c.keep_sources-olds.result) c.self.invariant.valid accepted c.keep_sources-olds.ensures in
-    let now : c.tune.new.self ≡ moved d.content (TuningBy tuning) = c.tune.ensures in
+    let one = added c.database_stays.ensures.changed d.content d.journal.items (TuningBy tuning) c.in-Ok.entry c.self.invariant.valid accepted c.in-Ok.ensures.entry in
+    let now : c.tune.new.self ≡ moved d.content (TuningBy tuning) = c.in-Ok.ensures.ok in
     rw (now, c.push_back-oldest.ensures.items, c.self.invariant.places) (record {
       places = refl;
       valid = one.after;
@@ -22,8 +21,8 @@ returns-clause-ok c =
     let d = c.self.inside in
     let tuning = c.args.tuning.now in
     let accepted = sym c.in_ok-check_tune.ensures in
-    let one = added c.database_stays.ensures.changed d.content d.journal.items (TuningBy tuning) (entry.Tune c.keep_sources-olds.result) c.self.invariant.valid accepted c.keep_sources-olds.ensures in
-    let now : c.tune.new.self ≡ moved d.content (TuningBy tuning) = c.tune.ensures in
+    let one = added c.database_stays.ensures.changed d.content d.journal.items (TuningBy tuning) c.in-Ok.entry c.self.invariant.valid accepted c.in-Ok.ensures.entry in
+    let now : c.tune.new.self ≡ moved d.content (TuningBy tuning) = c.in-Ok.ensures.ok in
     rw (now, c.push_back-oldest.ensures.items, c.self.invariant.places)
     (ap (λ j. let k : Stored = record { content = moved d.content (TuningBy tuning); journal = j } in k) one.journal_is
     ∙ ap (λ (k : Stored). changed k (TuningBy tuning)) c.self.view_is)

@@ -1,9 +1,10 @@
-use Rattle.std.proofs.Common.{◌≡◌, ◌∙◌, ◌++◌, ◌∷◌, [], refl, replicate, sym, ap, subst}
+use Rattle.std.proofs.Common.{◌≡◌, ◌∙◌, ◌++◌, ◌∷◌, [], refl, replicate, sym, ap, subst, arith}
 use Rattle.rrd_fixed.specs.declared.cell.Cell.{Cell}
 use Rattle.rrd_spec.specs.History.{Archive}
 use Rattle.rrd_spec.specs.Files.Rebuilding.{MayHead, with_head}
 use Rattle.rrd_base.specs.Rebuild.{coming, filed_in, IsRebuilding}
-use Rattle.rrd_base.proofs.Comes.{archive_came, at_head, cursor_stays, head_keeps, head_is, none_later}
+use Rattle.rrd_base.proofs.Comes.{archive_came, at_head, cursor_stays, head_keeps, head_is, none_later, outlines_lengths}
+use Rattle.rrd_base.proofs.Versions.{few_archives}
 use Rattle.rrd_base.proofs.rebuild.Rebuild.archive.Goals as goal
 
 pub begin-requires : goal.begin-requires
@@ -11,37 +12,38 @@ begin-requires c =
     let may : MayHead (filed_in (coming c.self.inside)) c.args.def = subst (λ f. MayHead f c.args.def) (sym c.self.view_is) (c.may_head.ensures.good c.if-not-may_head.false) in
     record { some_rows = may.def_is.some_rows; few_rows = may.def_is.few_rows; some_sources = c.self.invariant.came.header_is.some_source; few_sources = c.self.invariant.came.header_is.few_sources }
 
+pub push-requires : goal.push-requires
+push-requires c =
+    let d = coming c.self.inside in
+    let is = c.self.invariant.came in
+    let may : MayHead (filed_in d) c.args.def = subst (λ f. MayHead f c.args.def) (sym c.self.view_is) (c.may_head.ensures.good c.if-not-may_head.false) in
+    omega (arith, (at_head d is may.is_due).few, is.header_is.few_archives, few_archives d.version)
+
+pub push-requires-2 : goal.push-requires-2
+push-requires-2 c =
+    let d = coming c.self.inside in
+    let is = c.self.invariant.came in
+    let may : MayHead (filed_in d) c.args.def = subst (λ f. MayHead f c.args.def) (sym c.self.view_is) (c.may_head.ensures.good c.if-not-may_head.false) in
+    let few = (at_head d is may.is_due).few in
+    omega (arith, few, is.header_is.few_archives, few_archives d.version, outlines_lengths d is (none_later d is few).journal)
+
 pub invariant_of-self : goal.invariant_of-self
 invariant_of-self c =
     let d = coming c.self.inside in
-    let e = c.in_default-push_archive.ensures.err in
-    let may : MayHead (filed_in d) c.args.def = subst (λ f. MayHead f c.args.def) (sym c.self.view_is) (c.may_head.ensures.good c.if-not-may_head.false) in
-    let path : d ≡ record d { archives = c.push_archive.new.archives.items; outline = record d.outline { archives = c.push_archive.new.defs } } =
-    λ i. record d { archives = sym e.0 i; outline = record d.outline { archives = sym e.1 i } } in
-    record {
-      came = subst IsRebuilding path c.self.invariant.came;
-      cursor_is = cursor_stays d (record d { archives = c.push_archive.new.archives.items; outline = record d.outline { archives = c.push_archive.new.defs } }) c.self.inside.cursor refl (none_later d c.self.invariant.came (at_head d c.self.invariant.came may.is_due).few).filled c.self.invariant.cursor_is;
-    }
-
-pub invariant_of-self-2 : goal.invariant_of-self-2
-invariant_of-self-2 c =
-    let d = coming c.self.inside in
-    let e = c.in-Ok-push_archive.ensures.ok in
     let a : Archive = record { def = c.args.def; parts = []; rows = replicate c.args.def.rows (replicate d.sources_due Cell.Unknown) } in
     let may : MayHead (filed_in d) a.def = subst (λ f. MayHead f a.def) (sym c.self.view_is) (c.may_head.ensures.good c.if-not-may_head.false) in
-    let path : archive_came d a ≡ record d { archives = c.push_archive.new.archives.items; outline = record d.outline { archives = c.push_archive.new.defs } } =
-    λ i. record d { archives = sym (e.0 ∙ ap (λ s. d.archives ++ s ∷ []) c.in-Ok.ensures) i; outline = record d.outline { archives = sym e.1 i } } in
+    let path : archive_came d a ≡ record d { archives = c.push.new.self; outline = record d.outline { archives = c.push-2.new.self } } =
+    λ i. record d { archives = sym (c.push.ensures ∙ ap (λ s. d.archives ++ s ∷ []) c.in-Ok.ensures) i; outline = record d.outline { archives = sym c.push-2.ensures i } } in
     record {
       came = subst IsRebuilding path (head_keeps d a c.self.invariant.came refl refl may);
-      cursor_is = cursor_stays d (record d { archives = c.push_archive.new.archives.items; outline = record d.outline { archives = c.push_archive.new.defs } }) c.self.inside.cursor refl (none_later d c.self.invariant.came (at_head d c.self.invariant.came may.is_due).few).filled c.self.invariant.cursor_is;
+      cursor_is = cursor_stays d (record d { archives = c.push.new.self; outline = record d.outline { archives = c.push-2.new.self } }) c.self.inside.cursor refl (none_later d c.self.invariant.came (at_head d c.self.invariant.came may.is_due).few).filled c.self.invariant.cursor_is;
     }
 
 pub returns-clause-ok : goal.returns-clause-ok
 returns-clause-ok c =
     let d = coming c.self.inside in
-    let e = c.in-Ok-push_archive.ensures.ok in
     let a : Archive = record { def = c.args.def; parts = []; rows = replicate c.args.def.rows (replicate d.sources_due Cell.Unknown) } in
     let may : MayHead (filed_in d) a.def = subst (λ f. MayHead f a.def) (sym c.self.view_is) (c.may_head.ensures.good c.if-not-may_head.false) in
-    let path : archive_came d a ≡ record d { archives = c.push_archive.new.archives.items; outline = record d.outline { archives = c.push_archive.new.defs } } =
-    λ i. record d { archives = sym (e.0 ∙ ap (λ s. d.archives ++ s ∷ []) c.in-Ok.ensures) i; outline = record d.outline { archives = sym e.1 i } } in
+    let path : archive_came d a ≡ record d { archives = c.push.new.self; outline = record d.outline { archives = c.push-2.new.self } } =
+    λ i. record d { archives = sym (c.push.ensures ∙ ap (λ s. d.archives ++ s ∷ []) c.in-Ok.ensures) i; outline = record d.outline { archives = sym c.push-2.ensures i } } in
     (c.may_head.ensures.good c.if-not-may_head.false, ap filed_in (sym path) ∙ (head_is d a c.self.invariant.came refl may.is_due ∙ ap (λ f. with_head f a.def) c.self.view_is))

@@ -2,17 +2,18 @@ use Rattle.std.proofs.Common.{◌≡◌, ◌∙◌, ◌<◌, ◌≤◌, refl, sy
 use Rattle.rrd_spec.specs.declared.due.Due.TheVariants.{CellDue}
 use Rattle.rrd_spec.specs.declared.settings.RraDef.{RraDef}
 use Rattle.rrd_spec.specs.History.{Archive}
-use Rattle.rrd_spec.specs.Limits.{version_one}
+use Rattle.rrd_spec.specs.Limits.{present}
 use Rattle.rrd_spec.specs.Files.Rebuilding.{IsArchiveDef, due, with_cell}
 use Rattle.rrd_spec.specs.Settings.{resolution}
 use Rattle.rrd_spec.specs.Files.Slots.{place_in}
 use Rattle.rrd_base.specs.Rebuild.Cursors.{Advances, KnowsPlace, filled_by}
 use Rattle.rrd_base.specs.Rebuild.{IsCursor, IsRebuilding, coming, filed_in}
 use Rattle.rrd_base.proofs.CellComes.{at_cell, cell_came, cell_comes, cell_here, is_put, place_there, row_there, with_cell_at}
+use Rattle.rrd_base.proofs.Versions.{few_archives}
 use Rattle.rrd_base.proofs.rebuild.Rebuild.cell.Goals as goal
 
-pub index_mut-rra-requires : goal.index_mut-rra-requires
-index_mut-rra-requires c =
+pub get_mut-rra-requires : goal.get_mut-rra-requires
+get_mut-rra-requires c =
     let d = coming c.self.inside in
     let cursor = c.self.inside.cursor in
     let may = c.may_cell.ensures.good c.if-not-may_cell.false in
@@ -25,9 +26,9 @@ place-place-requires-clause-def_is c =
     let cursor = c.self.inside.cursor in
     let may = c.may_cell.ensures.good c.if-not-may_cell.false in
     let is_due : due (filed_in d) ≡ CellDue = ap due c.self.view_is ∙ may.is_due in
-    let a = c.index_mut-rra.result.now in
-    let here = cell_here c.cells_stand_in_slots.ensures.as_many d a cursor c.self.invariant.came c.self.invariant.cursor_is is_due c.index_mut-rra.ensures.value refl in
-    subst (IsArchiveDef version_one) (sym c.def-def.ensures) here.so_far.def_is
+    let a = c.get_mut-rra.result.now in
+    let here = cell_here c.cells_stand_in_slots.ensures.as_many d a cursor c.self.invariant.came c.self.invariant.cursor_is is_due c.get_mut-rra.ensures.value refl in
+    subst (IsArchiveDef present) (sym c.def-def.ensures) here.so_far.def_is
 
 pub place-place-requires-clause-known : goal.place-place-requires-clause-known
 place-place-requires-clause-known c =
@@ -35,8 +36,8 @@ place-place-requires-clause-known c =
     let cursor = c.self.inside.cursor in
     let may = c.may_cell.ensures.good c.if-not-may_cell.false in
     let is_due : due (filed_in d) ≡ CellDue = ap due c.self.view_is ∙ may.is_due in
-    let a = c.index_mut-rra.result.now in
-    let here = cell_here c.cells_stand_in_slots.ensures.as_many d a cursor c.self.invariant.came c.self.invariant.cursor_is is_due c.index_mut-rra.ensures.value refl in
+    let a = c.get_mut-rra.result.now in
+    let here = cell_here c.cells_stand_in_slots.ensures.as_many d a cursor c.self.invariant.came c.self.invariant.cursor_is is_due c.get_mut-rra.ensures.value refl in
     subst (λ (def : RraDef). KnowsPlace (resolution d.step def) d.last def.rows cursor) (sym c.def-def.ensures) here.knows
 
 pub put-requires-clause-there : goal.put-requires-clause-there
@@ -45,8 +46,8 @@ put-requires-clause-there c =
     let cursor = c.self.inside.cursor in
     let may = c.may_cell.ensures.good c.if-not-may_cell.false in
     let is_due : due (filed_in d) ≡ CellDue = ap due c.self.view_is ∙ may.is_due in
-    let a = c.index_mut-rra.result.now in
-    let here = cell_here c.cells_stand_in_slots.ensures.as_many d a cursor c.self.invariant.came c.self.invariant.cursor_is is_due c.index_mut-rra.ensures.value refl in
+    let a = c.get_mut-rra.result.now in
+    let here = cell_here c.cells_stand_in_slots.ensures.as_many d a cursor c.self.invariant.came c.self.invariant.cursor_is is_due c.get_mut-rra.ensures.value refl in
     let place = c.place-place.result in
     let place_is : place ≡ place_in (resolution d.step a.def) d.last a.def.rows cursor.slot = c.place-place.ensures ∙ ap (λ (def : RraDef). place_in (resolution d.step def) d.last def.rows cursor.slot) c.def-def.ensures in
     let inside = place_there c.rows_stand_in_slots.ensures.place d a cursor place c.self.invariant.came here place_is in
@@ -58,8 +59,8 @@ put-requires-clause-within c =
     let cursor = c.self.inside.cursor in
     let may = c.may_cell.ensures.good c.if-not-may_cell.false in
     let is_due : due (filed_in d) ≡ CellDue = ap due c.self.view_is ∙ may.is_due in
-    let a = c.index_mut-rra.result.now in
-    let here = cell_here c.cells_stand_in_slots.ensures.as_many d a cursor c.self.invariant.came c.self.invariant.cursor_is is_due c.index_mut-rra.ensures.value refl in
+    let a = c.get_mut-rra.result.now in
+    let here = cell_here c.cells_stand_in_slots.ensures.as_many d a cursor c.self.invariant.came c.self.invariant.cursor_is is_due c.get_mut-rra.ensures.value refl in
     let place = c.place-place.result in
     let place_is : place ≡ place_in (resolution d.step a.def) d.last a.def.rows cursor.slot = c.place-place.ensures ∙ ap (λ (def : RraDef). place_in (resolution d.step def) d.last def.rows cursor.slot) c.def-def.ensures in
     let inside = place_there c.rows_stand_in_slots.ensures.place d a cursor place c.self.invariant.came here place_is in
@@ -71,9 +72,9 @@ advance-requires-clause-archive_there c =
     let cursor = c.self.inside.cursor in
     let may = c.may_cell.ensures.good c.if-not-may_cell.false in
     let is_due : due (filed_in d) ≡ CellDue = ap due c.self.view_is ∙ may.is_due in
-    let a = c.index_mut-rra.result.now in
-    let here = cell_here c.cells_stand_in_slots.ensures.as_many d a cursor c.self.invariant.came c.self.invariant.cursor_is is_due c.index_mut-rra.ensures.value refl in
-    omega (arith, here.at.there, c.self.invariant.came.few_archives, c.self.invariant.came.header_is.few_archives)
+    let a = c.get_mut-rra.result.now in
+    let here = cell_here c.cells_stand_in_slots.ensures.as_many d a cursor c.self.invariant.came c.self.invariant.cursor_is is_due c.get_mut-rra.ensures.value refl in
+    omega (arith, here.at.there, c.self.invariant.came.few_archives, c.self.invariant.came.header_is.few_archives, few_archives d.version)
 
 pub advance-requires-clause-slot_there : goal.advance-requires-clause-slot_there
 advance-requires-clause-slot_there c =
@@ -81,8 +82,8 @@ advance-requires-clause-slot_there c =
     let cursor = c.self.inside.cursor in
     let may = c.may_cell.ensures.good c.if-not-may_cell.false in
     let is_due : due (filed_in d) ≡ CellDue = ap due c.self.view_is ∙ may.is_due in
-    let a = c.index_mut-rra.result.now in
-    let here = cell_here c.cells_stand_in_slots.ensures.as_many d a cursor c.self.invariant.came c.self.invariant.cursor_is is_due c.index_mut-rra.ensures.value refl in
+    let a = c.get_mut-rra.result.now in
+    let here = cell_here c.cells_stand_in_slots.ensures.as_many d a cursor c.self.invariant.came c.self.invariant.cursor_is is_due c.get_mut-rra.ensures.value refl in
     subst (λ (def : RraDef). cursor.slot < def.rows) (sym c.def-def.ensures) here.slot
 
 pub advance-requires-clause-place_there : goal.advance-requires-clause-place_there
@@ -91,8 +92,8 @@ advance-requires-clause-place_there c =
     let cursor = c.self.inside.cursor in
     let may = c.may_cell.ensures.good c.if-not-may_cell.false in
     let is_due : due (filed_in d) ≡ CellDue = ap due c.self.view_is ∙ may.is_due in
-    let a = c.index_mut-rra.result.now in
-    let here = cell_here c.cells_stand_in_slots.ensures.as_many d a cursor c.self.invariant.came c.self.invariant.cursor_is is_due c.index_mut-rra.ensures.value refl in
+    let a = c.get_mut-rra.result.now in
+    let here = cell_here c.cells_stand_in_slots.ensures.as_many d a cursor c.self.invariant.came c.self.invariant.cursor_is is_due c.get_mut-rra.ensures.value refl in
     let place = c.place-place.result in
     let place_is : place ≡ place_in (resolution d.step a.def) d.last a.def.rows cursor.slot = c.place-place.ensures ∙ ap (λ (def : RraDef). place_in (resolution d.step def) d.last def.rows cursor.slot) c.def-def.ensures in
     let inside = place_there c.rows_stand_in_slots.ensures.place d a cursor place c.self.invariant.came here place_is in
@@ -104,9 +105,9 @@ advance-requires-clause-few_rows c =
     let cursor = c.self.inside.cursor in
     let may = c.may_cell.ensures.good c.if-not-may_cell.false in
     let is_due : due (filed_in d) ≡ CellDue = ap due c.self.view_is ∙ may.is_due in
-    let a = c.index_mut-rra.result.now in
-    let here = cell_here c.cells_stand_in_slots.ensures.as_many d a cursor c.self.invariant.came c.self.invariant.cursor_is is_due c.index_mut-rra.ensures.value refl in
-    subst (λ (def : RraDef). def.rows ≤ version_one.most_rows) (sym c.def-def.ensures) here.so_far.def_is.few_rows
+    let a = c.get_mut-rra.result.now in
+    let here = cell_here c.cells_stand_in_slots.ensures.as_many d a cursor c.self.invariant.came c.self.invariant.cursor_is is_due c.get_mut-rra.ensures.value refl in
+    subst (λ (def : RraDef). def.rows ≤ present.most_rows) (sym c.def-def.ensures) here.so_far.def_is.few_rows
 
 pub invariant_of-self : goal.invariant_of-self
 invariant_of-self c =
@@ -114,13 +115,13 @@ invariant_of-self c =
     let cursor = c.self.inside.cursor in
     let may = c.may_cell.ensures.good c.if-not-may_cell.false in
     let is_due : due (filed_in d) ≡ CellDue = ap due c.self.view_is ∙ may.is_due in
-    let a = c.index_mut-rra.result.now in
-    let here = cell_here c.cells_stand_in_slots.ensures.as_many d a cursor c.self.invariant.came c.self.invariant.cursor_is is_due c.index_mut-rra.ensures.value refl in
+    let a = c.get_mut-rra.result.now in
+    let here = cell_here c.cells_stand_in_slots.ensures.as_many d a cursor c.self.invariant.came c.self.invariant.cursor_is is_due c.get_mut-rra.ensures.value refl in
     let place = c.place-place.result in
     let place_is : place ≡ place_in (resolution d.step a.def) d.last a.def.rows cursor.slot = c.place-place.ensures ∙ ap (λ (def : RraDef). place_in (resolution d.step def) d.last def.rows cursor.slot) c.def-def.ensures in
     let inside = place_there c.rows_stand_in_slots.ensures.place d a cursor place c.self.invariant.came here place_is in
     let b = with_cell_at a place cursor.source c.args.cell in
-    let put = is_put c.cells_stand_in_slots.ensures.as_many c.cells_stand_in_slots.ensures.cell_put d a c.args.cell place cursor c.self.invariant.came here.at.there c.index_mut-rra.ensures.value refl place_is c.self.invariant.cursor_is.source_there (omega (arith, inside, here.so_far.rows_are)) may.bounded in
+    let put = is_put c.cells_stand_in_slots.ensures.as_many c.cells_stand_in_slots.ensures.cell_put d a c.args.cell place cursor c.self.invariant.came here.at.there c.get_mut-rra.ensures.value refl place_is c.self.invariant.cursor_is.source_there (omega (arith, inside, here.so_far.rows_are)) may.bounded in
     let goes : Advances d.sources_due a.def.rows place cursor c.advance.new.self = subst (λ (def : RraDef). Advances d.sources_due def.rows place cursor c.advance.new.self) c.def-def.ensures c.advance.ensures in
     let after = cell_comes c.cells_stand_in_slots.ensures.as_many d a b c.args.cell place cursor c.advance.new.self c.self.invariant.came here.at put refl refl place_is c.self.invariant.cursor_is.source_there here.slot goes in
     record {
@@ -134,13 +135,13 @@ returns-clause-ok c =
     let cursor = c.self.inside.cursor in
     let may = c.may_cell.ensures.good c.if-not-may_cell.false in
     let is_due : due (filed_in d) ≡ CellDue = ap due c.self.view_is ∙ may.is_due in
-    let a = c.index_mut-rra.result.now in
-    let here = cell_here c.cells_stand_in_slots.ensures.as_many d a cursor c.self.invariant.came c.self.invariant.cursor_is is_due c.index_mut-rra.ensures.value refl in
+    let a = c.get_mut-rra.result.now in
+    let here = cell_here c.cells_stand_in_slots.ensures.as_many d a cursor c.self.invariant.came c.self.invariant.cursor_is is_due c.get_mut-rra.ensures.value refl in
     let place = c.place-place.result in
     let place_is : place ≡ place_in (resolution d.step a.def) d.last a.def.rows cursor.slot = c.place-place.ensures ∙ ap (λ (def : RraDef). place_in (resolution d.step def) d.last def.rows cursor.slot) c.def-def.ensures in
     let inside = place_there c.rows_stand_in_slots.ensures.place d a cursor place c.self.invariant.came here place_is in
     let b = with_cell_at a place cursor.source c.args.cell in
-    let put = is_put c.cells_stand_in_slots.ensures.as_many c.cells_stand_in_slots.ensures.cell_put d a c.args.cell place cursor c.self.invariant.came here.at.there c.index_mut-rra.ensures.value refl place_is c.self.invariant.cursor_is.source_there (omega (arith, inside, here.so_far.rows_are)) may.bounded in
+    let put = is_put c.cells_stand_in_slots.ensures.as_many c.cells_stand_in_slots.ensures.cell_put d a c.args.cell place cursor c.self.invariant.came here.at.there c.get_mut-rra.ensures.value refl place_is c.self.invariant.cursor_is.source_there (omega (arith, inside, here.so_far.rows_are)) may.bounded in
     let goes : Advances d.sources_due a.def.rows place cursor c.advance.new.self = subst (λ (def : RraDef). Advances d.sources_due def.rows place cursor c.advance.new.self) c.def-def.ensures c.advance.ensures in
     let after = cell_comes c.cells_stand_in_slots.ensures.as_many d a b c.args.cell place cursor c.advance.new.self c.self.invariant.came here.at put refl refl place_is c.self.invariant.cursor_is.source_there here.slot goes in
     (may, ap (λ (x : Archive). filed_in (cell_came d x c.advance.new.self.archive (filled_by d.sources_due c.advance.new.self))) c.put.ensures ∙ (after.filed_is ∙ ap (λ f. with_cell f c.args.cell) c.self.view_is))

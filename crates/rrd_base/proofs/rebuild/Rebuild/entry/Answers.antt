@@ -1,7 +1,6 @@
 use Rattle.std.proofs.Common.{◌≡◌, ◌∙◌, List, ◌∷◌, take, take_all, sym, ap, subst, arith}
 use Rattle.rrd_spec.specs.declared.outline.Outline.{Outline}
-use Rattle.rrd_spec.specs.Files.Filed.{One}
-use Rattle.rrd_spec.specs.Limits.{version_one}
+use Rattle.rrd_spec.specs.Limits.{limits_of}
 use Rattle.rrd_spec.specs.Journal.Outlines.{outline_undone}
 use Rattle.rrd_spec.specs.Journal.Fitting.{MayUndo}
 use Rattle.rrd_spec.specs.Files.Rebuilding.{MayEntry, with_entry}
@@ -18,10 +17,10 @@ invariant_of-self c =
     let may = c.may_entry.ensures.good c.if-not-may_entry.false in
     let here : MayEntry (filed_in d) (entry_of e) = subst (λ f. MayEntry f (entry_of e)) (sym c.self.view_is) may in
     let at = at_entry c.cells_stand_in_slots.ensures.as_many d c.self.invariant.came here.is_due in
-    let fits : MayUndo version_one d.step d.outline (entry_of e) = subst (λ (o : Outline). MayUndo version_one d.step o (entry_of e)) (sym c.self.invariant.came.outline_is) here.fits in
+    let fits : MayUndo (limits_of d.version) d.step d.outline (entry_of e) = subst (λ (o : Outline). MayUndo (limits_of d.version) d.step o (entry_of e)) (sym c.self.invariant.came.outline_is) here.fits in
     let now : Coming = entry_came d e (outline_undone d.outline (entry_of e)) in
     let room : take d.places (e ∷ d.journal) ≡ e ∷ d.journal = take_all d.places (e ∷ d.journal) (omega (arith, at.more, c.self.invariant.came.header_is.few_entries, c.self.invariant.came.places)) in
-    let keeps : IsRebuilding now = entry_keeps (c.outlines_judge_journals.ensures.takes version_one) (c.outlines_follow.ensures.filed One) d e c.self.invariant.came at fits in
+    let keeps : IsRebuilding now = entry_keeps c.outlines_judge_journals.ensures.takes c.outlines_follow.ensures.filed d e c.self.invariant.came at fits in
     rw (c.push_front-oldest.ensures.items, c.undo.ensures) (record {
       came = subst (λ (j : List Entry). IsRebuilding (record now { journal = j })) (sym room) keeps;
       cursor_is = record { source_there = c.self.invariant.cursor_is.source_there; knows_place = c.self.invariant.cursor_is.knows_place };
@@ -34,7 +33,7 @@ returns-clause-ok c =
     let may = c.may_entry.ensures.good c.if-not-may_entry.false in
     let here : MayEntry (filed_in d) (entry_of e) = subst (λ f. MayEntry f (entry_of e)) (sym c.self.view_is) may in
     let at = at_entry c.cells_stand_in_slots.ensures.as_many d c.self.invariant.came here.is_due in
-    let fits : MayUndo version_one d.step d.outline (entry_of e) = subst (λ (o : Outline). MayUndo version_one d.step o (entry_of e)) (sym c.self.invariant.came.outline_is) here.fits in
+    let fits : MayUndo (limits_of d.version) d.step d.outline (entry_of e) = subst (λ (o : Outline). MayUndo (limits_of d.version) d.step o (entry_of e)) (sym c.self.invariant.came.outline_is) here.fits in
     let now : Coming = entry_came d e (outline_undone d.outline (entry_of e)) in
     let room : take d.places (e ∷ d.journal) ≡ e ∷ d.journal = take_all d.places (e ∷ d.journal) (omega (arith, at.more, c.self.invariant.came.header_is.few_entries, c.self.invariant.came.places)) in
     rw (c.push_front-oldest.ensures.items)

@@ -1,25 +1,32 @@
 use Rattle.rrd_spec.specs.declared.due.Due.TheVariants.{NothingDue}
 use Rattle.std.proofs.Common.{◌≡◌, ◌∙◌, sym, ap, subst}
-use Rattle.rrd_spec.specs.Files.Filed.{Filed, One, filed}
-use Rattle.rrd_spec.specs.Files.Rebuilding.{due}
-use Rattle.rrd_base.specs.Rebuild.{coming, filed_of}
+use Rattle.rrd_spec.specs.Files.Filed.{Filed, filed}
+use Rattle.rrd_spec.specs.Files.Rebuilding.{due, limits}
+use Rattle.rrd_base.specs.Journal.{journal_of}
+use Rattle.rrd_base.specs.Rebuild.{coming, content_so_far, filed_of}
 use Rattle.rrd_spec.specs.Journal.Survivors.{Stored}
-use Rattle.rrd_spec.specs.Validity.{IsValidDatabase}
+use Rattle.rrd_spec.specs.Validity.{IsValidDatabaseWithin}
 use Rattle.rrd_base.proofs.Rebuilt.{all_came, content_valid, database_valid, filed_whole}
 use Rattle.rrd_base.proofs.rebuild.Rebuild.finish.Goals as goal
 
 pub invariant_of-content : goal.invariant_of-content
-invariant_of-content c = content_valid (coming c.self.inside) c.self.invariant.came (all_came (filed_of c.self.inside) (subst (λ (f : Filed). due f ≡ NothingDue) (sym c.self.view_is) c.requires))
+invariant_of-content c =
+    let d = coming c.self.inside in
+    c.versions_stay_within.ensures.content d.version (content_so_far d) (content_valid d c.self.invariant.came (all_came (filed_of c.self.inside) (subst (λ (f : Filed). due f ≡ NothingDue) (sym c.self.view_is) c.requires)))
 
 pub of-requires-clause-valid : goal.of-requires-clause-valid
-of-requires-clause-valid c = database_valid (coming c.self.inside) c.self.invariant.came (all_came (filed_of c.self.inside) (subst (λ (f : Filed). due f ≡ NothingDue) (sym c.self.view_is) c.requires))
+of-requires-clause-valid c =
+    let d = coming c.self.inside in
+    c.versions_stay_within.ensures.database d.version (content_so_far d) (journal_of d.journal) (database_valid d c.self.invariant.came (all_came (filed_of c.self.inside) (subst (λ (f : Filed). due f ≡ NothingDue) (sym c.self.view_is) c.requires)))
 
 pub returns-clause-filed : goal.returns-clause-filed
 returns-clause-filed c =
     let came = all_came (filed_of c.self.inside) (subst (λ (f : Filed). due f ≡ NothingDue) (sym c.self.view_is) c.requires) in
-    ap (λ (d : Stored). filed One d) c.of.ensures ∙ (filed_whole (coming c.self.inside) c.self.invariant.came came ∙ c.self.view_is)
+    let same = ap (λ (f : Filed). f.header.version) (sym c.self.view_is) in
+    (λ i. filed (same i) (c.of.ensures i)) ∙ (filed_whole (coming c.self.inside) c.self.invariant.came came ∙ c.self.view_is)
 
 pub returns-clause-valid : goal.returns-clause-valid
 returns-clause-valid c =
     let valid = database_valid (coming c.self.inside) c.self.invariant.came (all_came (filed_of c.self.inside) (subst (λ (f : Filed). due f ≡ NothingDue) (sym c.self.view_is) c.requires)) in
-    subst (λ (d : Stored). IsValidDatabase d.content d.journal) (sym c.of.ensures) valid
+    let here = subst (λ (d : Stored). IsValidDatabaseWithin (limits (filed_of c.self.inside)) d.content d.journal) (sym c.of.ensures) valid in
+    subst (λ (f : Filed). IsValidDatabaseWithin (limits f) c.of.result.content c.of.result.journal) c.self.view_is here

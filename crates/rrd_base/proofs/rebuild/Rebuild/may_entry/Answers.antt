@@ -1,8 +1,7 @@
 use Rattle.std.proofs.Common.{◌≡◌, ◌∙◌, sym, ap, subst}
 use Rattle.rrd_spec.specs.declared.due.Due.TheVariants.{EntryDue}
 use Rattle.rrd_spec.specs.declared.outline.Outline.{Outline}
-use Rattle.rrd_spec.specs.Files.Filed.{One}
-use Rattle.rrd_spec.specs.Limits.{version_one}
+use Rattle.rrd_spec.specs.Limits.{limits_of}
 use Rattle.rrd_spec.specs.Journal.Fitting.{MayUndo}
 use Rattle.rrd_spec.specs.Files.Rebuilding.{MayEntry, due}
 use Rattle.rrd_base.specs.Journal.{entry_of}
@@ -14,7 +13,7 @@ pub may_undo-requires-clause-now_is : goal.may_undo-requires-clause-now_is
 may_undo-requires-clause-now_is c =
     let d = coming c.self.inside in
     let is_due : due (filed_in d) ≡ EntryDue = ap due c.self.view_is ∙ (sym c.due.ensures ∙ c.in-EntryDue.is) in
-    outline_fits c.outlines_follow.ensures.undone (c.outlines_follow.ensures.filed One) (c.journals_in_pieces.ensures.leaves version_one) d c.self.invariant.came (at_entry c.cells_stand_in_slots.ensures.as_many d c.self.invariant.came is_due)
+    outline_fits c.outlines_follow.ensures.undone c.outlines_follow.ensures.filed c.journals_in_pieces.ensures.leaves d c.self.invariant.came (at_entry c.cells_stand_in_slots.ensures.as_many d c.self.invariant.came is_due)
 
 pub returns-clause-good : goal.returns-clause-good
 returns-clause-good c = λ fits.
@@ -22,7 +21,7 @@ returns-clause-good c = λ fits.
     let e = entry_of c.args.entry.now in
     let here : MayEntry (filed_in d) e = record {
       is_due = ap due c.self.view_is ∙ (sym c.due.ensures ∙ c.in-EntryDue.is);
-      fits = subst (λ (o : Outline). MayUndo version_one d.step o e) c.self.invariant.came.outline_is (c.may_undo.ensures.good fits);
+      fits = subst (λ (o : Outline). MayUndo (limits_of d.version) d.step o e) c.self.invariant.came.outline_is (c.may_undo.ensures.good fits);
     } in
     subst (λ f. MayEntry f e) c.self.view_is here
 
@@ -31,4 +30,4 @@ returns-clause-bad c = λ may.
     let d = coming c.self.inside in
     let e = entry_of c.args.entry.now in
     let here : MayEntry (filed_in d) e = subst (λ f. MayEntry f e) (sym c.self.view_is) may in
-    c.may_undo.ensures.bad (subst (λ (o : Outline). MayUndo version_one d.step o e) (sym c.self.invariant.came.outline_is) here.fits)
+    c.may_undo.ensures.bad (subst (λ (o : Outline). MayUndo (limits_of d.version) d.step o e) (sym c.self.invariant.came.outline_is) here.fits)

@@ -9,6 +9,8 @@ use Rattle.rrd_spec.specs.Files.Filed.{Source}
 use Rattle.rrd_spec.specs.Files.Rebuilding.{MaySource, due}
 use Rattle.rrd_base.specs.Rebuild.{coming, filed_in}
 use Rattle.rrd_base.proofs.Comes.{names_came}
+use Rattle.rrd_base.proofs.Versions.{source_in}
+use Rattle.rrd_spec.specs.Limits.{newest}
 use Rattle.rrd_base.proofs.rebuild.Rebuild.may_source.Goals as goal
 
 is_false : (b : Bool) → not b ≡ true → b ≡ false
@@ -22,7 +24,7 @@ returns-clause-good c = λ new.
     let same : to_z w128 (of_z w128 c.args.sum) ≡ c.args.sum = to_z-of_z {w = w128} c.ranges.sum in
     let may : MaySource (filed_in d) source = record {
       is_due = ap due c.self.view_is ∙ (sym c.due.ensures ∙ c.in-SourceDue.is);
-      source_is = c.is_source.ensures.good c.if-not-is_source.false;
+      source_is = source_in newest d.version c.args.def.now (c.is_source.ensures.good c.if-not-is_source.false);
       raw_is = c.accepts.ensures.good c.if-not-accepts.false;
       part_is = subst (λ z. IsPart Average (d.last % d.step) (record { known = c.args.known; value = z })) same (c.is_part.ensures.good c.if-not-is_part.false);
       name_differs = names_came d c.args.def.now.name c.self.invariant.came ∙ (ap (λ xs. has_source xs c.args.def.now.name) (sym c.deref.ensures.value) ∙ (sym c.has_source.ensures ∙ is_false c.has_source.result new));

@@ -2,7 +2,7 @@ use Rattle.std.proofs.Common.{◌≡◌, ◌∙◌, ◌+◌, ◌-◌, ◌*◌, �
 use Rattle.std.specs.Prelude.{nat_lt, sum}
 use Rattle.rrd_fold.specs.declared.function.Function.TheVariants.{Average}
 use Rattle.rrd_spec.specs.declared.settings.RraDef.{RraDef}
-use Rattle.rrd_spec.specs.Limits.{version_one}
+use Rattle.rrd_spec.specs.Limits.{limits_of}
 use Rattle.rrd_spec.specs.Journal.Outlines.{rows_of, with_row_number}
 use Rattle.rrd_base.proofs.Comes.{not_past, past_not}
 use Rattle.rrd_base.proofs.FittingLemmas.{RowsPut, rows_are_put}
@@ -46,8 +46,8 @@ returns-clause-good c = λ e.
     record {
       some = some;
       few = small;
-      another = λ k. c.if-rows-present.false (omega (arith, k, put.old_is, same));
-      few_cells = not_past version_one.most_cells _ (ap not (sym (c.has_too_many_cells.ensures ∙ (λ i. nat_lt version_one.most_cells (c.len.ensures i * count i)))) ∙ e);
+      another = λ k. c.if-rows-held.false (omega (arith, k, put.old_is, same));
+      few_cells = not_past (limits_of c.args.version).most_cells _ (ap not (sym (c.has_too_many_cells.ensures ∙ (λ i. nat_lt (c.most_cells.ensures.value i) (c.len.ensures i * count i)))) ∙ e);
     }
 
 pub returns-clause-bad : goal.returns-clause-bad
@@ -60,4 +60,4 @@ returns-clause-bad c = λ may.
     let put : RowsPut now.archives c.args.archive none n c.all_rows.result = rows_are_put now.archives c.args.archive none n c.all_rows.result c.requires.there c.requires.now_is.few_rows all in
     let same = ap (λ (ds : List RraDef). (get_or ds c.args.archive none).rows) defs in
     let count : c.all_rows.result - (get_or c.as_slice-archives.result.now c.args.archive none).rows + n ≡ sum (rows_of (with_row_number now.archives c.args.archive n)) = omega (arith, same, put.all_is) in
-    ap not (c.has_too_many_cells.ensures ∙ (λ i. nat_lt version_one.most_cells (c.len.ensures i * count i))) ∙ past_not version_one.most_cells _ may.few_cells
+    ap not (c.has_too_many_cells.ensures ∙ (λ i. nat_lt (c.most_cells.ensures.value i) (c.len.ensures i * count i))) ∙ past_not (limits_of c.args.version).most_cells _ may.few_cells

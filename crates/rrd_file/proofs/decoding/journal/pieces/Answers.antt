@@ -23,3 +23,11 @@ returns-in-ATune-clause-closes g c = λ bytes st.
 pub returns-in-AResize-clause-closes : goal.returns-in-AResize-clause-closes
 returns-in-AResize-clause-closes g c = λ bytes st.
     c.resize.ensures.closes bytes (subst (λ (t : Tag). Comes bytes c.args.build.now (OfTag (tag_said t) ∷ []) (first_due (tag_said t)) c.entry_tag.new.input) c.in-AResize.is (c.in_ok-entry_tag.ensures bytes st))
+
+pub returns-in-AnAddition-clause-closes : goal.returns-in-AnAddition-clause-closes
+returns-in-AnAddition-clause-closes g c = λ bytes st.
+    subst (λ (t : Tag). Comes bytes c.args.build.now (OfTag (tag_said t) ∷ []) (first_due (tag_said t)) c.entry_tag.new.input) c.in-AnAddition.is (c.in_ok-entry_tag.ensures bytes st)
+
+pub returns-in-ARemoval-clause-closes : goal.returns-in-ARemoval-clause-closes
+returns-in-ARemoval-clause-closes g c = λ bytes st.
+    c.removed.ensures.closes bytes (subst (λ (t : Tag). Comes bytes c.args.build.now (OfTag (tag_said t) ∷ []) (first_due (tag_said t)) c.entry_tag.new.input) c.in-ARemoval.is (c.in_ok-entry_tag.ensures bytes st))

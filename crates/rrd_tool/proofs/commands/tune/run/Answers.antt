@@ -1,7 +1,7 @@
-use Rattle.std.proofs.Common.{Some, ap, refl, sym, option_map}
+use Rattle.std.proofs.Common.{Some, ap, refl, option_map}
 use Rattle.rrd_tool.specs.declared.faults.Fault.TheVariants.{Refused}
 use Rattle.rrd_tool.proofs.RunLemmas.{appends_nothing}
 use Rattle.rrd_tool.proofs.commands.tune.run.Goals as goal
 
 pub returns-in-Ok : goal.returns-in-Ok
-returns-in-Ok c c0 = rw c.of_change.ensures (ap (option_map Refused) (sym c.in-Ok.ensures.verdict), ap Some c.in-Ok.ensures.ok, refl, appends_nothing c0)
+returns-in-Ok c c0 = rw c.of_change.ensures (ap (option_map Refused) c.in-Ok.ensures.verdict, ap Some c.in-Ok.ensures.ok, refl, appends_nothing c0)

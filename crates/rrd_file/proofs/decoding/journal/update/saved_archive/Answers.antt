@@ -1,67 +1,69 @@
 use Rattle.std.proofs.Common.{◌≡◌, ◌∙◌, ◌++◌, ◌∷◌, [], ℕ, List, sym, ap, subst, append_assoc, length, map, min, replicate}
-use Rattle.std.specs.Prelude.{slice_index_or}
 use Rattle.std.proofs.lemmas.List.{length-map}
 use Rattle.std.proofs.lemmas.Result.{err_from_is_err_and}
 use Rattle.rrd_fold.specs.Bounds.{Consolidating}
-use Rattle.rrd_spec.specs.declared.outline.Outline.{Outline}
 use Rattle.rrd_spec.specs.declared.settings.RraDef.{RraDef}
-use Rattle.rrd_spec.specs.Preparations.{AllOf, parts_in}
+use Rattle.rrd_spec.specs.Preparations.{parts_in}
 use Rattle.rrd_spec.specs.Journal.Entries.{SavedArchive, rows_between}
 use Rattle.rrd_spec.specs.Files.Rebuilding.{outline_left}
 use Rattle.rrd_file.specs.Layout.{row_pieces, saved_pieces}
 use Rattle.rrd_file.specs.Layout.Pieces.{OfPrep, OfRows, Piece}
 use Rattle.rrd_file.specs.Decoding.Journal.{IsSavedShaped}
-use Rattle.rrd_file.specs.Stages.{DueInEntry, RowPrepDue, RowsDue, cells_due}
+use Rattle.rrd_file.specs.Stages.{DueInEntry, RowPrepDue, RowsDue, archive_due, cells_due}
 use Rattle.rrd_file.specs.Decoding.Progress.{Comes}
-use Rattle.rrd_file.proofs.Told.{there}
-use Rattle.rrd_file.proofs.Turns.{got}
+use Rattle.rrd_file.proofs.Told.{some_is}
 use Rattle.rrd_file.proofs.decoding.journal.update.saved_archive.Goals as goal
 
 pub returns-in_err-preps-clause-brings : goal.returns-in_err-preps-clause-brings
-returns-in_err-preps-clause-brings g c = λ bytes pieces later def e st.
+returns-in_err-preps-clause-brings g c = λ bytes pieces later asked at came.
+    let def = c.archive_left-def.result.now in
+    let e = c.archive_left-def.ensures.value in
+    let st = subst (λ (d : RraDef). Comes bytes c.args.build.now pieces (archive_due c.args.build.now.header.step (outline_left c.args.build.now) c.args.last d ++ later) c.args.input.now) (some_is asked def (sym at ∙ e)) came in
     let p = err_from_is_err_and c.from_residual.result c.from_residual.ensures.1 in
     let now = outline_left c.args.build.now in
     let step = c.args.build.now.header.step in
     let r = min (rows_between step def c.args.last now.last) def.rows in
     let s0 = subst (λ (l : List DueInEntry). Comes bytes c.args.build.now pieces l c.args.input.now) (append_assoc (replicate (length now.sources) (RowPrepDue c.args.last def)) (RowsDue r ∷ cells_due r now) later) st in
-    rw (p.1, p.2) (c.in_err-preps.ensures.brings bytes pieces (RowsDue r ∷ (cells_due r now ++ later)) def e s0)
+    rw (p.1, p.2) (c.in_err-preps.ensures.brings bytes pieces (RowsDue r ∷ (cells_due r now ++ later)) s0)
 
 pub returns-in_err-count-clause-brings : goal.returns-in_err-count-clause-brings
-returns-in_err-count-clause-brings g c = λ bytes pieces later def e st.
+returns-in_err-count-clause-brings g c = λ bytes pieces later asked at came.
+    let def = c.archive_left-def.result.now in
+    let e = c.archive_left-def.ensures.value in
+    let st = subst (λ (d : RraDef). Comes bytes c.args.build.now pieces (archive_due c.args.build.now.header.step (outline_left c.args.build.now) c.args.last d ++ later) c.args.input.now) (some_is asked def (sym at ∙ e)) came in
     let p = err_from_is_err_and c.from_residual-in_err-count.result c.from_residual-in_err-count.ensures.1 in
     let now = outline_left c.args.build.now in
     let step = c.args.build.now.header.step in
     let r = min (rows_between step def c.args.last now.last) def.rows in
     let s0 = subst (λ (l : List DueInEntry). Comes bytes c.args.build.now pieces l c.args.input.now) (append_assoc (replicate (length now.sources) (RowPrepDue c.args.last def)) (RowsDue r ∷ cells_due r now) later) st in
-    let s1 = c.in_ok-preps.ensures.brings bytes pieces (RowsDue r ∷ (cells_due r now ++ later)) def e s0 in
+    let s1 = c.in_ok-preps.ensures.brings bytes pieces (RowsDue r ∷ (cells_due r now ++ later)) s0 in
     rw (p.1, p.2) (c.in_err-count.ensures.brings bytes (pieces ++ map OfPrep (parts_in c.in_ok-preps.preps.items)) (cells_due r now ++ later) def e s1)
 
 pub returns-in_err-rows-clause-brings : goal.returns-in_err-rows-clause-brings
-returns-in_err-rows-clause-brings g c = λ bytes pieces later def e st.
+returns-in_err-rows-clause-brings g c = λ bytes pieces later asked at came.
+    let def = c.archive_left-def.result.now in
+    let e = c.archive_left-def.ensures.value in
+    let st = subst (λ (d : RraDef). Comes bytes c.args.build.now pieces (archive_due c.args.build.now.header.step (outline_left c.args.build.now) c.args.last d ++ later) c.args.input.now) (some_is asked def (sym at ∙ e)) came in
     let p = err_from_is_err_and c.from_residual-in_err-rows.result c.from_residual-in_err-rows.ensures.1 in
     let now = outline_left c.args.build.now in
     let step = c.args.build.now.header.step in
     let r = min (rows_between step def c.args.last now.last) def.rows in
     let s0 = subst (λ (l : List DueInEntry). Comes bytes c.args.build.now pieces l c.args.input.now) (append_assoc (replicate (length now.sources) (RowPrepDue c.args.last def)) (RowsDue r ∷ cells_due r now) later) st in
-    let s1 = c.in_ok-preps.ensures.brings bytes pieces (RowsDue r ∷ (cells_due r now ++ later)) def e s0 in
+    let s1 = c.in_ok-preps.ensures.brings bytes pieces (RowsDue r ∷ (cells_due r now ++ later)) s0 in
     let s2 = c.in_ok-count.ensures.brings bytes (pieces ++ map OfPrep (parts_in c.in_ok-preps.preps.items)) (cells_due r now ++ later) def e s1 in
     let s2b = subst (λ (k : ℕ). Comes bytes c.args.build.now ((pieces ++ map OfPrep (parts_in c.in_ok-preps.preps.items)) ++ OfRows c.in_ok-count.count ∷ []) (cells_due k now ++ later) c.row_count.new.input) (sym (c.in_ok-count.ensures.value def e)) s2 in
     rw (p.1, p.2) (c.in_err-rows.ensures.brings bytes ((pieces ++ map OfPrep (parts_in c.in_ok-preps.preps.items)) ++ OfRows c.in_ok-count.count ∷ []) later s2b)
 
-pub new-requires : goal.new-requires
-new-requires g c =
-    let item : c.get.result.now ≡ slice_index_or (outline_left c.args.build.now).archives c.args.archive c.get.result.now = subst (λ (o : Outline). c.get.result.now ≡ slice_index_or o.archives c.args.archive c.get.result.now) c.undone.ensures c.get.ensures in
-    let found = there (outline_left c.args.build.now).archives c.args.archive c.requires.there in
-    let same : c.get.result.now ≡ found.0 = got (outline_left c.args.build.now).archives c.args.archive found.0 c.get.result.now found.1 item in
-    subst (λ (d : RraDef). AllOf d.function c.in_ok-preps.preps.items) (sym same) (c.in_ok-preps.ensures.function found.0 found.1)
-
 pub returns-clause-brings : goal.returns-clause-brings
-returns-clause-brings g c = λ bytes pieces later def e st.
+returns-clause-brings g c = λ bytes pieces later asked at came.
+    let def = c.archive_left-def.result.now in
+    let e = c.archive_left-def.ensures.value in
+    let st = subst (λ (d : RraDef). Comes bytes c.args.build.now pieces (archive_due c.args.build.now.header.step (outline_left c.args.build.now) c.args.last d ++ later) c.args.input.now) (some_is asked def (sym at ∙ e)) came in
     let now = outline_left c.args.build.now in
     let step = c.args.build.now.header.step in
     let r = min (rows_between step def c.args.last now.last) def.rows in
     let s0 = subst (λ (l : List DueInEntry). Comes bytes c.args.build.now pieces l c.args.input.now) (append_assoc (replicate (length now.sources) (RowPrepDue c.args.last def)) (RowsDue r ∷ cells_due r now) later) st in
-    let s1 = c.in_ok-preps.ensures.brings bytes pieces (RowsDue r ∷ (cells_due r now ++ later)) def e s0 in
+    let s1 = c.in_ok-preps.ensures.brings bytes pieces (RowsDue r ∷ (cells_due r now ++ later)) s0 in
     let s2 = c.in_ok-count.ensures.brings bytes (pieces ++ map OfPrep (parts_in c.in_ok-preps.preps.items)) (cells_due r now ++ later) def e s1 in
     let s2b = subst (λ (k : ℕ). Comes bytes c.args.build.now ((pieces ++ map OfPrep (parts_in c.in_ok-preps.preps.items)) ++ OfRows c.in_ok-count.count ∷ []) (cells_due k now ++ later) c.row_count.new.input) (sym (c.in_ok-count.ensures.value def e)) s2 in
     let rows = c.in_ok-rows.rows in
@@ -74,8 +76,7 @@ returns-clause-brings g c = λ bytes pieces later def e st.
 
 pub returns-clause-shaped : goal.returns-clause-shaped
 returns-clause-shaped g c = λ def e.
-    let item : c.get.result.now ≡ slice_index_or (outline_left c.args.build.now).archives c.args.archive c.get.result.now = subst (λ (o : Outline). c.get.result.now ≡ slice_index_or o.archives c.args.archive c.get.result.now) c.undone.ensures c.get.ensures in
-    let same : c.get.result.now ≡ def = got (outline_left c.args.build.now).archives c.args.archive def c.get.result.now e item in
+    let same : c.archive_left-def.result.now ≡ def = some_is c.archive_left-def.result.now def (sym c.archive_left-def.ensures.value ∙ e) in
     subst (λ (o : SavedArchive). IsSavedShaped (length (outline_left c.args.build.now).sources) def o) (sym c.new.ensures) (record {
       same_function = ap (λ (d : RraDef). d.function) same;
       one_part_each = length-map c.in_ok-preps.preps.items (λ (prep : Consolidating). prep.part) ∙ c.in_ok-preps.ensures.shaped;

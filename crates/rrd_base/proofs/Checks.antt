@@ -1,0 +1,22 @@
+-- Checks one after another: what the first of them refuse, and where the later ones decide.
+use Rattle.std.proofs.Common.{◌≡◌, List, [], ◌∷◌, ◌++◌, Option, Some, None, Bool, cond, true, false, refl}
+use Rattle.rrd_spec.specs.declared.refusal.Refusal.{Refusal}
+use Rattle.rrd_spec.specs.Commands.Verdict.{Check, first_refusal}
+
+by_case : (b : Bool) (refusal : Refusal) (first second : Option Refusal) (e : Option Refusal) → e ≡ cond b (Some refusal) first → (e ≡ first → e ≡ second) → e ≡ cond b (Some refusal) second
+by_case true refusal first second e h k = h
+by_case false refusal first second e h k = k h
+
+by_pass : (b : Bool) (refusal : Refusal) (first later : Option Refusal) (all : Option Refusal) → None ≡ cond b (Some refusal) first → (None ≡ first → later ≡ all) → later ≡ cond b (Some refusal) all
+by_pass true refusal first later all h k = absurd cc
+by_pass false refusal first later all h k = k h
+
+-- what refuses the first checks refuses all of them
+pub refused : (first later : List Check) (refusal : Refusal) → Some refusal ≡ first_refusal first → Some refusal ≡ first_refusal (first ++ later)
+refused [] later refusal h = absurd cc
+refused (check ∷ checks) later refusal h = by_case check.wrong check.refusal (first_refusal checks) (first_refusal (checks ++ later)) (Some refusal) h (λ k. refused checks later refusal k)
+
+-- where the first checks pass the later ones decide
+pub passed : (first later : List Check) → None ≡ first_refusal first → first_refusal later ≡ first_refusal (first ++ later)
+passed [] later h = refl
+passed (check ∷ checks) later h = by_pass check.wrong check.refusal (first_refusal checks) (first_refusal later) (first_refusal (checks ++ later)) h (λ k. passed checks later k)

@@ -1,0 +1,40 @@
+-- What differs from version to version stays below the present limits, and what is the same.
+use Rattle.std.proofs.Common.{◌≤◌, arith}
+use Rattle.rrd_spec.specs.declared.entry.SourceBefore.{SourceBefore}
+use Rattle.rrd_spec.specs.declared.settings.DsDef.{DsDef}
+use Rattle.rrd_spec.specs.declared.settings.RraDef.{RraDef}
+use Rattle.rrd_spec.specs.declared.version.Version.{Version}
+use Rattle.rrd_spec.specs.declared.version.Version.TheVariants.{One, Two}
+use Rattle.rrd_spec.specs.Files.Rebuilding.{IsArchiveDef}
+use Rattle.rrd_spec.specs.Journal.Fitting.{IsSourceBefore}
+use Rattle.rrd_spec.specs.Limits.{deepest_journal_of, limits_of, most_archives_of, most_cells_of, present}
+use Rattle.rrd_spec.specs.Validity.{IsSourceWithin}
+
+pub small_depth : (version : Version) → deepest_journal_of version ≤ present.deepest_journal
+small_depth One = omega arith
+small_depth Two = omega arith
+
+pub few_archives : (version : Version) → most_archives_of version ≤ present.most_archives
+few_archives One = omega arith
+few_archives Two = omega arith
+
+pub few_cells : (version : Version) → most_cells_of version ≤ present.most_cells
+few_cells One = omega arith
+few_cells Two = omega arith
+
+pub source_in : (from to : Version) (source : DsDef) → IsSourceWithin (limits_of from) source → IsSourceWithin (limits_of to) source
+source_in from to source h =
+    record { good_name = h.good_name; good_heartbeat = h.good_heartbeat; good_bounds = h.good_bounds }
+
+pub source_before_in : (from to : Version) (old : SourceBefore) → IsSourceBefore (limits_of from) old → IsSourceBefore (limits_of to) old
+source_before_in from to old h = (source_in from to old.source h.0, h.1)
+
+pub archive_def_in : (from to : Version) (def : RraDef) → IsArchiveDef (limits_of from) def → IsArchiveDef (limits_of to) def
+archive_def_in from to def h = record {
+  some_steps = h.some_steps;
+  few_steps = h.few_steps;
+  some_rows = h.some_rows;
+  few_rows = h.few_rows;
+  xff_low = h.xff_low;
+  xff_high = h.xff_high;
+}

@@ -1,0 +1,123 @@
+-- Archives that a tune adds and removes: what is left, and the lists of archives.
+use Rattle.std.proofs.Common.{◌≡◌, refl, sym, ◌∙◌, ap, ℕ, zero, suc, ◌+◌, ◌-◌, ◌*◌, ◌/◌, ◌<◌, ◌≤◌, List, [], ◌∷◌, ◌++◌, length, map, take, drop, get_or, arith, length-append, Option, Some, None}
+use Rattle.std.specs.Prelude.{sum}
+use Rattle.std.proofs.lemmas.List.{drop-map, length-drop, length-take, length_push, map-append, take-map, take_at}
+use Rattle.std.proofs.lemmas.List.Sums.{sum_by-cons, sum_by-take-le}
+use Rattle.std.proofs.lemmas.Nat.{mul-le}
+use Rattle.std.specs.List.{insert, remove, AllByRecursion}
+use Rattle.std.specs.Option.{option_map_or}
+use Rattle.rrd_spec.specs.declared.settings.RraDef.{RraDef}
+use Rattle.rrd_spec.specs.declared.requests.tune.Tuning.{Tuning}
+use Rattle.rrd_spec.specs.declared.requests.tune.ArchiveTune.{ArchiveTune}
+use Rattle.rrd_spec.specs.declared.requests.tune.ArchiveTune.TheVariants.{Add, Remove}
+use Rattle.rrd_spec.specs.Limits.{Limits}
+use Rattle.rrd_spec.specs.History.{Archive, Content, Tuned, IsBase}
+use Rattle.rrd_spec.specs.History.Cells.{content}
+use Rattle.rrd_spec.specs.History.Lives.{new_archive}
+use Rattle.rrd_spec.specs.Commands.{TuningBy, archive_event, moved, rows_of_archives, settings_of, tuned}
+use Rattle.rrd_spec.specs.Commands.Verdict.{verdict}
+use Rattle.rrd_spec.specs.Validity.{IsValidArchiveWithin, IsValidWithin}
+use Rattle.rrd_spec.proofs.Accepted.{some_of_archive, tune_passes}
+use Rattle.rrd_spec.proofs.LivesPlain.{add_changes, remove_changes}
+
+-- ---- lists
+
+-- without the one that was added last
+pub without_added : {A : Type 0} (xs : List A) (x : A) → take (length (xs ++ x ∷ []) - 1) (xs ++ x ∷ []) ≡ xs
+without_added xs x = take_at xs (x ∷ []) (length (xs ++ x ∷ []) - 1) (omega (arith, length_push xs x))
+
+-- the one that was removed is put in again
+pub put_in_again : {A : Type 0} (xs : List A) (n : ℕ) (d : A) → n < length xs → insert (remove xs n) n (get_or xs n d) ≡ xs
+put_in_again [] n d h = absurd (omega arith)
+put_in_again (x ∷ xs) zero d h = refl
+put_in_again (x ∷ xs) (suc n) d h = ap (λ ys. x ∷ ys) (put_in_again xs n d (omega arith))
+
+pub inserted : {A : Type 0} (P : A → Type 0) (xs : List A) (n : ℕ) (x : A) → n ≤ length xs → AllByRecursion P (insert xs n x) → P x
+inserted P [] zero x h is = is.0
+inserted P [] (suc n) x h is = absurd (omega arith)
+inserted P (y ∷ xs) zero x h is = is.0
+inserted P (y ∷ xs) (suc n) x h is = inserted P xs n x (omega arith) is.1
+
+pub length-insert : {A : Type 0} (xs : List A) (n : ℕ) (x : A) → n ≤ length xs → length (insert xs n x) ≡ length xs + 1
+length-insert xs n x h = omega (arith, length-append (take n xs) (x ∷ drop n xs), length-take n xs, length-drop n xs)
+
+pub map-insert : {A B : Type 0} (g : A → B) (xs : List A) (n : ℕ) (x : A) → map g (insert xs n x) ≡ insert (map g xs) n (g x)
+map-insert g xs n x =
+    map-append g (take n xs) (x ∷ drop n xs)
+    ∙ ap (λ ys. ys ++ g x ∷ map g (drop n xs)) (sym (take-map g n xs))
+    ∙ ap (λ ys. take n (map g xs) ++ g x ∷ ys) (sym (drop-map g n xs))
+
+sum-removed : (rows : List ℕ) (n : ℕ) → sum (remove rows n) ≤ sum rows
+sum-removed [] zero = omega arith
+sum-removed [] (suc n) = omega arith
+sum-removed (row ∷ rows) zero = omega (arith, sum_by-cons (λ x. x) row rows)
+sum-removed (row ∷ rows) (suc n) =
+    omega (arith, sum-removed rows n, sum_by-cons (λ x. x) row rows, sum_by-cons (λ x. x) row (remove rows n))
+
+sum-taken : (rows : List ℕ) (n : ℕ) → sum (take n rows) ≤ sum rows
+sum-taken rows n = sum_by-take-le (λ x. x) rows n
+
+-- one more
+pub sum-insert : (rows : List ℕ) (n row : ℕ) → sum (insert rows n row) ≡ sum rows + row
+sum-insert [] zero row = omega (arith, sum_by-cons (λ x. x) row [])
+sum-insert [] (suc n) row = omega (arith, sum_by-cons (λ x. x) row [])
+sum-insert (r ∷ rows) zero row = omega (arith, sum_by-cons (λ x. x) row (r ∷ rows))
+sum-insert (r ∷ rows) (suc n) row =
+    omega (arith, sum-insert rows n row, sum_by-cons (λ x. x) r rows, sum_by-cons (λ x. x) r (insert rows n row))
+
+row_count : Archive → ℕ
+row_count archive = archive.def.rows
+
+pub fewer_removed : (sources most : ℕ) (archives : List Archive) (n : ℕ) → sources * sum (rows_of_archives archives) ≤ most → sources * sum (rows_of_archives (remove archives n)) ≤ most
+unfolding row_count
+fewer_removed sources most archives n h =
+    let same : rows_of_archives (remove archives n) ≡ remove (rows_of_archives archives) n
+    = map-append row_count (take n archives) (drop (suc n) archives)
+    ∙ ap (λ ys. ys ++ map row_count (drop (suc n) archives)) (sym (take-map row_count n archives))
+    ∙ ap (λ ys. take n (map row_count archives) ++ ys) (sym (drop-map row_count (suc n) archives)) in
+    let less : sum (rows_of_archives (remove archives n)) ≤ sum (rows_of_archives archives) = omega (arith, ap sum same, sum-removed (rows_of_archives archives) n) in
+    omega (arith, h, mul-le sources (sum (rows_of_archives (remove archives n))) sources (sum (rows_of_archives archives)) (omega arith) less)
+
+pub fewer_taken : (sources most : ℕ) (archives : List Archive) (n : ℕ) → sources * sum (rows_of_archives archives) ≤ most → sources * sum (rows_of_archives (take n archives)) ≤ most
+unfolding row_count
+fewer_taken sources most archives n h =
+    let same : rows_of_archives (take n archives) ≡ take n (rows_of_archives archives) = sym (take-map row_count n archives) in
+    let less : sum (rows_of_archives (take n archives)) ≤ sum (rows_of_archives archives) = omega (arith, ap sum same, sum-taken (rows_of_archives archives) n) in
+    omega (arith, h, mul-le sources (sum (rows_of_archives (take n archives))) sources (sum (rows_of_archives archives)) (omega arith) less)
+
+-- ---- a content with other archives
+
+pub valid_with : (limits : Limits) (now : Content) (archives : List Archive) → IsValidWithin limits now → 0 < length archives → length archives ≤ limits.most_archives → length now.sources * sum (rows_of_archives archives) ≤ limits.most_cells → AllByRecursion (IsValidArchiveWithin limits (length now.sources) (now.last / now.step)) archives → IsValidWithin limits (record now { archives = archives })
+valid_with limits now archives is some few cells each = record {
+  some_step = is.some_step;
+  small_step = is.small_step;
+  good_time = is.good_time;
+  some_depth = is.some_depth;
+  small_depth = is.small_depth;
+  some_source = is.some_source;
+  few_sources = is.few_sources;
+  some_archive = some;
+  few_archives = few;
+  few_cells = cells;
+  sources_are = is.sources_are;
+  names_differ = is.names_differ;
+  raws_are = is.raws_are;
+  parts_are = is.parts_are;
+  archives_are = each;
+}
+
+-- ---- what a tune of archives makes
+
+by_event : (base : Content) (tuning : Tuning) (archive : Option ArchiveTune) → tuning.archive ≡ archive → moved base (TuningBy tuning) ≡ content base (option_map_or archive_event archive (Tuned (map (tuned tuning) base.sources)) ∷ [])
+by_event base tuning archive e = ap (λ o. content base (option_map_or archive_event o (Tuned (map (tuned tuning) base.sources)) ∷ [])) e
+
+pub tune_alone : (base : Content) (tuning : Tuning) → tuning.archive ≡ None → moved base (TuningBy tuning) ≡ content base (Tuned (map (tuned tuning) base.sources) ∷ [])
+tune_alone base tuning e = by_event base tuning None e
+
+pub tune_added : (base : Content) (tuning : Tuning) (def : RraDef) → IsBase base → tuning.archive ≡ Some (Add def) → verdict base (TuningBy tuning) ≡ None → moved base (TuningBy tuning) ≡ record base { archives = base.archives ++ new_archive (length base.sources) def ∷ [] }
+tune_added base tuning def is e h =
+    let some = some_of_archive (settings_of base) def (tune_passes base tuning (Some (Add def)) e h) in
+    by_event base tuning (Some (Add def)) e ∙ add_changes base def is some.0 some.1
+
+pub tune_removed : (base : Content) (tuning : Tuning) (number : ℕ) → IsBase base → tuning.archive ≡ Some (Remove number) → moved base (TuningBy tuning) ≡ record base { archives = remove base.archives number }
+tune_removed base tuning number is e = by_event base tuning (Some (Remove number)) e ∙ remove_changes base number is

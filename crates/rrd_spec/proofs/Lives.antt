@@ -1,0 +1,128 @@
+-- The archives of a history, each followed by itself.
+use Rattle.std.proofs.Common.{◌≡◌, refl, sym, ◌∙◌, ap, subst, ℕ, zero, suc, ◌+◌, ◌-◌, ◌*◌, ◌/◌, ◌<◌, ◌≤◌, List, [], ◌∷◌, ◌++◌, length, map, replicate, drop, take, arith, length-append}
+use Rattle.std.proofs.Math.Nat.{div-div-eq-div-mul}
+use Rattle.std.proofs.lemmas.List.{length-drop, length-replicate}
+use Rattle.std.proofs.lemmas.List.Sums.{fold-append}
+use Rattle.std.specs.List.{fold, AllByRecursion}
+use Rattle.rrd_fixed.specs.declared.cell.Cell.{Cell}
+use Rattle.rrd_spec.specs.declared.settings.RraDef.{RraDef}
+use Rattle.rrd_spec.specs.History.{Content, Event, Sampled, Tuned, Resized, Added, Removed, Moment, moment_after, moment_of, moment_at_end, rows_after, IsHistory, IsArchive, IsBase}
+use Rattle.rrd_spec.specs.History.Lives.{Life, life_of, life_added, with_event, change_at, lives_after, lives_from, lives}
+use Rattle.rrd_spec.specs.History.Rows.{steps_to_rows, steps_before, steps_for}
+use Rattle.rrd_spec.specs.History.Steps.{steps_of}
+use Rattle.rrd_spec.specs.Laws.ListedContent.{keep_last, rows_never_lost}
+use Rattle.rrd_spec.specs.Laws.ListedLives.{archive_for, content_lived, kept_for, rows_for}
+use Rattle.rrd_spec.specs.Lemmas.Lists.{All-append, All-drop, All-map, All-take, length-keep_last}
+use Rattle.rrd_spec.proofs.ContentLemmas.{div_rises, rows_stay}
+use Rattle.rrd_spec.proofs.RowLemmas.{length-filled_up, room_first, room_last}
+use Rattle.rrd_spec.proofs.GroupLemmas.{length-finished, reached_before}
+use Rattle.rrd_spec.proofs.HistoryLemmas.{last_rises, length-steps_of, IsHistory-append}
+
+-- how an archive stands at a moment of its history
+pub record LifeAt (base : Content) (now : Moment) (life : Life) : Type 0 where
+  pub archive_is : IsArchive life.begun
+  pub history : IsHistory life.birth life.since
+  pub now_is : fold moment_after life.birth life.since ≡ now
+  pub late : base.last ≤ life.birth.last
+  pub missed_is : life.missed + base.last / base.step ≡ life.birth.last / base.step
+
+pub All-change_at : {A : Type 0} (P : A → Type 0) (f : A → A) (xs : List A) (n : ℕ) → ((x : A) → P x → P (f x)) → AllByRecursion P xs → AllByRecursion P (change_at f xs n)
+All-change_at P f [] n h is = tt
+All-change_at P f (x ∷ xs) zero h is = (h x is.0, is.1)
+All-change_at P f (x ∷ xs) (suc n) h is = (is.0, All-change_at P f xs n h is.1)
+
+event_at : (base : Content) (now : Moment) (e : Event) (life : Life) → IsHistory now (e ∷ []) → LifeAt base now life → LifeAt base (moment_after now e) (with_event e life)
+event_at base now e life h at = record {
+  archive_is = at.archive_is;
+  history = IsHistory-append life.birth life.since (e ∷ []) at.history (subst (λ m. IsHistory m (e ∷ [])) (sym at.now_is) h);
+  now_is = fold-append moment_after life.birth life.since (e ∷ []) ∙ ap (λ m. moment_after m e) at.now_is;
+  late = at.late;
+  missed_is = at.missed_is;
+}
+
+added_at : (base : Content) (now : Moment) (def : RraDef) → 0 < base.step → base.last ≤ now.last → 0 < def.steps → 0 < def.rows → LifeAt base now (life_added base now def)
+added_at base now def some late steps rows = record {
+  archive_is = record { some_steps = steps; some_rows = rows; rows_are = length-replicate def.rows (replicate (length base.sources) Cell.Unknown) };
+  history = tt;
+  now_is = refl;
+  late = late;
+  missed_is = omega (arith, div_rises base.last now.last base.step some late);
+}
+
+from_at : (base : Content) (now : Moment) (all : List Life) (es : List Event) → 0 < base.step → base.last ≤ now.last → IsHistory now es → AllByRecursion (LifeAt base now) all → AllByRecursion (LifeAt base (fold moment_after now es)) (lives_from base now all es)
+from_at base now all [] some late h is = is
+from_at base now all (Sampled sample ∷ es) some late h is =
+    from_at base (moment_after now (Sampled sample)) (lives_after base now all (Sampled sample)) es some (omega (arith, h.0)) h.1
+    (All-map (LifeAt base now) (LifeAt base (moment_after now (Sampled sample))) (with_event (Sampled sample)) all (λ life at. event_at base now (Sampled sample) life (h.0, tt) at) is)
+from_at base now all (Tuned sources ∷ es) some late h is =
+    from_at base (moment_after now (Tuned sources)) (lives_after base now all (Tuned sources)) es some late h.1
+    (All-map (LifeAt base now) (LifeAt base (moment_after now (Tuned sources))) (with_event (Tuned sources)) all (λ life at. event_at base now (Tuned sources) life (h.0, tt) at) is)
+from_at base now all (Resized archive rows ∷ es) some late h is =
+    from_at base now (lives_after base now all (Resized archive rows)) es some late h.1
+    (All-change_at (LifeAt base now) (with_event (Resized 0 rows)) all archive (λ life at. event_at base now (Resized 0 rows) life (h.0, tt) at) is)
+from_at base now all (Added def ∷ es) some late h is =
+    from_at base now (lives_after base now all (Added def)) es some late h.2
+    (All-append (LifeAt base now) all (life_added base now def ∷ []) is (added_at base now def some late h.0 h.1, tt))
+from_at base now all (Removed archive ∷ es) some late h is =
+    from_at base now (lives_after base now all (Removed archive)) es some late h
+    (All-append (LifeAt base now) (take archive all) (drop (suc archive) all) (All-take (LifeAt base now) archive all is) (All-drop (LifeAt base now) (suc archive) all is))
+
+pub lives_are : (base : Content) (es : List Event) → IsBase base → IsHistory (moment_of base) es → AllByRecursion (LifeAt base (moment_at_end base es)) (lives base es)
+lives_are base es is h =
+    from_at base (moment_of base) (map (life_of base) base.archives) es is.some_step (omega arith) h
+    (All-map IsArchive (LifeAt base (moment_of base)) (life_of base) base.archives (λ archive of. record { archive_is = of; history = tt; now_is = refl; late = omega arith; missed_is = omega arith }) is.archives_are)
+
+-- ---- the steps that it hasn't missed, and its rows
+
+pub born_before : (base : Content) (es : List Event) (life : Life) → LifeAt base (moment_at_end base es) life → life.birth.last ≤ (moment_at_end base es).last
+born_before base es life at = omega (arith, last_rises life.birth life.since at.history, ap (λ (m : Moment). m.last) at.now_is)
+
+pub few_missed : (base : Content) (es : List Event) (life : Life) → 0 < base.step → IsHistory (moment_of base) es → LifeAt base (moment_at_end base es) life → life.missed ≤ length (steps_of base es)
+few_missed base es life some h at =
+    omega (arith, at.missed_is, length-steps_of base es some h, div_rises life.birth.last (moment_at_end base es).last base.step some (born_before base es life at))
+
+pub steps_until : (base : Content) (es : List Event) (life : Life) → 0 < base.step → IsHistory (moment_of base) es → LifeAt base (moment_at_end base es) life → steps_before base life + length (steps_for base life es) ≡ (moment_at_end base es).last / base.step
+steps_until base es life some h at =
+    omega (arith, length-drop life.missed (steps_of base es), length-steps_of base es some h, few_missed base es life some h at, at.missed_is)
+
+pub length-rows_for : (base : Content) (es : List Event) (life : Life) → 0 < base.step → IsHistory (moment_of base) es → LifeAt base (moment_at_end base es) life → life.birth.last / (base.step * life.begun.def.steps) + length (rows_for base es life) ≡ (moment_at_end base es).last / (base.step * life.begun.def.steps)
+unfolding rows_for
+length-rows_for base es life some h at =
+    let steps = life.begun.def.steps in
+    let before = steps_before base life in
+    let items = steps_for base life es in
+    let end = (moment_at_end base es).last in
+    let count = length-finished (steps_to_rows life.begun.def (length base.sources)) before life.begun.parts items in
+    let last : (before + length items) / steps ≡ end / base.step / steps = ap (λ n. n / steps) (steps_until base es life some h at) in
+    omega (arith, count, last, reached_before before (length items) steps at.archive_is.some_steps, div-div-eq-div-mul life.birth.last base.step steps, div-div-eq-div-mul end base.step steps)
+
+-- ---- the content is a base again
+
+pub length-kept_for : (base : Content) (es : List Event) (life : Life) → 0 < base.step → IsHistory (moment_of base) es → LifeAt base (moment_at_end base es) life → length (kept_for base es life) ≡ fold (rows_after 0) life.begun.def.rows life.since
+unfolding kept_for
+length-kept_for base es life some h at =
+    let res = base.step * life.begun.def.steps in
+    let end = (moment_at_end base es).last in
+    let rows = life.begun.def.rows in
+    let since = λ (time : ℕ). end / res - time / res in
+    let v = rows_never_lost 0 since rows life.birth life.since in
+    let all = life.begun.rows ++ rows_for base es life in
+    let count_all = length-append life.begun.rows (rows_for base es life) in
+    let count_new = length-rows_for base es life some h at in
+    let last : since (fold moment_after life.birth life.since).last ≡ 0 = omega (arith, ap (λ (m : Moment). m.last / res) at.now_is) in
+    let count : length (keep_last v all) ≡ v = length-keep_last v all (omega (arith, room_first 0 since rows life.birth life.since, at.archive_is.rows_are)) in
+    length-filled_up (fold (rows_after 0) rows life.since) (replicate (length base.sources) Cell.Unknown) (keep_last v all) (omega (arith, room_last 0 since rows life.birth life.since))
+
+pub archive_for_is : (base : Content) (es : List Event) (life : Life) → 0 < base.step → IsHistory (moment_of base) es → LifeAt base (moment_at_end base es) life → IsArchive (archive_for base es life)
+archive_for_is base es life some h at = record {
+  some_steps = at.archive_is.some_steps;
+  some_rows = rows_stay 0 life.begun.def.rows life.birth life.since at.archive_is.some_rows at.history;
+  rows_are = length-kept_for base es life some h at;
+}
+
+pub IsBase-lived : (base : Content) (es : List Event) → IsBase base → IsHistory (moment_of base) es → IsBase (content_lived base es)
+unfolding content_lived
+IsBase-lived base es is h = record {
+  some_step = is.some_step;
+  archives_are = All-map (LifeAt base (moment_at_end base es)) IsArchive (archive_for base es) (lives base es) (λ life at. archive_for_is base es life is.some_step h at) (lives_are base es is h);
+}

@@ -1,0 +1,89 @@
+-- What is within the limits of a version is within those of every database.
+use Rattle.std.proofs.Common.{◌≡◌, refl, ap, true, ℕ, ◌/◌, ◌≤◌, List, [], ◌∷◌, length, arith}
+use Rattle.std.proofs.lemmas.Bool.{both_ways}
+use Rattle.rrd_spec.specs.History.{Archive, Content}
+use Rattle.rrd_spec.specs.Journal.Entries.{AddedEntry, Entry, RemovedEntry, ResizeEntry, TuneEntry, UpdateEntry, undone}
+use Rattle.rrd_spec.specs.Laws.Versions.{ContentIsWithin, DatabaseIsWithin, EntryIsWithin, FirstTellsNoArchive, JournalIsWithin}
+use Rattle.rrd_spec.specs.Files.Filed.{Filed}
+use Rattle.rrd_spec.specs.Lemmas.Lists.{All-weaker}
+use Rattle.rrd_spec.specs.Limits.{archives_come_and_go_of, deepest_journal_of, limits_of, most_archives_of, most_cells_of, present}
+use Rattle.rrd_spec.specs.Validity.{IsSource, IsSourceWithin, IsValidArchive, IsValidArchiveWithin}
+use Rattle.rrd_spec.specs.declared.settings.DsDef.{DsDef}
+use Rattle.rrd_spec.specs.declared.version.Version.{Version}
+use Rattle.rrd_spec.specs.declared.version.Version.TheVariants.{One, Two}
+
+small_depth : (version : Version) (n : ℕ) → n ≤ deepest_journal_of version → n ≤ present.deepest_journal
+small_depth One n h = omega (arith, h)
+small_depth Two n h = h
+
+few_archives : (version : Version) (n : ℕ) → n ≤ most_archives_of version → n ≤ present.most_archives
+few_archives One n h = omega (arith, h)
+few_archives Two n h = h
+
+few_cells : (version : Version) (n : ℕ) → n ≤ most_cells_of version → n ≤ present.most_cells
+few_cells One n h = omega (arith, h)
+few_cells Two n h = h
+
+source_within : (version : Version) (source : DsDef) → IsSourceWithin (limits_of version) source → IsSource source
+source_within version source h =
+    record { good_name = h.good_name; good_heartbeat = h.good_heartbeat; good_bounds = h.good_bounds }
+
+archive_within : (version : Version) (sources steps : ℕ) (archive : Archive) → IsValidArchiveWithin (limits_of version) sources steps archive → IsValidArchive sources steps archive
+archive_within version sources steps archive h = record {
+  some_steps = h.some_steps;
+  few_steps = h.few_steps;
+  some_rows = h.some_rows;
+  few_rows = h.few_rows;
+  xff_low = h.xff_low;
+  xff_high = h.xff_high;
+  parts_are = h.parts_are;
+  rows_are = h.rows_are;
+  each_row = h.each_row;
+}
+
+pub content_is_within : (version : Version) (content : Content) → ContentIsWithin version content
+content_is_within version content h = record {
+  some_step = h.some_step;
+  small_step = h.small_step;
+  good_time = h.good_time;
+  some_depth = h.some_depth;
+  small_depth = small_depth version content.depth h.small_depth;
+  some_source = h.some_source;
+  few_sources = h.few_sources;
+  some_archive = h.some_archive;
+  few_archives = few_archives version (length content.archives) h.few_archives;
+  few_cells = few_cells version _ h.few_cells;
+  sources_are = All-weaker (IsSourceWithin (limits_of version)) IsSource content.sources (source_within version) h.sources_are;
+  names_differ = h.names_differ;
+  raws_are = h.raws_are;
+  parts_are = h.parts_are;
+  archives_are = All-weaker (IsValidArchiveWithin (limits_of version) (length content.sources) (content.last / content.step)) (IsValidArchive (length content.sources) (content.last / content.step)) content.archives (archive_within version (length content.sources) (content.last / content.step)) h.archives_are;
+}
+
+pub entry_is_within : (version : Version) (now : Content) (entry : Entry) → EntryIsWithin version now entry
+entry_is_within version now (UpdateEntry old) h = h
+entry_is_within version now (TuneEntry olds) h = h
+entry_is_within version now (ResizeEntry archive rows) h = h
+entry_is_within version now AddedEntry h = (refl, h.1)
+entry_is_within version now (RemovedEntry number archive) h = (refl, h.1)
+
+pub journal_is_within : (version : Version) (now : Content) (journal : List Entry) → JournalIsWithin version now journal
+journal_is_within version now [] h = tt
+journal_is_within version now (entry ∷ journal) h =
+    (entry_is_within version now entry h.0, content_is_within version (undone now entry) h.1, journal_is_within version (undone now entry) journal h.2)
+
+pub database_is_within : (version : Version) (now : Content) (journal : List Entry) → DatabaseIsWithin version now journal
+database_is_within version now journal h = record {
+  content_is = content_is_within version now h.content_is;
+  journal_is = journal_is_within version now journal h.journal_is;
+  few = h.few;
+}
+
+-- ---- archives that came or went
+
+none_in_first : (version : Version) → version ≡ One → (limits_of version).archives_come_and_go ≡ true → ⊥
+none_in_first version e h = both_ways (limits_of version).archives_come_and_go (ap archives_come_and_go_of e) h
+
+pub first_tells_none : (f : Filed) → FirstTellsNoArchive f
+first_tells_none f e =
+    (λ may. none_in_first f.header.version e may.fits.0, λ number archive may. none_in_first f.header.version e may.fits.0)

@@ -1,0 +1,19 @@
+use Rattle.std.proofs.Common.{◌≡◌, Some, length, arith}
+use Rattle.std.proofs.lemmas.Bool.{leb-false}
+use Rattle.std.proofs.lemmas.List.{length-map}
+use Rattle.rrd_spec.specs.Commands.{rows_of_archives}
+use Rattle.rrd_spec.specs.History.{Archive}
+use Rattle.rrd_spec.specs.Lemmas.Validity.{base_of_valid}
+use Rattle.rrd_spec.specs.declared.requests.tune.ArchiveTune.TheVariants.{Remove}
+use Rattle.rrd_spec.proofs.Accepted.{tune_passes}
+use Rattle.rrd_spec.proofs.ArchiveTunes.{tune_added, tune_removed}
+use Rattle.rrd_spec.proofs.laws.tune_changes_archives.Goals as goal
+
+pub returns-clause-added : goal.returns-clause-added
+returns-clause-added c = λ base tuning def is e h. tune_added base tuning def (base_of_valid base is) e h
+
+pub returns-clause-removed : goal.returns-clause-removed
+returns-clause-removed c = λ base tuning number is e h.
+    let p = tune_passes base tuning (Some (Remove number)) e h in
+    let as_many : length (rows_of_archives base.archives) ≡ length base.archives = length-map base.archives (λ (a : Archive). a.def.rows) in
+    (omega (arith, leb-false (length (rows_of_archives base.archives)) number p.0, as_many), tune_removed base tuning number (base_of_valid base is) e)
