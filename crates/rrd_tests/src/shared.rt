@@ -4,6 +4,7 @@ use std::alloc::{AllocError, Global};
 
 pub(crate) mod batches;
 pub(crate) mod databases;
+pub(crate) mod each_call;
 pub(crate) mod streams;
 
 // The runs of bytes, one behind another.

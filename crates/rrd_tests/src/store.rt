@@ -5,4 +5,5 @@ mod ending;
 mod place;
 mod scripts;
 mod single;
+mod strange_files;
 mod task;

@@ -147,7 +147,7 @@ fn another_type_and_the_same(rt: HostRuntime) -> Result<(), Fail> {
         let Command::Tune(tuning) = command_of(alloc, line)? else {
             return Err(Fail::from("no tune"));
         };
-        database.tune(&tuning)?;
+        database.tune(alloc, &tuning)?;
         assert_source(&rt, &database, name, kind, raw);
         assert_eq!(&rt; (database.last(), database.undoable()), (10, 2));
         assert_counter_kept(&rt, &database);
@@ -182,5 +182,45 @@ fn a_resize_keeps_the_old_rows(rt: HostRuntime) -> Result<(), Fail> {
     database.revert()?;
     let rows = [1_000_000, 1_000_000, 2_000_000, 2_000_000];
     assert_rows(&rt, &database, 10, 10, &rows);
+    Ok(())
+}
+
+// ---- archives that come and go
+
+// The archive that went is kept as it was, with the preparation of its unfinished row.
+fn assert_first_kept(rt: &impl Abort, database: &Database) {
+    let Entry::Removed { archive: 0, old } = newest(rt, database) else {
+        panic!(rt; "no removal")
+    };
+    assert_eq!(rt; (old.def().steps, old.def().rows), (2, 3));
+    assert_eq!(rt; old.preps().len(), 1);
+    assert_eq!(rt; old.preps()[0].known(), 1);
+    let rows = old.archive();
+    assert_eq!(rt; rows.rows(), 3);
+    assert_eq!(rt; rows.row(2), [Cell::Known(1_000_000)].as_slice());
+}
+
+#[test]
+fn a_removal_keeps_the_archive(rt: HostRuntime) -> Result<(), Fail> {
+    let alloc = rt.alloc();
+    let lines = "create --step 10 --start 0 DS:g:GAUGE:100:U:U RRA:LAST:0.5:2:3\n\
+tune RRA:LAST:0.5:1:4\nupdate 20:1 30:2\ntune DELRRA:0\n";
+    let mut database = database_of(alloc, lines)?;
+    assert!(&rt; database.archives() == 1);
+    assert_eq!(&rt; database.archive(0).rows, 4);
+    assert_first_kept(&rt, &database);
+    database.revert()?;
+    assert!(&rt; database.archives() == 2);
+    assert_eq!(&rt;
+        (database.archive(0).rows, database.archive(1).rows),
+        (3, 4)
+    );
+    assert_eq!(&rt; database.row_prep(0, 0).known(), 1);
+    database.revert()?;
+    let Entry::Added = newest(&rt, &database) else {
+        return Err(Fail::from("no addition"));
+    };
+    database.revert()?;
+    assert!(&rt; database.archives() == 1);
     Ok(())
 }

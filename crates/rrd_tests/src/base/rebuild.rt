@@ -4,7 +4,7 @@ use crate::shared::databases::NONE;
 use arrayvec::ArrayVec;
 use rrd_base::{
     BeforeUpdate, Database, DsDef, Due, Entry, PieceFault, Rebuild, RraDef, SavedArchive,
-    SourceBefore,
+    SourceBefore, Version,
 };
 use rrd_fixed::{Cell, Kind, Name, Raw};
 use rrd_fold::{Function, RowPrep, StepPrep};
@@ -43,7 +43,9 @@ fn taken(taking: Result<(), PieceFault>) -> Result<(), Fail> {
 }
 
 fn begun(alloc: Global, sources: u64, entries: u64) -> Result<Rebuild, Fail> {
-    Rebuild::begin(alloc, 10, 10, 16, sources, 1, entries).map_err(|_| Fail::from("not begun"))
+    Rebuild::begin(alloc, Version::Two, 10, 10, 16, sources, 1, entries).map_err(|_| Fail::from(
+        "not begun",
+    ))
 }
 
 // The gauge `g` and an archive of four last values, after a sample of 1 at 10: what a file says of it
@@ -104,7 +106,7 @@ fn a_file_made_again_by_its_pieces(rt: HostRuntime) -> Result<(), Fail> {
 fn bad_headers(rt: HostRuntime) -> Result<(), Fail> {
     let alloc = rt.alloc();
     for (step, depth, sources, entries) in [(0, 16, 1, 1), (10, 16, 65, 1), (10, 16, 1, 17)] {
-        let made = Rebuild::begin(alloc, step, 10, depth, sources, 1, entries);
+        let made = Rebuild::begin(alloc, Version::Two, step, 10, depth, sources, 1, entries);
         let Err(fault) = made else {
             return Err(Fail::from("begun"));
         };
@@ -113,7 +115,7 @@ fn bad_headers(rt: HostRuntime) -> Result<(), Fail> {
     Ok(())
 }
 
-// A name twice, and rows for more than 4,000,000 cells of 64 sources.
+// A name twice, and rows for more than 8,000,000 cells of 64 sources.
 #[test]
 fn bad_sources_and_archives(rt: HostRuntime) -> Result<(), Fail> {
     let alloc = rt.alloc();
@@ -129,7 +131,7 @@ fn bad_sources_and_archives(rt: HostRuntime) -> Result<(), Fail> {
         taken(pieces.source(def, Raw::Unknown, 0, 0))?;
         assert_eq!(&rt; pieces.source(again, Raw::Unknown, 0, 0), BAD);
     }
-    assert_eq!(&rt; pieces.archive(archive(1, 62_501)), BAD);
+    assert_eq!(&rt; pieces.archive(archive(1, 125_001)), BAD);
     assert_eq!(&rt; pieces.archive(archive(0, 1)), BAD);
     Ok(())
 }

@@ -5,6 +5,7 @@ use crate::shared::streams::{Manner, PLAIN, Taker};
 use rrd_base::Database;
 use rrd_file::encode;
 use std::alloc::{AllocError, Global};
+use std::process::Abort;
 use std::test::Fail;
 
 // ---- bytes
@@ -50,13 +51,13 @@ pub(crate) fn file_of(alloc: Global, database: &Database) -> Result<Vec<u8>, Fai
 // The file of a new database with the gauge `g` and an archive of four rows.
 const NEW_FILE: &[&[u8]] = &[
     b"RRDI", // mark
-    &[0x00, 0x01], // version
+    &[0x00, 0x02], // version
     &[0x00, 0x00, 0x00, 0x0a], // step
     &[0x00, 0, 0, 0, 0, 0, 0, 0x00], // last time
-    &[0x00, 0x10], // depth
+    &[0x00, 0x00, 0x00, 0x10], // depth
     &[0x00, 0x01], // sources
     &[0x00, 0x01], // archives
-    &[0x00, 0x00], // entries
+    &[0x00, 0x00, 0x00, 0x00], // entries
     &[0x01, 0x67], // name
     &PADDING, //
     &[0x00], // type
@@ -85,13 +86,13 @@ pub(crate) fn new_file(alloc: Global) -> Result<Vec<u8>, AllocError> {
 // The same after a sample of 1 at 10.
 const SAMPLED_FILE: &[&[u8]] = &[
     b"RRDI", // mark
-    &[0x00, 0x01], // version
+    &[0x00, 0x02], // version
     &[0x00, 0x00, 0x00, 0x0a], // step
     &[0x00, 0, 0, 0, 0, 0, 0, 0x0a], // last time
-    &[0x00, 0x10], // depth
+    &[0x00, 0x00, 0x00, 0x10], // depth
     &[0x00, 0x01], // sources
     &[0x00, 0x01], // archives
-    &[0x00, 0x01], // entries
+    &[0x00, 0x00, 0x00, 0x01], // entries
     &[0x01, 0x67], // name
     &PADDING, //
     &[0x00], // type
@@ -127,13 +128,13 @@ pub(crate) fn sampled_file(alloc: Global) -> Result<Vec<u8>, AllocError> {
 // Rows before 1970 in their slots.
 const ROWS_BEFORE_1970: &[&[u8]] = &[
     b"RRDI",
-    &[0x00, 0x01],
+    &[0x00, 0x02],
     &[0x00, 0x00, 0x00, 0x0a],
     &[0x00, 0, 0, 0, 0, 0, 0, 0x23],
+    &[0x00, 0x00, 0x00, 0x02],
     &[0x00, 0x02],
     &[0x00, 0x02],
-    &[0x00, 0x02],
-    &[0x00, 0x01],
+    &[0x00, 0x00, 0x00, 0x01],
     // the source a: five seconds of 2 are known
     &[0x01, 0x61],
     &PADDING,
@@ -216,13 +217,13 @@ const ROWS_BEFORE_1970: &[&[u8]] = &[
 // Three entries, the newest first.
 const THREE_ENTRIES: &[&[u8]] = &[
     b"RRDI",
-    &[0x00, 0x01],
+    &[0x00, 0x02],
     &[0x00, 0x00, 0x00, 0x0a],
     &[0x00, 0, 0, 0, 0, 0, 0, 0x0a],
-    &[0x00, 0x10],
+    &[0x00, 0x00, 0x00, 0x10],
     &[0x00, 0x01],
     &[0x00, 0x01],
-    &[0x00, 0x03],
+    &[0x00, 0x00, 0x00, 0x03],
     // the source, as it was tuned
     &[0x01, 0x67],
     &PADDING,
@@ -277,6 +278,92 @@ const THREE_ENTRIES: &[&[u8]] = &[
 // ---- databases
 
 // Steps of 10 seconds, the gauge `g` and an archive of four last values.
+// A second archive like the first.
+const ONE_ADDED: &[&[u8]] = &[
+    b"RRDI", // mark
+    &[0x00, 0x02], // version
+    &[0x00, 0x00, 0x00, 0x0a], // step
+    &[0x00, 0, 0, 0, 0, 0, 0, 0x00], // last time
+    &[0x00, 0x00, 0x00, 0x10], // depth
+    &[0x00, 0x01], // sources
+    &[0x00, 0x02], // archives
+    &[0x00, 0x00, 0x00, 0x01], // entries
+    &[0x01, 0x67], // name
+    &PADDING, //
+    &[0x00], // type
+    &[0x00, 0, 0, 0, 0, 0, 0, 0x64], // heartbeat
+    &ABSENT, // min
+    &ABSENT, // max
+    &ABSENT, // last raw value
+    &[0x00, 0x00, 0x00, 0x00], // known seconds
+    &ZERO, // their sum
+    &[0x03], // function
+    &[0x00, 0x00, 0x00, 0x01], // steps
+    &[0x00, 0x07, 0xa1, 0x20], // xff
+    &[0x00, 0x00, 0x00, 0x04], // rows
+    &[0x00, 0x00, 0x00, 0x00], // known steps
+    &ZERO, // their value
+    &[0x03], // function
+    &[0x00, 0x00, 0x00, 0x01], // steps
+    &[0x00, 0x07, 0xa1, 0x20], // xff
+    &[0x00, 0x00, 0x00, 0x04], // rows
+    &[0x00, 0x00, 0x00, 0x00], // known steps
+    &ZERO, // their value
+    &ABSENT, // slot 0
+    &ABSENT, // slot 1
+    &ABSENT, // slot 2
+    &ABSENT, // slot 3
+    &ABSENT, // slot 0
+    &ABSENT, // slot 1
+    &ABSENT, // slot 2
+    &ABSENT, // slot 3
+    &[0x04], // an archive was added
+];
+
+// The first one is gone: the journal keeps it as it was.
+const ONE_REMOVED: &[&[u8]] = &[
+    b"RRDI", // mark
+    &[0x00, 0x02], // version
+    &[0x00, 0x00, 0x00, 0x0a], // step
+    &[0x00, 0, 0, 0, 0, 0, 0, 0x00], // last time
+    &[0x00, 0x00, 0x00, 0x10], // depth
+    &[0x00, 0x01], // sources
+    &[0x00, 0x01], // archives
+    &[0x00, 0x00, 0x00, 0x02], // entries
+    &[0x01, 0x67], // name
+    &PADDING, //
+    &[0x00], // type
+    &[0x00, 0, 0, 0, 0, 0, 0, 0x64], // heartbeat
+    &ABSENT, // min
+    &ABSENT, // max
+    &ABSENT, // last raw value
+    &[0x00, 0x00, 0x00, 0x00], // known seconds
+    &ZERO, // their sum
+    &[0x03], // function
+    &[0x00, 0x00, 0x00, 0x01], // steps
+    &[0x00, 0x07, 0xa1, 0x20], // xff
+    &[0x00, 0x00, 0x00, 0x04], // rows
+    &[0x00, 0x00, 0x00, 0x00], // known steps
+    &ZERO, // their value
+    &ABSENT, // slot 0
+    &ABSENT, // slot 1
+    &ABSENT, // slot 2
+    &ABSENT, // slot 3
+    &[0x05], // an archive was removed
+    &[0x00, 0x00], // its number
+    &[0x03], // function
+    &[0x00, 0x00, 0x00, 0x01], // steps
+    &[0x00, 0x07, 0xa1, 0x20], // xff
+    &[0x00, 0x00, 0x00, 0x04], // rows
+    &[0x00, 0x00, 0x00, 0x00], // known steps
+    &ZERO, // their value
+    &ABSENT, // row 0
+    &ABSENT, // row 1
+    &ABSENT, // row 2
+    &ABSENT, // row 3
+    &[0x04], // an archive was added
+];
+
 const NEW: &str = "create --step 10 --start 0 DS:g:GAUGE:100:U:U RRA:LAST:0.5:1:4\n";
 
 pub(crate) const SAMPLED: &str = "create --step 10 --start 0 DS:g:GAUGE:100:U:U RRA:LAST:0.5:1:4\n\
@@ -318,15 +405,38 @@ update 20:1\n";
 // The lines of several databases.
 pub(crate) const DATABASES: &[&str] = &[NEW, SAMPLED, TWO_SOURCES, THREE_CHANGES, HALF_A_ROW];
 
+// A second archive is added, and then the first one is removed.
+const ADDED: &str = "create --step 10 --start 0 DS:g:GAUGE:100:U:U RRA:LAST:0.5:1:4\n\
+tune RRA:LAST:0.5:1:4\n";
+
+pub(crate) const REMOVED: &str = "create --step 10 --start 0 DS:g:GAUGE:100:U:U RRA:LAST:0.5:1:4\n\
+tune RRA:LAST:0.5:1:4\n\
+tune DELRRA:0\n";
+
+// Archives come and go among other changes, in the middle of steps and of rows.
+pub(crate) const ARCHIVES_CHANGED: &str =
+    "create --step 10 --start 0 DS:a:GAUGE:100:U:U DS:b:COUNTER:100:U:U RRA:LAST:0.5:3:4\n\
+update 13:1:5 27:2:9\n\
+tune RRA:AVERAGE:0.5:2:3\n\
+update 44:3:12\n\
+resize 0 GROW 2\n\
+tune DELRRA:0\n\
+update 71:4:20\n\
+tune -r a:c\n\
+tune RRA:MAX:0:1:2\n\
+tune DELRRA:0\n";
+
 // ---- tests
 
 // Lines, the file of the database that they make, and how long that is.
 const FILES: &[(&str, &[&[u8]], usize)] = &[
-    (NEW, NEW_FILE, 220),
-    (SAMPLED, SAMPLED_FILE, 305),
-    (TAKEN_BACK, NEW_FILE, 220),
-    (TWO_SOURCES_SAMPLED, ROWS_BEFORE_1970, 911),
-    (THREE_CHANGES, THREE_ENTRIES, 490),
+    (NEW, NEW_FILE, 224),
+    (SAMPLED, SAMPLED_FILE, 309),
+    (TAKEN_BACK, NEW_FILE, 224),
+    (TWO_SOURCES_SAMPLED, ROWS_BEFORE_1970, 915),
+    (THREE_CHANGES, THREE_ENTRIES, 494),
+    (ADDED, ONE_ADDED, 322),
+    (REMOVED, ONE_REMOVED, 325),
 ];
 
 #[test]
@@ -353,8 +463,8 @@ fn a_file_goes_behind_what_is_there(rt: HostRuntime) -> Result<(), Fail> {
     Ok(())
 }
 
-// After how many bytes a writer fails, and whether a file of 220 is whole then.
-const ROOMS: &[(usize, bool)] = &[(100, false), (219, false), (220, true)];
+// After how many bytes a writer fails, and whether a file of 224 is whole then.
+const ROOMS: &[(usize, bool)] = &[(100, false), (223, false), (224, true)];
 
 #[test]
 fn a_writer_that_fails_has_a_front(rt: HostRuntime) -> Result<(), Fail> {
@@ -375,20 +485,30 @@ fn a_writer_that_fails_has_a_front(rt: HostRuntime) -> Result<(), Fail> {
     Ok(())
 }
 
-// These rows fill a block of 32,768 bytes and more: 156 bytes before the cells, and 16 for each.
+// These rows fill a block of 32,768 bytes and more: 160 bytes before the cells, and 16 for each.
 #[test]
 fn a_long_file_goes_out_in_blocks(rt: HostRuntime) -> Result<(), Fail> {
     let alloc = rt.alloc();
     let lines = "create --step 10 --start 0 DS:g:GAUGE:100:U:U RRA:LAST:0.5:1:2100\n";
     let database = database_of(alloc, lines)?;
     let new = new_file(alloc)?;
-    let head = new.get(..132).ok_or("short")?;
+    let head = new.get(..136).ok_or("short")?;
     let mut wanted = joined(alloc, &[head, &[0x00, 0x00, 0x08, 0x34], &NOTHING])?;
     for _ in 0..2_100 {
         wanted.extend_from_slice(&ABSENT)?;
     }
-    assert_eq!(&rt; wanted.len(), 33_756);
+    assert_eq!(&rt; wanted.len(), 33_760);
     assert_eq!(&rt; file_of(alloc, &database)?.as_slice(), wanted.as_slice());
+    assert_breaks_off(&rt, alloc, &database, &wanted)
+}
+
+// A writer that takes 33,000 bytes has so many of the file's.
+fn assert_breaks_off(
+    rt: &impl Abort,
+    alloc: Global,
+    database: &Database,
+    wanted: &[u8],
+) -> Result<(), Fail> {
     let writing = Manner {
         at_once: 7,
         interrupts: 1,
@@ -396,7 +516,7 @@ fn a_long_file_goes_out_in_blocks(rt: HostRuntime) -> Result<(), Fail> {
         ..PLAIN
     };
     let mut out = Taker::new(alloc, writing, PLAIN);
-    assert!(&rt; encode(&database, &mut out).is_err());
-    assert_eq!(&rt; out.taken.as_slice(), wanted.get(..33_000).ok_or("short")?);
+    assert!(rt; encode(database, &mut out).is_err());
+    assert_eq!(rt; out.taken.as_slice(), wanted.get(..33_000).ok_or("short")?);
     Ok(())
 }

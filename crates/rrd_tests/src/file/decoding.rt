@@ -1,11 +1,13 @@
 //! Files that are read back: whole ones, cut ones, ones with a wrong byte, and readers that fail; and the
 //! texts of faults.
 use crate::file::bytes::{
-    DATABASES, FOUR_CHANGES, SAMPLED, THREE_CHANGES, file_of, new_file, sampled_file,
+    ARCHIVES_CHANGED, DATABASES, FOUR_CHANGES, REMOVED, SAMPLED, THREE_CHANGES, file_of, new_file,
+    sampled_file,
 };
 use crate::shared::databases::database_of;
 use crate::shared::joined;
 use crate::shared::streams::{Giver, Manner, PLAIN};
+use rrd_base::Database;
 use rrd_file::{FileFault, decode};
 use std::alloc::Global;
 use std::mem;
@@ -22,37 +24,60 @@ fn fault_of(alloc: Global, bytes: &[u8]) -> Option<FileFault> {
     }
 }
 
-// The file of what is read.
-fn again(alloc: Global, bytes: &[u8]) -> Result<Vec<u8>, Fail> {
+fn read_from(alloc: Global, bytes: &[u8]) -> Result<Database, Fail> {
     match decode(alloc, bytes) {
-        Ok(database) => file_of(alloc, &database),
+        Ok(database) => Ok(database),
         Err(_) => Err(Fail::from("no database")),
     }
 }
 
+// The file of what is read.
+fn again(alloc: Global, bytes: &[u8]) -> Result<Vec<u8>, Fail> {
+    file_of(alloc, &read_from(alloc, bytes)?)
+}
+
 // The bytes with another one at a place.
-fn changed(alloc: Global, bytes: &[u8], at: usize, byte: u8) -> Result<Vec<u8>, Fail> {
+pub(crate) fn changed(alloc: Global, bytes: &[u8], at: usize, byte: u8) -> Result<Vec<u8>, Fail> {
     let mut copy = joined(alloc, &[bytes])?;
     *copy.get_mut(at).ok_or("short")? = byte;
     Ok(copy)
 }
 
+fn assert_same_file(
+    rt: &impl Abort,
+    alloc: Global,
+    one: &Database,
+    other: &Database,
+) -> Result<(), Fail> {
+    let (one, other) = (file_of(alloc, one)?, file_of(alloc, other)?);
+    assert_eq!(rt; one.as_slice(), other.as_slice());
+    Ok(())
+}
+
+// Two databases have the same file, and after each revert again.
+fn assert_revert_alike(
+    rt: &impl Abort,
+    alloc: Global,
+    one: &mut Database,
+    other: &mut Database,
+) -> Result<(), Fail> {
+    assert_same_file(rt, alloc, one, other)?;
+    for _ in 0..other.undoable() {
+        assert!(rt; other.revert().is_ok());
+        assert!(rt; one.revert().is_ok());
+        assert_same_file(rt, alloc, one, other)?;
+    }
+    assert!(rt; one.revert().is_err());
+    Ok(())
+}
+
 #[test]
 fn what_is_read_reverts_as_what_was_written(rt: HostRuntime) -> Result<(), Fail> {
     let alloc = rt.alloc();
-    for lines in [THREE_CHANGES, FOUR_CHANGES] {
+    for lines in [THREE_CHANGES, FOUR_CHANGES, REMOVED, ARCHIVES_CHANGED] {
         let mut written = database_of(alloc, lines)?;
-        let bytes = file_of(alloc, &written)?;
-        let Ok(mut read) = decode(alloc, bytes.as_slice()) else {
-            return Err(Fail::from("no database"));
-        };
-        for _ in 0..written.undoable() {
-            assert!(&rt; written.revert().is_ok());
-            assert!(&rt; read.revert().is_ok());
-            let wanted = file_of(alloc, &written)?;
-            assert_eq!(&rt; file_of(alloc, &read)?.as_slice(), wanted.as_slice());
-        }
-        assert!(&rt; read.revert().is_err());
+        let mut read = read_from(alloc, &file_of(alloc, &written)?)?;
+        assert_revert_alike(&rt, alloc, &mut read, &mut written)?;
     }
     Ok(())
 }
@@ -90,18 +115,120 @@ fn a_file_with_four_entries_is_read_whole_alone(rt: HostRuntime) -> Result<(), F
     assert_whole_alone(&rt, alloc, &bytes)
 }
 
-// A byte of the file with a sample, what it is changed to, and the fault then. The source begins at 26,
-// the archive's head at 123, its cells at 156, and the entry at 220.
+#[test]
+fn files_of_changed_archives_are_read_whole_alone(rt: HostRuntime) -> Result<(), Fail> {
+    let alloc = rt.alloc();
+    for lines in [REMOVED, ARCHIVES_CHANGED] {
+        let bytes = file_of(alloc, &database_of(alloc, lines)?)?;
+        assert_whole_alone(&rt, alloc, &bytes)?;
+    }
+    Ok(())
+}
+
+// A byte of the file whose first archive was removed, what it is changed to, and the entry that is bad
+// then. The removal begins at 224, its archive's settings at 227, the preparation at 240, the cells at 260, and
+// the addition at 324.
+const WRONG_REMOVALS: &[(usize, u8, u64)] = &[
+    (224, 6, 1), // no tag
+    (226, 2, 1), // behind the archive that would come after the last
+    (227, 4, 1), // no function
+    (239, 0, 1), // no row
+    (243, 1, 1), // a known step where each makes a row
+    (260, 127, 1), // past the greatest rate
+    (308, 127, 1), // the last cell
+    (324, 0, 2), // no tag
+];
+
+#[test]
+fn a_wrong_byte_of_a_removal_has_its_entry(rt: HostRuntime) -> Result<(), Fail> {
+    let alloc = rt.alloc();
+    let bytes = file_of(alloc, &database_of(alloc, REMOVED)?)?;
+    for (at, byte, number) in WRONG_REMOVALS {
+        let wrong = changed(alloc, &bytes, *at, *byte)?;
+        let fault = FileFault::BadEntry { number: *number };
+        assert_eq!(&rt; fault_of(alloc, &wrong), Some(fault), "{at}");
+    }
+    Ok(())
+}
+
+// The first version has no archive that came or went: the tag is bad, also where nothing stands behind it.
+#[test]
+fn no_archive_comes_or_goes_in_the_first_version(rt: HostRuntime) -> Result<(), Fail> {
+    let alloc = rt.alloc();
+    let bytes = file_of(alloc, &database_of(alloc, REMOVED)?)?;
+    let first = in_first_version(alloc, &bytes)?;
+    let fault = Some(FileFault::BadEntry { number: 1 });
+    assert_eq!(&rt; fault_of(alloc, &first), fault);
+    let cut = first.get(..221).ok_or("short")?;
+    assert_eq!(&rt; fault_of(alloc, cut), fault);
+    let announced = changed(alloc, &new_file(alloc)?, 29, 1)?;
+    for tag in [4u8, 5] {
+        let newest = joined(alloc, &[&announced, &[tag]])?;
+        let first = in_first_version(alloc, &newest)?;
+        assert_eq!(&rt; fault_of(alloc, &first), fault);
+    }
+    // An addition leaves an archive before it.
+    let newest = joined(alloc, &[&announced, &[4]])?;
+    assert_eq!(&rt; fault_of(alloc, &newest), fault);
+    let newest = joined(alloc, &[&announced, &[5]])?;
+    assert_eq!(&rt;
+        fault_of(alloc, &newest),
+        Some(FileFault::Truncated { at: 225 })
+    );
+    Ok(())
+}
+
+// A byte of the file with a sample, what it is changed to, and the fault then. The source begins at 30,
+// the archive's head at 127, its cells at 160, and the entry at 224.
 const WRONG_BYTES: &[(usize, u8, FileFault)] = &[
     (0, 83, FileFault::NotOurs),
+    (0, 0, FileFault::NotOurs),
     (3, 0, FileFault::NotOurs),
     (4, 1, FileFault::Version),
     (5, 0, FileFault::Version),
-    (5, 2, FileFault::Version),
+    (5, 3, FileFault::Version),
+    (5, 1, FileFault::BadBlock { at: 6 }), // a header of the first version, with no depth
+    (9, 0, FileFault::BadBlock { at: 6 }), // no step
+    (12, 1, FileFault::BadBlock { at: 6 }), // a last time past 9,999,999,999
+    (21, 0, FileFault::BadBlock { at: 6 }), // no depth
+    (29, 17, FileFault::BadBlock { at: 6 }), // more entries than the depth
+    (30, 20, FileFault::BadBlock { at: 30 }), // a name of 20
+    (31, 45, FileFault::BadBlock { at: 30 }), // a name with a hyphen
+    (49, 1, FileFault::BadBlock { at: 30 }), // a character behind the name
+    (50, 4, FileFault::BadBlock { at: 30 }), // no type
+    (58, 0, FileFault::BadBlock { at: 30 }), // no heartbeat
+    (110, 1, FileFault::BadBlock { at: 30 }), // a known second where the step begins anew
+    (127, 4, FileFault::BadBlock { at: 127 }), // no function
+    (139, 0, FileFault::BadBlock { at: 127 }), // no row
+    (143, 1, FileFault::BadBlock { at: 140 }), // a known step where each makes a row
+    (160, 127, FileFault::BadBlock { at: 160 }), // past the greatest rate
+    (208, 127, FileFault::BadBlock { at: 208 }), // the last cell
+    (224, 4, FileFault::BadEntry { number: 1 }), // an archive added, where there is one alone
+    (224, 6, FileFault::BadEntry { number: 1 }), // no tag
+    (232, 10, FileFault::BadEntry { number: 1 }), // not before the last time
+    (292, 2, FileFault::BadEntry { number: 1 }), // two rows were not replaced
+    (293, 127, FileFault::BadEntry { number: 1 }), // past the greatest rate
+];
+
+// The same of that file in the first version, what it is changed to, and the fault then. The source begins at 26,
+// the archive's head at 123, its cells at 156, and the entry at 220.
+const WRONG_FIRST_BYTES: &[(usize, u8, FileFault)] = &[
+    (0, 83, FileFault::NotOurs),
+    (0, 0, FileFault::NotOurs),
+    (3, 0, FileFault::NotOurs),
+    (4, 1, FileFault::Version),
+    (5, 0, FileFault::Version),
+    (5, 3, FileFault::Version),
+    (5, 2, FileFault::BadBlock { at: 6 }), // a header of the second version
+    (18, 4, FileFault::BadBlock { at: 6 }), // a depth of 1,040
+    (23, 65, FileFault::BadBlock { at: 6 }), // 65 archives
     (9, 0, FileFault::BadBlock { at: 6 }), // no step
     (12, 1, FileFault::BadBlock { at: 6 }), // a last time past 9,999,999,999
     (19, 0, FileFault::BadBlock { at: 6 }), // no depth
     (25, 17, FileFault::BadBlock { at: 6 }), // more entries than the depth
+    (25, 2, FileFault::Truncated { at: 305 }), // two entries
+    (25, 0, FileFault::Trailing { at: 220 }), // no entry
+    (21, 0, FileFault::BadBlock { at: 6 }), // no source
     (26, 20, FileFault::BadBlock { at: 26 }), // a name of 20
     (27, 45, FileFault::BadBlock { at: 26 }), // a name with a hyphen
     (45, 1, FileFault::BadBlock { at: 26 }), // a character behind the name
@@ -113,8 +240,10 @@ const WRONG_BYTES: &[(usize, u8, FileFault)] = &[
     (139, 1, FileFault::BadBlock { at: 136 }), // a known step where each makes a row
     (156, 127, FileFault::BadBlock { at: 156 }), // past the greatest rate
     (204, 127, FileFault::BadBlock { at: 204 }), // the last cell
-    (220, 4, FileFault::BadEntry { number: 1 }), // no tag
+    (220, 4, FileFault::BadEntry { number: 1 }), // no tag of this version
+    (220, 5, FileFault::BadEntry { number: 1 }), // nor this
     (228, 10, FileFault::BadEntry { number: 1 }), // not before the last time
+    (248, 1, FileFault::BadEntry { number: 1 }), // a known second where the step began
     (288, 2, FileFault::BadEntry { number: 1 }), // two rows were not replaced
     (289, 127, FileFault::BadEntry { number: 1 }), // past the greatest rate
 ];
@@ -126,6 +255,60 @@ fn a_wrong_byte_has_its_place(rt: HostRuntime) -> Result<(), Fail> {
     for (at, byte, fault) in WRONG_BYTES {
         let wrong = changed(alloc, &bytes, *at, *byte)?;
         assert_eq!(&rt; fault_of(alloc, &wrong), Some(*fault), "{at}");
+    }
+    Ok(())
+}
+
+// A file in the first version, of one in the second: its counts have two bytes.
+pub(crate) fn in_first_version(alloc: Global, bytes: &[u8]) -> Result<Vec<u8>, Fail> {
+    let times = bytes.get(6..18).ok_or("short")?;
+    let depth = bytes.get(20..26).ok_or("short")?;
+    let rest = bytes.get(28..).ok_or("short")?;
+    Ok(joined(alloc, &[b"RRDI\0\x01", times, depth, rest])?)
+}
+
+#[test]
+fn a_wrong_byte_of_the_first_version_has_its_place(rt: HostRuntime) -> Result<(), Fail> {
+    let alloc = rt.alloc();
+    let bytes = in_first_version(alloc, &sampled_file(alloc)?)?;
+    assert_eq!(&rt; bytes.len(), 305);
+    for (at, byte, fault) in WRONG_FIRST_BYTES {
+        let wrong = changed(alloc, &bytes, *at, *byte)?;
+        assert_eq!(&rt; fault_of(alloc, &wrong), Some(*fault), "{at}");
+    }
+    Ok(())
+}
+
+// A byte of that file, what it is changed to, how many bytes are left, and the fault then: a piece of the entry that is
+// whole is told, though the input ends in a later one.
+const WRONG_AND_CUT: &[(usize, u8, usize, FileFault)] = &[
+    (220, 4, 265, FileFault::BadEntry { number: 1 }),
+    (228, 10, 265, FileFault::BadEntry { number: 1 }),
+    (248, 1, 265, FileFault::BadEntry { number: 1 }),
+    (248, 1, 264, FileFault::Truncated { at: 264 }),
+];
+
+#[test]
+fn a_wrong_entry_is_told_before_its_end(rt: HostRuntime) -> Result<(), Fail> {
+    let alloc = rt.alloc();
+    let bytes = in_first_version(alloc, &sampled_file(alloc)?)?;
+    for (at, byte, length, fault) in WRONG_AND_CUT {
+        let wrong = changed(alloc, &bytes, *at, *byte)?;
+        let front = wrong.get(..*length).ok_or("short")?;
+        assert_eq!(&rt; fault_of(alloc, front), Some(*fault), "{at} {length}");
+    }
+    Ok(())
+}
+
+// It is read to the database that it stood for, and reverted, and is written in the second version.
+#[test]
+fn the_first_version_is_written_in_the_second(rt: HostRuntime) -> Result<(), Fail> {
+    let alloc = rt.alloc();
+    for lines in DATABASES {
+        let mut made = database_of(alloc, lines)?;
+        let first = in_first_version(alloc, &file_of(alloc, &made)?)?;
+        let mut read = read_from(alloc, &first)?;
+        assert_revert_alike(&rt, alloc, &mut read, &mut made)?;
     }
     Ok(())
 }
@@ -186,6 +369,11 @@ fn a_changed_file_is_another_or_none(rt: HostRuntime) -> Result<(), Fail> {
     assert_others_or_none(&rt, alloc, THREE_CHANGES)
 }
 
+#[test]
+fn a_changed_file_of_a_removal_is_another_or_none(rt: HostRuntime) -> Result<(), Fail> {
+    assert_others_or_none(&rt, rt.alloc(), REMOVED)
+}
+
 // Each byte changed to each other value. A built test takes a few seconds; an unproved run, which takes
 // a hundred times as long, ends where it is after ten.
 #[test]
@@ -215,7 +403,7 @@ const READERS: &[(u64, usize, Option<FileFault>)] = &[
     (1_001, usize::MAX, Some(FileFault::Read)),
     (0, 0, Some(FileFault::Read)),
     (0, 100, Some(FileFault::Read)),
-    (0, 305, Some(FileFault::Read)),
+    (0, 309, Some(FileFault::Read)),
 ];
 
 #[test]
@@ -239,7 +427,7 @@ fn short_reads_interrupts_and_failures(rt: HostRuntime) -> Result<(), Fail> {
         ..PLAIN
     };
     let end = decode(alloc, Giver::new(&longer, manner));
-    assert_eq!(&rt; end.err(), Some(FileFault::Trailing { at: 305 }));
+    assert_eq!(&rt; end.err(), Some(FileFault::Trailing { at: 309 }));
     Ok(())
 }
 
@@ -249,9 +437,9 @@ fn a_long_file(rt: HostRuntime) -> Result<(), Fail> {
     let alloc = rt.alloc();
     let lines = "create --step 10 --start 0 DS:g:GAUGE:100:U:U RRA:LAST:0.5:1:10000\n";
     let bytes = file_of(alloc, &database_of(alloc, lines)?)?;
-    assert_eq!(&rt; bytes.len(), 160_156);
+    assert_eq!(&rt; bytes.len(), 160_160);
     assert_eq!(&rt; again(alloc, &bytes)?.as_slice(), bytes.as_slice());
-    for length in [65_535, 65_536, 65_537, 131_072, 160_155] {
+    for length in [65_535, 65_536, 65_537, 131_072, 160_159] {
         let front = bytes.get(..length).ok_or("short")?;
         let at = length as u64;
         assert_eq!(&rt; fault_of(alloc, front), Some(FileFault::Truncated { at }));

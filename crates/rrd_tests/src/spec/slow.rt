@@ -1,9 +1,5 @@
 //! Worked examples, by the slow program and by the database, as the lines of batches ask for them.
-use crate::shared::batches::Case;
 use crate::shared::databases::{NONE, cell, command_of};
-use crate::tool::batches::cases::{
-    CATCH_UP_AND_TIES, FIRST_PATH, HEARTBEAT_EDGE, ROAD_COUNTER_COARSE,
-};
 use rrd_base::{Chosen, CreateSpec, Database, Given, List, Update, check_create};
 use rrd_fixed::{Cell, Kind, Raw, admit};
 use rrd_fold::Function;
@@ -14,11 +10,11 @@ use std::alloc::Global;
 use std::process::Abort;
 use std::test::Fail;
 
-// A batch whose first lines make a database of one source and update it, and what its archive of
-// averages then shows.
+// Lines that make a database of one source and update it, and what its archive of averages then shows.
 #[derive(Clone, Copy)]
 struct Example<'a> {
-    case: Case<'a>,
+    name: &'a str,
+    lines: &'a str,
     // The times of the archive's rows since the start, and their cells.
     rows: &'a [(i64, Cell)],
     // What a fetch of about so many seconds a row reads, from the start to the last sample.
@@ -33,15 +29,15 @@ struct Request {
     updates: List<Update>,
 }
 
-fn asked(alloc: Global, case: Case<'_>) -> Result<Request, Fail> {
-    let mut lines = case.1.split('\n');
+fn asked(alloc: Global, lines: &str) -> Result<Request, Fail> {
+    let mut lines = lines.split('\n');
     let Command::Create(spec) = command_of(alloc, lines.next().ok_or("no line")?)? else {
         return Err(Fail::from("no create"));
     };
     let mut updates = List::new(alloc);
     for line in lines {
         let Command::Update(update) = command_of(alloc, line)? else {
-            break;
+            return Err(Fail::from("no update"));
         };
         updates.push(update)?;
     }
@@ -85,7 +81,7 @@ fn readings(alloc: Global, asked: &Request) -> Result<List<Reading>, Fail> {
 }
 
 fn shown_by_slow_program(rt: &impl Abort, alloc: Global, example: Example<'_>) -> Result<(), Fail> {
-    let asked = asked(alloc, example.case)?;
+    let asked = asked(alloc, example.lines)?;
     let readings = readings(alloc, &asked)?;
     let number = example.fetched.archive as usize;
     assert!(rt; number < asked.spec.archives.len());
@@ -102,7 +98,7 @@ fn shown_by_slow_program(rt: &impl Abort, alloc: Global, example: Example<'_>) -
         assert!(rt; are_accepted(asked.spec.sources.as_slice(), reading.raws.as_slice()));
     }
     let rows = rows(alloc, &asked.spec, number, readings.as_slice())?;
-    let name = example.case.0;
+    let name = example.name;
     assert_eq!(rt; rows.len(), example.rows.len(), "{name}");
     for (place, row) in example.rows.iter().enumerate() {
         assert_eq!(rt; rows.get(place).as_slice(), [row.1].as_slice(), "{name}");
@@ -111,7 +107,7 @@ fn shown_by_slow_program(rt: &impl Abort, alloc: Global, example: Example<'_>) -
 }
 
 fn shown_by_database(rt: &impl Abort, alloc: Global, example: Example<'_>) -> Result<(), Fail> {
-    let Request { spec, updates } = asked(alloc, example.case)?;
+    let Request { spec, updates } = asked(alloc, example.lines)?;
     let start = spec.start;
     let mut database = Database::create(alloc, spec)?;
     for update in updates.as_slice() {
@@ -119,7 +115,7 @@ fn shown_by_database(rt: &impl Abort, alloc: Global, example: Example<'_>) -> Re
     }
     let last = database.last();
     let fetched = database.choose(Function::Average, example.resolution, start, last)?;
-    let name = example.case.0;
+    let name = example.name;
     assert_eq!(rt; fetched, example.fetched, "{name}");
     for (time, wanted) in example.rows {
         let shown = cell(rt, &database, fetched.archive, *time, 0);
@@ -130,7 +126,10 @@ fn shown_by_database(rt: &impl Abort, alloc: Global, example: Example<'_>) -> Re
 
 const EXAMPLES: &[Example<'_>] = &[
     Example {
-        case: FIRST_PATH,
+        name: "first_path",
+        lines: "create --step 10 --start 0 DS:g:GAUGE:100:U:U RRA:AVERAGE:0.5:1:4\n\
+update 10:1\n\
+update 20:2",
         rows: &[(10, Cell::Known(1_000_000)), (20, Cell::Known(2_000_000))],
         resolution: 1,
         fetched: Chosen {
@@ -142,7 +141,10 @@ const EXAMPLES: &[Example<'_>] = &[
     },
     // An interval as long as the heartbeat, and one a second longer.
     Example {
-        case: HEARTBEAT_EDGE,
+        name: "heartbeat_edge",
+        lines: "create --step 100 --start 1000 DS:g:GAUGE:200:U:U RRA:AVERAGE:0.5:1:10\n\
+update 1200:5\n\
+update 1401:7",
         rows: &[
             (1100, Cell::Known(5_000_000)),
             (1200, Cell::Known(5_000_000)),
@@ -159,7 +161,10 @@ const EXAMPLES: &[Example<'_>] = &[
     },
     // A step of two samples, and a sample of several steps.
     Example {
-        case: CATCH_UP_AND_TIES,
+        name: "catch_up_and_ties",
+        lines: "create --step 10 --start 0 DS:g:GAUGE:100:U:U RRA:AVERAGE:0.5:1:4\n\
+update 5:2\n\
+update 35:4",
         rows: &[
             (10, Cell::Known(3_000_000)),
             (20, Cell::Known(4_000_000)),
@@ -176,7 +181,11 @@ const EXAMPLES: &[Example<'_>] = &[
     // The counter of rrdtool's manual, by half hours: the first is the average of the five known steps
     // 40000, 20000, 0, 0 and 33333 millionths.
     Example {
-        case: ROAD_COUNTER_COARSE,
+        name: "road_counter_coarse",
+        lines: "create --start 920804400 --step 300 DS:speed:COUNTER:600:U:U RRA:AVERAGE:0.5:1:24 RRA:AVERAGE:0.5:6:10\n\
+update 920804700:12345 920805000:12357 920805300:12363 920805600:12363 920805900:12363\n\
+update 920806200:12373 920806500:12383 920806800:12393 920807100:12399 920807400:12405\n\
+update 920807700:12411 920808000:12415 920808300:12420 920808600:12422 920808900:12423",
         rows: &[
             (920_806_200, Cell::Known(18_667)),
             (920_808_000, Cell::Known(23_333)),

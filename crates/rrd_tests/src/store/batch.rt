@@ -3,7 +3,7 @@ use super::place::InMemory;
 use super::single::{CREATE, assert_step};
 use crate::shared::streams::{Giver, Manner, PLAIN};
 use rrd_file::FileFault;
-use rrd_store::{FileBatchEnd, TaskFault, run_file_batch};
+use rrd_store::{Access, FileBatchEnd, TaskFault, run_file_batch};
 use rrd_tool::StreamFault;
 use std::test::Fail;
 
@@ -28,7 +28,9 @@ fn a_batch_over_a_place(rt: HostRuntime) -> Result<(), Fail> {
     let end = run_file_batch(alloc, 0, &mut place, &mut lines.as_bytes(), &mut out);
     assert_eq!(&rt; end.ok(), ended(1, None, None));
     assert_eq!(&rt; out.as_slice(), b"10\nERROR: usage\n".as_slice());
-    assert_eq!(&rt; place.bytes.len(), 305);
+    assert_eq!(&rt; place.bytes.len(), 309);
+    assert_eq!(&rt; place.access, Some(Access::Change));
+    assert_eq!(&rt; place.expected, Some(309));
     // What was read is what the next lines run over, and they are stored after a failed read too.
     let lines = b"last\nrevert\nlast\nupda";
     let mut input = Giver::new(
@@ -42,7 +44,7 @@ fn a_batch_over_a_place(rt: HostRuntime) -> Result<(), Fail> {
     let end = run_file_batch(alloc, 0, &mut place, &mut input, &mut out);
     assert_eq!(&rt; end.ok(), ended(0, Some(StreamFault::Read), None));
     assert_eq!(&rt; out.as_slice(), b"10\n0\n".as_slice());
-    assert_eq!(&rt; place.bytes.len(), 220);
+    assert_eq!(&rt; place.bytes.len(), 224);
     Ok(())
 }
 
@@ -54,11 +56,11 @@ fn a_batch_that_stores_nothing(rt: HostRuntime) -> Result<(), Fail> {
     let end = run_file_batch(alloc, 0, &mut place, &mut b"last\n".as_slice(), &mut out);
     assert_eq!(&rt; end.ok(), ended(1, None, None));
     assert!(&rt; place.bytes.is_empty());
-    assert_step(&rt, alloc, &mut place, &(CREATE, "", "", 220))?;
-    place.empties = false;
+    assert_step(&rt, alloc, &mut place, &(CREATE, "", "", 224))?;
+    place.begins = false;
     let end = run_file_batch(alloc, 0, &mut place, &mut b"last\n".as_slice(), &mut out);
     assert_eq!(&rt; end.ok(), ended(0, None, Some(TaskFault::CannotWrite)));
-    assert_eq!(&rt; place.bytes.len(), 220);
+    assert_eq!(&rt; place.bytes.len(), 224);
     Ok(())
 }
 

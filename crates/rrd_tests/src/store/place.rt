@@ -1,32 +1,51 @@
 //! A place in memory that may fail.
 ghost use Rattle.std.specs.Prelude.{Some};
 
-use rrd_store::Place;
+use rrd_store::{Access, Place};
 use std::alloc::{AllocError, Global};
 use std::io::{self, Cursor, Error, ErrorKind, Write};
 
-// Bytes in memory, of which none are no file. It may refuse to be opened or emptied, and takes no more
-// bytes than it has room for.
+// Bytes in memory, of which none are no file. It may refuse to be opened, or a change to begin or to end,
+// and takes no more bytes than it has room for. Where those of a change are not all written, it keeps its
+// own or what was written.
 #[derive(Drop)]
 pub(crate) struct InMemory {
+    alloc: Global,
     pub(crate) bytes: Vec<u8>,
     pub(crate) opens: bool,
-    pub(crate) empties: bool,
+    pub(crate) begins: bool,
+    pub(crate) ends: bool,
+    pub(crate) keeps: bool,
     pub(crate) room: usize,
+    // What it was opened for last, and how many bytes it was told to expect.
+    pub(crate) access: Option<Access>,
+    pub(crate) expected: Option<u64>,
+}
+
+// The bytes of a change.
+#[derive(Drop)]
+pub(crate) struct Waiting {
+    bytes: Vec<u8>,
+    room: usize,
 }
 
 impl InMemory {
     pub(crate) fn with(alloc: Global, bytes: &[u8]) -> Result<InMemory, AllocError> {
         Ok(InMemory {
+            alloc,
             bytes: Vec::from_slice(alloc, bytes)?,
             opens: true,
-            empties: true,
+            begins: true,
+            ends: true,
+            keeps: false,
             room: usize::MAX,
+            access: None,
+            expected: None,
         })
     }
 }
 
-impl Write for InMemory {
+impl Write for Waiting {
     ghost contents = { λ s. Some s.bytes.items };
 
     fn write(&mut self, buf: &[u8]) -> io::Result<usize> {
@@ -42,9 +61,14 @@ impl Write for InMemory {
 }
 
 impl Place for InMemory {
+    ghost contents = { λ s. Some s.bytes.items };
+
     type Reader = Cursor<Vec<u8>>;
 
-    fn open(&self) -> io::Result<Option<Cursor<Vec<u8>>>> {
+    type Writer = Waiting;
+
+    fn open(&mut self, access: Access) -> io::Result<Option<Cursor<Vec<u8>>>> {
+        self.access = Some(access);
         if !self.opens {
             return Err(Error::from(ErrorKind::PermissionDenied));
         }
@@ -54,11 +78,28 @@ impl Place for InMemory {
         Ok(Some(Cursor::new(self.bytes.clone()?)))
     }
 
-    fn empty(&mut self) -> io::Result<()> {
-        if !self.empties {
+    fn begin(&mut self, length: u64) -> io::Result<Waiting> {
+        self.expected = Some(length);
+        if !self.begins {
             return Err(Error::from(ErrorKind::PermissionDenied));
         }
-        self.bytes.clear();
+        Ok(Waiting {
+            bytes: Vec::new(self.alloc),
+            room: self.room,
+        })
+    }
+
+    fn end(&mut self, writer: Waiting) -> io::Result<()> {
+        if !self.ends {
+            return Err(Error::from(ErrorKind::Other));
+        }
+        self.bytes = writer.bytes;
         Ok(())
+    }
+
+    fn give_up(&mut self, writer: Waiting) {
+        if !self.keeps {
+            self.bytes = writer.bytes;
+        }
     }
 }

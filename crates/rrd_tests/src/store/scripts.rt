@@ -51,7 +51,7 @@ const CREATES: [&str; 6] = [
 ];
 
 // Lines of each kind, most of them updates and most of them accepted.
-const OTHERS: [&str; 42] = [
+const OTHERS: [&str; 47] = [
     "update @:#:#",
     "update @:#:#",
     "update @:#:##",
@@ -74,6 +74,11 @@ const OTHERS: [&str; 42] = [
     "tune -r $:c",
     "tune -r c:$ --maximum c:U",
     "tune",
+    "tune RRA:%:0.5:1:#",
+    "tune RRA:%:0.#:#:#",
+    "tune DELRRA:0",
+    "tune DELRRA:#",
+    "tune -r a:b RRA:%:0.5:1:4",
     "resize 0 GROW #",
     "resize 0 SHRINK #",
     "resize 1 GROW #",

@@ -4,7 +4,7 @@ use crate::file::bytes::{new_file, sampled_file};
 use crate::shared::streams::{Manner, PLAIN, Taker};
 use crate::shared::words_of;
 use rrd_file::FileFault;
-use rrd_store::{TaskFault, run_single};
+use rrd_store::{Access, TaskFault, run_single};
 use rrd_tool::Fault;
 use std::alloc::Global;
 use std::process::Abort;
@@ -33,6 +33,8 @@ pub(super) fn assert_step(
     assert_eq!(rt; told.as_str(), *fault, "{line}");
     assert_eq!(rt; out.as_slice(), text.as_bytes(), "{line}");
     assert_eq!(rt; place.bytes.len(), *length, "{line}");
+    let expected = place.expected.take().unwrap_or(*length as u64);
+    assert!(rt; !fault.is_empty() || expected == *length as u64, "{line}");
     let kept = fault.is_empty() || place.bytes.as_slice() == before.as_slice();
     assert!(rt; kept, "{line}");
     Ok(())
@@ -45,38 +47,38 @@ const OVER_NOTHING: &[Step<'_>] = &[
     ("update 20:1", "cannot open", "", 0),
     ("last", "cannot open", "", 0),
     ("revert", "cannot open", "", 0),
-    (CREATE, "", "", 220),
-    ("update 10:1", "", "", 305),
-    ("last", "", "10\n", 305),
+    (CREATE, "", "", 224),
+    ("update 10:1", "", "", 309),
+    ("last", "", "10\n", 309),
     (
         "fetch LAST -s 0 -e 19",
         "",
         "time: g\n10: 1.000000\n20: nan\n",
-        305,
+        309,
     ),
     // What is refused writes nothing.
-    ("nothing", "usage", "", 305),
-    ("batch", "usage", "", 305),
-    ("last 1", "usage", "", 305),
-    ("revert --help", "usage", "", 305),
-    ("update 20", "unreadable sample 1", "", 305),
-    ("update", "no sample", "", 305),
-    ("update 5:1", "not later than 10", "", 305),
-    ("tune", "nothing to tune", "", 305),
-    ("resize 1 GROW 1", "no such archive", "", 305),
-    ("fetch MIN", "no archive for this function", "", 305),
-    ("create", "no data source", "", 305),
+    ("nothing", "usage", "", 309),
+    ("batch", "usage", "", 309),
+    ("last 1", "usage", "", 309),
+    ("revert --help", "usage", "", 309),
+    ("update 20", "unreadable sample 1", "", 309),
+    ("update", "no sample", "", 309),
+    ("update 5:1", "not later than 10", "", 309),
+    ("tune", "nothing to tune", "", 309),
+    ("resize 1 GROW 1", "no such archive", "", 309),
+    ("fetch MIN", "no archive for this function", "", 309),
+    ("create", "no data source", "", 309),
     // An entry of a tune has 82 bytes; two cells more and the entry of a resize 103; an entry of an
     // update that finishes six rows 165.
-    ("tune --minimum g:5", "", "", 387),
-    ("resize 0 GROW 2", "", "", 490),
-    ("update N:1", "", "", 655),
-    ("last", "", "1000\n", 655),
-    ("revert", "", "", 490),
-    ("revert", "", "", 387),
-    ("revert", "", "", 305),
-    ("revert", "", "", 220),
-    ("revert", "nothing to revert", "", 220),
+    ("tune --minimum g:5", "", "", 391),
+    ("resize 0 GROW 2", "", "", 494),
+    ("update N:1", "", "", 659),
+    ("last", "", "1000\n", 659),
+    ("revert", "", "", 494),
+    ("revert", "", "", 391),
+    ("revert", "", "", 309),
+    ("revert", "", "", 224),
+    ("revert", "nothing to revert", "", 224),
 ];
 
 #[test]
@@ -109,22 +111,52 @@ fn commands_over_other_bytes(rt: HostRuntime) -> Result<(), Fail> {
     // A create doesn't ask what is there.
     place.opens = false;
     assert_step(&rt, alloc, &mut place, &("last", "cannot open", "", 11))?;
-    assert_step(&rt, alloc, &mut place, &(CREATE, "", "", 220))?;
+    assert_step(&rt, alloc, &mut place, &(CREATE, "", "", 224))?;
     assert_eq!(&rt; place.bytes.as_slice(), new_file(alloc)?.as_slice());
     Ok(())
 }
 
 #[test]
-fn a_place_that_is_not_emptied(rt: HostRuntime) -> Result<(), Fail> {
+fn a_place_that_is_not_written(rt: HostRuntime) -> Result<(), Fail> {
     let alloc = rt.alloc();
+    let refused = ("update 10:1", "cannot write", "", 224);
     let mut place = InMemory::with(alloc, &new_file(alloc)?)?;
-    place.empties = false;
-    assert_step(
-        &rt,
-        alloc,
-        &mut place,
-        &("update 10:1", "cannot write", "", 220),
-    )
+    place.begins = false;
+    assert_step(&rt, alloc, &mut place, &refused)?;
+    place.begins = true;
+    place.ends = false;
+    assert_step(&rt, alloc, &mut place, &refused)?;
+    place.ends = true;
+    place.keeps = true;
+    place.room = 308;
+    assert_step(&rt, alloc, &mut place, &refused)
+}
+
+// What each command opens its place for; a create doesn't open it.
+const OPENED: &[(&str, Option<Access>)] = &[
+    (CREATE, None),
+    ("update 10:1", Some(Access::Change)),
+    ("tune --minimum g:5", Some(Access::Change)),
+    ("resize 0 GROW 2", Some(Access::Change)),
+    ("revert", Some(Access::Change)),
+    ("fetch LAST -s 0 -e 19", Some(Access::Read)),
+    ("first", Some(Access::Read)),
+    ("last", Some(Access::Read)),
+    ("lastupdate", Some(Access::Read)),
+    ("info", Some(Access::Read)),
+];
+
+#[test]
+fn what_a_place_is_opened_for(rt: HostRuntime) -> Result<(), Fail> {
+    let alloc = rt.alloc();
+    let mut place = InMemory::with(alloc, b"")?;
+    for (line, access) in OPENED {
+        let mut out = Vec::new(alloc);
+        let end = run_single(alloc, &words_of(alloc, line)?, 0, &mut place, &mut out);
+        assert!(&rt; end.is_ok(), "{line}");
+        assert_eq!(&rt; place.access.take(), *access, "{line}");
+    }
+    Ok(())
 }
 
 // Wherever the write of a file breaks off, a front of the file is there, which is then refused.

@@ -1,0 +1,135 @@
+//! Files over readers and writers of which each call fails in turn, or is interrupted.
+use crate::file::bytes::{FOUR_CHANGES, SAMPLED, file_of, sampled_file};
+use crate::shared::databases::database_of;
+use crate::shared::each_call::{FAULTS, INTERRUPTS, assert_front, failing_after, interrupted};
+use crate::shared::streams::{Giver, PLAIN, Taker};
+use rrd_base::Database;
+use rrd_file::{FileFault, decode, encode};
+use std::alloc::Global;
+use std::io::ErrorKind;
+use std::process::Abort;
+use std::test::Fail;
+
+// ---- reads
+
+const ERRORS: &[ErrorKind] = &[
+    ErrorKind::Other,
+    ErrorKind::WouldBlock,
+    ErrorKind::UnexpectedEof,
+];
+
+// What is told of a file whose reader fails after so many bytes.
+fn fault_after(alloc: Global, bytes: &[u8], calls: usize, kind: ErrorKind) -> Option<FileFault> {
+    decode(alloc, Giver::new(bytes, failing_after(calls, Some(kind)))).err()
+}
+
+// Each read fails: one a byte, and the one that finds the end. There is no other.
+fn assert_each_read_counts(rt: &impl Abort, alloc: Global, bytes: &[u8], kind: ErrorKind) {
+    let all = bytes.len().saturating_add(1);
+    for calls in 0..all {
+        let fault = fault_after(alloc, bytes, calls, kind);
+        assert_eq!(rt; fault, Some(FileFault::Read), "{calls}");
+    }
+    assert_eq!(rt; fault_after(alloc, bytes, all, kind), None);
+}
+
+#[test]
+fn each_read_of_a_file_fails(rt: HostRuntime) -> Result<(), Fail> {
+    let alloc = rt.alloc();
+    let bytes = sampled_file(alloc)?;
+    for kind in ERRORS {
+        assert_each_read_counts(&rt, alloc, &bytes, *kind);
+    }
+    Ok(())
+}
+
+// A file with an entry of each kind.
+#[test]
+fn each_read_of_entries_fails(rt: HostRuntime) -> Result<(), Fail> {
+    let alloc = rt.alloc();
+    let bytes = file_of(alloc, &database_of(alloc, FOUR_CHANGES)?)?;
+    assert_each_read_counts(&rt, alloc, &bytes, ErrorKind::Other);
+    Ok(())
+}
+
+// What is wrong with a piece is told once it is whole, though a later read fails. The source has the bytes
+// from 30 up to 127.
+#[test]
+fn an_earlier_piece_is_told_first(rt: HostRuntime) -> Result<(), Fail> {
+    let alloc = rt.alloc();
+    let mut bytes = sampled_file(alloc)?;
+    *bytes.get_mut(50).ok_or("short")? = 4;
+    for calls in 0..bytes.len() {
+        let wanted = if calls < 127 {
+            FileFault::Read
+        } else {
+            FileFault::BadBlock { at: 30 }
+        };
+        let fault = fault_after(alloc, &bytes, calls, ErrorKind::Other);
+        assert_eq!(&rt; fault, Some(wanted), "{calls}");
+    }
+    Ok(())
+}
+
+#[test]
+fn interrupted_reads_of_a_file(rt: HostRuntime) -> Result<(), Fail> {
+    let alloc = rt.alloc();
+    let bytes = sampled_file(alloc)?;
+    for (interrupts, is_read) in INTERRUPTS {
+        let end = decode(alloc, Giver::new(&bytes, interrupted(*interrupts)));
+        assert_eq!(&rt; end.is_ok(), *is_read, "{interrupts}");
+    }
+    Ok(())
+}
+
+// ---- writes
+
+// Each write of a file fails, one a byte: there is a front of it, and all of it only where none failed.
+fn assert_each_write_counts(
+    rt: &impl Abort,
+    alloc: Global,
+    database: &Database,
+    bytes: &[u8],
+    fault: Option<ErrorKind>,
+) {
+    for calls in 0..bytes.len().saturating_add(1) {
+        let mut out = Taker::new(alloc, failing_after(calls, fault), PLAIN);
+        let end = encode(database, &mut out);
+        assert_eq!(rt; end.is_ok(), calls == bytes.len(), "{calls}");
+        assert_front(rt, &out.taken, bytes, calls);
+    }
+}
+
+#[test]
+fn each_write_of_a_file_fails(rt: HostRuntime) -> Result<(), Fail> {
+    let alloc = rt.alloc();
+    let database = database_of(alloc, SAMPLED)?;
+    let bytes = sampled_file(alloc)?;
+    for fault in FAULTS {
+        assert_each_write_counts(&rt, alloc, &database, &bytes, *fault);
+    }
+    Ok(())
+}
+
+#[test]
+fn each_write_of_entries_fails(rt: HostRuntime) -> Result<(), Fail> {
+    let alloc = rt.alloc();
+    let database = database_of(alloc, FOUR_CHANGES)?;
+    let bytes = file_of(alloc, &database)?;
+    assert_each_write_counts(&rt, alloc, &database, &bytes, None);
+    Ok(())
+}
+
+#[test]
+fn interrupted_writes_of_a_file(rt: HostRuntime) -> Result<(), Fail> {
+    let alloc = rt.alloc();
+    let database = database_of(alloc, SAMPLED)?;
+    let bytes = sampled_file(alloc)?;
+    for (interrupts, is_written) in INTERRUPTS {
+        let mut out = Taker::new(alloc, interrupted(*interrupts), PLAIN);
+        assert_eq!(&rt; encode(&database, &mut out).is_ok(), *is_written);
+        let room = if *is_written { bytes.len() } else { 0 };
+        assert_front(&rt, &out.taken, &bytes, room);
+    }
+    Ok(())
+}
