@@ -65,7 +65,19 @@ _rrdi() {
             tune:-i | tune:--minimum | tune:-a | tune:--maximum)
                 for name in $(_rrdi_sources "${words[0]}" "$file"); do choices+=" $name: $name:U"; done
                 ;;
-            tune:*) choices='--heartbeat --minimum --maximum --data-source-type --data-source-rename' ;;
+            tune:*)
+                case $current in
+                    RRA:*:*) ;;
+                    RRA:*) for name in $functions; do choices+=" RRA:$name:"; done ;;
+                    DELRRA:*)
+                        for name in $(_rrdi_archives "${words[0]}" "$file"); do choices+=" DELRRA:$name"; done
+                        ;;
+                    *)
+                        choices='--heartbeat --minimum --maximum --data-source-type --data-source-rename'
+                        choices+=' RRA: DELRRA:'
+                        ;;
+                esac
+                ;;
             resize:*)
                 case ${#words[@]} in
                     4) choices=$(_rrdi_archives "${words[0]}" "$file") ;;
