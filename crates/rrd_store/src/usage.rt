@@ -1,6 +1,7 @@
 //! The usage text.
 
-/// How the program is used, and its commands. It stands behind the line of a usage fault of the program's own words.
+/// How the program is used, its commands, and its version, which is that of the file `VERSION`. It stands behind the
+/// line of a usage fault of the program's own words.
 pub const USAGE: &str = "usage: rrdi COMMAND FILE WORD..
        rrdi batch [FILE]
 
@@ -31,4 +32,6 @@ commands:
 
 FILE doesn't begin with '-'. Times are seconds since 1970. Status: 0 if nothing
 was refused and nothing failed, 1 if not, 2 after this text.
+
+rrdi 0.2.0
 ";

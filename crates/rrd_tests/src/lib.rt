@@ -4,6 +4,8 @@
 #[cfg(test)]
 mod base;
 #[cfg(test)]
+mod examples;
+#[cfg(test)]
 mod file;
 #[cfg(test)]
 mod fixed;

@@ -48,81 +48,96 @@ pub(crate) fn file_of(alloc: Global, database: &Database) -> Result<Vec<u8>, Fai
     Ok(bytes)
 }
 
-// The file of a new database with the gauge `g` and an archive of four rows.
-const NEW_FILE: &[&[u8]] = &[
+// How a file begins.
+const BEGIN: &[&[u8]] = &[
     b"RRDI", // mark
     &[0x00, 0x02], // version
     &[0x00, 0x00, 0x00, 0x0a], // step
-    &[0x00, 0, 0, 0, 0, 0, 0, 0x00], // last time
-    &[0x00, 0x00, 0x00, 0x10], // depth
-    &[0x00, 0x01], // sources
-    &[0x00, 0x01], // archives
-    &[0x00, 0x00, 0x00, 0x00], // entries
+];
+
+// The gauge `g`, up to its last raw value.
+const GAUGE: &[&[u8]] = &[
     &[0x01, 0x67], // name
     &PADDING, //
     &[0x00], // type
     &[0x00, 0, 0, 0, 0, 0, 0, 0x64], // heartbeat
     &ABSENT, // min
     &ABSENT, // max
-    &ABSENT, // last raw value
-    &[0x00, 0x00, 0x00, 0x00], // known seconds
-    &ZERO, // their sum
+];
+
+// Between steps: known seconds, and their sum.
+const BETWEEN_STEPS: &[&[u8]] = &[&[0x00, 0x00, 0x00, 0x00], &ZERO];
+
+// An archive of four rows, between two of them.
+const ARCHIVE: &[&[u8]] = &[
     &[0x03], // function
     &[0x00, 0x00, 0x00, 0x01], // steps
     &[0x00, 0x07, 0xa1, 0x20], // xff
     &[0x00, 0x00, 0x00, 0x04], // rows
     &[0x00, 0x00, 0x00, 0x00], // known steps
     &ZERO, // their value
-    &ABSENT, // slot 0
-    &ABSENT, // slot 1
-    &ABSENT, // slot 2
-    &ABSENT, // slot 3
+];
+
+const FOUR_UNKNOWN: &[&[u8]] = &[&ABSENT, &ABSENT, &ABSENT, &ABSENT];
+
+// The file of a new database with the gauge `g` and an archive of four rows.
+const NEW_FILE: &[&[&[u8]]] = &[
+    BEGIN,
+    &[
+        &[0x00, 0, 0, 0, 0, 0, 0, 0x00], // last time
+        &[0x00, 0x00, 0x00, 0x10], // depth
+        &[0x00, 0x01], // sources
+        &[0x00, 0x01], // archives
+        &[0x00, 0x00, 0x00, 0x00], // entries
+    ],
+    GAUGE,
+    &[&ABSENT], // last raw value
+    BETWEEN_STEPS,
+    ARCHIVE,
+    FOUR_UNKNOWN, // slots 0 to 3
 ];
 
 pub(crate) fn new_file(alloc: Global) -> Result<Vec<u8>, AllocError> {
-    joined(alloc, NEW_FILE)
+    joined_parts(alloc, NEW_FILE)
 }
 
 // The same after a sample of 1 at 10.
-const SAMPLED_FILE: &[&[u8]] = &[
-    b"RRDI", // mark
-    &[0x00, 0x02], // version
-    &[0x00, 0x00, 0x00, 0x0a], // step
-    &[0x00, 0, 0, 0, 0, 0, 0, 0x0a], // last time
-    &[0x00, 0x00, 0x00, 0x10], // depth
-    &[0x00, 0x01], // sources
-    &[0x00, 0x01], // archives
-    &[0x00, 0x00, 0x00, 0x01], // entries
-    &[0x01, 0x67], // name
-    &PADDING, //
-    &[0x00], // type
-    &[0x00, 0, 0, 0, 0, 0, 0, 0x64], // heartbeat
-    &ABSENT, // min
-    &ABSENT, // max
-    &MILLION, // last raw value
-    &[0x00, 0x00, 0x00, 0x00], // known seconds
-    &ZERO, // their sum
-    &[0x03], // function
-    &[0x00, 0x00, 0x00, 0x01], // steps
-    &[0x00, 0x07, 0xa1, 0x20], // xff
-    &[0x00, 0x00, 0x00, 0x04], // rows
-    &[0x00, 0x00, 0x00, 0x00], // known steps
-    &ZERO, // their value
-    &ABSENT, // slot 0
-    &MILLION, // slot 1: the row at 10
-    &ABSENT, // slot 2
-    &ABSENT, // slot 3
-    &[0x01], // entry: an update
-    &[0x00, 0, 0, 0, 0, 0, 0, 0x00], // last time before
-    &ABSENT, // last raw value before
-    &NOTHING, // preparation of the step before
-    &NOTHING, // preparation of the row before
-    &[0x00, 0x00, 0x00, 0x01], // one row
-    &ABSENT, // its cell
+const SAMPLED_FILE: &[&[&[u8]]] = &[
+    BEGIN,
+    &[
+        &[0x00, 0, 0, 0, 0, 0, 0, 0x0a], // last time
+        &[0x00, 0x00, 0x00, 0x10], // depth
+        &[0x00, 0x01], // sources
+        &[0x00, 0x01], // archives
+        &[0x00, 0x00, 0x00, 0x01], // entries
+    ],
+    GAUGE,
+    &[&MILLION], // last raw value
+    BETWEEN_STEPS,
+    ARCHIVE,
+    &[&ABSENT, &MILLION, &ABSENT, &ABSENT], // slots 0 to 3: the row at 10 in slot 1
+    &[
+        &[0x01], // entry: an update
+        &[0x00, 0, 0, 0, 0, 0, 0, 0x00], // last time before
+        &ABSENT, // last raw value before
+        &NOTHING, // preparation of the step before
+        &NOTHING, // preparation of the row before
+        &[0x00, 0x00, 0x00, 0x01], // one row
+        &ABSENT, // its cell
+    ],
 ];
 
 pub(crate) fn sampled_file(alloc: Global) -> Result<Vec<u8>, AllocError> {
-    joined(alloc, SAMPLED_FILE)
+    joined_parts(alloc, SAMPLED_FILE)
+}
+
+// The pieces of all parts, one behind another.
+fn joined_parts(alloc: Global, parts: &[&[&[u8]]]) -> Result<Vec<u8>, AllocError> {
+    let mut bytes = Vec::new(alloc);
+    for pieces in parts {
+        bytes.extend_from_slice(&joined(alloc, pieces)?)?;
+    }
+    Ok(bytes)
 }
 
 // Rows before 1970 in their slots.
@@ -275,95 +290,50 @@ const THREE_ENTRIES: &[&[u8]] = &[
     &ABSENT,
 ];
 
-// ---- databases
-
-// Steps of 10 seconds, the gauge `g` and an archive of four last values.
 // A second archive like the first.
-const ONE_ADDED: &[&[u8]] = &[
-    b"RRDI", // mark
-    &[0x00, 0x02], // version
-    &[0x00, 0x00, 0x00, 0x0a], // step
-    &[0x00, 0, 0, 0, 0, 0, 0, 0x00], // last time
-    &[0x00, 0x00, 0x00, 0x10], // depth
-    &[0x00, 0x01], // sources
-    &[0x00, 0x02], // archives
-    &[0x00, 0x00, 0x00, 0x01], // entries
-    &[0x01, 0x67], // name
-    &PADDING, //
-    &[0x00], // type
-    &[0x00, 0, 0, 0, 0, 0, 0, 0x64], // heartbeat
-    &ABSENT, // min
-    &ABSENT, // max
-    &ABSENT, // last raw value
-    &[0x00, 0x00, 0x00, 0x00], // known seconds
-    &ZERO, // their sum
-    &[0x03], // function
-    &[0x00, 0x00, 0x00, 0x01], // steps
-    &[0x00, 0x07, 0xa1, 0x20], // xff
-    &[0x00, 0x00, 0x00, 0x04], // rows
-    &[0x00, 0x00, 0x00, 0x00], // known steps
-    &ZERO, // their value
-    &[0x03], // function
-    &[0x00, 0x00, 0x00, 0x01], // steps
-    &[0x00, 0x07, 0xa1, 0x20], // xff
-    &[0x00, 0x00, 0x00, 0x04], // rows
-    &[0x00, 0x00, 0x00, 0x00], // known steps
-    &ZERO, // their value
-    &ABSENT, // slot 0
-    &ABSENT, // slot 1
-    &ABSENT, // slot 2
-    &ABSENT, // slot 3
-    &ABSENT, // slot 0
-    &ABSENT, // slot 1
-    &ABSENT, // slot 2
-    &ABSENT, // slot 3
-    &[0x04], // an archive was added
+const ONE_ADDED: &[&[&[u8]]] = &[
+    BEGIN,
+    &[
+        &[0x00, 0, 0, 0, 0, 0, 0, 0x00], // last time
+        &[0x00, 0x00, 0x00, 0x10], // depth
+        &[0x00, 0x01], // sources
+        &[0x00, 0x02], // archives
+        &[0x00, 0x00, 0x00, 0x01], // entries
+    ],
+    GAUGE,
+    &[&ABSENT], // last raw value
+    BETWEEN_STEPS,
+    ARCHIVE,
+    ARCHIVE,
+    FOUR_UNKNOWN, // slots 0 to 3 of the first
+    FOUR_UNKNOWN, // of the second
+    &[&[0x04]], // an archive was added
 ];
 
 // The first one is gone: the journal keeps it as it was.
-const ONE_REMOVED: &[&[u8]] = &[
-    b"RRDI", // mark
-    &[0x00, 0x02], // version
-    &[0x00, 0x00, 0x00, 0x0a], // step
-    &[0x00, 0, 0, 0, 0, 0, 0, 0x00], // last time
-    &[0x00, 0x00, 0x00, 0x10], // depth
-    &[0x00, 0x01], // sources
-    &[0x00, 0x01], // archives
-    &[0x00, 0x00, 0x00, 0x02], // entries
-    &[0x01, 0x67], // name
-    &PADDING, //
-    &[0x00], // type
-    &[0x00, 0, 0, 0, 0, 0, 0, 0x64], // heartbeat
-    &ABSENT, // min
-    &ABSENT, // max
-    &ABSENT, // last raw value
-    &[0x00, 0x00, 0x00, 0x00], // known seconds
-    &ZERO, // their sum
-    &[0x03], // function
-    &[0x00, 0x00, 0x00, 0x01], // steps
-    &[0x00, 0x07, 0xa1, 0x20], // xff
-    &[0x00, 0x00, 0x00, 0x04], // rows
-    &[0x00, 0x00, 0x00, 0x00], // known steps
-    &ZERO, // their value
-    &ABSENT, // slot 0
-    &ABSENT, // slot 1
-    &ABSENT, // slot 2
-    &ABSENT, // slot 3
-    &[0x05], // an archive was removed
-    &[0x00, 0x00], // its number
-    &[0x03], // function
-    &[0x00, 0x00, 0x00, 0x01], // steps
-    &[0x00, 0x07, 0xa1, 0x20], // xff
-    &[0x00, 0x00, 0x00, 0x04], // rows
-    &[0x00, 0x00, 0x00, 0x00], // known steps
-    &ZERO, // their value
-    &ABSENT, // row 0
-    &ABSENT, // row 1
-    &ABSENT, // row 2
-    &ABSENT, // row 3
-    &[0x04], // an archive was added
+const ONE_REMOVED: &[&[&[u8]]] = &[
+    BEGIN,
+    &[
+        &[0x00, 0, 0, 0, 0, 0, 0, 0x00], // last time
+        &[0x00, 0x00, 0x00, 0x10], // depth
+        &[0x00, 0x01], // sources
+        &[0x00, 0x01], // archives
+        &[0x00, 0x00, 0x00, 0x02], // entries
+    ],
+    GAUGE,
+    &[&ABSENT], // last raw value
+    BETWEEN_STEPS,
+    ARCHIVE,
+    FOUR_UNKNOWN, // slots 0 to 3
+    &[&[0x05], &[0x00, 0x00]], // an archive was removed, and its number
+    ARCHIVE,
+    FOUR_UNKNOWN, // its rows
+    &[&[0x04]], // an archive was added
 ];
 
+// ---- databases
+
+// Steps of 10 seconds, the gauge `g` and an archive of four last values.
 const NEW: &str = "create --step 10 --start 0 DS:g:GAUGE:100:U:U RRA:LAST:0.5:1:4\n";
 
 pub(crate) const SAMPLED: &str = "create --step 10 --start 0 DS:g:GAUGE:100:U:U RRA:LAST:0.5:1:4\n\
@@ -429,12 +399,12 @@ tune DELRRA:0\n";
 // ---- tests
 
 // Lines, the file of the database that they make, and how long that is.
-const FILES: &[(&str, &[&[u8]], usize)] = &[
+const FILES: &[(&str, &[&[&[u8]]], usize)] = &[
     (NEW, NEW_FILE, 224),
     (SAMPLED, SAMPLED_FILE, 309),
     (TAKEN_BACK, NEW_FILE, 224),
-    (TWO_SOURCES_SAMPLED, ROWS_BEFORE_1970, 915),
-    (THREE_CHANGES, THREE_ENTRIES, 494),
+    (TWO_SOURCES_SAMPLED, &[ROWS_BEFORE_1970], 915),
+    (THREE_CHANGES, &[THREE_ENTRIES], 494),
     (ADDED, ONE_ADDED, 322),
     (REMOVED, ONE_REMOVED, 325),
 ];
@@ -443,7 +413,7 @@ const FILES: &[(&str, &[&[u8]], usize)] = &[
 fn files_byte_by_byte(rt: HostRuntime) -> Result<(), Fail> {
     let alloc = rt.alloc();
     for (lines, parts, length) in FILES {
-        let wanted = joined(alloc, parts)?;
+        let wanted = joined_parts(alloc, parts)?;
         assert_eq!(&rt; wanted.len(), *length, "{lines}");
         let file = file_of(alloc, &database_of(alloc, lines)?)?;
         assert_eq!(&rt; file.as_slice(), wanted.as_slice(), "{lines}");

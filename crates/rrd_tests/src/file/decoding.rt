@@ -178,18 +178,22 @@ fn no_archive_comes_or_goes_in_the_first_version(rt: HostRuntime) -> Result<(), 
     Ok(())
 }
 
-// A byte of the file with a sample, what it is changed to, and the fault then. The source begins at 30,
-// the archive's head at 127, its cells at 160, and the entry at 224.
-const WRONG_BYTES: &[(usize, u8, FileFault)] = &[
+// A byte of the file with a sample, in either version, what it is changed to, and the fault then.
+const WRONG_IN_BOTH: &[(usize, u8, FileFault)] = &[
     (0, 83, FileFault::NotOurs),
     (0, 0, FileFault::NotOurs),
     (3, 0, FileFault::NotOurs),
     (4, 1, FileFault::Version),
     (5, 0, FileFault::Version),
     (5, 3, FileFault::Version),
-    (5, 1, FileFault::BadBlock { at: 6 }), // a header of the first version, with no depth
     (9, 0, FileFault::BadBlock { at: 6 }), // no step
     (12, 1, FileFault::BadBlock { at: 6 }), // a last time past 9,999,999,999
+];
+
+// The same of the second version alone. The source begins at 30,
+// the archive's head at 127, its cells at 160, and the entry at 224.
+const WRONG_BYTES: &[(usize, u8, FileFault)] = &[
+    (5, 1, FileFault::BadBlock { at: 6 }), // a header of the first version, with no depth
     (21, 0, FileFault::BadBlock { at: 6 }), // no depth
     (29, 17, FileFault::BadBlock { at: 6 }), // more entries than the depth
     (30, 20, FileFault::BadBlock { at: 30 }), // a name of 20
@@ -210,20 +214,12 @@ const WRONG_BYTES: &[(usize, u8, FileFault)] = &[
     (293, 127, FileFault::BadEntry { number: 1 }), // past the greatest rate
 ];
 
-// The same of that file in the first version, what it is changed to, and the fault then. The source begins at 26,
+// The same of the first version alone. The source begins at 26,
 // the archive's head at 123, its cells at 156, and the entry at 220.
 const WRONG_FIRST_BYTES: &[(usize, u8, FileFault)] = &[
-    (0, 83, FileFault::NotOurs),
-    (0, 0, FileFault::NotOurs),
-    (3, 0, FileFault::NotOurs),
-    (4, 1, FileFault::Version),
-    (5, 0, FileFault::Version),
-    (5, 3, FileFault::Version),
     (5, 2, FileFault::BadBlock { at: 6 }), // a header of the second version
     (18, 4, FileFault::BadBlock { at: 6 }), // a depth of 1,040
     (23, 65, FileFault::BadBlock { at: 6 }), // 65 archives
-    (9, 0, FileFault::BadBlock { at: 6 }), // no step
-    (12, 1, FileFault::BadBlock { at: 6 }), // a last time past 9,999,999,999
     (19, 0, FileFault::BadBlock { at: 6 }), // no depth
     (25, 17, FileFault::BadBlock { at: 6 }), // more entries than the depth
     (25, 2, FileFault::Truncated { at: 305 }), // two entries
@@ -252,9 +248,20 @@ const WRONG_FIRST_BYTES: &[(usize, u8, FileFault)] = &[
 fn a_wrong_byte_has_its_place(rt: HostRuntime) -> Result<(), Fail> {
     let alloc = rt.alloc();
     let bytes = sampled_file(alloc)?;
-    for (at, byte, fault) in WRONG_BYTES {
-        let wrong = changed(alloc, &bytes, *at, *byte)?;
-        assert_eq!(&rt; fault_of(alloc, &wrong), Some(*fault), "{at}");
+    assert_faults(&rt, alloc, &bytes, WRONG_IN_BOTH)?;
+    assert_faults(&rt, alloc, &bytes, WRONG_BYTES)
+}
+
+// Each changed byte has its fault.
+fn assert_faults(
+    rt: &impl Abort,
+    alloc: Global,
+    bytes: &[u8],
+    wrong_bytes: &[(usize, u8, FileFault)],
+) -> Result<(), Fail> {
+    for (at, byte, fault) in wrong_bytes {
+        let wrong = changed(alloc, bytes, *at, *byte)?;
+        assert_eq!(rt; fault_of(alloc, &wrong), Some(*fault), "{at}");
     }
     Ok(())
 }
@@ -272,11 +279,8 @@ fn a_wrong_byte_of_the_first_version_has_its_place(rt: HostRuntime) -> Result<()
     let alloc = rt.alloc();
     let bytes = in_first_version(alloc, &sampled_file(alloc)?)?;
     assert_eq!(&rt; bytes.len(), 305);
-    for (at, byte, fault) in WRONG_FIRST_BYTES {
-        let wrong = changed(alloc, &bytes, *at, *byte)?;
-        assert_eq!(&rt; fault_of(alloc, &wrong), Some(*fault), "{at}");
-    }
-    Ok(())
+    assert_faults(&rt, alloc, &bytes, WRONG_IN_BOTH)?;
+    assert_faults(&rt, alloc, &bytes, WRONG_FIRST_BYTES)
 }
 
 // A byte of that file, what it is changed to, how many bytes are left, and the fault then: a piece of the entry that is
