@@ -1,9 +1,10 @@
--- A cell comes: it goes into its place, and the cursor goes on.
-use Rattle.std.proofs.Common.{◌≡◌, ◌∙◌, ◌+◌, ◌-◌, ◌*◌, ◌/◌, ◌%◌, ◌<◌, ◌≤◌, ℕ, zero, suc, List, [], ◌∷◌, ◌++◌, Some, None, Option, sym, ap, subst, arith, length, map, take, drop, inl, inr, refl, get_or, set, append_assoc, append-nil, length-set, add-one}
+-- Cells come, one or many at once: they go into their places, and the cursor goes on.
+use Rattle.std.proofs.Common.{◌≡◌, ◌∙◌, ◌+◌, ◌-◌, ◌*◌, ◌/◌, ◌%◌, ◌<◌, ◌≤◌, ℕ, zero, suc, List, [], ◌∷◌, ◌++◌, Some, None, Option, sym, ap, subst, arith, length, map, take, drop, inl, inr, refl, get_or, set, append_assoc, append-nil, length-set, length-append, length-drop, take_at, add-one}
 use Rattle.std.specs.Prelude.{sum, ◌⊎◌}
 use Rattle.std.specs.List.{AllByRecursion, flat_map, fold}
 use Rattle.std.proofs.lemmas.Bool.{cases_lt}
 use Rattle.std.proofs.lemmas.List.Concat.{flat_map-cons}
+use Rattle.std.proofs.lemmas.List.{length-take-le, take-append-le}
 use Rattle.std.proofs.Math.Nat.{add-mul-mod_self_right, mod-add-div'}
 use Rattle.rrd_fixed.specs.declared.cell.Cell.{Cell}
 use Rattle.rrd_fixed.specs.Rate.{IsBounded}
@@ -13,12 +14,12 @@ use Rattle.rrd_spec.specs.declared.outline.Outline.{Outline}
 use Rattle.rrd_spec.specs.declared.settings.RraDef.{RraDef}
 use Rattle.rrd_spec.specs.Commands.{rows_of_archives}
 use Rattle.rrd_spec.specs.Files.Filed.{Filed, Head, Source, head_of, sources_of}
-use Rattle.rrd_spec.specs.History.{Archive}
+use Rattle.rrd_spec.specs.History.{Rra}
 use Rattle.rrd_spec.specs.Limits.{limits_of, present}
 use Rattle.rrd_spec.specs.Lemmas.Lists.{All-at, All-drop, drop_here}
 use Rattle.rrd_spec.specs.Journal.Outlines.{outline_undone}
 use Rattle.rrd_spec.specs.Laws.Slots.{PutsCell, SlotHasPlace}
-use Rattle.rrd_spec.specs.Files.Rebuilding.{IsArchiveDef, IsRowPart, after_heads, due, prep_or, unprepared, with_cell}
+use Rattle.rrd_spec.specs.Files.Rebuilding.{IsArchiveDef, IsRowPart, after_heads, due, prep_or, unprepared}
 use Rattle.rrd_spec.specs.Settings.{resolution}
 use Rattle.rrd_spec.specs.Files.Slots.{by_slot, cells_by_slot, place_in}
 use Rattle.rrd_spec.specs.Validity.{IsRow, IsValidJournalWithin}
@@ -82,10 +83,28 @@ drop_set_here [] i y h = absurd (omega arith)
 drop_set_here (x ∷ xs) zero y h = refl
 drop_set_here (x ∷ xs) (suc i) y h = drop_set_here xs i y (omega arith)
 
-take_set_more : {A : Type 0} (xs ys : List A) (n : ℕ) (y : A) → n < length xs → take (suc n) (set xs n y ++ ys) ≡ take n (xs ++ ys) ++ y ∷ []
-take_set_more [] ys n y h = absurd (omega arith)
-take_set_more (x ∷ xs) ys zero y h = refl
-take_set_more (x ∷ xs) ys (suc n) y h = ap (λ zs. x ∷ zs) (take_set_more xs ys n y (omega arith))
+-- the cells with others from a place on
+abbrev pub put_in : List Cell → ℕ → List Cell → List Cell
+put_in xs n cells = take n xs ++ (cells ++ drop (length cells) (drop n xs))
+
+pub length-put_in : (xs : List Cell) (n : ℕ) (cells : List Cell) → n + length cells ≤ length xs → length (put_in xs n cells) ≡ length xs
+length-put_in xs n cells h =
+    let rest = drop (length cells) (drop n xs) in
+    omega (arith, length-append (take n xs) (cells ++ rest), length-append cells rest, length-take-le n xs (omega arith), length-drop (length cells) (drop n xs), length-drop n xs)
+
+set_is_put : (xs : List Cell) (n : ℕ) (cell : Cell) → n < length xs → set xs n cell ≡ put_in xs n (cell ∷ [])
+set_is_put [] n cell h = absurd (omega arith)
+set_is_put (x ∷ xs) zero cell h = refl
+set_is_put (x ∷ xs) (suc n) cell h = ap (λ (ys : List Cell). x ∷ ys) (set_is_put xs n cell (omega arith))
+
+take_put_more : (xs ys : List Cell) (n : ℕ) (cells : List Cell) → n + length cells ≤ length xs → take (n + length cells) (put_in xs n cells ++ ys) ≡ take n (xs ++ ys) ++ cells
+take_put_more xs ys n cells h =
+    let front = take n xs in
+    let rest = drop (length cells) (drop n xs) in
+    let long : length (front ++ cells) ≡ n + length cells = omega (arith, length-append front cells, length-take-le n xs (omega arith)) in
+    ap (take (n + length cells)) (ap (λ (zs : List Cell). zs ++ ys) (sym (append_assoc front cells rest)) ∙ append_assoc (front ++ cells) rest ys)
+    ∙ take_at (front ++ cells) (rest ++ ys) (n + length cells) long
+    ∙ ap (λ (zs : List Cell). zs ++ cells) (sym (take-append-le n xs ys (omega arith)))
 
 take_front : {A : Type 0} (xs ys : List A) → take (length xs) (xs ++ ys) ≡ xs
 take_front [] ys = refl
@@ -93,33 +112,33 @@ take_front (x ∷ xs) ys = ap (λ zs. x ∷ zs) (take_front xs ys)
 
 -- ---- cells in the order of a file
 
--- one more
-cells_more : (f : Archive → List Cell) (xs : List Archive) (i n : ℕ) (a b : Archive) (cell : Cell) → i < length xs → a ≡ get_or xs i a → n < length (f a) → f b ≡ set (f a) n cell
-    → flat_map f (take i (set xs i b)) ++ take (suc n) (flat_map f (drop i (set xs i b))) ≡ (flat_map f (take i xs) ++ take n (flat_map f (drop i xs))) ++ cell ∷ []
-cells_more f [] i n a b cell h e few is = absurd (omega arith)
-cells_more f (x ∷ xs) zero n a b cell h e few is =
-    let one : flat_map f (b ∷ xs) ≡ set (f a) n cell ++ flat_map f xs = flat_map-cons f b xs ∙ ap (λ (cs : List Cell). cs ++ flat_map f xs) is in
-    let two : flat_map f (x ∷ xs) ≡ f a ++ flat_map f xs = flat_map-cons f x xs ∙ ap (λ (y : Archive). f y ++ flat_map f xs) (sym e) in
-    ap (take (suc n)) one ∙ (take_set_more (f a) (flat_map f xs) n cell few ∙ ap (λ (cs : List Cell). take n cs ++ cell ∷ []) (sym two))
-cells_more f (x ∷ xs) (suc i) n a b cell h e few is =
-    let rest = cells_more f xs i n a b cell (omega arith) e few is in
+-- some more
+cells_more : (f : Rra → List Cell) (xs : List Rra) (i n : ℕ) (a b : Rra) (cells : List Cell) → i < length xs → a ≡ get_or xs i a → n + length cells ≤ length (f a) → f b ≡ put_in (f a) n cells
+    → flat_map f (take i (set xs i b)) ++ take (n + length cells) (flat_map f (drop i (set xs i b))) ≡ (flat_map f (take i xs) ++ take n (flat_map f (drop i xs))) ++ cells
+cells_more f [] i n a b cells h e few is = absurd (omega arith)
+cells_more f (x ∷ xs) zero n a b cells h e few is =
+    let one : flat_map f (b ∷ xs) ≡ put_in (f a) n cells ++ flat_map f xs = flat_map-cons f b xs ∙ ap (λ (cs : List Cell). cs ++ flat_map f xs) is in
+    let two : flat_map f (x ∷ xs) ≡ f a ++ flat_map f xs = flat_map-cons f x xs ∙ ap (λ (y : Rra). f y ++ flat_map f xs) (sym e) in
+    ap (take (n + length cells)) one ∙ (take_put_more (f a) (flat_map f xs) n cells few ∙ ap (λ (cs : List Cell). take n cs ++ cells) (sym two))
+cells_more f (x ∷ xs) (suc i) n a b cells h e few is =
+    let rest = cells_more f xs i n a b cells (omega arith) e few is in
     let s = set xs i b in
-    let t = take (suc n) (flat_map f (drop i s)) in
+    let t = take (n + length cells) (flat_map f (drop i s)) in
     let u = take n (flat_map f (drop i xs)) in
     ap (λ (cs : List Cell). cs ++ t) (flat_map-cons f x (take i s))
     ∙ (append_assoc (f x) (flat_map f (take i s)) t
     ∙ (ap (λ (cs : List Cell). f x ++ cs) rest
-    ∙ (sym (append_assoc (f x) (flat_map f (take i xs) ++ u) (cell ∷ []))
-    ∙ (ap (λ (cs : List Cell). cs ++ cell ∷ []) (sym (append_assoc (f x) (flat_map f (take i xs)) u))
-    ∙ ap (λ (cs : List Cell). (cs ++ u) ++ cell ∷ []) (sym (flat_map-cons f x (take i xs)))))))
+    ∙ (sym (append_assoc (f x) (flat_map f (take i xs) ++ u) cells)
+    ∙ (ap (λ (cs : List Cell). cs ++ cells) (sym (append_assoc (f x) (flat_map f (take i xs)) u))
+    ∙ ap (λ (cs : List Cell). (cs ++ u) ++ cells) (sym (flat_map-cons f x (take i xs)))))))
 
 -- those of a whole archive
-cells_over : (f : Archive → List Cell) (xs : List Archive) (i n : ℕ) (a : Archive) → i < length xs → a ≡ get_or xs i a → n ≡ length (f a)
+cells_over : (f : Rra → List Cell) (xs : List Rra) (i n : ℕ) (a : Rra) → i < length xs → a ≡ get_or xs i a → n ≡ length (f a)
     → flat_map f (take (suc i) xs) ++ [] ≡ flat_map f (take i xs) ++ take n (flat_map f (drop i xs))
 cells_over f [] i n a h e is = absurd (omega arith)
 cells_over f (x ∷ xs) zero n a h e is =
     let one : flat_map f (x ∷ []) ++ [] ≡ f x = append-nil (flat_map f (x ∷ [])) ∙ (flat_map-cons f x [] ∙ append-nil (f x)) in
-    let count : n ≡ length (f x) = is ∙ ap (λ (y : Archive). length (f y)) e in
+    let count : n ≡ length (f x) = is ∙ ap (λ (y : Rra). length (f y)) e in
     let two : take n (flat_map f (x ∷ xs)) ≡ f x = ap (take n) (flat_map-cons f x xs) ∙ (ap (λ m. take m (f x ++ flat_map f xs)) count ∙ take_front (f x) (flat_map f xs)) in
     one ∙ sym two
 cells_over f (x ∷ xs) (suc i) n a h e is =
@@ -133,45 +152,45 @@ cells_over f (x ∷ xs) (suc i) n a h e is =
 
 -- ---- the archives with one of them written to
 
-heads_set : (xs : List Archive) (i : ℕ) (a b : Archive) → i < length xs → a ≡ get_or xs i a → b.def ≡ a.def → b.parts ≡ a.parts → map head_of (set xs i b) ≡ map head_of xs
+heads_set : (xs : List Rra) (i : ℕ) (a b : Rra) → i < length xs → a ≡ get_or xs i a → b.def ≡ a.def → b.parts ≡ a.parts → map head_of (set xs i b) ≡ map head_of xs
 heads_set [] i a b h e def parts = absurd (omega arith)
 heads_set (x ∷ xs) zero a b h e def parts =
     let one : head_of b ≡ head_of a = λ j. let head : Head = record { def = def j; parts = parts j } in head in
     ap (λ (head : Head). head ∷ map head_of xs) (one ∙ ap head_of e)
 heads_set (x ∷ xs) (suc i) a b h e def parts = ap (λ (heads : List Head). head_of x ∷ heads) (heads_set xs i a b (omega arith) e def parts)
 
-prepared_set : (sources : ℕ) (xs : List Archive) (i : ℕ) (a b : Archive) → i < length xs → a ≡ get_or xs i a → b.parts ≡ a.parts → ArePrepared sources xs → ArePrepared sources (set xs i b)
+prepared_set : (sources : ℕ) (xs : List Rra) (i : ℕ) (a b : Rra) → i < length xs → a ≡ get_or xs i a → b.parts ≡ a.parts → ArePrepared sources xs → ArePrepared sources (set xs i b)
 prepared_set sources [] i a b h e parts is = absurd (omega arith)
 prepared_set sources (x ∷ []) zero a b h e parts is = tt
 prepared_set sources (x ∷ []) (suc i) a b h e parts is = absurd (omega arith)
-prepared_set sources (x ∷ y ∷ xs) zero a b h e parts is = (ap length parts ∙ (ap (λ (z : Archive). length z.parts) e ∙ is.0), is.1)
+prepared_set sources (x ∷ y ∷ xs) zero a b h e parts is = (ap length parts ∙ (ap (λ (z : Rra). length z.parts) e ∙ is.0), is.1)
 prepared_set sources (x ∷ y ∷ xs) (suc zero) a b h e parts is = (is.0, prepared_set sources (y ∷ xs) zero a b (omega arith) e parts is.1)
 prepared_set sources (x ∷ y ∷ xs) (suc (suc i)) a b h e parts is = (is.0, prepared_set sources (y ∷ xs) (suc i) a b (omega arith) e parts is.1)
 
-fewer_none : (sources step last : ℕ) (xs : List Archive) → 0 < sources → AllByRecursion (IsArchiveSoFar sources step last) xs → AreFewer sources xs 0
+fewer_none : (sources step last : ℕ) (xs : List Rra) → 0 < sources → AllByRecursion (IsArchiveSoFar sources step last) xs → AreFewer sources xs 0
 fewer_none sources step last [] some all = refl
 fewer_none sources step last (a ∷ xs) some all = nat.mul-pos some all.0.def_is.some_rows
 
--- ---- a cell is written
+-- ---- cells are written
 
-pub record IsPut (d : Coming) (a b : Archive) (cell : Cell) : Type 0 where
+pub record IsPut (d : Coming) (a b : Rra) (cells : List Cell) : Type 0 where
   pub is : a ≡ get_or d.archives d.archive a
   pub def_same : b.def ≡ a.def
   pub parts_same : b.parts ≡ a.parts
   pub as_many : length b.rows ≡ length a.rows
   pub each_row : AllByRecursion (IsRow d.sources_due) b.rows
-  pub few : d.filled < length (cells_by_slot d.step d.last a)
-  pub cells : cells_by_slot d.step d.last b ≡ set (cells_by_slot d.step d.last a) d.filled cell
+  pub few : d.filled + length cells ≤ length (cells_by_slot d.step d.last a)
+  pub cells_are : cells_by_slot d.step d.last b ≡ put_in (cells_by_slot d.step d.last a) d.filled cells
 
-abbrev pub cell_came : Coming → Archive → ℕ → ℕ → Coming
+abbrev pub cell_came : Coming → Rra → ℕ → ℕ → Coming
 cell_came d b archive filled = record d { archives = set d.archives d.archive b; archive = archive; filled = filled }
 
-pub archive_at : (d : Coming) (a : Archive) → IsRebuilding d → d.archive < length d.archives → a ≡ get_or d.archives d.archive a → IsArchiveSoFar d.sources_due d.step d.last a
+pub archive_at : (d : Coming) (a : Rra) → IsRebuilding d → d.archive < length d.archives → a ≡ get_or d.archives d.archive a → IsArchiveSoFar d.sources_due d.step d.last a
 archive_at d a is there e = subst (IsArchiveSoFar d.sources_due d.step d.last) (sym e) (All-at (IsArchiveSoFar d.sources_due d.step d.last) d.archives d.archive a is.archives_are there)
 
-cell_keeps : (d : Coming) (a b : Archive) (cell : Cell) (archive filled : ℕ) → IsRebuilding d → AtCell d → IsPut d a b cell → archive ≤ length d.archives
+cell_keeps : (d : Coming) (a b : Rra) (cells : List Cell) (archive filled : ℕ) → IsRebuilding d → AtCell d → IsPut d a b cells → archive ≤ length d.archives
     → AreFewer d.sources_due (drop archive (set d.archives d.archive b)) filled → IsRebuilding (cell_came d b archive filled)
-cell_keeps d a b cell archive filled is at put there few =
+cell_keeps d a b cells archive filled is at put there few =
     let new = cell_came d b archive filled in
     let same = heads_set d.archives d.archive a b at.there put.is put.def_same put.parts_same in
     let old = archive_at d a is at.there put.is in
@@ -208,54 +227,58 @@ cell_keeps d a b cell archive filled is at put there few =
       cells_first = λ some. absurd (omega (arith, some, ap length at.none));
     }
 
-cell_within : (d : Coming) (a b : Archive) (cell : Cell) → AtCell d → IsPut d a b cell → filed_in (cell_came d b d.archive (suc d.filled)) ≡ with_cell (filed_in d) cell
-cell_within d a b cell at put =
-    let heads = heads_set d.archives d.archive a b at.there put.is put.def_same put.parts_same in
-    let cells = cells_more (cells_by_slot d.step d.last) d.archives d.archive d.filled a b cell at.there put.is put.few put.cells in
-    λ i. let f : Filed = record (filed_in d) { heads = heads i; cells = cells i } in f
+-- with so many more cells
+abbrev pub with_more : Filed → List Cell → Filed
+with_more f cells = record f { cells = f.cells ++ cells }
 
-get_set : (xs : List Archive) (i : ℕ) (b : Archive) → i < length xs → b ≡ get_or (set xs i b) i b
+cell_within : (d : Coming) (a b : Rra) (cells : List Cell) → AtCell d → IsPut d a b cells → filed_in (cell_came d b d.archive (d.filled + length cells)) ≡ with_more (filed_in d) cells
+cell_within d a b cells at put =
+    let heads = heads_set d.archives d.archive a b at.there put.is put.def_same put.parts_same in
+    let more = cells_more (cells_by_slot d.step d.last) d.archives d.archive d.filled a b cells at.there put.is put.few put.cells_are in
+    λ i. let f : Filed = record (filed_in d) { heads = heads i; cells = more i } in f
+
+get_set : (xs : List Rra) (i : ℕ) (b : Rra) → i < length xs → b ≡ get_or (set xs i b) i b
 get_set [] i b h = absurd (omega arith)
 get_set (x ∷ xs) zero b h = refl
 get_set (x ∷ xs) (suc i) b h = get_set xs i b (omega arith)
 
-cell_over : (d : Coming) (a b : Archive) (cell : Cell) → AtCell d → IsPut d a b cell → suc d.filled ≡ length (cells_by_slot d.step d.last a) → filed_in (cell_came d b (suc d.archive) 0) ≡ with_cell (filed_in d) cell
-cell_over d a b cell at put all =
+cell_over : (d : Coming) (a b : Rra) (cells : List Cell) → AtCell d → IsPut d a b cells → d.filled + length cells ≡ length (cells_by_slot d.step d.last a) → filed_in (cell_came d b (suc d.archive) 0) ≡ with_more (filed_in d) cells
+cell_over d a b cells at put all =
     let f = cells_by_slot d.step d.last in
     let heads = heads_set d.archives d.archive a b at.there put.is put.def_same put.parts_same in
-    let count : suc d.filled ≡ length (f b) = all ∙ sym (ap length put.cells ∙ length-set (f a) d.filled cell) in
-    let cells = cells_over f (set d.archives d.archive b) d.archive (suc d.filled) b (omega (arith, at.there, length-set d.archives d.archive b)) (get_set d.archives d.archive b at.there) count
-    ∙ cells_more f d.archives d.archive d.filled a b cell at.there put.is put.few put.cells in
-    λ i. let g : Filed = record (filed_in d) { heads = heads i; cells = cells i } in g
+    let count : d.filled + length cells ≡ length (f b) = all ∙ sym (ap length put.cells_are ∙ length-put_in (f a) d.filled cells put.few) in
+    let more = cells_over f (set d.archives d.archive b) d.archive (d.filled + length cells) b (omega (arith, at.there, length-set d.archives d.archive b)) (get_set d.archives d.archive b at.there) count
+    ∙ cells_more f d.archives d.archive d.filled a b cells at.there put.is put.few put.cells_are in
+    λ i. let g : Filed = record (filed_in d) { heads = heads i; cells = more i } in g
 
 -- ---- the cursor
 
--- it stays in its archive
-pub record StaysIn (sources size last rows : ℕ) (old new : Cursor) : Type 0 where
+-- so many cells on it stays in its archive
+pub record StaysIn (sources size last rows count : ℕ) (old new : Cursor) : Type 0 where
   pub archive_is : new.archive ≡ old.archive
-  pub filled_is : filled_by sources new ≡ suc (filled_by sources old)
+  pub filled_is : filled_by sources new ≡ filled_by sources old + count
   pub few : filled_by sources new < sources * rows
   pub source_there : new.source < sources
   pub knows : KnowsPlace size last rows new
 
 -- or goes on to the next one
-pub record GoesOn (sources rows : ℕ) (old new : Cursor) : Type 0 where
+pub record GoesOn (sources rows count : ℕ) (old new : Cursor) : Type 0 where
   pub archive_is : new.archive ≡ suc old.archive
   pub filled_is : filled_by sources new ≡ 0
-  pub all : suc (filled_by sources old) ≡ sources * rows
+  pub all : filled_by sources old + count ≡ sources * rows
   pub source_there : new.source < sources
 
-mod_more : (n rows : ℕ) → (n % rows + 1) % rows ≡ (n + 1) % rows
-mod_more n rows =
-    let is : n + 1 ≡ (n % rows + 1) + n / rows * rows = omega (arith, mod-add-div' n rows) in
-    sym (ap (λ x. x % rows) is ∙ add-mul-mod_self_right (n % rows + 1) (n / rows) rows)
+mod_more : (n m rows : ℕ) → (n % rows + m) % rows ≡ (n + m) % rows
+mod_more n m rows =
+    let is : n + m ≡ (n % rows + m) + n / rows * rows = omega (arith, mod-add-div' n rows) in
+    sym (ap (λ x. x % rows) is ∙ add-mul-mod_self_right (n % rows + m) (n / rows) rows)
 
-place_next : (size last rows slot : ℕ) → 0 < rows → (place_in size last rows slot + 1) % rows ≡ place_in size last rows (slot + 1)
-place_next size last rows slot some =
+pub place_on : (size last rows slot count : ℕ) → 0 < rows → (place_in size last rows slot + count) % rows ≡ place_in size last rows (slot + count)
+place_on size last rows slot count some =
     let left = (last / size + 1) % rows in
-    mod_more (slot + rows - left) rows ∙ ap (λ n. n % rows) (let small : left < rows = omega arith in omega arith)
+    mod_more (slot + rows - left) count rows ∙ ap (λ n. n % rows) (let small : left < rows = omega arith in omega arith)
 
-slots_apart : (slot rows sources : ℕ) → slot < rows → slot * sources + sources ≤ sources * rows
+pub slots_apart : (slot rows sources : ℕ) → slot < rows → slot * sources + sources ≤ sources * rows
 slots_apart slot rows sources h =
     let left = rows - slot - 1 in
     let is : rows ≡ (slot + 1) + left = omega arith in
@@ -265,47 +288,47 @@ slots_apart slot rows sources h =
     omega (arith, one, two, three)
 
 next_source : (sources size last rows place : ℕ) (old new : Cursor) → Advances sources rows place old new → place ≡ place_in size last rows old.slot → old.slot < rows → old.source + 1 < sources
-    → StaysIn sources size last rows old new
+    → StaysIn sources size last rows 1 old new
 next_source sources size last rows place old new goes is slot more =
     let to : Cursor = record old { place = place; source = old.source + 1 } in
-    let here : StaysIn sources size last rows old to = record {
+    let here : StaysIn sources size last rows 1 old to = record {
       archive_is = refl;
       filled_is = omega arith;
       few = omega (arith, slots_apart old.slot rows sources slot, more);
       source_there = more;
       knows = λ _. is;
     } in
-    subst (StaysIn sources size last rows old) (sym (goes.next_source more)) here
+    subst (StaysIn sources size last rows 1 old) (sym (goes.next_source more)) here
 
 next_slot : (sources size last rows place : ℕ) (old new : Cursor) → Advances sources rows place old new → place ≡ place_in size last rows old.slot → old.source + 1 ≡ sources → old.slot + 1 < rows
-    → StaysIn sources size last rows old new
+    → StaysIn sources size last rows 1 old new
 next_slot sources size last rows place old new goes is source more =
     let to : Cursor = record old { slot = old.slot + 1; place = (place + 1) % rows; source = 0 } in
     let product : (old.slot + 1) * sources ≡ old.slot * sources + sources = ap (λ n. n * sources) (add-one old.slot) ∙ nat.suc-mul old.slot sources in
-    let here : StaysIn sources size last rows old to = record {
+    let here : StaysIn sources size last rows 1 old to = record {
       archive_is = refl;
       filled_is = omega (arith, product, source);
       few = omega (arith, slots_apart (old.slot + 1) rows sources more, source);
       source_there = omega (arith, source);
-      knows = λ _. ap (λ p. (p + 1) % rows) is ∙ place_next size last rows old.slot (omega (arith, more));
+      knows = λ _. ap (λ p. (p + 1) % rows) is ∙ place_on size last rows old.slot 1 (omega (arith, more));
     } in
-    subst (StaysIn sources size last rows old) (sym (goes.next_slot source more)) here
+    subst (StaysIn sources size last rows 1 old) (sym (goes.next_slot source more)) here
 
-next_archive : (sources rows place : ℕ) (old new : Cursor) → Advances sources rows place old new → old.source + 1 ≡ sources → old.slot + 1 ≡ rows → GoesOn sources rows old new
+next_archive : (sources rows place : ℕ) (old new : Cursor) → Advances sources rows place old new → old.source + 1 ≡ sources → old.slot + 1 ≡ rows → GoesOn sources rows 1 old new
 next_archive sources rows place old new goes source slot =
     let to : Cursor = record { archive = old.archive + 1; slot = 0; place = (place + 1) % rows; source = 0 } in
     let product : (old.slot + 1) * sources ≡ old.slot * sources + sources = ap (λ n. n * sources) (add-one old.slot) ∙ nat.suc-mul old.slot sources in
     let turned : rows * sources ≡ sources * rows = nat.mul_comm rows sources in
-    let here : GoesOn sources rows old to = record {
+    let here : GoesOn sources rows 1 old to = record {
       archive_is = omega arith;
       filled_is = omega arith;
       all = omega (arith, product, source, turned, ap (λ n. n * sources) slot);
       source_there = omega (arith, source);
     } in
-    subst (GoesOn sources rows old) (sym (goes.next_archive source slot)) here
+    subst (GoesOn sources rows 1 old) (sym (goes.next_archive source slot)) here
 
 goes_on : (sources size last rows place : ℕ) (old new : Cursor) → Advances sources rows place old new → place ≡ place_in size last rows old.slot → old.source < sources → old.slot < rows
-    → StaysIn sources size last rows old new ⊎ GoesOn sources rows old new
+    → StaysIn sources size last rows 1 old new ⊎ GoesOn sources rows 1 old new
 goes_on sources size last rows place old new goes is source slot = elim (cases_lt (old.source + 1) sources) [
   | inl more ↦ inl (next_source sources size last rows place old new goes is slot more)
   | inr last_source ↦ elim (cases_lt (old.slot + 1) rows) [
@@ -316,53 +339,58 @@ goes_on sources size last rows place old new goes is source slot = elim (cases_l
 
 -- ---- both
 
-pub record CellCame (d : Coming) (b : Archive) (cell : Cell) (new : Cursor) : Type 0 where
+pub record HaveCome (d : Coming) (b : Rra) (cells : List Cell) (new : Cursor) : Type 0 where
   pub came : IsRebuilding (cell_came d b new.archive (filled_by d.sources_due new))
   pub cursor_is : IsCursor (cell_came d b new.archive (filled_by d.sources_due new)) new
-  pub filed_is : filed_in (cell_came d b new.archive (filled_by d.sources_due new)) ≡ with_cell (filed_in d) cell
+  pub filed_is : filed_in (cell_came d b new.archive (filled_by d.sources_due new)) ≡ with_more (filed_in d) cells
 
-pub cell_comes : AllAsMany → (d : Coming) (a b : Archive) (cell : Cell) (place : ℕ) (old new : Cursor) → IsRebuilding d → AtCell d → IsPut d a b cell → d.archive ≡ old.archive → d.filled ≡ filled_by d.sources_due old
-    → place ≡ place_in (resolution d.step a.def) d.last a.def.rows old.slot → old.source < d.sources_due → old.slot < a.def.rows → Advances d.sources_due a.def.rows place old new → CellCame d b cell new
-cell_comes as_many d a b cell place old new is at put archive filled place_is source slot goes =
+pub cells_come : AllAsMany → (d : Coming) (a b : Rra) (cells : List Cell) (old new : Cursor) → IsRebuilding d → AtCell d → IsPut d a b cells → d.archive ≡ old.archive → d.filled ≡ filled_by d.sources_due old
+    → StaysIn d.sources_due (resolution d.step a.def) d.last a.def.rows (length cells) old new ⊎ GoesOn d.sources_due a.def.rows (length cells) old new → HaveCome d b cells new
+cells_come as_many d a b cells old new is at put archive filled goes =
     let wide : length (cells_by_slot d.step d.last a) ≡ d.sources_due * a.def.rows = archive_wide as_many d.sources_due d.step d.last a is.header_is.some_step (archive_at d a is at.there put.is) in
-    elim (goes_on d.sources_due (resolution d.step a.def) d.last a.def.rows place old new goes place_is source slot) [
+    elim goes [
       | inl stays ↦
           let same : new.archive ≡ d.archive = stays.archive_is ∙ sym archive in
-          let one : filled_by d.sources_due new ≡ suc d.filled = stays.filled_is ∙ ap suc (sym filled) in
+          let more : filled_by d.sources_due new ≡ d.filled + length cells = stays.filled_is ∙ ap (λ n. n + length cells) (sym filled) in
           let first : drop new.archive (set d.archives d.archive b) ≡ b ∷ drop (suc d.archive) d.archives = ap (λ n. drop n (set d.archives d.archive b)) same ∙ drop_set_here d.archives d.archive b at.there in
           let few : filled_by d.sources_due new < d.sources_due * b.def.rows = subst (λ (def : RraDef). filled_by d.sources_due new < d.sources_due * def.rows) (sym put.def_same) stays.few in
           record {
-            came = cell_keeps d a b cell new.archive (filled_by d.sources_due new) is at put (omega (arith, same, at.there)) (subst (λ (ys : List Archive). AreFewer d.sources_due ys (filled_by d.sources_due new)) (sym first) few);
+            came = cell_keeps d a b cells new.archive (filled_by d.sources_due new) is at put (omega (arith, same, at.there)) (subst (λ (ys : List Rra). AreFewer d.sources_due ys (filled_by d.sources_due new)) (sym first) few);
             cursor_is = record {
               source_there = stays.source_there;
-              knows_place = subst (λ (xs : List Archive). KnowsPlaceIn d.step d.last xs new) (sym first) (subst (λ (def : RraDef). KnowsPlace (resolution d.step def) d.last def.rows new) (sym put.def_same) stays.knows);
+              knows_place = subst (λ (xs : List Rra). KnowsPlaceIn d.step d.last xs new) (sym first) (subst (λ (def : RraDef). KnowsPlace (resolution d.step def) d.last def.rows new) (sym put.def_same) stays.knows);
             };
-            filed_is = (λ i. filed_in (cell_came d b (same i) (one i))) ∙ cell_within d a b cell at put;
+            filed_is = (λ i. filed_in (cell_came d b (same i) (more i))) ∙ cell_within d a b cells at put;
           }
       | inr on ↦
           let next : new.archive ≡ suc d.archive = on.archive_is ∙ ap suc (sym archive) in
           let none : filled_by d.sources_due new ≡ 0 = on.filled_is in
-          let all : suc d.filled ≡ length (cells_by_slot d.step d.last a) = ap suc filled ∙ (on.all ∙ sym wide) in
+          let all : d.filled + length cells ≡ length (cells_by_slot d.step d.last a) = ap (λ n. n + length cells) filled ∙ (on.all ∙ sym wide) in
           let later : drop new.archive (set d.archives d.archive b) ≡ drop (suc d.archive) d.archives = ap (λ n. drop n (set d.archives d.archive b)) next ∙ drop_set d.archives d.archive b in
           record {
-            came = cell_keeps d a b cell new.archive (filled_by d.sources_due new) is at put (omega (arith, next, at.there))
+            came = cell_keeps d a b cells new.archive (filled_by d.sources_due new) is at put (omega (arith, next, at.there))
                 (subst (λ n. AreFewer d.sources_due (drop new.archive (set d.archives d.archive b)) n) (sym none)
-                (subst (λ (ys : List Archive). AreFewer d.sources_due ys 0) (sym later) (fewer_none d.sources_due d.step d.last (drop (suc d.archive) d.archives) is.header_is.some_source (All-drop (IsArchiveSoFar d.sources_due d.step d.last) (suc d.archive) d.archives is.archives_are))));
+                (subst (λ (ys : List Rra). AreFewer d.sources_due ys 0) (sym later) (fewer_none d.sources_due d.step d.last (drop (suc d.archive) d.archives) is.header_is.some_source (All-drop (IsArchiveSoFar d.sources_due d.step d.last) (suc d.archive) d.archives is.archives_are))));
             cursor_is = record {
               source_there = on.source_there;
               knows_place = knows_nothing d.step d.last (drop new.archive (set d.archives d.archive b)) d.sources_due new on.source_there none;
             };
-            filed_is = (λ i. filed_in (cell_came d b (next i) (none i))) ∙ cell_over d a b cell at put all;
+            filed_is = (λ i. filed_in (cell_came d b (next i) (none i))) ∙ cell_over d a b cells at put all;
           }
     ]
+
+pub cell_comes : AllAsMany → (d : Coming) (a b : Rra) (cell : Cell) (place : ℕ) (old new : Cursor) → IsRebuilding d → AtCell d → IsPut d a b (cell ∷ []) → d.archive ≡ old.archive → d.filled ≡ filled_by d.sources_due old
+    → place ≡ place_in (resolution d.step a.def) d.last a.def.rows old.slot → old.source < d.sources_due → old.slot < a.def.rows → Advances d.sources_due a.def.rows place old new → HaveCome d b (cell ∷ []) new
+cell_comes as_many d a b cell place old new is at put archive filled place_is source slot goes =
+    cells_come as_many d a b (cell ∷ []) old new is at put archive filled (goes_on d.sources_due (resolution d.step a.def) d.last a.def.rows place old new goes place_is source slot)
 
 -- ---- where the cell goes
 
 -- the cursor is within the archive
-pub slot_there : (d : Coming) (a : Archive) (cursor : Cursor) → IsRebuilding d → d.archive < length d.archives → a ≡ get_or d.archives d.archive a → d.filled ≡ filled_by d.sources_due cursor → cursor.slot < a.def.rows
+pub slot_there : (d : Coming) (a : Rra) (cursor : Cursor) → IsRebuilding d → d.archive < length d.archives → a ≡ get_or d.archives d.archive a → d.filled ≡ filled_by d.sources_due cursor → cursor.slot < a.def.rows
 slot_there d a cursor is there e filled =
     let first = drop_here d.archives d.archive a there e in
-    let few : d.filled < d.sources_due * a.def.rows = subst (λ (ys : List Archive). AreFewer d.sources_due ys d.filled) first is.filled_few in
+    let few : d.filled < d.sources_due * a.def.rows = subst (λ (ys : List Rra). AreFewer d.sources_due ys d.filled) first is.filled_few in
     elim (cases_lt cursor.slot a.def.rows) [
       | inl lt ↦ lt
       | inr le ↦
@@ -373,19 +401,19 @@ slot_there d a cursor is there e filled =
           absurd (omega (arith, few, filled, one, two))
     ]
 
-pub knows_here : (d : Coming) (a : Archive) (cursor : Cursor) → d.archive < length d.archives → a ≡ get_or d.archives d.archive a → IsCursor d cursor → KnowsPlace (resolution d.step a.def) d.last a.def.rows cursor
-knows_here d a cursor there e is = subst (λ (xs : List Archive). KnowsPlaceIn d.step d.last xs cursor) (drop_here d.archives d.archive a there e) is.knows_place
+pub knows_here : (d : Coming) (a : Rra) (cursor : Cursor) → d.archive < length d.archives → a ≡ get_or d.archives d.archive a → IsCursor d cursor → KnowsPlace (resolution d.step a.def) d.last a.def.rows cursor
+knows_here d a cursor there e is = subst (λ (xs : List Rra). KnowsPlaceIn d.step d.last xs cursor) (drop_here d.archives d.archive a there e) is.knows_place
 
 -- by the law of the cells in slots
 abbrev pub AllPut : Type 0
 AllPut = (resolution last sources : ℕ) (rows : List (List Cell)) (slot source : ℕ) (cell : Cell) → PutsCell resolution last sources rows slot source cell
 
-abbrev pub with_cell_at : Archive → ℕ → ℕ → Cell → Archive
+abbrev pub with_cell_at : Rra → ℕ → ℕ → Cell → Rra
 with_cell_at a place source cell = record a { rows = set a.rows place (set (get_or a.rows place []) source cell) }
 
-pub is_put : AllAsMany → AllPut → (d : Coming) (a : Archive) (cell : Cell) (place : ℕ) (cursor : Cursor) → IsRebuilding d → d.archive < length d.archives → a ≡ get_or d.archives d.archive a
+pub is_put : AllAsMany → AllPut → (d : Coming) (a : Rra) (cell : Cell) (place : ℕ) (cursor : Cursor) → IsRebuilding d → d.archive < length d.archives → a ≡ get_or d.archives d.archive a
     → d.filled ≡ filled_by d.sources_due cursor → place ≡ place_in (resolution d.step a.def) d.last a.def.rows cursor.slot → cursor.source < d.sources_due → place < length a.rows → IsBounded cell
-    → IsPut d a (with_cell_at a place cursor.source cell) cell
+    → IsPut d a (with_cell_at a place cursor.source cell) (cell ∷ [])
 is_put as_many puts d a cell place cursor is there e filled place_is source inside bounded =
     let so_far = archive_at d a is there e in
     let size : 0 < resolution d.step a.def = nat.mul-pos is.header_is.some_step so_far.def_is.some_steps in
@@ -396,7 +424,7 @@ is_put as_many puts d a cell place cursor is there e filled place_is source insi
     let written : IsRow d.sources_due (set (get_or a.rows place []) cursor.source cell) = record { one_each = length-set (get_or a.rows place []) cursor.source cell ∙ row.one_each; each = All_set IsBounded (get_or a.rows place []) cursor.source cell row.each bounded } in
     let wide : length (cells_by_slot d.step d.last a) ≡ d.sources_due * a.def.rows = archive_wide as_many d.sources_due d.step d.last a is.header_is.some_step so_far in
     let first = drop_here d.archives d.archive a there e in
-    let few : d.filled < d.sources_due * a.def.rows = subst (λ (ys : List Archive). AreFewer d.sources_due ys d.filled) first is.filled_few in
+    let few : d.filled < d.sources_due * a.def.rows = subst (λ (ys : List Rra). AreFewer d.sources_due ys d.filled) first is.filled_few in
     record {
       is = e;
       def_same = refl;
@@ -404,19 +432,20 @@ is_put as_many puts d a cell place cursor is there e filled place_is source insi
       as_many = length-set a.rows place (set (get_or a.rows place []) cursor.source cell);
       each_row = All_set (IsRow d.sources_due) a.rows place (set (get_or a.rows place []) cursor.source cell) so_far.each_row written;
       few = omega (arith, few, wide);
-      cells = subst (λ p. by_slot (resolution d.step a.def) d.last (set a.rows p (set (get_or a.rows p []) cursor.source cell)) ≡ set (cells_by_slot d.step d.last a) (cursor.slot * d.sources_due + cursor.source) cell) here put
-          ∙ ap (λ n. set (cells_by_slot d.step d.last a) n cell) (sym filled);
+      cells_are = subst (λ p. by_slot (resolution d.step a.def) d.last (set a.rows p (set (get_or a.rows p []) cursor.source cell)) ≡ set (cells_by_slot d.step d.last a) (cursor.slot * d.sources_due + cursor.source) cell) here put
+          ∙ ap (λ n. set (cells_by_slot d.step d.last a) n cell) (sym filled)
+          ∙ set_is_put (cells_by_slot d.step d.last a) d.filled cell (omega (arith, few, wide));
     }
 
 -- ---- what code needs to know
 
-pub record CellHere (d : Coming) (a : Archive) (cursor : Cursor) : Type 0 where
+pub record CellHere (d : Coming) (a : Rra) (cursor : Cursor) : Type 0 where
   pub at : AtCell d
   pub so_far : IsArchiveSoFar d.sources_due d.step d.last a
   pub slot : cursor.slot < a.def.rows
   pub knows : KnowsPlace (resolution d.step a.def) d.last a.def.rows cursor
 
-pub cell_here : AllAsMany → (d : Coming) (a : Archive) (cursor : Cursor) → IsRebuilding d → IsCursor d cursor → due (filed_in d) ≡ CellDue → a ≡ get_or d.archives d.archive a → d.filled ≡ filled_by d.sources_due cursor → CellHere d a cursor
+pub cell_here : AllAsMany → (d : Coming) (a : Rra) (cursor : Cursor) → IsRebuilding d → IsCursor d cursor → due (filed_in d) ≡ CellDue → a ≡ get_or d.archives d.archive a → d.filled ≡ filled_by d.sources_due cursor → CellHere d a cursor
 cell_here as_many d a cursor is at e here filled =
     let cell = at_cell as_many d is e in
     record { at = cell; so_far = archive_at d a is cell.there here; slot = slot_there d a cursor is cell.there here filled; knows = knows_here d a cursor cell.there here at }
@@ -425,12 +454,12 @@ cell_here as_many d a cursor is at e here filled =
 abbrev pub EachHasPlace : Type 0
 EachHasPlace = (resolution last rows slot : ℕ) → SlotHasPlace resolution last rows slot
 
-pub place_there : EachHasPlace → (d : Coming) (a : Archive) (cursor : Cursor) (place : ℕ) → IsRebuilding d → CellHere d a cursor → place ≡ place_in (resolution d.step a.def) d.last a.def.rows cursor.slot → place < a.def.rows
+pub place_there : EachHasPlace → (d : Coming) (a : Rra) (cursor : Cursor) (place : ℕ) → IsRebuilding d → CellHere d a cursor → place ≡ place_in (resolution d.step a.def) d.last a.def.rows cursor.slot → place < a.def.rows
 place_there places d a cursor place is here e =
     let there = places (resolution d.step a.def) d.last a.def.rows cursor.slot (nat.mul-pos is.header_is.some_step here.so_far.def_is.some_steps) here.slot in
     subst (λ n. n < a.def.rows) (sym e) there.there
 
-pub row_there : (d : Coming) (a : Archive) (cursor : Cursor) (place : ℕ) → CellHere d a cursor → place < a.def.rows → length (get_or a.rows place []) ≡ d.sources_due
+pub row_there : (d : Coming) (a : Rra) (cursor : Cursor) (place : ℕ) → CellHere d a cursor → place < a.def.rows → length (get_or a.rows place []) ≡ d.sources_due
 row_there d a cursor place here inside =
     let row : IsRow d.sources_due (get_or a.rows place []) = All-at (IsRow d.sources_due) a.rows place [] here.so_far.each_row (omega (arith, inside, here.so_far.rows_are)) in
     row.one_each

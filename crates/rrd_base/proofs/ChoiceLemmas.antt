@@ -13,7 +13,7 @@ use Rattle.std.proofs.lemmas.List.Folds.{find-append, list_any-append}
 use Rattle.rrd_fold.specs.declared.function.Function.{Function}
 use Rattle.rrd_spec.specs.declared.settings.RraDef.{RraDef}
 use Rattle.rrd_spec.specs.declared.requests.fetch.Candidate.{Candidate}
-use Rattle.rrd_spec.specs.declared.requests.fetch.Request.{Request}
+use Rattle.rrd_spec.specs.declared.requests.fetch.FetchRequest.{FetchRequest}
 use Rattle.rrd_base.specs.Fetch.{Searched, searched, is_preferred}
 use Rattle.rrd_spec.specs.Choice.{same_function, candidate, candidates, best, covers, is_nearer, is_farther, taken}
 
@@ -248,21 +248,21 @@ candidates_more step last function defs def =
 
 -- ---- the search
 
-with_best : ℕ → ℕ → Request → Option Candidate → Searched
+with_best : ℕ → ℕ → FetchRequest → Option Candidate → Searched
 with_best step last request found = record { step = step; last = last; request = request; best = found }
 
 -- an archive that is offered is compared with what was taken before
 abbrev pub compared : Searched → ℕ → RraDef → Searched
 compared old number def = record old { best = instead old.request.asked old.request.start old.best (candidate old.step old.last (number, def)) }
 
-pub other_function : (old : Searched) (step last : ℕ) (request : Request) (defs : List RraDef) (def : RraDef) → old ≡ searched step last request defs → same_function def.function old.request.function ≡ false → old ≡ searched step last request (defs ++ def ∷ [])
+pub other_function : (old : Searched) (step last : ℕ) (request : FetchRequest) (defs : List RraDef) (def : RraDef) → old ≡ searched step last request defs → same_function def.function old.request.function ≡ false → old ≡ searched step last request (defs ++ def ∷ [])
 unfolding with_best
 other_function old step last request defs def is other =
     let no : same_function def.function request.function ≡ false = sym (ap (λ (s : Searched). same_function def.function s.request.function) is) ∙ other in
     let all : candidates step last request.function (defs ++ def ∷ []) ≡ candidates step last request.function defs = candidates_more step last request.function defs def ∙ ap (λ zs. candidates step last request.function defs ++ zs) (cond-false (same_function def.function request.function) (candidate step last (length defs, def) ∷ []) [] no) ∙ append-nil (candidates step last request.function defs) in
     is ∙ sym (ap (λ zs. with_best step last request (taken request.asked request.start zs)) all)
 
-pub one_compared : (old : Searched) (number step last : ℕ) (request : Request) (defs : List RraDef) (def : RraDef) → number ≡ length defs → old ≡ searched step last request defs → same_function def.function old.request.function ≡ true → compared old number def ≡ searched step last request (defs ++ def ∷ [])
+pub one_compared : (old : Searched) (number step last : ℕ) (request : FetchRequest) (defs : List RraDef) (def : RraDef) → number ≡ length defs → old ≡ searched step last request defs → same_function def.function old.request.function ≡ true → compared old number def ≡ searched step last request (defs ++ def ∷ [])
 unfolding with_best
 one_compared old number step last request defs def count is same =
     let yes : same_function def.function request.function ≡ true = sym (ap (λ (s : Searched). same_function def.function s.request.function) is) ∙ same in

@@ -24,7 +24,7 @@ use Rattle.rrd_spec.specs.declared.outline.Outline.{Outline}
 use Rattle.rrd_base.specs.declared.journal.Entry.{Entry}
 use Rattle.rrd_spec.specs.Commands.{rows_of_archives}
 use Rattle.rrd_spec.specs.Files.Filed.{Filed, Head, Source, head_of, sources_of}
-use Rattle.rrd_spec.specs.History.{Archive}
+use Rattle.rrd_spec.specs.History.{Rra}
 use Rattle.rrd_base.specs.Rebuild.{ArePrepared, Coming, IsArchiveSoFar, IsRebuilding, cells_before, content_so_far, filed_in, IsCursor}
 use Rattle.rrd_base.specs.Rebuild.Cursors.{AreFewer, KnowsPlaceIn, filled_by}
 use Rattle.rrd_base.specs.Journal.{journal_of}
@@ -108,7 +108,7 @@ pub outlines_lengths : (d : Coming) → IsRebuilding d → d.journal ≡ [] → 
 outlines_lengths d is none =
     ap (λ (o : Outline). length o.archives) (plain_outline d is none) ∙ length-map (map head_of d.archives) (λ (head : Head). head.def) ∙ length-map d.archives head_of
 
-pub knows_nothing : (step last : ℕ) (archives : List Archive) (sources : ℕ) (cursor : Cursor) → cursor.source < sources → filled_by sources cursor ≡ 0 → KnowsPlaceIn step last archives cursor
+pub knows_nothing : (step last : ℕ) (archives : List Rra) (sources : ℕ) (cursor : Cursor) → cursor.source < sources → filled_by sources cursor ≡ 0 → KnowsPlaceIn step last archives cursor
 knows_nothing step last [] sources cursor there none = tt
 knows_nothing step last (a ∷ archives) sources cursor there none = λ some.
     absurd (elim (cases_zero cursor.slot) [
@@ -202,25 +202,25 @@ names_came d name is = ap (λ ds. has_source ds name) (defs_of d.sources d.raws 
 
 -- ---- an archive
 
-pub rows_same : (archives : List Archive) → map (λ (head : Head). head.def.rows) (map head_of archives) ≡ rows_of_archives archives
+pub rows_same : (archives : List Rra) → map (λ (head : Head). head.def.rows) (map head_of archives) ≡ rows_of_archives archives
 rows_same [] = refl
 rows_same (a ∷ archives) = ap (λ (rows : List ℕ). a.def.rows ∷ rows) (rows_same archives)
 
-pub rows_all : (archives : List Archive) → rows_in_all (map head_of archives) ≡ sum (rows_of_archives archives)
+pub rows_all : (archives : List Rra) → rows_in_all (map head_of archives) ≡ sum (rows_of_archives archives)
 rows_all archives = ap sum (rows_same archives)
 
 fold_all : (n : ℕ) (xs : List ℕ) (x : ℕ) → fold ◌+◌ n (xs ++ x ∷ []) ≡ fold ◌+◌ n xs + x
 fold_all n [] x = refl
 fold_all n (y ∷ xs) x = fold_all (n + y) xs x
 
-rows_more : (archives : List Archive) (a : Archive) → rows_of_archives (archives ++ a ∷ []) ≡ rows_of_archives archives ++ a.def.rows ∷ []
+rows_more : (archives : List Rra) (a : Rra) → rows_of_archives (archives ++ a ∷ []) ≡ rows_of_archives archives ++ a.def.rows ∷ []
 rows_more [] a = refl
 rows_more (s ∷ archives) a = ap (λ (rows : List ℕ). s.def.rows ∷ rows) (rows_more archives a)
 
-pub sum_more : (archives : List Archive) (a : Archive) → sum (rows_of_archives (archives ++ a ∷ [])) ≡ sum (rows_of_archives archives) + a.def.rows
+pub sum_more : (archives : List Rra) (a : Rra) → sum (rows_of_archives (archives ++ a ∷ [])) ≡ sum (rows_of_archives archives) + a.def.rows
 sum_more archives a = ap sum (rows_more archives a) ∙ fold_all 0 (rows_of_archives archives) a.def.rows
 
-heads_more : (archives : List Archive) (a : Archive) → map head_of (archives ++ a ∷ []) ≡ map head_of archives ++ head_of a ∷ []
+heads_more : (archives : List Rra) (a : Rra) → map head_of (archives ++ a ∷ []) ≡ map head_of archives ++ head_of a ∷ []
 heads_more [] a = refl
 heads_more (s ∷ archives) a = ap (λ (heads : List Head). head_of s ∷ heads) (heads_more archives a)
 
@@ -228,7 +228,7 @@ defs_more : (heads : List Head) (a : Head) → map (λ (head : Head). head.def) 
 defs_more [] a = refl
 defs_more (h ∷ heads) a = ap (λ (defs : List RraDef). h.def ∷ defs) (defs_more heads a)
 
-prepared_more : (sources : ℕ) (archives : List Archive) (a : Archive) → ArePrepared sources archives → AllByRecursion (λ (x : Archive). length x.parts ≤ sources) archives → unprepared sources (map head_of archives) ≡ None → ArePrepared sources (archives ++ a ∷ [])
+prepared_more : (sources : ℕ) (archives : List Rra) (a : Rra) → ArePrepared sources archives → AllByRecursion (λ (x : Rra). length x.parts ≤ sources) archives → unprepared sources (map head_of archives) ≡ None → ArePrepared sources (archives ++ a ∷ [])
 prepared_more sources [] a is few none = tt
 prepared_more sources (b ∷ []) a is few none = elim (cases_lt (length b.parts) sources) [
   | inl lt ↦ absurd (let e = rw (lt-ltb (length b.parts) sources lt) at none in cc)
@@ -236,7 +236,7 @@ prepared_more sources (b ∷ []) a is few none = elim (cases_lt (length b.parts)
 ]
 prepared_more sources (b ∷ x ∷ archives) a is few none = (is.0, prepared_more sources (x ∷ archives) a is.1 few.1 (rw (le-ltb (length b.parts) sources (omega (arith, is.0))) at none))
 
-abbrev pub archive_came : Coming → Archive → Coming
+abbrev pub archive_came : Coming → Rra → Coming
 archive_came d a = record d { archives = d.archives ++ a ∷ []; outline = record d.outline { archives = d.outline.archives ++ a.def ∷ [] } }
 
 -- what is due at a head
@@ -284,14 +284,14 @@ none_later d is few =
     ] in
     record { archive = omega arith; filled = omega arith; journal = no_entries d is (omega arith) }
 
-cells_none : (step last : ℕ) (archives : List Archive) (archive filled : ℕ) → archive ≡ 0 → filled ≡ 0 → cells_before step last archives archive filled ≡ []
+cells_none : (step last : ℕ) (archives : List Rra) (archive filled : ℕ) → archive ≡ 0 → filled ≡ 0 → cells_before step last archives archive filled ≡ []
 cells_none step last archives archive filled a b = ap (λ n. cells_before step last archives n filled) a ∙ ap (λ n. cells_before step last archives 0 n) b
 
-fewer_one : (sources filled : ℕ) (archives : List Archive) (a : Archive) → filled ≡ 0 → 0 < sources → AreFewer sources archives filled → 0 < a.def.rows → AreFewer sources (archives ++ a ∷ []) filled
+fewer_one : (sources filled : ℕ) (archives : List Rra) (a : Rra) → filled ≡ 0 → 0 < sources → AreFewer sources archives filled → 0 < a.def.rows → AreFewer sources (archives ++ a ∷ []) filled
 fewer_one sources filled [] a none some few rows = let p : 0 < sources * a.def.rows = nat.mul-pos some rows in omega (arith, none, p)
 fewer_one sources filled (s ∷ archives) a none some few rows = few
 
-pub head_is : (d : Coming) (a : Archive) → IsRebuilding d → a.parts ≡ [] → due (filed_in d) ≡ HeadDue → filed_in (archive_came d a) ≡ with_head (filed_in d) a.def
+pub head_is : (d : Coming) (a : Rra) → IsRebuilding d → a.parts ≡ [] → due (filed_in d) ≡ HeadDue → filed_in (archive_came d a) ≡ with_head (filed_in d) a.def
 head_is d a is none e =
     let at = at_head d is e in
     let later = none_later d is at.few in
@@ -300,11 +300,11 @@ head_is d a is none e =
     let cells : cells_before d.step d.last (d.archives ++ a ∷ []) d.archive d.filled ≡ cells_before d.step d.last d.archives d.archive d.filled = cells_none d.step d.last (d.archives ++ a ∷ []) d.archive d.filled later.archive later.filled ∙ sym (cells_none d.step d.last d.archives d.archive d.filled later.archive later.filled) in
     λ i. let f : Filed = record (filed_in d) { heads = heads i; cells = cells i } in f
 
-few_each : (sources step last : ℕ) (archives : List Archive) → AllByRecursion (IsArchiveSoFar sources step last) archives → AllByRecursion (λ (x : Archive). length x.parts ≤ sources) archives
+few_each : (sources step last : ℕ) (archives : List Rra) → AllByRecursion (IsArchiveSoFar sources step last) archives → AllByRecursion (λ (x : Rra). length x.parts ≤ sources) archives
 few_each sources step last [] all = tt
 few_each sources step last (a ∷ archives) all = (all.0.few_parts, few_each sources step last archives all.1)
 
-pub head_keeps : (d : Coming) (a : Archive) → IsRebuilding d → a.parts ≡ [] → a.rows ≡ replicate a.def.rows (replicate d.sources_due Cell.Unknown) → MayHead (filed_in d) a.def → IsRebuilding (archive_came d a)
+pub head_keeps : (d : Coming) (a : Rra) → IsRebuilding d → a.parts ≡ [] → a.rows ≡ replicate a.def.rows (replicate d.sources_due Cell.Unknown) → MayHead (filed_in d) a.def → IsRebuilding (archive_came d a)
 head_keeps d a is none rows may =
     let at = at_head d is may.is_due in
     let later = none_later d is at.few in
@@ -390,14 +390,14 @@ prep_some : (o : Option RraDef) (later : Due) (def : RraDef) → (later ≡ Prep
 prep_some None later def other e = absurd (other e)
 prep_some (Some x) later def other e = cc
 
-unprepared_def : (sources step last : ℕ) (archives : List Archive) (def : RraDef) → AllByRecursion (IsArchiveSoFar sources step last) archives → unprepared sources (map head_of archives) ≡ Some def → IsArchiveDef present def
+unprepared_def : (sources step last : ℕ) (archives : List Rra) (def : RraDef) → AllByRecursion (IsArchiveSoFar sources step last) archives → unprepared sources (map head_of archives) ≡ Some def → IsArchiveDef present def
 unprepared_def sources step last [] def all e = absurd cc
 unprepared_def sources step last (a ∷ archives) def all e = elim (cases_lt (length a.parts) sources) [
   | inl lt ↦ let e2 = rw (lt-ltb (length a.parts) sources lt) at e in let same : a.def ≡ def = cc in subst (IsArchiveDef present) same all.0.def_is
   | inr le ↦ unprepared_def sources step last archives def all.1 (rw (le-ltb (length a.parts) sources le) at e)
 ]
 
-some_archive : (sources : ℕ) (archives : List Archive) (def : RraDef) → unprepared sources (map head_of archives) ≡ Some def → 0 < length archives
+some_archive : (sources : ℕ) (archives : List Rra) (def : RraDef) → unprepared sources (map head_of archives) ≡ Some def → 0 < length archives
 some_archive sources [] def e = absurd cc
 some_archive sources (a ∷ archives) def e = omega arith
 
@@ -409,35 +409,35 @@ at_prep d def is e = elim (cases_lt (length d.sources) d.sources_due) [
       record { is = o; some = some_archive d.sources_due d.archives def o; def_is = unprepared_def d.sources_due d.step d.last d.archives def is.archives_are o }
 ]
 
-one_unprepared : (sources : ℕ) (x : Archive) (def : RraDef) → unprepared sources (head_of x ∷ []) ≡ Some def → (length x.parts < sources) × (x.def ≡ def)
+one_unprepared : (sources : ℕ) (x : Rra) (def : RraDef) → unprepared sources (head_of x ∷ []) ≡ Some def → (length x.parts < sources) × (x.def ≡ def)
 one_unprepared sources x def e = elim (cases_lt (length x.parts) sources) [
   | inl lt ↦ let e2 = rw (lt-ltb (length x.parts) sources lt) at e in let same : x.def ≡ def = cc in (lt, same)
   | inr le ↦ absurd (let e2 = rw (le-ltb (length x.parts) sources le) at e in cc)
 ]
 
-pub last_prep : (d : Coming) (x : Archive) (i : ℕ) (def : RraDef) → IsRebuilding d → length d.archives ≡ suc i → x ≡ get_or d.archives i x → unprepared d.sources_due (map head_of d.archives) ≡ Some def → (length x.parts < d.sources_due) × (x.def ≡ def)
+pub last_prep : (d : Coming) (x : Rra) (i : ℕ) (def : RraDef) → IsRebuilding d → length d.archives ≡ suc i → x ≡ get_or d.archives i x → unprepared d.sources_due (map head_of d.archives) ≡ Some def → (length x.parts < d.sources_due) × (x.def ≡ def)
 last_prep d x i def is n e o = one_unprepared d.sources_due x def (sym (unprepared_is d x i is n e) ∙ o)
 
-set_last : (xs : List Archive) (i : ℕ) (x : Archive) → length xs ≡ suc i → set xs i x ≡ take i xs ++ x ∷ []
+set_last : (xs : List Rra) (i : ℕ) (x : Rra) → length xs ≡ suc i → set xs i x ≡ take i xs ++ x ∷ []
 set_last [] i x n = absurd (omega arith)
 set_last (y ∷ []) zero x n = refl
 set_last (y ∷ z ∷ xs) zero x n = absurd (omega arith)
-set_last (y ∷ xs) (suc i) x n = ap (λ (r : List Archive). y ∷ r) (set_last xs i x (omega arith))
+set_last (y ∷ xs) (suc i) x n = ap (λ (r : List Rra). y ∷ r) (set_last xs i x (omega arith))
 
-All_last : (P : Archive → Type 0) (front : List Archive) (x y : Archive) → AllByRecursion P (front ++ x ∷ []) → (P x → P y) → AllByRecursion P (front ++ y ∷ [])
+All_last : (P : Rra → Type 0) (front : List Rra) (x y : Rra) → AllByRecursion P (front ++ x ∷ []) → (P x → P y) → AllByRecursion P (front ++ y ∷ [])
 All_last P [] x y all f = (f all.0, tt)
 All_last P (a ∷ front) x y all f = (all.0, All_last P front x y all.1 f)
 
-prepared_front : (sources : ℕ) (front : List Archive) (x y : Archive) → ArePrepared sources (front ++ x ∷ []) → ArePrepared sources (front ++ y ∷ [])
+prepared_front : (sources : ℕ) (front : List Rra) (x y : Rra) → ArePrepared sources (front ++ x ∷ []) → ArePrepared sources (front ++ y ∷ [])
 prepared_front sources [] x y is = tt
 prepared_front sources (a ∷ []) x y is = (is.0, tt)
 prepared_front sources (a ∷ b ∷ front) x y is = (is.0, prepared_front sources (b ∷ front) x y is.1)
 
-fewer_front : (sources filled : ℕ) (front : List Archive) (x y : Archive) → x.def ≡ y.def → AreFewer sources (front ++ x ∷ []) filled → AreFewer sources (front ++ y ∷ []) filled
+fewer_front : (sources filled : ℕ) (front : List Rra) (x y : Rra) → x.def ≡ y.def → AreFewer sources (front ++ x ∷ []) filled → AreFewer sources (front ++ y ∷ []) filled
 fewer_front sources filled [] x y e few = subst (λ (def : RraDef). filled < sources * def.rows) e few
 fewer_front sources filled (a ∷ front) x y e few = few
 
-heads_part : (front : List Archive) (x : Archive) (part : Part) → map head_of (front ++ record x { parts = x.parts ++ part ∷ [] } ∷ []) ≡ heads_with_part (map head_of (front ++ x ∷ [])) part
+heads_part : (front : List Rra) (x : Rra) (part : Part) → map head_of (front ++ record x { parts = x.parts ++ part ∷ [] } ∷ []) ≡ heads_with_part (map head_of (front ++ x ∷ [])) part
 heads_part [] x part = refl
 heads_part (a ∷ []) x part = refl
 heads_part (a ∷ b ∷ front) x part = ap (λ (heads : List Head). head_of a ∷ heads) (heads_part (b ∷ front) x part)
@@ -454,9 +454,9 @@ prep_later d def is o =
     record { archive = omega arith; filled = omega arith; journal = no_entries d is (omega arith) }
 
 -- where the archives are these
-front_keeps : (d : Coming) (front : List Archive) (x : Archive) (part : Part) → IsRebuilding (record d { archives = front ++ x ∷ [] }) → NoneLater d → length x.parts < d.sources_due → IsRowPart d.step d.last x.def part → IsRebuilding (record d { archives = front ++ record x { parts = x.parts ++ part ∷ [] } ∷ [] })
+front_keeps : (d : Coming) (front : List Rra) (x : Rra) (part : Part) → IsRebuilding (record d { archives = front ++ x ∷ [] }) → NoneLater d → length x.parts < d.sources_due → IsRowPart d.step d.last x.def part → IsRebuilding (record d { archives = front ++ record x { parts = x.parts ++ part ∷ [] } ∷ [] })
 front_keeps d front x part is later few one =
-    let y : Archive = record x { parts = x.parts ++ part ∷ [] } in
+    let y : Rra = record x { parts = x.parts ++ part ∷ [] } in
     let old = record d { archives = front ++ x ∷ [] } in
     let new = record d { archives = front ++ y ∷ [] } in
     let counts : length (front ++ y ∷ []) ≡ length (front ++ x ∷ []) = length-append front (y ∷ []) ∙ sym (length-append front (x ∷ [])) in
@@ -492,21 +492,21 @@ front_keeps d front x part is later few one =
       cells_first = λ some. absurd (omega (arith, some, ap length later.journal));
     }
 
-abbrev pub prep_came : Coming → ℕ → Archive → Part → Coming
+abbrev pub prep_came : Coming → ℕ → Rra → Part → Coming
 prep_came d i x part = record d { archives = set d.archives i (record x { parts = x.parts ++ part ∷ [] }) }
 
-pub prep_keeps : (d : Coming) (i : ℕ) (x : Archive) (def : RraDef) (part : Part) → IsRebuilding d → length d.archives ≡ suc i → x ≡ get_or d.archives i x → unprepared d.sources_due (map head_of d.archives) ≡ Some def → IsRowPart d.step d.last def part → IsRebuilding (prep_came d i x part)
+pub prep_keeps : (d : Coming) (i : ℕ) (x : Rra) (def : RraDef) (part : Part) → IsRebuilding d → length d.archives ≡ suc i → x ≡ get_or d.archives i x → unprepared d.sources_due (map head_of d.archives) ≡ Some def → IsRowPart d.step d.last def part → IsRebuilding (prep_came d i x part)
 prep_keeps d i x def part is n e o one =
     let last = last_prep d x i def is n e o in
     let split = split_at d.archives i x n e in
     let joined = set_last d.archives i (record x { parts = x.parts ++ part ∷ [] }) n in
-    subst (λ (archives : List Archive). IsRebuilding (record d { archives = archives })) (sym joined)
-    (front_keeps d (take i d.archives) x part (subst (λ (archives : List Archive). IsRebuilding (record d { archives = archives })) split is) (prep_later d def is o) last.0 (subst (λ (def : RraDef). IsRowPart d.step d.last def part) (sym last.1) one))
+    subst (λ (archives : List Rra). IsRebuilding (record d { archives = archives })) (sym joined)
+    (front_keeps d (take i d.archives) x part (subst (λ (archives : List Rra). IsRebuilding (record d { archives = archives })) split is) (prep_later d def is o) last.0 (subst (λ (def : RraDef). IsRowPart d.step d.last def part) (sym last.1) one))
 
-pub prep_is : (d : Coming) (i : ℕ) (x : Archive) (def : RraDef) (part : Part) → IsRebuilding d → length d.archives ≡ suc i → x ≡ get_or d.archives i x → unprepared d.sources_due (map head_of d.archives) ≡ Some def → filed_in (prep_came d i x part) ≡ with_prep (filed_in d) part
+pub prep_is : (d : Coming) (i : ℕ) (x : Rra) (def : RraDef) (part : Part) → IsRebuilding d → length d.archives ≡ suc i → x ≡ get_or d.archives i x → unprepared d.sources_due (map head_of d.archives) ≡ Some def → filed_in (prep_came d i x part) ≡ with_prep (filed_in d) part
 prep_is d i x def part is n e o =
     let later = prep_later d def is o in
     let new = set d.archives i (record x { parts = x.parts ++ part ∷ [] }) in
-    let heads : map head_of new ≡ heads_with_part (map head_of d.archives) part = ap (map head_of) (set_last d.archives i (record x { parts = x.parts ++ part ∷ [] }) n) ∙ (heads_part (take i d.archives) x part ∙ ap (λ (archives : List Archive). heads_with_part (map head_of archives) part) (sym (split_at d.archives i x n e))) in
+    let heads : map head_of new ≡ heads_with_part (map head_of d.archives) part = ap (map head_of) (set_last d.archives i (record x { parts = x.parts ++ part ∷ [] }) n) ∙ (heads_part (take i d.archives) x part ∙ ap (λ (archives : List Rra). heads_with_part (map head_of archives) part) (sym (split_at d.archives i x n e))) in
     let cells : cells_before d.step d.last new d.archive d.filled ≡ cells_before d.step d.last d.archives d.archive d.filled = cells_none d.step d.last new d.archive d.filled later.archive later.filled ∙ sym (cells_none d.step d.last d.archives d.archive d.filled later.archive later.filled) in
     λ i. let f : Filed = record (filed_in d) { heads = heads i; cells = cells i } in f

@@ -3,7 +3,7 @@ use Rattle.std.proofs.Common.{◌≡◌, ◌∙◌, ap, ℕ, zero, suc, ◌+◌,
 use Rattle.std.specs.List.{AllByRecursion}
 use Rattle.rrd_fixed.specs.declared.cell.Cell.{Cell}
 use Rattle.rrd_ring.specs.Rows.{HasWidth}
-use Rattle.rrd_spec.specs.History.{Archive}
+use Rattle.rrd_spec.specs.History.{Rra}
 use Rattle.rrd_spec.specs.Journal.Entries.{SavedArchive, cells_in, cells_saved, saved, rows_between}
 use Rattle.rrd_spec.specs.Validity.{IsValidArchive}
 use Rattle.rrd_spec.specs.Lemmas.Validity.{rows_wide}
@@ -29,7 +29,7 @@ wide_at sources (s ∷ rest) (suc i) d h is = wide_at sources rest i d (omega ar
 
 -- ---- what an update saves of valid archives
 
-pub wide_saved : (sources steps step from to : ℕ) (archives : List Archive) → AllByRecursion (IsValidArchive sources steps) archives → AllByRecursion (λ (old : SavedArchive). HasWidth sources old.rows) (map (saved step from to) archives)
+pub wide_saved : (sources steps step from to : ℕ) (archives : List Rra) → AllByRecursion (IsValidArchive sources steps) archives → AllByRecursion (λ (old : SavedArchive). HasWidth sources old.rows) (map (saved step from to) archives)
 wide_saved sources steps step from to [] is = tt
 wide_saved sources steps step from to (archive ∷ archives) is =
     (All-take _ (min (rows_between step archive.def from to) (length archive.rows)) archive.rows (rows_wide sources archive.rows is.0.each_row), wide_saved sources steps step from to archives is.1)

@@ -7,7 +7,7 @@ use Rattle.rrd_spec.specs.declared.settings.DsDef.{DsDef}
 use Rattle.rrd_fixed.specs.declared.name.Name.{Name}
 use Rattle.rrd_spec.specs.History.{Content, Reading, Sampled, Moment, moment_of, moment_after}
 use Rattle.rrd_spec.specs.Laws.ListedContent.{KeepsArchives}
-use Rattle.rrd_spec.specs.Commands.{Updating, sample_of, moved, Command}
+use Rattle.rrd_spec.specs.Commands.{Updating, sample_of, moved, DatabaseChange}
 use Rattle.rrd_base.specs.Update.{last_time, template_of}
 use Rattle.rrd_spec.specs.Laws.Commands.{PassesAll}
 use Rattle.rrd_spec.specs.Commands.Verdict.{verdict, no_sample}
@@ -31,7 +31,7 @@ last_item (s ∷ t ∷ samples) d h = ap (λ n. (get_or (s ∷ t ∷ samples) n 
 
 -- ---- an accepted update has a sample
 
-pub some_samples : (passes : (base : Content) (command : Command) → PassesAll base command) (base : Content) (update : Update) → verdict base (Updating update) ≡ None → 0 < length update.samples
+pub some_samples : (passes : (base : Content) (command : DatabaseChange) → PassesAll base command) (base : Content) (update : Update) → verdict base (Updating update) ≡ None → 0 < length update.samples
 some_samples passes base update h = some update.samples (passes base (Updating update) h).1.1.0 where
   some : (samples : List Sample) → no_sample samples ≡ false → 0 < length samples
   some [] e = cc

@@ -9,7 +9,7 @@ use Rattle.std.proofs.lemmas.List.{length-map}
 use Rattle.std.proofs.lemmas.List.Concat.{flat_map-cons}
 use Rattle.rrd_fixed.specs.declared.cell.Cell.{Cell}
 use Rattle.rrd_spec.specs.Files.Filed.{Head, head_of, sources_of}
-use Rattle.rrd_spec.specs.History.{Archive}
+use Rattle.rrd_spec.specs.History.{Rra}
 use Rattle.rrd_spec.specs.Files.Rebuilding.{after_heads, due, prep_or, rows_in_all, unprepared}
 use Rattle.rrd_base.specs.Rebuild.{ArePrepared, Coming, IsArchiveSoFar, IsRebuilding, filed_in}
 use Rattle.rrd_base.specs.Rebuild.Cursors.{AreFewer}
@@ -26,7 +26,7 @@ use native.Mathlib.Nat as nat
 
 -- ---- the archive without all preparations
 
-pub unprepared_last : (sources : ℕ) (front : List Archive) (last : Archive) → ArePrepared sources (front ++ last ∷ []) → unprepared sources (map head_of (front ++ last ∷ [])) ≡ unprepared sources (head_of last ∷ [])
+pub unprepared_last : (sources : ℕ) (front : List Rra) (last : Rra) → ArePrepared sources (front ++ last ∷ []) → unprepared sources (map head_of (front ++ last ∷ [])) ≡ unprepared sources (head_of last ∷ [])
 unprepared_last sources [] last is = refl
 unprepared_last sources (a ∷ []) last is = rw (le-ltb (length a.parts) sources (omega (arith, is.0))) refl
 unprepared_last sources (a ∷ b ∷ front) last is = rw (le-ltb (length a.parts) sources (omega (arith, is.0))) (unprepared_last sources (b ∷ front) last is.1)
@@ -40,12 +40,12 @@ AllAsMany = (resolution last sources : ℕ) (rows : List (List Cell)) → AsMany
 pub one_each : (sources : ℕ) (rows : List (List Cell)) → AllByRecursion (IsRow sources) rows → AllByRecursion (HasOneEach sources) rows
 one_each sources rows all = All-weaker (IsRow sources) (HasOneEach sources) rows (λ (row : List Cell) (is : IsRow sources row). is.one_each) all
 
-pub archive_wide : AllAsMany → (sources step last : ℕ) (a : Archive) → 0 < step → IsArchiveSoFar sources step last a → length (cells_by_slot step last a) ≡ sources * a.def.rows
+pub archive_wide : AllAsMany → (sources step last : ℕ) (a : Rra) → 0 < step → IsArchiveSoFar sources step last a → length (cells_by_slot step last a) ≡ sources * a.def.rows
 archive_wide as_many sources step last a some is =
     let size : 0 < resolution step a.def = nat.mul-pos some is.def_is.some_steps in
     as_many (resolution step a.def) last sources a.rows size (one_each sources a.rows is.each_row) ∙ (nat.mul_comm (length a.rows) sources ∙ ap (λ n. sources * n) is.rows_are)
 
-pub archives_wide : AllAsMany → (sources step last : ℕ) (archives : List Archive) → 0 < step → AllByRecursion (IsArchiveSoFar sources step last) archives → length (flat_map (cells_by_slot step last) archives) ≡ sources * rows_in_all (map head_of archives)
+pub archives_wide : AllAsMany → (sources step last : ℕ) (archives : List Rra) → 0 < step → AllByRecursion (IsArchiveSoFar sources step last) archives → length (flat_map (cells_by_slot step last) archives) ≡ sources * rows_in_all (map head_of archives)
 archives_wide as_many sources step last [] some all = omega arith
 archives_wide as_many sources step last (a ∷ archives) some all =
     let here = archive_wide as_many sources step last a some all.0 in
@@ -92,12 +92,12 @@ pub due_then : (d : Coming) → IsRebuilding d → d.sources_due ≤ length d.so
 unfolding due
 due_then d is h = let n : d.sources_due ≤ length (filed_in d).sources = omega (arith, h, sources_count d is) in rw (le-ltb (length (filed_in d).sources) d.sources_due n) refl
 
-pub unprepared_is : (d : Coming) (x : Archive) (i : ℕ) → IsRebuilding d → length d.archives ≡ suc i → x ≡ get_or d.archives i x → unprepared d.sources_due (map head_of d.archives) ≡ unprepared d.sources_due (head_of x ∷ [])
+pub unprepared_is : (d : Coming) (x : Rra) (i : ℕ) → IsRebuilding d → length d.archives ≡ suc i → x ≡ get_or d.archives i x → unprepared d.sources_due (map head_of d.archives) ≡ unprepared d.sources_due (head_of x ∷ [])
 unprepared_is d x i is n e =
     let s = split_at d.archives i x n e in
     ap (λ xs. unprepared d.sources_due (map head_of xs)) s ∙ unprepared_last d.sources_due (take i d.archives) x (subst (ArePrepared d.sources_due) s is.archives_prepared)
 
-pub unprepared_some : (d : Coming) (x : Archive) (i : ℕ) → IsRebuilding d → length d.archives ≡ suc i → x ≡ get_or d.archives i x → length x.parts < d.sources_due → unprepared d.sources_due (map head_of d.archives) ≡ Some x.def
+pub unprepared_some : (d : Coming) (x : Rra) (i : ℕ) → IsRebuilding d → length d.archives ≡ suc i → x ≡ get_or d.archives i x → length x.parts < d.sources_due → unprepared d.sources_due (map head_of d.archives) ≡ Some x.def
 unprepared_some d x i is n e few = unprepared_is d x i is n e ∙ rw (lt-ltb (length x.parts) d.sources_due few) refl
 
 pub due_prep : (d : Coming) (def : RraDef) → IsRebuilding d → d.sources_due ≤ length d.sources → unprepared d.sources_due (map head_of d.archives) ≡ Some def → due (filed_in d) ≡ PrepDue def
@@ -106,7 +106,7 @@ due_prep d def is h p = due_then d is h ∙ ap (λ o. prep_or o (after_heads (fi
 pub prepared_none : (d : Coming) → length d.archives ≡ 0 → unprepared d.sources_due (map head_of d.archives) ≡ None
 prepared_none d n = rw (none_there d.archives n) refl
 
-pub prepared_last : (d : Coming) (x : Archive) (i : ℕ) → IsRebuilding d → length d.archives ≡ suc i → x ≡ get_or d.archives i x → d.sources_due ≤ length x.parts → unprepared d.sources_due (map head_of d.archives) ≡ None
+pub prepared_last : (d : Coming) (x : Rra) (i : ℕ) → IsRebuilding d → length d.archives ≡ suc i → x ≡ get_or d.archives i x → d.sources_due ≤ length x.parts → unprepared d.sources_due (map head_of d.archives) ≡ None
 prepared_last d x i is n e many = unprepared_is d x i is n e ∙ rw (le-ltb (length x.parts) d.sources_due many) refl
 
 pub due_after : (d : Coming) → IsRebuilding d → d.sources_due ≤ length d.sources → unprepared d.sources_due (map head_of d.archives) ≡ None → due (filed_in d) ≡ after_heads (filed_in d)
@@ -131,20 +131,20 @@ cells_count as_many d is =
     let two : length back ≡ d.sources_due * rows_in_all (map head_of (drop d.archive d.archives)) = archives_wide as_many d.sources_due d.step d.last (drop d.archive d.archives) some (All-drop (IsArchiveSoFar d.sources_due d.step d.last) d.archive d.archives is.archives_are) in
     all ∙ (λ i. one i + (taken ∙ ap (λ n. min d.filled n) two) i)
 
-rows_split : (n : ℕ) (archives : List Archive) → rows_in_all (map head_of archives) ≡ rows_in_all (map head_of (take n archives)) + rows_in_all (map head_of (drop n archives))
+rows_split : (n : ℕ) (archives : List Rra) → rows_in_all (map head_of archives) ≡ rows_in_all (map head_of (take n archives)) + rows_in_all (map head_of (drop n archives))
 rows_split zero archives = omega arith
 rows_split (suc n) [] = refl
 rows_split (suc n) (a ∷ archives) =
-    let rows = λ (xs : List Archive). map (λ (head : Head). head.def.rows) (map head_of xs) in
+    let rows = λ (xs : List Rra). map (λ (head : Head). head.def.rows) (map head_of xs) in
     let one : sum (a.def.rows ∷ rows archives) ≡ a.def.rows + sum (rows archives) = fold_sum a.def.rows (rows archives) in
     let two : sum (a.def.rows ∷ rows (take n archives)) ≡ a.def.rows + sum (rows (take n archives)) = fold_sum a.def.rows (rows (take n archives)) in
     let later : sum (rows archives) ≡ sum (rows (take n archives)) + sum (rows (drop n archives)) = rows_split n archives in
     omega (arith, one, two, later)
 
-total : (d : Coming) → d.sources_due * rows_in_all (map head_of d.archives) ≡ d.sources_due * rows_in_all (map head_of (take d.archive d.archives)) + d.sources_due * rows_in_all (map head_of (drop d.archive d.archives))
+pub total : (d : Coming) → d.sources_due * rows_in_all (map head_of d.archives) ≡ d.sources_due * rows_in_all (map head_of (take d.archive d.archives)) + d.sources_due * rows_in_all (map head_of (drop d.archive d.archives))
 total d = ap (λ n. d.sources_due * n) (rows_split d.archive d.archives) ∙ nat.mul-add d.sources_due _ _
 
-few_left : (sources filled : ℕ) (archives : List Archive) → 0 < length archives → AreFewer sources archives filled → filled < sources * rows_in_all (map head_of archives)
+few_left : (sources filled : ℕ) (archives : List Rra) → 0 < length archives → AreFewer sources archives filled → filled < sources * rows_in_all (map head_of archives)
 few_left sources filled [] some few = absurd (omega arith)
 few_left sources filled (a ∷ archives) some few =
     let rows = map (λ (head : Head). head.def.rows) (map head_of archives) in

@@ -13,7 +13,7 @@ use Rattle.rrd_spec.specs.Commands.{rows_of_archives}
 use Rattle.rrd_spec.specs.Journal.Entries as entries
 use Rattle.rrd_spec.specs.Journal.Entries.{undone}
 use Rattle.rrd_spec.specs.Files.Filed.{Filed, head_of}
-use Rattle.rrd_spec.specs.History.{Archive, Content, definitions}
+use Rattle.rrd_spec.specs.History.{Rra, Content, definitions}
 use Rattle.rrd_spec.specs.Laws.Journal.{JournalLeavesValid}
 use Rattle.rrd_spec.specs.Laws.Outlines.{FiledOutline, JournalTakes, OutlineFollows}
 use Rattle.rrd_spec.specs.Limits.{Limits, limits_of, present}
@@ -90,27 +90,20 @@ outline_by filed d is =
     let lists : outline_filed (filed_in d) ≡ outline_of (content_so_far d) = filed d.version (record { content = content_so_far d; journal = journal_of d.journal }) (lengths_same d.sources d.raws is.raws_are) is.one_part_each in
     is.outline_is ∙ ap (λ (o : Outline). fold outline_undone o (journal_of d.journal)) lists
 
-steps_of : (version : Version) (sources steps : ℕ) (archives : List Archive) → AllByRecursion (IsValidArchiveWithin (limits_of version) sources steps) archives → AllByRecursion HasSteps (definitions archives)
+steps_of : (version : Version) (sources steps : ℕ) (archives : List Rra) → AllByRecursion (IsValidArchiveWithin (limits_of version) sources steps) archives → AllByRecursion HasSteps (definitions archives)
 steps_of version sources steps [] all = tt
 steps_of version sources steps (a ∷ archives) all = (record { some_steps = all.0.some_steps; few_steps = all.0.few_steps }, steps_of version sources steps archives all.1)
 
-rows_by_def : (archives : List Archive) → rows_of (definitions archives) ≡ rows_of_archives archives
+rows_by_def : (archives : List Rra) → rows_of (definitions archives) ≡ rows_of_archives archives
 rows_by_def [] = refl
 rows_by_def (a ∷ archives) = ap (λ (rows : List ℕ). a.def.rows ∷ rows) (rows_by_def archives)
 
-outline_valid : (version : Version) (now : Content) → IsValidWithin (limits_of version) now → IsOutline (outline_of now)
+pub outline_valid : (version : Version) (now : Content) → IsValidWithin (limits_of version) now → IsOutline (outline_of now)
 outline_valid version now is = record {
   few_sources = is.few_sources;
   have_steps = steps_of version (length now.sources) (now.last / now.step) now.archives is.archives_are;
   few_rows = subst (λ (rows : List ℕ). sum rows ≤ present.most_cells) (sym (rows_by_def now.archives)) (omega (arith, few_less (length now.sources) (sum (rows_of_archives now.archives)) (limits_of version).most_cells is.some_source is.few_cells, few_cells version));
 }
-
-pub outline_fits : AllFollow → AllFiled → AllLeave → (d : Coming) → IsRebuilding d → AtEntry d → IsOutline d.outline
-outline_fits follow filed leave d is at =
-    let now = content_so_far d in
-    let journal = journal_of d.journal in
-    let left = leave (limits_of d.version) now journal (at_entry_valid d is at) is.journal_is in
-    subst IsOutline (sym (outline_by filed d is ∙ sym (follow now journal).outline_is)) (outline_valid d.version (fold undone now journal) left)
 
 -- ---- the entry
 

@@ -7,7 +7,7 @@ use Rattle.rrd_base.specs.declared.journal.Entry.TheVariants as entry
 use Rattle.rrd_base.specs.declared.journal.BeforeUpdate.{BeforeUpdate}
 use Rattle.rrd_spec.specs.declared.requests.update.Update.{Update}
 use Rattle.rrd_spec.specs.History.{Content}
-use Rattle.rrd_spec.specs.Commands.{Command, Updating, moved}
+use Rattle.rrd_spec.specs.Commands.{DatabaseChange, Updating, moved}
 use Rattle.rrd_spec.specs.Journal.Entries as entries
 use Rattle.rrd_spec.specs.Journal.Entries.{undone, entry as entry_for}
 use Rattle.rrd_base.specs.Journal.{before, update_of, entry_of, CanUndo, journal_of}
@@ -49,12 +49,12 @@ newest reverted_stays now items e is h =
 
 -- ---- an entry is added
 
-pub record Added (now : Content) (items : List Entry) (command : Command) (e : Entry) : Type 0 where
+pub record Added (now : Content) (items : List Entry) (command : DatabaseChange) (e : Entry) : Type 0 where
   pub journal_is : journal_of (keep_last now.depth (items ++ e ∷ [])) ≡ take now.depth (entry_for now command ∷ journal_of items)
   pub after : IsValidDatabase (moved now command) (journal_of (keep_last now.depth (items ++ e ∷ [])))
 
 -- by the law of commands
-pub added : (changed_stays : (now : Content) (journal : List entries.Entry) (command : Command) → DatabaseStays now journal command) (now : Content) (items : List Entry) (command : Command) (e : Entry) → IsValidDatabase now (journal_of items) → verdict now command ≡ None → entry_of e ≡ entry_for now command → Added now items command e
+pub added : (changed_stays : (now : Content) (journal : List entries.Entry) (command : DatabaseChange) → DatabaseStays now journal command) (now : Content) (items : List Entry) (command : DatabaseChange) (e : Entry) → IsValidDatabase now (journal_of items) → verdict now command ≡ None → entry_of e ≡ entry_for now command → Added now items command e
 added changed_stays now items command e is accepted this =
     let all = items ++ e ∷ [] in
     let journal : journal_of (keep_last now.depth all) ≡ take now.depth (entry_for now command ∷ journal_of items)

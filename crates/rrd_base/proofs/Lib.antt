@@ -19,6 +19,7 @@ pub mod Dues
 pub mod Rebuilt
 pub mod Comes
 pub mod CellComes
+pub mod RowsCome
 pub mod FittingLemmas
 pub mod EntryComes
 pub mod Entering

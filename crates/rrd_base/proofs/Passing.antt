@@ -10,7 +10,7 @@ use Rattle.rrd_fold.specs.Parts.{Part, nothing, with_each, step_cell}
 use Rattle.rrd_spec.specs.Laws.Validity.{PartsGrow, StaysValidFor}
 use Rattle.rrd_spec.specs.Laws.Passing.{PassesWithin, archive_passed, passed}
 use Rattle.rrd_spec.specs.Laws.EqualSteps.{SecondsOver}
-use Rattle.rrd_spec.specs.History.{Content, Archive}
+use Rattle.rrd_spec.specs.History.{Content, Rra}
 use Rattle.rrd_spec.specs.Lemmas.Lists.{All-replicate}
 use Rattle.rrd_spec.specs.Validity.{IsPart, AreParts, IsRow, IsValid}
 use Rattle.rrd_spec.specs.Lemmas.Validity.{base_of_valid}
@@ -52,11 +52,11 @@ leaves within base n row parts is h e =
     ∙ ap (λ m. let c : Content = record base { last = base.last + m; parts = fold (with_each Average) base.parts ys } in c) count
     ∙ ap (λ ps. let c : Content = record base { last = base.last + n; parts = ps } in c) (sym e))
 
-with_filled : Content → ℕ → List Part → List Archive → Content
+with_filled : Content → ℕ → List Part → List Rra → Content
 with_filled base last parts archives = record base { last = last; parts = parts; archives = archives }
 
 -- by the law of seconds that pass at once
-pub ends : (over : (base : Content) (left count : ℕ) (rates : List Cell) → SecondsOver base left count rates) (base : Content) (n k : ℕ) (row cells : List Cell) (parts : List Part) (archives : List Archive) → IsValid base → IsRow (length base.sources) row → base.last + n ≡ (base.last / base.step + 1) * base.step → cells ≡ map (step_cell base.step) (fold (with_each Average) base.parts (replicate n row)) → parts ≡ replicate (length base.sources) nothing → archives ≡ map (archive_passed (length base.sources) (base.last / base.step) (cells ∷ replicate k row)) base.archives → let now : Content = record base { last = base.last + (n + k * base.step); parts = parts; archives = archives } in now ≡ passed base (replicate (n + k * base.step) row)
+pub ends : (over : (base : Content) (left count : ℕ) (rates : List Cell) → SecondsOver base left count rates) (base : Content) (n k : ℕ) (row cells : List Cell) (parts : List Part) (archives : List Rra) → IsValid base → IsRow (length base.sources) row → base.last + n ≡ (base.last / base.step + 1) * base.step → cells ≡ map (step_cell base.step) (fold (with_each Average) base.parts (replicate n row)) → parts ≡ replicate (length base.sources) nothing → archives ≡ map (archive_passed (length base.sources) (base.last / base.step) (cells ∷ replicate k row)) base.archives → let now : Content = record base { last = base.last + (n + k * base.step); parts = parts; archives = archives } in now ≡ passed base (replicate (n + k * base.step) row)
 unfolding with_filled
 ends over base n k row cells parts archives is row_is h e p a =
     let last = base.last + (n + k * base.step) in

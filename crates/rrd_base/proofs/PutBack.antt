@@ -3,7 +3,7 @@ use Rattle.std.proofs.Common.{◌≡◌, refl, sym, ◌∙◌, ap, ℕ, zero, su
 use Rattle.std.proofs.lemmas.List.{append-nil, drop_all, length-take, take_all}
 use Rattle.std.specs.List.{AllByRecursion}
 use Rattle.rrd_ring.specs.Rows.{width}
-use Rattle.rrd_spec.specs.History.{Archive}
+use Rattle.rrd_spec.specs.History.{Rra}
 use Rattle.rrd_spec.specs.Journal.Entries.{SavedArchive, put_back, put_back_each}
 use Rattle.rrd_spec.specs.Validity.{IsValidArchive, FitsArchive, FitEach}
 use Rattle.rrd_base.specs.Rra.{CanPutBack, CanPutBackEach, IsStepped}
@@ -31,32 +31,32 @@ popped n k xs ys x e count last =
     ∙ ap (λ m. get_or (take (suc k) xs) m x) {x = suc k - 1} {y = k} (omega arith) ∙ last_at k xs x
 
 -- the archive whose turn it is
-pub put_back_next : (k : ℕ) (archives : List Archive) (olds : List SavedArchive) (d : Archive) → k < length archives → get_or (take (suc k) archives ++ put_back_each (drop (suc k) archives) (drop (suc k) olds)) k d ≡ get_or archives k d
+pub put_back_next : (k : ℕ) (archives : List Rra) (olds : List SavedArchive) (d : Rra) → k < length archives → get_or (take (suc k) archives ++ put_back_each (drop (suc k) archives) (drop (suc k) olds)) k d ≡ get_or archives k d
 put_back_next k [] olds d h = absurd (omega arith)
 put_back_next zero (archive ∷ archives) olds d h = refl
 put_back_next (suc k) (archive ∷ archives) [] d h = put_back_next k archives [] d (omega arith)
 put_back_next (suc k) (archive ∷ archives) (old ∷ olds) d h = put_back_next k archives olds d (omega arith)
 
 -- one archive more
-pub put_back_more : (k : ℕ) (archives : List Archive) (saved : List SavedArchive) (d new : Archive) (s : SavedArchive) → k < length archives → k < length saved → new ≡ put_back (get_or archives k d) (get_or saved k s) → set (take (suc k) archives ++ put_back_each (drop (suc k) archives) (drop (suc k) saved)) k new ≡ take k archives ++ put_back_each (drop k archives) (drop k saved)
+pub put_back_more : (k : ℕ) (archives : List Rra) (saved : List SavedArchive) (d new : Rra) (s : SavedArchive) → k < length archives → k < length saved → new ≡ put_back (get_or archives k d) (get_or saved k s) → set (take (suc k) archives ++ put_back_each (drop (suc k) archives) (drop (suc k) saved)) k new ≡ take k archives ++ put_back_each (drop k archives) (drop k saved)
 put_back_more k [] saved d new s h m e = absurd (omega arith)
 put_back_more k (archive ∷ archives) [] d new s h m e = absurd (omega arith)
 put_back_more zero (archive ∷ archives) (old ∷ saved) d new s h m e = ap (λ first. first ∷ put_back_each archives saved) e
 put_back_more (suc k) (archive ∷ archives) (old ∷ saved) d new s h m e = ap (λ rest. archive ∷ rest) (put_back_more k archives saved d new s (omega arith) (omega arith) e)
 
 -- nothing is back yet
-pub none_back : (n : ℕ) (archives : List Archive) (saved : List SavedArchive) → length archives ≤ n → archives ≡ take n archives ++ put_back_each (drop n archives) (drop n saved)
+pub none_back : (n : ℕ) (archives : List Rra) (saved : List SavedArchive) → length archives ≤ n → archives ≡ take n archives ++ put_back_each (drop n archives) (drop n saved)
 none_back n archives saved h =
     sym (ap (λ rest. take n archives ++ put_back_each rest (drop n saved)) (drop_all n archives h) ∙ append-nil (take n archives) ∙ take_all n archives h)
 
 -- what is asked, at a place
-pub as_many : (archives : List Archive) (saved : List SavedArchive) → CanPutBackEach archives saved → length saved ≡ length archives
+pub as_many : (archives : List Rra) (saved : List SavedArchive) → CanPutBackEach archives saved → length saved ≡ length archives
 as_many [] [] can = refl
 as_many [] (old ∷ saved) can = absurd can
 as_many (archive ∷ archives) [] can = absurd can
 as_many (archive ∷ archives) (old ∷ saved) can = ap suc (as_many archives saved can.1)
 
-pub can_at : (k : ℕ) (archives : List Archive) (saved : List SavedArchive) (d : Archive) (s : SavedArchive) → CanPutBackEach archives saved → k < length archives → CanPutBack (get_or archives k d) (get_or saved k s)
+pub can_at : (k : ℕ) (archives : List Rra) (saved : List SavedArchive) (d : Rra) (s : SavedArchive) → CanPutBackEach archives saved → k < length archives → CanPutBack (get_or archives k d) (get_or saved k s)
 can_at k [] saved d s can h = absurd (omega arith)
 can_at k (archive ∷ archives) [] d s can h = absurd can
 can_at zero (archive ∷ archives) (old ∷ saved) d s can h = can.0
@@ -65,12 +65,12 @@ can_at (suc k) (archive ∷ archives) (old ∷ saved) d s can h = can_at k archi
 -- ---- what callers know
 
 -- valid archives have a small resolution
-pub are_stepped : (sources steps : ℕ) (archives : List Archive) → AllByRecursion (IsValidArchive sources steps) archives → AllByRecursion IsStepped archives
+pub are_stepped : (sources steps : ℕ) (archives : List Rra) → AllByRecursion (IsValidArchive sources steps) archives → AllByRecursion IsStepped archives
 are_stepped sources steps [] is = tt
 are_stepped sources steps (archive ∷ archives) is = (record { some_steps = is.0.some_steps; few_steps = is.0.few_steps }, are_stepped sources steps archives is.1)
 
 -- what a journal holds of valid archives can be put back
-can_put_back : (step sources steps from to : ℕ) (archive : Archive) (old : SavedArchive) → IsValidArchive sources steps archive → FitsArchive step sources from to archive old → CanPutBack archive old
+can_put_back : (step sources steps from to : ℕ) (archive : Rra) (old : SavedArchive) → IsValidArchive sources steps archive → FitsArchive step sources from to archive old → CanPutBack archive old
 can_put_back step sources steps from to archive old is fits =
     let wide : width archive.rows ≡ sources = width_is sources archive.rows (omega (arith, is.some_rows, is.rows_are)) is.each_row in
     record {
@@ -79,7 +79,7 @@ can_put_back step sources steps from to archive old is fits =
       one_width = rw wide fits.one_cell_each;
     }
 
-pub can_put_back_each : (step sources steps from to : ℕ) (archives : List Archive) (olds : List SavedArchive) → AllByRecursion (IsValidArchive sources steps) archives → FitEach step sources from to archives olds → CanPutBackEach archives olds
+pub can_put_back_each : (step sources steps from to : ℕ) (archives : List Rra) (olds : List SavedArchive) → AllByRecursion (IsValidArchive sources steps) archives → FitEach step sources from to archives olds → CanPutBackEach archives olds
 can_put_back_each step sources steps from to [] [] is fit = tt
 can_put_back_each step sources steps from to [] (old ∷ olds) is fit = fit
 can_put_back_each step sources steps from to (archive ∷ archives) [] is fit = fit

@@ -15,7 +15,7 @@ use Rattle.rrd_fixed.specs.declared.raw.Raw.{Raw}
 use Rattle.rrd_fold.specs.Parts.{Part}
 use Rattle.rrd_spec.specs.Commands.{rows_of_archives}
 use Rattle.rrd_spec.specs.Files.Filed.{Filed, Head, filed, head_of, sources_of}
-use Rattle.rrd_spec.specs.History.{Archive}
+use Rattle.rrd_spec.specs.History.{Rra}
 use Rattle.rrd_spec.specs.Files.Rebuilding.{after_heads, due, prep_or, rows_in_all, unprepared}
 use Rattle.rrd_base.specs.Rebuild.{Coming, IsArchiveSoFar, IsRebuilding, cells_before, content_so_far, filed_in}
 use Rattle.rrd_spec.specs.Files.Slots.{cells_by_slot, row_in, stands_in}
@@ -72,7 +72,7 @@ all_came f e = elim (cases_lt (length f.sources) f.header.sources) [
 ]
 
 -- all preparations came
-pub archives_whole : (version : Version) (sources step last : ℕ) (archives : List Archive) → AllByRecursion (IsArchiveSoFar sources step last) archives → unprepared sources (map head_of archives) ≡ None → AllByRecursion (IsValidArchiveWithin (limits_of version) sources (last / step)) archives
+pub archives_whole : (version : Version) (sources step last : ℕ) (archives : List Rra) → AllByRecursion (IsArchiveSoFar sources step last) archives → unprepared sources (map head_of archives) ≡ None → AllByRecursion (IsValidArchiveWithin (limits_of version) sources (last / step)) archives
 archives_whole version sources step last [] all e = tt
 archives_whole version sources step last (a ∷ archives) all e = elim (cases_lt (length a.parts) sources) [
   | inl lt ↦ absurd (let e2 = rw (lt-ltb (length a.parts) sources lt) at e in cc)
@@ -167,7 +167,7 @@ fold_from n (x ∷ xs) = fold_from (n + x) xs ∙ (omega (arith, fold_from (0 + 
 pub fold_sum : (n : ℕ) (xs : List ℕ) → sum (n ∷ xs) ≡ n + sum xs
 fold_sum n xs = fold_from (0 + n) xs ∙ omega arith
 
-cells_few : (sources step last : ℕ) (archives : List Archive) → AllByRecursion (IsArchiveSoFar sources step last) archives → length (flat_map (cells_by_slot step last) archives) ≤ sources * rows_in_all (map head_of archives)
+cells_few : (sources step last : ℕ) (archives : List Rra) → AllByRecursion (IsArchiveSoFar sources step last) archives → length (flat_map (cells_by_slot step last) archives) ≤ sources * rows_in_all (map head_of archives)
 cells_few sources step last [] all = omega arith
 cells_few sources step last (a ∷ archives) all =
     let here = rows_few (resolution step a.def) last sources a.rows (range_with_len 0 (length a.rows)) all.0.each_row in

@@ -4,7 +4,7 @@ use Rattle.std.proofs.lemmas.List.{length-drop}
 use Rattle.std.specs.List.{fold, AllByRecursion}
 use Rattle.rrd_fixed.specs.declared.cell.Cell.{Cell}
 use Rattle.rrd_ring.specs.Rows.{newest_rows, width}
-use Rattle.rrd_spec.specs.History.{Archive, Content}
+use Rattle.rrd_spec.specs.History.{Rra, Content}
 use Rattle.rrd_spec.specs.declared.requests.resize.Change.{Change}
 use Rattle.rrd_spec.specs.declared.requests.resize.Change.TheVariants.{Grow, Shrink}
 use Rattle.rrd_spec.specs.Commands.{Resizing, moved, rows_changed, rows_of_archives}
@@ -39,38 +39,38 @@ pub changed_few : (change : Change) (old rows : ℕ) → rows_changed change old
 changed_few Grow old rows = omega arith
 changed_few Shrink old rows = omega arith
 
-pub rows_at_archive : (archives : List Archive) (k : ℕ) (d : Archive) → k < length archives → get_or (rows_of_archives archives) k 0 ≡ (get_or archives k d).def.rows
+pub rows_at_archive : (archives : List Rra) (k : ℕ) (d : Rra) → k < length archives → get_or (rows_of_archives archives) k 0 ≡ (get_or archives k d).def.rows
 rows_at_archive [] k d h = absurd (omega arith)
 rows_at_archive (a ∷ rest) zero d h = refl
 rows_at_archive (a ∷ rest) (suc k) d h = rows_at_archive rest k d (omega arith)
 
-pub rows_of_place : (archives : List Archive) (k : ℕ) (d : Archive) → k < length archives → (get_or archives k d).rows ≡ rows_at archives k
+pub rows_of_place : (archives : List Rra) (k : ℕ) (d : Rra) → k < length archives → (get_or archives k d).rows ≡ rows_at archives k
 rows_of_place [] k d h = absurd (omega arith)
 rows_of_place (a ∷ rest) zero d h = refl
 rows_of_place (a ∷ rest) (suc k) d h = rows_of_place rest k d (omega arith)
 
-pub some_of_all : (archives : List Archive) (k : ℕ) (d : Archive) → k < length archives → (get_or archives k d).def.rows ≤ sum (rows_of_archives archives)
+pub some_of_all : (archives : List Rra) (k : ℕ) (d : Rra) → k < length archives → (get_or archives k d).def.rows ≤ sum (rows_of_archives archives)
 some_of_all [] k d h = absurd (omega arith)
 some_of_all (a ∷ rest) zero d h = omega (arith, sum_more a.def.rows (rows_of_archives rest))
 some_of_all (a ∷ rest) (suc k) d h = omega (arith, some_of_all rest k d (omega arith), sum_more a.def.rows (rows_of_archives rest))
 
-pub few_at : (archives : List Archive) (k : ℕ) (d : Archive) → k < length archives → AllByRecursion HasFewRows archives → (get_or archives k d).def.rows ≤ 1000000
+pub few_at : (archives : List Rra) (k : ℕ) (d : Rra) → k < length archives → AllByRecursion HasFewRows archives → (get_or archives k d).def.rows ≤ 1000000
 few_at [] k d h is = absurd (omega arith)
 few_at (a ∷ rest) zero d h is = is.0.few
 few_at (a ∷ rest) (suc k) d h is = few_at rest k d (omega arith) is.1
 
-pub few_sum : (archives : List Archive) → AllByRecursion HasFewRows archives → sum (rows_of_archives archives) ≤ length archives * 1000000
+pub few_sum : (archives : List Rra) → AllByRecursion HasFewRows archives → sum (rows_of_archives archives) ≤ length archives * 1000000
 few_sum [] is = omega arith
 few_sum (a ∷ rest) is = let f = is.0.few in omega (arith, f, few_sum rest is.1, sum_more a.def.rows (rows_of_archives rest))
 
-pub have_few : (sources steps : ℕ) (archives : List Archive) → AllByRecursion (IsValidArchive sources steps) archives → AllByRecursion HasFewRows archives
+pub have_few : (sources steps : ℕ) (archives : List Rra) → AllByRecursion (IsValidArchive sources steps) archives → AllByRecursion HasFewRows archives
 have_few sources steps [] is = tt
 have_few sources steps (a ∷ rest) is = (record { few = is.0.few_rows }, have_few sources steps rest is.1)
 
 -- ---- the rows
 
 -- the rows of a valid archive have a cell for each source
-width_at : (sources steps k : ℕ) (archives : List Archive) → AllByRecursion (IsValidArchive sources steps) archives → k < length archives → width (rows_at archives k) ≡ sources
+width_at : (sources steps k : ℕ) (archives : List Rra) → AllByRecursion (IsValidArchive sources steps) archives → k < length archives → width (rows_at archives k) ≡ sources
 width_at sources steps k [] is h = absurd (omega arith)
 width_at sources steps zero (a ∷ rest) is h = width_is sources a.rows (omega (arith, is.0.rows_are, is.0.some_rows)) is.0.each_row
 width_at sources steps (suc k) (a ∷ rest) is h = width_at sources steps k rest is.1 (omega arith)

@@ -9,7 +9,7 @@ use Rattle.rrd_fold.specs.Bounds.{Consolidating}
 use Rattle.rrd_ring.specs.Rows.{width}
 use Rattle.rrd_spec.specs.declared.settings.RraDef.{RraDef}
 use Rattle.rrd_spec.specs.Laws.Validity.{ArchiveStaysValid}
-use Rattle.rrd_spec.specs.History.{Archive}
+use Rattle.rrd_spec.specs.History.{Rra}
 use Rattle.rrd_spec.specs.Laws.Passing.{archive_passed}
 use Rattle.rrd_spec.specs.Validity.{IsRow, IsValidArchive}
 use Rattle.rrd_spec.specs.Preparations.{map_each, with_steps, anew, row_of, parts_in, AllOf}
@@ -17,7 +17,7 @@ use Rattle.rrd_spec.specs.Lemmas.Lists.{All-replicate}
 use Rattle.rrd_spec.specs.Lemmas.Preparations.{parts_in-with_steps, parts_in-anew}
 
 -- an archive of these preparations
-abbrev pub shown : RraDef → List Consolidating → List (List Cell) → Archive
+abbrev pub shown : RraDef → List Consolidating → List (List Cell) → Rra
 shown def preps rows = record { def = def; parts = parts_in preps; rows = rows }
 
 -- the cells of a row, off the preparations and off their parts
@@ -30,7 +30,7 @@ row_of_parts function xff steps (prep ∷ preps) of =
 
 -- steps that leave the row unfinished
 pub goes_on : (def : RraDef) (preps : List Consolidating) (rows : List (List Cell)) (step : List Cell) (count : ℕ) → AllOf def.function preps → shown def (map_each (with_steps count) preps step) rows ≡ record (shown def preps rows) { parts = fold (with_each def.function) (parts_in preps) (replicate count step) }
-goes_on def preps rows step count of = ap (λ ps. let a : Archive = record { def = def; parts = ps; rows = rows } in a) (parts_in-with_steps def.function count preps step of)
+goes_on def preps rows step count of = ap (λ ps. let a : Rra = record { def = def; parts = ps; rows = rows } in a) (parts_in-with_steps def.function count preps step of)
 
 pub length-map_each : {P A : Type 0} (f : P → A → P) (ps : List P) (xs : List A) → length (map_each f ps xs) ≡ length ps
 length-map_each f [] xs = refl
@@ -40,7 +40,7 @@ length-map_each f (p ∷ ps) (x ∷ xs) = ap suc (length-map_each f ps xs)
 -- the next row's, once the row is closed
 pub closes : (def : RraDef) (sources : ℕ) (preps : List Consolidating) (rows : List (List Cell)) → length preps ≡ sources → shown def (map anew preps) rows ≡ record (shown def preps rows) { parts = replicate sources nothing }
 closes def sources preps rows as_many =
-    ap (λ ps. let a : Archive = record { def = def; parts = ps; rows = rows } in a) (parts_in-anew preps ∙ ap (λ n. replicate n nothing) as_many)
+    ap (λ ps. let a : Rra = record { def = def; parts = ps; rows = rows } in a) (parts_in-anew preps ∙ ap (λ n. replicate n nothing) as_many)
 
 -- ---- what fits
 
@@ -60,7 +60,7 @@ width_is sources (row ∷ rows) some is = is.0.one_each
 -- ---- what is valid stays valid
 
 -- after a step and many of another, by the law of steps
-pub taken_valid : (archive_stays : (sources before : ℕ) (steps : List (List Cell)) (archive : Archive) → ArchiveStaysValid sources before steps archive) (first then : List Cell) (before count : ℕ) (archive new : Archive) → IsValidArchive (length first) before archive → IsRow (length first) first → IsRow (length first) then → new ≡ archive_passed (length first) before (first ∷ replicate count then) archive → IsValidArchive (length first) (before + (1 + count)) new
+pub taken_valid : (archive_stays : (sources before : ℕ) (steps : List (List Cell)) (archive : Rra) → ArchiveStaysValid sources before steps archive) (first then : List Cell) (before count : ℕ) (archive new : Rra) → IsValidArchive (length first) before archive → IsRow (length first) first → IsRow (length first) then → new ≡ archive_passed (length first) before (first ∷ replicate count then) archive → IsValidArchive (length first) (before + (1 + count)) new
 taken_valid archive_stays first then before count archive new is one many e =
     let n = length first in
     let steps = first ∷ replicate count then in

@@ -7,7 +7,7 @@ use Rattle.rrd_spec.specs.declared.settings.DsDef.{DsDef}
 use Rattle.rrd_spec.specs.declared.entry.SourceBefore.{SourceBefore}
 use Rattle.rrd_spec.specs.declared.requests.tune.Tuning.{Tuning}
 use Rattle.rrd_fixed.specs.declared.cell.Cell.{Cell}
-use Rattle.rrd_spec.specs.History.{Archive, Content, raws_under}
+use Rattle.rrd_spec.specs.History.{Rra, Content, raws_under}
 use Rattle.rrd_spec.specs.Commands.{TuningBy, moved, raw_under}
 use Rattle.rrd_spec.specs.Journal.Entries.{sources_before, is_named, with_source, with_rows_at}
 use Rattle.rrd_base.specs.Tune.{IsThere, with_archive_tuned, with_raws}
@@ -76,7 +76,7 @@ sources_put_back now (old ∷ olds) = sources_put_back (with_source now old) old
 
 -- ---- a resized archive is put back
 
-pub rows_set : (archives : List Archive) (k : ℕ) (d : Archive) (rows : List (List Cell)) → k < length archives → set archives k (let a : Archive = get_or archives k d in let b : Archive = record a { def = record a.def { rows = length rows }; rows = rows } in b) ≡ with_rows_at archives k rows
+pub rows_set : (archives : List Rra) (k : ℕ) (d : Rra) (rows : List (List Cell)) → k < length archives → set archives k (let a : Rra = get_or archives k d in let b : Rra = record a { def = record a.def { rows = length rows }; rows = rows } in b) ≡ with_rows_at archives k rows
 rows_set [] k d rows h = absurd (omega arith)
 rows_set (a ∷ rest) zero d rows h = refl
 rows_set (a ∷ rest) (suc k) d rows h = ap (λ xs. a ∷ xs) (rows_set rest k d rows (omega arith))
@@ -93,7 +93,7 @@ settings_are now sources raws ss rs e f = ap (λ s. with_settings now s raws) e 
 -- ---- archives that come and go
 
 -- a content with other archives
-unfoldable pub with_archives : Content → List Archive → Content
+unfoldable pub with_archives : Content → List Rra → Content
 with_archives now archives = record now { archives = archives }
 
 pub length-insert : {A : Type 0} (xs : List A) (n : ℕ) (x : A) → n ≤ length xs → length (insert xs n x) ≡ length xs + 1

@@ -6,7 +6,7 @@ use Rattle.std.proofs.lemmas.Nat.{mul-le}
 use Rattle.std.specs.List.{fold}
 use Rattle.rrd_fixed.specs.declared.cell.Cell.{Cell}
 use Rattle.rrd_spec.specs.declared.settings.RraDef.{RraDef}
-use Rattle.rrd_spec.specs.History.{Archive, Content, definitions}
+use Rattle.rrd_spec.specs.History.{Rra, Content, definitions}
 use Rattle.rrd_spec.specs.Commands.{rows_of_archives}
 use Rattle.rrd_spec.specs.Validity.{IsValid}
 use Rattle.rrd_spec.specs.Laws.Passing.{archive_passed, passed}
@@ -21,7 +21,7 @@ from_any a (x ∷ xs) = from_any (a + x) xs ∙ omega (arith, from_any x xs, fro
 pub sum_first : (n : ℕ) (ns : List ℕ) → sum (n ∷ ns) ≡ n + sum ns
 sum_first n ns = from_any (0 + n) ns ∙ omega arith
 
-sum_next : (f : RraDef → ℕ) (archives : List Archive) (i : ℕ) (d : Archive) → i < length archives → sum (map f (definitions (take (suc i) archives))) ≡ sum (map f (definitions (take i archives))) + f (get_or archives i d).def
+sum_next : (f : RraDef → ℕ) (archives : List Rra) (i : ℕ) (d : Rra) → i < length archives → sum (map f (definitions (take (suc i) archives))) ≡ sum (map f (definitions (take i archives))) + f (get_or archives i d).def
 sum_next f [] i d h = absurd (omega arith)
 sum_next f (a ∷ rest) zero d h = let one = sum_first (f a.def) [] in omega arith
 sum_next f (a ∷ rest) (suc i) d h =
@@ -30,10 +30,10 @@ sum_next f (a ∷ rest) (suc i) d h =
     let same : (get_or (a ∷ rest) (suc i) d).def ≡ (get_or rest i d).def = refl in
     far ∙ ap (λ n. f a.def + n) (sum_next f rest i d (omega arith)) ∙ omega (arith, near)
 
-pub sum_more : (f : RraDef → ℕ) (archives : List Archive) (i : ℕ) (d : Archive) → i < length archives → sum (map f (definitions (take (i + 1) archives))) ≡ sum (map f (definitions (take i archives))) + f (get_or archives i d).def
+pub sum_more : (f : RraDef → ℕ) (archives : List Rra) (i : ℕ) (d : Rra) → i < length archives → sum (map f (definitions (take (i + 1) archives))) ≡ sum (map f (definitions (take i archives))) + f (get_or archives i d).def
 sum_more f archives i d h = ap (λ k. sum (map f (definitions (take k archives)))) {x = i + 1} {y = suc i} (omega arith) ∙ sum_next f archives i d h
 
-pub sum_within : (f : RraDef → ℕ) (archives : List Archive) (i : ℕ) → sum (map f (definitions (take i archives))) ≤ sum (map f (definitions archives))
+pub sum_within : (f : RraDef → ℕ) (archives : List Rra) (i : ℕ) → sum (map f (definitions (take i archives))) ≤ sum (map f (definitions archives))
 sum_within f archives zero = omega arith
 sum_within f [] (suc i) = omega arith
 sum_within f (a ∷ rest) (suc i) =
@@ -43,7 +43,7 @@ sum_within f (a ∷ rest) (suc i) =
 
 -- ---- no more than a valid database allows
 
-most_in_all : (step from to : ℕ) (archives : List Archive) → sum (map (λ (def : RraDef). 8 + rows_shown step from to def) (definitions archives)) ≤ 8 * length archives + sum (rows_of_archives archives)
+most_in_all : (step from to : ℕ) (archives : List Rra) → sum (map (λ (def : RraDef). 8 + rows_shown step from to def) (definitions archives)) ≤ 8 * length archives + sum (rows_of_archives archives)
 most_in_all step from to [] = omega arith
 most_in_all step from to (a ∷ rest) =
     let turns = sum_first (8 + rows_shown step from to a.def) (map (λ (def : RraDef). 8 + rows_shown step from to def) (definitions rest)) in
@@ -71,7 +71,7 @@ rows_by_steps step last time k def at =
     ∙ ap (λ n. time / step / def.steps - n) (sym (div-div-eq-div-mul last step def.steps))
     ∙ ap (λ n. n / def.steps - last / step / def.steps) at)
 
-pub least_by_steps : (step last time k : ℕ) (archives : List Archive) → time / step ≡ last / step + k → sum (map (rows_shown step last time) (definitions archives)) ≡ least_of_steps (last / step) k (definitions archives)
+pub least_by_steps : (step last time k : ℕ) (archives : List Rra) → time / step ≡ last / step + k → sum (map (rows_shown step last time) (definitions archives)) ≡ least_of_steps (last / step) k (definitions archives)
 least_by_steps step last time k [] at = refl
 least_by_steps step last time k (a ∷ rest) at =
     let defs = definitions rest in
@@ -80,7 +80,7 @@ least_by_steps step last time k (a ∷ rest) at =
     let here = rows_by_steps step last time k a.def at in
     omega (arith, least_by_steps step last time k rest at)
 
-pub most_by_steps : (step last time k : ℕ) (archives : List Archive) → time / step ≡ last / step + k → most_of_steps (last / step) k (definitions archives) ≤ sum (map (λ (def : RraDef). 8 + rows_shown step last time def) (definitions archives))
+pub most_by_steps : (step last time k : ℕ) (archives : List Rra) → time / step ≡ last / step + k → most_of_steps (last / step) k (definitions archives) ≤ sum (map (λ (def : RraDef). 8 + rows_shown step last time def) (definitions archives))
 most_by_steps step last time k [] at = omega arith
 most_by_steps step last time k (a ∷ rest) at =
     let defs = definitions rest in
@@ -90,7 +90,7 @@ most_by_steps step last time k (a ∷ rest) at =
     omega (arith, most_by_steps step last time k rest at)
 
 -- none of the rows ends where no step does
-pub least_of_none : (before : ℕ) (archives : List Archive) → least_of_steps before 0 (definitions archives) ≡ 0
+pub least_of_none : (before : ℕ) (archives : List Rra) → least_of_steps before 0 (definitions archives) ≡ 0
 least_of_none before [] = refl
 least_of_none before (a ∷ rest) =
     let one = sum_first (rows_pushed before 0 a.def) (map (rows_pushed before 0) (definitions rest)) in
@@ -99,7 +99,7 @@ least_of_none before (a ∷ rest) =
 
 -- ---- what seconds leave as it is
 
-defs_stay : (sources before : ℕ) (steps : List (List Cell)) (archives : List Archive) → definitions (map (archive_passed sources before steps) archives) ≡ definitions archives
+defs_stay : (sources before : ℕ) (steps : List (List Cell)) (archives : List Rra) → definitions (map (archive_passed sources before steps) archives) ≡ definitions archives
 unfolding archive_passed
 defs_stay sources before steps [] = refl
 defs_stay sources before steps (a ∷ rest) = ap (λ defs. a.def ∷ defs) (defs_stay sources before steps rest)

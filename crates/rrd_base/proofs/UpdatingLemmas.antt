@@ -1,7 +1,5 @@
 -- An update's values, name by name.
-use Rattle.std.proofs.Common.{◌≡◌, refl, sym, ◌∙◌, ap, ℕ, zero, suc, ◌+◌, ◌<◌, ◌≤◌, min, Bool, true, false, cond, List, [], ◌∷◌, map, length, drop, get_or, arith}
-use Rattle.std.proofs.Math.ListN.{get_or-map}
-use Rattle.std.proofs.lemmas.List.{length-map}
+use Rattle.std.proofs.Common.{◌≡◌, refl, sym, ◌∙◌, ap, ℕ, zero, suc, ◌+◌, ◌<◌, ◌≤◌, Bool, true, false, cond, List, [], ◌∷◌, length, drop, get_or, arith}
 use Rattle.std.proofs.lemmas.Bool.{or_parts}
 use Rattle.std.specs.List.{list_any}
 use Rattle.rrd_fixed.specs.declared.name.Name.{Name}
@@ -12,40 +10,37 @@ use Rattle.rrd_spec.specs.Settings.{names, is_double}
 use Rattle.rrd_spec.specs.Commands.{value_for}
 use Rattle.std.proofs.lemmas.Slice.Eq.{bytes_eq-Decides}
 
--- the value at the first place that is left, or one further on
-value_here : (names : List Name) (values : List Given) (i : ℕ) (d : Name) (e : Given) (source : DsDef) → i < length names → i < length values → value_for (drop i names) (drop i values) source ≡ cond (same_name (get_or names i d) source.name) (get_or values i e) (value_for (drop (suc i) names) (drop (suc i) values) source)
-value_here [] values i d e source h k = absurd (omega arith)
-value_here (n ∷ ns) [] i d e source h k = absurd (omega arith)
-value_here (n ∷ ns) (v ∷ vs) zero d e source h k = refl
-value_here (n ∷ ns) (v ∷ vs) (suc i) d e source h k = value_here ns vs i d e source (omega arith) (omega arith)
+-- a sample without values
+no_value : (names : List Name) (source : DsDef) → value_for names [] source ≡ Given.Unknown
+no_value [] source = refl
+no_value (n ∷ ns) source = refl
 
--- the same of what has names, the one at this place being the source's or not
-pub value_at : {A : Type 0} (called : A → Name) (named : List A) (values : List Given) (i : ℕ) (one : A) (name : Name) (e : Given) (source : DsDef) (found : Bool) → i < length named → i < length values → name ≡ called one → one ≡ get_or named i one → same_name name source.name ≡ found → value_for (drop i (map called named)) (drop i values) source ≡ cond found (get_or values i e) (value_for (drop (i + 1) (map called named)) (drop (i + 1) values) source)
-value_at called named values i one name e source found h k is at same =
-    let names = map called named in
-    let count = length-map named called in
-    let rest = value_for (drop (suc i) names) (drop (suc i) values) source in
-    let this : get_or names i (called one) ≡ name = get_or-map called named i one ∙ sym (is ∙ ap called at) in
-    value_here names values i (called one) e source (omega (arith, count)) k
-    ∙ ap (λ b. cond b (get_or values i e) rest) (ap (λ n. same_name n source.name) this ∙ same)
-    ∙ ap (λ n. cond found (get_or values i e) (value_for (drop n names) (drop n values) source)) {x = suc i} {y = i + 1} (omega arith)
+neither : (found : Bool) (source : DsDef) (names : List Name) → cond found Given.Unknown (value_for names [] source) ≡ Given.Unknown
+neither true source names = refl
+neither false source names = no_value names source
+
+-- the value at the first place that is left, or one further on
+value_here : (names : List Name) (values : List Given) (i : ℕ) (d : Name) (source : DsDef) → i < length names → value_for (drop i names) (drop i values) source ≡ cond (same_name (get_or names i d) source.name) (get_or values i Given.Unknown) (value_for (drop (suc i) names) (drop (suc i) values) source)
+value_here [] values i d source h = absurd (omega arith)
+value_here (n ∷ ns) [] zero d source h = sym (neither (same_name n source.name) source ns)
+value_here (n ∷ ns) [] (suc i) d source h = no_value (drop i ns) source ∙ sym (neither (same_name (get_or ns i d) source.name) source (drop (suc i) ns))
+value_here (n ∷ ns) (v ∷ vs) zero d source h = refl
+value_here (n ∷ ns) (v ∷ vs) (suc i) d source h = value_here ns vs i d source (omega arith)
+
+-- the same where the name at this place is the source's or not
+pub value_at : (names : List Name) (values : List Given) (i : ℕ) (name : Name) (source : DsDef) (found : Bool) → i < length names → name ≡ get_or names i name → same_name name source.name ≡ found → value_for (drop i names) (drop i values) source ≡ cond found (get_or values i Given.Unknown) (value_for (drop (i + 1) names) (drop (i + 1) values) source)
+value_at names values i name source found h is same =
+    value_here names values i name source h
+    ∙ ap (λ b. cond b (get_or values i Given.Unknown) (value_for (drop (suc i) names) (drop (suc i) values) source)) (ap (λ n. same_name n source.name) (sym is) ∙ same)
+    ∙ ap (λ n. cond found (get_or values i Given.Unknown) (value_for (drop n names) (drop n values) source)) {x = suc i} {y = i + 1} (omega arith)
 
 -- none is left
-value_none : (names : List Name) (values : List Given) (i : ℕ) (source : DsDef) → min (length names) (length values) ≤ i → value_for (drop i names) (drop i values) source ≡ Given.Unknown
-value_none [] values zero source h = refl
-value_none [] values (suc i) source h = refl
-value_none (n ∷ ns) [] zero source h = refl
-value_none (n ∷ ns) [] (suc i) source h = empty (drop i ns) where
-  empty : (list : List Name) → value_for list [] source ≡ Given.Unknown
-  empty [] = refl
-  empty (m ∷ ms) = refl
-value_none (n ∷ ns) (v ∷ vs) zero source h = absurd (omega arith)
-value_none (n ∷ ns) (v ∷ vs) (suc i) source h = value_none ns vs i source (omega arith)
-
-pub value_at_end : {A : Type 0} (called : A → Name) (named : List A) (values : List Given) (i : ℕ) (source : DsDef) → min (length named) (length values) ≤ i → value_for (drop i (map called named)) (drop i values) source ≡ Given.Unknown
-value_at_end called named values i source h =
-    let count = length-map named called in
-    value_none (map called named) values i source (omega (arith, count, h))
+pub value_at_end : (names : List Name) (values : List Given) (i : ℕ) (source : DsDef) → length names ≤ i → value_for (drop i names) (drop i values) source ≡ Given.Unknown
+value_at_end [] values zero source h = refl
+value_at_end [] values (suc i) source h = refl
+value_at_end (n ∷ ns) values zero source h = absurd (omega arith)
+value_at_end (n ∷ ns) [] (suc i) source h = no_value (drop i ns) source
+value_at_end (n ∷ ns) (v ∷ vs) (suc i) source h = value_at_end ns vs i source (omega arith)
 
 -- ---- without a template
 

@@ -1,7 +1,7 @@
 -- Glue: the search for the archive that a fetch reads, archive by archive.
 use Rattle.std.specs.Prelude.{ℕ, ◌^◌, ◌<◌, ◌≤◌, IfSome, Bool, true, false, if◌then◌else◌, Option, List}
 use Rattle.rrd_spec.specs.declared.requests.fetch.Candidate.{Candidate}
-use Rattle.rrd_spec.specs.declared.requests.fetch.Request.{Request}
+use Rattle.rrd_spec.specs.declared.requests.fetch.FetchRequest.{FetchRequest}
 use Rattle.rrd_spec.specs.declared.settings.RraDef.{RraDef}
 use Rattle.rrd_spec.specs.Choice.{candidates, covers, is_farther, is_nearer, taken}
 use Rattle.rrd_spec.specs.Limits.{present}
@@ -10,10 +10,10 @@ use Rattle.rrd_spec.specs.Limits.{present}
 pub record Searched : Type 0 where
   pub step : ℕ
   pub last : ℕ
-  pub request : Request
+  pub request : FetchRequest
   pub best : Option Candidate
 
-abbrev pub searched : ℕ → ℕ → Request → List RraDef → Searched
+abbrev pub searched : ℕ → ℕ → FetchRequest → List RraDef → Searched
 searched step last request defs = record {
   step = step;
   last = last;
@@ -22,7 +22,7 @@ searched step last request defs = record {
 }
 
 -- what keeps its sums within 64 bits
-pub record IsSearch (step last : ℕ) (request : Request) (best : Option Candidate) : Type 0 where
+pub record IsSearch (step last : ℕ) (request : FetchRequest) (best : Option Candidate) : Type 0 where
   pub some_step : 0 < step
   pub small_step : step ≤ present.longest_step
   pub good_last : last ≤ present.latest_time

@@ -1,6 +1,6 @@
 -- Definition: an entry as the definitions have it; and, as glue, the journal that a database's fields hold.
 use Rattle.std.specs.Prelude.{◌<◌, ◌≤◌, List, length, map, reverse}
-use Rattle.rrd_spec.specs.History.{Archive}
+use Rattle.rrd_spec.specs.History.{Rra}
 use Rattle.rrd_spec.specs.Journal.Entries as entries
 pub use Rattle.rrd_spec.specs.Journal.Entries.{before}
 use Rattle.rrd_base.specs.Rra.{CanPutBackEach}
@@ -20,7 +20,7 @@ entry_of entry.Added = entries.AddedEntry
 entry_of (entry.Removed number old) = entries.RemovedEntry number old
 
 -- the entry can be put back
-abbrev pub CanUndo : List Archive → Entry → Type 0
+abbrev pub CanUndo : List Rra → Entry → Type 0
 CanUndo archives (entry.Update b) = CanPutBackEach archives b.archives.items
 CanUndo archives (entry.Tune olds) = Unit {0}
 CanUndo archives (entry.Resize number old) = number < length archives

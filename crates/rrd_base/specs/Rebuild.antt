@@ -9,7 +9,7 @@ use Rattle.rrd_spec.specs.declared.outline.Outline.{Outline}
 use Rattle.rrd_spec.specs.declared.settings.DsDef.{DsDef}
 use Rattle.rrd_spec.specs.Commands.{rows_of_archives}
 use Rattle.rrd_spec.specs.Files.Filed.{Filed, head_of, sources_of}
-use Rattle.rrd_spec.specs.History.{Archive, Content}
+use Rattle.rrd_spec.specs.History.{Rra, Content}
 use Rattle.rrd_spec.specs.Limits.{limits_of, present}
 use Rattle.rrd_spec.specs.declared.version.Version.{Version}
 use Rattle.rrd_spec.specs.Files.Rebuilding.{IsArchiveDef, IsHeader, IsRowPart, outline_left, unprepared}
@@ -22,10 +22,11 @@ use Rattle.rrd_base.specs.declared.journal.Entry.{Entry}
 use Rattle.rrd_base.specs.declared.rebuild.Rebuild.TheInside.{Inside}
 use Rattle.rrd_base.specs.declared.rebuild.cursor.Cursor.{Cursor}
 pub mod Cursors
+pub mod Runs
 pub mod EntryChecks
 
 -- the cells of the archives before one, and so many of its own, in the order of a file
-abbrev pub cells_before : ℕ → ℕ → List Archive → ℕ → ℕ → List Cell
+abbrev pub cells_before : ℕ → ℕ → List Rra → ℕ → ℕ → List Cell
 cells_before step last archives archive filled =
     flat_map (cells_by_slot step last) (take archive archives)
     ++ take filled (flat_map (cells_by_slot step last) (drop archive archives))
@@ -42,7 +43,7 @@ pub record Coming : Type 0 where
   pub sources : List DsDef
   pub raws : List Raw
   pub preps : List Part
-  pub archives : List Archive
+  pub archives : List Rra
   pub archive : ℕ
   pub filled : ℕ
   pub places : ℕ
@@ -101,7 +102,7 @@ content_so_far d = record {
 }
 
 -- an archive whose preparations may still come; what is asked of its settings is the same in each version
-pub record IsArchiveSoFar (sources step last : ℕ) (archive : Archive) : Type 0 where
+pub record IsArchiveSoFar (sources step last : ℕ) (archive : Rra) : Type 0 where
   pub def_is : IsArchiveDef present archive.def
   pub few_parts : length archive.parts ≤ sources
   pub each_part : AllByRecursion (IsRowPart step last archive.def) archive.parts
@@ -109,7 +110,7 @@ pub record IsArchiveSoFar (sources step last : ℕ) (archive : Archive) : Type 0
   pub each_row : AllByRecursion (IsRow sources) archive.rows
 
 -- all archives but the last have a preparation for each source
-abbrev pub ArePrepared : ℕ → List Archive → Type 0
+abbrev pub ArePrepared : ℕ → List Rra → Type 0
 ArePrepared sources [] = Unit {0}
 ArePrepared sources (archive ∷ []) = Unit {0}
 ArePrepared sources (archive ∷ next ∷ archives) =

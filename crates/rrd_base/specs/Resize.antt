@@ -1,14 +1,14 @@
 -- Glue: an archive's number of rows, and those of all.
 use Rattle.std.specs.Prelude.{◌≤◌, List}
 use Rattle.rrd_spec.specs.declared.settings.DsDef.{DsDef}
-use Rattle.rrd_spec.specs.History.{Archive}
+use Rattle.rrd_spec.specs.History.{Rra}
 use Rattle.rrd_spec.specs.Limits.{present}
 use Rattle.rrd_spec.specs.Settings.{Settings}
 use Rattle.rrd_spec.specs.Commands.{rows_of_archives}
 
 -- the settings that these sources and archives have
-abbrev pub settings : List DsDef → List Archive → Settings
+abbrev pub settings : List DsDef → List Rra → Settings
 settings sources archives = record { sources = sources; rows = rows_of_archives archives }
 
-pub record HasFewRows (archive : Archive) : Type 0 where
+pub record HasFewRows (archive : Rra) : Type 0 where
   pub few : archive.def.rows ≤ present.most_rows

@@ -2,22 +2,22 @@
 use Rattle.std.specs.Prelude.{◌≡◌, ◌<◌, ◌≤◌, List, [], ◌∷◌, length}
 use Rattle.rrd_ring.specs.Rows.{HasWidth, width}
 use Rattle.rrd_spec.specs.Limits.{present}
-use Rattle.rrd_spec.specs.History.{Archive}
+use Rattle.rrd_spec.specs.History.{Rra}
 use Rattle.rrd_spec.specs.Journal.Entries.{SavedArchive}
 
 -- the resolution of an archive is a number above 0, and a small one
-pub record IsStepped (archive : Archive) : Type 0 where
+pub record IsStepped (archive : Rra) : Type 0 where
   pub some_steps : 0 < archive.def.steps
   pub few_steps : archive.def.steps ≤ present.most_steps
 
 -- what can be put back: it is of the archive's function, and there is a place for each of its rows and for each of
 -- their cells
-pub record CanPutBack (archive : Archive) (old : SavedArchive) : Type 0 where
+pub record CanPutBack (archive : Rra) (old : SavedArchive) : Type 0 where
   pub same_function : old.function ≡ archive.def.function
   pub few : length old.rows ≤ length archive.rows
   pub one_width : HasWidth (width archive.rows) old.rows
 
-abbrev pub CanPutBackEach : List Archive → List SavedArchive → Type 0
+abbrev pub CanPutBackEach : List Rra → List SavedArchive → Type 0
 CanPutBackEach [] [] = Unit {0}
 CanPutBackEach [] (old ∷ olds) = ⊥
 CanPutBackEach (archive ∷ archives) [] = ⊥

@@ -1,7 +1,11 @@
 -- Glue: the template of an update, and its last time.
-use Rattle.std.specs.Prelude.{ℕ, List, [], ◌∷◌}
+use Rattle.std.specs.Prelude.{◌≡◌, ◌<◌, ℕ, List, [], ◌∷◌, Option, Some, None, length, slice_index_or}
+use Rattle.rrd_spec.specs.declared.requests.update.Given.{Given}
 use Rattle.rrd_spec.specs.declared.requests.update.Sample.{Sample}
 use Rattle.rrd_spec.specs.declared.requests.update.Update.{Update}
+use Rattle.rrd_spec.specs.declared.settings.DsDef.{DsDef}
+use Rattle.rrd_spec.specs.Commands.{value_for}
+use Rattle.rrd_base.specs.declared.columns.Columns.{Columns}
 pub use Rattle.rrd_spec.specs.Commands.Verdict.{template_of, template_checks}
 
 -- the time of the last sample; 0 if there is none
@@ -10,5 +14,20 @@ last_time [] = 0
 last_time (sample ∷ []) = sample.time
 last_time (sample ∷ next ∷ samples) = last_time (next ∷ samples)
 
-abbrev pub end_of : Update → ℕ
-end_of update = last_time update.samples
+abbrev pub end_time : Update → ℕ
+end_time update = last_time update.samples
+
+-- ---- places of values
+
+-- the value in a place, if there is one
+abbrev pub value_in : List Given → Option ℕ → Given
+value_in values None = Given.Unknown
+value_in values (Some place) = slice_index_or values place Given.Unknown
+
+-- a place for each source, that of its value by the template
+pub record AreColumns (sources : List DsDef) (columns : Columns) : Type 0 where
+  pub one_each : length columns.places.items ≡ length sources
+  pub places :
+      (source : ℕ) (d : DsDef) (values : List Given) → source < length sources
+      → value_in values (slice_index_or columns.places.items source None)
+      ≡ value_for (template_of sources columns.template.now) values (slice_index_or sources source d)

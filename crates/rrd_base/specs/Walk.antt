@@ -31,10 +31,10 @@ abbrev pub count_of : Steps → ℕ
 count_of steps = 1 + steps.count
 
 abbrev pub cells_of : Steps → List (List Cell)
-cells_of steps = steps.first.now ∷ replicate steps.count steps.then.now
+cells_of steps = steps.first.now ∷ replicate steps.count steps.others.now
 
 -- they end in time, and their cells are bounded
 pub record AreSteps (steps : Steps) : Type 0 where
   pub in_time : steps.before + count_of steps ≤ present.latest_time
   pub first : IsRow (sources_of steps) steps.first.now
-  pub then : IsRow (sources_of steps) steps.then.now
+  pub others : IsRow (sources_of steps) steps.others.now

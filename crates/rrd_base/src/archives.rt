@@ -1,12 +1,21 @@
-//! Archives that come and go: what an addition or a removal makes, and how it is undone.
-ghost use Rattle.std.specs.Prelude.{◌≡◌, ◌<◌, ◌≤◌, ◌++◌, ◌∷◌, [], length, remove, OnErr, OnOk};
+//! The archives of a content: what an addition or a removal makes, and how it is undone; and what each
+//! archive does, one after another.
+ghost use Rattle.std.specs.Prelude.{◌≡◌, ◌+◌, ◌^◌, ◌<◌, ◌≤◌, ◌++◌, ◌∷◌, [], length, map, remove, IfOk, OnErr, OnOk};
+ghost use Rattle.std.specs.List.{AllByRecursion};
+ghost use Rattle.rrd_base.specs.Rra.{CanPutBackEach, IsStepped};
+ghost use Rattle.rrd_base.specs.Walk.{AreSteps, cells_of, count_of, sources_of};
+ghost use Rattle.rrd_base.specs.Walk.Turns.{least_of_all, most_of_all};
 ghost use Rattle.rrd_spec.specs.Commands.Creating.{new_archive};
-ghost use Rattle.rrd_spec.specs.Journal.Entries.{AddedEntry, RemovedEntry, archive_at, undone};
-ghost use Rattle.rrd_spec.specs.Validity.{IsValid};
+ghost use Rattle.rrd_spec.specs.Journal.Entries.{AddedEntry, RemovedEntry, archive_at, put_back_each, saved, undone};
+ghost use Rattle.rrd_spec.specs.Laws.Passing.{archive_passed};
+ghost use Rattle.rrd_spec.specs.Limits.{present};
+ghost use Rattle.rrd_spec.specs.Validity.{IsValid, IsValidArchive};
 
-use crate::RraDef;
 use crate::content::Content;
 use crate::rra::Rra;
+use crate::walk::Steps;
+use crate::{ArchiveList, RraDef, SavedArchive};
+use rrd_fixed::{Cell, Meter};
 use std::alloc::{AllocError, Global};
 
 impl Content {
@@ -49,5 +58,76 @@ impl Content {
         ensures { self.new ≡ undone self.old (RemovedEntry number old) }
     {
         self.archives.insert(number, old);
+    }
+}
+
+// ---- each of them
+
+/// New archives of these settings, so many sources having been defined.
+pub(crate) fn new_all(
+    alloc: Global,
+    defs: &[RraDef],
+    sources: u64,
+) -> Result<ArchiveList<Rra>, AllocError>
+    requires few { length defs.now ≤ present.most_archives }
+    requires rows { AllByRecursion (λ def. (0 < def.rows) × (def.rows ≤ present.most_rows)) defs.now }
+    requires some_sources { 0 < sources }
+    requires few_sources { sources ≤ present.most_sources }
+    ensures { IfOk result (λ archives. archives ≡ map (new_archive sources) defs.now) }
+{
+    let mut archives = ArchiveList::new(alloc)?;
+    for def in defs {
+        archives.push(Rra::new(alloc, *def, sources)?);
+    }
+    Ok(archives)
+}
+
+/// Each archive takes steps. `row` has a place for each cell of a row.
+pub(crate) fn take_all(archives: &mut [Rra], steps: &Steps, row: &mut [Cell], meter: &mut Meter)
+    requires valid { AllByRecursion (IsValidArchive (sources_of steps.now) steps.now.before) archives.old }
+    requires steps_are { AreSteps steps.now }
+    requires places { length row.old ≡ sources_of steps.now }
+    requires turns { meter.old + most_of_all steps.now archives.old < 2 ^ 64 }
+    ensures value { let passed = archive_passed (sources_of steps.now) steps.now.before (cells_of steps.now) in
+        archives.new ≡ map passed archives.old }
+    ensures valid { let before = steps.now.before + count_of steps.now in
+        AllByRecursion (IsValidArchive (sources_of steps.now) before) archives.new }
+    ensures least { meter.old + least_of_all steps.now archives.old ≤ meter.new }
+    ensures most { meter.new ≤ meter.old + most_of_all steps.now archives.old }
+{
+    for i in 0..archives.len() {
+        archives[i].take(steps, row, meter);
+    }
+}
+
+/// A copy of what an update from one time to another takes from each archive, steps of so many
+/// seconds being taken.
+pub(crate) fn save_all(
+    alloc: Global,
+    archives: &[Rra],
+    step: u64,
+    from: u64,
+    to: u64,
+) -> Result<Vec<SavedArchive>, AllocError>
+    requires stepped { AllByRecursion IsStepped archives.now }
+    requires some_step { 0 < step }
+    requires small_step { step ≤ present.longest_step }
+    ensures { IfOk result (λ all. all.items ≡ map (saved step from to) archives.now) }
+{
+    let mut all = Vec::with_capacity(alloc, archives.len())?;
+    for rra in archives {
+        let saved = rra.save_between(alloc, step, from, to)?;
+        all.push(saved)?;
+    }
+    Ok(all)
+}
+
+/// Puts back what was kept of each archive. It takes no memory.
+pub(crate) fn put_back_all(archives: &mut [Rra], mut saved: Vec<SavedArchive>)
+    requires fits { CanPutBackEach archives.old saved.items }
+    ensures { archives.new ≡ put_back_each archives.old saved.items }
+{
+    while let Some(old) = saved.pop() {
+        archives[saved.len()].put_back(old);
     }
 }

@@ -7,7 +7,7 @@ ghost use Rattle.rrd_spec.specs.Commands.Creating as creating;
 ghost use Rattle.rrd_spec.specs.Limits.{present};
 ghost use Rattle.rrd_spec.specs.Commands.Verdict as verdict;
 
-use crate::named::is_double;
+use crate::named::has_double_name;
 use crate::rows::all_rows;
 use crate::{CreateSpec, DsDef, Refusal, RraDef};
 use rrd_spec::limits::{
@@ -50,7 +50,7 @@ fn check_sources(sources: &[DsDef]) -> Result<(), Refusal>
     if any_bad_name(sources) {
         return Err(Refusal::BadName);
     }
-    if is_double(sources) {
+    if has_double_name(sources) {
         return Err(Refusal::DoubleName);
     }
     if any_bad_heartbeat(sources) {

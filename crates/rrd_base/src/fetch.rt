@@ -5,7 +5,7 @@ ghost use Rattle.std.specs.Int.{int_div_euclid};
 ghost use Rattle.std.specs.Result.{result_err};
 ghost use Rattle.rrd_fixed.specs.declared.cell.Cell.TheVariants.{Unknown};
 ghost use Rattle.rrd_fold.specs.declared.function.Function.{Function};
-ghost use Rattle.rrd_spec.specs.declared.requests.fetch.Request.{Request};
+ghost use Rattle.rrd_spec.specs.declared.requests.fetch.FetchRequest.{FetchRequest};
 ghost use Rattle.rrd_spec.specs.declared.settings.RraDef.{RraDef};
 ghost use Rattle.rrd_base.specs.Fetch.{is_preferred, searched};
 ghost use Rattle.rrd_spec.specs.Choice as choice;
@@ -19,7 +19,7 @@ use crate::{Chosen, Refusal, RraDef};
 use rrd_fixed::Cell;
 use rrd_fold::Function;
 use rrd_spec::limits::{LATEST_TIME, LONGEST_SPAN};
-use rrd_spec::{Candidate, Request};
+use rrd_spec::{Candidate, FetchRequest};
 use std::marker::Model;
 
 /// The search for the archive that a fetch reads. All archives are offered to it, in order.
@@ -28,7 +28,7 @@ use std::marker::Model;
 pub struct Search {
     step: u64,
     last: u64,
-    request: Request,
+    request: FetchRequest,
     best: Option<Candidate>,
 }
 
@@ -44,7 +44,7 @@ impl Model for Search {
 
 impl Search {
     /// Begins with no archive, or refuses what can't be fetched of any database.
-    pub(crate) fn begin(step: u64, last: u64, request: Request) -> Result<Search, Refusal>
+    pub(crate) fn begin(step: u64, last: u64, request: FetchRequest) -> Result<Search, Refusal>
         requires some_step { 0 < step }
         requires small_step { step ≤ present.longest_step }
         requires good_last { last ≤ present.latest_time }
@@ -66,7 +66,7 @@ impl Search {
         requires some_steps { 0 < def.now.steps }
         requires few_steps { def.now.steps ≤ present.most_steps }
         requires few_rows { def.now.rows ≤ present.most_rows }
-        ensures { (step last : ℕ) (request : Request) (defs : List RraDef) →
+        ensures { (step last : ℕ) (request : FetchRequest) (defs : List RraDef) →
             number ≡ length defs →
             self.old ≡ searched step last request defs →
             self.new ≡ searched step last request (defs ++ def.now ∷ []) }
@@ -86,7 +86,7 @@ impl Search {
 
     /// What the fetch reads, all archives having been offered.
     pub(crate) fn finish(&self) -> Result<Chosen, Refusal>
-        ensures { (step last : ℕ) (request : Request) (defs : List RraDef) →
+        ensures { (step last : ℕ) (request : FetchRequest) (defs : List RraDef) →
             self.now ≡ searched step last request defs →
             result ≡ choice.choice_of present step last defs request }
     {
@@ -102,7 +102,7 @@ impl Search {
 }
 
 // Whether a span can't be fetched of any database.
-fn check_span(request: Request) -> Result<(), Refusal>
+fn check_span(request: FetchRequest) -> Result<(), Refusal>
     ensures { result_err result ≡ first_refusal (choice.span_checks present request) }
 {
     if request.start > LATEST_TIME {
@@ -146,7 +146,7 @@ fn candidate(step: u64, last: u64, number: u64, def: &RraDef) -> Candidate
 }
 
 // Whether an archive is taken rather than one with a lower number.
-fn is_preferred(request: Request, one: &Candidate, other: &Candidate) -> bool
+fn is_preferred(request: FetchRequest, one: &Candidate, other: &Candidate) -> bool
     ensures { result ≡ is_preferred request.asked request.start one.now other.now }
 {
     match (covers(request.start, one), covers(request.start, other)) {
@@ -178,7 +178,7 @@ fn is_farther(asked: u64, one: &Candidate, other: &Candidate) -> bool
 }
 
 // The span of an archive.
-fn span(request: Request, one: &Candidate) -> Chosen
+fn span(request: FetchRequest, one: &Candidate) -> Chosen
     requires some_resolution { 0 < one.now.resolution }
     requires small_resolution { one.now.resolution ≤ 10 ^ 12 }
     requires in_order { request.start ≤ request.end }
@@ -198,7 +198,7 @@ fn span(request: Request, one: &Candidate) -> Chosen
 
 impl Content {
     /// Which archive a fetch reads, and which of its rows.
-    pub(crate) fn choose(&self, request: Request) -> Result<Chosen, Refusal>
+    pub(crate) fn choose(&self, request: FetchRequest) -> Result<Chosen, Refusal>
         ensures { result
             ≡ choice.choice_of present self.now.step self.now.last (definitions self.now.archives) request }
     {

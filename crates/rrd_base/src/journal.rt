@@ -14,6 +14,7 @@ use arrayvec::ArrayVec;
 use rrd_fixed::Raw;
 use rrd_fold::StepPrep;
 use rrd_ring::Archive;
+use rrd_spec::limits::MOST_TUNED;
 
 mod saved_archive;
 
@@ -38,7 +39,7 @@ pub enum Entry {
     /// What was before an update.
     Update(BeforeUpdate),
     /// The data sources that a tune named, at most 5, by rising number.
-    Tune(ArrayVec<SourceBefore, 5>),
+    Tune(ArrayVec<SourceBefore, MOST_TUNED>),
     /// The number of an archive that was resized, and its rows before.
     Resize { archive: u64, old: Archive },
     /// An archive was added, as the last one.

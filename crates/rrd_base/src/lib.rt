@@ -1,7 +1,9 @@
 //! A round-robin database of many data sources and archives, with a journal of what its changes replaced.
+//! `rrd_tests/src/examples.rt` has a caller of it, from the first call to the last.
 #![tactic(auto)]
 
 mod archives;
+mod columns;
 mod content;
 mod create;
 mod database;

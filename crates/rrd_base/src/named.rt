@@ -49,7 +49,7 @@ pub(crate) fn has_source(sources: &[DsDef], name: &Name) -> bool
 }
 
 /// Whether a name stands twice.
-pub(crate) fn is_double<T: Named>(named: &[T]) -> bool
+pub(crate) fn has_double_name<T: Named>(named: &[T]) -> bool
     ensures { result ≡ is_double (map T.called named.now) }
 {
     for (place, one) in named.iter().enumerate() {

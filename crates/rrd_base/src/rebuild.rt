@@ -1,11 +1,26 @@
 //! A database from the pieces of a file, in the order of its layout.
-ghost use Rattle.std.specs.Prelude.{◌≡◌, ◌++◌, ◌∷◌, [], ◌%◌, ◌<◌, ◌≤◌, None, Some, length, min, slice_get, true, IfOk, IfErr, IfSome, OnOk, OnErr};
+//!
+//! To whoever works on it next. Contracts see what came so far as lists (`Filed`), and a database only where
+//! `finish` has one; each rule of the layout is asked at the piece that can break it first, so the first piece
+//! that is refused is the file's first fault, and `decode` has to ask nothing again. A new rule goes into the
+//! definition of the piece that it is about (`MaySource`, `MayHead`, ..) and into the check of that name, and
+//! what `finish` promises says whether one is lacking.
+//!
+//! What goes wrong easily. Entries come newest first, and each is judged by the outline that is left once all
+//! that came before it are undone, not by the present settings: names, numbers and types of archives and sources
+//! were others then. The limits are those of the version that `begin` took, in entries too. A piece is judged
+//! before it is given memory, so that want of memory hides no fault, and changes nothing until it has all. Rows
+//! come by slot, not by time: `Cursor` alone knows which is next, and where it goes. `cells` takes whole rows at
+//! once and has to come to what `cell` does one after another.
+ghost use Rattle.std.specs.Prelude.{◌≡◌, ◌++◌, ◌∷◌, [], ◌%◌, ◌<◌, ◌≤◌, None, Some, length, min, slice_get, take, true, IfOk, IfErr, IfSome, OnOk, OnErr};
+ghost use Rattle.rrd_base.specs.Rebuild.Runs.{MayCells, with_cells};
 ghost use Rattle.rrd_base.specs.Journal.{entry_of};
 ghost use Rattle.rrd_fold.specs.Parts.{Part};
 ghost use Rattle.rrd_fold.specs.declared.function.Function.TheVariants.{Average};
-ghost use Rattle.rrd_base.specs.declared.rebuild.PieceFault.TheVariants.{Bad};
+ghost use Rattle.rrd_base.specs.declared.rebuild.PieceFault.TheVariants.{Bad, OutOfMemory};
 ghost use Rattle.rrd_spec.specs.declared.due.Due.TheVariants.{EntryDue, NothingDue};
 ghost use Rattle.rrd_spec.specs.declared.settings.RraDef.{RraDef};
+ghost use Rattle.rrd_base.specs.Rebuild.EntryChecks.{IsValidOutline};
 ghost use Rattle.rrd_spec.specs.Files.Filed.{Header, Source, filed};
 ghost use Rattle.rrd_spec.specs.Files.Rebuilding.{IsHeader, IsRowPart, MayCell, MayEntry, MayHead, MayPrep, MaySource, begun, due, limits, outline_left, unprepared, with_cell, with_entry, with_head, with_prep, with_source};
 ghost use Rattle.rrd_spec.specs.Journal.Entries.{rows_between};
@@ -24,12 +39,11 @@ use circular_buffer::HeapCircularBuffer;
 use cursor::Cursor;
 use entry_checks::{had_number, had_rows, had_settings, may_undo};
 use outline::undo;
-use piece_checks::{is_archive, is_part};
-use preparations::{made_row, made_step};
+use piece_checks::{are_bounded, is_archive, is_part};
 use rrd_fixed::{Cell, Raw};
 use rrd_fold::{Function, RowPrep, StepPrep};
 use rrd_spec::limits::{LATEST_TIME, MOST_SOURCES};
-use rrd_spec::{Version, laws};
+use rrd_spec::{Version, first_place, laws};
 use std::alloc::{AllocError, Global};
 use std::marker::Model;
 
@@ -37,7 +51,6 @@ mod cursor;
 mod entry_checks;
 mod outline;
 mod piece_checks;
-mod preparations;
 
 pub use piece_checks::{is_bounded, is_source};
 
@@ -87,7 +100,8 @@ impl Rebuild {
     /// Begins with a header: the version, to whose limits all pieces are held, seconds in a step (1 to
     /// 1,000,000), the last time (seconds since 1970, up to 9,999,999,999), the journal's depth (1 to
     /// 100,000, in the first version 1,000), and how many sources (1 to 64), archives (1 to 128, in the
-    /// first version 64) and entries (at most the depth) will come. Bad where a number is none of these.
+    /// first version 64) and entries (at most the depth) will come. Bad exactly where a number is none of
+    /// these.
     pub fn begin(
         alloc: Global,
         version: Version,
@@ -116,6 +130,15 @@ impl Rebuild {
           archives = archives;
           entries = entries;
         } in IfErr result (λ e. e ≡ Bad → IsHeader header → ⊥) }
+        ensures want { let header : Header = record {
+          version = version;
+          step = step;
+          last = last;
+          depth = depth;
+          sources = sources;
+          archives = archives;
+          entries = entries;
+        } in IfErr result (λ e. e ≡ OutOfMemory → IsHeader header) }
     {
         if is_bad_step(step) || last > LATEST_TIME {
             return Err(PieceFault::Bad);
@@ -230,7 +253,7 @@ impl Rebuild {
     }
 
     /// Takes the next data source, with its last raw value, and how many seconds of its unfinished
-    /// step are known and their sum in millionths. Bad where another piece is due or a rule is
+    /// step are known and their sum in millionths. Bad exactly where another piece is due or a rule is
     /// broken; refused, it changes nothing.
     pub fn source(&mut self, def: DsDef, raw: Raw, known: u64, sum: i128) -> Result<(), PieceFault>
         ensures ok { let source : Source =
@@ -239,12 +262,15 @@ impl Rebuild {
         ensures bad { let source : Source =
             record { def = def; raw = raw; part = record { known = known; value = sum } } in
             IfErr result (λ e. e ≡ Bad → MaySource self.old source → ⊥) }
+        ensures want { let source : Source =
+            record { def = def; raw = raw; part = record { known = known; value = sum } } in
+            IfErr result (λ e. e ≡ OutOfMemory → MaySource self.old source) }
         ensures err { OnErr result (self.new ≡ self.old) }
     {
         if !self.may_source(&def, raw, known, sum) {
             return Err(PieceFault::Bad);
         }
-        let prep = made_step(known, sum);
+        let prep = StepPrep::from_part(known, sum);
         let Ok(()) = push_source(
             &mut self.sources,
             &mut self.raws,
@@ -274,18 +300,21 @@ impl Rebuild {
         !has_too_many_cells(self.version.most_cells(), self.sources_due as usize, rows)
     }
 
-    /// Takes the next archive's settings. Bad where another piece is due or a rule is broken;
+    /// Takes the next archive's settings. Bad exactly where another piece is due or a rule is broken;
     /// refused, it changes nothing. It takes memory for the archive's rows once its settings are good
-    /// and all cells are at most 8,000,000, in the first version 4,000,000.
+    /// and all cells are at most 8,000,000, in the first version 4,000,000; each cell touches its part
+    /// of that memory as it comes.
     pub fn archive(&mut self, def: RraDef) -> Result<(), PieceFault>
         ensures ok { OnOk result (MayHead self.old def × (self.new ≡ with_head self.old def)) }
         ensures bad { IfErr result (λ e. e ≡ Bad → MayHead self.old def → ⊥) }
+        ensures want { IfErr result (λ e. e ≡ OutOfMemory → MayHead self.old def) }
         ensures err { OnErr result (self.new ≡ self.old) }
     {
         if !self.may_head(&def) {
             return Err(PieceFault::Bad);
         }
-        let Ok(rra) = Rra::begin(self.alloc, def, self.sources_due) else {
+        let first = first_place(def.resolution(self.step), self.last, def.rows);
+        let Ok(rra) = Rra::begin(self.alloc, def, self.sources_due, first) else {
             return Err(PieceFault::OutOfMemory);
         };
         self.archives.push(rra);
@@ -306,12 +335,13 @@ impl Rebuild {
     }
 
     /// Takes the next source's preparation in the archive that came last: how many steps are known,
-    /// and what they come to in millionths. Bad where another piece is due or a rule is broken;
+    /// and what they come to in millionths. Bad exactly where another piece is due or a rule is broken;
     /// refused, it changes nothing.
     pub fn prep(&mut self, known: u64, value: i128) -> Result<(), PieceFault>
         ensures ok { let part : Part = record { known = known; value = value } in
             OnOk result (MayPrep self.old part × (self.new ≡ with_prep self.old part)) }
         ensures bad { IfErr result (λ e. e ≡ Bad → MayPrep self.old (record { known = known; value = value }) → ⊥) }
+        ensures want { IfErr result (λ e. e ≡ OutOfMemory → MayPrep self.old (record { known = known; value = value })) }
         ensures err { OnErr result (self.new ≡ self.old) }
     {
         if !self.may_prep(known, value) {
@@ -319,7 +349,7 @@ impl Rebuild {
         }
         let last = self.archives.len() - 1;
         let function = self.archives.get(last).def().function;
-        let prep = made_row(function, known, value);
+        let prep = RowPrep::from_part(function, known, value);
         let Ok(()) = self.archives.get_mut(last).push_prep(prep) else {
             return Err(PieceFault::OutOfMemory);
         };
@@ -360,6 +390,61 @@ impl Rebuild {
         Ok(())
     }
 
+    // Takes the first of these cells that make whole rows of an archive, if its next cell begins a row and
+    // none of them is past the greatest rate: answers how many. What is due and where it goes is found
+    // once for all of them.
+    fn rows(&mut self, cells: &[Cell]) -> usize
+        ensures few { result ≤ length cells.now }
+        ensures may { MayCells self.old (take result cells.now) }
+        ensures came { self.new ≡ with_cells self.old (take result cells.now) }
+    {
+        laws::rows_stand_in_slots();
+        laws::cells_stand_in_slots();
+        let Due::CellDue = self.due() else {
+            return 0;
+        };
+        if self.cursor.source > 0 {
+            return 0;
+        }
+        let sources = self.sources_due as usize;
+        let def = self.archives.get(self.cursor.archive).def();
+        let left = (def.rows - self.cursor.slot) as usize;
+        let count = (cells.len() / sources).min(left);
+        let taken = count * sources;
+        let whole = &cells[..taken];
+        if !are_bounded(whole) {
+            return 0;
+        }
+        let place = self.cursor.place(&def, self.step, self.last);
+        let rra = self.archives.get_mut(self.cursor.archive);
+        rra.put_rows(place, count as u64, whole);
+        self.cursor.pass(place, count as u64, def.rows);
+        taken
+    }
+
+    /// Takes cells one after another, as `cell` does, up to the first that may not come, and answers how
+    /// many. It takes no memory.
+    pub fn cells(&mut self, cells: &[Cell]) -> usize
+        ensures few { result ≤ length cells.now }
+        ensures may { MayCells self.old (take result cells.now) }
+        ensures came { self.new ≡ with_cells self.old (take result cells.now) }
+        ensures stops { (next : Cell) → slice_get cells.now result ≡ Some next → MayCell self.new next → ⊥ }
+    {
+        let mut taken = 0;
+        while taken < cells.len() {
+            let whole = self.rows(&cells[taken..]);
+            if whole == 0 {
+                let Ok(()) = self.cell(cells[taken]) else {
+                    return taken;
+                };
+                taken += 1;
+            } else {
+                taken += whole;
+            }
+        }
+        taken
+    }
+
     // ---- what the pieces of the next entry are judged by, before there is an entry
 
     /// How many entries came, at most 100,000.
@@ -368,6 +453,19 @@ impl Rebuild {
         ensures few { result ≤ present.deepest_journal }
     {
         self.journal.len() as u64
+    }
+
+    // That a valid content has the outline that is left, where an entry is due. It does nothing: a call of
+    // it makes this known where it stands.
+    fn outline_is_valid(&self)
+        requires { due self.now ≡ EntryDue }
+        ensures { IsValidOutline self.now.header.version (outline_left self.now) }
+    {
+        laws::cells_stand_in_slots();
+        laws::journals_in_pieces();
+        laws::outlines_follow();
+        // A look at a field is what makes a struct's invariant known.
+        let _ = &self.outline;
     }
 
     /// The settings of an archive, once the entries that came have been undone.
@@ -379,9 +477,7 @@ impl Rebuild {
         ensures few_steps { result.now.steps ≤ present.most_steps }
         ensures few_rows { result.now.rows ≤ present.most_rows }
     {
-        laws::cells_stand_in_slots();
-        laws::journals_in_pieces();
-        laws::outlines_follow();
+        self.outline_is_valid();
         self.outline.archives.get(archive)
     }
 
@@ -392,9 +488,7 @@ impl Rebuild {
         ensures some { 0 < result }
         ensures few { result ≤ present.most_sources }
     {
-        laws::cells_stand_in_slots();
-        laws::journals_in_pieces();
-        laws::outlines_follow();
+        self.outline_is_valid();
         self.outline.sources.len() as u64
     }
 
@@ -409,7 +503,7 @@ impl Rebuild {
         if !is_part(Function::Average, last % self.step, known, sum) {
             return None;
         }
-        Some(made_step(known, sum))
+        Some(StepPrep::from_part(known, sum))
     }
 
     /// The preparation of an unfinished row of an archive of these settings at a time, in seconds since
@@ -427,7 +521,7 @@ impl Rebuild {
         if !is_part(def.function, passed, known, value) {
             return None;
         }
-        Some(made_row(def.function, known, value))
+        Some(RowPrep::from_part(def.function, known, value))
     }
 
     /// How many rows of an archive an update replaced that began at a time, in seconds since 1970: at
@@ -451,9 +545,7 @@ impl Rebuild {
         ensures good { result ≡ true → AreOldRows (limits self.now) (outline_left self.now) archive rows }
         ensures bad { AreOldRows (limits self.now) (outline_left self.now) archive rows → result ≡ true }
     {
-        laws::cells_stand_in_slots();
-        laws::journals_in_pieces();
-        laws::outlines_follow();
+        self.outline_is_valid();
         had_rows(self.version, &self.outline, archive, rows)
     }
 
@@ -478,9 +570,7 @@ impl Rebuild {
         ensures good { result ≡ true → AreRemovedSettings (limits self.now) (outline_left self.now) def.now }
         ensures bad { AreRemovedSettings (limits self.now) (outline_left self.now) def.now → result ≡ true }
     {
-        laws::cells_stand_in_slots();
-        laws::journals_in_pieces();
-        laws::outlines_follow();
+        self.outline_is_valid();
         had_settings(self.version, &self.outline, def)
     }
 
@@ -491,12 +581,10 @@ impl Rebuild {
         ensures good { result ≡ true → MayEntry self.now (entry_of entry.now) }
         ensures bad { MayEntry self.now (entry_of entry.now) → result ≡ true }
     {
-        laws::cells_stand_in_slots();
-        laws::journals_in_pieces();
-        laws::outlines_follow();
         let Due::EntryDue = self.due() else {
             return false;
         };
+        self.outline_is_valid();
         may_undo(self.version, self.step, &self.outline, entry)
     }
 
@@ -548,7 +636,7 @@ impl Rebuild {
             preps,
             archives,
         };
-        Database::of(content, journal)
+        Database::from_parts(content, journal)
     }
 }
 

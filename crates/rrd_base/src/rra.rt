@@ -5,23 +5,22 @@ ghost use Rattle.rrd_fixed.specs.declared.cell.Cell.{Cell};
 ghost use Rattle.rrd_fixed.specs.declared.cell.Cell.TheVariants.{Unknown};
 ghost use Rattle.rrd_fold.specs.Bounds.{most_known};
 ghost use Rattle.rrd_fold.specs.Parts.{Part, nothing, row_cell, with_each};
-ghost use Rattle.rrd_ring.specs.Rows.{HasWidth, newest_rows, row_at, unknown_rows, width};
+ghost use Rattle.rrd_ring.specs.Rows.{HasWidth, newest_rows, nth_row, unknown_rows, width, with_rows};
 ghost use Rattle.rrd_spec.specs.Journal.Entries.{put_back as after_put_back, saved};
 ghost use Rattle.rrd_spec.specs.Limits.{present};
-ghost use Rattle.rrd_spec.specs.Commands.Creating.{new_archive};
 ghost use Rattle.rrd_spec.specs.Preparations.{AllOf, parts_in};
 ghost use Rattle.rrd_spec.specs.Laws.ListedContent.{keep_last};
 ghost use Rattle.rrd_spec.specs.Laws.Passing.{archive_passed};
 ghost use Rattle.rrd_spec.specs.History.Cells.{row_of_age};
 ghost use Rattle.rrd_base.specs.Rra.{CanPutBack, IsStepped};
 ghost use Rattle.rrd_base.specs.Walk.{AreSteps, cells_of, count_of, sources_of};
-ghost use Rattle.rrd_base.specs.Walk.Turns.{least_of_all, least_of_one, most_of_all, most_of_one};
+ghost use Rattle.rrd_base.specs.Walk.Turns.{least_of_one, most_of_one};
 ghost use Rattle.rrd_spec.specs.Validity.{IsRow, IsValidArchive};
 
 use crate::rows::{HasRows, rows_between};
 use crate::walk::Steps;
 use crate::walk::preparations::{add_steps, close_rows};
-use crate::{ArchiveList, RraDef, SavedArchive};
+use crate::{RraDef, SavedArchive};
 use rrd_fixed::{Cell, Meter};
 use rrd_fold::RowPrep;
 use rrd_ring::Archive;
@@ -40,9 +39,9 @@ pub struct Rra {
 
 impl Model for Rra {
     ghost use Rattle.rrd_spec.specs.Preparations.{AllOf, parts_in};
-    ghost use Rattle.rrd_spec.specs.History.{Archive};
+    ghost use Rattle.rrd_spec.specs.History.{Rra};
 
-    ghost Value = { Archive };
+    ghost Value = { Rra };
 
     ghost view = { λ s. record { def = s.def; parts = parts_in s.preps.items; rows = s.rows } };
 
@@ -60,7 +59,7 @@ impl HasRows for Rra {
 impl Rra {
     /// The archive of these settings, these preparations, one for each source and each of its function, and
     /// these rows.
-    pub fn of(def: RraDef, preps: Vec<RowPrep>, rows: Archive) -> Rra
+    pub fn from_parts(def: RraDef, preps: Vec<RowPrep>, rows: Archive) -> Rra
         requires { AllOf def.function preps.items }
         ensures { result ≡ record { def = def; parts = parts_in preps.items; rows = rows } }
     {
@@ -86,16 +85,22 @@ impl Rra {
     }
 
     /// An archive whose preparations haven't come, so many sources having been defined: all its rows
-    /// are unknown.
-    pub(crate) fn begin(alloc: Global, def: RraDef, sources: u64) -> Result<Rra, AllocError>
-        requires some_rows { 0 < def.rows }
+    /// are unknown. They are going to be written from row `first` on, counted from the oldest, to the
+    /// newest and then from the oldest on.
+    pub(crate) fn begin(
+        alloc: Global,
+        def: RraDef,
+        sources: u64,
+        first: u64,
+    ) -> Result<Rra, AllocError>
         requires few_rows { def.rows ≤ present.most_rows }
         requires some_sources { 0 < sources }
         requires few_sources { sources ≤ present.most_sources }
+        requires there { first < def.rows }
         ensures { IfOk result (λ s. s
             ≡ record { def = def; parts = []; rows = replicate def.rows (replicate sources Unknown) }) }
     {
-        let rows = Archive::new(alloc, def.rows, sources)?;
+        let rows = Archive::new_from(alloc, def.rows, sources, first)?;
         Ok(Rra {
             def,
             preps: Vec::new(alloc),
@@ -123,11 +128,23 @@ impl Rra {
     /// Writes the cell of a source in a row, counted from the oldest.
     pub(crate) fn put(&mut self, row: u64, source: usize, cell: Cell)
         requires there { row < length self.old.rows }
-        requires within { source < length (row_at self.old.rows row) }
-        ensures { let cells = slice_set (row_at self.old.rows row) source cell in
+        requires within { source < length (nth_row self.old.rows row) }
+        ensures { let cells = slice_set (nth_row self.old.rows row) source cell in
             self.new ≡ record self.old { rows = slice_set self.old.rows row cells } }
     {
         self.rows.row_mut(row)[source] = cell;
+    }
+
+    /// Writes so many rows, at most all, from one on, counted from the oldest, to the newest and then from
+    /// the oldest on: `cells` has theirs, one row after another.
+    pub(crate) fn put_rows(&mut self, row: u64, count: u64, cells: &[Cell])
+        requires there { row < length self.old.rows }
+        requires few { count ≤ length self.old.rows }
+        requires one_each { length cells.now ≡ count * width self.old.rows }
+        ensures { let rows = with_rows count (width self.old.rows) self.old.rows row cells.now in
+            self.new ≡ record self.old { rows = rows } }
+    {
+        self.rows.put_rows(row, count, cells);
     }
 
     /// The settings.
@@ -147,7 +164,7 @@ impl Rra {
     /// The cells of a row, counted from the oldest.
     pub(crate) fn row(&self, place: u64) -> &[Cell]
         requires { place < length self.now.rows }
-        ensures { result.now ≡ row_at self.now.rows place }
+        ensures { result.now ≡ nth_row self.now.rows place }
     {
         self.rows.row(place)
     }
@@ -229,18 +246,18 @@ impl Rra {
 
     // Takes a row and then so many of another, those only that are still there in the end. It is a
     // turn for each cell of these.
-    fn push(&mut self, row: &[Cell], then: &[Cell], times: u64, meter: &mut Meter)
+    fn push(&mut self, row: &[Cell], other: &[Cell], times: u64, meter: &mut Meter)
         requires wide { HasWidth (length row.now) self.old.rows }
-        requires same_width { length then.now ≡ length row.now }
+        requires same_width { length other.now ≡ length row.now }
         requires turns { meter.old + length row.now * min (1 + times) (length self.old.rows) < 2 ^ 64 }
-        ensures value { let all = self.old.rows ++ row.now ∷ replicate times then.now in
+        ensures value { let all = self.old.rows ++ row.now ∷ replicate times other.now in
             self.new ≡ record self.old { rows = keep_last (length self.old.rows) all } }
         ensures ticked { meter.new ≡ meter.old + length row.now * min (1 + times) (length self.old.rows) }
     {
         if times < self.rows.rows() {
             self.rows.push_row(row, meter);
         }
-        push_times(&mut self.rows, then, times, meter);
+        push_times(&mut self.rows, other, times, meter);
     }
 
     /// Takes steps. All whole rows of the ones that are alike are taken at once: their cells are
@@ -265,13 +282,13 @@ impl Rra {
         let left = (steps.before / in_row + 1) * in_row - (steps.before + 1);
         self.go_on(steps.first, 1, meter);
         if steps.count < left {
-            self.go_on(steps.then, steps.count, meter);
+            self.go_on(steps.others, steps.count, meter);
         } else {
             let more = steps.count - left;
-            self.go_on(steps.then, left, meter);
+            self.go_on(steps.others, left, meter);
             self.close_row(row, meter);
-            self.push(row, steps.then, more / in_row, meter);
-            self.go_on(steps.then, more % in_row, meter);
+            self.push(row, steps.others, more / in_row, meter);
+            self.go_on(steps.others, more % in_row, meter);
         }
     }
 
@@ -335,24 +352,6 @@ impl Rra {
     }
 }
 
-/// Each archive takes steps. `row` has a place for each cell of a row.
-pub(crate) fn take_all(archives: &mut [Rra], steps: &Steps, row: &mut [Cell], meter: &mut Meter)
-    requires valid { AllByRecursion (IsValidArchive (sources_of steps.now) steps.now.before) archives.old }
-    requires steps_are { AreSteps steps.now }
-    requires places { length row.old ≡ sources_of steps.now }
-    requires turns { meter.old + most_of_all steps.now archives.old < 2 ^ 64 }
-    ensures value { let passed = archive_passed (sources_of steps.now) steps.now.before (cells_of steps.now) in
-        archives.new ≡ map passed archives.old }
-    ensures valid { let before = steps.now.before + count_of steps.now in
-        AllByRecursion (IsValidArchive (sources_of steps.now) before) archives.new }
-    ensures least { meter.old + least_of_all steps.now archives.old ≤ meter.new }
-    ensures most { meter.new ≤ meter.old + most_of_all steps.now archives.old }
-{
-    for i in 0..archives.len() {
-        archives[i].take(steps, row, meter);
-    }
-}
-
 // Pushes a row so many times, those only that are still there in the end.
 fn push_times(rows: &mut Archive, row: &[Cell], times: u64, meter: &mut Meter)
     requires wide { HasWidth (length row.now) rows.old }
@@ -363,23 +362,4 @@ fn push_times(rows: &mut Archive, row: &[Cell], times: u64, meter: &mut Meter)
     for _i in 0..times.min(rows.rows()) {
         rows.push_row(row, meter);
     }
-}
-
-/// New archives of these settings, so many sources having been defined.
-pub(crate) fn new_all(
-    alloc: Global,
-    defs: &[RraDef],
-    sources: u64,
-) -> Result<ArchiveList<Rra>, AllocError>
-    requires few { length defs.now ≤ present.most_archives }
-    requires rows { AllByRecursion (λ def. (0 < def.rows) × (def.rows ≤ present.most_rows)) defs.now }
-    requires some_sources { 0 < sources }
-    requires few_sources { sources ≤ present.most_sources }
-    ensures { IfOk result (λ archives. archives ≡ map (new_archive sources) defs.now) }
-{
-    let mut archives = ArchiveList::new(alloc)?;
-    for def in defs {
-        archives.push(Rra::new(alloc, *def, sources)?);
-    }
-    Ok(archives)
 }

@@ -14,7 +14,7 @@ ghost use Rattle.rrd_spec.specs.Journal.Entries as entries;
 ghost use Rattle.rrd_spec.specs.History.{raws_under};
 ghost use Rattle.rrd_base.specs.Tune.{IsThere, with_archive_tuned, with_raws};
 ghost use Rattle.rrd_spec.specs.Journal.Outlines.{with_sources};
-ghost use Rattle.rrd_spec.specs.Limits.{present};
+ghost use Rattle.rrd_spec.specs.Limits.{most_tuned, present};
 ghost use Rattle.rrd_spec.specs.Commands.Verdict as verdict;
 ghost use Rattle.rrd_spec.specs.Validity.{IsValid};
 
@@ -30,7 +30,7 @@ use crate::{ArchiveTune, DsDef, Refusal, RraDef, SourceBefore, Tuning};
 use arrayvec::ArrayVec;
 use rrd_fixed::{Kind, Name, Raw};
 use rrd_spec::laws;
-use rrd_spec::limits::{MOST_ARCHIVES, MOST_CELLS};
+use rrd_spec::limits::{MOST_ARCHIVES, MOST_CELLS, MOST_TUNED};
 use std::alloc::{AllocError, Global};
 
 // ---- which tunes are accepted
@@ -310,31 +310,35 @@ fn is_named(tuning: &Tuning, source: &DsDef) -> bool
 }
 
 // The sources that a tune names, as they are, by rising number. It takes no memory.
-fn keep_sources(sources: &[DsDef], raws: &[Raw], tuning: &Tuning) -> ArrayVec<SourceBefore, 5>
+fn keep_sources(
+    sources: &[DsDef],
+    raws: &[Raw],
+    tuning: &Tuning,
+) -> ArrayVec<SourceBefore, MOST_TUNED>
     requires one_each { length raws.now ≡ length sources.now }
-    requires few { length (entries.sources_before tuning.now 0 sources.now raws.now) ≤ 5 }
+    requires few { length (entries.sources_before tuning.now 0 sources.now raws.now) ≤ most_tuned }
     ensures { result.items ≡ entries.sources_before tuning.now 0 sources.now raws.now }
 {
-    let mut olds = ArrayVec::new();
+    let mut kept = ArrayVec::new();
     for place in 0..sources.len() {
         let source = &sources[place];
         if is_named(tuning, source) {
-            olds.push(SourceBefore {
+            kept.push(SourceBefore {
                 number: place as u64,
                 source: source.duplicate(),
                 raw: raws[place],
             });
         }
     }
-    olds
+    kept
 }
 
 // Puts back the sources as they were.
-fn put_sources_back(sources: &mut [DsDef], raws: &mut [Raw], olds: &[SourceBefore])
-    ensures sources { sources.new ≡ with_sources sources.old olds.now }
-    ensures raws { raws.new ≡ with_raws raws.old olds.now }
+fn put_sources_back(sources: &mut [DsDef], raws: &mut [Raw], kept: &[SourceBefore])
+    ensures sources { sources.new ≡ with_sources sources.old kept.now }
+    ensures raws { raws.new ≡ with_raws raws.old kept.now }
 {
-    for old in olds {
+    for old in kept {
         let number = old.number as usize;
         if number < sources.len() {
             sources[number] = old.source.duplicate();
@@ -370,9 +374,9 @@ impl Content {
         laws::tune_changes_archives();
         match &tuning.archive {
             None => {
-                let olds = self.keep_sources(tuning);
+                let kept = self.keep_sources(tuning);
                 self.tune_sources(tuning);
-                Ok(Entry::Tune(olds))
+                Ok(Entry::Tune(kept))
             }
             Some(asked) => self.tune_archive(alloc, asked),
         }
@@ -412,7 +416,7 @@ impl Content {
     }
 
     // The sources that an accepted tune names, as they are.
-    fn keep_sources(&self, tuning: &Tuning) -> ArrayVec<SourceBefore, 5>
+    fn keep_sources(&self, tuning: &Tuning) -> ArrayVec<SourceBefore, MOST_TUNED>
         requires accepted { verdict.verdict self.now (commands.TuningBy tuning.now) ≡ None }
         requires alone { tuning.now.archive ≡ None }
         ensures { entries.TuneEntry result.items ≡ entries.entry self.now (commands.TuningBy tuning.now) }
@@ -422,10 +426,10 @@ impl Content {
     }
 
     /// Puts back the sources that a tune named.
-    pub(crate) fn undo_tune(&mut self, olds: &ArrayVec<SourceBefore, 5>)
-        requires { IsValid (entries.undone self.old (entries.TuneEntry olds.now.items)) }
-        ensures { self.new ≡ entries.undone self.old (entries.TuneEntry olds.now.items) }
+    pub(crate) fn undo_tune(&mut self, kept: &ArrayVec<SourceBefore, MOST_TUNED>)
+        requires { IsValid (entries.undone self.old (entries.TuneEntry kept.now.items)) }
+        ensures { self.new ≡ entries.undone self.old (entries.TuneEntry kept.now.items) }
     {
-        put_sources_back(&mut self.sources, &mut self.raws, olds.as_slice());
+        put_sources_back(&mut self.sources, &mut self.raws, kept.as_slice());
     }
 }

@@ -1,69 +1,27 @@
 //! Samples for a database: which updates are accepted, what the journal keeps of one, and how that is put back.
-ghost use Rattle.std.specs.Prelude.{◌≡◌, ◌<◌, ◌≤◌, ◌∷◌, [], IfOk, false, length, map, not, slice_index_or};
+ghost use Rattle.std.specs.Prelude.{◌≡◌, ◌<◌, ◌≤◌, ◌∷◌, [], IfOk, false, length, map, not};
 ghost use Rattle.rrd_spec.specs.declared.settings.DsDef.{DsDef};
-ghost use Rattle.rrd_spec.specs.declared.requests.update.Given.TheVariants.{Unknown};
-ghost use Rattle.std.specs.List.{AllByRecursion, list_any, list_all};
+ghost use Rattle.std.specs.List.{list_any, list_all};
 ghost use Rattle.std.specs.Result.{result_err};
 ghost use Rattle.rrd_spec.specs.Settings.{names, has_source, is_double};
 ghost use Rattle.rrd_spec.specs.Commands.{Updating, raw_of, value_for};
 ghost use Rattle.rrd_spec.specs.Limits.{present};
 ghost use Rattle.rrd_spec.specs.Commands.Verdict.{first_refusal, is_admitted, sample_checks, update_checks, verdict};
-ghost use Rattle.rrd_spec.specs.Journal.Entries.{UpdateEntry, put_back_each, saved, undone};
+ghost use Rattle.rrd_spec.specs.Journal.Entries.{UpdateEntry, undone};
 ghost use Rattle.rrd_spec.specs.Validity.{IsValid};
 ghost use Rattle.rrd_base.specs.Journal.{before, update_of};
-ghost use Rattle.rrd_base.specs.Rra.{CanPutBackEach, IsStepped};
-ghost use Rattle.rrd_base.specs.Update.{end_of, template_checks, template_of};
+ghost use Rattle.rrd_base.specs.Rra.{CanPutBackEach};
+ghost use Rattle.rrd_base.specs.Update.{AreColumns, end_time, template_checks, template_of};
 ghost use Rattle.rrd_fixed.specs.Rate.{IsAccepted};
 
+use crate::archives::{put_back_all, save_all};
+use crate::columns::Columns;
 use crate::content::Content;
-use crate::named::{Named, has_source, is_double};
-use crate::rra::Rra;
-use crate::{BeforeUpdate, DsDef, Given, List, Refusal, Sample, SavedArchive, Update};
+use crate::named::{has_double_name, has_source};
+use crate::{BeforeUpdate, DsDef, Given, List, Refusal, Sample, Update};
 use rrd_fixed::{Name, Raw, admit};
 use rrd_spec::limits::LATEST_TIME;
 use std::alloc::{AllocError, Global};
-
-// The value in the place of a source's name; unknown if it isn't there.
-fn value_named<T: Named>(named: &[T], values: &[Given], source: &DsDef) -> Given
-    ensures { result ≡ value_for (map T.called named.now) values.now source.now }
-{
-    for place in 0..named.len().min(values.len()) {
-        if named[place].name().same(&source.name) {
-            return values[place];
-        }
-    }
-    Given::Unknown
-}
-
-// What is given for the source in a place: by the template, or without one in the sources' order. As
-// their names differ, that is the value in the same place.
-fn value_for(
-    template: &Option<List<Name>>,
-    sources: &[DsDef],
-    values: &[Given],
-    place: usize,
-) -> Given
-    requires there { place < length sources.now }
-    requires names_differ { is_double (names sources.now) ≡ false }
-    ensures { (d : DsDef) →
-        result ≡ value_for (template_of sources.now template.now) values.now (slice_index_or sources.now place d) }
-{
-    match template {
-        Some(names) => value_named(names.as_slice(), values, &sources[place]),
-        None => value_at(values, place),
-    }
-}
-
-// The value in a place; unknown if there are fewer.
-fn value_at(values: &[Given], place: usize) -> Given
-    ensures { result ≡ slice_index_or values.now place Unknown }
-{
-    if place < values.len() {
-        values[place]
-    } else {
-        Given::Unknown
-    }
-}
 
 // How many values a sample has to have.
 fn width(template: &Option<List<Name>>, sources: &[DsDef]) -> usize
@@ -86,14 +44,13 @@ fn is_admitted(source: &DsDef, given: Given) -> bool
 }
 
 // Whether each source accepts its value.
-fn are_admitted(template: &Option<List<Name>>, sources: &[DsDef], values: &[Given]) -> bool
-    requires { is_double (names sources.now) ≡ false }
-    ensures { result ≡ list_all
-        (λ source. is_admitted source (value_for (template_of sources.now template.now) values.now source))
-        sources.now }
+fn are_admitted(columns: &Columns, sources: &[DsDef], values: &[Given]) -> bool
+    requires { AreColumns sources.now columns.now }
+    ensures { let template = template_of sources.now columns.now.template.now in
+        result ≡ list_all (λ source. is_admitted source (value_for template values.now source)) sources.now }
 {
     for place in 0..sources.len() {
-        if !is_admitted(&sources[place], value_for(template, sources, values, place)) {
+        if !is_admitted(&sources[place], columns.value(values, place)) {
             return false;
         }
     }
@@ -102,14 +59,14 @@ fn are_admitted(template: &Option<List<Name>>, sources: &[DsDef], values: &[Give
 
 // Whether a sample after one at `last` is accepted, or the first refusal.
 fn check_sample(
-    template: &Option<List<Name>>,
+    columns: &Columns,
     sources: &[DsDef],
     last: u64,
     sample: &Sample,
 ) -> Result<(), Refusal>
-    requires { is_double (names sources.now) ≡ false }
-    ensures { result_err result ≡ first_refusal
-        (sample_checks present sources.now (template_of sources.now template.now) last (sample.now ∷ [])) }
+    requires { AreColumns sources.now columns.now }
+    ensures { let template = template_of sources.now columns.now.template.now in
+        result_err result ≡ first_refusal (sample_checks present sources.now template last (sample.now ∷ [])) }
 {
     if sample.time > LATEST_TIME {
         return Err(Refusal::BadTime);
@@ -117,10 +74,10 @@ fn check_sample(
     if sample.time <= last {
         return Err(Refusal::NotLater { last });
     }
-    if sample.values.len() != width(template, sources) {
+    if sample.values.len() != width(columns.template, sources) {
         return Err(Refusal::WrongCount);
     }
-    if !are_admitted(template, sources, sample.values.as_slice()) {
+    if !are_admitted(columns, sources, sample.values.as_slice()) {
         return Err(Refusal::BadValue);
     }
     Ok(())
@@ -128,25 +85,25 @@ fn check_sample(
 
 // Whether the samples are accepted, or the first refusal.
 fn check_samples(
-    template: &Option<List<Name>>,
+    columns: &Columns,
     sources: &[DsDef],
     last: u64,
     samples: &[Sample],
 ) -> Result<(), Refusal>
-    requires { is_double (names sources.now) ≡ false }
-    ensures { result_err result ≡ first_refusal
-        (sample_checks present sources.now (template_of sources.now template.now) last samples.now) }
+    requires { AreColumns sources.now columns.now }
+    ensures { let template = template_of sources.now columns.now.template.now in
+        result_err result ≡ first_refusal (sample_checks present sources.now template last samples.now) }
 {
     let mut last = last;
     for sample in samples {
-        check_sample(template, sources, last, sample)?;
+        check_sample(columns, sources, last, sample)?;
         last = sample.time;
     }
     Ok(())
 }
 
 // Whether one of the names is no source's.
-fn is_unknown(sources: &[DsDef], names: &[Name]) -> bool
+fn any_names_no_source(sources: &[DsDef], names: &[Name]) -> bool
     ensures { result ≡ list_any (λ name. not (has_source sources.now name)) names.now }
 {
     names.iter().any(|name| !has_source(sources, name))
@@ -159,26 +116,35 @@ fn check_template(template: &Option<List<Name>>, sources: &[DsDef]) -> Result<()
     let Some(names) = template else {
         return Ok(());
     };
-    if is_unknown(sources, names.as_slice()) {
+    if any_names_no_source(sources, names.as_slice()) {
         return Err(Refusal::NoSuchSource);
     }
-    if is_double(names.as_slice()) {
+    if has_double_name(names.as_slice()) {
         return Err(Refusal::DoubleName);
     }
     Ok(())
 }
 
-// Whether an update is accepted, or the first refusal (rrdupdate).
-fn check_update(sources: &[DsDef], last: u64, update: &Update) -> Result<(), Refusal>
-    requires { is_double (names sources.now) ≡ false }
-    ensures { result_err result ≡ first_refusal (update_checks present sources.now last update.now) }
+// Where an update's values stand, if it is accepted, or the first refusal (rrdupdate).
+fn check_update<'a>(
+    sources: &[DsDef],
+    last: u64,
+    update: &'a Update,
+) -> Result<Columns<'a>, Refusal>
+    requires names_differ { is_double (names sources.now) ≡ false }
+    requires few { length sources.now ≤ present.most_sources }
+    ensures refusal { result_err result ≡ first_refusal (update_checks present sources.now last update.now) }
+    ensures columns { IfOk result (λ columns. AreColumns sources.now columns
+        × (columns.template.now ≡ update.now.template)) }
 {
     check_template(&update.template, sources)?;
     let samples = update.samples.as_slice();
     if samples.is_empty() {
         return Err(Refusal::NoSample);
     }
-    check_samples(&update.template, sources, last, samples)
+    let columns = Columns::new(&update.template, sources);
+    check_samples(&columns, sources, last, samples)?;
+    Ok(columns)
 }
 
 // What a source keeps of what is given.
@@ -196,37 +162,32 @@ fn raw_of(source: &DsDef, given: Given) -> Raw
 }
 
 /// The raw values of a sample, one for each source.
-pub(crate) fn raws_into(
-    template: &Option<List<Name>>,
-    sources: &[DsDef],
-    values: &[Given],
-    raws: &mut [Raw],
-)
+pub(crate) fn raws_into(columns: &Columns, sources: &[DsDef], values: &[Given], raws: &mut [Raw])
     requires room { length raws.old ≡ length sources.now }
-    requires names_differ { is_double (names sources.now) ≡ false }
-    ensures value { raws.new ≡ map
-        (λ source. raw_of source.kind (value_for (template_of sources.now template.now) values.now source))
-        sources.now }
+    requires columns { AreColumns sources.now columns.now }
+    ensures value { let template = template_of sources.now columns.now.template.now in
+        raws.new ≡ map (λ source. raw_of source.kind (value_for template values.now source)) sources.now }
 {
     for place in 0..sources.len() {
-        let given = value_for(template, sources, values, place);
-        raws[place] = raw_of(&sources[place], given);
+        raws[place] = raw_of(&sources[place], columns.value(values, place));
     }
 }
 
 /// The time of an update's last sample.
-pub(crate) fn end_of(update: &Update) -> u64
+pub(crate) fn end_time(update: &Update) -> u64
     requires { 0 < length update.now.samples }
-    ensures { result ≡ end_of update.now }
+    ensures { result ≡ end_time update.now }
 {
     let samples = update.samples.as_slice();
     samples[samples.len() - 1].time
 }
 
 impl Content {
-    /// Whether an update is accepted, or the first refusal.
-    pub(crate) fn check_update(&self, update: &Update) -> Result<(), Refusal>
-        ensures { result_err result ≡ verdict self.now (Updating update.now) }
+    /// Where an update's values stand, if it is accepted, or the first refusal.
+    pub(crate) fn check_update<'a>(&self, update: &'a Update) -> Result<Columns<'a>, Refusal>
+        ensures refusal { result_err result ≡ verdict self.now (Updating update.now) }
+        ensures columns { IfOk result (λ columns. AreColumns self.now.sources columns
+            × (columns.template.now ≡ update.now.template)) }
     {
         check_update(&self.sources, self.last, update)
     }
@@ -259,37 +220,5 @@ impl Content {
         self.raws = raws;
         self.preps = preps;
         put_back_all(self.archives.as_mut_slice(), archives);
-    }
-}
-
-// A copy of what an update from one time to another takes from each archive, steps of so many
-// seconds being taken.
-fn save_all(
-    alloc: Global,
-    archives: &[Rra],
-    step: u64,
-    from: u64,
-    to: u64,
-) -> Result<Vec<SavedArchive>, AllocError>
-    requires stepped { AllByRecursion IsStepped archives.now }
-    requires some_step { 0 < step }
-    requires small_step { step ≤ present.longest_step }
-    ensures { IfOk result (λ all. all.items ≡ map (saved step from to) archives.now) }
-{
-    let mut all = Vec::with_capacity(alloc, archives.len())?;
-    for rra in archives {
-        let saved = rra.save_between(alloc, step, from, to)?;
-        all.push(saved)?;
-    }
-    Ok(all)
-}
-
-// Puts back what was kept of each archive. It takes no memory.
-fn put_back_all(archives: &mut [Rra], mut saved: Vec<SavedArchive>)
-    requires fits { CanPutBackEach archives.old saved.items }
-    ensures { archives.new ≡ put_back_each archives.old saved.items }
-{
-    while let Some(old) = saved.pop() {
-        archives[saved.len()].put_back(old);
     }
 }

@@ -1,4 +1,16 @@
 //! A walk over a content: how the time up to a sample passes over it.
+//!
+//! To whoever works on it next. The definitions look at every second; nothing here does. Time passes in pieces in which
+//! every second has the same rate: `begin` lets seconds pass that leave the step unfinished, `end_steps` the rest of the
+//! step in progress with all whole steps behind it, whatever their number, and `catch_up` cuts an interval into these.
+//! Each piece says in its contract that it is `passed` so many seconds, and the law `seconds_pass_in_pieces` puts them
+//! together: so a new way to pass time needs that one clause, and nothing above it changes.
+//!
+//! What goes wrong easily. The first step that ends has other cells than those behind it, since its first seconds came
+//! before (`Steps::first` and `others`). An archive takes steps by the number that ended before, so `before` is worked out
+//! before `last` moves. The rates are of the interval, and raw values move on only behind it. An update takes all memory
+//! before the walk (`Walk::new`), so nothing here can fail. Each loop over sources or cells ticks the meter once a turn:
+//! the bounds `least_` and `most_` are of those ticks, and a loop without them would be one that no contract bounds.
 ghost use Rattle.std.specs.Prelude.{◌≡◌, ◌+◌, ◌-◌, ◌*◌, ◌/◌, ◌^◌, ◌<◌, ◌≤◌, [], ◌∷◌, length, replicate, IfOk, None};
 ghost use Rattle.rrd_spec.specs.Commands.{Updating};
 ghost use Rattle.rrd_spec.specs.Laws.ListedContent.{moved_listed, content_listed};
@@ -12,8 +24,9 @@ ghost use Rattle.rrd_spec.specs.Commands.Verdict.{verdict};
 
 pub(crate) mod preparations;
 
+use crate::archives::take_all;
+use crate::columns::Columns;
 use crate::content::Content;
-use crate::rra::take_all;
 use crate::update::raws_into;
 use crate::{DsDef, Update};
 use preparations::{add_seconds, close_steps};
@@ -30,7 +43,7 @@ pub(crate) struct Steps<'a> {
     /// The cells of the first.
     pub(crate) first: &'a [Cell],
     /// The cells of each other.
-    pub(crate) then: &'a [Cell],
+    pub(crate) others: &'a [Cell],
     /// How many others there are.
     pub(crate) count: u64,
 }
@@ -93,6 +106,7 @@ impl Walk {
 }
 
 impl Content {
+    ghost use Rattle.rrd_base.specs.Update.{AreColumns};
     ghost use Rattle.rrd_base.specs.Walk.{HasPlaces, KeepsSample};
     ghost use Rattle.rrd_base.specs.Walk.Turns.{least_of_ends, least_to, most_of_ends, most_to};
 
@@ -135,7 +149,7 @@ impl Content {
         let steps = Steps {
             before,
             first: &walk.step,
-            then: &walk.rates,
+            others: &walk.rates,
             count,
         };
         let archives = self.archives.as_mut_slice();
@@ -189,9 +203,11 @@ impl Content {
     }
 
     /// Takes the samples of an update that is accepted.
-    pub(crate) fn take_samples(&mut self, update: &Update, walk: &mut Walk)
+    pub(crate) fn take_samples(&mut self, update: &Update, columns: &Columns, walk: &mut Walk)
         requires valid { IsValid self.old }
         requires accepted { verdict self.old (Updating update.now) ≡ None }
+        requires columns { AreColumns self.old.sources columns.now }
+        requires template { columns.now.template.now ≡ update.now.template }
         requires places { HasPlaces walk.old (length self.old.sources) }
         requires turns { walk.old.meter ≡ 0 }
         ensures value { self.new ≡ moved_listed self.old (Updating update.now) }
@@ -204,7 +220,7 @@ impl Content {
         laws::sample_passes();
         for sample in update.samples.as_slice() {
             let values = sample.values.as_slice();
-            raws_into(&update.template, &self.sources, values, &mut walk.raws);
+            raws_into(columns, &self.sources, values, &mut walk.raws);
             self.take_sample(sample.time, walk);
         }
     }

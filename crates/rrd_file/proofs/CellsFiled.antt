@@ -8,7 +8,7 @@ use Rattle.std.proofs.lemmas.Nat.{mul-le}
 use Rattle.rrd_fixed.specs.declared.cell.Cell.{Cell}
 use Rattle.rrd_spec.specs.declared.settings.RraDef.{RraDef}
 use Rattle.rrd_spec.specs.Settings.{resolution}
-use Rattle.rrd_spec.specs.History.{Archive, Content}
+use Rattle.rrd_spec.specs.History.{Rra, Content}
 use Rattle.rrd_spec.specs.Validity.{IsValid}
 use Rattle.rrd_file.proofs.Told.{archive_at, some_is}
 use Rattle.rrd_file.specs.Layout.{spelled}
@@ -17,7 +17,7 @@ use Rattle.rrd_file.specs.Layout.Pieces.{OfCell, spell}
 product : (a b : ℕ) → 0 < a → 0 < b → 0 < a * b
 product a b p q = omega (arith, mul-le 1 1 a b (omega (arith, p)) (omega (arith, q)))
 
-pub some_size : (d : Content) (n : ℕ) (a : Archive) → IsValid d → slice_get d.archives n ≡ Some a → 0 < resolution d.step a.def
+pub some_size : (d : Content) (n : ℕ) (a : Rra) → IsValid d → slice_get d.archives n ≡ Some a → 0 < resolution d.step a.def
 some_size d n a v e = product d.step a.def.steps v.some_step (archive_at d n a v e).some_steps
 
 -- ---- cells, list by list
@@ -34,20 +34,20 @@ cells_spelled f (x ∷ xs) =
 
 -- the archive whose settings these are
 pub record IsDefOf (d : Content) (n : ℕ) (def : RraDef) : Type 0 where
-  pub archive : Archive
+  pub archive : Rra
   pub there : slice_get d.archives n ≡ Some archive
   pub def_is : archive.def ≡ def
 
-found_def : (archives : List Archive) (n : ℕ) (def : RraDef) → Some def ≡ slice_get (map (λ (archive : Archive). archive.def) archives) n → (a : Archive) × (slice_get archives n ≡ Some a) × (a.def ≡ def)
+found_def : (archives : List Rra) (n : ℕ) (def : RraDef) → Some def ≡ slice_get (map (λ (archive : Rra). archive.def) archives) n → (a : Rra) × (slice_get archives n ≡ Some a) × (a.def ≡ def)
 found_def [] n def e = absurd cc
 found_def (a ∷ archives) zero def e = (a, refl, let same : def ≡ a.def = cc in sym same)
 found_def (a ∷ archives) (suc n) def e = found_def archives n def e
 
-pub def_of : (d : Content) (n : ℕ) (def : RraDef) → Some def ≡ slice_get (map (λ (archive : Archive). archive.def) d.archives) n → IsDefOf d n def
+pub def_of : (d : Content) (n : ℕ) (def : RraDef) → Some def ≡ slice_get (map (λ (archive : Rra). archive.def) d.archives) n → IsDefOf d n def
 def_of d n def e = let f = found_def d.archives n def e in record { archive = f.0; there = f.1; def_is = f.2 }
 
-pub same_def : (d : Content) (n : ℕ) (def : RraDef) (a : Archive) → IsDefOf d n def → slice_get d.archives n ≡ Some a → a.def ≡ def
-same_def d n def a f e = let same : a ≡ f.archive = some_is a f.archive (sym e ∙ f.there) in ap (λ (x : Archive). x.def) same ∙ f.def_is
+pub same_def : (d : Content) (n : ℕ) (def : RraDef) (a : Rra) → IsDefOf d n def → slice_get d.archives n ≡ Some a → a.def ≡ def
+same_def d n def a f e = let same : a ≡ f.archive = some_is a f.archive (sym e ∙ f.there) in ap (λ (x : Rra). x.def) same ∙ f.def_is
 
 -- the settings are small
 pub record IsSmallDef (def : RraDef) : Type 0 where
@@ -61,5 +61,5 @@ small_def d n def v f =
     let archive = archive_at d n f.archive v f.there in
     subst IsSmallDef f.def_is (record { some_steps = archive.some_steps; few_steps = archive.few_steps; some_rows = archive.some_rows; few_rows = archive.few_rows })
 
-pub rows_are : (d : Content) (n : ℕ) (def : RraDef) (a : Archive) → IsValid d → IsDefOf d n def → slice_get d.archives n ≡ Some a → length a.rows ≡ def.rows
+pub rows_are : (d : Content) (n : ℕ) (def : RraDef) (a : Rra) → IsValid d → IsDefOf d n def → slice_get d.archives n ≡ Some a → length a.rows ≡ def.rows
 rows_are d n def a v f e = (archive_at d n a v e).rows_are ∙ ap (λ (x : RraDef). x.rows) (same_def d n def a f e)

@@ -3,7 +3,7 @@ use Rattle.std.proofs.Common.{◌≡◌, ◌<◌, ◌≤◌, ◌^◌, ◌+◌, �
 use Rattle.std.specs.Prelude.{slice_get}
 use Rattle.std.specs.List.{AllByRecursion, insert}
 use Rattle.rrd_spec.specs.declared.entry.SourceBefore.{SourceBefore}
-use Rattle.rrd_spec.specs.History.{Archive, Content}
+use Rattle.rrd_spec.specs.History.{Rra, Content}
 use Rattle.rrd_spec.specs.Journal.Entries.{Entry, RemovedEntry, undone}
 use Rattle.rrd_spec.specs.Validity.{IsValid, IsValidArchive, IsValidJournal, IsValidDatabase, Fits, Rise}
 use Rattle.rrd_spec.specs.Limits.{newest, present}
@@ -41,7 +41,7 @@ inserted P [] (suc n) x h is = absurd (omega arith)
 inserted P (y ∷ xs) zero x h is = is.0
 inserted P (y ∷ xs) (suc n) x h is = inserted P xs n x (omega arith) is.1
 
-pub removed_fits : (now : Content) (number : ℕ) (archive : Archive) → number ≤ length now.archives → IsValid (undone now (RemovedEntry number archive)) → FitsArchive archive.def
+pub removed_fits : (now : Content) (number : ℕ) (archive : Rra) → number ≤ length now.archives → IsValid (undone now (RemovedEntry number archive)) → FitsArchive archive.def
 removed_fits now number archive there is =
     let a = inserted (IsValidArchive (length now.sources) (now.last / now.step)) now.archives number archive there is.archives_are in
     archive_fits present archive.def (small_limits newest) (record {

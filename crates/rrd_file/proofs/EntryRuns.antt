@@ -14,7 +14,7 @@ use Rattle.rrd_spec.specs.declared.outline.Outline.{Outline}
 use Rattle.rrd_spec.specs.declared.settings.DsDef.{DsDef}
 use Rattle.rrd_spec.specs.declared.settings.RraDef.{RraDef}
 use Rattle.rrd_spec.specs.Journal.Entries.{BeforeUpdate, Entry, SavedArchive, UpdateEntry, TuneEntry, ResizeEntry, AddedEntry, RemovedEntry}
-use Rattle.rrd_spec.specs.History.{Archive}
+use Rattle.rrd_spec.specs.History.{Rra}
 use Rattle.rrd_spec.specs.Files.Filed.{Filed}
 use Rattle.rrd_spec.specs.Limits.{Limits}
 use Rattle.rrd_spec.specs.Journal.Fitting.{IsSourceBefore, MayRemove, MayResize, MaySaveEach, MayTune, MayUpdate}
@@ -125,7 +125,7 @@ tune_meets l step now olds h = ((h.some, h.few), alone l step now (named_due 0 (
 resize_meets : (l : Limits) (step : ℕ) (now : Outline) (archive : ℕ) (rows : List (List Cell)) → MayResize l now archive rows → Meets l step now (first_due AResize) (OfNumber archive ∷ OfRows (length rows) ∷ row_pieces rows)
 resize_meets l step now archive rows h = (h.there, (h.old_rows, alone l step now (cells_due (length rows) now) (row_pieces rows) (rows_meet l step now rows h.each_row)))
 
-removed_meets : (l : Limits) (step : ℕ) (now : Outline) (number : ℕ) (archive : Archive) → MayRemove l step now number archive → Meets l step now (first_due ARemoval) (OfNumber number ∷ OfArchive archive.def ∷ (map OfPrep archive.parts ++ row_pieces archive.rows))
+removed_meets : (l : Limits) (step : ℕ) (now : Outline) (number : ℕ) (archive : Rra) → MayRemove l step now number archive → Meets l step now (first_due ARemoval) (OfNumber number ∷ OfArchive archive.def ∷ (map OfPrep archive.parts ++ row_pieces archive.rows))
 removed_meets l step now number archive h =
     let n = length now.sources in
     let preps = preps_meet l step now now.last archive.def n archive.parts h.parts_are.one_each h.parts_are.each in

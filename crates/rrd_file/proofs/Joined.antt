@@ -5,7 +5,7 @@ use Rattle.std.proofs.lemmas.Grind.{flat_map-append}
 use Rattle.rrd_spec.specs.Journal.Entries.{SavedArchive}
 use Rattle.rrd_spec.specs.Limits.{newest}
 use Rattle.rrd_spec.specs.Files.Filed.{Filed, filed, head_of, header_of}
-use Rattle.rrd_spec.specs.History.{Archive}
+use Rattle.rrd_spec.specs.History.{Rra}
 use Rattle.rrd_spec.specs.Journal.Survivors.{Stored}
 use Rattle.rrd_file.specs.Layout.{body_pieces, saved_pieces, entry_pieces, head_pieces, layout, row_pieces, spelled}
 use Rattle.rrd_file.specs.Layout.Pieces.{Piece, Mark, OfVersion, OfHeader, OfSource, OfArchive, OfPrep, OfRows, OfCell, spell}
@@ -39,7 +39,7 @@ joined_two xs ys = flat_map-append spell xs ys
 pub joined_three : (xs ys zs : List Piece) → spelled (xs ++ (ys ++ zs)) ≡ spelled xs ++ (spelled ys ++ spelled zs)
 joined_three xs ys zs = joined_two xs (ys ++ zs) ∙ ap (λ l. spelled xs ++ l) (joined_two ys zs)
 
-pub joined_head : (a : Archive) → spelled (head_pieces (head_of a)) ≡ spell (OfArchive a.def) ++ spelled (map OfPrep a.parts)
+pub joined_head : (a : Rra) → spelled (head_pieces (head_of a)) ≡ spell (OfArchive a.def) ++ spelled (map OfPrep a.parts)
 joined_head a = refl
 
 pub joined_saved : (old : SavedArchive) → spelled (saved_pieces old) ≡ spelled (map OfPrep old.parts) ++ (spell (OfRows (length old.rows)) ++ spelled (row_pieces old.rows))

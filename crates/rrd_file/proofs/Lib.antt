@@ -8,7 +8,6 @@ pub mod SignedBytes
 pub mod Tests
 pub mod Lengths
 pub mod Spelled
-pub mod SignedBack
 pub mod ReadBack
 pub mod Sizes
 pub mod Order
@@ -32,3 +31,4 @@ pub mod Whole
 pub mod Turns
 pub mod Rowed
 pub mod Filing
+pub mod CellRuns

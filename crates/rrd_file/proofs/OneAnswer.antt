@@ -5,7 +5,7 @@ use Rattle.std.proofs.lemmas.Bool.{lt-ltb, le-ltb}
 use Rattle.std.proofs.lemmas.List.{take_all}
 use Rattle.rrd_spec.specs.declared.version.Version.{Version}
 use Rattle.rrd_spec.specs.Files.Filed.{Filed, filed}
-use Rattle.rrd_spec.specs.Commands.{Command}
+use Rattle.rrd_spec.specs.Commands.{DatabaseChange}
 use Rattle.rrd_spec.specs.Journal.Entries.{Entry}
 use Rattle.rrd_spec.specs.Laws.FiledOnce.{FiledOnce}
 use Rattle.rrd_spec.specs.History.{Content}
@@ -136,10 +136,10 @@ layouts_differ laws one v w d e more a b same =
 
 -- ---- reverts
 
-pub bytes_come_back_but_oldest : ((now : Content) (journal : List Entry) (command : Command) → RevertTakesBack now journal command) → (d : Stored) (command : Command) → BytesComeBackButOldest d command
+pub bytes_come_back_but_oldest : ((now : Content) (journal : List Entry) (command : DatabaseChange) → RevertTakesBack now journal command) → (d : Stored) (command : DatabaseChange) → BytesComeBackButOldest d command
 bytes_come_back_but_oldest back d command v accepted = ap layout (back d.content d.journal command v accepted)
 
-pub bytes_come_back : ((now : Content) (journal : List Entry) (command : Command) → RevertTakesBack now journal command) → (d : Stored) (command : Command) → BytesComeBack d command
+pub bytes_come_back : ((now : Content) (journal : List Entry) (command : DatabaseChange) → RevertTakesBack now journal command) → (d : Stored) (command : DatabaseChange) → BytesComeBack d command
 bytes_come_back back d command v accepted room =
     let all : take (d.content.depth - 1) d.journal ≡ d.journal = take_all (d.content.depth - 1) d.journal (omega (arith, room)) in
     bytes_come_back_but_oldest back d command v accepted ∙ (λ i. layout (record d { journal = all i }))

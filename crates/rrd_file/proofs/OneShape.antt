@@ -11,7 +11,7 @@ use Rattle.rrd_spec.specs.declared.entry.SourceBefore.{SourceBefore}
 use Rattle.rrd_spec.specs.declared.outline.Outline.{Outline}
 use Rattle.rrd_spec.specs.declared.settings.RraDef.{RraDef}
 use Rattle.rrd_spec.specs.Journal.Entries.{BeforeUpdate, Entry, SavedArchive, UpdateEntry, TuneEntry, ResizeEntry, AddedEntry, RemovedEntry}
-use Rattle.rrd_spec.specs.History.{Archive}
+use Rattle.rrd_spec.specs.History.{Rra}
 use Rattle.rrd_spec.specs.Files.Filed.{Filed}
 use Rattle.rrd_spec.specs.Limits.{Limits}
 use Rattle.rrd_spec.specs.Journal.Fitting.{MaySaveEach, MayUndo}
@@ -132,7 +132,7 @@ tune_one x y e =
     let rest : map OfSourceBefore x ≡ map OfSourceBefore y = cc in
     ap TuneEntry (map_one OfSourceBefore before_same x y rest)
 
-removed_one : (now : Outline) (x y : ℕ) (a b : Archive) → IsRemovedShaped now a → IsRemovedShaped now b → entry_pieces (RemovedEntry x a) ≡ entry_pieces (RemovedEntry y b) → RemovedEntry x a ≡ RemovedEntry y b
+removed_one : (now : Outline) (x y : ℕ) (a b : Rra) → IsRemovedShaped now a → IsRemovedShaped now b → entry_pieces (RemovedEntry x a) ≡ entry_pieces (RemovedEntry y b) → RemovedEntry x a ≡ RemovedEntry y b
 removed_one now x y a b h k e =
     let whole : OfTag ARemoval ∷ OfNumber x ∷ OfArchive a.def ∷ (map OfPrep a.parts ++ row_pieces a.rows) ≡ OfTag ARemoval ∷ OfNumber y ∷ OfArchive b.def ∷ (map OfPrep b.parts ++ row_pieces b.rows) = e in
     let number : x ≡ y = cc in

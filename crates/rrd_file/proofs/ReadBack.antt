@@ -1,5 +1,5 @@
 -- Values from the bytes that they were spelled as.
-use Rattle.std.proofs.Common.{◌≡◌, ◌≢◌, ◌∙◌, ◌++◌, ◌∷◌, ◌-◌, ◌^◌, ◌<◌, ◌≤◌, ℕ, zero, suc, ◌+◌, replicate, List, [], sym, ap, refl, subst, take, drop, get_or, length, arith, length-take-le, length-drop, append_assoc, append-nil}
+use Rattle.std.proofs.Common.{◌≡◌, ◌≢◌, ◌∙◌, ◌++◌, ◌∷◌, ◌-◌, ◌^◌, ◌<◌, ◌≤◌, ℕ, zero, suc, ◌+◌, ◌*◌, replicate, List, [], sym, ap, refl, subst, take, drop, get_or, length, arith, length-take-le, length-drop, append_assoc, append-nil}
 use Rattle.std.specs.Prelude.{ℤ, pos, ◌==◌, true, Bool, if◌then◌else◌, Option, Some, None, IfSome}
 use Rattle.std.specs.List.{list_all}
 use Rattle.rrd_fixed.specs.declared.name.Name.{Name}
@@ -17,13 +17,14 @@ use Rattle.rrd_file.proofs.Lengths.{name_length, source_length}
 use Rattle.rrd_fixed.specs.declared.raw.Raw.{Raw}
 use Rattle.rrd_fold.specs.Parts.{Part}
 use Rattle.rrd_spec.specs.declared.settings.DsDef.{DsDef}
-use Rattle.std.specs.Int.{w16, w32, w64, w128, from_be_bytes}
+use Rattle.std.specs.Int.{w16, w32, w64, w128, from_be_bytes, to_be_bytes}
 use Rattle.std.proofs.lemmas.Int.{ints}
 use Rattle.std.proofs.lemmas.List.{take-append-drop}
 use Rattle.std.proofs.lemmas.Nat.{be_bytes_2, be_bytes_4, be_bytes_8}
-use mir.Val.{to_z, SFits}
+use Rattle.std.proofs.lemmas.Int.{of_z-to_z}
+use mir.Val.{of_z, to_z, SFits}
 use Rattle.rrd_file.specs.Layout.Values.{two_bytes, four_bytes, eight_bytes, signed_bytes, least, bound_bytes, function_byte, kind_byte, name_bytes, part_bytes, raw_bytes, source_bytes}
-use Rattle.rrd_file.proofs.SignedBack.{signed_back}
+use Rattle.rrd_file.proofs.SignedBytes.{halves}
 
 parted : (n : ℕ) (bs spelling : List ℕ) → take n bs ≡ spelling → bs ≡ spelling ++ drop n bs
 parted n bs spelling e = sym (take-append-drop n bs) ∙ ap (λ l. l ++ drop n bs) e
@@ -46,17 +47,12 @@ eight_back bs front piece rest n len f p r fits is =
     let l : length piece ≡ 8 = ap length at ∙ length-take-le 8 bs len in
     parted 8 bs (eight_bytes n) (sym at ∙ sym (be_bytes_8 piece n l fits is)) ∙ ap (λ l. eight_bytes n ++ l) (sym r)
 
-take_fits : (n : ℕ) (bs : List ℕ) → ((i : ℕ) → get_or bs i 0 < 256) → (i : ℕ) → get_or (take n bs) i 0 < 256
-take_fits zero bs h i = omega arith
-take_fits (suc n) [] h i = omega arith
-take_fits (suc n) (b ∷ bs) h zero = h 0
-take_fits (suc n) (b ∷ bs) h (suc i) = take_fits n bs (λ j. h (suc j)) i
-
-pub signed_front : (bs front piece rest : List ℕ) (z : ℤ) → 16 ≤ length bs → front ≡ take 16 bs → piece ≡ front → rest ≡ drop 16 bs → ((i : ℕ) → get_or bs i 0 < 256) → z ≡ to_z w128 (from_be_bytes w128 piece) → bs ≡ signed_bytes z ++ rest
-signed_front bs front piece rest z len f p r fits is =
-    let at = p ∙ f in
-    let l : length piece ≡ 16 = ap length at ∙ length-take-le 16 bs len in
-    parted 16 bs (signed_bytes z) (sym at ∙ signed_back piece z l (λ i. subst (λ (p : List ℕ). get_or p i 0 < 256) (sym at) (take_fits 16 bs fits i)) is) ∙ ap (λ l. signed_bytes z ++ l) (sym r)
+-- a number by its halves
+pub halves_back : (bytes behind rest : List ℕ) (high low bits : ℕ) (z : ℤ) → bytes ≡ eight_bytes high ++ behind → behind ≡ eight_bytes low ++ rest → low < 2 ^ 64 → bits ≡ high * 2 ^ 64 + low → bits < 2 ^ 128 → z ≡ to_z w128 bits → bytes ≡ signed_bytes z ++ rest
+unfolding signed_bytes
+halves_back bytes behind rest high low bits z first second small is below number =
+    first ∙ ap (λ l. eight_bytes high ++ l) second ∙ sym (append_assoc (eight_bytes high) (eight_bytes low) rest)
+    ∙ ap (λ l. l ++ rest) (sym (halves bits high low is small) ∙ ap (to_be_bytes w128) (sym (of_z-to_z w128 bits below) ∙ ap (of_z w128) (sym number)))
 
 -- a number that isn't the least one
 pub not_least : (z : ℤ) → SFits w128 z → z ≢ least → FitsNumber z

@@ -4,7 +4,7 @@ use Rattle.std.specs.Prelude.{slice_set}
 use Rattle.std.proofs.lemmas.List.{length-replicate}
 use Rattle.rrd_fixed.specs.declared.cell.Cell.{Cell}
 use Rattle.rrd_fixed.specs.declared.cell.Cell.TheVariants.{Unknown}
-use Rattle.rrd_ring.specs.Rows.{HasWidth, row_at, unknown_rows, with_row}
+use Rattle.rrd_ring.specs.Rows.{HasWidth, nth_row, unknown_rows, with_row}
 use Rattle.rrd_spec.specs.Files.Filed.{Filed}
 use Rattle.rrd_spec.specs.Files.Rebuilding.{outline_left}
 use Rattle.rrd_file.specs.Decoding.Input.{Input}
@@ -21,7 +21,7 @@ unknown_wide : (n width : ℕ) → HasWidth width (unknown_rows n width)
 unknown_wide zero width = tt
 unknown_wide (suc n) width = (length-replicate width Unknown, unknown_wide n width)
 
-width_at : (width : ℕ) (rows : List (List Cell)) (i : ℕ) → HasWidth width rows → i < length rows → length (row_at rows i) ≡ width
+width_at : (width : ℕ) (rows : List (List Cell)) (i : ℕ) → HasWidth width rows → i < length rows → length (nth_row rows i) ≡ width
 width_at width [] i h k = absurd (omega arith)
 width_at width (row ∷ rows) zero h k = h.0
 width_at width (row ∷ rows) (suc i) h k = width_at width rows i h.1 (omega arith)
@@ -73,7 +73,7 @@ rows_new f count sources rows input wide is =
     )
 
 -- the next row's width, and its cells, which are due
-pub next_width : (f : Filed) (n i : ℕ) (rows : List (List Cell)) (first input : Input) (row : List Cell) → Rowed f n first i rows input → i < n → row ≡ row_at rows i → length row ≡ length (outline_left f).sources
+pub next_width : (f : Filed) (n i : ℕ) (rows : List (List Cell)) (first input : Input) (row : List Cell) → Rowed f n first i rows input → i < n → row ≡ nth_row rows i → length row ≡ length (outline_left f).sources
 next_width f n i rows first input row h more is =
     ap length is ∙ width_at (length (outline_left f).sources) rows i h.1 (omega (arith, h.0, more))
 

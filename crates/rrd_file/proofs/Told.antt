@@ -9,7 +9,7 @@ use Rattle.rrd_fold.specs.Parts.{Part, nothing}
 use Rattle.rrd_spec.specs.declared.settings.DsDef.{DsDef}
 use Rattle.rrd_spec.specs.declared.settings.RraDef.{RraDef}
 use Rattle.rrd_spec.specs.Files.Filed.{Source, sources_of}
-use Rattle.rrd_spec.specs.History.{Archive, Content}
+use Rattle.rrd_spec.specs.History.{Rra, Content}
 use Rattle.std.proofs.lemmas.List.{length-map}
 use Rattle.rrd_fold.specs.Bounds.{Consolidating}
 use Rattle.rrd_spec.specs.History.Cells.{row_at, cell_in, prep_in}
@@ -27,12 +27,12 @@ all_of P (y ∷ xs) zero x all e = subst P (some_is y x e) all.0
 all_of P (y ∷ xs) (suc i) x all e = all_of P xs i x all.1 e
 
 -- the cell that a content shows of an archive
-pub cell_told : (d : Content) (archives : List Archive) (n : ℕ) (a : Archive) (time : ℤ) (source : ℕ) → slice_get archives n ≡ Some a → cell_in d archives n time source ≡ get_or (row_at d a time) source Unknown
+pub cell_told : (d : Content) (archives : List Rra) (n : ℕ) (a : Rra) (time : ℤ) (source : ℕ) → slice_get archives n ≡ Some a → cell_in d archives n time source ≡ get_or (row_at d a time) source Unknown
 cell_told d [] n a time source e = absurd cc
-cell_told d (b ∷ archives) zero a time source e = ap (λ (x : Archive). get_or (row_at d x time) source Unknown) (some_is b a e)
+cell_told d (b ∷ archives) zero a time source e = ap (λ (x : Rra). get_or (row_at d x time) source Unknown) (some_is b a e)
 cell_told d (b ∷ archives) (suc n) a time source e = cell_told d archives n a time source e
 
-pub archive_at : (d : Content) (n : ℕ) (a : Archive) → IsValid d → slice_get d.archives n ≡ Some a → IsValidArchive (length d.sources) (d.last / d.step) a
+pub archive_at : (d : Content) (n : ℕ) (a : Rra) → IsValid d → slice_get d.archives n ≡ Some a → IsValidArchive (length d.sources) (d.last / d.step) a
 archive_at d n a v e = all_of (IsValidArchive (length d.sources) (d.last / d.step)) d.archives n a v.archives_are e
 
 -- a source by its place
@@ -50,7 +50,7 @@ pub record HasSmallNumbers (def : RraDef) : Type 0 where
   pub xff : unsigned_abs def.xff < 2 ^ 32
   pub rows : def.rows < 2 ^ 32
 
-pub small_numbers : (sources passed : ℕ) (archives : List Archive) (i : ℕ) (def : RraDef) → AllByRecursion (IsValidArchive sources passed) archives → Some def ≡ slice_get (map (λ (archive : Archive). archive.def) archives) i → HasSmallNumbers def
+pub small_numbers : (sources passed : ℕ) (archives : List Rra) (i : ℕ) (def : RraDef) → AllByRecursion (IsValidArchive sources passed) archives → Some def ≡ slice_get (map (λ (archive : Rra). archive.def) archives) i → HasSmallNumbers def
 small_numbers sources passed [] i def all e = absurd cc
 small_numbers sources passed (a ∷ archives) zero def all e =
     let same : def ≡ a.def = some_is def a.def e in
@@ -108,12 +108,12 @@ length_before (raw ∷ raws) (part ∷ parts) same = ap suc (length_before raws 
 
 -- ---- preparations
 
-pub prep_is : (archives : List Archive) (number source : ℕ) (a : Archive) → slice_get archives number ≡ Some a → prep_in archives number source ≡ record { function = a.def.function; part = slice_index_or a.parts source nothing }
+pub prep_is : (archives : List Rra) (number source : ℕ) (a : Rra) → slice_get archives number ≡ Some a → prep_in archives number source ≡ record { function = a.def.function; part = slice_index_or a.parts source nothing }
 prep_is [] number source a e = absurd cc
 prep_is (b ∷ archives) zero source a e =
     let same : b ≡ a = some_is b a e in
-    ap (λ (x : Archive). let made : Consolidating = record { function = x.def.function; part = slice_index_or x.parts source nothing } in made) same
+    ap (λ (x : Rra). let made : Consolidating = record { function = x.def.function; part = slice_index_or x.parts source nothing } in made) same
 prep_is (b ∷ archives) (suc number) source a e = prep_is archives number source a e
 
-pub parts_length : (d : Content) (number : ℕ) (a : Archive) → IsValid d → slice_get d.archives number ≡ Some a → length a.parts ≡ length d.sources
+pub parts_length : (d : Content) (number : ℕ) (a : Rra) → IsValid d → slice_get d.archives number ≡ Some a → length a.parts ≡ length d.sources
 parts_length d number a v e = (archive_at d number a v e).parts_are.one_each

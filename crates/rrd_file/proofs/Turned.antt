@@ -15,7 +15,7 @@ use Rattle.rrd_fixed.specs.declared.cell.Cell.{Cell}
 use Rattle.rrd_fixed.specs.declared.cell.Cell.TheVariants.{Unknown}
 use Rattle.rrd_spec.specs.Laws.Slots.{StandsInPlace}
 use Rattle.rrd_spec.specs.declared.settings.RraDef.{RraDef}
-use Rattle.rrd_spec.specs.History.{Archive, Content}
+use Rattle.rrd_spec.specs.History.{Rra, Content}
 use Rattle.rrd_spec.specs.Settings.{resolution}
 use Rattle.rrd_spec.specs.Files.Slots.{by_slot, cells_by_slot, place_in, row_in}
 use Rattle.rrd_spec.specs.Validity.{IsValid}
@@ -110,7 +110,7 @@ slots_spelled stands size last rows some_size some_rows =
     ∙ (λ i. spelled (row_pieces (sym front i)) ++ spelled (row_pieces (sym back i)))
 
 -- the same of the archive of a number
-pub archive_spelled : ((resolution last : ℕ) (rows : List (List Cell)) (slot : ℕ) → StandsInPlace resolution last rows slot) → (d : Content) (n : ℕ) (def : RraDef) (size last first : ℕ) (a : Archive)
+pub archive_spelled : ((resolution last : ℕ) (rows : List (List Cell)) (slot : ℕ) → StandsInPlace resolution last rows slot) → (d : Content) (n : ℕ) (def : RraDef) (size last first : ℕ) (a : Rra)
     → IsValid d → IsDefOf d n def → slice_get d.archives n ≡ Some a → size ≡ resolution d.step def → last ≡ d.last → first ≡ place_in size last def.rows 0
     → spelled (map OfCell (cells_by_slot d.step d.last a)) ≡ spelled (row_pieces (slice_range a.rows first def.rows)) ++ spelled (row_pieces (slice_range a.rows 0 first))
 archive_spelled stands d n def size last first a valid is e size_is last_is first_is =

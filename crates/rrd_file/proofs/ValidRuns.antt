@@ -18,7 +18,7 @@ use Rattle.rrd_spec.specs.declared.settings.DsDef.{DsDef}
 use Rattle.rrd_spec.specs.Journal.Entries.{Entry}
 use Rattle.rrd_spec.specs.declared.version.Version.{Version}
 use Rattle.rrd_spec.specs.Files.Filed.{Head, Header, Source, filed, head_of, header_of, sources_of}
-use Rattle.rrd_spec.specs.History.{Archive, Content}
+use Rattle.rrd_spec.specs.History.{Rra, Content}
 use Rattle.rrd_spec.specs.Laws.Outlines.{FiledOutline, MayUndoEach, OutlinesAreNeeded}
 use Rattle.rrd_spec.specs.Limits.{Limits, limits_of}
 use Rattle.rrd_spec.specs.Laws.Versions.{DatabaseIsWithin}
@@ -65,16 +65,16 @@ sources_filed h (def ∷ defs) (raw ∷ raws) [] a b e c = absurd (omega (arith,
 sources_filed h (def ∷ defs) (raw ∷ raws) (part ∷ parts) a b e c =
     (record { source_is = a.0; raw_is = b.0; part_is = c.0 }, sources_filed h defs raws parts a.1 b.1 (omega (arith, e)) c.1)
 
-heads_filed : (h : Header) (archives : List Archive) → AllByRecursion (IsValidArchiveWithin (limits_of h.version) h.sources (h.last / h.step)) archives → AllByRecursion (IsFiledHead h) (map head_of archives)
+heads_filed : (h : Header) (archives : List Rra) → AllByRecursion (IsValidArchiveWithin (limits_of h.version) h.sources (h.last / h.step)) archives → AllByRecursion (IsFiledHead h) (map head_of archives)
 heads_filed h [] a = tt
 heads_filed h (archive ∷ archives) a =
     let def_is : IsArchiveDef (limits_of h.version) archive.def = record { some_steps = a.0.some_steps; few_steps = a.0.few_steps; some_rows = a.0.some_rows; few_rows = a.0.few_rows; xff_low = a.0.xff_low; xff_high = a.0.xff_high } in
     (record { def_is = def_is; parts_are = a.0.parts_are }, heads_filed h archives a.1)
 
-rows_same : (archives : List Archive) → rows_in_all (map head_of archives) ≡ sum (map (λ (archive : Archive). archive.def.rows) archives)
+rows_same : (archives : List Rra) → rows_in_all (map head_of archives) ≡ sum (map (λ (archive : Rra). archive.def.rows) archives)
 rows_same archives = ap sum (each archives)
   where
-    each : (archives : List Archive) → map (λ (head : Head). head.def.rows) (map head_of archives) ≡ map (λ (archive : Archive). archive.def.rows) archives
+    each : (archives : List Rra) → map (λ (head : Head). head.def.rows) (map head_of archives) ≡ map (λ (archive : Rra). archive.def.rows) archives
     each [] = refl
     each (archive ∷ archives) = ap (λ l. archive.def.rows ∷ l) (each archives)
 
@@ -100,7 +100,7 @@ trivial : (xs : List ℕ) → AllByRecursion (λ (x : ℕ). Unit {0}) xs
 trivial [] = tt
 trivial (x ∷ xs) = (tt, trivial xs)
 
-archive_bounded : (sources step last : ℕ) (archive : Archive) → AllByRecursion (IsRow sources) archive.rows → AllByRecursion IsBounded (cells_by_slot step last archive)
+archive_bounded : (sources step last : ℕ) (archive : Rra) → AllByRecursion (IsRow sources) archive.rows → AllByRecursion IsBounded (cells_by_slot step last archive)
 archive_bounded sources step last archive h =
     let size = resolution step archive.def in
     let slots = range_with_len 0 (length archive.rows) in
@@ -123,7 +123,7 @@ ManyCells = (resolution last sources : ℕ) (rows : List (List Cell)) → AsMany
 product : (a b : ℕ) → 0 < a → 0 < b → 0 < a * b
 product a b p q = omega (arith, mul-le 1 1 a b (omega (arith, p)) (omega (arith, q)))
 
-archives_cells : ManyCells → (sources step last steps : ℕ) (archives : List Archive) → 0 < step → AllByRecursion (IsValidArchive sources steps) archives → length (flat_map (cells_by_slot step last) archives) ≡ sources * rows_in_all (map head_of archives)
+archives_cells : ManyCells → (sources step last steps : ℕ) (archives : List Rra) → 0 < step → AllByRecursion (IsValidArchive sources steps) archives → length (flat_map (cells_by_slot step last) archives) ≡ sources * rows_in_all (map head_of archives)
 archives_cells many sources step last steps [] some h = omega arith
 archives_cells many sources step last steps (archive ∷ archives) some h =
     let size = resolution step archive.def in

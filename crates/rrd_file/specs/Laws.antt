@@ -5,7 +5,7 @@ use Rattle.rrd_fixed.specs.declared.raw.Raw.{Raw}
 use Rattle.rrd_fold.specs.Parts.{Part}
 use Rattle.rrd_spec.specs.declared.settings.RraDef.{RraDef}
 use Rattle.rrd_spec.specs.declared.entry.SourceBefore.{SourceBefore}
-use Rattle.rrd_spec.specs.Commands.{Command}
+use Rattle.rrd_spec.specs.Commands.{DatabaseChange}
 use Rattle.rrd_spec.specs.Journal.Entries.{Entry}
 use Rattle.rrd_spec.specs.Files.Filed.{Filed, Source}
 use Rattle.rrd_spec.specs.Files.Rebuilding.{MayEntry}
@@ -95,13 +95,13 @@ NoFrontOfAnother v w d e more =
     IsValidIn v d → IsValidIn w e → layout_in v d ++ more ≡ layout_in w e → (v ≡ w) × (d ≡ e) × (more ≡ [])
 
 -- a revert of an accepted command gives the file back, byte by byte, but for the oldest entry of a full journal
-abbrev pub BytesComeBack : Stored → Command → Type 0
+abbrev pub BytesComeBack : Stored → DatabaseChange → Type 0
 BytesComeBack d command =
     let after = changed d command in
     let back = reverted after.content after.journal in
     IsValidStored d → verdict d.content command ≡ None → length d.journal < d.content.depth → layout back ≡ layout d
 
-abbrev pub BytesComeBackButOldest : Stored → Command → Type 0
+abbrev pub BytesComeBackButOldest : Stored → DatabaseChange → Type 0
 BytesComeBackButOldest d command =
     let after = changed d command in
     let back = reverted after.content after.journal in

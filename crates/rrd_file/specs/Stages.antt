@@ -9,7 +9,7 @@ use Rattle.rrd_spec.specs.declared.settings.RraDef.{RraDef}
 use Rattle.rrd_spec.specs.declared.outline.Outline.{Outline}
 use Rattle.rrd_spec.specs.declared.due.Due.{Due}
 use Rattle.rrd_spec.specs.declared.due.Due.TheVariants.{SourceDue, HeadDue, PrepDue, CellDue, EntryDue, NothingDue}
-use Rattle.rrd_spec.specs.Limits.{Limits}
+use Rattle.rrd_spec.specs.Limits.{Limits, most_tuned}
 use Rattle.rrd_spec.specs.Journal.Entries.{Entry, rows_between}
 use Rattle.rrd_spec.specs.declared.version.Version.{Version}
 use Rattle.rrd_spec.specs.declared.version.Version.TheVariants.{One, Two}
@@ -99,7 +99,7 @@ Keeps limits step now (BeforeDue last def) (OfRawAndPart raw part) =
 Keeps limits step now (RowPrepDue last def) (OfPrep part) = IsRowPart step last def part
 Keeps limits step now (RowsDue rows) (OfRows count) = count ≡ rows
 Keeps limits step now RowCellDue (OfCell cell) = IsBounded cell
-Keeps limits step now CountDue (OfCount count) = (0 < count) × (count ≤ 5)
+Keeps limits step now CountDue (OfCount count) = (0 < count) × (count ≤ most_tuned)
 Keeps limits step now (NamedDue lowest more) (OfSourceBefore old) =
     (lowest ≤ old.number) × (old.number < length now.sources) × IsSourceBefore limits old
 Keeps limits step now NumberDue (OfNumber archive) = archive < length now.archives

@@ -173,9 +173,7 @@ fn end<R: Read + Drop>(input: &mut PieceReader<R>) -> Result<(), FileFault>
 pub fn decode<R: Read + Drop>(alloc: Global, reader: R) -> Result<Database, FileFault>
     ensures { (bytes : List ℕ) → R.remaining reader ≡ Some bytes → IsAnswer bytes result }
 {
-    let Ok(mut input) = PieceReader::new(alloc, reader) else {
-        return Err(FileFault::OutOfMemory);
-    };
+    let mut input = PieceReader::new(alloc, reader)?;
     mark(&mut input)?;
     let version = version(&mut input)?;
     let mut build = header(alloc, &mut input, version)?;

@@ -1,6 +1,6 @@
 //! Laws of the layout alone. Each is the contract of a function that does nothing.
 ghost use Rattle.std.specs.Prelude.{ℕ, List};
-ghost use Rattle.rrd_spec.specs.Commands.{Command};
+ghost use Rattle.rrd_spec.specs.Commands.{DatabaseChange};
 ghost use Rattle.rrd_spec.specs.Journal.Survivors.{Stored};
 ghost use Rattle.rrd_spec.specs.declared.version.Version.{Version};
 ghost use Rattle.rrd_file.specs.Laws as laws;
@@ -76,8 +76,8 @@ pub fn layouts_differ()
 /// A revert of an accepted command gives the file back, byte by byte, but for the oldest entry of a
 /// full journal.
 pub fn bytes_come_back()
-    ensures whole { (d : Stored) (command : Command) → laws.BytesComeBack d command }
-    ensures full { (d : Stored) (command : Command) → laws.BytesComeBackButOldest d command }
+    ensures whole { (d : Stored) (command : DatabaseChange) → laws.BytesComeBack d command }
+    ensures full { (d : Stored) (command : DatabaseChange) → laws.BytesComeBackButOldest d command }
 {
     revert_takes_back();
 }

@@ -1,4 +1,5 @@
 //! The bytes of a database in a file: their definition, how they are written, and how they are read.
+//! `rrd_tests/src/examples.rt` has a caller of it, from the first call to the last.
 #![tactic(auto)]
 
 mod decoding;

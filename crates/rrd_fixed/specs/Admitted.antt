@@ -1,5 +1,5 @@
 -- Definition: which values a source accepts, and what is kept of them (rrdcreate, "DS"; the ranges are own).
-use Rattle.std.specs.Prelude.{◌-◌, ◌^◌, ◌&&◌, ℤ, pos, neg_ℤ, int_le, unsigned_abs, nat_lt, not, Bool, if◌then◌else◌, Option, Some, None}
+use Rattle.std.specs.Prelude.{◌-◌, ◌^◌, ◌&&◌, ℤ, pos, neg_ℤ, int_le, unsigned_abs, nat_lt, not, Bool, if◌then◌else◌, Option, Some, None, option_and_then}
 use Rattle.std.specs.Int.{int_rem_euclid}
 use Rattle.std.specs.Ordering.{int_eq}
 use Rattle.rrd_fixed.specs.declared.kind.Kind.{Kind}
@@ -19,12 +19,16 @@ in_millionths millionths = if nat_lt (unsigned_abs millionths) (10 ^ 24) then So
 abbrev pub is_whole : ℤ → Bool
 is_whole millionths = int_eq (int_rem_euclid millionths (pos (10 ^ 6))) (pos 0)
 
--- a number without a point that is a whole number of units, kept in units
-abbrev pub in_units : ℤ → ℤ → Number → Option ℤ
-in_units low high number =
+-- the units of a number without a point that is a whole number of them
+abbrev pub units_of : Number → Option ℤ
+units_of number =
     if not number.point && is_whole number.millionths
-    then in_range low high (floor_of number.millionths (pos (10 ^ 6)))
+    then Some (floor_of number.millionths (pos (10 ^ 6)))
     else None
+
+-- such a number from `low` to `high`, kept in units
+abbrev pub in_units : ℤ → ℤ → Number → Option ℤ
+in_units low high number = option_and_then (in_range low high) (units_of number)
 
 -- the raw value of a number; none if a source of this kind doesn't accept it
 abbrev pub admit : Kind → Number → Option ℤ

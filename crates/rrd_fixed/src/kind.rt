@@ -1,5 +1,5 @@
 //! Types of data source.
-ghost use Rattle.std.specs.Prelude.{◌≡◌, true};
+ghost use Rattle.std.specs.Prelude.{◌≡◌, ◌≤ℤ◌, ℤ, true};
 ghost use Rattle.rrd_fixed.specs.Rate.{IsAccepted};
 
 use crate::Raw;
@@ -17,7 +17,23 @@ pub enum Kind {
     Absolute,
 }
 
+// The greatest size of a value of a GAUGE or an ABSOLUTE, in millionths: it lies below 10^18.
+const GREATEST_MILLIONTHS: i128 = 999_999_999_999_999_999_999_999;
+
 impl Kind {
+    // The least and the greatest value that a source of this type accepts, in units for COUNTER
+    // and DERIVE and in millionths for GAUGE and ABSOLUTE.
+    pub(crate) fn range(self) -> (i128, i128)
+        ensures good { (value : ℤ) → result.0 ≤ℤ value → value ≤ℤ result.1 → IsAccepted self (Raw.Known value) }
+        ensures bad { (value : ℤ) → IsAccepted self (Raw.Known value) → (result.0 ≤ℤ value) × (value ≤ℤ result.1) }
+    {
+        match self {
+            Kind::Counter => (0, u64::MAX as i128),
+            Kind::Derive => (i64::MIN as i128, i64::MAX as i128),
+            Kind::Gauge | Kind::Absolute => (-GREATEST_MILLIONTHS, GREATEST_MILLIONTHS),
+        }
+    }
+
     /// Whether a source of this type accepts a raw value, in units for COUNTER and DERIVE and in
     /// millionths for GAUGE and ABSOLUTE, as `admit` keeps it; an unknown one always.
     pub fn accepts(self, raw: Raw) -> bool
@@ -27,14 +43,7 @@ impl Kind {
         let Raw::Known(value) = raw else {
             return true;
         };
-        match self {
-            Kind::Counter => 0 <= value && value < 18_446_744_073_709_551_616,
-            Kind::Derive => {
-                -9_223_372_036_854_775_808 <= value && value < 9_223_372_036_854_775_808
-            }
-            Kind::Gauge | Kind::Absolute => {
-                value.unsigned_abs() < 1_000_000_000_000_000_000_000_000
-            }
-        }
+        let (least, greatest) = self.range();
+        least <= value && value <= greatest
     }
 }

@@ -25,6 +25,6 @@ pub use raw::Raw;
 pub use rounding::near;
 pub use streams::{ReadFault, WriteFault, flush, read_some, write_bytes};
 pub use text::{
-    cell_string, numbered_text, raw_string, short_text, time_string, write_cell, write_raw,
-    write_time,
+    MILLIONTHS, cell_string, numbered_text, raw_string, short_text, time_string, write_cell,
+    write_raw, write_time,
 };

@@ -4,7 +4,7 @@ ghost use Rattle.rrd_fixed.specs.Admitted as spec;
 ghost use Rattle.rrd_fixed.specs.Rate.{IsAccepted};
 ghost use Rattle.rrd_fixed.specs.Reading.{are_digits, fraction_of, is_point, number_of, plain_of, pointed_of, unsigned_of, value_of, whole_of};
 
-use crate::{Kind, Raw};
+use crate::{Kind, MILLIONTHS, Raw};
 
 /// A number as it was written.
 #[derive(Clone, Copy, Debug, PartialEq, Eq)]
@@ -51,7 +51,7 @@ fn read_plain(digits: &[u8]) -> Option<Number>
 {
     let whole = read_digits(digits, 20)?;
     Some(Number {
-        millionths: (whole * 1_000_000) as i128,
+        millionths: (whole * MILLIONTHS as u128) as i128,
         point: false,
     })
 }
@@ -64,7 +64,7 @@ fn read_pointed(whole: &[u8], fraction: &[u8]) -> Option<Number>
     let whole = read_digits(whole, 20)?;
     let fraction = read_fraction(fraction)?;
     Some(Number {
-        millionths: (whole * 1_000_000 + fraction) as i128,
+        millionths: (whole * MILLIONTHS as u128 + fraction) as i128,
         point: true,
     })
 }
@@ -113,31 +113,13 @@ pub fn read_number(bytes: &[u8]) -> Option<Number>
     })
 }
 
-// A number below 10^18 in size, kept in millionths.
-fn in_millionths(millionths: i128) -> Option<i128>
-    ensures { result ≡ spec.in_millionths millionths }
+// A number without a point that is a whole number of units, in units. One that was read without a
+// point is always whole; a caller may make others.
+fn whole_units(number: Number) -> Option<i128>
+    ensures { result ≡ spec.units_of number }
 {
-    if millionths.unsigned_abs() < 1_000_000_000_000_000_000_000_000 {
-        Some(millionths)
-    } else {
-        None
-    }
-}
-
-// A number without a point that is a whole number of units from `low` to `high`, kept in units.
-// One that was read without a point is always whole; a caller may make others.
-fn in_units(low: i128, high: i128, number: Number) -> Option<i128>
-    ensures { result ≡ spec.in_units low high number }
-{
-    let whole = number.millionths.rem_euclid(1_000_000) == 0;
-    if number.point || !whole {
-        return None;
-    }
-    let units = number.millionths.div_euclid(1_000_000);
-    if units < low || high < units {
-        return None;
-    }
-    Some(units)
+    let whole = number.millionths.rem_euclid(MILLIONTHS as i128) == 0;
+    (!number.point && whole).then_some(number.millionths.div_euclid(MILLIONTHS as i128))
 }
 
 /// What a source of this kind keeps of a number, in units for COUNTER and DERIVE and in millionths
@@ -148,9 +130,9 @@ pub fn admit(kind: Kind, number: Number) -> Option<i128>
     ensures value { result ≡ spec.admit kind number }
     ensures accepted { IfSome result (λ raw. IsAccepted kind (Raw.Known raw)) }
 {
-    match kind {
-        Kind::Gauge | Kind::Absolute => in_millionths(number.millionths),
-        Kind::Counter => in_units(0, u64::MAX as i128, number),
-        Kind::Derive => in_units(i64::MIN as i128, i64::MAX as i128, number),
-    }
+    let value = match kind {
+        Kind::Gauge | Kind::Absolute => number.millionths,
+        Kind::Counter | Kind::Derive => whole_units(number)?,
+    };
+    kind.accepts(Raw::Known(value)).then_some(value)
 }

@@ -3,7 +3,7 @@ ghost use Rattle.std.specs.Prelude.{◌≡◌, ◌^◌, ◌≤◌, pos, ◌*ℤ�
 ghost use Rattle.rrd_fixed.specs.Rate as spec;
 ghost use Rattle.rrd_fixed.specs.Rounding.{near as nearest};
 
-use crate::{Cell, Kind, Raw, near};
+use crate::{Cell, Kind, MILLIONTHS, Raw, near};
 
 /// How far a counter has come from `old` to `new`, in units: one that fell has wrapped, at 2^32 if
 /// that is enough, else at 2^64.
@@ -43,7 +43,7 @@ fn per_second(change: i128, seconds: i128) -> i128
     requires bounded { unsigned_abs change ≤ 2 ^ 64 }
     ensures { result ≡ nearest (change *ℤ pos (10 ^ 6)) seconds }
 {
-    near(change * 1_000_000, seconds)
+    near(change * MILLIONTHS as i128, seconds)
 }
 
 // The rate before the heartbeat and the bounds are asked.

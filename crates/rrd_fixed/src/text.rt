@@ -9,6 +9,9 @@ use arrayvec::ArrayString;
 use itoa::Buffer;
 use std::io::Write;
 
+/// The millionths in a unit.
+pub const MILLIONTHS: u64 = 1_000_000;
+
 // The zeros before a number of that many digits, so that it has six.
 fn zeros_before(digits: usize) -> &'static str
     requires { digits ≤ 6 }
@@ -32,9 +35,9 @@ fn push_millionths(text: &mut ArrayString<48>, millionths: u128)
     ensures { text.new.bytes ≡ text.old.bytes ++ millionths_text millionths }
 {
     let mut buffer = Buffer::new();
-    text.push_str(buffer.format(millionths / 1_000_000));
+    text.push_str(buffer.format(millionths / MILLIONTHS as u128));
     text.push_str(".");
-    let digits = buffer.format((millionths % 1_000_000) as u32);
+    let digits = buffer.format((millionths % MILLIONTHS as u128) as u32);
     text.push_str(zeros_before(digits.len()));
     text.push_str(digits);
 }

@@ -7,7 +7,7 @@ ghost use Rattle.rrd_fold.specs.Bounds.{IsBounded, counted, most_known, weight};
 
 use crate::Function;
 use crate::summary::Summary;
-use rrd_fixed::{Cell, Meter};
+use rrd_fixed::{Cell, MILLIONTHS, Meter};
 use std::marker::Model;
 
 /// The unfinished row of one source in an archive: how many known steps there were, at most
@@ -35,6 +35,23 @@ impl RowPrep {
     {
         RowPrep {
             summary: Summary::new(function),
+        }
+    }
+
+    /// So many known steps, at most 1,000,000, that come to this value in millionths by this function:
+    /// a sum of cells from `-TOP` to `TOP`, or one such cell, or 0 if no step is known.
+    pub fn from_part(function: Function, known: u64, value: i128) -> RowPrep
+        requires few { known ≤ most_known }
+        requires bounded { unsigned_abs value ≤ weight function known * top }
+        requires empty { known ≡ 0 → value ≡ pos 0 }
+        ensures { result ≡ record { function = function; part = record { known = known; value = value } } }
+    {
+        RowPrep {
+            summary: Summary {
+                function,
+                known,
+                value,
+            },
         }
     }
 
@@ -87,7 +104,7 @@ impl RowPrep {
         meter.tick();
         let row = self.summary;
         self.summary = Summary::new(row.function);
-        if (steps - row.known) * 1_000_000 > xff * steps {
+        if (steps - row.known) * MILLIONTHS > xff * steps {
             return Cell::Unknown;
         }
         row.finish()

@@ -1,3 +1,4 @@
 pub mod RowLemmas
 pub mod RingLemmas
 pub mod WrittenLemmas
+pub mod BlockLemmas

@@ -4,12 +4,12 @@ use Rattle.std.proofs.Math.Seq.{take-append-add}
 use Rattle.std.proofs.Math.Nat.{add-mul, mod-eq_of_lt, mod-eq-sub-mod}
 use Rattle.std.proofs.lemmas.Bool.{cases_lt}
 use Rattle.std.proofs.lemmas.Nat.{row_fits, mul-le, mod_below}
-use Rattle.std.proofs.lemmas.List.{append_assoc, append-nil, length-take-le, length-replicate, take-append-drop, take-append-le, take-take, drop-append-le, drop-drop, take_at, drop_at, take_all, drop_all, get_or_append_left, get_or-append_right, get_or-replicate, get_or-set_same, get_or-set_other, length-set, with_items_is, take-replicate, drop-replicate}
+use Rattle.std.proofs.lemmas.List.{append_assoc, append-nil, length-take-le, length-replicate, take-append-drop, take-append-le, take-take, drop-append-le, drop-drop, take_at, drop_at, take_all, drop_all, get_or_append_left, get_or-append_right, get_or-replicate, get_or-set_same, get_or-set_other, length-set, with_items_is, replicate-append-replicate, take-replicate, drop-replicate}
 use Rattle.std.proofs.lemmas.List.FromFn.{length-map-range_with_len, get_or-map-range_with_len, fill_by_all}
 use Rattle.std.specs.Vec.{with_items_from}
 use Rattle.rrd_fixed.specs.declared.cell.Cell.{Cell}
 use Rattle.rrd_fixed.specs.declared.cell.Cell.TheVariants.{Unknown}
-use Rattle.rrd_ring.specs.Rows.{row_at, width, HasWidth, unknown_rows, IsArchive, AreDropped, most_rows}
+use Rattle.rrd_ring.specs.Rows.{nth_row, width, HasWidth, unknown_rows, IsArchive, AreDropped, most_rows}
 use Rattle.rrd_ring.specs.Ring.{row_of, rows_of, ring_rows, from_place, IsRing, AreRows}
 use Rattle.rrd_ring.specs.Widths.{width_is}
 use Rattle.rrd_ring.proofs.RowLemmas.{IsArchive-from_width, AreDropped-from_width}
@@ -91,14 +91,14 @@ length-from_place start xs h = omega (arith, length-append (drop start xs) (take
 pub length-rows_of : (rows w : ℕ) (xs : List Cell) → length (rows_of rows w xs) ≡ rows
 length-rows_of rows w xs = length-map-range_with_len (λ i. row_of w xs i) 0 rows
 
-pub row_at-rows_of : (rows w : ℕ) (xs : List Cell) (i : ℕ) → i < rows → row_at (rows_of rows w xs) i ≡ row_of w xs i
-row_at-rows_of rows w xs i h = get_or-map-range_with_len (λ i. row_of w xs i) 0 rows i i [] h (omega arith)
+pub nth_row-rows_of : (rows w : ℕ) (xs : List Cell) (i : ℕ) → i < rows → nth_row (rows_of rows w xs) i ≡ row_of w xs i
+nth_row-rows_of rows w xs i h = get_or-map-range_with_len (λ i. row_of w xs i) 0 rows i i [] h (omega arith)
 
 pub length-ring_rows : (rows w place : ℕ) (xs : List Cell) → length (ring_rows rows w place xs) ≡ rows
 length-ring_rows rows w place xs = length-map-range_with_len (λ i. row_of w xs ((place + i) % rows)) 0 rows
 
-pub row_at-ring_rows : (rows w place : ℕ) (xs : List Cell) (i : ℕ) → i < rows → row_at (ring_rows rows w place xs) i ≡ row_of w xs ((place + i) % rows)
-row_at-ring_rows rows w place xs i h =
+pub nth_row-ring_rows : (rows w place : ℕ) (xs : List Cell) (i : ℕ) → i < rows → nth_row (ring_rows rows w place xs) i ≡ row_of w xs ((place + i) % rows)
+nth_row-ring_rows rows w place xs i h =
     get_or-map-range_with_len (λ i. row_of w xs ((place + i) % rows)) 0 rows i i [] h (omega arith)
 
 pub length-row_of : (w : ℕ) (xs : List Cell) (i : ℕ) → i * w + w ≤ length xs → length (row_of w xs i) ≡ w
@@ -112,7 +112,7 @@ pub HasWidth-rows_of : (rows w : ℕ) (xs : List Cell) → length xs ≡ rows * 
 HasWidth-rows_of rows w xs e =
     HasWidth_by w (rows_of rows w xs)
     (λ i h. let k : i < rows = omega (arith, length-rows_of rows w xs) in
-    ap length (row_at-rows_of rows w xs i k) ∙ length-row_of w xs i (omega (arith, row_fits i w rows w k (omega arith))))
+    ap length (nth_row-rows_of rows w xs i k) ∙ length-row_of w xs i (omega (arith, row_fits i w rows w k (omega arith))))
 
 from_later : (m k w : ℕ) (xs ys : List Cell) → length xs ≡ m * w → m ≤ k → drop (k * w) (xs ++ ys) ≡ drop ((k - m) * w) ys
 from_later m k w xs ys e h =
@@ -132,11 +132,11 @@ rows_of-append m n w xs ys e =
     (λ k h. ⊎_elim (λ (below : k < m).
     let fits : k * w + w ≤ m * w = row_fits k w m w below (omega arith) in
     get_or_append_left front back [] k (omega (arith, lf))
-    ∙ row_at-rows_of m w xs k below
+    ∙ nth_row-rows_of m w xs k below
     ∙ sym (ap (take w) (drop-append-le (k * w) xs ys (omega arith)) ∙ take-append-le w (drop (k * w) xs) ys (omega (arith, length-drop (k * w) xs))))
     (λ (past : m ≤ k).
     get_or-append_right front back m k [] lf past
-    ∙ row_at-rows_of n w ys (k - m) (omega arith)
+    ∙ nth_row-rows_of n w ys (k - m) (omega arith)
     ∙ ap (take w) (sym (from_later m k w xs ys e past)))
     (cases_lt k m)))
 
@@ -183,7 +183,7 @@ ring_rows-from_place rows w place xs h e =
     (λ k below.
     let at = (place + k) % rows in
     let at_below : at < rows = mod_below (place + k) rows (omega arith) in
-    row_at-ring_rows rows w place xs k below
+    nth_row-ring_rows rows w place xs k below
     ∙ sym (row_first w xs at (omega (arith, row_fits at w rows w at_below (omega arith))))
     ∙ ap (take w) (sym (from_place-rows rows w place k xs e h (omega arith)))
     ∙ row_first w turned k (omega (arith, row_fits k w rows w below (omega arith))))
@@ -388,9 +388,18 @@ ring_at_front rows w xs some e =
     ∙ ap (λ (k : ℕ). rows_of rows w (from_place k xs)) none
     ∙ ap (rows_of rows w) (append-nil xs)
 
-pub ring_unknown : (rows w : ℕ) → 0 < rows → ring_rows rows w 0 (replicate (rows * w) Unknown) ≡ unknown_rows rows w
-ring_unknown rows w some =
-    ring_at_front rows w (replicate (rows * w) Unknown) some (length-replicate (rows * w) Unknown) ∙ rows_of_unknown rows w
+pub ring_unknown : (rows w place : ℕ) → place < rows → ring_rows rows w place (replicate (rows * w) Unknown) ≡ unknown_rows rows w
+ring_unknown rows w place within =
+    let all = rows * w in
+    let start = place * w in
+    let le : start ≤ all = cells_le place rows w (omega arith) in
+    let sum : all - start + start ≡ all = omega (arith, le) in
+    let same : from_place start (replicate all Unknown) ≡ replicate all Unknown =
+    ap (λ (zs : List Cell). zs ++ take start (replicate all Unknown)) (drop-replicate start all Unknown)
+    ∙ ap (λ (zs : List Cell). replicate (all - start) Unknown ++ zs) (take-replicate start all Unknown le)
+    ∙ replicate-append-replicate (all - start) start Unknown
+    ∙ ap (λ (n : ℕ). replicate n Unknown) sum in
+    ring_rows-from_place rows w place (replicate all Unknown) within (length-replicate all Unknown) ∙ ap (rows_of rows w) same ∙ rows_of_unknown rows w
 
 pub AreRows-take : (n rows w place : ℕ) (xs : List Cell) → n ≤ rows → IsRing rows w place xs → AreRows n w (take (n * w) (from_place (place * w) xs))
 AreRows-take n rows w place xs h is =
@@ -480,7 +489,7 @@ rows_written rows w i xs row are h e =
     ∙ sym (row_of-written w i xs row fits e)
     ∙ ap (λ (n : ℕ). row_of w (with_cells w i xs row) n) (sym same))
     (λ (other : j ≡ i → ⊥).
-    get_or-set_other was i j row [] other ∙ row_at-rows_of rows w xs j k ∙ sym (row_of-others w i j xs row fits e other))
+    get_or-set_other was i j row [] other ∙ nth_row-rows_of rows w xs j k ∙ sym (row_of-others w i j xs row fits e other))
     (same_or_not j i)))
 
 -- two rows at one place are one
@@ -513,7 +522,7 @@ ring_written rows w place i xs row is h e =
     ∙ ap (λ (n : ℕ). row_of w (with_cells w at xs row) ((place + n) % rows)) (sym same))
     (λ (other : j ≡ i → ⊥).
     get_or-set_other was i j row [] other
-    ∙ row_at-ring_rows rows w place xs j k
+    ∙ nth_row-ring_rows rows w place xs j k
     ∙ sym (row_of-others w at ((place + j) % rows) xs row fits e (λ same. other (wrapped_same rows place i j is.place_within h k same))))
     (same_or_not j i)))
 

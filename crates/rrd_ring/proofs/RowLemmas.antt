@@ -5,7 +5,7 @@ use Rattle.std.specs.List.{refill, length_refill}
 use Rattle.rrd_fixed.specs.declared.cell.Cell.{Cell}
 use Rattle.rrd_fixed.specs.declared.cell.Cell.TheVariants.{Unknown}
 use Rattle.rrd_ring.specs.Widths.{HasWidth-append, HasWidth-drop, width_is}
-use Rattle.rrd_ring.specs.Rows.{row_at, with_row, width, HasWidth, unknown_rows, newest_rows, IsArchive, AreDropped, most_rows, most_sources}
+use Rattle.rrd_ring.specs.Rows.{nth_row, with_row, width, HasWidth, unknown_rows, newest_rows, IsArchive, AreDropped, most_rows, most_sources}
 
 -- ---- the width of rows
 
@@ -54,16 +54,16 @@ HasWidth-set w (x ∷ xs) (suc i) cells h e = (h.0, HasWidth-set w xs i cells h.
 pub refill_same : {A : Type 0} (xs ws : List A) → length ws ≡ length xs → refill (length xs) xs ws ≡ ws
 refill_same xs ws e = rw (drop_all (length ws) xs (omega arith), append-nil, ← e) (take_all (length ws) ws (omega arith))
 
-pub with_row-same_width : (xs : List (List Cell)) (i : ℕ) (cells : List Cell) → length cells ≡ length (row_at xs i) → with_row xs i cells ≡ set xs i cells
-with_row-same_width xs i cells e = ap (set xs i) (refill_same (row_at xs i) cells e)
+pub with_row-same_width : (xs : List (List Cell)) (i : ℕ) (cells : List Cell) → length cells ≡ length (nth_row xs i) → with_row xs i cells ≡ set xs i cells
+with_row-same_width xs i cells e = ap (set xs i) (refill_same (nth_row xs i) cells e)
 
 pub HasWidth-with_row : (w : ℕ) (xs : List (List Cell)) (i : ℕ) (cells : List Cell) → HasWidth w xs → i < length xs → HasWidth w (with_row xs i cells)
 HasWidth-with_row w xs i cells h k =
-    HasWidth-set w xs i _ h (sym (length_refill (length (row_at xs i)) (row_at xs i) cells refl) ∙ length-row w xs i [] h k)
+    HasWidth-set w xs i _ h (sym (length_refill (length (nth_row xs i)) (nth_row xs i) cells refl) ∙ length-row w xs i [] h k)
 
 pub IsArchive-with_row : (xs : List (List Cell)) (i : ℕ) (cells : List Cell) → IsArchive xs → i < length xs → IsArchive (with_row xs i cells)
 IsArchive-with_row xs i cells is k =
-    let new = refill (length (row_at xs i)) (row_at xs i) cells in
+    let new = refill (length (nth_row xs i)) (nth_row xs i) cells in
     let count = length-set xs i new in
     let some : 0 < length xs = is.some_rows in
     let few : length xs ≤ most_rows = is.few_rows in
@@ -72,7 +72,7 @@ IsArchive-with_row xs i cells is k =
 
 pub AreDropped-with_row : (xs : List (List Cell)) (i : ℕ) (cells : List Cell) → AreDropped xs → i < length xs → AreDropped (with_row xs i cells)
 AreDropped-with_row xs i cells are k =
-    let new = refill (length (row_at xs i)) (row_at xs i) cells in
+    let new = refill (length (nth_row xs i)) (nth_row xs i) cells in
     let count = length-set xs i new in
     let few : length xs ≤ most_rows = are.few_rows in
     AreDropped-from_width (width xs) (with_row xs i cells) (HasWidth-with_row (width xs) xs i cells are.one_width k) (omega arith)

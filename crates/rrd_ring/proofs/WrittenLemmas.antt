@@ -1,14 +1,14 @@
 -- Rings of which a front is written, and the rest unknown.
 use Rattle.std.proofs.Common.{Vec, Global, ◌≡◌, ◌⊎◌, inl, inr, min, refl, sym, ◌∙◌, ap, subst, ℕ, zero, suc, ◌+◌, ◌-◌, ◌*◌, ◌%◌, ◌<◌, ◌≤◌, List, [], ◌∷◌, ◌++◌, length, take, drop, replicate, ⊎_elim, arith, length-append, length-drop, vec_len, vec_capacity}
-use Rattle.std.proofs.Math.Nat.{add-mul, mod-eq_of_lt}
+use Rattle.std.proofs.Math.Nat.{add-mul}
 use Rattle.std.proofs.lemmas.Bool.{cases_lt}
 use Rattle.std.proofs.lemmas.Nat.{row_fits, mod_below}
-use Rattle.std.proofs.lemmas.List.{append_assoc, append-nil, take-append-drop, replicate-append-replicate, length-take-le, length-replicate, take-append-le, take-take, take_min, drop-append-le, drop-drop, take_at, drop_at, take_all, drop_all, take-replicate, drop-replicate}
+use Rattle.std.proofs.lemmas.List.{append_assoc, append-nil, take-append-drop, replicate-append-replicate, length-take-le, length-replicate, take-append-le, take_min, drop-append-le, drop-drop, take_at, drop_at, take_all, drop_all, take-replicate, drop-replicate}
 use Rattle.rrd_fixed.specs.declared.cell.Cell.{Cell}
 use Rattle.rrd_fixed.specs.declared.cell.Cell.TheVariants.{Unknown}
 use Rattle.rrd_ring.specs.Rows.{width, newest_rows, unknown_rows}
-use Rattle.rrd_ring.specs.Ring.{from_place, ring_rows, rows_of, with_unwritten, IsRing, IsPartlyWritten}
-use Rattle.rrd_ring.proofs.RingLemmas.{mod_wrapped, cells_le, with_cells, length-with_cells, ring_fits, ring_take, rows_of_unknown}
+use Rattle.rrd_ring.specs.Ring.{from_place, ring_rows, rows_of, with_unwritten, AreRows, AreWhole, ArePartlyWritten, IsRing, IsPartlyWritten}
+use Rattle.rrd_ring.proofs.RingLemmas.{cells_le, with_cells, length-with_cells, ring_fits, ring_take, rows_of_unknown}
 
 -- ---- the cells
 
@@ -24,11 +24,40 @@ all_written all xs h =
     let none : all - length xs ≡ 0 = omega arith in
     ap (λ (n : ℕ). xs ++ replicate n Unknown) none ∙ append-nil xs
 
--- filled up, they are the same
-pub filled_up : (all n : ℕ) (xs : List Cell) → n ≡ length xs → length xs ≤ all → take all xs ++ replicate (all - n) Unknown ≡ with_unwritten all xs
-filled_up all n xs e h =
-    ap (λ (zs : List Cell). zs ++ replicate (all - n) Unknown) (take_all all xs h)
-    ∙ ap (λ (k : ℕ). xs ++ replicate (all - k) Unknown) e
+-- filled up as far as they are, they are the same
+pub filled_enough : (n : ℕ) (xs : List Cell) → n ≤ length xs → with_unwritten n xs ≡ xs
+filled_enough n xs h =
+    let none : n - length xs ≡ 0 = omega arith in
+    ap (λ (k : ℕ). xs ++ replicate k Unknown) none ∙ append-nil xs
+
+-- and further
+pub filled_further : (all n : ℕ) (xs : List Cell) → n ≤ all → with_unwritten all (with_unwritten n xs) ≡ with_unwritten all xs
+filled_further all n xs h = ⊎_elim
+    (λ (less : length xs < n).
+    let more = n - length xs in
+    let count : length (with_unwritten n xs) ≡ n = length-with_unwritten n xs (omega arith) in
+    let sum : more + (all - n) ≡ all - length xs = omega arith in
+    ap (λ (k : ℕ). (xs ++ replicate more Unknown) ++ replicate (all - k) Unknown) count
+    ∙ append_assoc xs (replicate more Unknown) (replicate (all - n) Unknown)
+    ∙ ap (λ (zs : List Cell). xs ++ zs) (replicate-append-replicate more (all - n) Unknown ∙ ap (λ (k : ℕ). replicate k Unknown) sum))
+    (λ (enough : n ≤ length xs). ap (with_unwritten all) (filled_enough n xs enough))
+    (cases_lt (length xs) n)
+
+pub filled_long : (n : ℕ) (xs : List Cell) → n ≤ length (with_unwritten n xs)
+filled_long n xs = omega (arith, length-append xs (replicate (n - length xs) Unknown), length-replicate (n - length xs) Unknown)
+
+-- a vector is filled up by a resize
+pub filled_up : (end n : ℕ) (xs : List Cell) → n ≡ length xs → length xs ≤ end → take end xs ++ replicate (end - n) Unknown ≡ with_unwritten end xs
+filled_up end n xs e h =
+    ap (λ (zs : List Cell). zs ++ replicate (end - n) Unknown) (take_all end xs h)
+    ∙ ap (λ (k : ℕ). xs ++ replicate (end - k) Unknown) e
+
+-- whole rows stay whole
+pub whole_filled : (w k : ℕ) (xs : List Cell) → AreWhole w xs → AreWhole w (with_unwritten (k * w) xs)
+whole_filled w k xs is = ⊎_elim
+    (λ (less : length xs < k * w). let it : AreWhole w (with_unwritten (k * w) xs) = record { count = k; whole = length-with_unwritten (k * w) xs (omega arith) } in it)
+    (λ (enough : k * w ≤ length xs). subst (AreWhole w) (sym (filled_enough (k * w) xs enough)) is)
+    (cases_lt (length xs) (k * w))
 
 pub row_written : (all start w : ℕ) (xs : List Cell) → start + w ≤ length xs → take w (drop start xs) ≡ take w (drop start (with_unwritten all xs))
 row_written all start w xs h =
@@ -51,10 +80,9 @@ row_unwritten all start w xs h fits few =
 -- ---- a row is written
 
 -- over a written one
-pub written_over : (all w k : ℕ) (ys row : List Cell) → k * w + w ≤ length ys → length row ≡ w
-    → with_unwritten all (take (k * w) ys ++ (row ++ drop (length row) (drop (k * w) ys))) ≡ with_cells w k (with_unwritten all ys) row
-written_over all w k ys row fits e =
-    let start = k * w in
+pub written_over : (all w start : ℕ) (ys row : List Cell) → start + w ≤ length ys → length row ≡ w
+    → with_unwritten all (take start ys ++ (row ++ drop (length row) (drop start ys))) ≡ take start (with_unwritten all ys) ++ (row ++ drop w (drop start (with_unwritten all ys)))
+written_over all w start ys row fits e =
     let front = take start ys in
     let back = drop w (drop start ys) in
     let rest = replicate (all - length ys) Unknown in
@@ -89,45 +117,41 @@ pub ring_le : (rows w place : ℕ) (v : Vec Cell Global) → IsPartlyWritten row
 ring_le rows w place v is = written_le (rows * w) v.items is.ring.whole
 
 -- what is written are whole rows
-pub whole_row : (rows w place k : ℕ) (v : Vec Cell Global) → IsPartlyWritten rows w place v → k < rows → k * w < length v.items → k * w + w ≤ length v.items
-whole_row rows w place k v is h below =
-    let len = v.ok.0 in
-    ⊎_elim (λ (full : vec_len v ≡ rows * w). omega (arith, row_fits k w rows w h (omega arith), len, full))
-    (λ part.
-    let ending : vec_len v ≡ place * w = part.0 in
-    ⊎_elim (λ (less : k < place). omega (arith, row_fits k w place w less (omega arith), len, ending))
-    (λ (past : place ≤ k). absurd (omega (arith, cells_le place k w past, len, ending, below)))
-    (cases_lt k place))
-    is.ends
+pub whole_row : (w k : ℕ) (xs : List Cell) → AreWhole w xs → k * w < length xs → k * w + w ≤ length xs
+whole_row w k xs is below = ⊎_elim
+    (λ (less : k < is.count). omega (arith, row_fits k w is.count w less (omega arith), is.whole))
+    (λ (past : is.count ≤ k). absurd (omega (arith, cells_le is.count k w past, is.whole, below)))
+    (cases_lt k is.count)
 
--- there is room for all
-pub has_room : (rows w place : ℕ) (v : Vec Cell Global) → IsPartlyWritten rows w place v → rows * w ≤ vec_capacity v
-has_room rows w place v is =
-    ⊎_elim (λ (full : vec_len v ≡ rows * w). let within : vec_len v ≤ vec_capacity v = v.ok.1 in omega arith) (λ part. part.1) is.ends
+-- a row that doesn't begin behind the last one is written, or it is the next one to be
+pub next_row : (w k : ℕ) (xs : List Cell) → AreWhole w xs → k * w ≤ length xs → (k * w + w ≤ length xs) ⊎ (k * w ≡ length xs)
+next_row w k xs is le = ⊎_elim
+    (λ (less : k * w < length xs). inl (whole_row w k xs is less))
+    (λ (past : length xs ≤ k * w). inr (omega (arith, le, past)))
+    (cases_lt (k * w) (length xs))
 
--- the oldest row is written, or it is the next one to be
-pub oldest_row : (rows w place : ℕ) (v : Vec Cell Global) → IsPartlyWritten rows w place v → (place * w + w ≤ length v.items) ⊎ (place * w ≡ length v.items)
-oldest_row rows w place v is =
-    let len = v.ok.0 in
-    let within : place < rows = is.ring.place_within in
-    ⊎_elim (λ (full : vec_len v ≡ rows * w). inl (omega (arith, row_fits place w rows w within (omega arith), len, full)))
-    (λ part. inr (let ending : vec_len v ≡ place * w = part.0 in omega (arith, len, ending)))
-    is.ends
-
-pub oldest_le : (rows w place : ℕ) (v : Vec Cell Global) → IsPartlyWritten rows w place v → place * w ≤ length v.items
-oldest_le rows w place v is =
-    ⊎_elim (λ (over : place * w + w ≤ length v.items). omega (arith, over)) (λ (behind : place * w ≡ length v.items). omega (arith, behind)) (oldest_row rows w place v is)
+-- filled up as far as some row, it is the same ring
+pub filled_ring : (rows w place k : ℕ) (v new : Vec Cell Global) → IsPartlyWritten rows w place v → k ≤ rows → new.items ≡ with_unwritten (k * w) v.items → vec_capacity v ≤ vec_capacity new
+    → IsPartlyWritten rows w place new
+filled_ring rows w place k v new is h items room =
+    let same : with_unwritten (rows * w) new.items ≡ with_unwritten (rows * w) v.items = ap (with_unwritten (rows * w)) items ∙ filled_further (rows * w) (k * w) v.items (cells_le k rows w h) in
+    let had : rows * w ≤ vec_capacity v = is.room in
+    record {
+      ring = subst (IsRing rows w place) (sym same) is.ring;
+      room = omega (arith, had, room);
+      ends = subst (AreWhole w) (sym items) (whole_filled w k v.items is.ends);
+    }
 
 -- the ring with a row in the place of its oldest one
-pub pushed_cells : (rows w place : ℕ) (v : Vec Cell Global) (row : List Cell) → IsPartlyWritten rows w place v → length row ≡ w
+pub pushed_cells : (rows w place : ℕ) (v : Vec Cell Global) (row : List Cell) → IsPartlyWritten rows w place v → place * w ≤ length v.items → length row ≡ w
     → with_unwritten (rows * w) (take (place * w) v.items ++ (row ++ drop (length row) (drop (place * w) v.items))) ≡ with_cells w place (with_unwritten (rows * w) v.items) row
-pushed_cells rows w place v row is e =
+pushed_cells rows w place v row is le e =
     let within : place < rows = is.ring.place_within in
-    ⊎_elim (λ (over : place * w + w ≤ length v.items). written_over (rows * w) w place v.items row over e)
+    ⊎_elim (λ (over : place * w + w ≤ length v.items). written_over (rows * w) w (place * w) v.items row over e)
     (λ (behind : place * w ≡ length v.items). written_behind (rows * w) w place v.items row behind (row_fits place w rows w within (omega arith)) e)
-    (oldest_row rows w place v is)
+    (next_row w place v.items is.ends le)
 
-length-put : (start w : ℕ) (ys row : List Cell) → length row ≡ w → start + w ≤ length ys → length (take start ys ++ (row ++ drop (length row) (drop start ys))) ≡ length ys
+pub length-put : (start w : ℕ) (ys row : List Cell) → length row ≡ w → start + w ≤ length ys → length (take start ys ++ (row ++ drop (length row) (drop start ys))) ≡ length ys
 length-put start w ys row e h =
     let back = drop (length row) (drop start ys) in
     omega (arith, length-append (take start ys) (row ++ back), length-append row back, length-take-le start ys (omega arith), length-drop (length row) (drop start ys), length-drop start ys)
@@ -137,40 +161,19 @@ length-put_behind start w ys row e h =
     let back = drop (length row) (drop start ys) in
     omega (arith, length-append (take start ys) (row ++ back), length-append row back, length-take-le start ys (omega arith), length-drop (length row) (drop start ys), length-drop start ys)
 
--- after a row was written in the oldest one's place, the next is the oldest
-pub pushed_ends : (rows w place : ℕ) (v new : Vec Cell Global) (row : List Cell) → IsPartlyWritten rows w place v → length row ≡ w
-    → new.items ≡ take (place * w) v.items ++ (row ++ drop (length row) (drop (place * w) v.items)) → vec_capacity new ≡ vec_capacity v
-    → (vec_len new ≡ rows * w) ⊎ ((vec_len new ≡ ((place + 1) % rows) * w) × (rows * w ≤ vec_capacity new))
-pushed_ends rows w place v new row is e items room =
-    let len = v.ok.0 in
-    let count = new.ok.0 in
-    let same = ap length items in
-    let within : place < rows = is.ring.place_within in
-    let some : 0 < w = is.ring.some_sources in
-    let fits = row_fits place w rows w within (omega arith) in
-    ⊎_elim (λ (full : vec_len v ≡ rows * w).
-    inl (omega (arith, count, same, length-put (place * w) w v.items row e (omega (arith, fits, len, full)), len, full)))
-    (λ part.
-    let ending : vec_len v ≡ place * w = part.0 in
-    let more = length-put_behind (place * w) w v.items row e (omega (arith, len, ending)) in
+-- after a row was written over another or behind the last one, whole rows are written
+pushed_ends : (w place : ℕ) (ys row : List Cell) → AreWhole w ys → place * w ≤ length ys → length row ≡ w → AreWhole w (take (place * w) ys ++ (row ++ drop (length row) (drop (place * w) ys)))
+pushed_ends w place ys row is le e =
+    let new = take (place * w) ys ++ (row ++ drop (length row) (drop (place * w) ys)) in
     let next : (place + 1) * w ≡ place * w + w = add-mul place 1 w ∙ (let one : place * w + 1 * w ≡ place * w + w = omega arith in one) in
-    ⊎_elim (λ (below : place + 1 < rows).
-    inr (
-      (let at : (place + 1) % rows ≡ place + 1 = mod-eq_of_lt below in
-          let there : vec_len new ≡ (place + 1) * w = omega (arith, count, same, more, next) in
-          there ∙ sym (ap (λ (n : ℕ). n * w) at)),
-      subst (λ (n : ℕ). rows * w ≤ n) (sym room) part.1,
-    ))
-    (λ (last : rows ≤ place + 1).
-    let every : rows ≡ place + 1 = omega arith in
-    inl (omega (arith, count, same, more, next, ap (λ (n : ℕ). n * w) every)))
-    (cases_lt (place + 1) rows))
-    is.ends
+    ⊎_elim (λ (over : place * w + w ≤ length ys). let it : AreWhole w new = record { count = is.count; whole = length-put (place * w) w ys row e over ∙ is.whole } in it)
+    (λ (behind : place * w ≡ length ys). let it : AreWhole w new = record { count = place + 1; whole = length-put_behind (place * w) w ys row e behind ∙ sym next } in it)
+    (next_row w place ys is le)
 
-pub pushed : (rows w place : ℕ) (v new : Vec Cell Global) (row : List Cell) → IsPartlyWritten rows w place v → length row ≡ w
+pub pushed : (rows w place : ℕ) (v new : Vec Cell Global) (row : List Cell) → IsPartlyWritten rows w place v → place * w ≤ length v.items → length row ≡ w
     → new.items ≡ take (place * w) v.items ++ (row ++ drop (length row) (drop (place * w) v.items)) → vec_capacity new ≡ vec_capacity v
     → IsPartlyWritten rows w ((place + 1) % rows) new
-pushed rows w place v new row is e items room =
+pushed rows w place v new row is le e items room =
     let xs = with_unwritten (rows * w) v.items in
     record {
       ring = record {
@@ -179,57 +182,46 @@ pushed rows w place v new row is e items room =
         some_sources = is.ring.some_sources;
         few_sources = is.ring.few_sources;
         whole = ap (λ (ys : List Cell). length (with_unwritten (rows * w) ys)) items
-            ∙ ap length (pushed_cells rows w place v row is e)
+            ∙ ap length (pushed_cells rows w place v row is le e)
             ∙ length-with_cells w place xs row (ring_fits rows w place place xs is.ring is.ring.place_within) e
             ∙ is.ring.whole;
         place_within = mod_below (place + 1) rows is.ring.some_rows;
       };
-      ends = pushed_ends rows w place v new row is e items room;
+      room = subst (λ (n : ℕ). rows * w ≤ n) (sym room) is.room;
+      ends = subst (AreWhole w) (sym items) (pushed_ends w place v.items row is.ends le e);
     }
 
 -- all of it is written
 pub wholly : (rows w place : ℕ) (v : Vec Cell Global) → IsRing rows w place v.items → IsPartlyWritten rows w place v
 wholly rows w place v is = record {
   ring = subst (λ (ys : List Cell). IsRing rows w place ys) (sym (all_written (rows * w) v.items is.whole)) is;
-  ends = inl (v.ok.0 ∙ is.whole);
+  room = let within : vec_len v ≤ vec_capacity v = v.ok.1 in omega (arith, within, v.ok.0, is.whole);
+  ends = record { count = rows; whole = is.whole };
 }
 
 -- ---- what isn't written
 
--- so many rows are: all, or those before the oldest one's place
+-- so many of the newest rows are written: those before the oldest one's place where what is written ends there, else it
+-- can be all
 abbrev pub AreWritten : ℕ → ℕ → ℕ → ℕ → ℕ → Type 0
-AreWritten rows w place len written = (rows * w ≤ len → written ≡ rows) × (len < rows * w → written ≡ place)
+AreWritten rows w place len written = (len ≡ place * w → written ≡ place) × ((len ≡ place * w → ⊥) → written ≡ rows)
 
-either : (rows w place written : ℕ) (v : Vec Cell Global) → IsPartlyWritten rows w place v → AreWritten rows w place (vec_len v) written
-    → ((written ≡ rows) × (length v.items ≡ rows * w)) ⊎ ((written ≡ place) × (length v.items ≡ place * w))
-either rows w place written v is are =
+same_or_not : (a b : ℕ) → (a ≡ b) ⊎ (a ≡ b → ⊥)
+same_or_not a b = ⊎_elim (λ (lt : a < b). inr (λ (e : a ≡ b). absurd (omega (arith, lt, e))))
+    (λ (le : b ≤ a). ⊎_elim (λ (gt : b < a). inr (λ (e : a ≡ b). absurd (omega (arith, gt, e)))) (λ (ge : a ≤ b). inl (omega (arith, le, ge))) (cases_lt b a))
+    (cases_lt a b)
+
+either : (rows w place written : ℕ) (v : Vec Cell Global) → AreWritten rows w place (vec_len v) written → (written ≡ rows) ⊎ ((written ≡ place) × (length v.items ≡ place * w))
+either rows w place written v are =
     let len = v.ok.0 in
-    ⊎_elim (λ (full : vec_len v ≡ rows * w). inl (are.0 (omega (arith, full)), omega (arith, len, full)))
-    (λ part.
-    let ending : vec_len v ≡ place * w = part.0 in
-    let within : place < rows = is.ring.place_within in
-    let some : 0 < w = is.ring.some_sources in
-    let fits = row_fits place w rows w within (omega arith) in
-    inr (are.1 (omega (arith, ending, fits)), omega (arith, len, ending)))
-    is.ends
+    ⊎_elim (λ (ending : vec_len v ≡ place * w). inr (are.0 ending, omega (arith, len, ending)))
+    (λ (not : vec_len v ≡ place * w → ⊥). inl (are.1 not))
+    (same_or_not (vec_len v) (place * w))
 
 pub are_few : (rows w place written : ℕ) (v : Vec Cell Global) → IsPartlyWritten rows w place v → AreWritten rows w place (vec_len v) written → written ≤ rows
 are_few rows w place written v is are =
     let within : place < rows = is.ring.place_within in
-    ⊎_elim (λ full. omega (arith, full.0)) (λ part. omega (arith, part.0)) (either rows w place written v is are)
-
--- the newest of them begin within what is written
-pub newest_within : (rows w place written kept : ℕ) (v : Vec Cell Global) → IsPartlyWritten rows w place v → AreWritten rows w place (vec_len v) written → kept ≤ written
-    → ((place + (rows - kept)) % rows) * w ≤ length v.items
-newest_within rows w place written kept v is are few =
-    let within : place < rows = is.ring.place_within in
-    let at = (place + (rows - kept)) % rows in
-    ⊎_elim (λ full. omega (arith, full.1, cells_le at rows w (let below : at < rows = mod_below (place + (rows - kept)) rows is.ring.some_rows in omega arith)))
-    (λ part.
-    let written_is : written ≡ place = part.0 in
-    let before : at ≡ place - kept = mod_wrapped (place + (rows - kept)) rows (omega arith) (omega arith) ∙ (let less : place + (rows - kept) - rows ≡ place - kept = omega arith in less) in
-    omega (arith, part.1, ap (λ (n : ℕ). n * w) before, cells_le (place - kept) place w (omega arith)))
-    (either rows w place written v is are)
+    ⊎_elim (λ (all : written ≡ rows). omega (arith, all)) (λ (part : (written ≡ place) × (length v.items ≡ place * w)). omega (arith, part.0)) (either rows w place written v are)
 
 -- the others are the oldest, and unknown
 pub unwritten_rows : (rows w place written : ℕ) (v : Vec Cell Global) → IsPartlyWritten rows w place v → AreWritten rows w place (vec_len v) written
@@ -239,10 +231,10 @@ unwritten_rows rows w place written v is are =
     let all = rows * w in
     let rest = replicate (all - length xs) Unknown in
     let ring = ring_rows rows w place (with_unwritten all xs) in
-    ⊎_elim (λ full.
-    let none : rows - written ≡ 0 = omega (arith, full.0) in
+    ⊎_elim (λ (full : written ≡ rows).
+    let none : rows - written ≡ 0 = omega (arith, full) in
     ap (λ (k : ℕ). take k ring) none ∙ sym (ap (λ (k : ℕ). unknown_rows k w) none))
-    (λ part.
+    (λ (part : (written ≡ place) × (length xs ≡ place * w)).
     let n = rows - written in
     let within : place < rows = is.ring.place_within in
     let there : written ≡ place = part.0 in
@@ -255,7 +247,7 @@ unwritten_rows rows w place written v is are =
     ∙ ap (λ (zs : List Cell). rows_of n w (take (n * w) zs)) turned
     ∙ ap (rows_of n w) (take_at rest xs (n * w) (length-replicate (all - length xs) Unknown ∙ left) ∙ ap (λ (k : ℕ). replicate k Unknown) left)
     ∙ rows_of_unknown n w)
-    (either rows w place written v is are)
+    (either rows w place written v are)
 
 -- the newest rows, where the oldest of them are unknown: as many as there are of the others, after unknown ones
 pub newest_of_known : (n known w : ℕ) (rows : List (List Cell)) → known ≤ length rows → width rows ≡ w → take (length rows - known) rows ≡ unknown_rows (length rows - known) w
@@ -296,30 +288,52 @@ take_parts (suc n) (x ∷ xs) ys =
     let less : n - length xs ≡ suc n - length (x ∷ xs) = omega arith in
     ap (λ (zs : List Cell). x ∷ zs) (take_parts n xs ys ∙ ap (λ (k : ℕ). take n xs ++ take k ys) less)
 
--- the written cells before the end, those that aren't written, and those that are left from the front
-pub copied_pieces : (all s count f u : ℕ) (xs : List Cell) → s ≤ length xs → length xs ≤ all → count ≤ all → f ≡ min count (length xs - s) → u ≡ min (count - f) (all - length xs)
-    → take f (drop s xs) ++ (replicate u Unknown ++ take (count - f - u) xs) ≡ take count (from_place s (with_unwritten all xs))
-copied_pieces all s count f u xs hs fits few first between =
-    let back = drop s xs in
-    let front = take s xs in
+-- those that are written, and unknown ones for the others
+pub part_copied : (all s n : ℕ) (xs : List Cell) → length xs ≤ all → s + n ≤ all
+    → take (min n (length xs - min s (length xs))) (drop (min s (length xs)) xs) ++ replicate (n - min n (length xs - min s (length xs))) Unknown ≡ take n (drop s (with_unwritten all xs))
+part_copied all s n xs fits h =
     let rest = replicate (all - length xs) Unknown in
+    ⊎_elim (λ (past : length xs < s).
+    let first : min s (length xs) ≡ length xs = omega arith in
+    let none : min n (length xs - length xs) ≡ 0 = omega arith in
+    let more = s - length xs in
+    let sum : length xs + more ≡ s = omega arith in
+    let later : drop s (xs ++ rest) ≡ replicate (all - length xs - more) Unknown =
+    ap (λ (k : ℕ). drop k (xs ++ rest)) (sym sum) ∙ sym (drop-drop more (length xs) (xs ++ rest)) ∙ ap (drop more) (drop_at xs rest (length xs) refl) ∙ drop-replicate more (all - length xs) Unknown in
+    ap (λ (f : ℕ). take (min n (length xs - f)) (drop f xs) ++ replicate (n - min n (length xs - f)) Unknown) first
+    ∙ ap (λ (k : ℕ). take k (drop (length xs) xs) ++ replicate (n - k) Unknown) none
+    ∙ ap (λ (k : ℕ). replicate k Unknown) (let every : n - 0 ≡ n = omega arith in every)
+    ∙ sym (ap (take n) later ∙ take-replicate n (all - length xs - more) Unknown (omega arith)))
+    (λ (within : s ≤ length xs).
+    let first : min s (length xs) ≡ s = omega arith in
+    let back = drop s xs in
     let lb : length back ≡ length xs - s = length-drop s xs in
-    let lr : length rest ≡ all - length xs = length-replicate (all - length xs) Unknown in
-    let left = count - length back in
-    let g = left - length rest in
-    let same_left : count - f ≡ left = omega (arith, first, lb) in
-    let same_g : count - f - u ≡ g = omega (arith, first, between, lb, lr) in
-    let one : take count back ≡ take f back = sym (ap (λ (k : ℕ). take k back) (first ∙ ap (min count) (sym lb)) ∙ take_min count back) in
-    let two : take left rest ≡ replicate u Unknown =
-    sym (take_min left rest)
-    ∙ ap (λ (k : ℕ). take k rest) (ap (min left) lr ∙ ap (λ (k : ℕ). min k (all - length xs)) (sym same_left) ∙ sym between)
-    ∙ take-replicate u (all - length xs) Unknown (omega (arith, between)) in
-    let three : take g front ≡ take g xs = take-take g s xs (omega (arith, lb, lr)) in
-    sym (ap (λ (zs : List Cell). take count (zs ++ take s (xs ++ rest))) (drop-append-le s xs rest hs)
-    ∙ ap (λ (zs : List Cell). take count ((back ++ rest) ++ zs)) (take-append-le s xs rest hs)
-    ∙ ap (take count) (append_assoc back rest front)
-    ∙ take_parts count back (rest ++ front)
-    ∙ ap (λ (zs : List Cell). take count back ++ zs) (take_parts left rest front)
-    ∙ ap (λ (zs : List Cell). zs ++ (take left rest ++ take g front)) one
-    ∙ ap (λ (zs : List Cell). take f back ++ (zs ++ take g front)) two
-    ∙ ap (λ (zs : List Cell). take f back ++ (replicate u Unknown ++ zs)) (three ∙ ap (λ (k : ℕ). take k xs) (sym same_g)))
+    let left : n - min n (length xs - s) ≡ n - length back = omega (arith, lb) in
+    ap (λ (f : ℕ). take (min n (length xs - f)) (drop f xs) ++ replicate (n - min n (length xs - f)) Unknown) first
+    ∙ ap (λ (k : ℕ). take (min n k) back ++ replicate (n - min n (length xs - s)) Unknown) (sym lb)
+    ∙ ap (λ (zs : List Cell). zs ++ replicate (n - min n (length xs - s)) Unknown) (take_min n back)
+    ∙ ap (λ (k : ℕ). take n back ++ replicate k Unknown) left
+    ∙ sym (ap (take n) (drop-append-le s xs rest within)
+    ∙ take_parts n back rest
+    ∙ ap (λ (zs : List Cell). take n back ++ zs) (take-replicate (n - length back) (all - length xs) Unknown (omega (arith, lb)))))
+    (cases_lt (length xs) s)
+
+-- ---- rows that fell out
+
+pub filled_rows : (rows w k : ℕ) (v new : Vec Cell Global) → ArePartlyWritten rows w v → k ≤ rows → new.items ≡ with_unwritten (k * w) v.items → vec_capacity v ≤ vec_capacity new → ArePartlyWritten rows w new
+filled_rows rows w k v new are h items room =
+    let same : with_unwritten (rows * w) new.items ≡ with_unwritten (rows * w) v.items = ap (with_unwritten (rows * w)) items ∙ filled_further (rows * w) (k * w) v.items (cells_le k rows w h) in
+    let had : rows * w ≤ vec_capacity v = are.room in
+    record {
+      rows_are = subst (AreRows rows w) (sym same) are.rows_are;
+      room = omega (arith, had, room);
+      ends = subst (AreWhole w) (sym items) (whole_filled w k v.items are.ends);
+    }
+
+-- all of them are written
+pub wholly_rows : (rows w : ℕ) (v : Vec Cell Global) → AreRows rows w v.items → ArePartlyWritten rows w v
+wholly_rows rows w v are = record {
+  rows_are = subst (AreRows rows w) (sym (all_written (rows * w) v.items are.whole)) are;
+  room = let within : vec_len v ≤ vec_capacity v = v.ok.1 in omega (arith, within, v.ok.0, are.whole);
+  ends = record { count = rows; whole = are.whole };
+}

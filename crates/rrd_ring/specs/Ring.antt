@@ -1,5 +1,5 @@
 -- Glue: rows of cells in one vector, one row after another, and rings of such rows.
-use Rattle.std.specs.Prelude.{◌≡◌, ℕ, ◌+◌, ◌*◌, ◌-◌, ◌%◌, ◌<◌, ◌≤◌, ◌⊎◌, List, Vec, ◌++◌, length, take, drop, map, replicate, vec_len, vec_capacity}
+use Rattle.std.specs.Prelude.{◌≡◌, ℕ, ◌+◌, ◌*◌, ◌-◌, ◌%◌, ◌<◌, ◌≤◌, List, Vec, ◌++◌, length, take, drop, map, replicate, vec_capacity}
 use Rattle.std.specs.Global.{Global}
 use Rattle.std.specs.List.{range_with_len}
 use Rattle.rrd_fixed.specs.declared.cell.Cell.{Cell}
@@ -37,15 +37,25 @@ pub record IsRing (rows sources place : ℕ) (cells : List Cell) : Type 0 where
 abbrev pub with_unwritten : ℕ → List Cell → List Cell
 with_unwritten all written = written ++ replicate (all - length written) Unknown
 
--- such a ring, of which a front is written: all of it, or as far as the place of its oldest row, with room for the rest
+-- whole rows of so many cells each are written, so many of them
+pub record AreWhole (sources : ℕ) (written : List Cell) : Type 0 where
+  pub count : ℕ
+  pub whole : length written ≡ count * sources
+
+-- such a ring, of which whole rows at the front of its vector are written, with room for the rest
 pub record IsPartlyWritten (rows sources place : ℕ) (written : Vec Cell Global) : Type 0 where
   pub ring : IsRing rows sources place (with_unwritten (rows * sources) written.items)
-  pub ends :
-      (vec_len written ≡ rows * sources)
-      ⊎ ((vec_len written ≡ place * sources) × (rows * sources ≤ vec_capacity written))
+  pub room : rows * sources ≤ vec_capacity written
+  pub ends : AreWhole sources written.items
 
 -- rows of as many cells each, in one vector
 pub record AreRows (rows sources : ℕ) (cells : List Cell) : Type 0 where
   pub few_rows : rows ≤ most_rows
   pub few_sources : sources ≤ most_sources
   pub whole : length cells ≡ rows * sources
+
+-- such rows, of which whole ones at the front are written, with room for the rest
+pub record ArePartlyWritten (rows sources : ℕ) (written : Vec Cell Global) : Type 0 where
+  pub rows_are : AreRows rows sources (with_unwritten (rows * sources) written.items)
+  pub room : rows * sources ≤ vec_capacity written
+  pub ends : AreWhole sources written.items

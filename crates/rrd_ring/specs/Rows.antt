@@ -1,16 +1,22 @@
 -- Definition: rows of cells, oldest first.
-use Rattle.std.specs.Prelude.{◌≡◌, ℕ, ◌-◌, ◌<◌, ◌≤◌, List, [], ◌∷◌, ◌++◌, length, drop, replicate, slice_index_or, slice_set}
+use Rattle.std.specs.Prelude.{◌≡◌, ℕ, zero, suc, ◌+◌, ◌-◌, ◌*◌, ◌%◌, ◌<◌, ◌≤◌, List, [], ◌∷◌, ◌++◌, length, take, drop, replicate, slice_index_or, slice_set}
 use Rattle.std.specs.List.{AllByRecursion, refill}
 use Rattle.rrd_fixed.specs.declared.cell.Cell.{Cell}
 use Rattle.rrd_fixed.specs.declared.cell.Cell.TheVariants.{Unknown}
 
 -- the row with a number, counted from the oldest
-abbrev pub row_at : List (List Cell) → ℕ → List Cell
-row_at rows i = slice_index_or rows i []
+abbrev pub nth_row : List (List Cell) → ℕ → List Cell
+nth_row rows i = slice_index_or rows i []
 
 -- the rows with other cells in place of one row, which keeps its number of cells
 abbrev pub with_row : List (List Cell) → ℕ → List Cell → List (List Cell)
-with_row rows i cells = slice_set rows i (refill (length (row_at rows i)) (row_at rows i) cells)
+with_row rows i cells = slice_set rows i (refill (length (nth_row rows i)) (nth_row rows i) cells)
+
+-- so many rows that come as one list of cells, in place of those from one on, and on from the oldest
+abbrev pub with_rows : ℕ → ℕ → List (List Cell) → ℕ → List Cell → List (List Cell)
+with_rows zero sources rows i cells = rows
+with_rows (suc n) sources rows i cells =
+    slice_set (with_rows n sources rows i cells) ((i + n) % length rows) (take sources (drop (n * sources) cells))
 
 -- how many cells the oldest row has
 abbrev pub width : List (List Cell) → ℕ

@@ -1,13 +1,13 @@
 //! Archives of consolidated rows.
-ghost use Rattle.std.specs.Prelude.{◌≡◌, ◌+◌, ◌-◌, ◌<◌, ◌≤◌, ◌^◌, List, [], ◌∷◌, ◌++◌, length, take, drop, slice_set, IfOk};
+ghost use Rattle.std.specs.Prelude.{◌≡◌, ◌+◌, ◌-◌, ◌<◌, ◌≤◌, ◌^◌, ◌*◌, List, [], ◌∷◌, ◌++◌, length, take, drop, slice_set, IfOk};
 ghost use Rattle.std.specs.Borrow.{sem};
 ghost use Rattle.rrd_fixed.specs.declared.cell.Cell.{Cell};
-ghost use Rattle.rrd_ring.specs.Rows.{row_at, width, HasWidth, with_row, unknown_rows, newest_rows, most_rows, most_sources};
+ghost use Rattle.rrd_ring.specs.Rows.{nth_row, width, HasWidth, with_row, with_rows, unknown_rows, newest_rows, most_rows, most_sources};
 
 use crate::dropped::Dropped;
 use crate::ring::{
-    cells_of, fill_up, push_from, put_row, row_from, row_mut, rows_written, unknown_cells, wrap,
-    write_from,
+    cells_of, fill_up, push_from, put_cells, put_row, row_from, row_mut, rows_written,
+    unknown_cells, wrap, write_from,
 };
 use rrd_fixed::{Cell, Meter};
 use std::alloc::{AllocError, Global};
@@ -20,12 +20,11 @@ use std::mem;
 pub struct Archive {
     // The cells of the rows, one row after another, as far as they were written: the others are unknown.
     // There is room for all of them from the start on, so that no row takes memory later, and what isn't
-    // written costs no time.
+    // written costs no time and touches no memory.
     cells: Vec<Cell>,
     rows: usize,
     sources: usize,
     // The place of the oldest row among the vector's rows, which go on from the last to the first.
-    // Until all are written, it is the place after the last one that is.
     oldest: usize,
 }
 
@@ -54,14 +53,30 @@ impl Archive {
         requires few_sources { sources ≤ most_sources }
         ensures { IfOk result (λ archive. archive ≡ unknown_rows rows sources) }
     {
+        Archive::new_from(alloc, rows, sources, 0)
+    }
+
+    /// The same, for rows that are going to be written from row `first` on, counted from the oldest, to
+    /// the newest and then from the oldest on: each touches no more memory than its own.
+    pub fn new_from(
+        alloc: Global,
+        rows: u64,
+        sources: u64,
+        first: u64,
+    ) -> Result<Archive, AllocError>
+        requires few_rows { rows ≤ most_rows }
+        requires some_sources { 0 < sources }
+        requires few_sources { sources ≤ most_sources }
+        requires there { first < rows }
+        ensures { IfOk result (λ archive. archive ≡ unknown_rows rows sources) }
+    {
         let (rows, sources) = (rows as usize, sources as usize);
-        let count = cells_of(rows, sources);
-        let cells = Vec::with_capacity(alloc, count)?;
+        let cells = Vec::with_capacity(alloc, cells_of(rows, sources))?;
         Ok(Archive {
             cells,
             rows,
             sources,
-            oldest: 0,
+            oldest: wrap(rows - first as usize, rows),
         })
     }
 
@@ -96,7 +111,7 @@ impl Archive {
     /// The cells of row `i`, counted from the oldest.
     pub fn row(&self, i: u64) -> &[Cell]
         requires { i < length self.now }
-        ensures { result.now ≡ row_at self.now i }
+        ensures { result.now ≡ nth_row self.now i }
     {
         let place = wrap(self.oldest + i as usize, self.rows);
         let start = cells_of(place, self.sources);
@@ -108,14 +123,29 @@ impl Archive {
     pub fn row_mut(&mut self, i: u64) -> &mut [Cell]
         requires { i < length self.old }
         ensures* writes_back { sem 𝓛 (LendsRow self.entry i result) }
-        ensures value { result.now ≡ row_at self.old i }
-        ensures same_width { (cells : List Cell) → length cells ≡ length (row_at self.old i)
+        ensures value { result.now ≡ nth_row self.old i }
+        ensures same_width { (cells : List Cell) → length cells ≡ length (nth_row self.old i)
             → with_row self.old i cells ≡ slice_set self.old i cells }
     {
         let place = wrap(self.oldest + i as usize, self.rows);
         let start = cells_of(place, self.sources);
-        fill_up(&mut self.cells, cells_of(self.rows, self.sources));
+        fill_up(&mut self.cells, start + self.sources);
         row_mut(&mut self.cells, start, start + self.sources)
+    }
+
+    /// Writes `count` rows, at most as many as there are, from row `i` on, counted from the oldest, to the
+    /// newest and then from the oldest on: `cells` has theirs, one row after another. It takes no memory.
+    pub fn put_rows(&mut self, i: u64, count: u64, cells: &[Cell])
+        requires there { i < length self.old }
+        requires few { count ≤ length self.old }
+        requires one_each { length cells.now ≡ count * width self.old }
+        ensures { self.new ≡ with_rows count (width self.old) self.old i cells.now }
+    {
+        let place = wrap(self.oldest + i as usize, self.rows);
+        let first = (self.rows - place).min(count as usize);
+        let (front, rest) = cells.split_at(cells_of(first, self.sources));
+        put_cells(&mut self.cells, cells_of(place, self.sources), front);
+        put_cells(&mut self.cells, 0, rest);
     }
 
     /// Drops the oldest row, and takes `cells`, one for each data source, as the newest. Adds a turn
@@ -127,6 +157,8 @@ impl Archive {
         ensures turns { meter.new ≡ meter.old + length cells.now }
     {
         let start = cells_of(self.oldest, self.sources);
+        // What comes before it is written, but in an archive whose rows came from another one on.
+        fill_up(&mut self.cells, start);
         put_row(&mut self.cells, start, cells, meter);
         self.oldest = wrap(self.oldest + 1, self.rows);
     }
@@ -157,10 +189,16 @@ impl Archive {
         requires one_width { HasWidth (width self.old) dropped }
         ensures { self.new ≡ dropped ++ take (length self.old - length dropped) self.old }
     {
+        let Dropped {
+            cells: mut old,
+            rows,
+            sources,
+        } = dropped;
+        fill_up(&mut old, cells_of(rows, sources));
         fill_up(&mut self.cells, cells_of(self.rows, self.sources));
-        self.oldest = wrap(self.oldest + (self.rows - dropped.rows), self.rows);
+        self.oldest = wrap(self.oldest + (self.rows - rows), self.rows);
         let start = cells_of(self.oldest, self.sources);
-        write_from(&mut self.cells, start, &dropped.cells);
+        write_from(&mut self.cells, start, &old);
     }
 
     /// The same archive with `rows` rows (1 to 1,000,000): the newest of them, or all of them after

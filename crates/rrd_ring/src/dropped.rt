@@ -2,9 +2,9 @@
 ghost use Rattle.std.specs.Prelude.{◌≡◌, ◌<◌, ◌≤◌, List, length, slice_set, IfOk};
 ghost use Rattle.std.specs.Borrow.{sem};
 ghost use Rattle.rrd_fixed.specs.declared.cell.Cell.{Cell};
-ghost use Rattle.rrd_ring.specs.Rows.{row_at, width, HasWidth, with_row, unknown_rows, most_rows, most_sources};
+ghost use Rattle.rrd_ring.specs.Rows.{nth_row, width, HasWidth, with_row, unknown_rows, most_rows, most_sources};
 
-use crate::ring::{cells_of, row_mut, unknown_cells};
+use crate::ring::{cells_of, fill_up, row_from, row_mut};
 use rrd_fixed::Cell;
 use std::alloc::{AllocError, Global};
 use std::marker::Model;
@@ -13,7 +13,8 @@ use std::marker::Model;
 /// unknown). Contracts see the list of the rows, oldest first.
 #[derive(Debug, Drop)]
 pub struct Dropped {
-    // The cells of the rows, one row after another.
+    // The cells of the rows, one row after another, as far as they were written: the others are unknown.
+    // There is room for all of them from the start on.
     pub(crate) cells: Vec<Cell>,
     pub(crate) rows: usize,
     pub(crate) sources: usize,
@@ -22,13 +23,14 @@ pub struct Dropped {
 impl Model for Dropped {
     ghost use Rattle.std.specs.Prelude.{List};
     ghost use Rattle.rrd_fixed.specs.declared.cell.Cell.{Cell};
-    ghost use Rattle.rrd_ring.specs.Ring.{rows_of, AreRows};
+    ghost use Rattle.std.specs.Prelude.{◌*◌};
+    ghost use Rattle.rrd_ring.specs.Ring.{rows_of, with_unwritten, ArePartlyWritten};
 
     ghost Value = { List (List Cell) };
 
-    ghost view = { λ a. rows_of a.rows a.sources a.cells.items };
+    ghost view = { λ a. rows_of a.rows a.sources (with_unwritten (a.rows * a.sources) a.cells.items) };
 
-    ghost invariant = { λ a. AreRows a.rows a.sources a.cells.items };
+    ghost invariant = { λ a. ArePartlyWritten a.rows a.sources a.cells };
 }
 
 impl Dropped {
@@ -43,8 +45,7 @@ impl Dropped {
         ensures { IfOk result (λ dropped. dropped ≡ unknown_rows rows sources) }
     {
         let (rows, sources) = (rows as usize, sources as usize);
-        let count = cells_of(rows, sources);
-        let cells = unknown_cells(alloc, count, count)?;
+        let cells = Vec::with_capacity(alloc, cells_of(rows, sources))?;
         Ok(Dropped {
             cells,
             rows,
@@ -64,10 +65,10 @@ impl Dropped {
     /// The cells of row `i`, counted from the oldest.
     pub fn row(&self, i: u64) -> &[Cell]
         requires { i < length self.now }
-        ensures { result.now ≡ row_at self.now i }
+        ensures { result.now ≡ nth_row self.now i }
     {
         let start = cells_of(i as usize, self.sources);
-        &self.cells[start..start + self.sources]
+        row_from(&self.cells, start, self.sources)
     }
 
     /// The cells of row `i`, counted from the oldest, to be written. The list ends with what was
@@ -75,11 +76,12 @@ impl Dropped {
     pub fn row_mut(&mut self, i: u64) -> &mut [Cell]
         requires { i < length self.old }
         ensures* writes_back { sem 𝓛 (LendsDropped self.entry i result) }
-        ensures value { result.now ≡ row_at self.old i }
-        ensures same_width { (cells : List Cell) → length cells ≡ length (row_at self.old i)
+        ensures value { result.now ≡ nth_row self.old i }
+        ensures same_width { (cells : List Cell) → length cells ≡ length (nth_row self.old i)
             → with_row self.old i cells ≡ slice_set self.old i cells }
     {
         let start = cells_of(i as usize, self.sources);
+        fill_up(&mut self.cells, start + self.sources);
         row_mut(&mut self.cells, start, start + self.sources)
     }
 }

@@ -45,15 +45,16 @@ pub(crate) fn unknown_cells(
     Ok(cells)
 }
 
-// How many rows are written of a ring of so many, where so many cells are: all, or those before the
-// oldest one's place.
+// How many of the newest rows are written of a ring of so many, where so many cells are: those before the
+// oldest one's place where what is written ends there. Else it can be all of them.
 pub(crate) fn rows_written(cells: usize, rows: usize, sources: usize, oldest: usize) -> usize
     requires few_rows { rows ≤ most_rows }
     requires few_sources { sources ≤ most_sources }
-    ensures all { rows * sources ≤ cells → result ≡ rows }
-    ensures part { cells < rows * sources → result ≡ oldest }
+    requires within { oldest < rows }
+    ensures part { cells ≡ oldest * sources → result ≡ oldest }
+    ensures all { (cells ≡ oldest * sources → ⊥) → result ≡ rows }
 {
-    if cells < cells_of(rows, sources) {
+    if cells == cells_of(oldest, sources) {
         return oldest;
     }
     rows
@@ -72,8 +73,28 @@ pub(crate) fn row_from(cells: &[Cell], start: usize, sources: usize) -> &[Cell]
     &UNWRITTEN[..sources]
 }
 
+// Adds copies of `count` cells of a ring's vector from the one at `start` on: those that are written, and
+// unknown ones for the others.
+fn push_part(
+    copies: &mut Vec<Cell>,
+    ring: &[Cell],
+    start: usize,
+    count: usize,
+) -> Result<(), AllocError>
+    requires few { count ≤ most_rows * most_sources }
+    requires short { vec_len copies.old ≤ 2 * most_rows * most_sources }
+    ensures { (all : ℕ) → length ring.now ≤ all → start + count ≤ all → OnOk result (copies.new.items
+        ≡ copies.old.items ++ take count (drop start (with_unwritten all ring.now))) }
+{
+    let first = start.min(ring.len());
+    let written = count.min(ring.len() - first);
+    copies.extend_from_slice(&ring[first..first + written])?;
+    copies.resize(copies.len() + (count - written), Cell::Unknown)?;
+    Ok(())
+}
+
 // Adds copies of `count` cells of a ring of `all` cells, of which the first are written, from the one
-// at `start` on: at most two pieces of its vector, and those between them that aren't written.
+// at `start` on: at most two pieces of its vector.
 pub(crate) fn push_from(
     copies: &mut Vec<Cell>,
     ring: &[Cell],
@@ -81,7 +102,7 @@ pub(crate) fn push_from(
     start: usize,
     count: usize,
 ) -> Result<(), AllocError>
-    requires within { start ≤ length ring.now }
+    requires within { start ≤ all }
     requires written { length ring.now ≤ all }
     requires few { count ≤ all }
     requires small { all ≤ most_rows * most_sources }
@@ -89,24 +110,39 @@ pub(crate) fn push_from(
     ensures { OnOk result (copies.new.items
         ≡ copies.old.items ++ take count (from_place start (with_unwritten all ring.now))) }
 {
-    let first = count.min(ring.len() - start);
-    let unwritten = (count - first).min(all - ring.len());
-    copies.extend_from_slice(&ring[start..start + first])?;
-    copies.resize(copies.len() + unwritten, Cell::Unknown)?;
-    copies.extend_from_slice(&ring[..count - first - unwritten])?;
+    let first = count.min(all - start);
+    push_part(copies, ring, start, first)?;
+    push_part(copies, ring, 0, count - first)?;
     Ok(())
 }
 
-// Writes the cells up to `all` that aren't written yet. It takes no memory.
-pub(crate) fn fill_up(cells: &mut Vec<Cell>, all: usize)
-    requires room { all ≤ vec_capacity cells.old }
-    requires few { vec_len cells.old ≤ all }
-    ensures items { cells.new.items ≡ with_unwritten all cells.old.items }
-    ensures len { vec_len cells.new ≡ all }
+// Writes unknown cells behind those that are written, so that there are at least `end`. It takes no
+// memory.
+pub(crate) fn fill_up(cells: &mut Vec<Cell>, end: usize)
+    requires { end ≤ vec_capacity cells.old }
+    ensures items { cells.new.items ≡ with_unwritten end cells.old.items }
+    ensures capacity { vec_capacity cells.old ≤ vec_capacity cells.new }
 {
-    if cells.len() < all {
-        let _has_room = cells.resize(all, Cell::Unknown);
+    if cells.len() < end {
+        let _has_room = cells.resize(end, Cell::Unknown);
     }
+}
+
+// Writes `part` into a ring's vector from the one at `start` on. It takes no memory.
+pub(crate) fn put_cells(cells: &mut Vec<Cell>, start: usize, part: &[Cell])
+    requires { start + length part.now ≤ vec_capacity cells.old }
+    ensures items { let filled = with_unwritten (start + length part.now) cells.old.items in
+        cells.new.items ≡ take start filled ++ (part.now ++ drop (length part.now) (drop start filled)) }
+    ensures capacity { vec_capacity cells.old ≤ vec_capacity cells.new }
+{
+    if start == cells.len() {
+        // Cells that come one after another are written once.
+        let _has_room = cells.extend_from_slice(part);
+        return;
+    }
+    let end = start + part.len();
+    fill_up(cells, end);
+    cells[start..end].copy_from_slice(part);
 }
 
 // Writes `cells` into a ring from the one at `start` on: at most two pieces of its vector.

@@ -8,7 +8,7 @@ use Rattle.rrd_fixed.specs.declared.raw.Raw.{Raw}
 use Rattle.rrd_fixed.specs.declared.name.Name.{Name}
 use Rattle.rrd_spec.specs.declared.settings.DsDef.{DsDef}
 use Rattle.rrd_spec.specs.History.{Content, Sampled, Tuned, Moment, moment_after, moment_of, moment_at_end, raws_under, IsHistory}
-use Rattle.rrd_spec.specs.Commands.{Command, Updating, TuningBy, Resizing, archive_event, settings_of, sample_of, tuned, rows_changed, events}
+use Rattle.rrd_spec.specs.Commands.{DatabaseChange, Updating, TuningBy, Resizing, archive_event, settings_of, sample_of, tuned, rows_changed, events}
 use Rattle.rrd_spec.specs.Settings.{Settings, names}
 use Rattle.std.specs.Option.{option_map_or}
 use Rattle.rrd_spec.specs.declared.settings.RraDef.{RraDef}
@@ -34,7 +34,7 @@ pub all_pass : (list : List Check) → first_refusal list ≡ None → AllByRecu
 all_pass [] h = tt
 all_pass (check ∷ list) h = let this = by_case check.wrong check.refusal (first_refusal list) h in (this.0, all_pass list this.1)
 
-pub accepted_passes : (base : Content) (command : Command) → verdict base command ≡ None → AllByRecursion Passes (checks present base command)
+pub accepted_passes : (base : Content) (command : DatabaseChange) → verdict base command ≡ None → AllByRecursion Passes (checks present base command)
 unfolding verdict_within
 accepted_passes base command h = all_pass (checks present base command) h
 
@@ -60,7 +60,7 @@ archive_history settings now sources (Some (Remove number)) e p = tt
 pub tune_passes : (base : Content) (tuning : Tuning) (archive : Option ArchiveTune) → tuning.archive ≡ archive → verdict base (TuningBy tuning) ≡ None → AllByRecursion Passes (archive_tune_checks present (settings_of base) archive)
 tune_passes base tuning archive e h = subst (λ a. AllByRecursion Passes (archive_tune_checks present (settings_of base) a)) e (accepted_passes base (TuningBy tuning) h).1.1.1.1.1.1.1
 
-pub accepted_history : (base : Content) (command : Command) → verdict base command ≡ None → IsHistory (moment_of base) (events (settings_of base) command)
+pub accepted_history : (base : Content) (command : DatabaseChange) → verdict base command ≡ None → IsHistory (moment_of base) (events (settings_of base) command)
 accepted_history base (Updating update) h =
     readings_rise base.sources (unwrap_or update.template (names base.sources)) (moment_of base) update.samples (accepted_passes base (Updating update) h).1.1.1
 accepted_history base (TuningBy tuning) h =
@@ -82,7 +82,7 @@ readings_raws sources template now [] same each = each ∙ ap length (sym same)
 readings_raws sources template now (reading ∷ readings) same each =
     readings_raws sources template (moment_after now (Sampled (sample_of sources template reading))) readings same (length-map sources _)
 
-pub command_raws : (base : Content) (command : Command) → length base.raws ≡ length base.sources → let end = moment_at_end base (events (settings_of base) command) in length end.raws ≡ length end.sources
+pub command_raws : (base : Content) (command : DatabaseChange) → length base.raws ≡ length base.sources → let end = moment_at_end base (events (settings_of base) command) in length end.raws ≡ length end.sources
 command_raws base (Updating update) each = readings_raws base.sources (unwrap_or update.template (names base.sources)) (moment_of base) update.samples refl each
 command_raws base (TuningBy tuning) each = by_archive tuning.archive (length-raws_under base.sources (map (tuned tuning) base.sources) base.raws ∙ each ∙ sym (length-map base.sources (tuned tuning))) where
   by_archive : (archive : Option ArchiveTune) → length (raws_under base.sources (map (tuned tuning) base.sources) base.raws) ≡ length (map (tuned tuning) base.sources) → let end = moment_at_end base (option_map_or archive_event archive (Tuned (map (tuned tuning) base.sources)) ∷ []) in length end.raws ≡ length end.sources

@@ -11,7 +11,7 @@ use Rattle.rrd_spec.specs.declared.requests.tune.Tuning.{Tuning}
 use Rattle.rrd_spec.specs.declared.requests.tune.ArchiveTune.{ArchiveTune}
 use Rattle.rrd_spec.specs.declared.requests.tune.ArchiveTune.TheVariants.{Add, Remove}
 use Rattle.rrd_spec.specs.Limits.{Limits}
-use Rattle.rrd_spec.specs.History.{Archive, Content, Tuned, IsBase}
+use Rattle.rrd_spec.specs.History.{Rra, Content, Tuned, IsBase}
 use Rattle.rrd_spec.specs.History.Cells.{content}
 use Rattle.rrd_spec.specs.History.Lives.{new_archive}
 use Rattle.rrd_spec.specs.Commands.{TuningBy, archive_event, moved, rows_of_archives, settings_of, tuned}
@@ -65,10 +65,10 @@ sum-insert (r ∷ rows) zero row = omega (arith, sum_by-cons (λ x. x) row (r �
 sum-insert (r ∷ rows) (suc n) row =
     omega (arith, sum-insert rows n row, sum_by-cons (λ x. x) r rows, sum_by-cons (λ x. x) r (insert rows n row))
 
-row_count : Archive → ℕ
+row_count : Rra → ℕ
 row_count archive = archive.def.rows
 
-pub fewer_removed : (sources most : ℕ) (archives : List Archive) (n : ℕ) → sources * sum (rows_of_archives archives) ≤ most → sources * sum (rows_of_archives (remove archives n)) ≤ most
+pub fewer_removed : (sources most : ℕ) (archives : List Rra) (n : ℕ) → sources * sum (rows_of_archives archives) ≤ most → sources * sum (rows_of_archives (remove archives n)) ≤ most
 unfolding row_count
 fewer_removed sources most archives n h =
     let same : rows_of_archives (remove archives n) ≡ remove (rows_of_archives archives) n
@@ -78,7 +78,7 @@ fewer_removed sources most archives n h =
     let less : sum (rows_of_archives (remove archives n)) ≤ sum (rows_of_archives archives) = omega (arith, ap sum same, sum-removed (rows_of_archives archives) n) in
     omega (arith, h, mul-le sources (sum (rows_of_archives (remove archives n))) sources (sum (rows_of_archives archives)) (omega arith) less)
 
-pub fewer_taken : (sources most : ℕ) (archives : List Archive) (n : ℕ) → sources * sum (rows_of_archives archives) ≤ most → sources * sum (rows_of_archives (take n archives)) ≤ most
+pub fewer_taken : (sources most : ℕ) (archives : List Rra) (n : ℕ) → sources * sum (rows_of_archives archives) ≤ most → sources * sum (rows_of_archives (take n archives)) ≤ most
 unfolding row_count
 fewer_taken sources most archives n h =
     let same : rows_of_archives (take n archives) ≡ take n (rows_of_archives archives) = sym (take-map row_count n archives) in
@@ -87,7 +87,7 @@ fewer_taken sources most archives n h =
 
 -- ---- a content with other archives
 
-pub valid_with : (limits : Limits) (now : Content) (archives : List Archive) → IsValidWithin limits now → 0 < length archives → length archives ≤ limits.most_archives → length now.sources * sum (rows_of_archives archives) ≤ limits.most_cells → AllByRecursion (IsValidArchiveWithin limits (length now.sources) (now.last / now.step)) archives → IsValidWithin limits (record now { archives = archives })
+pub valid_with : (limits : Limits) (now : Content) (archives : List Rra) → IsValidWithin limits now → 0 < length archives → length archives ≤ limits.most_archives → length now.sources * sum (rows_of_archives archives) ≤ limits.most_cells → AllByRecursion (IsValidArchiveWithin limits (length now.sources) (now.last / now.step)) archives → IsValidWithin limits (record now { archives = archives })
 valid_with limits now archives is some few cells each = record {
   some_step = is.some_step;
   small_step = is.small_step;

@@ -12,7 +12,7 @@ use Rattle.std.proofs.lemmas.Nat.{mul-le, mul-lt, div-mul-add, mod-mul-add}
 use Rattle.rrd_fixed.specs.declared.cell.Cell.{Cell}
 use Rattle.rrd_spec.specs.History.Steps.{seconds_to_steps, steps_of}
 use Rattle.rrd_spec.specs.History.Rows.{steps_to_rows, steps_before, steps_for, rows_of, row, row_ending}
-use Rattle.rrd_spec.specs.History.{Archive, Content, Event, Sampled, Tuned, Resized, Added, Removed, Moment, moment_after, moment_of, moment_at_end, seconds_of, rows_after, IsHistory, IsBase}
+use Rattle.rrd_spec.specs.History.{Rra, Content, Event, Sampled, Tuned, Resized, Added, Removed, Moment, moment_after, moment_of, moment_at_end, seconds_of, rows_after, IsHistory, IsBase}
 use Rattle.rrd_spec.specs.Laws.ListedContent.{rows_never_lost, keep_last, filled_up}
 use Rattle.rrd_spec.specs.Laws.ListedLives.{archive_for, content_lived, kept_for, rows_for}
 use Rattle.rrd_spec.specs.Laws.Archives.{IsLived}
@@ -355,7 +355,7 @@ rows_are_by_time base es life some_step h alive =
 each_by_time : (base : Content) (es : List Event) (all : List Life) → 0 < base.step → IsHistory (moment_of base) es → AllByRecursion (LifeAt base (moment_at_end base es)) all → map (archive_for base es) all ≡ map (archive_by_time base es) all
 each_by_time base es [] some h is = refl
 each_by_time base es (life ∷ all) some h is =
-    ap (λ rows. let a : Archive = record (archive_for base es life) { rows = rows } in a ∷ map (archive_for base es) all) (rows_are_by_time base es life some h is.0)
+    ap (λ rows. let a : Rra = record (archive_for base es life) { rows = rows } in a ∷ map (archive_for base es) all) (rows_are_by_time base es life some h is.0)
     ∙ ap (λ rest. archive_by_time base es life ∷ rest) (each_by_time base es all some h is.1)
 
 pub is_lived : (base : Content) (es : List Event) → IsLived base es
@@ -364,7 +364,7 @@ is_lived base es is h = ap (λ archives. let x : Content = record (content base 
 
 -- ---- each archive of a content
 
-shown_is : (f : Life → Archive) (all : List Life) (index : ℕ) (life : Life) (shown : Archive) → slice_get all index ≡ Some life → slice_get (map f all) index ≡ Some shown → f life ≡ shown
+shown_is : (f : Life → Rra) (all : List Life) (index : ℕ) (life : Life) (shown : Rra) → slice_get all index ≡ Some life → slice_get (map f all) index ≡ Some shown → f life ≡ shown
 shown_is f [] index life shown h k = absurd cc
 shown_is f (first ∷ all) zero life shown h k =
     let here : first ≡ life = cc in
@@ -377,7 +377,7 @@ one_alive base now [] index life is h = absurd cc
 one_alive base now (first ∷ all) zero life is h = let here : first ≡ life = cc in subst (LifeAt base now) here is.0
 one_alive base now (first ∷ all) (suc index) life is h = one_alive base now all index life is.1 h
 
-shows_listed : (base : Content) (es : List Event) → IsBase base → IsHistory (moment_of base) es → (index : ℕ) (life : Life) (shown : Archive) → slice_get (lives base es) index ≡ Some life → slice_get (content_lived base es).archives index ≡ Some shown → (time : ℤ) → IsMultiple time (resolution base.step life.begun.def) → row_at (content_lived base es) shown time ≡ row_by_time base life es time
+shows_listed : (base : Content) (es : List Event) → IsBase base → IsHistory (moment_of base) es → (index : ℕ) (life : Life) (shown : Rra) → slice_get (lives base es) index ≡ Some life → slice_get (content_lived base es).archives index ≡ Some shown → (time : ℤ) → IsMultiple time (resolution base.step life.begun.def) → row_at (content_lived base es) shown time ≡ row_by_time base life es time
 unfolding content_lived
 shows_listed base es is h index life shown there then time multiple =
     let this = shown_is (archive_for base es) (lives base es) index life shown there then in
@@ -386,7 +386,7 @@ shows_listed base es is h index life shown there then time multiple =
 
 pub shows_by_time : (base : Content) (es : List Event) → ShowsByTime base es
 shows_by_time base es is h = subst
-    (λ (x : Content). (index : ℕ) (life : Life) (shown : Archive) → slice_get (lives base es) index ≡ Some life → slice_get x.archives index ≡ Some shown → (time : ℤ) → IsMultiple time (resolution base.step life.begun.def) → row_at x shown time ≡ row_by_time base life es time)
+    (λ (x : Content). (index : ℕ) (life : Life) (shown : Rra) → slice_get (lives base es) index ≡ Some life → slice_get x.archives index ≡ Some shown → (time : ℤ) → IsMultiple time (resolution base.step life.begun.def) → row_at x shown time ≡ row_by_time base life es time)
     (is_lived base es is h)
     (shows_listed base es is h)
 
@@ -399,7 +399,7 @@ finished_by_number rule begun_at begun items =
     let first = begun_at / rule.size in
     ap (λ n. map close_at (range_with_len first n)) (sym (length-map-range_with_len close_at first ((begun_at + length items) / rule.size - first)))
 
-pub lists_by_number : (base : Content) (archive : Archive) (events : List Event) → ListsByNumber base archive events
+pub lists_by_number : (base : Content) (archive : Rra) (events : List Event) → ListsByNumber base archive events
 unfolding steps_of rows_of
 lists_by_number base archive events = record {
   steps_are = finished_by_number (seconds_to_steps base.step (length base.sources)) base.last base.parts (seconds_of base events);

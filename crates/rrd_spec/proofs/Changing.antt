@@ -10,7 +10,7 @@ use Rattle.rrd_spec.specs.Laws.Commands.{ResizeChanges, ResizeFits, TuneChanges,
 use Rattle.rrd_spec.specs.Commands.{Resizing, rows_of_archives, tuned}
 use Rattle.rrd_spec.specs.Journal.Entries.{rows_at, with_rows_at}
 use Rattle.rrd_spec.specs.Lemmas.Validity.{base_of_valid, sound}
-use Rattle.rrd_spec.specs.History.{Archive, Content, Resized, Tuned, moment_of, IsArchive}
+use Rattle.rrd_spec.specs.History.{Rra, Content, Resized, Tuned, moment_of, IsArchive}
 use Rattle.rrd_spec.specs.History.Rows.{rows_of, row_parts_of}
 use Rattle.rrd_spec.specs.Laws.ListedContent.{rows_never_lost, keep_last, filled_up, kept_rows, archive_of}
 use Rattle.rrd_spec.specs.Commands.Verdict.{grows_too_far, is_bad_rows}
@@ -38,7 +38,7 @@ resize_fits base archive change rows is h =
     let old = get_or (rows_of_archives base.archives) archive 0 in
     let low = leb-false (length (rows_of_archives base.archives)) archive passes.0 in
     record {
-      there = omega (arith, low, length-map base.archives (λ (a : Archive). a.def.rows));
+      there = omega (arith, low, length-map base.archives (λ (a : Rra). a.def.rows));
       few_asked = ltb-false 1000000 rows (or_parts (eqb rows 0) (ltb 1000000 rows) (or_parts (is_bad_rows present rows) (grows_too_far present change old rows) passes.1.0).0).1;
       some_then = some_rows change old rows passes.1.0 passes.1.1.0;
       few_then = few_changed change old rows (few_rows_at (length base.sources) (base.last / base.step) archive base.archives is.archives_are) passes.1.0;
@@ -52,7 +52,7 @@ length-newest : (base : Content) (n : ℕ) (rows : List (List Cell)) → length 
 unfolding newest
 length-newest base n rows = length-filled_up n (replicate (length base.sources) Cell.Unknown) (keep_last n rows) (omega (arith, length-drop (length rows - n) rows))
 
-kept_resized : (base : Content) (at n index : ℕ) (archive : Archive) → at ≡ index → IsArchive archive → kept_rows base index archive (Resized at n ∷ []) ≡ newest base n archive.rows
+kept_resized : (base : Content) (at n index : ℕ) (archive : Rra) → at ≡ index → IsArchive archive → kept_rows base index archive (Resized at n ∷ []) ≡ newest base n archive.rows
 unfolding kept_rows newest
 kept_resized base at n index archive e is =
     let es = Resized at n ∷ [] in
@@ -70,10 +70,10 @@ kept_resized base at n index archive e is =
     ∙ ap (λ m. filled_up n nan (drop m rows)) cut
 
 -- the archive with these rows
-abbrev pub with_rows : Archive → List (List Cell) → Archive
+abbrev pub with_rows : Rra → List (List Cell) → Rra
 with_rows archive rows = record archive { def = record archive.def { rows = length rows }; rows = rows }
 
-resized_one : (base : Content) (at n index : ℕ) (archive : Archive) → at ≡ index → IsArchive archive → archive_of base (Resized at n ∷ []) (index, archive) ≡ with_rows archive (newest base n archive.rows)
+resized_one : (base : Content) (at n index : ℕ) (archive : Rra) → at ≡ index → IsArchive archive → archive_of base (Resized at n ∷ []) (index, archive) ≡ with_rows archive (newest base n archive.rows)
 unfolding made
 resized_one base at n index archive e is =
     let es = Resized at n ∷ [] in
@@ -83,7 +83,7 @@ resized_one base at n index archive e is =
     ∙ ap (made archive n archive.parts) (kept_resized base at n index archive e is)
     ∙ ap (λ m. made archive m archive.parts new) (sym (length-newest base n archive.rows))
 
-resized_at : (base : Content) (at n first k : ℕ) (archives : List Archive) → at ≡ first + k → k < length archives → AllByRecursion IsArchive archives → map (archive_of base (Resized at n ∷ [])) (enumerate_from first archives) ≡ with_rows_at archives k (newest base n (rows_at archives k))
+resized_at : (base : Content) (at n first k : ℕ) (archives : List Rra) → at ≡ first + k → k < length archives → AllByRecursion IsArchive archives → map (archive_of base (Resized at n ∷ [])) (enumerate_from first archives) ≡ with_rows_at archives k (newest base n (rows_at archives k))
 resized_at base at n first k [] e h is = absurd (omega arith)
 resized_at base at n first zero (archive ∷ archives) e h is =
     let one = resized_one base at n first archive (omega arith) is.0 in

@@ -7,7 +7,7 @@ use Rattle.std.specs.List.{fold, enumerate_from, AllByRecursion}
 use Rattle.rrd_fixed.specs.declared.cell.Cell.{Cell}
 use Rattle.rrd_fold.specs.Parts.{Part}
 use Rattle.rrd_spec.specs.History.Rows.{steps_to_rows, rows_of}
-use Rattle.rrd_spec.specs.History.{Archive, Content, Event, Sampled, Tuned, Resized, Added, Removed, Moment, moment_after, moment_of, moment_at_end, rows_after, IsHistory, IsArchive, IsBase}
+use Rattle.rrd_spec.specs.History.{Rra, Content, Event, Sampled, Tuned, Resized, Added, Removed, Moment, moment_after, moment_of, moment_at_end, rows_after, IsHistory, IsArchive, IsBase}
 use Rattle.rrd_spec.specs.History.Steps.{steps_of, parts_of}
 use Rattle.rrd_spec.specs.Laws.ListedContent.{rows_never_lost, keep_last, filled_up, kept_rows, archive_of, content_listed}
 use Rattle.rrd_spec.proofs.GroupLemmas.{length-finished, reached_before}
@@ -16,7 +16,7 @@ use Rattle.rrd_spec.proofs.RowLemmas.{rows_again, room_first, room_last, room-ap
 use Rattle.rrd_spec.specs.Lemmas.Lists.{length-keep_last}
 
 -- how many rows ended
-pub length-rows_of : (base : Content) (archive : Archive) (es : List Event) → 0 < base.step → 0 < archive.def.steps → IsHistory (moment_of base) es → base.last / (base.step * archive.def.steps) + length (rows_of base archive es) ≡ (moment_at_end base es).last / (base.step * archive.def.steps)
+pub length-rows_of : (base : Content) (archive : Rra) (es : List Event) → 0 < base.step → 0 < archive.def.steps → IsHistory (moment_of base) es → base.last / (base.step * archive.def.steps) + length (rows_of base archive es) ≡ (moment_at_end base es).last / (base.step * archive.def.steps)
 unfolding rows_of
 length-rows_of base archive es pos some h =
     let steps = archive.def.steps in
@@ -26,7 +26,7 @@ length-rows_of base archive es pos some h =
     omega (arith, reached_before before (length (steps_of base es)) steps some, div-div-eq-div-mul base.last base.step steps, div-div-eq-div-mul (moment_at_end base es).last base.step steps)
 
 -- an archive has as many rows as its settings say
-pub length-kept_rows : (base : Content) (index : ℕ) (archive : Archive) (es : List Event) → 0 < base.step → IsArchive archive → IsHistory (moment_of base) es → length (kept_rows base index archive es) ≡ fold (rows_after index) archive.def.rows es
+pub length-kept_rows : (base : Content) (index : ℕ) (archive : Rra) (es : List Event) → 0 < base.step → IsArchive archive → IsHistory (moment_of base) es → length (kept_rows base index archive es) ≡ fold (rows_after index) archive.def.rows es
 unfolding kept_rows
 length-kept_rows base index archive es pos is h =
     let res = base.step * archive.def.steps in
@@ -45,7 +45,7 @@ mul_positive a b h k = omega (arith, mul-lt 0 0 a b h k)
 pub div_rises : (m n size : ℕ) → 0 < size → m ≤ n → m / size ≤ n / size
 div_rises m n size pos h = omega (arith, reached_before m (n - m) size pos, ap (λ k. k / size) {x = m + (n - m)} {y = n} (omega arith))
 
-kept_rows-append : (base : Content) (index : ℕ) (archive : Archive) (es fs : List Event) → 0 < base.step → IsArchive archive → IsHistory (moment_of base) es → IsHistory (moment_at_end base es) fs → kept_rows base index archive (es ++ fs) ≡ kept_rows (content_listed base es) index (archive_of base es (index, archive)) fs
+kept_rows-append : (base : Content) (index : ℕ) (archive : Rra) (es fs : List Event) → 0 < base.step → IsArchive archive → IsHistory (moment_of base) es → IsHistory (moment_at_end base es) fs → kept_rows base index archive (es ++ fs) ≡ kept_rows (content_listed base es) index (archive_of base es (index, archive)) fs
 unfolding kept_rows content_listed
 kept_rows-append base index archive es fs pos is h k =
     let res = base.step * archive.def.steps in
@@ -81,21 +81,21 @@ kept_rows-append base index archive es fs pos is h k =
     ∙ rows_again rows_mid rows_end then later nan old new (omega (arith, is.rows_are)) (omega arith) (omega arith) (omega arith)
     ∙ ap (λ n. filled_up rows_end (replicate n Cell.Unknown) (keep_last later (kept_rows base index archive es ++ new))) (sym (length-sources now es h))
 
-archive_of-append : (base : Content) (index : ℕ) (archive : Archive) (es fs : List Event) → 0 < base.step → IsArchive archive → IsHistory (moment_of base) es → IsHistory (moment_at_end base es) fs → archive_of base (es ++ fs) (index, archive) ≡ archive_of (content_listed base es) fs (index, archive_of base es (index, archive))
+archive_of-append : (base : Content) (index : ℕ) (archive : Rra) (es fs : List Event) → 0 < base.step → IsArchive archive → IsHistory (moment_of base) es → IsHistory (moment_at_end base es) fs → archive_of base (es ++ fs) (index, archive) ≡ archive_of (content_listed base es) fs (index, archive_of base es (index, archive))
 archive_of-append base index archive es fs pos is h k =
     let one = fold-append (rows_after index) archive.def.rows es fs in
     let two = row_parts_of-append base index archive es fs pos is.some_steps h k in
     let three = kept_rows-append base index archive es fs pos is h k in
     cc
 
-archives-append : (base : Content) (es fs : List Event) (index : ℕ) (archives : List Archive) → 0 < base.step → AllByRecursion IsArchive archives → IsHistory (moment_of base) es → IsHistory (moment_at_end base es) fs → map (archive_of base (es ++ fs)) (enumerate_from index archives) ≡ map (archive_of (content_listed base es) fs) (enumerate_from index (map (archive_of base es) (enumerate_from index archives)))
+archives-append : (base : Content) (es fs : List Event) (index : ℕ) (archives : List Rra) → 0 < base.step → AllByRecursion IsArchive archives → IsHistory (moment_of base) es → IsHistory (moment_at_end base es) fs → map (archive_of base (es ++ fs)) (enumerate_from index archives) ≡ map (archive_of (content_listed base es) fs) (enumerate_from index (map (archive_of base es) (enumerate_from index archives)))
 archives-append base es fs index [] pos is h k = refl
 archives-append base es fs index (archive ∷ archives) pos is h k =
     let one = archive_of-append base index archive es fs pos is.0 h k in
     let rest = archives-append base es fs (index + 1) archives pos is.1 h k in
     cc
 
-with_moment : Content → Moment → List Part → List Archive → Content
+with_moment : Content → Moment → List Part → List Rra → Content
 with_moment base moment parts archives = record base { sources = moment.sources; last = moment.last; raws = moment.raws; parts = parts; archives = archives }
 
 pub listed-append : (base : Content) (es fs : List Event) → IsBase base → IsHistory (moment_of base) es → IsHistory (moment_at_end base es) fs → content_listed base (es ++ fs) ≡ content_listed (content_listed base es) fs
@@ -121,7 +121,7 @@ rows_stay index rows now (Resized archive new ∷ es) some h =
     either true = h.0
     either false = some
 
-archives_stay : (base : Content) (es : List Event) (index : ℕ) (archives : List Archive) → 0 < base.step → AllByRecursion IsArchive archives → IsHistory (moment_of base) es → AllByRecursion IsArchive (map (archive_of base es) (enumerate_from index archives))
+archives_stay : (base : Content) (es : List Event) (index : ℕ) (archives : List Rra) → 0 < base.step → AllByRecursion IsArchive archives → IsHistory (moment_of base) es → AllByRecursion IsArchive (map (archive_of base es) (enumerate_from index archives))
 archives_stay base es index [] pos is h = tt
 archives_stay base es index (archive ∷ archives) pos is h = (
   record {

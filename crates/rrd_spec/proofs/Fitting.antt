@@ -8,11 +8,11 @@ use Rattle.rrd_fixed.specs.declared.raw.Raw.{Raw}
 use Rattle.rrd_fixed.specs.declared.name.Name.{Name}
 use Rattle.rrd_spec.specs.declared.settings.DsDef.{DsDef}
 use Rattle.rrd_spec.specs.declared.entry.SourceBefore.{SourceBefore}
-use Rattle.rrd_spec.specs.History.{Archive, Content, Reading, Sampled, Tuned, Moment, moment_after, moment_of, moment_at_end, IsHistory, IsArchive}
+use Rattle.rrd_spec.specs.History.{Rra, Content, Reading, Sampled, Tuned, Moment, moment_after, moment_of, moment_at_end, IsHistory, IsArchive}
 use Rattle.rrd_spec.specs.Laws.ListedContent.{archive_of, content_listed, moved_listed}
 use Rattle.rrd_spec.proofs.HistoryLemmas.{last_rises, length-sources}
 use Rattle.rrd_spec.proofs.SampleLemmas.{rows_of_samples}
-use Rattle.rrd_spec.specs.Commands.{Asked, Command, Updating, TuningBy, Resizing, settings_of, rows_of_archives, sample_of, samples_of, tuned, rows_changed, events, moved}
+use Rattle.rrd_spec.specs.Commands.{Asked, DatabaseChange, Updating, TuningBy, Resizing, settings_of, rows_of_archives, sample_of, samples_of, tuned, rows_changed, events, moved}
 use Rattle.rrd_spec.specs.Settings.{Settings, names, has_source, is_double}
 use Rattle.rrd_spec.specs.Commands.Verdict.{is_bad_rows, grows_too_far, shrinks_too_far, no_sample, asks_nothing, names_no_source, verdict, is_accepted}
 use Rattle.rrd_spec.specs.Journal.Entries.{Entry, AddedEntry, RemovedEntry, TuneEntry, archive_at, archive_entry, rows_between, saved, is_asked, is_named, sources_before, rows_at, entry, undone}
@@ -49,7 +49,7 @@ use Rattle.rrd_spec.specs.Limits.{present}
 
 -- ---- an update's entry
 
-archive_fits : (base : Content) (sources end : ℕ) (list : List Reading) (index : ℕ) (archive : Archive) → IsValidArchive sources (base.last / base.step) archive → FitsArchive base.step sources base.last end (archive_of base (map Sampled list) (index, archive)) (saved base.step base.last end archive)
+archive_fits : (base : Content) (sources end : ℕ) (list : List Reading) (index : ℕ) (archive : Rra) → IsValidArchive sources (base.last / base.step) archive → FitsArchive base.step sources base.last end (archive_of base (map Sampled list) (index, archive)) (saved base.step base.last end archive)
 archive_fits base sources end list index archive is =
     let m = min (rows_between base.step archive.def base.last end) (length archive.rows) in
     record {
@@ -59,7 +59,7 @@ archive_fits base sources end list index archive is =
       one_cell_each = All-take _ m archive.rows (rows_wide sources archive.rows is.each_row);
     }
 
-each_fits : (base : Content) (sources end : ℕ) (list : List Reading) (index : ℕ) (archives : List Archive) → AllByRecursion (IsValidArchive sources (base.last / base.step)) archives → FitEach base.step sources base.last end (map (archive_of base (map Sampled list)) (enumerate_from index archives)) (map (saved base.step base.last end) archives)
+each_fits : (base : Content) (sources end : ℕ) (list : List Reading) (index : ℕ) (archives : List Rra) → AllByRecursion (IsValidArchive sources (base.last / base.step)) archives → FitEach base.step sources base.last end (map (archive_of base (map Sampled list)) (enumerate_from index archives)) (map (saved base.step base.last end) archives)
 each_fits base sources end list index [] is = tt
 each_fits base sources end list index (archive ∷ archives) is = (archive_fits base sources end list index archive is.0, each_fits base sources end list (index + 1) archives is.1)
 
@@ -233,7 +233,7 @@ tune_fits base tuning (Some (Remove number)) e is h =
     let n = length base.sources in
     let p = tune_passes base tuning (Some (Remove number)) e h in
     let archive = archive_at base.archives number in
-    let there : number < length base.archives = omega (arith, leb-false (length (rows_of_archives base.archives)) number p.0, length-map base.archives (λ (a : Archive). a.def.rows)) in
+    let there : number < length base.archives = omega (arith, leb-false (length (rows_of_archives base.archives)) number p.0, length-map base.archives (λ (a : Rra). a.def.rows)) in
     let this = All-at (IsValidArchive n (base.last / base.step)) base.archives number _ is.archives_are there in
     let fits : FitsRemoved (record base { archives = remove base.archives number }) number archive = record {
       there = omega (arith, there, length-remove base.archives number there);
@@ -245,12 +245,12 @@ tune_fits base tuning (Some (Remove number)) e is h =
 
 -- ---- a resize's entry
 
-rows_at_all : (n steps index : ℕ) (archives : List Archive) → AllByRecursion (IsValidArchive n steps) archives → AllByRecursion (IsRow n) (rows_at archives index)
+rows_at_all : (n steps index : ℕ) (archives : List Rra) → AllByRecursion (IsValidArchive n steps) archives → AllByRecursion (IsRow n) (rows_at archives index)
 rows_at_all n steps index [] is = tt
 rows_at_all n steps zero (archive ∷ archives) is = is.0.each_row
 rows_at_all n steps (suc index) (archive ∷ archives) is = rows_at_all n steps index archives is.1
 
-length-rows_at : (index : ℕ) (archives : List Archive) → AllByRecursion IsArchive archives → length (rows_at archives index) ≡ get_or (rows_of_archives archives) index 0
+length-rows_at : (index : ℕ) (archives : List Rra) → AllByRecursion IsArchive archives → length (rows_at archives index) ≡ get_or (rows_of_archives archives) index 0
 length-rows_at index [] is = refl
 length-rows_at zero (archive ∷ archives) is = is.0.rows_are
 length-rows_at (suc index) (archive ∷ archives) is = length-rows_at index archives is.1
@@ -280,7 +280,7 @@ resize_fits base archive change rows is h =
     let archives = after.archives in
     let count : length archives ≡ length base.archives = length-map (enumerate_from 0 base.archives) (archive_of base (events settings command)) ∙ length-enumerate_from 0 base.archives in
     let there : archive < length settings.rows = leb-false (length settings.rows) archive p.0 in
-    let in_range : archive < length base.archives = omega (arith, length-map base.archives (λ (a : Archive). a.def.rows)) in
+    let in_range : archive < length base.archives = omega (arith, length-map base.archives (λ (a : Rra). a.def.rows)) in
     let was : length (rows_at base.archives archive) ≡ old = length-rows_at archive base.archives (sound base is).is_base.archives_are in
     let is_now : length (rows_at archives archive) ≡ new
     = length-rows_at archive archives (listed_sound base command (sound base is) h).is_base.archives_are
@@ -292,7 +292,7 @@ resize_fits base archive change rows is h =
       another = λ e. another change old rows p.1.0 p.1.1.0 (sym was ∙ e ∙ is_now);
     }
 
-pub fits : (base : Content) (command : Command) → IsValid base → verdict base command ≡ None → Fits (moved base command) (entry base command)
+pub fits : (base : Content) (command : DatabaseChange) → IsValid base → verdict base command ≡ None → Fits (moved base command) (entry base command)
 fits base (Updating update) is h =
     subst (λ now. Fits now (entry base (Updating update))) (moved_is base (Updating update) (sound base is) h (sampled_keep (samples_of base.sources update))) (update_fits base update is h)
 fits base (TuningBy tuning) is h = tune_fits base tuning tuning.archive refl is h
@@ -306,7 +306,7 @@ journal_taken zero now journal h = tt
 journal_taken (suc n) now [] h = tt
 journal_taken (suc n) now (old ∷ journal) h = (h.0, h.1, journal_taken n (undone now old) journal h.2)
 
-pub database_stays : (now : Content) (journal : List Entry) (command : Command) → DatabaseStays now journal command
+pub database_stays : (now : Content) (journal : List Entry) (command : DatabaseChange) → DatabaseStays now journal command
 database_stays now journal command is h =
     let back = comes_back now command (sound now is.content_is) h in
     let P : Content → Type 0 = λ c. IsValid c in
@@ -326,7 +326,7 @@ pub revert_valid : (now : Content) (journal : List Entry) → IsValidDatabase no
 revert_valid now [] h = h
 revert_valid now (old ∷ journal) h = record { content_is = h.journal_is.1; journal_is = h.journal_is.2; few = let same = undone_depth now old in omega (arith, h.few) }
 
-pub revert_takes_back : (now : Content) (journal : List Entry) (command : Command) → RevertTakesBack now journal command
+pub revert_takes_back : (now : Content) (journal : List Entry) (command : DatabaseChange) → RevertTakesBack now journal command
 revert_takes_back now journal command is h = places now.depth is.content_is.some_depth where
   places : (depth : ℕ) → 0 < depth → reverted (moved now command) (take depth (entry now command ∷ journal)) ≡ record { content = now; journal = take (depth - 1) journal }
   places zero some = absurd (omega arith)

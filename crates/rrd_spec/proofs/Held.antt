@@ -5,7 +5,7 @@ use Rattle.std.specs.List.{fold, enumerate_from, AllByRecursion}
 use Rattle.rrd_fixed.specs.declared.cell.Cell.{Cell}
 use Rattle.rrd_fixed.specs.Rate.{IsBounded}
 use Rattle.rrd_fold.specs.declared.function.Function.TheVariants.{Average}
-use Rattle.rrd_spec.specs.History.{Archive, Content, Event, moment_of, moment_at_end, seconds_of, rows_after, IsHistory}
+use Rattle.rrd_spec.specs.History.{Rra, Content, Event, moment_of, moment_at_end, seconds_of, rows_after, IsHistory}
 use Rattle.rrd_spec.specs.History.Steps.{steps_of, parts_of, seconds_to_steps}
 use Rattle.rrd_spec.specs.History.Rows.{rows_of, row_parts_of, steps_to_rows}
 use Rattle.rrd_spec.specs.Laws.ListedContent.{rows_never_lost, keep_last, kept_rows, archive_of}
@@ -32,18 +32,18 @@ steps_valid : (base : Content) (es : List Event) → IsValid base → AllByRecur
 unfolding steps_of
 steps_valid base es is rows = (steps_kept base es is rows).given_are
 
-rows_kept : (base : Content) (es : List Event) (archive : Archive) → IsValid base → IsValidArchive (length base.sources) (base.last / base.step) archive → AllByRecursion (IsRow (length base.sources)) (seconds_of base es) → Kept (steps_to_rows archive.def (length base.sources)) (AreParts archive.def.function (length base.sources)) (IsRow (length base.sources)) (base.last / base.step) archive.parts (steps_of base es)
+rows_kept : (base : Content) (es : List Event) (archive : Rra) → IsValid base → IsValidArchive (length base.sources) (base.last / base.step) archive → AllByRecursion (IsRow (length base.sources)) (seconds_of base es) → Kept (steps_to_rows archive.def (length base.sources)) (AreParts archive.def.function (length base.sources)) (IsRow (length base.sources)) (base.last / base.step) archive.parts (steps_of base es)
 rows_kept base es archive is of rows =
     let n = length base.sources in
     kept (steps_to_rows archive.def n) (IsRow n) (AreParts archive.def.function n) (IsRow n) (rows_keep archive.def n of.some_steps of.xff_low of.xff_high) (base.last / base.step) archive.parts (steps_of base es) of.parts_are (steps_valid base es is rows)
 
-row_parts_valid : (base : Content) (es : List Event) (archive : Archive) → IsValid base → IsHistory (moment_of base) es → IsValidArchive (length base.sources) (base.last / base.step) archive → AllByRecursion (IsRow (length base.sources)) (seconds_of base es) → AreParts archive.def.function (length base.sources) ((moment_at_end base es).last / base.step % archive.def.steps) (row_parts_of base archive es)
+row_parts_valid : (base : Content) (es : List Event) (archive : Rra) → IsValid base → IsHistory (moment_of base) es → IsValidArchive (length base.sources) (base.last / base.step) archive → AllByRecursion (IsRow (length base.sources)) (seconds_of base es) → AreParts archive.def.function (length base.sources) ((moment_at_end base es).last / base.step % archive.def.steps) (row_parts_of base archive es)
 unfolding row_parts_of
 row_parts_valid base es archive is h of rows =
     let P : ℕ → Type 0 = λ steps. AreParts archive.def.function (length base.sources) (steps % archive.def.steps) (row_parts_of base archive es) in
     subst P (length-steps_of base es is.some_step h) (rows_kept base es archive is of rows).begun_is
 
-rows_valid : (base : Content) (es : List Event) (index : ℕ) (archive : Archive) → IsValid base → IsValidArchive (length base.sources) (base.last / base.step) archive → AllByRecursion (IsRow (length base.sources)) (seconds_of base es) → AllByRecursion (IsRow (length base.sources)) (kept_rows base index archive es)
+rows_valid : (base : Content) (es : List Event) (index : ℕ) (archive : Rra) → IsValid base → IsValidArchive (length base.sources) (base.last / base.step) archive → AllByRecursion (IsRow (length base.sources)) (seconds_of base es) → AllByRecursion (IsRow (length base.sources)) (kept_rows base index archive es)
 unfolding kept_rows rows_of
 rows_valid base es index archive is of rows =
     let n = length base.sources in
@@ -61,7 +61,7 @@ rows_valid base es index archive is of rows =
 abbrev pub LeavesGoodRows : List Event → Type 0
 LeavesGoodRows es = (index rows : ℕ) → 0 < rows → rows ≤ 1000000 → (0 < fold (rows_after index) rows es) × (fold (rows_after index) rows es ≤ 1000000)
 
-archive_valid : (base : Content) (es : List Event) (index : ℕ) (archive : Archive) → IsValid base → IsHistory (moment_of base) es → LeavesGoodRows es → AllByRecursion (IsRow (length base.sources)) (seconds_of base es) → IsValidArchive (length base.sources) (base.last / base.step) archive → IsValidArchive (length base.sources) ((moment_at_end base es).last / base.step) (archive_of base es (index, archive))
+archive_valid : (base : Content) (es : List Event) (index : ℕ) (archive : Rra) → IsValid base → IsHistory (moment_of base) es → LeavesGoodRows es → AllByRecursion (IsRow (length base.sources)) (seconds_of base es) → IsValidArchive (length base.sources) (base.last / base.step) archive → IsValidArchive (length base.sources) ((moment_at_end base es).last / base.step) (archive_of base es (index, archive))
 archive_valid base es index archive is h good rows of =
     let size = good index archive.def.rows of.some_rows of.few_rows in
     record {
@@ -76,6 +76,6 @@ archive_valid base es index archive is h good rows of =
       each_row = rows_valid base es index archive is of rows;
     }
 
-pub archives_valid : (base : Content) (es : List Event) (index : ℕ) (archives : List Archive) → IsValid base → IsHistory (moment_of base) es → LeavesGoodRows es → AllByRecursion (IsRow (length base.sources)) (seconds_of base es) → AllByRecursion (IsValidArchive (length base.sources) (base.last / base.step)) archives → AllByRecursion (IsValidArchive (length base.sources) ((moment_at_end base es).last / base.step)) (map (archive_of base es) (enumerate_from index archives))
+pub archives_valid : (base : Content) (es : List Event) (index : ℕ) (archives : List Rra) → IsValid base → IsHistory (moment_of base) es → LeavesGoodRows es → AllByRecursion (IsRow (length base.sources)) (seconds_of base es) → AllByRecursion (IsValidArchive (length base.sources) (base.last / base.step)) archives → AllByRecursion (IsValidArchive (length base.sources) ((moment_at_end base es).last / base.step)) (map (archive_of base es) (enumerate_from index archives))
 archives_valid base es index [] is h good rows of = tt
 archives_valid base es index (archive ∷ archives) is h good rows of = (archive_valid base es index archive is h good rows of.0, archives_valid base es (index + 1) archives is h good rows of.1)

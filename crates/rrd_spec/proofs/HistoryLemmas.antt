@@ -8,7 +8,7 @@ use Rattle.std.specs.List.{fold, range_with_len}
 use Rattle.rrd_spec.specs.History.Groups.{finished, unfinished}
 use Rattle.rrd_spec.specs.History.Steps.{seconds_to_steps, steps_of, parts_of}
 use Rattle.rrd_spec.specs.History.Rows.{steps_to_rows, rows_of, row_parts_of}
-use Rattle.rrd_spec.specs.History.{Archive, Content, Event, Sampled, Tuned, Resized, Added, Removed, Moment, moment_after, moment_of, moment_at_end, rates, Taken, samples, second, seconds, seconds_of, IsHistory}
+use Rattle.rrd_spec.specs.History.{Rra, Content, Event, Sampled, Tuned, Resized, Added, Removed, Moment, moment_after, moment_of, moment_at_end, rates, Taken, samples, second, seconds, seconds_of, IsHistory}
 use Rattle.rrd_spec.specs.Laws.ListedContent.{archive_of, content_listed}
 use Rattle.rrd_spec.proofs.GroupLemmas.{goes_on, map_range_same, length-finished, reached_before}
 
@@ -136,7 +136,7 @@ length-steps_of base es pos h =
     let at : (base.last + length (seconds_of base es)) / base.step ≡ (moment_at_end base es).last / base.step = ap (λ n. n / base.step) (length-seconds_of base es h) in
     omega (arith, reached_before base.last (length (seconds_of base es)) base.step pos)
 
-pub rows_of-append : (base : Content) (index : ℕ) (archive : Archive) (es fs : List Event) → 0 < base.step → 0 < archive.def.steps → IsHistory (moment_of base) es → IsHistory (moment_at_end base es) fs → rows_of base archive (es ++ fs) ≡ rows_of base archive es ++ rows_of (content_listed base es) (archive_of base es (index, archive)) fs
+pub rows_of-append : (base : Content) (index : ℕ) (archive : Rra) (es fs : List Event) → 0 < base.step → 0 < archive.def.steps → IsHistory (moment_of base) es → IsHistory (moment_at_end base es) fs → rows_of base archive (es ++ fs) ≡ rows_of base archive es ++ rows_of (content_listed base es) (archive_of base es (index, archive)) fs
 unfolding content_listed rows_of row_parts_of
 rows_of-append base index archive es fs pos some h k =
     let rule = steps_to_rows archive.def (length base.sources) in
@@ -149,7 +149,7 @@ rows_of-append base index archive es fs pos some h k =
     ∙ ap (λ n. finished rule before archive.parts A ++ finished rule n (unfinished rule before archive.parts A) B) (length-steps_of base es pos h)
     ∙ ap (λ n. finished rule before archive.parts A ++ finished (steps_to_rows archive.def n) ((moment_at_end base es).last / base.step) (unfinished rule before archive.parts A) B) (sym (length-sources (moment_of base) es h))
 
-pub row_parts_of-append : (base : Content) (index : ℕ) (archive : Archive) (es fs : List Event) → 0 < base.step → 0 < archive.def.steps → IsHistory (moment_of base) es → IsHistory (moment_at_end base es) fs → row_parts_of base archive (es ++ fs) ≡ row_parts_of (content_listed base es) (archive_of base es (index, archive)) fs
+pub row_parts_of-append : (base : Content) (index : ℕ) (archive : Rra) (es fs : List Event) → 0 < base.step → 0 < archive.def.steps → IsHistory (moment_of base) es → IsHistory (moment_at_end base es) fs → row_parts_of base archive (es ++ fs) ≡ row_parts_of (content_listed base es) (archive_of base es (index, archive)) fs
 unfolding content_listed rows_of row_parts_of
 row_parts_of-append base index archive es fs pos some h k =
     let rule = steps_to_rows archive.def (length base.sources) in

@@ -8,7 +8,7 @@ use Rattle.std.specs.List.{fold, remove, AllByRecursion}
 use Rattle.rrd_fixed.specs.declared.cell.Cell.{Cell}
 use Rattle.rrd_fold.specs.Parts.{Part}
 use Rattle.rrd_spec.specs.declared.settings.RraDef.{RraDef}
-use Rattle.rrd_spec.specs.History.{Archive, Content, Event, Sampled, Tuned, Resized, Added, Removed, Moment, moment_after, moment_of, moment_at_end, rows_after, seconds_of, IsHistory, IsBase}
+use Rattle.rrd_spec.specs.History.{Rra, Content, Event, Sampled, Tuned, Resized, Added, Removed, Moment, moment_after, moment_of, moment_at_end, rows_after, seconds_of, IsHistory, IsBase}
 use Rattle.rrd_spec.specs.History.Groups.{finished, unfinished}
 use Rattle.rrd_spec.specs.History.Lives.{Life, life_of, life_added, new_archive, with_event, change_at, lives_after, lives_from, lives}
 use Rattle.rrd_spec.specs.History.Rows.{row_parts, steps_to_rows, steps_before, steps_for}
@@ -230,7 +230,7 @@ right-with : (base : Content) (es : List Event) (e : Event) (p : Pair) → right
 right-with base es e (Old life more) = refl
 right-with base es e (New life) = refl
 
-made_life : Archive → Moment → ℕ → Life
+made_life : Rra → Moment → ℕ → Life
 made_life begun birth missed = record { begun = begun; birth = birth; missed = missed; since = [] }
 
 left-added : (base : Content) (es : List Event) (now : Moment) (def : RraDef) → 0 < base.step → IsHistory (moment_of base) es → (moment_at_end base es).last ≤ now.last → left (length (steps_of base es)) (New (life_added (content_lived base es) now def)) ≡ life_added base now def
@@ -306,7 +306,7 @@ old-from base es middle now ps (Removed archive ∷ fs) is = old-from base es mi
 
 -- ---- both are the same
 
-made : Archive → ℕ → List Part → List (List Cell) → Archive
+made : Rra → ℕ → List Part → List (List Cell) → Rra
 made archive n parts rows = record { def = record archive.def { rows = n }; parts = parts; rows = rows }
 
 pair-same : (base : Content) (es fs : List Event) (p : Pair) → 0 < base.step → IsHistory (moment_of base) es → IsHistory (moment_at_end base es) fs → OldIs base es p → LifeAt (content_lived base es) (moment_at_end (content_lived base es) fs) (right base es p) → archive_for base (es ++ fs) (left (length (steps_of base es)) p) ≡ archive_for (content_lived base es) fs (right base es p)
@@ -379,7 +379,7 @@ archives-cut base es fs is h k =
     ∙ pairs-same base es fs ps is.some_step h k old at
     ∙ ap (map (archive_for middle fs)) (lives-right base es fs)
 
-with_moment : Content → Moment → List Part → List Archive → Content
+with_moment : Content → Moment → List Part → List Rra → Content
 with_moment base moment parts archives = record base { sources = moment.sources; last = moment.last; raws = moment.raws; parts = parts; archives = archives }
 
 pub lived-cut : (base : Content) (es : List Event) → CutsLives base es

@@ -7,7 +7,7 @@ use Rattle.rrd_fixed.specs.declared.cell.Cell.{Cell}
 use Rattle.rrd_fold.specs.Parts.{Part}
 use Rattle.rrd_spec.specs.declared.settings.DsDef.{DsDef}
 use Rattle.rrd_spec.specs.declared.settings.RraDef.{RraDef}
-use Rattle.rrd_spec.specs.History.{Archive, Content, Event, Reading, Sampled, Tuned, Resized, Added, Removed, Moment, moment_after, moment_of, moment_at_end, rows_after, IsArchive}
+use Rattle.rrd_spec.specs.History.{Rra, Content, Event, Reading, Sampled, Tuned, Resized, Added, Removed, Moment, moment_after, moment_of, moment_at_end, rows_after, IsArchive}
 use Rattle.rrd_spec.specs.History.Cells.{row_of_age}
 use Rattle.rrd_spec.specs.History.Groups.{finished, unfinished}
 use Rattle.rrd_spec.specs.History.Lives.{Life, life_of, life_added, new_archive, with_event, change_at, lives_from}
@@ -113,10 +113,10 @@ lives_plain base now all (Removed archive ∷ es) keeps = absurd keeps
 
 -- ---- by number and by itself
 
-unfoldable made : Archive → ℕ → List Part → List (List Cell) → Archive
+unfoldable made : Rra → ℕ → List Part → List (List Cell) → Rra
 made archive n parts rows = record { def = record archive.def { rows = n }; parts = parts; rows = rows }
 
-archive_plain : (base : Content) (es : List Event) (i : ℕ) (archive : Archive) → archive_for base es (since_put (life_of base archive) (own i es)) ≡ archive_of base es (i, archive)
+archive_plain : (base : Content) (es : List Event) (i : ℕ) (archive : Rra) → archive_for base es (since_put (life_of base archive) (own i es)) ≡ archive_of base es (i, archive)
 unfolding made since_put row_parts row_parts_of kept_for kept_rows rows_for rows_of
 archive_plain base es i archive =
     let life = since_put (life_of base archive) (own i es) in
@@ -129,7 +129,7 @@ archive_plain base es i archive =
     ∙ ap (λ n. made archive (fold (rows_after i) rows es) (row_parts base life es) (filled_up n nan (keep_last (rows_never_lost 0 since rows (moment_of base) (own i es)) all))) (rows_own i rows es)
     ∙ ap (λ n. made archive (fold (rows_after i) rows es) (row_parts base life es) (filled_up (fold (rows_after i) rows es) nan (keep_last n all))) (room_own i since rows (moment_of base) es)
 
-archives_plain : (base : Content) (es : List Event) (i : ℕ) (archives : List Archive) → map (archive_for base es) (with_own i es (map (life_of base) archives)) ≡ map (archive_of base es) (enumerate_from i archives)
+archives_plain : (base : Content) (es : List Event) (i : ℕ) (archives : List Rra) → map (archive_for base es) (with_own i es (map (life_of base) archives)) ≡ map (archive_of base es) (enumerate_from i archives)
 unfolding with_own since_put
 archives_plain base es i [] = refl
 archives_plain base es i (archive ∷ archives) =
@@ -145,14 +145,14 @@ is_listed base es is h keeps =
 
 -- ---- an archive in which nothing has happened
 
-still : Archive → Moment → ℕ → Life
+still : Rra → Moment → ℕ → Life
 still begun birth missed = record { begun = begun; birth = birth; missed = missed; since = [] }
 
 drop-none : {A : Type 0} (n : ℕ) → let none : List A = [] in drop n none ≡ none
 drop-none zero = refl
 drop-none (suc n) = refl
 
-still_stays : (base : Content) (es : List Event) (begun : Archive) (birth : Moment) (missed : ℕ) → (moment_at_end base es).last ≡ base.last → birth.last ≡ base.last → IsArchive begun → archive_for base es (still begun birth missed) ≡ begun
+still_stays : (base : Content) (es : List Event) (begun : Rra) (birth : Moment) (missed : ℕ) → (moment_at_end base es).last ≡ base.last → birth.last ≡ base.last → IsArchive begun → archive_for base es (still begun birth missed) ≡ begun
 unfolding made still row_parts kept_for rows_for
 still_stays base es begun birth missed same born is =
     let life = still begun birth missed in
@@ -173,14 +173,14 @@ still_stays base es begun birth missed same born is =
     ∙ filled_already rows nan begun.rows is.rows_are in
     ap (λ ps. made begun rows ps (kept_for base es life)) parts ∙ ap (made begun rows begun.parts) kept
 
-all_still : (base : Content) (es : List Event) (archives : List Archive) → (moment_at_end base es).last ≡ base.last → AllByRecursion IsArchive archives → map (archive_for base es) (map (life_of base) archives) ≡ archives
+all_still : (base : Content) (es : List Event) (archives : List Rra) → (moment_at_end base es).last ≡ base.last → AllByRecursion IsArchive archives → map (archive_for base es) (map (life_of base) archives) ≡ archives
 unfolding still
 all_still base es [] same is = refl
 all_still base es (archive ∷ archives) same is =
     ap (λ a. a ∷ map (archive_for base es) (map (life_of base) archives)) (still_stays base es archive (moment_of base) 0 same refl is.0)
     ∙ ap (λ rest. archive ∷ rest) (all_still base es archives same is.1)
 
-with_all : Content → List Part → List Archive → Content
+with_all : Content → List Part → List Rra → Content
 with_all base parts archives = record base { parts = parts; archives = archives }
 
 pub add_changes : (base : Content) (def : RraDef) → AddChanges base def

@@ -9,7 +9,7 @@ use Rattle.rrd_fold.specs.declared.function.Function.TheVariants.{Average}
 use Rattle.rrd_fold.specs.Parts.{Part, nothing, with_cell, with_each, step_cell, row_cell}
 use Rattle.rrd_spec.specs.Preparations.{map_each}
 use Rattle.rrd_spec.specs.History.Groups.{finished, unfinished}
-use Rattle.rrd_spec.specs.History.{Archive, Content}
+use Rattle.rrd_spec.specs.History.{Rra, Content}
 use Rattle.rrd_spec.specs.Laws.ListedContent.{keep_last}
 use Rattle.rrd_spec.specs.Lemmas.Lists.{keep_all, keep_last-append}
 use Rattle.rrd_spec.specs.Laws.Passing.{archive_passed, passed}
@@ -22,14 +22,14 @@ use Rattle.rrd_spec.proofs.PassedLemmas.{archive_passed-append}
 
 -- ---- an archive
 
-pub steps_in_pieces : (sources before : ℕ) (archive : Archive) (xs ys : List (List Cell)) → StepsInPieces sources before archive xs ys
+pub steps_in_pieces : (sources before : ℕ) (archive : Rra) (xs ys : List (List Cell)) → StepsInPieces sources before archive xs ys
 steps_in_pieces sources before archive xs ys some = archive_passed-append sources before (before + length xs) archive xs ys some refl
 
-with_rows : Archive → List Part → List (List Cell) → Archive
+with_rows : Rra → List Part → List (List Cell) → Rra
 with_rows archive parts rows = record archive { parts = parts; rows = rows }
 
 -- steps that leave the row unfinished
-archive_within : (sources before : ℕ) (archive : Archive) (steps : List (List Cell)) → 0 < archive.def.steps → before + length steps < (before / archive.def.steps + 1) * archive.def.steps → archive_passed sources before steps archive ≡ record archive { parts = fold (with_each archive.def.function) archive.parts steps }
+archive_within : (sources before : ℕ) (archive : Rra) (steps : List (List Cell)) → 0 < archive.def.steps → before + length steps < (before / archive.def.steps + 1) * archive.def.steps → archive_passed sources before steps archive ≡ record archive { parts = fold (with_each archive.def.function) archive.parts steps }
 unfolding archive_passed with_rows
 archive_within sources before archive steps some h =
     let rule = steps_to_rows archive.def sources in
@@ -39,7 +39,7 @@ archive_within sources before archive steps some h =
     ∙ ap (with_rows archive (fold rule.add archive.parts steps)) (ap (keep_last r) (append-nil archive.rows) ∙ keep_all r archive.rows (omega arith))
 
 -- steps that fill it
-archive_filling : (sources before : ℕ) (archive : Archive) (steps : List (List Cell)) → 0 < archive.def.steps → before + length steps ≡ (before / archive.def.steps + 1) * archive.def.steps → archive_passed sources before steps archive ≡ record archive {
+archive_filling : (sources before : ℕ) (archive : Rra) (steps : List (List Cell)) → 0 < archive.def.steps → before + length steps ≡ (before / archive.def.steps + 1) * archive.def.steps → archive_passed sources before steps archive ≡ record archive {
   parts = replicate sources nothing;
   rows = drop 1 (archive.rows ++ map (row_cell archive.def.function archive.def.xff archive.def.steps) (fold (with_each archive.def.function) archive.parts steps) ∷ []);
 }
@@ -52,7 +52,7 @@ archive_filling sources before archive steps some h =
     ∙ ap (λ zs. with_rows archive (replicate sources nothing) (keep_last r (archive.rows ++ zs))) (finished_filling rule before archive.parts steps some h)
     ∙ ap (λ n. with_rows archive (replicate sources nothing) (drop n (archive.rows ++ row ∷ []))) {x = length (archive.rows ++ row ∷ []) - r} {y = 1} (omega (arith, length-append archive.rows (row ∷ [])))
 
-pub steps_within : (sources before : ℕ) (archive : Archive) (steps : List (List Cell)) → StepsWithin sources before archive steps
+pub steps_within : (sources before : ℕ) (archive : Rra) (steps : List (List Cell)) → StepsWithin sources before archive steps
 steps_within sources before archive steps some h = archive_within sources before archive steps some h
 
 -- a row before others that are pushed
@@ -85,7 +85,7 @@ each_stays give take (suc n) (cell ∷ row) same e =
 
 -- ---- a content
 
-with_passed : Content → ℕ → List Part → List Archive → Content
+with_passed : Content → ℕ → List Part → List Rra → Content
 with_passed base last parts archives = record base { last = last; parts = parts; archives = archives }
 
 -- by the law of full groups
@@ -101,7 +101,7 @@ module _ (whole_step : (step : ℕ) (cell : Cell) → 0 < step → step_cell ste
       ∙ each_stays (row_cell function xff steps) (λ p c. fold (with_cell function) p (replicate steps c)) sources row (λ cell. whole_row function xff steps cell some low high) e
 
   -- whole rows of one step
-  archive_wholes : (sources k first : ℕ) (archive : Archive) (step : List Cell) → 0 < archive.def.steps → pos 0 ≤ℤ archive.def.xff → archive.def.xff ≤ℤ pos 999999 → length step ≡ sources → archive.parts ≡ replicate sources nothing → archive_passed sources (first * archive.def.steps) (replicate (k * archive.def.steps) step) archive ≡ record archive { rows = keep_last (length archive.rows) (archive.rows ++ replicate k step) }
+  archive_wholes : (sources k first : ℕ) (archive : Rra) (step : List Cell) → 0 < archive.def.steps → pos 0 ≤ℤ archive.def.xff → archive.def.xff ≤ℤ pos 999999 → length step ≡ sources → archive.parts ≡ replicate sources nothing → archive_passed sources (first * archive.def.steps) (replicate (k * archive.def.steps) step) archive ≡ record archive { rows = keep_last (length archive.rows) (archive.rows ++ replicate k step) }
   unfolding archive_passed with_rows
   archive_wholes sources k first archive step some low high wide none =
       let rule = steps_to_rows archive.def sources in
@@ -114,7 +114,7 @@ module _ (whole_step : (step : ℕ) (cell : Cell) → 0 < step → step_cell ste
       ∙ ap (λ c. with_rows archive archive.parts (keep_last r (archive.rows ++ replicate k c))) (whole_rows archive.def.function archive.def.xff m sources step some low high wide)
 
   -- a step and many of another
-  pub steps_over : (n before count : ℕ) (archive : Archive) (first then : List Cell) → StepsOver n before count archive first then
+  pub steps_over : (n before count : ℕ) (archive : Rra) (first then : List Cell) → StepsOver n before count archive first then
   unfolding with_rows
   steps_over n before count archive first then some low high wide h =
       let m = archive.def.steps in
@@ -128,8 +128,8 @@ module _ (whole_step : (step : ℕ) (cell : Cell) → 0 < step → step_cell ste
       let two = replicate (k * m) then in
       let three = replicate rest then in
       let row = map (row_cell archive.def.function archive.def.xff m) (fold (with_each archive.def.function) archive.parts (first ∷ replicate left then)) in
-      let ended : Archive = record archive { parts = replicate n nothing; rows = drop 1 (archive.rows ++ row ∷ []) } in
-      let whole : Archive = record ended { rows = keep_last (length ended.rows) (ended.rows ++ replicate k then) } in
+      let ended : Rra = record archive { parts = replicate n nothing; rows = drop 1 (archive.rows ++ row ∷ []) } in
+      let whole : Rra = record ended { rows = keep_last (length ended.rows) (ended.rows ++ replicate k then) } in
       let at : before + length one ≡ q * m = omega (arith, length-replicate left then, row_end before m some) in
       let next : q * m + length two ≡ q * m + k * m = ap (λ x. q * m + x) (length-replicate (k * m) then) in
       let group : (q * m + k * m) / m ≡ q + k = ap (λ x. x / m) {x = q * m + k * m} {y = (q + k) * m + 0} (omega arith) ∙ div-mul-add (q + k) m 0 some in

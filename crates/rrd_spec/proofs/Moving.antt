@@ -5,7 +5,7 @@ use Rattle.std.proofs.lemmas.List.{reverse-append}
 use Rattle.std.proofs.lemmas.List.Sums.{fold-append}
 use Rattle.std.specs.List.{fold}
 use Rattle.rrd_spec.specs.declared.settings.DsDef.{DsDef}
-use Rattle.rrd_spec.specs.History.{Archive, Content, Event, Sampled, Tuned, Resized, Added, Removed, Moment, moment_after, moment_of, moment_at_end, rows_after, IsHistory, IsBase}
+use Rattle.rrd_spec.specs.History.{Rra, Content, Event, Sampled, Tuned, Resized, Added, Removed, Moment, moment_after, moment_of, moment_at_end, rows_after, IsHistory, IsBase}
 use Rattle.rrd_spec.proofs.HistoryLemmas.{IsHistory-append}
 use Rattle.rrd_spec.specs.Laws.ListedContent.{KeepsArchives, content_listed, moved_listed}
 use Rattle.rrd_spec.specs.Laws.History.{GoesOnFromContent, StaysBase}
@@ -20,7 +20,7 @@ use Rattle.std.proofs.lemmas.List.{map-append}
 use Rattle.std.specs.List.{remove}
 use Rattle.std.specs.Prelude.{slice_set}
 use Rattle.rrd_spec.proofs.ContentLemmas.{IsBase-listed}
-use Rattle.rrd_spec.specs.Commands.{Command, settings_of, rows_of_archives, settings_after, events, events_of, moved}
+use Rattle.rrd_spec.specs.Commands.{DatabaseChange, settings_of, rows_of_archives, settings_after, events, events_of, moved}
 use Rattle.rrd_spec.specs.Settings.{Settings}
 use Rattle.rrd_spec.specs.Commands.Verdict.{verdict}
 use Rattle.rrd_spec.specs.Journal.Entries.{IsSound}
@@ -72,7 +72,7 @@ lives_rows base now all settings (Added def ∷ es) e =
 lives_rows base now all settings (Removed archive ∷ es) e =
     lives_rows base now (remove all archive) (settings_after settings (Removed archive)) es (ap (λ rows. remove rows archive) e ∙ sym (map-remove rows_now all archive))
 
-rows_begun : (base : Content) (archives : List Archive) → rows_of_archives archives ≡ map rows_now (map (life_of base) archives)
+rows_begun : (base : Content) (archives : List Rra) → rows_of_archives archives ≡ map rows_now (map (life_of base) archives)
 unfolding rows_now
 rows_begun base [] = refl
 rows_begun base (archive ∷ archives) = ap (λ rest. archive.def.rows ∷ rest) (rows_begun base archives)
@@ -94,7 +94,7 @@ settings_by_time base es =
 
 -- ---- a command more
 
-pub events_of-push : (settings : Settings) (commands : List Command) (command : Command) → events_of settings (commands ++ command ∷ []) ≡ events_of settings commands ++ events (fold settings_after settings (events_of settings commands)) command
+pub events_of-push : (settings : Settings) (commands : List DatabaseChange) (command : DatabaseChange) → events_of settings (commands ++ command ∷ []) ≡ events_of settings commands ++ events (fold settings_after settings (events_of settings commands)) command
 events_of-push settings [] command = append-nil (events settings command)
 events_of-push settings (first ∷ commands) command =
     let here = events settings first in
@@ -103,18 +103,18 @@ events_of-push settings (first ∷ commands) command =
     ∙ sym (append_assoc here (events_of next commands) (events (fold settings_after next (events_of next commands)) command))
     ∙ ap (λ (s : Settings). (here ++ events_of next commands) ++ events s command) (sym (fold-append settings_after settings here (events_of next commands)))
 
-pub events_of-more : (base : Content) (commands : List Command) (command : Command) → events_of (settings_of base) (reverse (command ∷ commands)) ≡ events_of (settings_of base) (reverse commands) ++ events (settings_of (survived base commands)) command
+pub events_of-more : (base : Content) (commands : List DatabaseChange) (command : DatabaseChange) → events_of (settings_of base) (reverse (command ∷ commands)) ≡ events_of (settings_of base) (reverse commands) ++ events (settings_of (survived base commands)) command
 events_of-more base commands command =
     ap (events_of (settings_of base)) (reverse-append (command ∷ []) commands)
     ∙ events_of-push (settings_of base) (reverse commands) command
     ∙ ap (λ s. events_of (settings_of base) (reverse commands) ++ events s command) (sym (settings_by_time base (events_of (settings_of base) (reverse commands))))
 
 -- the events of what survives are a history
-next_history : (base : Content) (commands : List Command) (command : Command) → verdict (survived base commands) command ≡ None → IsHistory (moment_at_end base (events_of (settings_of base) (reverse commands))) (events (settings_of (survived base commands)) command)
+next_history : (base : Content) (commands : List DatabaseChange) (command : DatabaseChange) → verdict (survived base commands) command ≡ None → IsHistory (moment_at_end base (events_of (settings_of base) (reverse commands))) (events (settings_of (survived base commands)) command)
 next_history base commands command h =
     accepted_history (survived base commands) command h
 
-pub survivors_history : (base : Content) (commands : List Command) → AllAccepted base commands → IsHistory (moment_of base) (events_of (settings_of base) (reverse commands))
+pub survivors_history : (base : Content) (commands : List DatabaseChange) → AllAccepted base commands → IsHistory (moment_of base) (events_of (settings_of base) (reverse commands))
 survivors_history base [] h = tt
 survivors_history base (command ∷ commands) h =
     let P : List Event → Type 0 = λ es. IsHistory (moment_of base) es in
@@ -134,10 +134,10 @@ goes_on base first second is h k =
     ∙ is_lived (content base first) second (stays_base base first is h) k
 
 -- a content moved by an accepted command in which no archive comes or goes, by list and by time
-pub moved_is : (base : Content) (command : Command) → IsSound base → verdict base command ≡ None → KeepsArchives (events (settings_of base) command) → moved_listed base command ≡ moved base command
+pub moved_is : (base : Content) (command : DatabaseChange) → IsSound base → verdict base command ≡ None → KeepsArchives (events (settings_of base) command) → moved_listed base command ≡ moved base command
 moved_is base command sound h keeps = is_listed base (events (settings_of base) command) sound.is_base (accepted_history base command h) keeps
 
-pub moves : (base : Content) (commands : List Command) (command : Command) → Moves base commands command
+pub moves : (base : Content) (commands : List DatabaseChange) (command : DatabaseChange) → Moves base commands command
 moves base commands command sound h =
     let earlier = events_of (settings_of base) (reverse commands) in
     let next = events (settings_of (survived base commands)) command in
@@ -146,18 +146,18 @@ moves base commands command sound h =
 
 -- ---- what is sound stays sound
 
-pub listed_sound : (base : Content) (command : Command) → IsSound base → verdict base command ≡ None → IsSound (moved_listed base command)
+pub listed_sound : (base : Content) (command : DatabaseChange) → IsSound base → verdict base command ≡ None → IsSound (moved_listed base command)
 unfolding content_listed
 listed_sound base command sound h = record {
   is_base = IsBase-listed base (events (settings_of base) command) sound.is_base (accepted_history base command h);
   one_raw_each = command_raws base command sound.one_raw_each;
 }
 
-pub moved_sound : (base : Content) (command : Command) → IsSound base → verdict base command ≡ None → IsSound (moved base command)
+pub moved_sound : (base : Content) (command : DatabaseChange) → IsSound base → verdict base command ≡ None → IsSound (moved base command)
 moved_sound base command sound h = record {
   is_base = stays_base base (events (settings_of base) command) sound.is_base (accepted_history base command h);
   one_raw_each = command_raws base command sound.one_raw_each;
 }
 
-pub moved_depth : (base : Content) (command : Command) → (moved base command).depth ≡ base.depth
+pub moved_depth : (base : Content) (command : DatabaseChange) → (moved base command).depth ≡ base.depth
 moved_depth base command = refl

@@ -1,7 +1,7 @@
 -- What is within the limits of a version is within those of every database.
 use Rattle.std.proofs.Common.{◌≡◌, refl, ap, true, ℕ, ◌/◌, ◌≤◌, List, [], ◌∷◌, length, arith}
 use Rattle.std.proofs.lemmas.Bool.{both_ways}
-use Rattle.rrd_spec.specs.History.{Archive, Content}
+use Rattle.rrd_spec.specs.History.{Rra, Content}
 use Rattle.rrd_spec.specs.Journal.Entries.{AddedEntry, Entry, RemovedEntry, ResizeEntry, TuneEntry, UpdateEntry, undone}
 use Rattle.rrd_spec.specs.Laws.Versions.{ContentIsWithin, DatabaseIsWithin, EntryIsWithin, FirstTellsNoArchive, JournalIsWithin}
 use Rattle.rrd_spec.specs.Files.Filed.{Filed}
@@ -28,7 +28,7 @@ source_within : (version : Version) (source : DsDef) → IsSourceWithin (limits_
 source_within version source h =
     record { good_name = h.good_name; good_heartbeat = h.good_heartbeat; good_bounds = h.good_bounds }
 
-archive_within : (version : Version) (sources steps : ℕ) (archive : Archive) → IsValidArchiveWithin (limits_of version) sources steps archive → IsValidArchive sources steps archive
+archive_within : (version : Version) (sources steps : ℕ) (archive : Rra) → IsValidArchiveWithin (limits_of version) sources steps archive → IsValidArchive sources steps archive
 archive_within version sources steps archive h = record {
   some_steps = h.some_steps;
   few_steps = h.few_steps;

@@ -16,7 +16,7 @@ use Rattle.rrd_spec.specs.declared.settings.RraDef.{RraDef}
 use Rattle.rrd_spec.specs.Limits.{Limits}
 use Rattle.rrd_spec.specs.Settings.{cells}
 use Rattle.rrd_spec.specs.Commands.{rows_of_archives, settings_of}
-use Rattle.rrd_spec.specs.History.{Archive, Content, definitions}
+use Rattle.rrd_spec.specs.History.{Rra, Content, definitions}
 use Rattle.rrd_spec.specs.Journal.Entries.{AddedEntry, BeforeUpdate, Entry, RemovedEntry, ResizeEntry, SavedArchive, TuneEntry, UpdateEntry, put_back, put_back_each, rows_at, undone, with_rows_at, with_source}
 use Rattle.rrd_spec.specs.Lemmas.Validity.{length-accepted, rows_wide}
 use Rattle.rrd_spec.specs.declared.version.Version.{Version}
@@ -42,28 +42,28 @@ All-set P (y ∷ xs) zero x all here = (here, all.1)
 All-set P (y ∷ xs) (suc i) x all here = (all.0, All-set P xs i x all.1 here)
 
 -- the numbers of rows, by the archives and by their settings
-rows_by_settings : (archives : List Archive) → rows_of (definitions archives) ≡ rows_of_archives archives
+rows_by_settings : (archives : List Rra) → rows_of (definitions archives) ≡ rows_of_archives archives
 rows_by_settings [] = refl
 rows_by_settings (archive ∷ archives) = ap (λ rows. archive.def.rows ∷ rows) (rows_by_settings archives)
 
 -- ---- an update
 
-put_back_settings : (archives : List Archive) (olds : List SavedArchive) → definitions (put_back_each archives olds) ≡ definitions archives
+put_back_settings : (archives : List Rra) (olds : List SavedArchive) → definitions (put_back_each archives olds) ≡ definitions archives
 put_back_settings [] olds = refl
 put_back_settings (archive ∷ archives) [] = refl
 put_back_settings (archive ∷ archives) (old ∷ olds) = ap (λ defs. archive.def ∷ defs) (put_back_settings archives olds)
 
-put_back_count : (archives : List Archive) (olds : List SavedArchive) → length (put_back_each archives olds) ≡ length archives
+put_back_count : (archives : List Rra) (olds : List SavedArchive) → length (put_back_each archives olds) ≡ length archives
 put_back_count [] olds = refl
 put_back_count (archive ∷ archives) [] = refl
 put_back_count (archive ∷ archives) (old ∷ olds) = ap suc (put_back_count archives olds)
 
-put_back_rows : (archives : List Archive) (olds : List SavedArchive) → rows_of_archives (put_back_each archives olds) ≡ rows_of_archives archives
+put_back_rows : (archives : List Rra) (olds : List SavedArchive) → rows_of_archives (put_back_each archives olds) ≡ rows_of_archives archives
 put_back_rows [] olds = refl
 put_back_rows (archive ∷ archives) [] = refl
 put_back_rows (archive ∷ archives) (old ∷ olds) = ap (λ rows. archive.def.rows ∷ rows) (put_back_rows archives olds)
 
-saved_fits : (step from to sources : ℕ) (archive : Archive) (old : SavedArchive) → MaySave step from to sources archive.def old → FitsArchive step sources from to archive old
+saved_fits : (step from to sources : ℕ) (archive : Rra) (old : SavedArchive) → MaySave step from to sources archive.def old → FitsArchive step sources from to archive old
 saved_fits step from to sources archive old may = record {
   same_function = may.same_function;
   one_part_each = may.parts_are.one_each;
@@ -71,7 +71,7 @@ saved_fits step from to sources archive old may = record {
   one_cell_each = rows_wide sources old.rows may.each_row;
 }
 
-saved_valid : (limits : Limits) (step from to sources : ℕ) (archive : Archive) (old : SavedArchive) → IsValidArchiveWithin limits sources (to / step) archive → MaySave step from to sources archive.def old
+saved_valid : (limits : Limits) (step from to sources : ℕ) (archive : Rra) (old : SavedArchive) → IsValidArchiveWithin limits sources (to / step) archive → MaySave step from to sources archive.def old
     → IsValidArchiveWithin limits sources (from / step) (put_back archive old)
 saved_valid limits step from to sources archive old is may =
     let rest = take (length archive.rows - length old.rows) archive.rows in
@@ -87,7 +87,7 @@ saved_valid limits step from to sources archive old is may =
       each_row = All-append (IsRow sources) old.rows rest may.each_row (All-take (IsRow sources) (length archive.rows - length old.rows) archive.rows is.each_row);
     }
 
-saved_may : (limits : Limits) (step from to sources : ℕ) (archive : Archive) (old : SavedArchive) → FitsArchive step sources from to archive old → IsValidArchiveWithin limits sources (from / step) (put_back archive old)
+saved_may : (limits : Limits) (step from to sources : ℕ) (archive : Rra) (old : SavedArchive) → FitsArchive step sources from to archive old → IsValidArchiveWithin limits sources (from / step) (put_back archive old)
     → MaySave step from to sources archive.def old
 saved_may limits step from to sources archive old fits is = record {
   same_function = fits.same_function;
@@ -96,7 +96,7 @@ saved_may limits step from to sources archive old fits is = record {
   each_row = All-front (IsRow sources) old.rows (take (length archive.rows - length old.rows) archive.rows) is.each_row;
 }
 
-each_saved : (limits : Limits) (step from to sources : ℕ) (archives : List Archive) (olds : List SavedArchive) → AllByRecursion (IsValidArchiveWithin limits sources (to / step)) archives → MaySaveEach step from to sources (definitions archives) olds
+each_saved : (limits : Limits) (step from to sources : ℕ) (archives : List Rra) (olds : List SavedArchive) → AllByRecursion (IsValidArchiveWithin limits sources (to / step)) archives → MaySaveEach step from to sources (definitions archives) olds
     → FitEach step sources from to archives olds × AllByRecursion (IsValidArchiveWithin limits sources (from / step)) (put_back_each archives olds)
 each_saved limits step from to sources [] [] is may = (tt, tt)
 each_saved limits step from to sources [] (old ∷ olds) is may = absurd may
@@ -105,7 +105,7 @@ each_saved limits step from to sources (archive ∷ archives) (old ∷ olds) is 
     let rest = each_saved limits step from to sources archives olds is.1 may.1 in
     ((saved_fits step from to sources archive old may.0, rest.0), (saved_valid limits step from to sources archive old is.0 may.0, rest.1))
 
-each_may : (limits : Limits) (step from to sources : ℕ) (archives : List Archive) (olds : List SavedArchive) → FitEach step sources from to archives olds → AllByRecursion (IsValidArchiveWithin limits sources (from / step)) (put_back_each archives olds)
+each_may : (limits : Limits) (step from to sources : ℕ) (archives : List Rra) (olds : List SavedArchive) → FitEach step sources from to archives olds → AllByRecursion (IsValidArchiveWithin limits sources (from / step)) (put_back_each archives olds)
     → MaySaveEach step from to sources (definitions archives) olds
 each_may limits step from to sources [] [] fits is = tt
 each_may limits step from to sources [] (old ∷ olds) fits is = absurd fits
@@ -268,27 +268,27 @@ tune_needed limits now olds is fits then =
 
 -- ---- a resize
 
-resized_settings : (archives : List Archive) (index : ℕ) (rows : List (List Cell)) → definitions (with_rows_at archives index rows) ≡ with_row_number (definitions archives) index (length rows)
+resized_settings : (archives : List Rra) (index : ℕ) (rows : List (List Cell)) → definitions (with_rows_at archives index rows) ≡ with_row_number (definitions archives) index (length rows)
 resized_settings [] index rows = refl
 resized_settings (archive ∷ archives) zero rows = refl
 resized_settings (archive ∷ archives) (suc index) rows = ap (λ defs. archive.def ∷ defs) (resized_settings archives index rows)
 
-resized_count : (archives : List Archive) (index : ℕ) (rows : List (List Cell)) → length (with_rows_at archives index rows) ≡ length archives
+resized_count : (archives : List Rra) (index : ℕ) (rows : List (List Cell)) → length (with_rows_at archives index rows) ≡ length archives
 resized_count [] index rows = refl
 resized_count (archive ∷ archives) zero rows = refl
 resized_count (archive ∷ archives) (suc index) rows = ap suc (resized_count archives index rows)
 
 -- the numbers of rows then
-resized_rows : (archives : List Archive) (index : ℕ) (rows : List (List Cell)) → rows_of (with_row_number (definitions archives) index (length rows)) ≡ rows_of_archives (with_rows_at archives index rows)
+resized_rows : (archives : List Rra) (index : ℕ) (rows : List (List Cell)) → rows_of (with_row_number (definitions archives) index (length rows)) ≡ rows_of_archives (with_rows_at archives index rows)
 resized_rows archives index rows = ap rows_of (sym (resized_settings archives index rows)) ∙ rows_by_settings (with_rows_at archives index rows)
 
 -- the number of rows now
-row_count : (limits : Limits) (sources steps : ℕ) (archives : List Archive) (index : ℕ) → AllByRecursion (IsValidArchiveWithin limits sources steps) archives → length (rows_at archives index) ≡ get_or (rows_of (definitions archives)) index 0
+row_count : (limits : Limits) (sources steps : ℕ) (archives : List Rra) (index : ℕ) → AllByRecursion (IsValidArchiveWithin limits sources steps) archives → length (rows_at archives index) ≡ get_or (rows_of (definitions archives)) index 0
 row_count limits sources steps [] index is = refl
 row_count limits sources steps (archive ∷ archives) zero is = is.0.rows_are
 row_count limits sources steps (archive ∷ archives) (suc index) is = row_count limits sources steps archives index is.1
 
-resized_valid : (limits : Limits) (sources steps : ℕ) (archives : List Archive) (index : ℕ) (rows : List (List Cell)) → AllByRecursion (IsValidArchiveWithin limits sources steps) archives → 0 < length rows → length rows ≤ limits.most_rows → AllByRecursion (IsRow sources) rows
+resized_valid : (limits : Limits) (sources steps : ℕ) (archives : List Rra) (index : ℕ) (rows : List (List Cell)) → AllByRecursion (IsValidArchiveWithin limits sources steps) archives → 0 < length rows → length rows ≤ limits.most_rows → AllByRecursion (IsRow sources) rows
     → AllByRecursion (IsValidArchiveWithin limits sources steps) (with_rows_at archives index rows)
 resized_valid limits sources steps [] index rows is some few each = tt
 resized_valid limits sources steps (archive ∷ archives) zero rows is some few each = (
@@ -313,7 +313,7 @@ record AreRows (limits : Limits) (sources : ℕ) (rows : List (List Cell)) : Typ
   pub few : length rows ≤ limits.most_rows
   pub each : AllByRecursion (IsRow sources) rows
 
-resized_here : (limits : Limits) (sources steps : ℕ) (archives : List Archive) (index : ℕ) (rows : List (List Cell)) → index < length archives → AllByRecursion (IsValidArchiveWithin limits sources steps) (with_rows_at archives index rows) → AreRows limits sources rows
+resized_here : (limits : Limits) (sources steps : ℕ) (archives : List Rra) (index : ℕ) (rows : List (List Cell)) → index < length archives → AllByRecursion (IsValidArchiveWithin limits sources steps) (with_rows_at archives index rows) → AreRows limits sources rows
 resized_here limits sources steps [] index rows there is = absurd (omega arith)
 resized_here limits sources steps (archive ∷ archives) zero rows there is = record { some = is.0.some_rows; few = is.0.few_rows; each = is.0.each_row }
 resized_here limits sources steps (archive ∷ archives) (suc index) rows there is = resized_here limits sources steps archives index rows (omega arith) is.1
@@ -321,7 +321,7 @@ resized_here limits sources steps (archive ∷ archives) (suc index) rows there 
 resize_suffices : (limits : Limits) (now : Content) (archive : ℕ) (rows : List (List Cell)) → OutlineSuffices limits now (ResizeEntry archive rows)
 resize_suffices limits now archive rows is may =
     let count = resized_count now.archives archive rows in
-    let defs : length (definitions now.archives) ≡ length now.archives = length-map now.archives (λ (a : Archive). a.def) in
+    let defs : length (definitions now.archives) ≡ length now.archives = length-map now.archives (λ (a : Rra). a.def) in
     let was = row_count limits (length now.sources) (now.last / now.step) now.archives archive is.archives_are in (
       record {
         there = omega (arith, defs, may.there);
@@ -349,7 +349,7 @@ resize_suffices limits now archive rows is may =
 
 resize_needed : (limits : Limits) (now : Content) (archive : ℕ) (rows : List (List Cell)) → OutlineIsNeeded limits now (ResizeEntry archive rows)
 resize_needed limits now archive rows is fits then =
-    let defs : length (definitions now.archives) ≡ length now.archives = length-map now.archives (λ (a : Archive). a.def) in
+    let defs : length (definitions now.archives) ≡ length now.archives = length-map now.archives (λ (a : Rra). a.def) in
     let was = row_count limits (length now.sources) (now.last / now.step) now.archives archive is.archives_are in
     let here = resized_here limits (length now.sources) (now.last / now.step) now.archives archive rows fits.there then.archives_are in
     record {
@@ -367,7 +367,7 @@ resize_needed limits now archive rows is fits then =
 
 added_suffices : (limits : Limits) (now : Content) → OutlineSuffices limits now AddedEntry
 added_suffices limits now is may =
-    let defs : length (definitions now.archives) ≡ length now.archives = length-map now.archives (λ (a : Archive). a.def) in
+    let defs : length (definitions now.archives) ≡ length now.archives = length-map now.archives (λ (a : Rra). a.def) in
     let two : 1 < length now.archives = omega (arith, defs, may.1) in
     let n = length now.archives - 1 in
     let count = length-take n now.archives in
@@ -376,17 +376,17 @@ added_suffices limits now is may =
 
 added_needed : (limits : Limits) (now : Content) → OutlineIsNeeded limits now AddedEntry
 added_needed limits now is fits then =
-    (fits.0, omega (arith, fits.1, length-map now.archives (λ (a : Archive). a.def)))
+    (fits.0, omega (arith, fits.1, length-map now.archives (λ (a : Rra). a.def)))
 
-rows_inserted : (archives : List Archive) (number : ℕ) (archive : Archive) → sum (rows_of (definitions archives)) + archive.def.rows ≡ sum (rows_of_archives (insert archives number archive))
+rows_inserted : (archives : List Rra) (number : ℕ) (archive : Rra) → sum (rows_of (definitions archives)) + archive.def.rows ≡ sum (rows_of_archives (insert archives number archive))
 rows_inserted archives number archive =
     ap (λ rows. sum rows + archive.def.rows) (rows_by_settings archives)
     ∙ sym (sum-insert (rows_of_archives archives) number archive.def.rows)
-    ∙ ap sum (sym (map-insert (λ (a : Archive). a.def.rows) archives number archive))
+    ∙ ap sum (sym (map-insert (λ (a : Rra). a.def.rows) archives number archive))
 
-removed_suffices : (limits : Limits) (now : Content) (number : ℕ) (archive : Archive) → OutlineSuffices limits now (RemovedEntry number archive)
+removed_suffices : (limits : Limits) (now : Content) (number : ℕ) (archive : Rra) → OutlineSuffices limits now (RemovedEntry number archive)
 removed_suffices limits now number archive is may =
-    let defs : length (definitions now.archives) ≡ length now.archives = length-map now.archives (λ (a : Archive). a.def) in
+    let defs : length (definitions now.archives) ≡ length now.archives = length-map now.archives (λ (a : Rra). a.def) in
     let n = length now.sources in
     let there : number ≤ length now.archives = omega (arith, defs, may.1.number_is.there) in
     let def_is = may.1.settings_are.def_is in
@@ -409,9 +409,9 @@ removed_suffices limits now number archive is may =
           (All-append P (take number now.archives) (archive ∷ drop number now.archives) (All-take P number now.archives is.archives_are) (this, All-drop P number now.archives is.archives_are)),
     )
 
-removed_needed : (limits : Limits) (now : Content) (number : ℕ) (archive : Archive) → OutlineIsNeeded limits now (RemovedEntry number archive)
+removed_needed : (limits : Limits) (now : Content) (number : ℕ) (archive : Rra) → OutlineIsNeeded limits now (RemovedEntry number archive)
 removed_needed limits now number archive is fits then =
-    let defs : length (definitions now.archives) ≡ length now.archives = length-map now.archives (λ (a : Archive). a.def) in
+    let defs : length (definitions now.archives) ≡ length now.archives = length-map now.archives (λ (a : Rra). a.def) in
     let n = length now.sources in
     let count = length-insert now.archives number archive fits.1.there in
     let this = inserted (IsValidArchiveWithin limits n (now.last / now.step)) now.archives number archive fits.1.there then.archives_are in (
@@ -477,8 +477,8 @@ outline_stays now (UpdateEntry old) = ap (with_defs (record (outline_of now) { l
 outline_stays now (TuneEntry olds) = ap outline_of (sources_undone now olds)
 outline_stays now (ResizeEntry archive rows) = ap (with_defs (outline_of now)) (resized_settings now.archives archive rows)
 outline_stays now AddedEntry =
-    ap (with_defs (outline_of now)) (sym (take-map (λ (a : Archive). a.def) (length now.archives - 1) now.archives) ∙ ap (λ n. take (n - 1) (definitions now.archives)) (sym (length-map now.archives (λ (a : Archive). a.def))))
-outline_stays now (RemovedEntry number archive) = ap (with_defs (outline_of now)) (map-insert (λ (a : Archive). a.def) now.archives number archive)
+    ap (with_defs (outline_of now)) (sym (take-map (λ (a : Rra). a.def) (length now.archives - 1) now.archives) ∙ ap (λ n. take (n - 1) (definitions now.archives)) (sym (length-map now.archives (λ (a : Rra). a.def))))
+outline_stays now (RemovedEntry number archive) = ap (with_defs (outline_of now)) (map-insert (λ (a : Rra). a.def) now.archives number archive)
 
 pub follows : (now : Content) (journal : List Entry) → OutlineFollows now journal
 follows now [] = record { step_stays = refl; outline_is = refl }
@@ -489,7 +489,7 @@ follows now (entry ∷ journal) =
       outline_is = rest.outline_is ∙ ap (λ outline. fold outline_undone outline journal) (outline_stays now entry);
     }
 
-filed_heads : (archives : List Archive) → map (λ (head : Head). head.def) (map head_of archives) ≡ definitions archives
+filed_heads : (archives : List Rra) → map (λ (head : Head). head.def) (map head_of archives) ≡ definitions archives
 filed_heads [] = refl
 filed_heads (archive ∷ archives) = ap (λ defs. archive.def ∷ defs) (filed_heads archives)
 

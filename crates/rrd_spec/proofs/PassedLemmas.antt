@@ -9,14 +9,14 @@ use Rattle.rrd_spec.specs.History.Groups.{finished, unfinished}
 use Rattle.rrd_fold.specs.Parts.{Part, with_each}
 use Rattle.rrd_spec.specs.History.Steps.{seconds_to_steps, steps_of, parts_of}
 use Rattle.rrd_spec.specs.History.Rows.{steps_to_rows, rows_of, row_parts_of}
-use Rattle.rrd_spec.specs.History.{Archive, Content, Reading, Sampled, moment_of, rates, samples, second, seconds_of, IsArchive, IsBase}
+use Rattle.rrd_spec.specs.History.{Rra, Content, Reading, Sampled, moment_of, rates, samples, second, seconds_of, IsArchive, IsBase}
 use Rattle.rrd_spec.specs.Laws.ListedContent.{keep_last, filled_up, kept_rows, archive_of, content_listed}
 use Rattle.rrd_spec.specs.Laws.Passing.{archive_passed, passed}
 use Rattle.rrd_spec.proofs.GroupLemmas.{finished_nil, unfinished_nil, finished_within, unfinished_within, goes_on, length-finished, reached_before}
 use Rattle.rrd_spec.proofs.RowLemmas.{filled_already}
 use Rattle.rrd_spec.specs.Lemmas.Lists.{keep_all, length-keep_last, keep_last-append}
 
-pub archive_passed-append : (sources before middle : ℕ) (archive : Archive) (xs ys : List (List Cell)) → 0 < archive.def.steps → before + length xs ≡ middle → archive_passed sources before (xs ++ ys) archive ≡ archive_passed sources middle ys (archive_passed sources before xs archive)
+pub archive_passed-append : (sources before middle : ℕ) (archive : Rra) (xs ys : List (List Cell)) → 0 < archive.def.steps → before + length xs ≡ middle → archive_passed sources before (xs ++ ys) archive ≡ archive_passed sources middle ys (archive_passed sources before xs archive)
 unfolding archive_passed
 archive_passed-append sources before middle archive xs ys some at =
     let rule = steps_to_rows archive.def sources in
@@ -35,14 +35,14 @@ archive_passed-append sources before middle archive xs ys some at =
     ∙ ap (λ n. keep_last n (keep_last (length old) (old ++ first) ++ later)) (sym count) in
     cc
 
-archives_passed-append : (sources before middle : ℕ) (archives : List Archive) (xs ys : List (List Cell)) → AllByRecursion IsArchive archives → before + length xs ≡ middle → map (archive_passed sources before (xs ++ ys)) archives ≡ map (archive_passed sources middle ys) (map (archive_passed sources before xs) archives)
+archives_passed-append : (sources before middle : ℕ) (archives : List Rra) (xs ys : List (List Cell)) → AllByRecursion IsArchive archives → before + length xs ≡ middle → map (archive_passed sources before (xs ++ ys)) archives ≡ map (archive_passed sources middle ys) (map (archive_passed sources before xs) archives)
 archives_passed-append sources before middle [] xs ys is at = refl
 archives_passed-append sources before middle (archive ∷ archives) xs ys is at =
     let one = archive_passed-append sources before middle archive xs ys is.0.some_steps at in
     let rest = archives_passed-append sources before middle archives xs ys is.1 at in
     cc
 
-with_passed : Content → ℕ → List Part → List Archive → Content
+with_passed : Content → ℕ → List Part → List Rra → Content
 with_passed base last parts archives = record base { last = last; parts = parts; archives = archives }
 
 pub passed-append : (base : Content) (xs ys : List (List Cell)) → IsBase base → passed base (xs ++ ys) ≡ passed (passed base xs) ys
@@ -73,7 +73,7 @@ unfolding seconds_of
 seconds_of_sample base sample h =
     map_same (second (samples (moment_of base) (Sampled sample ∷ []))) (rates base.sources (sample.time - base.last) base.raws sample.raws) (base.last + 1) (sample.time - base.last) (λ i low high. rw (le-leb i sample.time (omega arith)))
 
-archive_of_sample : (base : Content) (index : ℕ) (archive : Archive) (sample : Reading) → IsArchive archive → base.last < sample.time → archive_of base (Sampled sample ∷ []) (index, archive) ≡ archive_passed (length base.sources) (base.last / base.step) (steps_of base (Sampled sample ∷ [])) archive
+archive_of_sample : (base : Content) (index : ℕ) (archive : Rra) (sample : Reading) → IsArchive archive → base.last < sample.time → archive_of base (Sampled sample ∷ []) (index, archive) ≡ archive_passed (length base.sources) (base.last / base.step) (steps_of base (Sampled sample ∷ [])) archive
 unfolding archive_passed rows_of row_parts_of kept_rows
 archive_of_sample base index archive sample is h =
     let res = base.step * archive.def.steps in
@@ -86,7 +86,7 @@ archive_of_sample base index archive sample is h =
     = ap (λ n. filled_up rows nan (keep_last n all)) count ∙ filled_already rows nan (keep_last (length archive.rows) all) (omega (arith, is.rows_are, length-keep_last (length archive.rows) all (omega arith))) in
     cc
 
-archives_of_sample : (base : Content) (index : ℕ) (archives : List Archive) (sample : Reading) → AllByRecursion IsArchive archives → base.last < sample.time → map (archive_of base (Sampled sample ∷ [])) (enumerate_from index archives) ≡ map (archive_passed (length base.sources) (base.last / base.step) (steps_of base (Sampled sample ∷ []))) archives
+archives_of_sample : (base : Content) (index : ℕ) (archives : List Rra) (sample : Reading) → AllByRecursion IsArchive archives → base.last < sample.time → map (archive_of base (Sampled sample ∷ [])) (enumerate_from index archives) ≡ map (archive_passed (length base.sources) (base.last / base.step) (steps_of base (Sampled sample ∷ []))) archives
 archives_of_sample base index [] sample is h = refl
 archives_of_sample base index (archive ∷ archives) sample is h =
     let one = archive_of_sample base index archive sample is.0 h in
@@ -108,10 +108,10 @@ content_of_sample base sample is h =
 
 -- ---- one step at a time
 
-with_rows : Archive → List Part → List (List Cell) → Archive
+with_rows : Rra → List Part → List (List Cell) → Rra
 with_rows archive parts rows = record archive { parts = parts; rows = rows }
 
-archive_passed-nil : (sources before : ℕ) (archive : Archive) → 0 < archive.def.steps → archive_passed sources before [] archive ≡ archive
+archive_passed-nil : (sources before : ℕ) (archive : Rra) → 0 < archive.def.steps → archive_passed sources before [] archive ≡ archive
 unfolding archive_passed with_rows
 archive_passed-nil sources before archive some =
     let rule = steps_to_rows archive.def sources in
@@ -121,7 +121,7 @@ archive_passed-nil sources before archive some =
     = ap (λ zs. keep_last (length archive.rows) (archive.rows ++ zs)) none ∙ ap (keep_last (length archive.rows)) (append-nil archive.rows) ∙ keep_all (length archive.rows) archive.rows (omega arith) in
     ap (λ p. with_rows archive p (keep_last (length archive.rows) (archive.rows ++ finished rule before archive.parts []))) part ∙ ap (with_rows archive archive.parts) rows
 
-archives_passed-nil : (sources before : ℕ) (archives : List Archive) → AllByRecursion IsArchive archives → map (archive_passed sources before []) archives ≡ archives
+archives_passed-nil : (sources before : ℕ) (archives : List Rra) → AllByRecursion IsArchive archives → map (archive_passed sources before []) archives ≡ archives
 archives_passed-nil sources before [] is = refl
 archives_passed-nil sources before (archive ∷ archives) is =
     let one = archive_passed-nil sources before archive is.0.some_steps in

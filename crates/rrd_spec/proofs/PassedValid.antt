@@ -7,7 +7,7 @@ use Rattle.rrd_fold.specs.declared.function.Function.TheVariants.{Average}
 use Rattle.rrd_spec.specs.Laws.Validity.{ArchiveStaysValid, StaysValidFor}
 use Rattle.rrd_spec.specs.Commands.{rows_of_archives}
 use Rattle.rrd_spec.specs.History.Groups.{finished}
-use Rattle.rrd_spec.specs.History.{Archive, Content}
+use Rattle.rrd_spec.specs.History.{Rra, Content}
 use Rattle.rrd_spec.specs.Lemmas.Lists.{All-append, All-drop, length-keep_last}
 use Rattle.rrd_spec.specs.Laws.Passing.{archive_passed, passed}
 use Rattle.rrd_spec.specs.History.Steps.{seconds_to_steps}
@@ -18,7 +18,7 @@ use Rattle.rrd_spec.proofs.Bounded.{rows_keep, steps_keep}
 use Rattle.rrd_spec.proofs.GroupLemmas.{length-finished, reached_before}
 use Rattle.rrd_spec.proofs.Kept.{kept}
 
-pub archive_stays_valid : (sources before : ℕ) (steps : List (List Cell)) (archive : Archive) → ArchiveStaysValid sources before steps archive
+pub archive_stays_valid : (sources before : ℕ) (steps : List (List Cell)) (archive : Rra) → ArchiveStaysValid sources before steps archive
 unfolding archive_passed
 archive_stays_valid sources before steps archive is rows =
     let def = archive.def in
@@ -38,12 +38,12 @@ archive_stays_valid sources before steps archive is rows =
       each_row = All-drop (IsRow sources) (length all - length archive.rows) all (All-append (IsRow sources) archive.rows new is.each_row keeps.given_are);
     }
 
-archives_stay_valid : (sources before after : ℕ) (steps : List (List Cell)) (archives : List Archive) → AllByRecursion (IsValidArchive sources before) archives → AllByRecursion (IsRow sources) steps → before + length steps ≡ after → AllByRecursion (IsValidArchive sources after) (map (archive_passed sources before steps) archives)
+archives_stay_valid : (sources before after : ℕ) (steps : List (List Cell)) (archives : List Rra) → AllByRecursion (IsValidArchive sources before) archives → AllByRecursion (IsRow sources) steps → before + length steps ≡ after → AllByRecursion (IsValidArchive sources after) (map (archive_passed sources before steps) archives)
 archives_stay_valid sources before after steps [] is rows e = tt
 archives_stay_valid sources before after steps (archive ∷ archives) is rows e =
     (subst (λ n. IsValidArchive sources n (archive_passed sources before steps archive)) e (archive_stays_valid sources before steps archive is.0 rows), archives_stay_valid sources before after steps archives is.1 rows e)
 
-same_rows : (sources before : ℕ) (steps : List (List Cell)) (archives : List Archive) → rows_of_archives (map (archive_passed sources before steps) archives) ≡ rows_of_archives archives
+same_rows : (sources before : ℕ) (steps : List (List Cell)) (archives : List Rra) → rows_of_archives (map (archive_passed sources before steps) archives) ≡ rows_of_archives archives
 unfolding archive_passed
 same_rows sources before steps [] = refl
 same_rows sources before steps (archive ∷ archives) = ap (λ rest. archive.def.rows ∷ rest) (same_rows sources before steps archives)

@@ -6,7 +6,7 @@ use Rattle.rrd_fixed.specs.declared.cell.Cell.{Cell}
 use Rattle.rrd_fixed.specs.declared.raw.Raw.{Raw}
 use Rattle.rrd_spec.specs.declared.settings.DsDef.{DsDef}
 use Rattle.rrd_fold.specs.Parts.{Part}
-use Rattle.rrd_spec.specs.History.{Archive, Content, Event, Tuned, Resized, moment_of, moment_at_end, raws_under, samples, second, seconds_of, rows_after, IsArchive, IsBase}
+use Rattle.rrd_spec.specs.History.{Rra, Content, Event, Tuned, Resized, moment_of, moment_at_end, raws_under, samples, second, seconds_of, rows_after, IsArchive, IsBase}
 use Rattle.rrd_spec.specs.History.Steps.{steps_of, parts_of, seconds_to_steps}
 use Rattle.rrd_spec.specs.History.Rows.{rows_of, row_parts_of, steps_to_rows}
 use Rattle.rrd_spec.specs.Laws.ListedContent.{rows_never_lost, keep_last, filled_up, kept_rows, archive_of, content_listed}
@@ -28,15 +28,15 @@ module _ (base : Content) (es : List Event) (same : (moment_at_end base es).last
   unfolding parts_of
   parts_same some = ap (unfinished (seconds_to_steps base.step (length base.sources)) base.last base.parts) seconds_none ∙ unfinished_nil (seconds_to_steps base.step (length base.sources)) base.last base.parts some
 
-  pub rows_none : (archive : Archive) → rows_of base archive es ≡ []
+  pub rows_none : (archive : Rra) → rows_of base archive es ≡ []
   unfolding rows_of
   rows_none archive = ap (finished (steps_to_rows archive.def (length base.sources)) (base.last / base.step) archive.parts) steps_none ∙ finished_nil (steps_to_rows archive.def (length base.sources)) (base.last / base.step) archive.parts
 
-  pub row_parts_same : (archive : Archive) → 0 < archive.def.steps → row_parts_of base archive es ≡ archive.parts
+  pub row_parts_same : (archive : Rra) → 0 < archive.def.steps → row_parts_of base archive es ≡ archive.parts
   unfolding row_parts_of
   row_parts_same archive some = ap (unfinished (steps_to_rows archive.def (length base.sources)) (base.last / base.step) archive.parts) steps_none ∙ unfinished_nil (steps_to_rows archive.def (length base.sources)) (base.last / base.step) archive.parts some
 
-  kept_same : (index : ℕ) (archive : Archive) → IsArchive archive → ((rows : ℕ) → fold (rows_after index) rows es ≡ rows) → ((rows : ℕ) (since : ℕ → ℕ) → since base.last ≡ 0 → rows_never_lost index since rows (moment_of base) es ≡ rows) → kept_rows base index archive es ≡ archive.rows
+  kept_same : (index : ℕ) (archive : Rra) → IsArchive archive → ((rows : ℕ) → fold (rows_after index) rows es ≡ rows) → ((rows : ℕ) (since : ℕ → ℕ) → since base.last ≡ 0 → rows_never_lost index since rows (moment_of base) es ≡ rows) → kept_rows base index archive es ≡ archive.rows
   unfolding kept_rows
   kept_same index archive is rows_stay room_stays =
       let res = base.step * archive.def.steps in
@@ -51,24 +51,24 @@ module _ (base : Content) (es : List Event) (same : (moment_at_end base es).last
       ∙ ap (filled_up archive.def.rows nan) (keep_all archive.def.rows archive.rows (omega (arith, is.rows_are)))
       ∙ filled_already archive.def.rows nan archive.rows is.rows_are
 
-unfoldable pub made : Archive → ℕ → List Part → List (List Cell) → Archive
+unfoldable pub made : Rra → ℕ → List Part → List (List Cell) → Rra
 made archive n parts rows = record { def = record archive.def { rows = n }; parts = parts; rows = rows }
 
-pub archive_stays : (base : Content) (es : List Event) (index : ℕ) (archive : Archive) → (moment_at_end base es).last ≡ base.last → IsArchive archive → ((rows : ℕ) → fold (rows_after index) rows es ≡ rows) → ((rows : ℕ) (since : ℕ → ℕ) → since base.last ≡ 0 → rows_never_lost index since rows (moment_of base) es ≡ rows) → archive_of base es (index, archive) ≡ archive
+pub archive_stays : (base : Content) (es : List Event) (index : ℕ) (archive : Rra) → (moment_at_end base es).last ≡ base.last → IsArchive archive → ((rows : ℕ) → fold (rows_after index) rows es ≡ rows) → ((rows : ℕ) (since : ℕ → ℕ) → since base.last ≡ 0 → rows_never_lost index since rows (moment_of base) es ≡ rows) → archive_of base es (index, archive) ≡ archive
 unfolding made
 archive_stays base es index archive same is rows_stay room_stays =
     ap (λ n. made archive n (row_parts_of base archive es) (kept_rows base index archive es)) (rows_stay archive.def.rows)
     ∙ ap (λ ps. made archive archive.def.rows ps (kept_rows base index archive es)) (row_parts_same base es same archive is.some_steps)
     ∙ ap (made archive archive.def.rows archive.parts) (kept_same base es same index archive is rows_stay room_stays)
 
-pub archives_stay : (base : Content) (es : List Event) (first : ℕ) (archives : List Archive) → (moment_at_end base es).last ≡ base.last → AllByRecursion IsArchive archives → ((index rows : ℕ) → first ≤ index → fold (rows_after index) rows es ≡ rows) → ((index rows : ℕ) (since : ℕ → ℕ) → first ≤ index → since base.last ≡ 0 → rows_never_lost index since rows (moment_of base) es ≡ rows) → map (archive_of base es) (enumerate_from first archives) ≡ archives
+pub archives_stay : (base : Content) (es : List Event) (first : ℕ) (archives : List Rra) → (moment_at_end base es).last ≡ base.last → AllByRecursion IsArchive archives → ((index rows : ℕ) → first ≤ index → fold (rows_after index) rows es ≡ rows) → ((index rows : ℕ) (since : ℕ → ℕ) → first ≤ index → since base.last ≡ 0 → rows_never_lost index since rows (moment_of base) es ≡ rows) → map (archive_of base es) (enumerate_from first archives) ≡ archives
 archives_stay base es first [] same is rows_stay room_stays = refl
 archives_stay base es first (archive ∷ archives) same is rows_stay room_stays =
     let one = archive_stays base es first archive same is.0 (λ rows. rows_stay first rows (omega arith)) (λ rows since h. room_stays first rows since (omega arith) h) in
     let rest = archives_stay base es (first + 1) archives same is.1 (λ index rows low. rows_stay index rows (omega arith)) (λ index rows since low h. room_stays index rows since (omega arith) h) in
     cc
 
-unfoldable pub with_all : Content → List DsDef → ℕ → List Raw → List Part → List Archive → Content
+unfoldable pub with_all : Content → List DsDef → ℕ → List Raw → List Part → List Rra → Content
 with_all base sources last raws parts archives = record base { sources = sources; last = last; raws = raws; parts = parts; archives = archives }
 
 -- no event
@@ -94,10 +94,10 @@ other_fold at rows index old h = ap (λ b. cond b rows old) (ne_eqb at index h)
 other_room : (base : Content) (at rows index old : ℕ) (since : ℕ → ℕ) → (at ≡ index → ⊥) → since base.last ≡ 0 → rows_never_lost index since old (moment_of base) (Resized at rows ∷ []) ≡ old
 other_room base at rows index old since h k = let e = other_fold at rows index old h in omega arith
 
-pub resized_other : (base : Content) (at rows index : ℕ) (archive : Archive) → (at ≡ index → ⊥) → IsArchive archive → archive_of base (Resized at rows ∷ []) (index, archive) ≡ archive
+pub resized_other : (base : Content) (at rows index : ℕ) (archive : Rra) → (at ≡ index → ⊥) → IsArchive archive → archive_of base (Resized at rows ∷ []) (index, archive) ≡ archive
 resized_other base at rows index archive h is = archive_stays base (Resized at rows ∷ []) index archive refl is (λ old. other_fold at rows index old h) (λ old since k. other_room base at rows index old since h k)
 
-pub resized_elsewhere : (base : Content) (at rows first : ℕ) (archives : List Archive) → at < first → AllByRecursion IsArchive archives → map (archive_of base (Resized at rows ∷ [])) (enumerate_from first archives) ≡ archives
+pub resized_elsewhere : (base : Content) (at rows first : ℕ) (archives : List Rra) → at < first → AllByRecursion IsArchive archives → map (archive_of base (Resized at rows ∷ [])) (enumerate_from first archives) ≡ archives
 resized_elsewhere base at rows first archives h is =
     archives_stay base (Resized at rows ∷ []) first archives refl is
     (λ index old low. other_fold at rows index old (λ e. absurd (omega arith)))

@@ -10,7 +10,7 @@ use Rattle.rrd_spec.specs.declared.settings.RraDef.{RraDef}
 use Rattle.rrd_spec.specs.Limits.{Limits}
 use Rattle.rrd_spec.specs.Settings.{resolution}
 use Rattle.rrd_spec.specs.History.Cells.{time_of}
-use Rattle.rrd_spec.specs.History.{Archive, Content}
+use Rattle.rrd_spec.specs.History.{Rra, Content}
 use Rattle.rrd_spec.specs.Journal.Entries.{Entry}
 use Rattle.rrd_spec.specs.Lemmas.Validity.{length-accepted, rows_wide}
 use Rattle.rrd_spec.specs.declared.version.Version.{Version}
@@ -57,15 +57,15 @@ joined_of xs ys vs ws count same = (
 )
 
 -- an archive whose rows can be told
-record IsWhole (sources : ℕ) (archive : Archive) : Type 0 where
+record IsWhole (sources : ℕ) (archive : Rra) : Type 0 where
   pub some_steps : 0 < archive.def.steps
   pub rows_are : length archive.rows ≡ archive.def.rows
   pub each_row : AllByRecursion (HasOneEach sources) archive.rows
 
-archive_with : RraDef → List Part → List (List Cell) → Archive
+archive_with : RraDef → List Part → List (List Cell) → Rra
 archive_with def parts rows = record { def = def; parts = parts; rows = rows }
 
-archives_filed_once : (step last sources : ℕ) (archives others : List Archive) → 0 < step → AllByRecursion (IsWhole sources) archives → AllByRecursion (IsWhole sources) others → map head_of archives ≡ map head_of others
+archives_filed_once : (step last sources : ℕ) (archives others : List Rra) → 0 < step → AllByRecursion (IsWhole sources) archives → AllByRecursion (IsWhole sources) others → map head_of archives ≡ map head_of others
     → flat_map (cells_by_slot step last) archives ≡ flat_map (cells_by_slot step last) others → archives ≡ others
 unfolding archive_with
 archives_filed_once step last sources [] [] some all each heads cells = refl
@@ -121,12 +121,12 @@ gives_back (def ∷ defs) (raw ∷ raws) (part ∷ parts) a b =
 
 -- ---- the database
 
-archives_whole : (limits : Limits) (sources steps : ℕ) (archives : List Archive) → AllByRecursion (IsValidArchiveWithin limits sources steps) archives → AllByRecursion (IsWhole sources) archives
+archives_whole : (limits : Limits) (sources steps : ℕ) (archives : List Rra) → AllByRecursion (IsValidArchiveWithin limits sources steps) archives → AllByRecursion (IsWhole sources) archives
 archives_whole limits sources steps [] is = tt
 archives_whole limits sources steps (archive ∷ archives) is =
     (record { some_steps = is.0.some_steps; rows_are = is.0.rows_are; each_row = rows_wide sources archive.rows is.0.each_row }, archives_whole limits sources steps archives is.1)
 
-content_with : ℕ → ℕ → List DsDef → ℕ → List Raw → List Part → List Archive → Content
+content_with : ℕ → ℕ → List DsDef → ℕ → List Raw → List Part → List Rra → Content
 content_with step depth sources last raws parts archives = record {
   step = step;
   depth = depth;

@@ -5,7 +5,7 @@ use Rattle.std.proofs.lemmas.Bool.{cases_Bool, cases_lt}
 use Rattle.std.proofs.lemmas.List.{length-take, reverse-append, reverse-reverse}
 use Rattle.std.specs.List.{fold}
 use Rattle.rrd_spec.specs.History.{Content}
-use Rattle.rrd_spec.specs.Commands.{Command, content_of, moved}
+use Rattle.rrd_spec.specs.Commands.{DatabaseChange, content_of, moved}
 use Rattle.rrd_spec.specs.Commands.Verdict.{verdict, is_accepted}
 use Rattle.rrd_spec.specs.Journal.Entries.{Entry, entry, undone, IsSound}
 use Rattle.rrd_spec.specs.Journal.Survivors.{Action, Changed, Reverted, State, Stored, survived, entries, with_change, without_last, after, reverted, changed, stored_after, AllAccepted, AllUndo, Stands}
@@ -35,12 +35,12 @@ is_none-true (Some x) h = absurd cc
 pub survived_nil : (base : Content) → IsSound base → survived base [] ≡ base
 survived_nil base sound = sym (is_listed base [] sound.is_base tt tt) ∙ content_nil base sound.is_base
 
-pub survived_sound : (base : Content) (commands : List Command) → IsSound base → AllAccepted base commands → IsSound (survived base commands)
+pub survived_sound : (base : Content) (commands : List DatabaseChange) → IsSound base → AllAccepted base commands → IsSound (survived base commands)
 survived_sound base [] sound h = subst IsSound (sym (survived_nil base sound)) sound
 survived_sound base (command ∷ commands) sound h = subst IsSound (sym (moves base commands command sound h)) (moved_sound (survived base commands) command (survived_sound base commands sound h.1) h.0)
 
 -- commands on the content that earlier ones leave; all are accepted there too
-on_survived : (base : Content) (first second : List Command) → IsSound base → AllAccepted base (second ++ first) → AllAccepted base first × AllAccepted (survived base first) second × (survived base (second ++ first) ≡ survived (survived base first) second)
+on_survived : (base : Content) (first second : List DatabaseChange) → IsSound base → AllAccepted base (second ++ first) → AllAccepted base first × AllAccepted (survived base first) second × (survived base (second ++ first) ≡ survived (survived base first) second)
 on_survived base first [] sound h = (h, tt, sym (survived_nil (survived base first) (survived_sound base first sound h)))
 on_survived base first (command ∷ commands) sound h =
     let before = on_survived base first commands sound h.1 in
@@ -53,7 +53,7 @@ on_survived base first (command ∷ commands) sound h =
           ∙ sym (moves now commands command (survived_sound base first sound before.0) accepted),
     )
 
-pub commands_go_on : (base : Content) (first second : List Command) → CommandsGoOn base first second
+pub commands_go_on : (base : Content) (first second : List DatabaseChange) → CommandsGoOn base first second
 commands_go_on base first second sound h =
     let on = on_survived base (reverse first) (reverse second) sound (subst (AllAccepted base) (reverse-append first second) h) in
     ap (content_of base) (sym (reverse-reverse (first ++ second)) ∙ ap reverse (reverse-append first second))
@@ -61,24 +61,24 @@ commands_go_on base first second sound h =
     ∙ ap (λ x. content_of x (reverse (reverse second))) (ap (content_of base) (reverse-reverse first))
     ∙ ap (content_of (content_of base first)) (reverse-reverse second)
 
-survived_depth : (base : Content) (commands : List Command) → (survived base commands).depth ≡ base.depth
+survived_depth : (base : Content) (commands : List DatabaseChange) → (survived base commands).depth ≡ base.depth
 survived_depth base commands = refl
 
 -- ---- the journal
 
-length-entries : (base : Content) (n : ℕ) (commands : List Command) → n ≤ length commands → length (entries base n commands) ≡ n
+length-entries : (base : Content) (n : ℕ) (commands : List DatabaseChange) → n ≤ length commands → length (entries base n commands) ≡ n
 length-entries base zero commands h = refl
 length-entries base (suc n) [] h = absurd (omega arith)
 length-entries base (suc n) (command ∷ commands) h = ap suc (length-entries base n commands (omega arith))
 
-take-entries : (base : Content) (k n : ℕ) (commands : List Command) → k ≤ n → take k (entries base n commands) ≡ entries base k commands
+take-entries : (base : Content) (k n : ℕ) (commands : List DatabaseChange) → k ≤ n → take k (entries base n commands) ≡ entries base k commands
 take-entries base zero n commands h = refl
 take-entries base (suc k) zero commands h = absurd (omega arith)
 take-entries base (suc k) (suc n) [] h = refl
 take-entries base (suc k) (suc n) (command ∷ commands) h = ap (λ rest. entry (survived base commands) command ∷ rest) (take-entries base k n commands (omega arith))
 
 -- the journal with one entry more, as far as it has places
-journal_more : (base : Content) (brought : List Entry) (survivors : List Command) (command : Command) (n : ℕ) → n ≤ length survivors → n + length brought ≤ base.depth → take base.depth (entry (survived base survivors) command ∷ entries base n survivors ++ brought) ≡ entries base (min (n + 1) base.depth) (command ∷ survivors) ++ take (base.depth - (n + 1)) brought
+journal_more : (base : Content) (brought : List Entry) (survivors : List DatabaseChange) (command : DatabaseChange) (n : ℕ) → n ≤ length survivors → n + length brought ≤ base.depth → take base.depth (entry (survived base survivors) command ∷ entries base n survivors ++ brought) ≡ entries base (min (n + 1) base.depth) (command ∷ survivors) ++ take (base.depth - (n + 1)) brought
 journal_more base brought survivors command n enough places =
     let depth = base.depth in
     let all = entries base (suc n) (command ∷ survivors) in
@@ -105,7 +105,7 @@ undo_taken base (suc k) (old ∷ brought) h = (h.0, h.1, undo_taken (undone base
 
 -- ---- one action
 
-revert_stands : (base : Content) (brought : List Entry) (survivors : List Command) (n : ℕ) (kept : Stored) → Stands (record { base = base; brought = brought; survivors = survivors; revertible = n }) kept → Stands (without_last base brought survivors n) (reverted kept.content kept.journal)
+revert_stands : (base : Content) (brought : List Entry) (survivors : List DatabaseChange) (n : ℕ) (kept : Stored) → Stands (record { base = base; brought = brought; survivors = survivors; revertible = n }) kept → Stands (without_last base brought survivors n) (reverted kept.content kept.journal)
 revert_stands base brought (command ∷ survivors) (suc n) kept h =
     let P : List Entry → Type 0 = λ journal. Stands (record { base = base; brought = brought; survivors = survivors; revertible = n }) (reverted kept.content journal) in
     let earlier = survived base survivors in
@@ -149,7 +149,7 @@ revert_stands base [] survivors zero kept h =
       undo = tt;
     })
 
-change_stands : (state : State) (kept : Stored) (command : Command) → is_accepted (survived state.base state.survivors) command ≡ true → Stands state kept → Stands (with_change state command) (changed kept command)
+change_stands : (state : State) (kept : Stored) (command : DatabaseChange) → is_accepted (survived state.base state.survivors) command ≡ true → Stands state kept → Stands (with_change state command) (changed kept command)
 change_stands state kept command passes h =
     let base = state.base in
     let earlier = survived base state.survivors in

@@ -2,7 +2,7 @@
 use Rattle.std.proofs.Common.{◌≡◌, refl, sym, ◌∙◌, ap, ℕ, ◌-◌, ◌*◌, ◌/◌, min, List, [], ◌∷◌, ◌++◌, length, take, map, replicate, arith, length-append}
 use Rattle.std.specs.List.{fold}
 use Rattle.rrd_fixed.specs.declared.cell.Cell.{Cell}
-use Rattle.rrd_spec.specs.History.{Archive, Content, Reading, Sampled, Moment, moment_after, moment_of, moment_at_end, rows_after, IsArchive}
+use Rattle.rrd_spec.specs.History.{Rra, Content, Reading, Sampled, Moment, moment_after, moment_of, moment_at_end, rows_after, IsArchive}
 use Rattle.rrd_spec.specs.History.Rows.{rows_of}
 use Rattle.rrd_spec.specs.Laws.ListedContent.{rows_never_lost, keep_last, filled_up, kept_rows}
 use Rattle.rrd_spec.proofs.RowLemmas.{put_back_rows}
@@ -17,7 +17,7 @@ rows_of_samples index rows [] = refl
 rows_of_samples index rows (sample ∷ samples) = rows_of_samples index rows samples
 
 -- the rows after an update: the newest of the rows before it and of those that it finished
-pub kept_rows_of_samples : (base : Content) (index : ℕ) (archive : Archive) (samples : List Reading) → IsArchive archive → kept_rows base index archive (map Sampled samples) ≡ keep_last (length archive.rows) (archive.rows ++ rows_of base archive (map Sampled samples))
+pub kept_rows_of_samples : (base : Content) (index : ℕ) (archive : Rra) (samples : List Reading) → IsArchive archive → kept_rows base index archive (map Sampled samples) ≡ keep_last (length archive.rows) (archive.rows ++ rows_of base archive (map Sampled samples))
 unfolding kept_rows
 kept_rows_of_samples base index archive samples is =
     let es = map Sampled samples in
@@ -35,7 +35,7 @@ kept_rows_of_samples base index archive samples is =
     ∙ ap (λ n. replicate n nan ++ kept) {x = length archive.rows - length kept} {y = 0} (omega (arith, length-keep_last (length archive.rows) all (omega arith)))
 
 -- and what gives them back: the oldest rows from before it, as many as it finished, then the rows that it left
-pub update_undone : (base : Content) (index : ℕ) (archive : Archive) (samples : List Reading) → IsArchive archive → let f = length (rows_of base archive (map Sampled samples)) in let r = length archive.rows in take (min f r) archive.rows ++ take (r - min f r) (kept_rows base index archive (map Sampled samples)) ≡ archive.rows
+pub update_undone : (base : Content) (index : ℕ) (archive : Rra) (samples : List Reading) → IsArchive archive → let f = length (rows_of base archive (map Sampled samples)) in let r = length archive.rows in take (min f r) archive.rows ++ take (r - min f r) (kept_rows base index archive (map Sampled samples)) ≡ archive.rows
 update_undone base index archive samples is =
     let new = rows_of base archive (map Sampled samples) in
     let f = length new in

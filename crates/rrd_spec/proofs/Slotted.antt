@@ -10,7 +10,7 @@ use Rattle.std.specs.Int.{int_rem_euclid, int_div_euclid}
 use Rattle.rrd_fixed.specs.declared.cell.Cell.{Cell}
 use Rattle.rrd_spec.specs.Settings.{resolution}
 use Rattle.rrd_spec.specs.History.Cells.{row_of_age, time_of}
-use Rattle.rrd_spec.specs.History.{Archive, Content}
+use Rattle.rrd_spec.specs.History.{Rra, Content}
 use Rattle.rrd_spec.specs.Files.Slots.{slot_of, stands_in, row_in, place_in}
 use Rattle.rrd_spec.specs.Laws.Slots.{KeepsRow, PlaceHasSlot, PlacesDiffer, PutsRow, ShowsInPlace, SlotHasPlace, StandsInPlace, with_row_in}
 use Rattle.std.proofs.Math.Nat.{add-mul-mod_self_right, mod-add-div'}
@@ -197,7 +197,7 @@ places_differ size last rows slot other a b apart same =
 
 -- ---- the row of a place, shown at its time
 
-pub shows_in_place : (content : Content) (archive : Archive) (place : ℕ) → ShowsInPlace content archive place
+pub shows_in_place : (content : Content) (archive : Rra) (place : ℕ) → ShowsInPlace content archive place
 shows_in_place content archive place some inside =
     let size = resolution content.step archive.def in
     let rows = archive.rows in

@@ -18,7 +18,7 @@ use Rattle.rrd_spec.specs.declared.slow.Reading.{Reading}
 use Rattle.rrd_spec.specs.declared.slow.Taken as slow
 use Rattle.rrd_spec.specs.Commands.Creating.{create_verdict, created, new_archive}
 use Rattle.rrd_spec.specs.History.Cells.{content}
-use Rattle.rrd_spec.specs.History.{Archive, Content, Event, Sampled, moment_of, moment_at_end, samples, seconds, seconds_of, IsArchive}
+use Rattle.rrd_spec.specs.History.{Rra, Content, Event, Sampled, moment_of, moment_at_end, samples, seconds, seconds_of, IsArchive}
 use Rattle.rrd_spec.specs.Laws.ListedContent.{archive_of, content_listed, keep_last}
 use Rattle.rrd_spec.specs.History.Rows.{rows_of}
 use Rattle.rrd_spec.specs.Slow.{event_of, reading_of, taken_of, AreInOrder, AreNewest, latest, rule_of, IsGroup}
@@ -91,12 +91,12 @@ archive_group sources steps [] i d is h = absurd (omega arith)
 archive_group sources steps (def ∷ defs) zero d is h = (is.0.some_steps, is.0.few_steps, is.0.xff_low, is.0.xff_high)
 archive_group sources steps (def ∷ defs) (suc i) d is h = archive_group sources steps defs i d is.1 (omega arith)
 
-kept_is : (sources : ℕ) (defs : List RraDef) (i : ℕ) (d : RraDef) (archive : Archive) → slice_get (map (new_archive sources) defs) i ≡ Some archive → archive ≡ new_archive sources (get_or defs i d)
+kept_is : (sources : ℕ) (defs : List RraDef) (i : ℕ) (d : RraDef) (archive : Rra) → slice_get (map (new_archive sources) defs) i ≡ Some archive → archive ≡ new_archive sources (get_or defs i d)
 kept_is sources [] i d archive e = absurd cc
 kept_is sources (def ∷ defs) zero d archive e = cc
 kept_is sources (def ∷ defs) (suc i) d archive e = kept_is sources defs i d archive e
 
-pub rows_are : (spec : CreateSpec) (events : List Event) (sources : List DsDef) (defs : List RraDef) (i : ℕ) (d : RraDef) (steps rows : List (List Cell)) → sources ≡ spec.sources → defs ≡ spec.archives → steps ≡ steps_of (created spec) events → rows ≡ finished (rule_of (Row (get_or defs i d)) (length sources)) (spec.start / spec.step) (replicate (length sources) nothing) steps → (archive : Archive) → slice_get (created spec).archives i ≡ Some archive → rows ≡ rows_of (created spec) archive events
+pub rows_are : (spec : CreateSpec) (events : List Event) (sources : List DsDef) (defs : List RraDef) (i : ℕ) (d : RraDef) (steps rows : List (List Cell)) → sources ≡ spec.sources → defs ≡ spec.archives → steps ≡ steps_of (created spec) events → rows ≡ finished (rule_of (Row (get_or defs i d)) (length sources)) (spec.start / spec.step) (replicate (length sources) nothing) steps → (archive : Rra) → slice_get (created spec).archives i ≡ Some archive → rows ≡ rows_of (created spec) archive events
 unfolding rows_of
 rows_are spec events sources defs i d steps rows same same_defs steps_is rows_is archive e =
     let n = length spec.sources in
@@ -105,13 +105,13 @@ rows_are spec events sources defs i d steps rows same same_defs steps_is rows_is
     ∙ ap (λ (ss : List DsDef). finished (rule_of (Row (get_or defs i d)) (length ss)) before (replicate (length ss) nothing) steps) same
     ∙ ap (λ (ds : List RraDef). finished (rule_of (Row (get_or ds i d)) n) before (replicate n nothing) steps) same_defs
     ∙ ap (finished (rule_of (Row (get_or spec.archives i d)) n) before (replicate n nothing)) steps_is
-    ∙ ap (λ (a : Archive). finished (rule_of (Row a.def) n) before a.parts (steps_of (created spec) events)) (sym (kept_is n spec.archives i d archive e))
+    ∙ ap (λ (a : Rra). finished (rule_of (Row a.def) n) before a.parts (steps_of (created spec) events)) (sym (kept_is n spec.archives i d archive e))
 
 -- ---- what an archive then shows
 
 -- the archive that one of a content was before
-shown_from : (f : ℕ × Archive → Archive) (n : ℕ) (archives : List Archive) (index : ℕ) (shown : Archive)
-    → slice_get (map f (enumerate_from n archives)) index ≡ Some shown → (archive : Archive) × (slice_get archives index ≡ Some archive) × (f (n + index, archive) ≡ shown)
+shown_from : (f : ℕ × Rra → Rra) (n : ℕ) (archives : List Rra) (index : ℕ) (shown : Rra)
+    → slice_get (map f (enumerate_from n archives)) index ≡ Some shown → (archive : Rra) × (slice_get archives index ≡ Some archive) × (f (n + index, archive) ≡ shown)
 shown_from f n [] index shown h = absurd cc
 shown_from f n (first ∷ archives) zero shown h =
     let here : f (n, first) ≡ shown = cc in
@@ -120,13 +120,13 @@ shown_from f n (first ∷ archives) (suc index) shown h =
     let rest = shown_from f (n + 1) archives index shown h in
     (rest.0, rest.1, ap (λ i. f (i, rest.0)) {x = n + suc index} {y = n + 1 + index} (omega arith) ∙ rest.2)
 
-one_of : (archives : List Archive) (index : ℕ) (archive : Archive) → AllByRecursion IsArchive archives → slice_get archives index ≡ Some archive → IsArchive archive
+one_of : (archives : List Rra) (index : ℕ) (archive : Rra) → AllByRecursion IsArchive archives → slice_get archives index ≡ Some archive → IsArchive archive
 one_of [] index archive is h = absurd cc
 one_of (first ∷ archives) zero archive is h = let here : first ≡ archive = cc in subst IsArchive here is.0
 one_of (first ∷ archives) (suc index) archive is h = one_of archives index archive is.1 h
 
 pub are_newest : (spec : CreateSpec) (readings : List Reading) (number : ℕ) (d : RraDef) (rows : List (List Cell)) → create_verdict spec ≡ None → AreInOrder spec.sources spec.start readings
-    → ((kept : Archive) → slice_get (created spec).archives number ≡ Some kept → rows ≡ rows_of (created spec) kept (map event_of readings))
+    → ((kept : Rra) → slice_get (created spec).archives number ≡ Some kept → rows ≡ rows_of (created spec) kept (map event_of readings))
     → AreNewest spec (map event_of readings) number rows
 unfolding content_listed
 are_newest spec readings number d rows accepted order all shown there =
@@ -141,11 +141,11 @@ are_newest spec readings number d rows accepted order all shown there =
     let from = shown_from (archive_of base samples) 0 base.archives number shown listed in
     let archive = from.0 in
     let is = one_of base.archives number archive is_base.archives_are from.1 in
-    let blank : archive.rows ≡ replicate archive.def.rows nan = subst (λ (a : Archive). a.rows ≡ replicate a.def.rows nan) (sym (kept_is n spec.archives number d archive from.1)) refl in
+    let blank : archive.rows ≡ replicate archive.def.rows nan = subst (λ (a : Rra). a.rows ≡ replicate a.def.rows nan) (sym (kept_is n spec.archives number d archive from.1)) refl in
     let finished_rows : rows_of base archive samples ≡ rows = ap (rows_of base archive) (sym (events_are readings)) ∙ sym (all archive from.1) in
-    let as_many : archive.def.rows ≡ shown.def.rows = sym (rows_of_samples (0 + number) archive.def.rows (map reading_of readings)) ∙ ap (λ (a : Archive). a.def.rows) from.2 in
+    let as_many : archive.def.rows ≡ shown.def.rows = sym (rows_of_samples (0 + number) archive.def.rows (map reading_of readings)) ∙ ap (λ (a : Rra). a.def.rows) from.2 in
     let kept : shown.rows ≡ keep_last (length archive.rows) (archive.rows ++ rows_of base archive samples)
-    = sym (ap (λ (a : Archive). a.rows) from.2) ∙ kept_rows_of_samples base (0 + number) archive (map reading_of readings) is in
+    = sym (ap (λ (a : Rra). a.rows) from.2) ∙ kept_rows_of_samples base (0 + number) archive (map reading_of readings) is in
     let first : shown.rows ≡ keep_last archive.def.rows (archive.rows ++ rows)
     = kept ∙ ap (λ zs. keep_last (length archive.rows) (archive.rows ++ zs)) finished_rows ∙ ap (λ k. keep_last k (archive.rows ++ rows)) is.rows_are in
     first

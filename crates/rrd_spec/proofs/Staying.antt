@@ -8,18 +8,18 @@ use Rattle.std.proofs.lemmas.Bool.{cond_both, ltb-true, ltb-false, or_parts, not
 use Rattle.std.proofs.lemmas.List.{length-map}
 use Rattle.std.proofs.lemmas.List.FromFn.{length-enumerate_from}
 use Rattle.std.specs.List.{fold, enumerate_from, list_any, AllByRecursion}
-use Rattle.std.specs.Option.{option_map_or, unwrap_or}
+use Rattle.std.specs.Option.{option_and_then, option_map_or, unwrap_or}
 use Rattle.rrd_fixed.specs.declared.raw.Raw.{Raw}
 use Rattle.rrd_fixed.specs.declared.kind.Kind.{Kind}
 use Rattle.rrd_fixed.specs.declared.kind.Kind.TheVariants.{Gauge, Counter, Derive, Absolute}
 use Rattle.rrd_fixed.specs.Rate.{IsAccepted}
 use Rattle.rrd_fixed.specs.declared.name.Name.{Name}
 use Rattle.rrd_spec.specs.declared.settings.DsDef.{DsDef}
-use Rattle.rrd_spec.specs.History.{Archive, Content, Reading, Event, Sampled, Tuned, Moment, moment_after, moment_of, moment_at_end, same_kind, raws_under, rows_after, seconds_of, IsHistory}
+use Rattle.rrd_spec.specs.History.{Rra, Content, Reading, Event, Sampled, Tuned, Moment, moment_after, moment_of, moment_at_end, same_kind, raws_under, rows_after, seconds_of, IsHistory}
 use Rattle.rrd_spec.specs.Laws.ListedContent.{KeepsArchives, archive_of, content_listed}
 use Rattle.rrd_spec.proofs.HistoryLemmas.{length-sources}
 use Rattle.rrd_spec.proofs.SampleLemmas.{rows_of_samples}
-use Rattle.rrd_spec.specs.Commands.{Asked, Command, Updating, TuningBy, Resizing, settings_of, settings_after, rows_of_archives, raw_of, value_for, sample_of, samples_of, asked, tuned, rows_changed, events}
+use Rattle.rrd_spec.specs.Commands.{Asked, DatabaseChange, Updating, TuningBy, Resizing, settings_of, settings_after, rows_of_archives, raw_of, value_for, sample_of, samples_of, asked, tuned, rows_changed, events}
 use Rattle.rrd_spec.specs.Settings.{names, has_source, is_double, cells}
 use Rattle.rrd_spec.specs.Laws.Commands.{Passes}
 use Rattle.rrd_spec.specs.Commands.Verdict.{is_bad_heartbeat, is_bad_rows, has_bad_bounds, grows_too_far, sample_checks, verdict}
@@ -73,11 +73,13 @@ raw_accepted Gauge (Given.Number number) = cond_both (ltb (unsigned_abs number.m
 raw_accepted Absolute (Given.Number number) = cond_both (ltb (unsigned_abs number.millionths) (10 ^ 24)) (Some number.millionths) None (λ o. IsAccepted Absolute (option_map_or Raw.Known o Raw.Unknown)) (λ e. ltb-true _ _ e) (λ e. tt)
 raw_accepted Counter (Given.Number number) =
     let value = floor_of number.millionths (pos (10 ^ 6)) in
-    cond_both (not number.point && is_whole number.millionths) (in_range (pos 0) (pos (2 ^ 64 - 1)) value) None (λ o. IsAccepted Counter (option_map_or Raw.Known o Raw.Unknown))
+    cond_both (not number.point && is_whole number.millionths) (Some value) None
+    (λ o. IsAccepted Counter (option_map_or Raw.Known (option_and_then (in_range (pos 0) (pos (2 ^ 64 - 1))) o) Raw.Unknown))
     (λ e. admitted_range Counter (pos 0) (pos (2 ^ 64 - 1)) value (λ z a b. (a, omega (arith, ints)))) (λ e. tt)
 raw_accepted Derive (Given.Number number) =
     let value = floor_of number.millionths (pos (10 ^ 6)) in
-    cond_both (not number.point && is_whole number.millionths) (in_range (neg_ℤ (pos (2 ^ 63))) (pos (2 ^ 63 - 1)) value) None (λ o. IsAccepted Derive (option_map_or Raw.Known o Raw.Unknown))
+    cond_both (not number.point && is_whole number.millionths) (Some value) None
+    (λ o. IsAccepted Derive (option_map_or Raw.Known (option_and_then (in_range (neg_ℤ (pos (2 ^ 63))) (pos (2 ^ 63 - 1))) o) Raw.Unknown))
     (λ e. admitted_range Derive (neg_ℤ (pos (2 ^ 63))) (pos (2 ^ 63 - 1)) value (λ z a b. (a, omega (arith, ints)))) (λ e. tt)
 
 pub raws_accepted : (f : DsDef → Given) (sources : List DsDef) → AreAccepted sources (map (λ (source : DsDef). raw_of source.kind (f source)) sources)
@@ -111,7 +113,7 @@ raws_tuned f (source ∷ sources) (raw ∷ raws) h =
 
 -- ---- the numbers of rows
 
-same_rows : (base : Content) (es : List Event) (first : ℕ) (archives : List Archive) → ((index rows : ℕ) → fold (rows_after index) rows es ≡ rows) → rows_of_archives (map (archive_of base es) (enumerate_from first archives)) ≡ rows_of_archives archives
+same_rows : (base : Content) (es : List Event) (first : ℕ) (archives : List Rra) → ((index rows : ℕ) → fold (rows_after index) rows es ≡ rows) → rows_of_archives (map (archive_of base es) (enumerate_from first archives)) ≡ rows_of_archives archives
 same_rows base es first [] h = refl
 same_rows base es first (archive ∷ archives) h = let one = h first archive.def.rows in let rest = same_rows base es (first + 1) archives h in cc
 
@@ -240,7 +242,7 @@ tune_leaves base tuning is h =
 
 -- ---- a resize
 
-pub few_rows_at : (sources steps index : ℕ) (archives : List Archive) → AllByRecursion (IsValidArchive sources steps) archives → get_or (rows_of_archives archives) index 0 ≤ 1000000
+pub few_rows_at : (sources steps index : ℕ) (archives : List Rra) → AllByRecursion (IsValidArchive sources steps) archives → get_or (rows_of_archives archives) index 0 ≤ 1000000
 few_rows_at sources steps index [] is = omega arith
 few_rows_at sources steps zero (archive ∷ archives) is = is.0.few_rows
 few_rows_at sources steps (suc index) (archive ∷ archives) is = few_rows_at sources steps index archives is.1
@@ -290,8 +292,8 @@ tuned_valid base tuning (Some (Add def)) e is h =
     let p = tune_passes base tuning (Some (Add def)) e h in
     let small = or_parts (ltb present.most_archives (length (rows ++ def.rows ∷ []))) (ltb present.most_cells (n * sum (rows ++ def.rows ∷ []))) p.1.1.1.0 in
     let few = ltb-false present.most_archives (length (rows ++ def.rows ∷ [])) small.0 in
-    let as_many : length rows ≡ length base.archives = length-map base.archives (λ (a : Archive). a.def.rows) in
-    let same : rows_of_archives (base.archives ++ new ∷ []) ≡ rows ++ def.rows ∷ [] = map-append (λ (a : Archive). a.def.rows) base.archives (new ∷ []) in
+    let as_many : length rows ≡ length base.archives = length-map base.archives (λ (a : Rra). a.def.rows) in
+    let same : rows_of_archives (base.archives ++ new ∷ []) ≡ rows ++ def.rows ∷ [] = map-append (λ (a : Rra). a.def.rows) base.archives (new ∷ []) in
     subst IsValid (sym (tune_added base tuning def (base_of_valid base is) e h))
     (valid_with present base (base.archives ++ new ∷ []) is
     (omega (arith, length_push base.archives new))
@@ -302,7 +304,7 @@ tuned_valid base tuning (Some (Remove number)) e is h =
     let n = length base.sources in
     let rows = rows_of_archives base.archives in
     let p = tune_passes base tuning (Some (Remove number)) e h in
-    let as_many : length rows ≡ length base.archives = length-map base.archives (λ (a : Archive). a.def.rows) in
+    let as_many : length rows ≡ length base.archives = length-map base.archives (λ (a : Rra). a.def.rows) in
     let there : number < length base.archives = omega (arith, leb-false (length rows) number p.0, as_many) in
     let two : 1 < length base.archives = omega (arith, leb-false (length rows) 1 p.1.0, as_many) in
     let P = IsValidArchive n (base.last / base.step) in
@@ -314,7 +316,7 @@ tuned_valid base tuning (Some (Remove number)) e is h =
     (fewer_removed n present.most_cells base.archives number is.few_cells)
     (All-append P (take number base.archives) (drop (suc number) base.archives) (All-take P number base.archives is.archives_are) (All-drop P (suc number) base.archives is.archives_are)))
 
-pub stays_valid : (base : Content) (command : Command) → StaysValid base command
+pub stays_valid : (base : Content) (command : DatabaseChange) → StaysValid base command
 stays_valid base (Updating update) is h =
     subst IsValid (moved_is base (Updating update) (sound base is) h (sampled_keep (samples_of base.sources update))) (left_valid base (events (settings_of base) (Updating update)) is (update_leaves base update is h))
 stays_valid base (TuningBy tuning) is h = tuned_valid base tuning tuning.archive refl is h

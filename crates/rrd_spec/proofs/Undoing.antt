@@ -9,12 +9,12 @@ use Rattle.rrd_fixed.specs.declared.kind.Kind.TheVariants.{Gauge, Counter, Deriv
 use Rattle.rrd_fixed.specs.declared.name.Name.{Name}
 use Rattle.rrd_spec.specs.declared.settings.DsDef.{DsDef}
 use Rattle.rrd_spec.specs.declared.entry.SourceBefore.{SourceBefore}
-use Rattle.rrd_spec.specs.History.{Archive, Reading, Sampled, Resized, Moment, moment_after, moment_of, moment_at_end, same_kind, raws_under, rows_after, IsHistory, IsArchive}
+use Rattle.rrd_spec.specs.History.{Rra, Reading, Sampled, Resized, Moment, moment_after, moment_of, moment_at_end, same_kind, raws_under, rows_after, IsHistory, IsArchive}
 use Rattle.rrd_spec.specs.History.Rows.{rows_of, row_parts_of}
 use Rattle.rrd_spec.specs.Laws.ListedContent.{kept_rows, archive_of, content_listed, moved_listed}
 use Rattle.rrd_spec.proofs.ContentLemmas.{length-rows_of, length-kept_rows}
 use Rattle.rrd_spec.proofs.SampleLemmas.{rows_of_samples, update_undone}
-use Rattle.rrd_spec.specs.Commands.{Asked, Command, Updating, TuningBy, Resizing, settings_of, samples_of, asked, tuned, rows_changed}
+use Rattle.rrd_spec.specs.Commands.{Asked, DatabaseChange, Updating, TuningBy, Resizing, settings_of, samples_of, asked, tuned, rows_changed}
 use Rattle.rrd_spec.specs.Commands.Verdict.{verdict}
 use Rattle.rrd_spec.specs.Journal.Entries.{AddedEntry, RemovedEntry, ResizeEntry, TuneEntry, archive_at, archive_entry, rows_between, saved, is_asked, is_named, sources_before, rows_at, put_back, put_back_each, with_source, with_rows_at, entry, undone, IsSound}
 use Rattle.rrd_spec.specs.Laws.Journal.{ComesBack}
@@ -40,7 +40,7 @@ same_sources : (now : Moment) (samples : List Reading) → (fold moment_after no
 same_sources now [] = refl
 same_sources now (sample ∷ samples) = same_sources (moment_after now (Sampled sample)) samples
 
-archive_back : (base : Content) (index : ℕ) (archive : Archive) (samples : List Reading) → 0 < base.step → IsArchive archive → IsHistory (moment_of base) (map Sampled samples) → put_back (archive_of base (map Sampled samples) (index, archive)) (saved base.step base.last (moment_at_end base (map Sampled samples)).last archive) ≡ archive
+archive_back : (base : Content) (index : ℕ) (archive : Rra) (samples : List Reading) → 0 < base.step → IsArchive archive → IsHistory (moment_of base) (map Sampled samples) → put_back (archive_of base (map Sampled samples) (index, archive)) (saved base.step base.last (moment_at_end base (map Sampled samples)).last archive) ≡ archive
 unfolding made
 archive_back base index archive samples some is h =
     let es = map Sampled samples in
@@ -61,7 +61,7 @@ archive_back base index archive samples some is h =
     ∙ update_undone base index archive samples is in
     ap (λ n. made archive n archive.parts (old ++ take (length kept - length old) kept)) defs ∙ ap (made archive archive.def.rows archive.parts) rows
 
-archives_back : (base : Content) (index : ℕ) (archives : List Archive) (samples : List Reading) → 0 < base.step → AllByRecursion IsArchive archives → IsHistory (moment_of base) (map Sampled samples) → put_back_each (map (archive_of base (map Sampled samples)) (enumerate_from index archives)) (map (saved base.step base.last (moment_at_end base (map Sampled samples)).last) archives) ≡ archives
+archives_back : (base : Content) (index : ℕ) (archives : List Rra) (samples : List Reading) → 0 < base.step → AllByRecursion IsArchive archives → IsHistory (moment_of base) (map Sampled samples) → put_back_each (map (archive_of base (map Sampled samples)) (enumerate_from index archives)) (map (saved base.step base.last (moment_at_end base (map Sampled samples)).last) archives) ≡ archives
 archives_back base index [] samples some is h = refl
 archives_back base index (archive ∷ archives) samples some is h =
     let one = archive_back base index archive samples some is.0 h in
@@ -69,7 +69,7 @@ archives_back base index (archive ∷ archives) samples some is h =
     cc
 
 -- an accepted command is undone by its entry, where the content is said by list
-abbrev ListedBack : Content → Command → Type 0
+abbrev ListedBack : Content → DatabaseChange → Type 0
 ListedBack base command = IsSound base → verdict base command ≡ None → undone (moved_listed base command) (entry base command) ≡ base
 
 update_back : (base : Content) (update : Update) → ListedBack base (Updating update)
@@ -158,19 +158,19 @@ tuned_back base tuning (Some (Add def)) e sound h =
     ∙ ap (λ archives. let x : Content = record base { archives = archives } in x) (without_added base.archives new)
 tuned_back base tuning (Some (Remove number)) e sound h =
     let p = tune_passes base tuning (Some (Remove number)) e h in
-    let there : number < length base.archives = omega (arith, leb-false (length (settings_of base).rows) number p.0, length-map base.archives (λ (a : Archive). a.def.rows)) in
+    let there : number < length base.archives = omega (arith, leb-false (length (settings_of base).rows) number p.0, length-map base.archives (λ (a : Rra). a.def.rows)) in
     ap (λ now. undone now (RemovedEntry number (archive_at base.archives number))) (tune_removed base tuning number sound.is_base e)
     ∙ ap (λ archives. let x : Content = record base { archives = archives } in x) (put_in_again base.archives number _ there)
 
 -- ---- a resize
 
-resized_here : (base : Content) (at rows first : ℕ) (archive : Archive) → at ≡ first → IsArchive archive → let new = archive_of base (Resized at rows ∷ []) (first, archive) in made new (length archive.rows) new.parts archive.rows ≡ archive
+resized_here : (base : Content) (at rows first : ℕ) (archive : Rra) → at ≡ first → IsArchive archive → let new = archive_of base (Resized at rows ∷ []) (first, archive) in made new (length archive.rows) new.parts archive.rows ≡ archive
 unfolding made
 resized_here base at rows first archive e is =
     ap (λ n. made archive n (row_parts_of base archive (Resized at rows ∷ [])) archive.rows) is.rows_are
     ∙ ap (λ ps. made archive archive.def.rows ps archive.rows) (row_parts_same base (Resized at rows ∷ []) refl archive is.some_steps)
 
-archives_resized_back : (base : Content) (at rows first index : ℕ) (archives : List Archive) → at ≡ first + index → AllByRecursion IsArchive archives → index < length archives → with_rows_at (map (archive_of base (Resized at rows ∷ [])) (enumerate_from first archives)) index (rows_at archives index) ≡ archives
+archives_resized_back : (base : Content) (at rows first index : ℕ) (archives : List Rra) → at ≡ first + index → AllByRecursion IsArchive archives → index < length archives → with_rows_at (map (archive_of base (Resized at rows ∷ [])) (enumerate_from first archives)) index (rows_at archives index) ≡ archives
 unfolding made
 archives_resized_back base at rows first index [] e is h = absurd (omega arith)
 archives_resized_back base at rows first zero (archive ∷ archives) e is h =
@@ -182,7 +182,7 @@ archives_resized_back base at rows first (suc index) (archive ∷ archives) e is
     let rest = archives_resized_back base at rows (first + 1) index archives (omega arith) is.1 (omega arith) in
     cc
 
-with_archives : Content → List Archive → Content
+with_archives : Content → List Rra → Content
 with_archives base archives = record base { archives = archives }
 
 resize_back : (base : Content) (archive : ℕ) (change : Change) (rows : ℕ) → ListedBack base (Resizing archive change rows)
@@ -190,11 +190,11 @@ unfolding with_archives
 resize_back base archive change rows sound h =
     let new = rows_changed change (slice_index_or (settings_of base).rows archive 0) rows in
     let p = accepted_passes base (Resizing archive change rows) h in
-    let there : archive < length base.archives = omega (arith, leb-false (length (settings_of base).rows) archive p.0, length-map base.archives (λ (a : Archive). a.def.rows)) in
+    let there : archive < length base.archives = omega (arith, leb-false (length (settings_of base).rows) archive p.0, length-map base.archives (λ (a : Rra). a.def.rows)) in
     ap (λ now. undone now (ResizeEntry archive (rows_at base.archives archive))) (content_resized base archive new sound.is_base)
     ∙ ap (λ archives. with_archives base archives) (archives_resized_back base archive new 0 archive base.archives (omega arith) sound.is_base.archives_are there)
 
-pub comes_back : (base : Content) (command : Command) → ComesBack base command
+pub comes_back : (base : Content) (command : DatabaseChange) → ComesBack base command
 comes_back base (Updating update) sound h =
     ap (λ now. undone now (entry base (Updating update))) (sym (moved_is base (Updating update) sound h (sampled_keep (samples_of base.sources update))))
     ∙ update_back base update sound h

@@ -9,7 +9,7 @@ use Rattle.rrd_fold.specs.declared.function.Function.TheVariants.{Average, Min, 
 use Rattle.rrd_spec.specs.declared.settings.RraDef.{RraDef}
 use Rattle.rrd_spec.specs.declared.requests.fetch.Candidate.{Candidate}
 use Rattle.rrd_spec.specs.declared.requests.fetch.Chosen.{Chosen}
-use Rattle.rrd_spec.specs.declared.requests.fetch.Request.{Request}
+use Rattle.rrd_spec.specs.declared.requests.fetch.FetchRequest.{FetchRequest}
 use Rattle.rrd_spec.specs.declared.refusal.Refusal.{Refusal}
 use Rattle.rrd_spec.specs.declared.refusal.Refusal.TheVariants.{BadTime, BadSpan, NoArchiveForFunction, SpanTooLong}
 use Rattle.rrd_spec.specs.Limits.{Limits, present}
@@ -66,7 +66,7 @@ taken asked start list = option_or (best (is_nearer asked) (filter (covers start
 -- ---- the span
 
 -- what can't be fetched of any database
-abbrev pub span_checks : Limits → Request → List Check
+abbrev pub span_checks : Limits → FetchRequest → List Check
 span_checks limits request =
     ◌refuses◌ (nat_lt limits.latest_time request.start) BadTime
     ∷ ◌refuses◌ (nat_lt limits.latest_time request.end) BadTime
@@ -75,7 +75,7 @@ span_checks limits request =
 
 -- the rows at the multiples of the resolution from after `lo` up to `hi`: `lo` is the start rounded down, `hi` the
 -- first one after the end
-abbrev pub span : Request → Candidate → Chosen
+abbrev pub span : FetchRequest → Candidate → Chosen
 span request one = record {
   archive = one.number;
   res = one.resolution;
@@ -87,7 +87,7 @@ span request one = record {
 abbrev pub span_rows : Chosen → ℕ
 span_rows chosen = (chosen.hi - chosen.lo) / chosen.res
 
-abbrev pub span_of : Limits → Request → Option Candidate → Result Chosen Refusal
+abbrev pub span_of : Limits → FetchRequest → Option Candidate → Result Chosen Refusal
 span_of limits request None = Err NoArchiveForFunction
 span_of limits request (Some one) =
     if nat_lt limits.longest_span (span_rows (span request one)) then Err SpanTooLong else Ok (span request one)
@@ -96,7 +96,7 @@ abbrev pub unless_refused : Option Refusal → Result Chosen Refusal → Result 
 unless_refused None answer = answer
 unless_refused (Some refusal) answer = Err refusal
 
-abbrev pub choice_of : Limits → ℕ → ℕ → List RraDef → Request → Result Chosen Refusal
+abbrev pub choice_of : Limits → ℕ → ℕ → List RraDef → FetchRequest → Result Chosen Refusal
 choice_of limits step last defs request =
     unless_refused (first_refusal (span_checks limits request))
     (span_of limits request (taken request.asked request.start (candidates step last request.function defs)))

@@ -16,7 +16,7 @@ use Rattle.rrd_spec.specs.declared.requests.tune.ArchiveTune.{ArchiveTune}
 use Rattle.rrd_spec.specs.declared.requests.tune.ArchiveTune.TheVariants.{Add, Remove}
 use Rattle.rrd_spec.specs.declared.requests.resize.Change.{Change}
 use Rattle.rrd_spec.specs.declared.requests.resize.Change.TheVariants.{Grow, Shrink}
-use Rattle.rrd_spec.specs.History.{Archive, Content, Reading, Event, Sampled, Tuned, Resized, Added, Removed}
+use Rattle.rrd_spec.specs.History.{Rra, Content, Reading, Event, Sampled, Tuned, Resized, Added, Removed}
 pub use Rattle.rrd_spec.specs.History.{raw_under}
 use Rattle.rrd_spec.specs.History.Cells.{content}
 use Rattle.rrd_spec.specs.Settings.{Settings, names}
@@ -33,10 +33,10 @@ abbrev pub Asked : Type 0 → Type 0
 Asked A = Name × A
 
 -- a command that changes a database
-pub data Command : Type 0 where
-  Updating : Update → Command
-  TuningBy : Tuning → Command
-  Resizing : ℕ → Change → ℕ → Command
+pub data DatabaseChange : Type 0 where
+  Updating : Update → DatabaseChange
+  TuningBy : Tuning → DatabaseChange
+  Resizing : ℕ → Change → ℕ → DatabaseChange
 
 -- ---- raw values
 
@@ -56,8 +56,8 @@ value_for (name ∷ names) (value ∷ values) source =
 
 -- ---- what happens
 
-abbrev pub rows_of_archives : List Archive → List ℕ
-rows_of_archives archives = map (λ (archive : Archive). archive.def.rows) archives
+abbrev pub rows_of_archives : List Rra → List ℕ
+rows_of_archives archives = map (λ (archive : Rra). archive.def.rows) archives
 
 abbrev pub settings_of : Content → Settings
 settings_of base = record { sources = base.sources; rows = rows_of_archives base.archives }
@@ -122,7 +122,7 @@ is_addition (Some (Add def)) = true
 is_addition (Some (Remove archive)) = false
 
 -- the events of a command
-abbrev pub events : Settings → Command → List Event
+abbrev pub events : Settings → DatabaseChange → List Event
 events settings (Updating update) = map Sampled (samples_of settings.sources update)
 events settings (TuningBy tuning) =
     option_map_or archive_event tuning.archive (Tuned (map (tuned tuning) settings.sources)) ∷ []
@@ -130,7 +130,7 @@ events settings (Resizing archive change rows) =
     Resized archive (rows_changed change (slice_index_or settings.rows archive 0) rows) ∷ []
 
 -- the events of a history, each command under the settings that the earlier ones left
-abbrev pub events_of : Settings → List Command → List Event
+abbrev pub events_of : Settings → List DatabaseChange → List Event
 events_of settings [] = []
 events_of settings (command ∷ commands) =
     events settings command
@@ -139,8 +139,8 @@ events_of settings (command ∷ commands) =
 -- ---- the content of a history of commands, and a content moved by one
 
 -- each row is that of its time
-abbrev pub content_of : Content → List Command → Content
+abbrev pub content_of : Content → List DatabaseChange → Content
 content_of base commands = content base (events_of (settings_of base) commands)
 
-abbrev pub moved : Content → Command → Content
+abbrev pub moved : Content → DatabaseChange → Content
 moved base command = content base (events (settings_of base) command)

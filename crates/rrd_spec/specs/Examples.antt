@@ -8,13 +8,13 @@ use Rattle.rrd_fold.specs.declared.function.Function.TheVariants.{Last}
 use Rattle.rrd_spec.specs.declared.settings.DsDef.{DsDef}
 use Rattle.rrd_spec.specs.declared.settings.RraDef.{RraDef}
 use Rattle.rrd_fold.specs.Parts.{nothing}
-use Rattle.rrd_spec.specs.History.{Archive, Content, Event, Sampled}
+use Rattle.rrd_spec.specs.History.{Rra, Content, Event, Sampled}
 use Rattle.std.specs.List.{fold}
 use Rattle.rrd_fixed.specs.declared.name.Name.{Name}
 use Rattle.rrd_spec.specs.declared.requests.update.Given.{Given}
 use Rattle.rrd_spec.specs.declared.requests.update.Sample.{Sample}
 use Rattle.rrd_spec.specs.declared.requests.tune.Tuning.{Tuning}
-use Rattle.rrd_spec.specs.Commands.{Command, Updating}
+use Rattle.rrd_spec.specs.Commands.{DatabaseChange, Updating}
 use Rattle.rrd_spec.specs.Journal.Survivors.{Action, Stored, stored_after}
 pub mod Histories
 pub mod Commands
@@ -54,7 +54,7 @@ count_at time value = Sampled (record { time = time; raws = Raw.Known (pos value
 
 -- the first archive's rows
 abbrev pub rows : Content → List (List (List Cell))
-rows content = map (λ (a : Archive). a.rows) content.archives
+rows content = map (λ (a : Rra). a.rows) content.archives
 
 abbrev pub known : ℕ → List Cell
 known millionths = Cell.Known (pos millionths) ∷ []
@@ -71,7 +71,7 @@ whole value = Given.Number (record { millionths = pos (value * 10 ^ 6); point = 
 abbrev pub reading : ℕ → ℕ → Sample
 reading time value = record { time = time; values = whole value ∷ [] }
 
-abbrev pub update : List Sample → Command
+abbrev pub update : List Sample → DatabaseChange
 update samples = Updating (record { template = None; samples = samples })
 
 abbrev pub no_tuning : Tuning

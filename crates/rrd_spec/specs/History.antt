@@ -20,7 +20,7 @@ pub mod Cells
 -- ---- what a database holds
 
 -- an archive: per source the part of its unfinished row, and its rows, oldest first, each a cell per source
-pub record Archive : Type 0 where
+pub record Rra : Type 0 where
   pub def : RraDef
   pub parts : List Part
   pub rows : List (List Cell)
@@ -34,7 +34,7 @@ pub record Content : Type 0 where
   pub last : ℕ
   pub raws : List Raw
   pub parts : List Part
-  pub archives : List Archive
+  pub archives : List Rra
 
 -- ---- what happens to it
 
@@ -152,7 +152,7 @@ IsHistory now (Resized archive rows ∷ events) = (0 < rows) × IsHistory now ev
 IsHistory now (Added def ∷ events) = (0 < def.steps) × (0 < def.rows) × IsHistory now events
 IsHistory now (Removed archive ∷ events) = IsHistory now events
 
-pub record IsArchive (archive : Archive) : Type 0 where
+pub record IsArchive (archive : Rra) : Type 0 where
   pub some_steps : 0 < archive.def.steps
   pub some_rows : 0 < archive.def.rows
   pub rows_are : length archive.rows ≡ archive.def.rows
@@ -161,5 +161,5 @@ pub record IsBase (base : Content) : Type 0 where
   pub some_step : 0 < base.step
   pub archives_are : AllByRecursion IsArchive base.archives
 
-abbrev pub definitions : List Archive → List RraDef
-definitions archives = map (λ (archive : Archive). archive.def) archives
+abbrev pub definitions : List Rra → List RraDef
+definitions archives = map (λ (archive : Rra). archive.def) archives

@@ -75,3 +75,7 @@ newest = Two
 
 abbrev pub present : Limits
 present = limits_of newest
+
+-- the data sources that one tune names: one for each of its options (rrdtune)
+abbrev pub most_tuned : ℕ
+most_tuned = 5

@@ -14,7 +14,7 @@ use Rattle.rrd_spec.specs.declared.slow.Taken as slow
 use Rattle.rrd_spec.specs.History.Cells.{content}
 use Rattle.rrd_spec.specs.Commands.Creating.{created}
 use Rattle.rrd_spec.specs.Limits.{present}
-use Rattle.rrd_spec.specs.History.{Archive, Event, Reading, Sampled, Taken}
+use Rattle.rrd_spec.specs.History.{Rra, Event, Reading, Sampled, Taken}
 use Rattle.rrd_spec.specs.Validity.{AreAccepted}
 
 -- ---- samples
@@ -80,6 +80,6 @@ IsGroup (Row def) =
 -- they are too few
 abbrev pub AreNewest : CreateSpec → List Event → ℕ → List (List Cell) → Type 0
 AreNewest spec events number rows =
-    (shown : Archive) → slice_get (content (created spec) events).archives number ≡ Some shown
+    (shown : Rra) → slice_get (content (created spec) events).archives number ≡ Some shown
     → let all = replicate shown.def.rows (replicate (length spec.sources) Cell.Unknown) ++ rows in
     shown.rows ≡ drop (length all - shown.def.rows) all

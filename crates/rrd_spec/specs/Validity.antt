@@ -10,8 +10,8 @@ use Rattle.rrd_fold.specs.declared.function.Function.{Function}
 use Rattle.rrd_fold.specs.declared.function.Function.TheVariants.{Average}
 use Rattle.rrd_fold.specs.Parts.{Part}
 pub use Rattle.rrd_fold.specs.Bounds.{weight}
-use Rattle.rrd_spec.specs.Limits.{Limits, present}
-use Rattle.rrd_spec.specs.History.{Archive, Content}
+use Rattle.rrd_spec.specs.Limits.{Limits, most_tuned, present}
+use Rattle.rrd_spec.specs.History.{Rra, Content}
 use Rattle.rrd_spec.specs.Commands.{settings_of}
 use Rattle.rrd_spec.specs.Settings.{names, is_double, cells}
 use Rattle.rrd_fixed.specs.Names.{is_good}
@@ -49,7 +49,7 @@ pub record IsRow (sources : ℕ) (row : List Cell) : Type 0 where
   pub each : AllByRecursion IsBounded row
 
 -- an archive, so many steps having ended
-pub record IsValidArchiveWithin (limits : Limits) (sources steps : ℕ) (archive : Archive) : Type 0 where
+pub record IsValidArchiveWithin (limits : Limits) (sources steps : ℕ) (archive : Rra) : Type 0 where
   pub some_steps : 0 < archive.def.steps
   pub few_steps : archive.def.steps ≤ limits.most_steps
   pub some_rows : 0 < archive.def.rows
@@ -83,7 +83,7 @@ pub record IsValidWithin (limits : Limits) (content : Content) : Type 0 where
 abbrev pub IsSource : DsDef → Type 0
 IsSource = IsSourceWithin present
 
-abbrev pub IsValidArchive : ℕ → ℕ → Archive → Type 0
+abbrev pub IsValidArchive : ℕ → ℕ → Rra → Type 0
 IsValidArchive = IsValidArchiveWithin present
 
 abbrev pub IsValid : Content → Type 0
@@ -92,13 +92,13 @@ IsValid = IsValidWithin present
 -- ---- its journal
 
 -- what an update between two times saved of an archive
-pub record FitsArchive (step sources from to : ℕ) (archive : Archive) (old : SavedArchive) : Type 0 where
+pub record FitsArchive (step sources from to : ℕ) (archive : Rra) (old : SavedArchive) : Type 0 where
   pub same_function : old.function ≡ archive.def.function
   pub one_part_each : length old.parts ≡ sources
   pub as_many : length old.rows ≡ min (rows_between step archive.def from to) archive.def.rows
   pub one_cell_each : AllByRecursion (λ (row : List Cell). length row ≡ sources) old.rows
 
-abbrev pub FitEach : ℕ → ℕ → ℕ → ℕ → List Archive → List SavedArchive → Type 0
+abbrev pub FitEach : ℕ → ℕ → ℕ → ℕ → List Rra → List SavedArchive → Type 0
 FitEach step sources from to [] [] = Unit {0}
 FitEach step sources from to [] (old ∷ olds) = ⊥
 FitEach step sources from to (archive ∷ archives) [] = ⊥
@@ -119,7 +119,7 @@ Rise lowest limit (old ∷ olds) = (lowest ≤ old.number) × (old.number < limi
 
 pub record FitsTune (now : Content) (olds : List SourceBefore) : Type 0 where
   pub some : 0 < length olds
-  pub few : length olds ≤ 5
+  pub few : length olds ≤ most_tuned
   pub rise : Rise 0 (length now.sources) olds
 
 pub record FitsResize (now : Content) (archive : ℕ) (rows : List (List Cell)) : Type 0 where
@@ -128,7 +128,7 @@ pub record FitsResize (now : Content) (archive : ℕ) (rows : List (List Cell)) 
   pub another : length rows ≢ length (rows_at now.archives archive)
 
 -- a removed archive has its place, a preparation for each source, its rows, and a cell for each source in each
-pub record FitsRemoved (now : Content) (number : ℕ) (archive : Archive) : Type 0 where
+pub record FitsRemoved (now : Content) (number : ℕ) (archive : Rra) : Type 0 where
   pub there : number ≤ length now.archives
   pub one_part_each : length archive.parts ≡ length now.sources
   pub rows_are : length archive.rows ≡ archive.def.rows

@@ -10,9 +10,9 @@ ghost use Rattle.rrd_spec.specs.Laws.Journal.{EntryFits, JournalLeavesValid, Jou
 ghost use Rattle.rrd_spec.specs.Laws.History.{GoesOnListed, StaysAsItIs, GoesOn, GoesOnFromContent, StaysBase};
 ghost use Rattle.rrd_spec.specs.Laws.Passing.{PassesWithin, PassesInPieces, SampledPasses};
 ghost use Rattle.rrd_spec.specs.History.Groups.{Rule};
-ghost use Rattle.rrd_spec.specs.History.{Archive, Content, Event, Reading};
+ghost use Rattle.rrd_spec.specs.History.{Rra, Content, Event, Reading};
 ghost use Rattle.rrd_spec.specs.Laws.Cells.{RowsComeBack, ShowsByAge, IsListed, ListsByNumber, ShowsByTime, ShowsCells};
-ghost use Rattle.rrd_spec.specs.Commands.{Command};
+ghost use Rattle.rrd_spec.specs.Commands.{DatabaseChange};
 ghost use Rattle.rrd_spec.specs.Journal.Entries.{Entry};
 ghost use Rattle.rrd_spec.specs.Files.Filed.{Filed};
 ghost use Rattle.rrd_spec.specs.Laws.FiledOnce.{FiledOnce, RowsFiledOnce};
@@ -90,11 +90,11 @@ pub fn seconds_pass_at_once()
 /// Steps pass an archive in two pieces. Those that leave its row unfinished pass at once, and so do a
 /// step and any number of another one, over the ends of rows.
 pub fn steps_pass_at_once()
-    ensures pieces { (sources before : ℕ) (archive : Archive) (xs ys : List (List Cell)) →
+    ensures pieces { (sources before : ℕ) (archive : Rra) (xs ys : List (List Cell)) →
         StepsInPieces sources before archive xs ys }
-    ensures within { (sources before : ℕ) (archive : Archive) (steps : List (List Cell)) →
+    ensures within { (sources before : ℕ) (archive : Rra) (steps : List (List Cell)) →
         StepsWithin sources before archive steps }
-    ensures over { (sources before count : ℕ) (archive : Archive) (first then : List Cell) →
+    ensures over { (sources before count : ℕ) (archive : Rra) (first then : List Cell) →
         StepsOver sources before count archive first then }
 {
     one_cell_alone();
@@ -103,7 +103,7 @@ pub fn steps_pass_at_once()
 /// What seconds leave of a valid content is valid, and what steps leave of a valid archive.
 pub fn seconds_stay_valid()
     ensures content { (base : Content) (seconds : List (List Cell)) → StaysValidFor base seconds }
-    ensures archive { (sources before : ℕ) (steps : List (List Cell)) (archive : Archive) →
+    ensures archive { (sources before : ℕ) (steps : List (List Cell)) (archive : Rra) →
         ArchiveStaysValid sources before steps archive }
 {}
 
@@ -121,7 +121,7 @@ pub fn raw_values_are_accepted()
 
 /// The rows that an update drops give back those from before it.
 pub fn rows_come_back()
-    ensures { (base : Content) (index : ℕ) (archive : Archive) (readings : List Reading) →
+    ensures { (base : Content) (index : ℕ) (archive : Rra) (readings : List Reading) →
         RowsComeBack base index archive readings }
 {}
 
@@ -144,7 +144,7 @@ pub fn rows_stand_in_slots()
     ensures differ { (resolution last rows slot other : ℕ) → PlacesDiffer resolution last rows slot other }
     ensures row { (resolution last : ℕ) (rows : List (List Cell)) (slot : ℕ) →
         StandsInPlace resolution last rows slot }
-    ensures shown { (content : Content) (archive : Archive) (place : ℕ) → ShowsInPlace content archive place }
+    ensures shown { (content : Content) (archive : Rra) (place : ℕ) → ShowsInPlace content archive place }
     ensures put { (resolution last : ℕ) (rows : List (List Cell)) (slot : ℕ) (row : List Cell) →
         PutsRow resolution last rows slot row }
     ensures kept { (resolution last : ℕ) (rows : List (List Cell)) (slot : ℕ) (row : List Cell) (other : ℕ) →
@@ -175,27 +175,27 @@ pub fn databases_are_filed_once()
 /// A content's rows, by list and by time, are the same; so they are after an accepted command.
 pub fn content_is_listed()
     ensures events { (base : Content) (events : List Event) → IsListed base events }
-    ensures command { (base : Content) (command : Command) → MovesListed base command }
+    ensures command { (base : Content) (command : DatabaseChange) → MovesListed base command }
 {}
 
 /// The steps and rows of a history, each by itself.
 pub fn steps_and_rows_by_number()
-    ensures { (base : Content) (archive : Archive) (events : List Event) → ListsByNumber base archive events }
+    ensures { (base : Content) (archive : Rra) (events : List Event) → ListsByNumber base archive events }
 {}
 
 /// One command more is one move more.
 pub fn one_more_moves()
-    ensures { (base : Content) (commands : List Command) (command : Command) → Moves base commands command }
+    ensures { (base : Content) (commands : List DatabaseChange) (command : DatabaseChange) → Moves base commands command }
 {}
 
 /// A history of commands may be cut anywhere too.
 pub fn commands_go_on()
-    ensures { (base : Content) (first second : List Command) → CommandsGoOn base first second }
+    ensures { (base : Content) (first second : List DatabaseChange) → CommandsGoOn base first second }
 {}
 
 /// An accepted command passes each check.
 pub fn accepted_passes()
-    ensures { (base : Content) (command : Command) → PassesAll base command }
+    ensures { (base : Content) (command : DatabaseChange) → PassesAll base command }
 {}
 
 /// A tune changes the sources' settings and their raw values, and nothing else.
@@ -220,12 +220,12 @@ pub fn resize_changes_rows()
 
 /// The entry of an accepted command fits the content after it.
 pub fn entry_fits()
-    ensures { (base : Content) (command : Command) → EntryFits base command }
+    ensures { (base : Content) (command : DatabaseChange) → EntryFits base command }
 {}
 
 /// An accepted command is undone by its entry.
 pub fn commands_come_back()
-    ensures { (base : Content) (command : Command) → ComesBack base command }
+    ensures { (base : Content) (command : DatabaseChange) → ComesBack base command }
 {}
 
 /// After any list of actions the database is what the survivors make, and its journal their entries.
@@ -240,12 +240,12 @@ pub fn created_is_valid()
 
 /// A command that is accepted moves a valid content to a valid one.
 pub fn stays_valid()
-    ensures { (base : Content) (command : Command) → StaysValid base command }
+    ensures { (base : Content) (command : DatabaseChange) → StaysValid base command }
 {}
 
 /// So does it with the journal, and so does a revert.
 pub fn database_stays()
-    ensures changed { (now : Content) (journal : List Entry) (command : Command) →
+    ensures changed { (now : Content) (journal : List Entry) (command : DatabaseChange) →
         DatabaseStays now journal command }
     ensures reverted { (now : Content) (journal : List Entry) → RevertStays now journal }
 {}
@@ -268,7 +268,7 @@ pub fn first_version_tells_no_archive()
 /// A revert takes an accepted command back, content and journal, but for the oldest entry of a full
 /// journal.
 pub fn revert_takes_back()
-    ensures { (now : Content) (journal : List Entry) (command : Command) → RevertTakesBack now journal command }
+    ensures { (now : Content) (journal : List Entry) (command : DatabaseChange) → RevertTakesBack now journal command }
 {}
 
 /// A valid database stands for the state that begins with it, its journal being brought along.

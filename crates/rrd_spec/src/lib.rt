@@ -23,8 +23,8 @@ pub use list::List;
 pub use outline::Outline;
 pub use refusal::Refusal;
 pub use requests::{
-    ArchiveTune, Candidate, Change, Chosen, CreateSpec, Given, Receipt, Request, Sample, Tuning,
-    Update,
+    ArchiveTune, Candidate, Change, Chosen, CreateSpec, FetchRequest, Given, Receipt, Sample,
+    Tuning, Update,
 };
 pub use settings::{DsDef, RraDef, are_accepted};
 pub use slots::first_place;

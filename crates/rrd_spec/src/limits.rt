@@ -38,3 +38,6 @@ pub const MOST_ROWS: u64 = 1_000_000;
 
 /// Rows that one fetch reads (rrdfetch). The least is 0.
 pub const LONGEST_SPAN: u64 = 1_000_000;
+
+/// Data sources that one tune names: one for each of its options (rrdtune).
+pub const MOST_TUNED: usize = 5;

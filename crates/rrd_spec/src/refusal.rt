@@ -1,8 +1,10 @@
 //! Why a command is refused.
 ghost use Rattle.std.specs.Prelude.{◌≡◌, ◌≤◌, length};
+ghost use Rattle.rrd_spec.specs.declared.refusal.Refusal.TheVariants.{OutOfMemory};
 
 use arrayvec::ArrayString;
 use rrd_fixed::{numbered_text, short_text};
+use std::alloc::AllocError;
 use thiserror::Error;
 
 /// Why a command is refused. The database is then unchanged.
@@ -105,5 +107,13 @@ impl Refusal {
             Refusal::BadTime => short_text("bad time"),
             Refusal::MixedTune => short_text("mixed tune"),
         }
+    }
+}
+
+impl From<AllocError> for Refusal {
+    ghost from_gives = { λ _ refusal. refusal ≡ OutOfMemory };
+
+    fn from(_error: AllocError) -> Refusal {
+        Refusal::OutOfMemory
     }
 }

@@ -7,7 +7,7 @@ mod tune;
 mod update;
 
 pub use create::CreateSpec;
-pub use fetch::{Candidate, Chosen, Request};
+pub use fetch::{Candidate, Chosen, FetchRequest};
 pub use resize::Change;
 pub use tune::{ArchiveTune, Tuning};
 pub use update::{Given, Receipt, Sample, Update};

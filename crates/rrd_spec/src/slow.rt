@@ -13,20 +13,17 @@ ghost use Rattle.rrd_fold.specs.declared.function.Function.TheVariants.{Average}
 ghost use Rattle.rrd_spec.specs.Commands.Creating.{create_verdict, created};
 ghost use Rattle.rrd_spec.specs.History as history;
 ghost use Rattle.rrd_spec.specs.History.Rows as rows_def;
-ghost use Rattle.rrd_spec.specs.History.{Archive};
+ghost use Rattle.rrd_spec.specs.History.{Rra};
 ghost use Rattle.rrd_spec.specs.Limits.{present};
 ghost use Rattle.rrd_spec.specs.Slow.{AreInOrder, AreNewest, IsGroup, cell_of, event_of, function_of, latest, rule_of, size_of, taken_of};
 ghost use Rattle.rrd_spec.specs.Validity.{AreAccepted, AreParts, IsPart, IsRow};
 
 use crate::limits::LATEST_TIME;
 use crate::{CreateSpec, DsDef, List, RraDef, are_accepted};
-use rrd_fixed::{Cell, Raw, near};
+use rrd_fixed::{Cell, MILLIONTHS, Raw, near};
 use rrd_fold::Function;
 use std::alloc::{AllocError, Global};
 use std::marker::Model;
-
-// The least size that a value of a GAUGE or an ABSOLUTE may not have, in millionths.
-const LEAST_REFUSED: u128 = 1_000_000_000_000_000_000_000_000;
 
 /// A sample: its time, and a raw value for each source.
 #[derive(Drop)]
@@ -118,7 +115,7 @@ impl Part {
         requires part { IsPart def.function def.steps self }
         ensures { result ≡ row_cell def.function def.xff def.steps self }
     {
-        if (def.steps - self.known) * 1_000_000 > def.share() * def.steps {
+        if (def.steps - self.known) * MILLIONTHS > def.share() * def.steps {
             return Cell::Unknown;
         }
         match def.function {
@@ -359,7 +356,7 @@ pub fn rows(
     requires accepted { create_verdict spec.now ≡ None }
     requires there { archive < length spec.now.archives }
     requires in_order { AreInOrder spec.now.sources spec.now.start readings.now }
-    ensures all { IfOk result (λ rows. (kept : Archive) → slice_get (created spec.now).archives archive ≡ Some kept
+    ensures all { IfOk result (λ rows. (kept : Rra) → slice_get (created spec.now).archives archive ≡ Some kept
         → rows ≡ rows_def.rows_of (created spec.now) kept (map event_of readings.now)) }
     ensures newest { IfOk result (λ rows. AreNewest spec.now (map event_of readings.now) archive rows) }
 {

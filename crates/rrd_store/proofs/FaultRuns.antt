@@ -11,7 +11,7 @@ use Rattle.rrd_tool.specs.declared.faults.Fault.{Fault}
 use Rattle.rrd_tool.specs.declared.faults.Fault.TheVariants.{Line, NoDatabase, Output, Refused}
 use Rattle.rrd_tool.specs.declared.faults.LineFault.{LineFault}
 use Rattle.rrd_store.specs.Batch.{IsFileBatch, written}
-use Rattle.rrd_store.specs.Places.{Leaves}
+use Rattle.rrd_store.specs.Places.{Held, Leaves}
 use Rattle.rrd_store.specs.Runs.{ByBatch, ByCommand, FaultChangesNothing, Run, fault_of_batch}
 use Rattle.rrd_store.specs.Single.{EndsBy, RunsAs, RunsFrom}
 use Rattle.rrd_store.specs.declared.batch.FileBatchEnd.{FileBatchEnd}
@@ -27,7 +27,7 @@ abbrev some_or : TaskFault → Option TaskFault → TaskFault
 some_or or None = or
 some_or or (Some fault) = fault
 
-module _ (old new : List ℕ) (c0 c1 : Option (List ℕ)) where
+module _ (old new : Held) (c0 c1 : Option (List ℕ)) where
   -- the bytes stayed, and nothing was printed unless that failed
   abbrev pub Stayed : TaskFault → Type 0
   Stayed fault = (new ≡ old) × (fault ≢ task.Command Output → Keeps c0 c1)
@@ -39,9 +39,9 @@ module _ (old new : List ℕ) (c0 c1 : Option (List ℕ)) where
     -- ---- a command
 
     ended_stays : (verdict : Option Fault) (text : List ℕ) (e : Effect) (Moved Same : Type 0) (db : Option Stored) (changed : Bool) (fault : Option Fault)
-        → Comes verdict text e Moved Same c0 c1 changed fault → EndsBy fault changed db (Some old) (Some new) (Err f) → Stayed f
-    ended_stays verdict text e Moved Same db true None h k = absurd (n (unleft old new db f k))
-    ended_stays verdict text e Moved Same db false None h k = (k.1, λ other. absurd (other k.0))
+        → Comes verdict text e Moved Same c0 c1 changed fault → EndsBy fault changed db text (Some old) (Some new) (Err f) → Stayed f
+    ended_stays verdict text e Moved Same db true None h k = absurd (n (unleft (Some old) (Some new) db f k))
+    ended_stays verdict text e Moved Same db false None h k = (k.2, λ other. absurd (other k.0))
     ended_stays verdict text e Moved Same db changed (Some Output) h k = (k.1, λ other. absurd (other (ap (end_or f) k.0)))
     ended_stays verdict text e Moved Same db changed (Some (Line fault)) h k = (k.1, λ other. h.3)
     ended_stays verdict text e Moved Same db changed (Some (Refused fault)) h k = (k.1, λ other. h.3)
@@ -59,7 +59,7 @@ module _ (old new : List ℕ) (c0 c1 : Option (List ℕ)) where
 
     unstored_stays : (last : Option Stored) (unstored : Option TaskFault) → unstored ≡ Some f → Leaves last (Some old) (Some new) (written unstored) → Stayed f
     unstored_stays last None e k = absurd cc
-    unstored_stays last (Some fault) e k = absurd (n (sym (ap (some_or f) e) ∙ unleft old new last fault k))
+    unstored_stays last (Some fault) e k = absurd (n (sym (ap (some_or f) e) ∙ unleft (Some old) (Some new) last fault k))
 
     batch_stays : (now : ℕ) (r0 r1 : Option (List ℕ)) (end : Result FileBatchEnd TaskFault) → IsFileBatch now (Some old) (Some new) r0 r1 c0 c1 end → fault_of_batch end ≡ Some f → Stayed f
     batch_stays now r0 r1 (Err fault) h e = (h.1, λ other. h.3)
@@ -71,6 +71,6 @@ module _ (old new : List ℕ) (c0 c1 : Option (List ℕ)) where
       let same : f ≡ fault = ap (some_or f) e in
       same_stayed f fault same (command_stays f (λ unwritten. n (sym same ∙ unwritten)) read h)
 
-pub fault_changes_nothing : (old : List ℕ) (run : Run) (fault : TaskFault) (new : List ℕ) → FaultChangesNothing old run fault new
+pub fault_changes_nothing : (old : Held) (run : Run) (fault : TaskFault) (new : Held) → FaultChangesNothing old run fault new
 fault_changes_nothing old (ByCommand r) fault new h e n = command_ends old new r.out_before r.out_after h.0 r.end fault h.2 e n
 fault_changes_nothing old (ByBatch r) fault new h e n = batch_stays old new r.out_before r.out_after fault n r.now r.in_before r.in_after r.end h e

@@ -8,17 +8,15 @@ use Rattle.rrd_spec.specs.Laws.Versions.{DatabaseIsWithin}
 use Rattle.rrd_spec.specs.declared.version.Version.{Version}
 use Rattle.rrd_spec.specs.Journal.Survivors.{State, Stored}
 use Rattle.rrd_file.specs.declared.fault.FileFault.{FileFault}
-use Rattle.rrd_file.specs.declared.fault.FileFault.TheVariants.{Truncated}
-use Rattle.rrd_file.specs.Faults.{IsAnswer, IsFile, IsTruncated}
+use Rattle.rrd_file.specs.Faults.{IsAnswer, IsFile}
 use Rattle.rrd_file.specs.Laws.{FileIsLayout, HasOneAnswer, IsOfFile, LayoutIsNoOther}
 use Rattle.rrd_file.specs.Layout.{body_pieces, entry_pieces, layout, layout_in}
 use Rattle.rrd_file.specs.Layout.Pieces.{Piece, Mark, OfHeader, OfVersion, spell}
-use Rattle.rrd_file.specs.Stages.{Start, size}
 use Rattle.std.specs.List.{flat_map}
 use Rattle.std.specs.Result.{result_err}
 use Rattle.rrd_tool.specs.Effects.{StandsFor, stored_of}
-use Rattle.rrd_store.specs.Places.{Finds, Leaves}
-use Rattle.rrd_store.specs.Runs.{Filing, Holds, IsCut, IsLeft, IsUnread, MayStop, as_written, database_in, state_in}
+use Rattle.rrd_store.specs.Places.{Bytes, Finds, Held, Leaves, Missing, Reads, Stays}
+use Rattle.rrd_store.specs.Runs.{Filing, Holds, IsCut, IsLeft, IsLeftIn, IsUnread, IsValidFiling, MayStop, as_written, database_in, state_in}
 use Rattle.rrd_store.specs.declared.faults.TaskFault.{TaskFault}
 use Rattle.rrd_store.specs.declared.faults.TaskFault.TheVariants.{Command, Stream, File, CannotOpen, CannotWrite}
 use Rattle.rrd_store.proofs.ValidStates.{Valid, is_kept}
@@ -38,7 +36,7 @@ begins pieces h =
     let long = length-append (spell Mark) (flat_map spell pieces) in
     absurd (omega (arith, long, ap length (sym (flat_map-cons spell Mark pieces) ∙ h)))
 
-some_layout : (version : Version) (d : Stored) → layout_in version d ≡ [] → ⊥
+pub some_layout : (version : Version) (d : Stored) → layout_in version d ≡ [] → ⊥
 some_layout version d h =
     let f = filed version d in
     begins (OfVersion f.header.version ∷ OfHeader f.header ∷ (body_pieces f ++ flat_map entry_pieces f.entries)) h
@@ -46,94 +44,141 @@ some_layout version d h =
 pub file_layout : Reading → (bytes : List ℕ) (d : Stored) (file : IsFile bytes d) → bytes ≡ layout_in file.version d
 file_layout laws bytes d file = laws.is_layout bytes d file
 
-no_file : Reading → (bytes : List ℕ) (d : Stored) → bytes ≡ [] → IsFile bytes d → ⊥
-no_file laws bytes d h file = some_layout file.version d (sym (file_layout laws bytes d file) ∙ h)
-
--- an input without a byte ends before its first piece
-nothing_is_short : IsTruncated [] 0
-unfolding size
-nothing_is_short = record { stage = Start; rest = []; front = record { pieces = []; runs = refl; parts = refl }; short = omega arith; at_is = refl }
-
 -- ---- answers
 
 abbrev database_or : Stored → Result Stored FileFault → Stored
 database_or or (Ok d) = d
 database_or or (Err fault) = or
 
-abbrev fault_or : FileFault → Result Stored FileFault → FileFault
-fault_or or (Ok d) = or
-fault_or or (Err fault) = fault
+abbrev pub bytes_of : Held → List ℕ
+bytes_of Missing = []
+bytes_of (Bytes bytes) = bytes
 
-module _ (laws : Reading) (bytes : List ℕ) where
+abbrev pub held_or : Held → Option Held → Held
+held_or or None = or
+held_or or (Some held) = held
+
+module _ (laws : Reading) where
   -- the answer to the bytes of a state
-  one_database : (k : Filing) → Holds bytes (Some k) → (x : Result Stored FileFault) → IsAnswer bytes x → IsOfFile x → x ≡ Ok (stored_of k.state)
-  one_database k h x a of = laws.no_other k.version (stored_of k.state) h.1.1 x (subst (λ (b : List ℕ). IsAnswer b x) h.0 a) of
+  one_database : (bytes : List ℕ) (k : Filing) → Holds (Bytes bytes) (Some k) → (x : Result Stored FileFault) → IsAnswer bytes x → IsOfFile x → x ≡ Ok (stored_of k.state)
+  one_database bytes k h x a of =
+      let same : bytes ≡ layout_in k.version (stored_of k.state) = ap bytes_of h.0 in
+      laws.no_other k.version (stored_of k.state) h.1.1 x (subst (λ (b : List ℕ). IsAnswer b x) same a) of
 
-  pub found_same : (k : Filing) (d : Stored) → Holds bytes (Some k) → IsFile bytes d → d ≡ stored_of k.state
-  found_same k d h file = ap (database_or (stored_of k.state)) (one_database k h (Ok d) file tt)
+  found_same : (bytes : List ℕ) (k : Filing) (d : Stored) → Holds (Bytes bytes) (Some k) → IsFile bytes d → d ≡ stored_of k.state
+  found_same bytes k d h file = ap (database_or (stored_of k.state)) (one_database bytes k h (Ok d) file tt)
 
-  unread : (s : Option Filing) (fault : FileFault) → Holds bytes s → IsAnswer bytes (Err fault) → IsUnread s fault
-  unread None fault h a = λ of.
-      let short = laws.one [] (Err fault) (Err (Truncated 0)) (subst (λ (b : List ℕ). IsAnswer b (Err fault)) h a) nothing_is_short of tt in
-      ap (fault_or fault) short
-  unread (Some s) fault h a = λ of. let same = one_database s h (Err fault) a of in absurd cc
+  unread : (held : Held) (s : Option Filing) (fault : FileFault) → Holds held s → Reads (Some held) (Err fault) → IsUnread s fault
+  unread Missing s fault h a = absurd a
+  unread (Bytes bytes) None fault h a = absurd cc
+  unread (Bytes bytes) (Some k) fault h a = λ of. let same = one_database bytes k h (Err fault) a of in absurd cc
 
   -- the fault that was found
-  pub may_stop : (s : Option Filing) (fault : TaskFault) → Holds bytes s → Finds (Some bytes) (Err fault) → MayStop s fault
-  may_stop s (File fault) h f = unread s fault h f
-  may_stop s CannotOpen h f = tt
-  may_stop s CannotWrite h f = absurd f
-  may_stop s (Command fault) h f = absurd f
-  may_stop s (Stream fault) h f = absurd f
+  pub may_stop : (held : Held) (s : Option Filing) (fault : TaskFault) → Holds held s → Finds (Some held) (Err fault) → MayStop s fault
+  may_stop held s (File fault) h f = unread held s fault h f
+  may_stop held s CannotOpen h f = tt
+  may_stop held s CannotWrite h f = absurd f
+  may_stop held s (Command fault) h f = absurd f
+  may_stop held s (Stream fault) h f = absurd f
 
   -- the database that was found
-  pub found_is : (s : Option Filing) (found : Option Stored) → Holds bytes s → Finds (Some bytes) (Ok found) → found ≡ database_in s
-  found_is None None h f = refl
-  found_is None (Some d) h f = absurd (no_file laws bytes d h f)
-  found_is (Some s) None h f = absurd (some_layout s.version (stored_of s.state) (sym h.0 ∙ f))
-  found_is (Some s) (Some d) h f = ap (λ (k : Stored). Some k) (found_same s d h f)
+  pub found_is : (held : Held) (s : Option Filing) (found : Option Stored) → Holds held s → Finds (Some held) (Ok found) → found ≡ database_in s
+  found_is held None None h f = refl
+  found_is Missing s (Some d) h f = absurd f
+  found_is (Bytes bytes) s None h f = absurd f
+  found_is Missing (Some k) None h f = absurd (let bad = h.0 in cc)
+  found_is (Bytes bytes) None (Some d) h f = absurd cc
+  found_is (Bytes bytes) (Some k) (Some d) h f = ap (λ (x : Stored). Some x) (found_same bytes k d h f)
 
 -- ---- what is left
 
-pub valid_held : Reading → (bytes : List ℕ) (s : Option Filing) → Holds bytes s → Valid (bytes ≡ []) (state_in s)
-valid_held laws bytes None h = h
-valid_held laws bytes (Some k) h = (h.1.0, laws.within k.version (stored_of k.state).content (stored_of k.state).journal h.1.1)
+-- nothing is there, where that is known
+abbrev pub NoneIs : Option Held → Type 0
+NoneIs None = Unit {0}
+NoneIs (Some held) = held ≡ Missing
 
-abbrev bytes_or : List ℕ → Option (List ℕ) → List ℕ
-bytes_or or None = or
-bytes_or or (Some bytes) = bytes
+-- a place has the file of what is kept; where it isn't known what it has, that is valid
+abbrev pub HoldsIn : Option Held → Option Filing → Type 0
+HoldsIn None s = IsValidFiling s
+HoldsIn (Some held) s = Holds held s
 
-module _ (old new : List ℕ) where
+pub valid_held : Reading → (old : Option Held) (s : Option Filing) → HoldsIn old s → Valid (NoneIs old) (state_in s)
+valid_held laws None None h = tt
+valid_held laws None (Some k) h = (h.0, laws.within k.version (stored_of k.state).content (stored_of k.state).journal h.1)
+valid_held laws (Some held) None h = h
+valid_held laws (Some held) (Some k) h = (h.1.0, laws.within k.version (stored_of k.state).content (stored_of k.state).journal h.1.1)
+
+-- only a failed write leaves it elsewhere
+pub unleft : (old new : Option Held) (last : Option Stored) (fault : TaskFault) → Leaves {T = Unit {0}} last old new (Err fault) → fault ≡ CannotWrite
+unleft old new None fault k = absurd k
+unleft old new (Some d) CannotWrite k = refl
+unleft old new (Some d) CannotOpen k = absurd k
+unleft old new (Some d) (File fault) k = absurd k
+unleft old new (Some d) (Command fault) k = absurd k
+unleft old new (Some d) (Stream fault) k = absurd k
+
+module _ (old new : Held) where
   -- the database in the end is in the file
-  pub left_held : {T : Type 0} (last : Option Stored) (s : Option State) (x : T) → StandsFor last s → Valid (old ≡ []) s → Leaves last (Some old) (Some new) (Ok x) → Holds new (as_written s)
+  left_held : {T : Type 0} (last : Option Stored) (s : Option State) (x : T) → StandsFor last s → Valid (old ≡ Missing) s → Leaves last (Some old) (Some new) (Ok x) → Holds new (as_written s)
   left_held None None x h v k = k ∙ v
   left_held None (Some s) x h v k = absurd h
   left_held (Some d) None x h v k = absurd h
-  left_held (Some d) (Some s) x h v k = (ap (bytes_or []) k ∙ ap layout (is_kept s d h), v)
+  left_held (Some d) (Some s) x h v k = (ap (held_or Missing) k ∙ ap (λ (e : Stored). Bytes (layout e)) (is_kept s d h), v)
 
   -- where a write failed a front of it is
-  pub left_cut : (last : Option Stored) (s : Option State) → StandsFor last s → Leaves {T = Unit {0}} last (Some old) (Some new) (Err CannotWrite) → IsCut old new (as_written s)
+  left_cut : (last : Option Stored) (s : Option State) → StandsFor last s → Leaves {T = Unit {0}} last (Some old) (Some new) (Err CannotWrite) → IsCut old new (as_written s)
   left_cut None s h k = absurd k
   left_cut (Some d) None h k = absurd h
   left_cut (Some d) (Some s) h k = elim k [
     | inl same ↦ inl same
-    | inr cut ↦ inr (cut.0, cut.1, cut.2, ap layout (sym (is_kept s d h)) ∙ cut.3, ap (bytes_or []) cut.4)
+    | inr cut ↦ inr (cut.0, (cut.1, cut.2, ap layout (sym (is_kept s d h)) ∙ cut.3), ap (held_or Missing) cut.4)
   ]
 
-  -- only a failed write leaves it elsewhere
-  pub unleft : (last : Option Stored) (fault : TaskFault) → Leaves {T = Unit {0}} last (Some old) (Some new) (Err fault) → fault ≡ CannotWrite
-  unleft None fault k = absurd k
-  unleft (Some d) CannotWrite k = refl
-  unleft (Some d) CannotOpen k = absurd k
-  unleft (Some d) (File fault) k = absurd k
-  unleft (Some d) (Command fault) k = absurd k
-  unleft (Some d) (Stream fault) k = absurd k
-
   -- the file after a write of the database, by its end
-  pub left_after : (last : Option Stored) (s : Option State) (end : Result (Unit {0}) TaskFault) → StandsFor last s → Valid (old ≡ []) s → Leaves last (Some old) (Some new) end → IsLeft old new (as_written s) (result_err end)
-  left_after last s (Ok x) h v k = left_held last s x h v k
-  left_after last s (Err CannotWrite) h v k = left_cut last s h k
-  left_after last s (Err CannotOpen) h v k = absurd (let e = unleft last CannotOpen k in cc)
-  left_after last s (Err (File fault)) h v k = absurd (let e = unleft last (File fault) k in cc)
-  left_after last s (Err (Command fault)) h v k = absurd (let e = unleft last (Command fault) k in cc)
-  left_after last s (Err (Stream fault)) h v k = absurd (let e = unleft last (Stream fault) k in cc)
+  left_known : (last : Option Stored) (s : Option State) (end : Result (Unit {0}) TaskFault) → StandsFor last s → Valid (old ≡ Missing) s → Leaves last (Some old) (Some new) end → IsLeft old new (as_written s) (result_err end)
+  left_known last s (Ok x) h v k = left_held last s x h v k
+  left_known last s (Err CannotWrite) h v k = left_cut last s h k
+  left_known last s (Err CannotOpen) h v k = absurd (let e = unleft (Some old) (Some new) last CannotOpen k in cc)
+  left_known last s (Err (File fault)) h v k = absurd (let e = unleft (Some old) (Some new) last (File fault) k in cc)
+  left_known last s (Err (Command fault)) h v k = absurd (let e = unleft (Some old) (Some new) last (Command fault) k in cc)
+  left_known last s (Err (Stream fault)) h v k = absurd (let e = unleft (Some old) (Some new) last (Stream fault) k in cc)
+
+-- what was known stays so
+known : (old : Held) (last : Option Stored) (end : Result (Unit {0}) TaskFault) → Leaves last (Some old) None end → ⊥
+known old None (Ok x) k = k
+known old None (Err fault) k = k
+known old (Some d) (Ok x) k = absurd cc
+known old (Some d) (Err CannotWrite) k = elim k [ inl same ↦ same | inr cut ↦ absurd (let bad = cut.4 in cc) ]
+known old (Some d) (Err CannotOpen) k = k
+known old (Some d) (Err (File fault)) k = k
+known old (Some d) (Err (Command fault)) k = k
+known old (Some d) (Err (Stream fault)) k = k
+
+pub left_after : (old new : Option Held) (last : Option Stored) (s : Option State) (end : Result (Unit {0}) TaskFault) → StandsFor last s → Valid (NoneIs old) s → Leaves last old new end → IsLeftIn old new (as_written s) (result_err end)
+left_after None new last s end h v k = tt
+left_after (Some old) None last s end h v k = absurd (known old last end k)
+left_after (Some old) (Some new) last s end h v k = left_known old new last s end h v k
+
+-- not because of a failed write
+abbrev pub IsUnwritten : Option TaskFault → Type 0
+IsUnwritten None = Unit {0}
+IsUnwritten (Some CannotWrite) = ⊥
+IsUnwritten (Some CannotOpen) = Unit {0}
+IsUnwritten (Some (File fault)) = Unit {0}
+IsUnwritten (Some (Command fault)) = Unit {0}
+IsUnwritten (Some (Stream fault)) = Unit {0}
+
+holds_left : (old new : Held) (s : Option Filing) (fault : Option TaskFault) → IsUnwritten fault → Holds new s → IsLeft old new s fault
+holds_left old new s None u h = h
+holds_left old new s (Some CannotWrite) u h = absurd u
+holds_left old new s (Some CannotOpen) u h = h
+holds_left old new s (Some (File fault)) u h = h
+holds_left old new s (Some (Command fault)) u h = h
+holds_left old new s (Some (Stream fault)) u h = h
+
+-- the place stays, and so does what is kept
+pub stays_left : (old new : Option Held) (s s1 : Option Filing) (fault : Option TaskFault) → HoldsIn old s → s1 ≡ s → Stays old new → IsUnwritten fault → IsLeftIn old new s1 fault
+stays_left None new s s1 fault h same k u = tt
+stays_left (Some old) None s s1 fault h same k u = absurd k
+stays_left (Some old) (Some new) s s1 fault h same k u =
+    holds_left old new s1 fault u (subst (λ (x : Option Filing). Holds new x) (sym same) (subst (λ (b : Held). Holds b s) (sym k) h))

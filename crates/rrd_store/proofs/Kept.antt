@@ -9,6 +9,7 @@ use Rattle.rrd_tool.specs.Effects.{Effect}
 use Rattle.rrd_tool.specs.Execution.{Comes, Executes}
 use Rattle.rrd_tool.specs.declared.commands.Command.{Command}
 use Rattle.rrd_tool.specs.declared.execution.Outcome.{Outcome}
+use Rattle.rrd_store.specs.Places.{Held, Stays}
 use Rattle.rrd_tool.specs.declared.faults.Fault.{Fault}
 use Rattle.rrd_tool.specs.declared.faults.Fault.TheVariants.{Line, NoDatabase, Output, Refused}
 
@@ -19,6 +20,10 @@ appends_nothing (Some x) = sym (append-nil x)
 pub keeps_same : (a : Option (List ℕ)) → Keeps a a
 keeps_same None = tt
 keeps_same (Some x) = refl
+
+pub stays_same : (a : Option Held) → Stays a a
+stays_same None = tt
+stays_same (Some x) = refl
 
 pub keeps_kept : (a b c : Option (List ℕ)) → Keeps a b → Keeps b c → Keeps a c
 keeps_kept None b c p q = tt

@@ -4,5 +4,8 @@ pub mod ValidStates
 pub mod Found
 pub mod CommandRuns
 pub mod FileRuns
+pub mod UnknownRuns
+pub mod PlaceRuns
+pub mod Damaged
 pub mod FaultRuns
 pub mod Fallen

@@ -2,7 +2,7 @@
 use Rattle.std.proofs.Common.{◌≡◌, ◌∷◌, [], ℕ, Bool, true, false, List, Option, Some, None, Result, Ok, Err, inl, inr, sym, refl, subst, arith, option_map}
 use Rattle.rrd_spec.specs.declared.requests.create.CreateSpec.{CreateSpec}
 use Rattle.rrd_spec.specs.declared.refusal.Refusal.{Refusal}
-use Rattle.rrd_spec.specs.Commands.{Command as Change}
+use Rattle.rrd_spec.specs.Commands.{DatabaseChange as Change}
 use Rattle.rrd_spec.specs.Commands.Creating.{create_verdict, created}
 use Rattle.rrd_spec.specs.Journal.Entries.{Entry}
 use Rattle.rrd_spec.specs.History.{Content}

@@ -1,57 +1,90 @@
 -- Definition: what a place keeps, what is found there, and what is left there.
-use Rattle.std.specs.Prelude.{◌≡◌, ◌⊎◌, ◌++◌, ◌∷◌, ℕ, List, Option, Some, None, Result, Ok, Err, ⊤}
-use Rattle.std.specs.Io.KnownBytes.{IsAtEnd, Keeps}
+use Rattle.std.specs.Prelude.{◌≡◌, ◌⊎◌, ◌++◌, ◌∷◌, [], ℕ, List, Option, Some, None, Result, Ok, Err, ⊤, option_map}
 use Rattle.rrd_file.specs.Faults.{IsAnswer}
+use Rattle.rrd_file.specs.Laws.{IsValidStored}
 use Rattle.rrd_file.specs.Layout.{layout}
 use Rattle.rrd_file.specs.declared.fault.FileFault.{FileFault}
 use Rattle.rrd_spec.specs.Journal.Survivors.{Stored}
 use Rattle.rrd_store.specs.declared.faults.TaskFault.{TaskFault}
 use Rattle.rrd_store.specs.declared.faults.TaskFault.TheVariants.{Command, Stream, File, CannotOpen, CannotWrite}
 
--- ---- the calls of a place
+-- what a place has: nothing is there, or something with these bytes, which may be none
+pub data Held : Type 0 where
+  Missing : Held
+  Bytes : List ℕ → Held
 
--- a reader has the place's bytes before it; none only where there are none
-abbrev pub Opens : {R : Type 0} → Option (List ℕ) → (R → Option (List ℕ)) → Option R → Type 0
-Opens held remaining None = IsAtEnd held
-Opens held remaining (Some reader) = Keeps held (remaining reader)
+-- ---- the calls of a place, by what it has where that is known
 
--- known bytes are now these
-abbrev pub Becomes : Option (List ℕ) → Option (List ℕ) → List ℕ → Type 0
+-- it has what it had
+abbrev pub Stays : Option Held → Option Held → Type 0
+Stays None new = ⊤
+Stays (Some old) None = ⊥
+Stays (Some old) (Some new) = new ≡ old
+
+-- it has these bytes now
+abbrev pub Becomes : Option Held → Option Held → List ℕ → Type 0
 Becomes None new bytes = ⊤
-Becomes (Some old) new bytes = new ≡ Some bytes
+Becomes (Some old) new bytes = new ≡ Some (Bytes bytes)
 
--- known bytes are now those that were written
-abbrev pub TakesOver : Option (List ℕ) → Option (List ℕ) → Option (List ℕ) → Type 0
+-- no reader where nothing is there, else one with the bytes before it
+abbrev pub Opens : {R : Type 0} → Option Held → (R → Option (List ℕ)) → Option R → Type 0
+Opens None remaining found = ⊤
+Opens (Some Missing) remaining None = Unit {0}
+Opens (Some Missing) remaining (Some reader) = ⊥
+Opens (Some (Bytes bytes)) remaining None = ⊥
+Opens (Some (Bytes bytes)) remaining (Some reader) = remaining reader ≡ Some bytes
+
+-- it has what it had, but where nothing was there something without a byte may have been made
+abbrev pub IsReady : Option Held → Option Held → Type 0
+IsReady None new = ⊤
+IsReady (Some Missing) new = Stays (Some Missing) new ⊎ Becomes (Some Missing) new []
+IsReady (Some (Bytes bytes)) new = Stays (Some (Bytes bytes)) new
+
+-- a writer that has taken nothing
+abbrev pub IsBegun : Option Held → Option (List ℕ) → Type 0
+IsBegun None written = ⊤
+IsBegun (Some old) written = written ≡ Some []
+
+-- it has what was written
+abbrev pub TakesOver : Option Held → Option Held → Option (List ℕ) → Type 0
 TakesOver None new written = ⊤
-TakesOver (Some old) new written = new ≡ written
+TakesOver (Some old) new written = new ≡ option_map Bytes written
 
--- known bytes stay, or a front of these is there, and not all
-abbrev pub IsCutFrom : Option (List ℕ) → Option (List ℕ) → List ℕ → Type 0
+-- it has what it had, or a front of these bytes, and not all
+abbrev pub IsCutFrom : Option Held → Option Held → List ℕ → Type 0
 IsCutFrom old new bytes =
-    Keeps old new
+    Stays old new
     ⊎ ((front : List ℕ) × (next : ℕ) × (rest : List ℕ) × (bytes ≡ front ++ next ∷ rest) × Becomes old new front)
 
 -- so it is of those that were written
-abbrev pub Cuts : Option (List ℕ) → Option (List ℕ) → Option (List ℕ) → Type 0
+abbrev pub Cuts : Option Held → Option Held → Option (List ℕ) → Type 0
 Cuts old new None = ⊤
 Cuts old new (Some written) = IsCutFrom old new written
 
--- known bytes stay, or a front of those that were written is there, or all of them
-abbrev pub FallsBack : Option (List ℕ) → Option (List ℕ) → Option (List ℕ) → Type 0
+-- it has what it had, or a front of what was written, or all of that
+abbrev pub FallsBack : Option Held → Option Held → Option (List ℕ) → Type 0
 FallsBack old new None = ⊤
 FallsBack old new (Some written) =
-    Keeps old new ⊎ ((front : List ℕ) × (rest : List ℕ) × (written ≡ front ++ rest) × Becomes old new front)
+    Stays old new ⊎ ((front : List ℕ) × (rest : List ℕ) × (written ≡ front ++ rest) × Becomes old new front)
 
 -- ---- what is found
 
--- the answer to the bytes, where they are known
-abbrev pub Reads : Option (List ℕ) → Result Stored FileFault → Type 0
-Reads None answer = ⊤
-Reads (Some bytes) answer = IsAnswer bytes answer
+-- what reading answers: to bytes the answer to them. Where it isn't known what is there, a database is a valid one
+abbrev pub Reads : Option Held → Result Stored FileFault → Type 0
+Reads (Some Missing) answer = ⊥
+Reads (Some (Bytes bytes)) answer = IsAnswer bytes answer
+Reads None (Ok database) = IsValidStored database
+Reads None (Err fault) = ⊤
 
--- no database only where there are no bytes; else the one that they are the file of, or their fault
-abbrev pub Finds : Option (List ℕ) → Result (Option Stored) TaskFault → Type 0
-Finds held (Ok None) = IsAtEnd held
+-- nothing is there, as far as is known
+abbrev pub MayMiss : Option Held → Type 0
+MayMiss None = ⊤
+MayMiss (Some Missing) = ⊤
+MayMiss (Some (Bytes bytes)) = ⊥
+
+-- no database only where nothing is there; else the one that the bytes are the file of, or their fault
+abbrev pub Finds : Option Held → Result (Option Stored) TaskFault → Type 0
+Finds held (Ok None) = MayMiss held
 Finds held (Ok (Some database)) = Reads held (Ok database)
 Finds held (Err (File fault)) = Reads held (Err fault)
 Finds held (Err CannotOpen) = ⊤
@@ -61,8 +94,8 @@ Finds held (Err (Stream fault)) = ⊥
 
 -- ---- what is left
 
--- the bytes take the place of those that were there; or these stay; or a front of the new ones is there, and not all
-abbrev pub Replaces : {T : Type 0} → Option (List ℕ) → Option (List ℕ) → List ℕ → Result T TaskFault → Type 0
+-- the bytes take the place of what was there; or that stays; or a front of the new ones is there, and not all
+abbrev pub Replaces : {T : Type 0} → Option Held → Option Held → List ℕ → Result T TaskFault → Type 0
 Replaces old new bytes (Ok x) = Becomes old new bytes
 Replaces old new bytes (Err CannotWrite) = IsCutFrom old new bytes
 Replaces old new bytes (Err CannotOpen) = ⊥
@@ -71,7 +104,7 @@ Replaces old new bytes (Err (Command fault)) = ⊥
 Replaces old new bytes (Err (Stream fault)) = ⊥
 
 -- the database, where there is one, is left as its layout
-abbrev pub Leaves : {T : Type 0} → Option Stored → Option (List ℕ) → Option (List ℕ) → Result T TaskFault → Type 0
-Leaves None old new (Ok x) = Keeps old new
+abbrev pub Leaves : {T : Type 0} → Option Stored → Option Held → Option Held → Result T TaskFault → Type 0
+Leaves None old new (Ok x) = Stays old new
 Leaves None old new (Err fault) = ⊥
 Leaves (Some database) old new result = Replaces old new (layout database) result

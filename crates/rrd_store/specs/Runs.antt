@@ -1,5 +1,6 @@
--- Law: after any list of runs over one file, its bytes and all that was printed are what the definitions compute.
-use Rattle.std.specs.Prelude.{◌≡◌, ◌≢◌, ◌⊎◌, ◌++◌, ◌∷◌, [], ℕ, List, Option, Some, None, Result, Ok, Err, if◌then◌else◌, option_map}
+-- Definition: what the definitions compute of one run over a place. Law: after any list of runs over one file, its bytes
+-- and all that was printed are that; and a file that a failed write cut stays so.
+use Rattle.std.specs.Prelude.{◌≡◌, ◌≢◌, ◌⊎◌, ◌++◌, ◌∷◌, [], ℕ, List, Option, Some, None, Result, Ok, Err, ⊤, false, length, if◌then◌else◌, option_map}
 use Rattle.std.specs.List.{AllByRecursion}
 use Rattle.std.specs.Result.{result_err}
 use Rattle.std.specs.Io.KnownBytes.{Appends, Consumes, Keeps}
@@ -10,17 +11,20 @@ use Rattle.rrd_file.specs.Laws.{IsOfFile, IsValidIn}
 use Rattle.rrd_file.specs.Layout.{layout_in}
 use Rattle.rrd_spec.specs.Journal.Survivors.{State, Stored, Stands}
 use Rattle.rrd_spec.specs.Limits.{newest}
+use Rattle.rrd_spec.specs.declared.requests.create.CreateSpec.{CreateSpec}
 use Rattle.rrd_spec.specs.declared.version.Version.{Version}
 use Rattle.rrd_tool.specs.Batch.Run.{RunOver}
 use Rattle.rrd_tool.specs.Commands.{effect}
-use Rattle.rrd_tool.specs.Commands.Reading.{IsReading}
+use Rattle.rrd_tool.specs.Commands.Reading.{IsReading, reading}
 use Rattle.rrd_tool.specs.Effects.{Effect, Makes, Changes, Reverts, Shows, is_change, stored_of, next, text_on, verdict_on}
 use Rattle.rrd_tool.specs.Execution.{IsFault}
+use Rattle.rrd_tool.specs.Lines.{is_empty}
 use Rattle.rrd_tool.specs.declared.commands.Command.{Command}
 use Rattle.rrd_tool.specs.declared.faults.Fault.{Fault}
 use Rattle.rrd_tool.specs.declared.faults.Fault.TheVariants.{Line, NoDatabase, Output, Refused}
 use Rattle.rrd_tool.specs.declared.faults.LineFault.{LineFault}
 use Rattle.rrd_store.specs.Batch.{IsFileBatch}
+use Rattle.rrd_store.specs.Places.{Held, Missing, Bytes}
 use Rattle.rrd_store.specs.Single.{IsSingle}
 use Rattle.rrd_store.specs.declared.batch.FileBatchEnd.{FileBatchEnd}
 use Rattle.rrd_store.specs.declared.faults.TaskFault.{TaskFault}
@@ -50,15 +54,19 @@ pub data Run : Type 0 where
   ByCommand : CommandRun → Run
   ByBatch : BatchRun → Run
 
--- the run took the file from its old bytes to the new ones: just what `run_single`, or `run_file_batch`, ensures
-abbrev pub Did : List ℕ → Run → List ℕ → Type 0
-Did old (ByCommand r) new = IsSingle r.words r.now (Some old) (Some new) r.out_before r.out_after r.end
-Did old (ByBatch r) new = IsFileBatch r.now (Some old) (Some new) r.in_before r.in_after r.out_before r.out_after r.end
+-- the run took the place from what it had to what it has: just what `run_single`, or `run_file_batch`, ensures
+abbrev pub DidIn : Option Held → Run → Option Held → Type 0
+DidIn old (ByCommand r) new = IsSingle r.words r.now old new r.out_before r.out_after r.end
+DidIn old (ByBatch r) new = IsFileBatch r.now old new r.in_before r.in_after r.out_before r.out_after r.end
+
+-- so it took a file, of which it is known what it was
+abbrev pub Did : Held → Run → Held → Type 0
+Did old run new = DidIn (Some old) run (Some new)
 
 -- one after another, and nobody else wrote the file in between
-abbrev pub DidAll : List ℕ → List Run → List ℕ → Type 0
+abbrev pub DidAll : Held → List Run → Held → Type 0
 DidAll old [] new = new ≡ old
-DidAll old (run ∷ runs) new = (between : List ℕ) × Did old run between × DidAll between runs new
+DidAll old (run ∷ runs) new = (between : Held) × Did old run between × DidAll between runs new
 
 -- the fault that a run ended with before it touched the file, or at its write
 abbrev pub fault_of_batch : Result FileBatchEnd TaskFault → Option TaskFault
@@ -92,22 +100,29 @@ as_written state = option_map (λ (s : State). let k : Filing = record { version
 abbrev pub IsValidState : Version → State → Type 0
 IsValidState version s = Stands s (stored_of s) × IsValidIn version (stored_of s)
 
--- the file has the layout of that database in its version, and no byte where there is none. The version, what
--- survived, how many of these can be reverted and what was brought say every byte of it
-abbrev pub Holds : List ℕ → Option Filing → Type 0
-Holds bytes None = bytes ≡ []
-Holds bytes (Some k) = (bytes ≡ layout_in k.version (stored_of k.state)) × IsValidState k.version k.state
+-- so it is of what a file keeps, where there is one
+abbrev pub IsValidFiling : Option Filing → Type 0
+IsValidFiling None = Unit {0}
+IsValidFiling (Some k) = IsValidState k.version k.state
 
--- the file after a write that failed: its bytes are those from before, or a front of the new ones and not all
-abbrev pub IsCut : List ℕ → List ℕ → Option Filing → Type 0
+-- the file has the layout of that database in its version, and there is no file where there is none. The version, what
+-- survived, how many of these can be reverted and what was brought say every byte of it
+abbrev pub Holds : Held → Option Filing → Type 0
+Holds held None = held ≡ Missing
+Holds held (Some k) = (held ≡ Bytes (layout_in k.version (stored_of k.state))) × IsValidState k.version k.state
+
+-- these bytes are a front of the file of what is kept, and not all of it
+abbrev pub IsFrontOf : List ℕ → Filing → Type 0
+IsFrontOf front k =
+    (next : ℕ) × (rest : List ℕ) × (layout_in k.version (stored_of k.state) ≡ front ++ next ∷ rest)
+
+-- the file after a write that failed: it is as it was, or has a front of the new bytes and not all
+abbrev pub IsCut : Held → Held → Option Filing → Type 0
 IsCut old new None = ⊥
-IsCut old new (Some k) =
-    (new ≡ old)
-    ⊎ ((front : List ℕ) × (next : ℕ) × (rest : List ℕ)
-    × (layout_in k.version (stored_of k.state) ≡ front ++ next ∷ rest) × (new ≡ front))
+IsCut old new (Some k) = (new ≡ old) ⊎ ((front : List ℕ) × IsFrontOf front k × (new ≡ Bytes front))
 
 -- the file after a run that led to this, by the fault that it ended with
-abbrev pub IsLeft : List ℕ → List ℕ → Option Filing → Option TaskFault → Type 0
+abbrev pub IsLeft : Held → Held → Option Filing → Option TaskFault → Type 0
 IsLeft old new s None = Holds new s
 IsLeft old new s (Some task.CannotWrite) = IsCut old new s
 IsLeft old new s (Some task.CannotOpen) = Holds new s
@@ -115,12 +130,18 @@ IsLeft old new s (Some (task.File fault)) = Holds new s
 IsLeft old new s (Some (task.Command fault)) = Holds new s
 IsLeft old new s (Some (task.Stream fault)) = Holds new s
 
+-- so it is of a place, as far as it is known what it has; what was known stays known
+abbrev pub IsLeftIn : Option Held → Option Held → Option Filing → Option TaskFault → Type 0
+IsLeftIn None new s fault = ⊤
+IsLeftIn (Some old) None s fault = ⊥
+IsLeftIn (Some old) (Some new) s fault = IsLeft old new s fault
+
 -- ---- what the definitions compute of a run: the next state and its version, what is printed, and how it ends
 
 -- what is in the way of reading the file of a state. The bytes of a database are never at fault, so the reader failed
--- or memory was wanting; without a database the file isn't there, or has no byte; and any file may not open
+-- or memory was wanting; without a database there is no file; and any file may not open
 abbrev pub IsUnread : Option Filing → FileFault → Type 0
-IsUnread None fault = IsOfFile (Err fault) → fault ≡ Truncated 0
+IsUnread None fault = ⊥
 IsUnread (Some s) fault = ¬ IsOfFile (Err fault)
 
 abbrev pub MayStop : Option Filing → TaskFault → Type 0
@@ -161,9 +182,11 @@ IsDone s e s1 = (verdict_on (database_in s) e ≡ None) × (s1 ≡ kept_next s e
 abbrev pub IsRefused : Option Filing → Effect → Fault → Option Filing → Option (List ℕ) → Option (List ℕ) → Type 0
 IsRefused s e fault s1 c0 c1 = IsFault (verdict_on (database_in s) e) e fault × IsNothing s s1 c0 c1
 
--- a command of this effect that ends by a fault of its own. Where its output failed it was done
+-- a command of this effect that ends by a fault of its own. Where its output failed it was done, and it is one that
+-- prints something
 abbrev pub Fails : Option Filing → Effect → Fault → Option Filing → Option (List ℕ) → Option (List ℕ) → Type 0
-Fails s e Output s1 c0 c1 = IsDone s e s1 × PrintsFront c0 c1 (text_on (database_in s) e)
+Fails s e Output s1 c0 c1 =
+    IsDone s e s1 × PrintsFront c0 c1 (text_on (database_in s) e) × (is_empty (text_on (database_in s) e) ≡ false)
 Fails s e (Refused refusal) s1 c0 c1 = IsRefused s e (Refused refusal) s1 c0 c1
 Fails s e NoDatabase s1 c0 c1 = IsRefused s e NoDatabase s1 c0 c1
 Fails s e (Line fault) s1 c0 c1 = IsRefused s e (Line fault) s1 c0 c1
@@ -208,42 +231,92 @@ abbrev pub ComputesAll : Option Filing → List Run → Option Filing → Type 0
 ComputesAll s [] s1 = s1 ≡ s
 ComputesAll s (run ∷ runs) s1 = (between : Option Filing) × Computes s run between × ComputesAll between runs s1
 
--- ---- the laws
-
--- a run over the file of a state leads to the state that the definitions compute, and prints what they do. The file is
--- that of the new state, unless it could not be written
-abbrev pub RunIsComputed : List ℕ → Option Filing → Run → List ℕ → Type 0
-RunIsComputed old s run new =
-    Holds old s → Did old run new → (s1 : Option Filing) × Computes s run s1 × IsLeft old new s1 (fault_of run)
-
--- the first file: no byte, or the file of a valid database, in any version
-abbrev pub IsFirst : List ℕ → Option Stored → Type 0
-IsFirst bytes None = bytes ≡ []
-IsFirst bytes (Some d) = IsFile bytes d
-
--- its content is the base, its journal is brought along, and nothing survives on it yet
-abbrev pub begun : Stored → State
-begun d = record { base = d.content; brought = d.journal; survivors = []; revertible = 0 }
-
-abbrev pub first_of : (bytes : List ℕ) (first : Option Stored) → IsFirst bytes first → Option Filing
-first_of bytes None is = None
-first_of bytes (Some d) is = Some (record { version = is.version; state = begun d })
-
--- the headline: after any list of runs, batches and single commands, with any outcome of memory, the file has the
--- bytes, and the outputs have the texts, that the definitions compute from the first file
-abbrev pub RunsAreComputed : List ℕ → Option Stored → List Run → List ℕ → Type 0
-RunsAreComputed old first runs new =
-    (is : IsFirst old first) → DidAll old runs new → AllByRecursion IsWritten runs
-    → (last : Option Filing) × ComputesAll (first_of old first is) runs last × Holds new last
-
 -- what the output held before and after
 abbrev pub OutputStays : Run → Type 0
 OutputStays (ByCommand r) = Keeps r.out_before r.out_after
 OutputStays (ByBatch r) = Keeps r.out_before r.out_after
 
+-- ---- one run over a place: what `run_single` and `run_file_batch` ensure
+
+-- from this state the run leads to the one that the definitions compute, and prints what they do. The place has that
+-- state's file, unless it could not be written
+abbrev pub Leads : Option Held → Option Held → Option Filing → Run → Type 0
+Leads old new s run = (s1 : Option Filing) × Computes s run s1 × IsLeftIn old new s1 (fault_of run)
+
+-- the place didn't open, or what is there is no database that can be read
+abbrev pub IsOfPlace : TaskFault → Type 0
+IsOfPlace task.CannotOpen = Unit {0}
+IsOfPlace (task.File fault) = Unit {0}
+IsOfPlace task.CannotWrite = ⊥
+IsOfPlace (task.Command fault) = ⊥
+IsOfPlace (task.Stream fault) = ⊥
+
+-- the run ended so, and printed nothing
+abbrev pub EndsUnread : Run → Type 0
+EndsUnread run = (fault : TaskFault) × IsOfPlace fault × (fault_of run ≡ Some fault) × OutputStays run
+
+-- over the file of any state the run does what is computed from that state. Where it isn't known what the place has, as
+-- of a file of the program, it does what is computed from some valid state, or from none, or it ends unread
+abbrev pub IsComputed : Option Held → Option Held → Run → Type 0
+IsComputed None new run = ((s : Option Filing) × IsValidFiling s × Leads None new s run) ⊎ EndsUnread run
+IsComputed (Some old) new run = (s : Option Filing) → Holds old s → Leads (Some old) new s run
+
+-- ---- the laws
+
+-- a run over the file of a state leads to the state that the definitions compute, and prints what they do. The file is
+-- that of the new state, unless it could not be written
+abbrev pub RunIsComputed : Held → Option Filing → Run → Held → Type 0
+RunIsComputed old s run new = Holds old s → Did old run new → Leads (Some old) (Some new) s run
+
+-- the first file: none, or the file of a valid database, in any version
+abbrev pub IsFirst : Held → Option Stored → Type 0
+IsFirst held None = held ≡ Missing
+IsFirst held (Some d) = (bytes : List ℕ) × (held ≡ Bytes bytes) × IsFile bytes d
+
+-- its content is the base, its journal is brought along, and nothing survives on it yet
+abbrev pub begun : Stored → State
+begun d = record { base = d.content; brought = d.journal; survivors = []; revertible = 0 }
+
+abbrev pub first_of : (held : Held) (first : Option Stored) → IsFirst held first → Option Filing
+first_of held None is = None
+first_of held (Some d) is = Some (record { version = is.2.version; state = begun d })
+
+-- the headline: after any list of runs, batches and single commands, with any outcome of memory, the file has the
+-- bytes, and the outputs have the texts, that the definitions compute from the first file
+abbrev pub RunsAreComputed : Held → Option Stored → List Run → Held → Type 0
+RunsAreComputed old first runs new =
+    (is : IsFirst old first) → DidAll old runs new → AllByRecursion IsWritten runs
+    → (last : Option Filing) × ComputesAll (first_of old first is) runs last × Holds new last
+
 -- a run that ends with a fault, of the command or of the file, and not because the file could not be written, leaves
--- the bytes as they were, whatever they are; it printed nothing unless its output failed
-abbrev pub FaultChangesNothing : List ℕ → Run → TaskFault → List ℕ → Type 0
+-- the file as it was, whatever that is; it printed nothing unless its output failed
+abbrev pub FaultChangesNothing : Held → Run → TaskFault → Held → Type 0
 FaultChangesNothing old run fault new =
     Did old run new → fault_of run ≡ Some fault → fault ≢ task.CannotWrite
     → (new ≡ old) × (fault ≢ task.Command Output → OutputStays run)
+
+-- the words mean a command that makes a database
+abbrev pub IsCreate : Run → Type 0
+IsCreate (ByCommand r) =
+    (command : Command) × (reading r.words r.now ≡ Some (Ok command))
+    × (spec : CreateSpec) × (effect command ≡ Makes spec)
+IsCreate (ByBatch r) = ⊥
+
+-- what a run over a file that breaks off after so many bytes ends with: that it does, unless it couldn't be opened, or
+-- not be read to its end; or the words are no command
+abbrev pub IsOfBreak : ℕ → TaskFault → Type 0
+IsOfBreak at (task.File fault) = IsOfFile (Err fault) → fault ≡ Truncated at
+IsOfBreak at task.CannotOpen = Unit {0}
+IsOfBreak at (task.Command (Line fault)) = Unit {0}
+IsOfBreak at (task.Command (Refused fault)) = ⊥
+IsOfBreak at (task.Command NoDatabase) = ⊥
+IsOfBreak at (task.Command Output) = ⊥
+IsOfBreak at task.CannotWrite = ⊥
+IsOfBreak at (task.Stream fault) = ⊥
+
+-- a file that a failed write cut stays as it is, and each run over it but a create is refused and prints nothing
+abbrev pub DamagedFileStays : List ℕ → Filing → Run → Held → Type 0
+DamagedFileStays front k run new =
+    IsFrontOf front k → IsValidState k.version k.state → ¬ IsCreate run → Did (Bytes front) run new
+    → (new ≡ Bytes front) × OutputStays run
+    × (fault : TaskFault) × (fault_of run ≡ Some fault) × IsOfBreak (length front) fault

@@ -3,7 +3,8 @@ use Rattle.std.specs.Prelude.{◌≡◌, ℕ, Bool, List, Option, Some, None, Re
 use Rattle.std.specs.Io.KnownBytes.{Keeps}
 use Rattle.rrd_spec.specs.Journal.Survivors.{Stored}
 use Rattle.rrd_tool.specs.Commands.{effect}
-use Rattle.rrd_tool.specs.Effects.{Effect, Makes, Changes, Reverts, Shows, is_change}
+use Rattle.rrd_tool.specs.Effects.{Effect, Makes, Changes, Reverts, Shows, is_change, text_on}
+use Rattle.rrd_tool.specs.Lines.{is_empty}
 use Rattle.rrd_tool.specs.Execution.{Executes}
 use Rattle.rrd_tool.specs.Commands.Reading.{IsReading}
 use Rattle.rrd_tool.specs.declared.commands.Command.{Command}
@@ -11,7 +12,7 @@ use Rattle.rrd_tool.specs.declared.execution.Outcome.{Outcome}
 use Rattle.rrd_tool.specs.declared.faults.Fault.{Fault}
 use Rattle.rrd_tool.specs.declared.faults.Fault.TheVariants.{Line, Output}
 use Rattle.rrd_tool.specs.declared.faults.LineFault.{LineFault}
-use Rattle.rrd_store.specs.Places.{Finds, Leaves}
+use Rattle.rrd_store.specs.Places.{Finds, Held, Leaves, Stays}
 use Rattle.rrd_store.specs.declared.faults.TaskFault.{TaskFault}
 use Rattle.rrd_store.specs.declared.place.Access.{Access}
 use Rattle.rrd_store.specs.declared.place.Access.TheVariants.{Change, Read}
@@ -24,51 +25,55 @@ abbrev pub access_for : Effect → Access
 access_for effect = if is_change effect then Change else Read
 
 -- a place where nothing is can't be opened
-abbrev pub FindsOne : Option (List ℕ) → Result (Option Stored) TaskFault → Type 0
+abbrev pub FindsOne : Option Held → Result (Option Stored) TaskFault → Type 0
 FindsOne held (Ok None) = ⊥
 FindsOne held (Ok (Some database)) = Finds held (Ok (Some database))
 FindsOne held (Err fault) = Finds held (Err fault)
 
 -- what makes a database asks for none, whatever is there
-abbrev pub StartsBy : Effect → Option (List ℕ) → Result (Option Stored) TaskFault → Type 0
+abbrev pub StartsBy : Effect → Option Held → Result (Option Stored) TaskFault → Type 0
 StartsBy (Makes spec) held start = start ≡ Ok None
 StartsBy (Changes command) held start = FindsOne held start
 StartsBy Reverts held start = FindsOne held start
 StartsBy (Shows show) held start = FindsOne held start
 
-abbrev pub StartsFrom : Command → Option (List ℕ) → Result (Option Stored) TaskFault → Type 0
+abbrev pub StartsFrom : Command → Option Held → Result (Option Stored) TaskFault → Type 0
 StartsFrom command held start = StartsBy (effect command) held start
 
 -- ---- what is left of it
 
--- after a refused command and one that printed the place is as it was; a change is written. What was printed may fail
--- to be handed on
-abbrev pub EndsBy : Option Fault → Bool → Option Stored → Option (List ℕ) → Option (List ℕ)
+-- after a refused command and one that printed the place is as it was; a change is written. What was printed, which is
+-- some text, may fail to be handed on
+abbrev pub EndsBy : Option Fault → Bool → Option Stored → List ℕ → Option Held → Option Held
     → Result (Unit {0}) TaskFault → Type 0
-EndsBy (Some fault) changed database old new end = (end ≡ Err (task.Command fault)) × Keeps old new
-EndsBy None true database old new end = Leaves database old new end
-EndsBy None false database old new (Ok x) = Keeps old new
-EndsBy None false database old new (Err fault) = (fault ≡ task.Command Output) × Keeps old new
+EndsBy (Some fault) changed database text old new end = (end ≡ Err (task.Command fault)) × Stays old new
+EndsBy None true database text old new end = Leaves database old new end
+EndsBy None false database text old new (Ok x) = Stays old new
+EndsBy None false database text old new (Err fault) =
+    (fault ≡ task.Command Output) × (is_empty text ≡ false) × Stays old new
 
-abbrev pub Ends : Outcome → Option (List ℕ) → Option (List ℕ) → Result (Unit {0}) TaskFault → Type 0
-Ends outcome old new end = EndsBy outcome.fault outcome.changed outcome.database old new end
+-- an outcome that printed this text
+abbrev pub Ends : Outcome → List ℕ → Option Held → Option Held → Result (Unit {0}) TaskFault → Type 0
+Ends outcome text old new end = EndsBy outcome.fault outcome.changed outcome.database text old new end
 
--- ---- the whole: `old` and `new` are the place's bytes before and after, `c0` and `c1` those of the output
+-- ---- the whole: `old` and `new` are what the place has before and after, `c0` and `c1` what the output has
 
 -- the place is not written, and nothing is printed
-abbrev pub Stops : TaskFault → Option (List ℕ) → Option (List ℕ) → Option (List ℕ) → Option (List ℕ)
+abbrev pub Stops : TaskFault → Option Held → Option Held → Option (List ℕ) → Option (List ℕ)
     → Result (Unit {0}) TaskFault → Type 0
-Stops fault old new c0 c1 end = (end ≡ Err fault) × Keeps old new × Keeps c0 c1
+Stops fault old new c0 c1 end = (end ≡ Err fault) × Stays old new × Keeps c0 c1
 
 -- the command runs over what was found, and what it leaves is written
-abbrev pub RunsFrom : Command → Result (Option Stored) TaskFault → Option (List ℕ) → Option (List ℕ)
+abbrev pub RunsFrom : Command → Result (Option Stored) TaskFault → Option Held → Option Held
     → Option (List ℕ) → Option (List ℕ) → Result (Unit {0}) TaskFault → Type 0
 RunsFrom command (Err fault) old new c0 c1 end = Stops fault old new c0 c1 end
 RunsFrom command (Ok kept) old new c0 c1 end =
-    (outcome : Outcome) × Executes kept command c0 c1 outcome × Ends outcome old new end
+    (outcome : Outcome)
+    × Executes kept command c0 c1 outcome
+    × Ends outcome (text_on kept (effect command)) old new end
 
 -- what was read of the words is looked for in the place, if it is a command
-abbrev pub RunsAs : Result Command LineFault → Option (List ℕ) → Option (List ℕ) → Option (List ℕ)
+abbrev pub RunsAs : Result Command LineFault → Option Held → Option Held → Option (List ℕ)
     → Option (List ℕ) → Result (Unit {0}) TaskFault → Type 0
 RunsAs (Err fault) old new c0 c1 end = Stops (task.Command (Line fault)) old new c0 c1 end
 RunsAs (Ok command) old new c0 c1 end =
@@ -76,7 +81,7 @@ RunsAs (Ok command) old new c0 c1 end =
     × StartsFrom command old start
     × RunsFrom command start old new c0 c1 end
 
-abbrev pub IsSingle : List (List ℕ) → ℕ → Option (List ℕ) → Option (List ℕ) → Option (List ℕ) → Option (List ℕ)
+abbrev pub IsSingle : List (List ℕ) → ℕ → Option Held → Option Held → Option (List ℕ) → Option (List ℕ)
     → Result (Unit {0}) TaskFault → Type 0
 IsSingle words now old new c0 c1 end =
     (read : Result Command LineFault) × IsReading words now read × RunsAs read old new c0 c1 end

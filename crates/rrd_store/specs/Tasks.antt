@@ -1,6 +1,7 @@
 -- Definition: what the program's words ask for (own).
-use Rattle.std.specs.Prelude.{◌==◌, [], ◌∷◌, ℕ, Bool, List, codes, false, if◌then◌else◌}
+use Rattle.std.specs.Prelude.{[], ◌∷◌, ℕ, List, codes, if◌then◌else◌}
 use Rattle.std.specs.Str.{bytes_eq}
+use Rattle.rrd_tool.specs.Arguments.{begins_with_minus}
 use Rattle.rrd_store.specs.declared.task.Task.{Task}
 use Rattle.rrd_store.specs.declared.task.Task.TheVariants as task
 
@@ -11,10 +12,6 @@ pub data Asked : Type 0 where
   ForBatch : Asked
   ForFileBatch : List ℕ → Asked
   ForCommand : List ℕ → List (List ℕ) → Asked
-
-abbrev pub begins_with_minus : List ℕ → Bool
-begins_with_minus [] = false
-begins_with_minus (b ∷ bs) = b == 45
 
 -- a file, where no word stands behind its name
 abbrev pub asked_of_batch : List (List ℕ) → Asked

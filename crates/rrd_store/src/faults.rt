@@ -28,6 +28,19 @@ pub enum TaskFault {
     CannotWrite,
 }
 
+// The words are no command.
+impl From<LineFault> for TaskFault {
+    ghost use Rattle.std.specs.Prelude.{◌≡◌};
+    ghost use Rattle.rrd_tool.specs.declared.faults.Fault.TheVariants.{Line};
+    ghost use Rattle.rrd_store.specs.declared.faults.TaskFault.TheVariants.{Command};
+
+    ghost from_gives = { λ line fault. fault ≡ Command (Line line) };
+
+    fn from(line: LineFault) -> TaskFault {
+        TaskFault::Command(Fault::Line(line))
+    }
+}
+
 // The text of a stream's fault.
 fn stream_string(fault: StreamFault) -> ArrayString<96>
     ensures text { result.bytes ≡ stream_text fault }

@@ -1,6 +1,6 @@
 //! A place that keeps a database as bytes.
-ghost use Rattle.std.specs.Prelude.{◌≡◌, [], IfOk, List, None, OnErr, OnOk, Option, ℕ};
-ghost use Rattle.rrd_store.specs.Places.{Becomes, Cuts, FallsBack, Opens, TakesOver};
+ghost use Rattle.std.specs.Prelude.{◌≡◌, IfOk, None, OnErr, OnOk, Option};
+ghost use Rattle.rrd_store.specs.Places.{Cuts, FallsBack, Held, IsBegun, IsReady, Opens, TakesOver};
 
 use std::io;
 use std::io::{Read, Write};
@@ -17,8 +17,8 @@ pub enum Access {
 /// A place for bytes, as a file at a path, of which others may hold a part in time: it keeps its bytes
 /// until all of them are replaced, or tells that they aren't.
 pub trait Place {
-    // The bytes that it has, where they are known.
-    ghost contents: { Self → Option (List ℕ) } = { λ _. None };
+    // What it has, where that is known.
+    ghost contents: { Self → Option Held } = { λ _. None };
 
     /// What reads its bytes.
     type Reader: Read + Drop;
@@ -26,7 +26,8 @@ pub trait Place {
     /// What takes the bytes that are to replace them.
     type Writer: Write + Drop;
 
-    /// A reader of its bytes, from the first on; none where nothing is there. While they are read nobody
+    /// A reader of its bytes, from the first on; none where nothing is there, and one that ends at once
+    /// where something without a byte is. While they are read nobody
     /// else changes them, and once it was opened for a change nobody else does until that is written.
     ///
     /// Errors: they can't be read, or another one has them.
@@ -35,12 +36,12 @@ pub trait Place {
         ensures reads { IfOk result (Opens (contents self.old) Self.Reader.remaining) };
 
     /// Readies it for so many bytes in place of those that it has, and for no other number. What is not
-    /// there is made. The bytes count from `end` on.
+    /// there is made, without a byte. The bytes count from `end` on.
     ///
     /// Errors: they can't be written, or there is no room for them.
     fn begin(&mut self, length: u64) -> io::Result<Self::Writer>
-        ensures stays { contents self.new ≡ contents self.old }
-        ensures new { IfOk result (λ writer. Becomes (contents self.old) (Self.Writer.contents writer) []) };
+        ensures ready { IsReady (contents self.old) (contents self.new) }
+        ensures begun { IfOk result (λ writer. IsBegun (contents self.old) (Self.Writer.contents writer)) };
 
     /// Has the bytes that were written in place of its own.
     ///

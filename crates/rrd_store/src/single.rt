@@ -1,9 +1,12 @@
 //! One command over the database in a place.
-ghost use Rattle.std.specs.Prelude.{◌≡◌, Result};
+ghost use Rattle.std.specs.Prelude.{◌≡◌, List, None, Result, false, ℕ};
 ghost use Rattle.std.specs.Io.KnownBytes.{Keeps};
 ghost use Rattle.rrd_tool.specs.Commands.{effect};
+ghost use Rattle.rrd_tool.specs.Lines.{is_empty};
+ghost use Rattle.rrd_store.specs.Runs.{ByCommand, IsComputed};
 ghost use Rattle.rrd_store.specs.Single.{Ends, IsSingle, StartsFrom, access_for};
 
+use crate::laws::place_runs_are_computed;
 use crate::stored::{load, store};
 use crate::{Access, Place, TaskFault};
 use rrd_base::Database;
@@ -20,9 +23,13 @@ fn access_of(command: &Command) -> Access
         Command::Fetch { .. }
         | Command::First { .. }
         | Command::Last
-        | Command::Lastupdate
+        | Command::LastUpdate
         | Command::Info => Access::Read,
-        _ => Access::Change,
+        Command::Create(_)
+        | Command::Update(_)
+        | Command::Tune(_)
+        | Command::Resize { .. }
+        | Command::Revert => Access::Change,
     }
 }
 
@@ -46,7 +53,8 @@ fn start<P: Place>(
 
 // Hands on what a command printed, or writes what it changed.
 fn finish<P: Place, W: Write>(outcome: Outcome, place: &mut P, out: &mut W) -> Result<(), TaskFault>
-    ensures place { Ends outcome (P.contents place.old) (P.contents place.new) result }
+    ensures place { (text : List ℕ) → (outcome.fault ≡ None → outcome.changed ≡ false → is_empty text ≡ false)
+        → Ends outcome text (P.contents place.old) (P.contents place.new) result }
     ensures out { Keeps (W.contents out.old) (W.contents out.new) }
 {
     if let Some(fault) = outcome.fault {
@@ -59,6 +67,23 @@ fn finish<P: Place, W: Write>(outcome: Outcome, place: &mut P, out: &mut W) -> R
         Ok(()) => Ok(()),
         Err(_) => Err(TaskFault::Command(Fault::Output)),
     }
+}
+
+// Reads the words, looks for the database, runs the command and writes what it changed.
+fn run_words<P: Place, W: Write>(
+    alloc: Global,
+    words: &Words,
+    now: u64,
+    place: &mut P,
+    out: &mut W,
+) -> Result<(), TaskFault>
+    ensures { IsSingle words.now now (P.contents place.old) (P.contents place.new)
+        (W.contents out.old) (W.contents out.new) result }
+{
+    let command = read_command(alloc, words, now)?;
+    let database = start(alloc, &command, place)?;
+    let outcome = execute(alloc, database, command, out);
+    finish(outcome, place, out)
 }
 
 /// Runs the command that the words are over the database in a place, and writes what it prints. The
@@ -77,14 +102,17 @@ pub fn run_single<P: Place, W: Write>(
     place: &mut P,
     out: &mut W,
 ) -> Result<(), TaskFault>
-    ensures { IsSingle words.now now (P.contents place.old) (P.contents place.new)
+    ensures run { IsSingle words.now now (P.contents place.old) (P.contents place.new)
         (W.contents out.old) (W.contents out.new) result }
+    ensures computed { IsComputed (P.contents place.old) (P.contents place.new)
+        (ByCommand (record {
+          words = words.now;
+          now = now;
+          out_before = W.contents out.old;
+          out_after = W.contents out.new;
+          end = result;
+        })) }
 {
-    let command = match read_command(alloc, words, now) {
-        Ok(command) => command,
-        Err(fault) => return Err(TaskFault::Command(Fault::Line(fault))),
-    };
-    let database = start(alloc, &command, place)?;
-    let outcome = execute(alloc, database, command, out);
-    finish(outcome, place, out)
+    place_runs_are_computed();
+    run_words(alloc, words, now, place, out)
 }

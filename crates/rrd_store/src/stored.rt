@@ -25,7 +25,11 @@ pub(crate) fn load<P: Place>(
         return Ok(None);
     };
     match decode(alloc, reader) {
-        Ok(database) => Ok(Some(database)),
+        Ok(database) => {
+            // That the database is valid is told with the number of its entries.
+            let _entries = database.undoable();
+            Ok(Some(database))
+        }
         Err(fault) => Err(TaskFault::File(fault)),
     }
 }

@@ -1,9 +1,9 @@
 //! What the program's words ask for.
 ghost use Rattle.std.specs.Prelude.{◌≡◌, ◌∷◌, IfOk, map};
 ghost use Rattle.std.specs.String.{string_bytes};
-ghost use Rattle.rrd_store.specs.Tasks.{asked, begins_with_minus, told_by};
+ghost use Rattle.rrd_store.specs.Tasks.{asked, told_by};
 
-use rrd_tool::Words;
+use rrd_tool::{Words, begins_with_minus};
 use std::alloc::{AllocError, Global};
 
 /// What the program is asked to do.
@@ -17,17 +17,6 @@ pub enum Task<'a> {
     FileBatch { file: &'a str },
     /// Run one command over it. The words are the command's, its name first.
     Single { file: &'a str, words: Words },
-}
-
-// Whether a word begins with a minus: it is then no file.
-fn begins_with_minus(word: &str) -> bool
-    ensures { result ≡ begins_with_minus word.now }
-{
-    let bytes = word.as_bytes();
-    if bytes.is_empty() {
-        return false;
-    }
-    bytes[0] == b'-'
 }
 
 // A command's words: its name, and those behind FILE.

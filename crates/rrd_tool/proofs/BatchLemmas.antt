@@ -64,6 +64,7 @@ module _ {S : Type 0} (turn : S → Told → Turn S) where
           unrun = q.unrun;
           front = q.front;
           unwritten = q.unwritten;
+          speaks = ap (λ s. is_empty (turn s q.last).text) there ∙ q.speaks;
           lines_are = ap (λ l. l ++ q.last.line ∷ q.unrun) (lines-append p.told q.told)
               ∙ (append_assoc (map line_told p.told) (map line_told q.told) (q.last.line ∷ q.unrun) ∙ ap₂ (λ u v. u ++ v) p.lines_are q.lines_are);
           state = q.state ∙ ap (λ s. (turn s q.last).state) (sym there);
@@ -93,6 +94,7 @@ module _ {S : Type 0} (turn : S → Told → Turn S) where
     front = p.front;
     unwritten = p.unwritten;
     lines_are = sym (append_assoc (map line_told p.told) (p.last.line ∷ p.unrun) ys) ∙ ap (λ l. l ++ ys) p.lines_are;
+    speaks = p.speaks;
     state = p.state;
     faults = p.faults;
     front_is = p.front_is;
@@ -158,17 +160,18 @@ module _ {S : Type 0} (turn : S → Told → Turn S) where
     text = rw (ap (λ (t : Turn S). t.text) e, append-nil text) h;
   }
 
-  -- one line, of whose text a front was written
+  -- one line that has a text, of which a front was written
   pub stopped_one : (s0 s1 : S) (n n1 : ℕ) (a b : Option (List ℕ)) (told : Told) (is_fault : Bool) (text : List ℕ)
-      → turn s0 told ≡ record { state = s1; text = text; is_fault = is_fault } → (h : AppendsSome a b text) → n1 ≡ n + faults_written is_fault h.1
+      → turn s0 told ≡ record { state = s1; text = text; is_fault = is_fault } → is_empty text ≡ false → (h : AppendsSome a b text) → n1 ≡ n + faults_written is_fault h.1
       → Stopped turn s0 s1 n n1 a b (told.line ∷ [])
-  stopped_one s0 s1 n n1 a b told is_fault text e h count = record {
+  stopped_one s0 s1 n n1 a b told is_fault text e some h count = record {
     told = [];
     last = told;
     unrun = [];
     front = h.0;
     unwritten = h.1;
     lines_are = refl;
+    speaks = ap (λ (t : Turn S). is_empty t.text) e ∙ some;
     state = sym (ap (λ (t : Turn S). t.state) e);
     faults =
         let same = ap (λ (t : Turn S). faults_written t.is_fault h.1) e in
@@ -181,7 +184,7 @@ module _ {S : Type 0} (turn : S → Told → Turn S) where
 abbrev pub turns_of : {S : Type 0} → (S → Told → Turn S) → S → List ℕ → Bool → Turn S
 turns_of turn s line is_short = turn s (record { line = line; is_short = is_short })
 
-module _ {S F : Type 0} (turn : S → Told → Turn S) (fault_line : F → List ℕ) where
+module _ {S F : Type 0} (turn : S → Told → Turn S) (fault_line : F → List ℕ) (says : (f : F) → is_empty (fault_line f) ≡ false) where
   -- a line that was performed, or whose text could not be written
   pub performed_text : (s0 s1 : S) (n : ℕ) (a b : Option (List ℕ)) (line : List ℕ) → Performs fault_line (turns_of turn s0 line) s1 a b (Ok None)
       → Ran turn s0 s1 n n a b (line ∷ [])
@@ -189,7 +192,7 @@ module _ {S F : Type 0} (turn : S → Told → Turn S) (fault_line : F → List 
 
   pub performed_stopped : (s0 s1 : S) (n : ℕ) (a b : Option (List ℕ)) (line : List ℕ) (e : WriteFault) → Performs fault_line (turns_of turn s0 line) s1 a b (Err e)
       → Stopped turn s0 s1 n n a b (line ∷ [])
-  performed_stopped s0 s1 n a b line e p = stopped_one turn s0 s1 n n a b (record { line = line; is_short = false }) false p.0 p.1 p.2 (omega arith)
+  performed_stopped s0 s1 n a b line e p = stopped_one turn s0 s1 n n a b (record { line = line; is_short = false }) false p.0 p.1 p.3 p.2 (omega arith)
 
   -- a line that was refused, and whose fault's line was written, whole or not
   pub refused_whole : (s0 s1 : S) (n : ℕ) (a b c : Option (List ℕ)) (line : List ℕ) (f : F) → Performs fault_line (turns_of turn s0 line) s1 a b (Ok (Some f))
@@ -199,12 +202,12 @@ module _ {S F : Type 0} (turn : S → Told → Turn S) (fault_line : F → List 
   pub refused_stopped : (s0 s1 : S) (n : ℕ) (a b c : Option (List ℕ)) (line : List ℕ) (f : F) → Performs fault_line (turns_of turn s0 line) s1 a b (Ok (Some f))
       → AppendsFront b c (fault_line f) → Stopped turn s0 s1 n n a c (line ∷ [])
   refused_stopped s0 s1 n a b c line f p q =
-      stopped_one turn s0 s1 n n a c (record { line = line; is_short = p.0 }) true (fault_line f) p.1 (q.0, q.1 ∷ q.2, q.3, kept-appends a b c q.0 p.2 q.4) (omega arith)
+      stopped_one turn s0 s1 n n a c (record { line = line; is_short = p.0 }) true (fault_line f) p.1 (says f) (q.0, q.1 ∷ q.2, q.3, kept-appends a b c q.0 p.2 q.4) (omega arith)
 
   -- its line was written, and handed on or not
   pub refused_answers : {T : Type 0} (s0 s1 : S) (n : ℕ) (a b c d : Option (List ℕ)) (line : List ℕ) (f : F) → Performs fault_line (turns_of turn s0 line) s1 a b (Ok (Some f))
       → Appends b c (fault_line f) → Keeps c d → (r : Result T WriteFault) → Answers turn s0 s1 n (n + 1) a d (line ∷ []) r
   refused_answers s0 s1 n a b c d line f p q k (Ok x) = refused_whole s0 s1 n a b d line f p (Appends-kept b c d (fault_line f) q k)
   refused_answers s0 s1 n a b c d line f p q k (Err e) =
-      stopped_one turn s0 s1 n (n + 1) a d (record { line = line; is_short = p.0 }) true (fault_line f) p.1
+      stopped_one turn s0 s1 n (n + 1) a d (record { line = line; is_short = p.0 }) true (fault_line f) p.1 (says f)
       (fault_line f, [], sym (append-nil (fault_line f)), kept-appends a b d (fault_line f) p.2 (Appends-kept b c d (fault_line f) q k)) refl

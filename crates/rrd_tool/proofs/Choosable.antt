@@ -9,10 +9,10 @@ use Rattle.rrd_fold.specs.declared.function.Function.{Function}
 use Rattle.rrd_spec.specs.declared.settings.RraDef.{RraDef}
 use Rattle.rrd_spec.specs.declared.requests.fetch.Candidate.{Candidate}
 use Rattle.rrd_spec.specs.declared.requests.fetch.Chosen.{Chosen}
-use Rattle.rrd_spec.specs.declared.requests.fetch.Request.{Request}
+use Rattle.rrd_spec.specs.declared.requests.fetch.FetchRequest.{FetchRequest}
 use Rattle.rrd_spec.specs.declared.refusal.Refusal.{Refusal}
 use Rattle.rrd_spec.specs.declared.refusal.Refusal.TheVariants.{BadTime, BadSpan}
-use Rattle.rrd_spec.specs.History.{Archive, Content}
+use Rattle.rrd_spec.specs.History.{Rra, Content}
 use Rattle.rrd_spec.specs.Choice.{best, candidate, candidates, choice, covers, is_farther, is_nearer, same_function, span, span_of, span_rows, taken, unless_refused, choice_within}
 use Rattle.rrd_spec.specs.Validity.{IsValid, IsValidArchive}
 use Rattle.rrd_spec.specs.Commands.Verdict.{◌refuses◌, first_refusal}
@@ -48,8 +48,8 @@ IsUsable count one = (one.number < count) × (0 < one.resolution) × (one.resolu
 abbrev IsNumbered : ℕ → ℕ × RraDef → Type 0
 IsNumbered count pair = (pair.0 < count) × (0 < pair.1.steps) × (pair.1.steps ≤ 1000000)
 
-all_numbered : (sources steps from count : ℕ) (archives : List Archive) → from + length archives ≤ count → AllByRecursion (IsValidArchive sources steps) archives
-    → AllByRecursion (IsNumbered count) (enumerate_from from (map (λ (archive : Archive). archive.def) archives))
+all_numbered : (sources steps from count : ℕ) (archives : List Rra) → from + length archives ≤ count → AllByRecursion (IsValidArchive sources steps) archives
+    → AllByRecursion (IsNumbered count) (enumerate_from from (map (λ (archive : Rra). archive.def) archives))
 all_numbered sources steps from count [] le h = tt
 all_numbered sources steps from count (archive ∷ archives) le h =
     ((omega arith, h.0.some_steps, h.0.few_steps), all_numbered sources steps (from + 1) count archives (omega arith) h.1)
@@ -63,7 +63,7 @@ usable step last count (number, def) some small h =
     (h.0, omega arith, omega arith)
 
 all_usable : (content : Content) (function : Function) → IsValid content
-    → AllByRecursion (IsUsable (length content.archives)) (candidates content.step content.last function (map (λ (archive : Archive). archive.def) content.archives))
+    → AllByRecursion (IsUsable (length content.archives)) (candidates content.step content.last function (map (λ (archive : Rra). archive.def) content.archives))
 all_usable content function valid =
     let count = length content.archives in
     let Is : ℕ × RraDef → Bool = λ pair. same_function pair.1.function function in
@@ -88,7 +88,7 @@ unrefused : (verdict : Option Refusal) (answer : Result Chosen Refusal) (chosen 
 unrefused None answer chosen e = (refl, e)
 unrefused (Some refusal) answer chosen e = absurd cc
 
-spanned : (request : Request) (found : Option Candidate) (chosen : Chosen) → span_of present request found ≡ Ok chosen → (one : Candidate) × (found ≡ Some one) × (span request one ≡ chosen)
+spanned : (request : FetchRequest) (found : Option Candidate) (chosen : Chosen) → span_of present request found ≡ Ok chosen → (one : Candidate) × (found ≡ Some one) × (span request one ≡ chosen)
 spanned request None chosen e = absurd cc
 spanned request (Some one) chosen e = ⊎_elim
     (λ (long : nat_lt 1000000 (span_rows (span request one)) ≡ true). absurd (let bad = rw long at e in cc))
@@ -103,7 +103,7 @@ second_passes false false c r s t e = refl
 in_time : (end : ℕ) → nat_lt 9999999999 end ≡ false → end ≤ 9999999999
 in_time end h = grind (arith, nat_tests)
 
-span_readable : (content : Content) (request : Request) (one : Candidate) → IsUsable (length content.archives) one → request.end ≤ 9999999999 → IsReadable content (span request one)
+span_readable : (content : Content) (request : FetchRequest) (one : Candidate) → IsUsable (length content.archives) one → request.end ≤ 9999999999 → IsReadable content (span request one)
 span_readable content request one h end =
     let some = h.1 in
     let few = h.2 in
@@ -113,8 +113,8 @@ span_readable content request one h end =
 pub chosen_readable : (content : Content) (function : Function) (asked start end : ℕ) (chosen : Chosen) → IsValid content → choice content function asked start end ≡ Ok chosen → IsReadable content chosen
 unfolding choice_within
 chosen_readable content function asked start end chosen valid e =
-    let request : Request = record { function = function; asked = asked; start = start; end = end } in
-    let list = candidates content.step content.last function (map (λ (archive : Archive). archive.def) content.archives) in
+    let request : FetchRequest = record { function = function; asked = asked; start = start; end = end } in
+    let list = candidates content.step content.last function (map (λ (archive : Rra). archive.def) content.archives) in
     let answered = unrefused _ (span_of present request (taken asked start list)) chosen e in
     let found = spanned request (taken asked start list) chosen answered.1 in
     let late = second_passes (nat_lt 9999999999 start) (nat_lt 9999999999 end) (nat_lt end start) BadTime BadTime BadSpan answered.0 in

@@ -2,6 +2,7 @@ pub mod OnLiterals
 pub mod Added
 pub mod Simple
 pub mod FirstWord
+pub mod Finding
 pub mod Fast
 pub mod Unknown
 pub mod LineLemmas
@@ -10,6 +11,7 @@ pub mod Pieces
 pub mod Each
 pub mod Defined
 pub mod Subcommand
+pub mod SaidLemmas
 pub mod BatchLemmas
 pub mod RunLemmas
 pub mod MoveLemmas

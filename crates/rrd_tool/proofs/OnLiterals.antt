@@ -5,14 +5,10 @@ use Rattle.rrd_tool.specs.Commands.{rrdi_app}
 use Rattle.rrd_tool.specs.Commands.Create.{create_app}
 use Rattle.rrd_tool.specs.Commands.Fetch.{fetch_app}
 use Rattle.rrd_tool.specs.Commands.First.{first_app}
-use Rattle.rrd_tool.specs.Commands.Info.{info_app}
-use Rattle.rrd_tool.specs.Commands.Last.{last_app}
-use Rattle.rrd_tool.specs.Commands.Lastupdate.{lastupdate_app}
 use Rattle.rrd_tool.specs.Commands.Resize.{resize_app}
-use Rattle.rrd_tool.specs.Commands.Revert.{revert_app}
 use Rattle.rrd_tool.specs.Commands.Tune.{tune_app}
 use Rattle.rrd_tool.specs.Commands.Update.{update_app}
 
 unfoldable pub shapes_on_literals : ⊤
-unfolding rrdi_app create_app update_app fetch_app tune_app resize_app first_app last_app lastupdate_app info_app revert_app clap_on_literals
+unfolding rrdi_app create_app update_app fetch_app tune_app resize_app first_app clap_on_literals
 shapes_on_literals = tt

@@ -20,6 +20,7 @@ use Rattle.rrd_tool.specs.Batch.Answers.{Performs, Asks, line_turns}
 use Rattle.rrd_tool.specs.Execution.Printing.{Prints, PrintsBy}
 use Rattle.rrd_tool.specs.Faults.{fault_line}
 use Rattle.rrd_tool.specs.Lines.{is_empty, text_in, words_of}
+use Rattle.rrd_tool.proofs.SaidLemmas.{unwritten_some}
 use Rattle.rrd_tool.specs.Commands.Reading.{IsReading}
 use Rattle.rrd_tool.specs.Batch.Run.{command_of, effect_turn, reading_turn, refusal_turn, text_turn, turn, unless_short, words_turn}
 use Rattle.rrd_tool.specs.Commands.{rrdi_app}
@@ -109,12 +110,12 @@ module _ (state : Option State) (effect : Effect) (kept1 : Option Stored) (c0 c1
   flushed_performs c2 h k = (next state effect, h.1, (text_on (option_map stored_of state) effect, rw h.0 refl, Appends-kept c0 c1 c2 (text_on (option_map stored_of state) effect) h.3 k))
 
   -- it was done, and handing on what it printed failed
-  pub unflushed_performs : (c2 : Option (List ℕ)) (e : WriteFault) → ComesTo None → Keeps c1 c2 → Performed c2 (Err e)
-  unflushed_performs c2 e h k = (next state effect, h.1, (text_on (option_map stored_of state) effect, rw h.0 refl, (text_on (option_map stored_of state) effect, [], sym (append-nil (text_on (option_map stored_of state) effect)), Appends-kept c0 c1 c2 (text_on (option_map stored_of state) effect) h.3 k)))
+  pub unflushed_performs : (c2 : Option (List ℕ)) (e : WriteFault) → ComesTo None → is_empty (text_on (option_map stored_of state) effect) ≡ false → Keeps c1 c2 → Performed c2 (Err e)
+  unflushed_performs c2 e h some k = (next state effect, h.1, (text_on (option_map stored_of state) effect, rw h.0 refl, (text_on (option_map stored_of state) effect, [], sym (append-nil (text_on (option_map stored_of state) effect)), Appends-kept c0 c1 c2 (text_on (option_map stored_of state) effect) h.3 k), some))
 
   -- it was done, and a write failed
   pub unwritten_performs : (e : WriteFault) → ComesTo (Some Output) → Performed c1 (Err e)
-  unwritten_performs e h = (next state effect, h.1, (text_on (option_map stored_of state) effect, rw h.0 refl, (h.3.0, h.3.1 ∷ h.3.2, h.3.3, h.3.4)))
+  unwritten_performs e h = (next state effect, h.1, (text_on (option_map stored_of state) effect, rw h.0 refl, (h.3.0, h.3.1 ∷ h.3.2, h.3.3, h.3.4), unwritten_some (text_on (option_map stored_of state) effect) h.3.0 h.3.1 h.3.2 h.3.3))
 
   fault_performs : (fault : Fault) → IsFault (verdict_on (option_map stored_of state) effect) effect fault → StandsFor kept1 state → Keeps c0 c1 → Performed c1 (Ok (Some fault))
   fault_performs fault h s k = elim h [
@@ -133,7 +134,7 @@ module _ (state : Option State) (effect : Effect) (kept1 : Option Stored) (c0 c1
 pub performs_as : (turns asked : Bool → Turn (Option State)) (s1 : Option State) (c0 c1 : Option (List ℕ)) (r : Result (Option Fault) WriteFault) → ((is_short : Bool) → turns is_short ≡ asked is_short) → Performs fault_line asked s1 c0 c1 r → Performs fault_line turns s1 c0 c1 r
 performs_as turns asked s1 c0 c1 (Ok None) same h = (h.0, same false ∙ h.1, h.2)
 performs_as turns asked s1 c0 c1 (Ok (Some fault)) same h = (h.0, same h.0 ∙ h.1, h.2)
-performs_as turns asked s1 c0 c1 (Err e) same h = (h.0, same false ∙ h.1, h.2)
+performs_as turns asked s1 c0 c1 (Err e) same h = (h.0, same false ∙ h.1, h.2, h.3)
 
 -- ---- what a line asks for
 

@@ -4,16 +4,20 @@ use Rattle.std.specs.Prelude.{Box}
 use Rattle.clap.specs.Words.{App, Kinds, Row, Shape, Text, built, fault_of, rows_of, found_of, subcommand_of, subcommand_rows}
 use Rattle.clap.specs.Kinds.{check_kinds, or_else}
 use Rattle.clap.specs.Faults.{check_fault, defaults_fault, entered_fault, level_fault, settle_fault, walk_fault}
-use Rattle.clap.specs.Walk.{Held, Names, finished, nothing_held, settled, walk, walk_from}
-use Rattle.clap.specs.Simple.{argument_words, names_of}
+use Rattle.clap.specs.Walk.{Held, Names, answers_to, finished, nothing_held, settled, stop_after, walk, walk_from}
+use Rattle.clap.specs.Simple.{argument_words, entered, label_of, names_of, rows_at}
 use Rattle.clap.specs.Facts.{explicit_source}
 use Rattle.clap.specs.Takes.{is_given}
-use Rattle.std.specs.List.{list_any}
+use Rattle.std.specs.List.{AllByRecursion, find, list_any}
 use Rattle.clap.specs.declared.parser.matches.SubCommand.{SubCommand}
 use Rattle.clap.specs.declared.parser.matches.ArgMatches.TheViews.{out-SubCommand}
 use Rattle.std.specs.Box.{box_value}
 use Rattle.rrd_tool.proofs.OnLiterals.{shapes_on_literals}
-use Rattle.rrd_tool.specs.Commands.{rrdi_app, line_of}
+use Rattle.rrd_tool.specs.Commands.{rrdi_app, line_of, values_of}
+use Rattle.rrd_tool.specs.Commands.Names.{name_in}
+use Rattle.rrd_tool.specs.Fields.Parts.{Unread}
+use Rattle.rrd_tool.specs.declared.commands.name.CommandName.{CommandName}
+use Rattle.rrd_tool.proofs.Finding.{all_pass, found_among}
 use Rattle.rrd_tool.specs.Arguments.Taken.{IsTaken, entered_of}
 use Rattle.rrd_tool.specs.Commands.Reading.{IsReading}
 use Rattle.rrd_tool.specs.Fields.Answers.{Meets}
@@ -62,11 +66,6 @@ rrdi_wants : (built rrdi_app).top.subcommand_required ≡ true
 unfolding shapes_on_literals
 rrdi_wants = refl
 
--- words that clap takes name a subcommand
-pub taken_enters : (words : List Text) → IsTaken words → is_some (entered_of words) ≡ true
-unfolding entered_of
-taken_enters words h = app_enters rrdi_app words rrdi_wants h
-
 module _ {Z : Type 0} where
   pub joined : (sub : Option (Box SubCommand Z)) (name : Text) (rows : List Row)
       → Some name ≡ option_map (λ b. (out-SubCommand (box_value b)).name.now) sub
@@ -77,14 +76,54 @@ module _ {Z : Type 0} where
       let second : rows_of (found_of (out-SubCommand (box_value b)).matches) ≡ rows = cc in
       ap₂ (λ n r. Some (n, r)) first second
 
+-- ---- its name
+
+-- each subcommand's name is one of the commands'
+abbrev IsNamed : Shape → Type 0
+IsNamed s = is_some (name_in s.name) ≡ true
+
+all_named : AllByRecursion IsNamed (built rrdi_app).subs
+unfolding shapes_on_literals
+all_named = all_pass (λ s. is_some (name_in s.name)) (built rrdi_app).subs refl
+
+some_mapped : {A B : Type 0} (f : A → B) (o : Option A) → is_some o ≡ true → is_some (option_map f o) ≡ true
+some_mapped f None h = absurd cc
+some_mapped f (Some x) h = refl
+
+found_reads : (now : ℕ) (words : List Text) (found : Option Shape) → IfSome found IsNamed → is_some (option_map (λ s. rows_at s words) found) ≡ true
+    → is_some (line_of (option_map (λ s. rows_at s words) found) now) ≡ true
+found_reads now words None named h = absurd cc
+found_reads now words (Some s) named h = some_mapped (λ name. values_of name (rows_at s words).1 now) (name_in s.name) named
+
+entered_reads : (now : ℕ) (stop : Option (Text × List Text)) → is_some (entered (built rrdi_app) stop) ≡ true → is_some (line_of (entered (built rrdi_app) stop) now) ≡ true
+entered_reads now None h = absurd cc
+entered_reads now (Some p) h =
+    found_reads now p.1 (find (λ s. answers_to p.0 (label_of s)) (built rrdi_app).subs) (found_among (λ s. answers_to p.0 (label_of s)) IsNamed (built rrdi_app).subs all_named) h
+
+-- so words that clap takes are read as a command
+pub taken_reads : (words : List Text) (now : ℕ) → IsTaken words → is_some (line_of (entered_of words) now) ≡ true
+unfolding entered_of
+taken_reads words now h =
+    entered_reads now (stop_after (built rrdi_app).top.rules (names_of (built rrdi_app)) (argument_words rrdi_app words)) (app_enters rrdi_app words rrdi_wants h)
+
 -- what the matches' subcommand is read as is what the words are read as
+read_by : (words : List Text) (now : ℕ) (line : Option (Result Command Unread)) (r : Result Command LineFault)
+    → IsTaken words → line_of (entered_of words) now ≡ line → is_some line ≡ true → IfSome line (λ read. Meets read r) → IsReading words now r
+read_by words now None r t e s h = absurd cc
+read_by words now (Some read) (Ok c) t e s h = (t, e ∙ ap (λ x. Some x) h)
+read_by words now (Some read) (Err Usage) t e s h = absurd h
+read_by words now (Some read) (Err OutOfMemory) t e s h = tt
+read_by words now (Some read) (Err (BadWord q n)) t e s h = (t, e ∙ ap (λ x. Some x) h)
+
 pub read_from : (words : List Text) (now : ℕ) (sub : Option (Text × List Row)) (r : Result Command LineFault)
-    → IsTaken words → sub ≡ entered_of words → is_some sub ≡ true
-    → IfSome sub (λ p. Meets (line_of p.0 p.1 now) r) → IsReading words now r
-read_from words now None r t e s h = cc
-read_from words now (Some p) (Ok c) t e s h =
-    (t, ap (option_map (λ p. line_of p.0 p.1 now)) (sym e) ∙ ap (λ x. Some x) h)
-read_from words now (Some p) (Err Usage) t e s h = absurd h
-read_from words now (Some p) (Err OutOfMemory) t e s h = tt
-read_from words now (Some p) (Err (BadWord q n)) t e s h =
-    (t, ap (option_map (λ p. line_of p.0 p.1 now)) (sym e) ∙ ap (λ x. Some x) h)
+    → IsTaken words → sub ≡ entered_of words → IfSome (line_of sub now) (λ read. Meets read r) → IsReading words now r
+read_from words now sub r t e h =
+    read_by words now (line_of sub now) r t (ap (λ o. line_of o now) (sym e)) (ap (λ o. is_some (line_of o now)) e ∙ taken_reads words now t) h
+
+-- what is read of the subcommand of the matches, by its name and its values
+pub line_is : (sub : Option (Text × List Row)) (word : Text) (rows : List Row) (name : CommandName) (now : ℕ) → sub ≡ Some (word, rows) → name_in word ≡ Some name
+    → line_of sub now ≡ Some (values_of name rows now)
+line_is sub word rows name now e h = ap (λ o. line_of o now) e ∙ ap (option_map (λ n. values_of n rows now)) h
+
+pub unnamed : (sub : Option (Text × List Row)) (word : Text) (rows : List Row) (now : ℕ) → sub ≡ Some (word, rows) → name_in word ≡ None → line_of sub now ≡ None
+unnamed sub word rows now e h = ap (λ o. line_of o now) e ∙ ap (option_map (λ n. values_of n rows now)) h

@@ -1,17 +1,22 @@
 -- Words whose first is neither a subcommand's name nor a flag are refused.
-use Rattle.std.proofs.Common.{◌≡◌, ◌∙◌, ap, sym, refl, codes, Bool, true, false, List, [], ◌∷◌, None, is_some}
+use Rattle.std.proofs.Common.{◌≡◌, ◌∙◌, ap, sym, refl, Bool, true, false, List, [], ◌∷◌, None, is_some, map, option_map}
+use Rattle.std.specs.List.{AllByRecursion, find}
 use Rattle.std.specs.Str.{bytes_eq}
 use Rattle.std.proofs.lemmas.Slice.Eq.{bytes_eq-Decides}
 use Rattle.clap.specs.Words.{App, Kinds, Shape, Text, fault_of}
 use Rattle.clap.specs.Kinds.{or_else}
 use Rattle.clap.specs.Faults.{built_fault, check_fault, defaults_fault, entered_fault, settle_fault, turn_fault, walk_fault}
-use Rattle.clap.specs.Walk.{Names, arg_by_index, finished, idle, nothing_held, settled, subcommand_met, walk, walk_from, walked}
+use Rattle.clap.specs.Walk.{Names, answers_to, arg_by_index, finished, idle, nothing_held, settled, subcommand_met, walk, walk_from, walked}
 use Rattle.clap.specs.Lexer.{long_of, short_of}
 use Rattle.clap.specs.Simple.{built, entered, names_of}
 use Rattle.clap.specs.declared.error.kind.ErrorKind.TheVariants.{UnknownArgument, InvalidSubcommand}
 use Rattle.rrd_tool.proofs.OnLiterals.{shapes_on_literals}
-use Rattle.rrd_tool.specs.Arguments.Shapes.{IsRefused, begins_with_minus}
+use Rattle.rrd_tool.specs.Arguments.{begins_with_minus}
+use Rattle.rrd_tool.specs.Arguments.Shapes.{IsRefused}
 use Rattle.rrd_tool.specs.Commands.{rrdi_app}
+use Rattle.rrd_tool.specs.Commands.Names.{command_names, name_in, name_text}
+use Rattle.rrd_tool.specs.declared.commands.name.CommandName.{CommandName}
+use Rattle.rrd_tool.proofs.Finding.{none_passes}
 
 abbrev stray : Kinds
 stray = UnknownArgument ∷ InvalidSubcommand ∷ []
@@ -58,20 +63,20 @@ other_way a b e = go (bytes_eq b a) refl
         let yes : bytes_eq a b ≡ true = (bytes_eq-Decides a b).1 (sym same) in
         let bad : true ≡ false = sym yes ∙ e in cc
 
-none_met : (word : Text)
-    → bytes_eq word (codes "create") ≡ false
-    → bytes_eq word (codes "update") ≡ false
-    → bytes_eq word (codes "fetch") ≡ false
-    → bytes_eq word (codes "tune") ≡ false
-    → bytes_eq word (codes "resize") ≡ false
-    → bytes_eq word (codes "first") ≡ false
-    → bytes_eq word (codes "last") ≡ false
-    → bytes_eq word (codes "lastupdate") ≡ false
-    → bytes_eq word (codes "info") ≡ false
-    → bytes_eq word (codes "revert") ≡ false
-    → subcommand_met (names_of (built rrdi_app)) idle word ≡ None
+-- a word that is no name is none of the subcommands'
+none_among : (word : Text) (names : List CommandName) → AllByRecursion (λ name. bytes_eq word (name_text name) ≡ false) names
+    → find (answers_to word) (map (λ name. (name_text name, [])) names) ≡ None
+none_among word [] h = refl
+none_among word (name ∷ names) h = rw (other_way word (name_text name) h.0) (none_among word names h.1)
+
+rrdi_names : names_of (built rrdi_app) ≡ map (λ name. (name_text name, [])) command_names
 unfolding shapes_on_literals
-none_met word e1 e2 e3 e4 e5 e6 e7 e8 e9 e10 = rw (other_way word _ e1, other_way word _ e2, other_way word _ e3, other_way word _ e4, other_way word _ e5, other_way word _ e6, other_way word _ e7, other_way word _ e8, other_way word _ e9, other_way word _ e10) refl
+rrdi_names = refl
+
+none_met : (word : Text) → name_in word ≡ None → subcommand_met (names_of (built rrdi_app)) idle word ≡ None
+none_met word none =
+    let differ = none_passes (λ item. bytes_eq word (name_text item)) command_names none in
+    ap (option_map (λ s. s.0)) (ap (find (answers_to word)) rrdi_names ∙ none_among word command_names differ)
 
 rrdi_index : arg_by_index (built rrdi_app).top.rules 1 ≡ None
 unfolding shapes_on_literals
@@ -85,19 +90,8 @@ rrdi_words : (words : List Text) → fault_of rrdi_app words ≡ built_fault (bu
 unfolding rrdi_app
 rrdi_words words = refl
 
-pub unknown_refused : (word : Text) (rest : List Text) → begins_with_minus word ≡ false
-    → bytes_eq word (codes "create") ≡ false
-    → bytes_eq word (codes "update") ≡ false
-    → bytes_eq word (codes "fetch") ≡ false
-    → bytes_eq word (codes "tune") ≡ false
-    → bytes_eq word (codes "resize") ≡ false
-    → bytes_eq word (codes "first") ≡ false
-    → bytes_eq word (codes "last") ≡ false
-    → bytes_eq word (codes "lastupdate") ≡ false
-    → bytes_eq word (codes "info") ≡ false
-    → bytes_eq word (codes "revert") ≡ false
-    → IsRefused (word ∷ rest)
-unknown_refused word rest b e1 e2 e3 e4 e5 e6 e7 e8 e9 e10 none =
+pub unknown_refused : (word : Text) (rest : List Text) → begins_with_minus word ≡ false → name_in word ≡ None → IsRefused (word ∷ rest)
+unknown_refused word rest b unnamed none =
     let stands = stray_refused (built rrdi_app) word rest
-    (stray_first (built rrdi_app).top (names_of (built rrdi_app)) word rest (none_met word e1 e2 e3 e4 e5 e6 e7 e8 e9 e10) b rrdi_index rrdi_leaf) in
+    (stray_first (built rrdi_app).top (names_of (built rrdi_app)) word rest (none_met word unnamed) b rrdi_index rrdi_leaf) in
     let bad : stray ≡ [] = sym stands ∙ (sym (rrdi_words (word ∷ rest)) ∙ none) in cc

@@ -1,5 +1,5 @@
 -- Definition: the arguments of a command, as clap takes them.
-use Rattle.std.specs.Prelude.{ℕ, List, [], Some, true, codes, unwrap_or}
+use Rattle.std.specs.Prelude.{◌==◌, ◌∷◌, ℕ, Bool, List, [], Some, false, true, codes, unwrap_or}
 use Rattle.clap.specs.Words.{App, Row, Rule, Text, all_of, new_app, new_rule}
 use Rattle.clap.specs.declared.builder.action.ArgAction.TheVariants.{Append}
 pub mod Taken
@@ -33,6 +33,11 @@ bare_top = record (new_app (codes "rrdi")) {
     disable_help_subcommand = true;
   };
 }
+
+-- it is an option, and no command and no file
+abbrev pub begins_with_minus : Text → Bool
+begins_with_minus [] = false
+begins_with_minus (b ∷ bs) = b == 45
 
 -- the values of an argument that any number of words may have
 abbrev pub words_of : Text → List Row → List Text

@@ -1,5 +1,5 @@
 -- Definition: a run over lines, each of which may be answered with want of memory (own).
-use Rattle.std.specs.Prelude.{◌≡◌, ◌+◌, ◌++◌, ◌∷◌, ◌&&◌, [], ℕ, Bool, List, Option, map, if◌then◌else◌}
+use Rattle.std.specs.Prelude.{◌≡◌, ◌+◌, ◌++◌, ◌∷◌, ◌&&◌, [], ℕ, Bool, List, Option, false, map, if◌then◌else◌}
 use Rattle.std.specs.Io.KnownBytes.{Appends}
 use Rattle.rrd_tool.specs.Lines.{is_empty}
 pub mod Run
@@ -45,7 +45,8 @@ module _ {S : Type 0} (turn : S → Told → Turn S) where
     pub text : Appends c0 c1 (text_of s0 told)
 
   -- some of the lines were run, and then writing the next one's text, or handing it on, failed: a front of it is
-  -- there. The line of a fault counts where it was written whole
+  -- there. So that line has a text: where writing fails at once, it is the first line that has one. The line of a fault
+  -- counts where it was written whole
   pub record Stopped (s0 s1 : S) (n0 n1 : ℕ) (c0 c1 : Option (List ℕ)) (lines : List (List ℕ)) : Type 0 where
     pub told : List Told
     pub last : Told
@@ -53,6 +54,7 @@ module _ {S : Type 0} (turn : S → Told → Turn S) where
     pub front : List ℕ
     pub unwritten : List ℕ
     pub lines_are : map line_told told ++ last.line ∷ unrun ≡ lines
+    pub speaks : is_empty (turn (state_after s0 told) last).text ≡ false
     pub state : s1 ≡ (turn (state_after s0 told) last).state
     pub faults : n1 ≡ n0 + faults_of s0 told + faults_written (turn (state_after s0 told) last).is_fault unwritten
     pub front_is : (turn (state_after s0 told) last).text ≡ front ++ unwritten

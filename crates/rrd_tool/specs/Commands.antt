@@ -1,24 +1,26 @@
--- Definition: the commands: their names and shapes, what their values are read as, and what they do (rrdcreate,
+-- Definition: the commands: their command_names and shapes, what their values are read as, and what they do (rrdcreate,
 -- rrdupdate, rrdtune, rrdresize, rrdfetch, rrdfirst, rrdlast, rrdlastupdate, rrdinfo; revert is own).
-use Rattle.std.specs.Prelude.{ℕ, List, Result, Ok, codes, if◌then◌else◌}
-use Rattle.std.specs.Str.{bytes_eq}
-use Rattle.clap.specs.Words.{App, Row, Text, with_subcommand}
+use Rattle.std.specs.Prelude.{ℕ, List, Option, Result, Ok, fold, option_and_then, option_map}
+use Rattle.clap.specs.Words.{App, Row, Text, new_app, with_subcommand}
 use Rattle.rrd_spec.specs.Commands.{Resizing, TuningBy, Updating}
 use Rattle.rrd_tool.specs.Arguments.{bare_top}
 use Rattle.rrd_tool.specs.Effects.{Effect, Makes, Changes, Reverts, Shows}
 use Rattle.rrd_tool.specs.Fields.Parts.{Unread}
+use Rattle.rrd_tool.specs.Commands.Names.{name_in, command_names, name_text}
 use Rattle.rrd_tool.specs.Commands.Create.{create_app, create_of}
 use Rattle.rrd_tool.specs.Commands.Update.{update_app, update_of}
 use Rattle.rrd_tool.specs.Commands.Tune.{tune_app, tune_of}
 use Rattle.rrd_tool.specs.Commands.Resize.{resize_app, resize_of}
 use Rattle.rrd_tool.specs.Commands.Fetch.{fetch_app, fetch_of, fetch_answer}
 use Rattle.rrd_tool.specs.Commands.First.{first_app, first_from, first_text}
-use Rattle.rrd_tool.specs.Commands.Last.{last_app, last_text}
-use Rattle.rrd_tool.specs.Commands.Lastupdate.{lastupdate_app, lastupdate_text}
-use Rattle.rrd_tool.specs.Commands.Info.{info_app, info_text}
-use Rattle.rrd_tool.specs.Commands.Revert.{revert_app}
+use Rattle.rrd_tool.specs.Commands.Last.{last_text}
+use Rattle.rrd_tool.specs.Commands.LastUpdate.{lastupdate_text}
+use Rattle.rrd_tool.specs.Commands.Info.{info_text}
 use Rattle.rrd_tool.specs.declared.commands.Command.{Command}
 use Rattle.rrd_tool.specs.declared.commands.Command.TheVariants as command
+use Rattle.rrd_tool.specs.declared.commands.name.CommandName.{CommandName}
+use Rattle.rrd_tool.specs.declared.commands.name.CommandName.TheVariants as verb
+pub mod Names
 pub mod Create
 pub mod Update
 pub mod Tune
@@ -26,39 +28,48 @@ pub mod Resize
 pub mod Fetch
 pub mod First
 pub mod Last
-pub mod Lastupdate
+pub mod LastUpdate
 pub mod Info
-pub mod Revert
 pub mod Reading
 pub mod Fetched
 
--- all commands
-unfoldable pub rrdi_app : App
-rrdi_app = with_subcommand (with_subcommand (with_subcommand (with_subcommand (with_subcommand (with_subcommand
-    (with_subcommand (with_subcommand (with_subcommand (with_subcommand bare_top
-    create_app.top)
-    update_app.top)
-    fetch_app.top)
-    tune_app.top)
-    resize_app.top)
-    first_app.top)
-    last_app.top)
-    lastupdate_app.top)
-    info_app.top)
-    revert_app.top
+-- the shape of the command of a name; those without arguments have a name alone
+abbrev pub shape_of : CommandName → App
+shape_of verb.Create = create_app
+shape_of verb.Update = update_app
+shape_of verb.Fetch = fetch_app
+shape_of verb.Tune = tune_app
+shape_of verb.Resize = resize_app
+shape_of verb.First = first_app
+shape_of verb.Last = new_app (name_text verb.Last)
+shape_of verb.LastUpdate = new_app (name_text verb.LastUpdate)
+shape_of verb.Info = new_app (name_text verb.Info)
+shape_of verb.Revert = new_app (name_text verb.Revert)
 
--- the command of this name, which is one of the above, with these values
-abbrev pub line_of : Text → List Row → ℕ → Result Command Unread
-line_of name rows now =
-    if bytes_eq name (codes "create") then create_of rows now
-    else (if bytes_eq name (codes "update") then update_of rows now
-    else (if bytes_eq name (codes "tune") then tune_of rows
-    else (if bytes_eq name (codes "resize") then resize_of rows
-    else (if bytes_eq name (codes "fetch") then fetch_of rows now
-    else (if bytes_eq name (codes "first") then first_from rows
-    else (if bytes_eq name (codes "last") then Ok command.Last
-    else (if bytes_eq name (codes "lastupdate") then Ok command.Lastupdate
-    else (if bytes_eq name (codes "info") then Ok command.Info else Ok command.Revert))))))))
+-- all commands
+abbrev pub with_command : App → CommandName → App
+with_command app name = with_subcommand app (shape_of name).top
+
+unfoldable pub rrdi_app : App
+rrdi_app = fold with_command bare_top command_names
+
+-- what the values of the command of a name are read as
+abbrev pub values_of : CommandName → List Row → ℕ → Result Command Unread
+values_of verb.Create rows now = create_of rows now
+values_of verb.Update rows now = update_of rows now
+values_of verb.Fetch rows now = fetch_of rows now
+values_of verb.Tune rows now = tune_of rows
+values_of verb.Resize rows now = resize_of rows
+values_of verb.First rows now = first_from rows
+values_of verb.Last rows now = Ok command.Last
+values_of verb.LastUpdate rows now = Ok command.LastUpdate
+values_of verb.Info rows now = Ok command.Info
+values_of verb.Revert rows now = Ok command.Revert
+
+-- what a subcommand is read as that was entered, by its word and its values; none for a word that is no name
+abbrev pub line_of : Option (Text × List Row) → ℕ → Option (Result Command Unread)
+line_of entered now =
+    option_and_then (λ e. option_map (λ name. values_of name e.1 now) (name_in e.0)) entered
 
 -- what a command does
 abbrev pub effect : Command → Effect
@@ -69,6 +80,6 @@ effect (command.Resize index change rows) = Changes (Resizing index change rows)
 effect (command.Fetch function asked start stop) = Shows (λ kept. fetch_answer kept.content function asked start stop)
 effect (command.First index) = Shows (λ kept. first_text kept.content index)
 effect command.Last = Shows (λ kept. last_text kept.content)
-effect command.Lastupdate = Shows (λ kept. lastupdate_text kept.content)
+effect command.LastUpdate = Shows (λ kept. lastupdate_text kept.content)
 effect command.Info = Shows info_text
 effect command.Revert = Reverts

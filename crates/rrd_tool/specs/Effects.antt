@@ -5,7 +5,7 @@ use Rattle.rrd_spec.specs.declared.requests.create.CreateSpec.{CreateSpec}
 use Rattle.rrd_spec.specs.declared.refusal.Refusal.{Refusal}
 use Rattle.rrd_spec.specs.declared.refusal.Refusal.TheVariants.{NothingToRevert}
 use Rattle.rrd_spec.specs.History.{Content}
-use Rattle.rrd_spec.specs.Commands.{Command, Resizing, TuningBy, Updating, is_addition}
+use Rattle.rrd_spec.specs.Commands.{DatabaseChange, Resizing, TuningBy, Updating, is_addition}
 use Rattle.rrd_spec.specs.Commands.Creating.{create_verdict, created}
 use Rattle.rrd_spec.specs.Journal.Entries.{Entry}
 use Rattle.rrd_spec.specs.Journal.Survivors.{State, Stored, Changed, Reverted, Stands, after, changed, journal_of, reverted, survived}
@@ -17,7 +17,7 @@ use Rattle.rrd_tool.specs.declared.faults.Fault.TheVariants.{Refused, NoDatabase
 -- why there is none
 pub data Effect : Type 0 where
   Makes : CreateSpec → Effect
-  Changes : Command → Effect
+  Changes : DatabaseChange → Effect
   Reverts : Effect
   Shows : (Stored → Result (List ℕ) Refusal) → Effect
 

@@ -6,6 +6,7 @@ use Rattle.rrd_spec.specs.declared.refusal.Refusal.TheVariants as refusal
 use Rattle.rrd_spec.specs.Journal.Survivors.{State, Stored}
 use Rattle.rrd_tool.specs.Commands.{effect}
 use Rattle.rrd_tool.specs.Effects.{Effect, StandsFor, is_change, stored_next, stored_of, next, takes_memory, text_on, verdict_on}
+use Rattle.rrd_tool.specs.Lines.{is_empty}
 use Rattle.rrd_tool.specs.declared.commands.Command.{Command}
 use Rattle.rrd_tool.specs.declared.faults.Fault.{Fault}
 use Rattle.rrd_tool.specs.declared.faults.Fault.TheVariants.{Line, Refused, NoDatabase, Output}
@@ -43,6 +44,11 @@ Affects kept effect c0 c1 outcome =
 -- the command over a database of this content and journal
 abbrev pub Executes : Option Stored → Command → Option (List ℕ) → Option (List ℕ) → Outcome → Type 0
 Executes kept command c0 c1 outcome = Affects kept (effect command) c0 c1 outcome
+
+-- a command that was done and changed nothing printed something
+abbrev pub PrintsSome : Option Stored → Command → Outcome → Type 0
+PrintsSome kept command outcome =
+    outcome.fault ≡ None → outcome.changed ≡ false → is_empty (text_on kept (effect command)) ≡ false
 
 -- a command of this effect in a run that reached this state
 abbrev pub AffectsIn : Option State → Effect → Option (List ℕ) → Option (List ℕ) → Outcome → Type 0

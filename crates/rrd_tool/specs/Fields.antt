@@ -1,5 +1,5 @@
 -- Definition: what a text stands for (rrdcreate, "DS" and "RRA").
-use Rattle.std.specs.Prelude.{ℕ, ℤ, ◌==◌, Bool, List, [], ◌∷◌, Option, Some, None, codes, if◌then◌else◌}
+use Rattle.std.specs.Prelude.{ℕ, ℤ, ◌==◌, Bool, List, [], ◌∷◌, Option, Some, None, codes, find, if◌then◌else◌}
 use Rattle.std.specs.List.{list_any, before_first, after_first, slice_split}
 use Rattle.std.specs.Str.{bytes_eq}
 use Rattle.clap.specs.Words.{Text}
@@ -45,19 +45,35 @@ each_in read (piece ∷ more) = read piece >>? (λ x. each_in read more >>? (λ 
 abbrev pub name_of : Text → Option Name
 name_of text = if fits text then Some text else None
 
+-- the one of these that has this word
+abbrev pub named : {A : Type 0} → (A → Text) → List A → Text → Option A
+named word_of all text = find (λ item. bytes_eq text (word_of item)) all
+
+-- a type's word, as it is read and printed
+abbrev pub kind_text : Kind → Text
+kind_text Kind.Gauge = codes "GAUGE"
+kind_text Kind.Counter = codes "COUNTER"
+kind_text Kind.Derive = codes "DERIVE"
+kind_text Kind.Absolute = codes "ABSOLUTE"
+
+abbrev pub kinds : List Kind
+kinds = Kind.Gauge ∷ Kind.Counter ∷ Kind.Derive ∷ Kind.Absolute ∷ []
+
 abbrev pub kind_of : Text → Option Kind
-kind_of text =
-    if bytes_eq text (codes "GAUGE") then Some Kind.Gauge
-    else (if bytes_eq text (codes "COUNTER") then Some Kind.Counter
-    else (if bytes_eq text (codes "DERIVE") then Some Kind.Derive
-    else (if bytes_eq text (codes "ABSOLUTE") then Some Kind.Absolute else None)))
+kind_of text = named kind_text kinds text
+
+-- a function's word, as it is read and printed
+abbrev pub function_text : Function → Text
+function_text Function.Average = codes "AVERAGE"
+function_text Function.Min = codes "MIN"
+function_text Function.Max = codes "MAX"
+function_text Function.Last = codes "LAST"
+
+abbrev pub functions : List Function
+functions = Function.Average ∷ Function.Min ∷ Function.Max ∷ Function.Last ∷ []
 
 abbrev pub function_of : Text → Option Function
-function_of text =
-    if bytes_eq text (codes "AVERAGE") then Some Function.Average
-    else (if bytes_eq text (codes "MIN") then Some Function.Min
-    else (if bytes_eq text (codes "MAX") then Some Function.Max
-    else (if bytes_eq text (codes "LAST") then Some Function.Last else None)))
+function_of text = named function_text functions text
 
 abbrev pub is_unknown : Text → Bool
 is_unknown text = bytes_eq text (codes "U")

@@ -1,7 +1,7 @@
 //! Arguments as clap takes them, and words as it parses them.
 ghost use Rattle.std.specs.Prelude.{◌≡◌, IfOk, false, map, option_map};
 ghost use Rattle.clap.specs.Words.{App, all_of, app_of, first_of, found_of, rows_of, rule_of};
-ghost use Rattle.rrd_tool.specs.Arguments.Shapes.{HasApp, IsParsedBy, ServesOrRefuses, app_with, begins_with_minus};
+ghost use Rattle.rrd_tool.specs.Arguments.Shapes.{HasApp, IsParsedBy, ServesOrRefuses, app_with};
 ghost use Rattle.rrd_tool.specs.Arguments.{bare_top, letter_rule, many_rule, option_rule, required_rule, word_rule};
 
 use crate::commands::{command_named, rrdi_command};
@@ -70,17 +70,6 @@ pub(crate) fn command_with<'a>(
     bare_command(alloc).subcommand(sub)
 }
 
-/// Whether a word begins with a minus.
-pub(crate) fn is_flag(word: &str) -> bool
-    ensures { result ≡ begins_with_minus word.now }
-{
-    let bytes = word.as_bytes();
-    if bytes.is_empty() {
-        return false;
-    }
-    bytes[0] == 45
-}
-
 // A command that takes and refuses these words as the whole one does; none where they are refused.
 fn command_for<'a>(alloc: Global, words: &Words) -> Result<Option<clap::Command<'a>>, AllocError>
     ensures { IfOk result (λ o. ServesOrRefuses o words.now) }
@@ -95,10 +84,7 @@ fn command_for<'a>(alloc: Global, words: &Words) -> Result<Option<clap::Command<
 pub(crate) fn parse<'a>(alloc: Global, words: &'a Words) -> Result<ArgMatches<'a>, LineFault>
     ensures { IsParsedBy words.entry.now result }
 {
-    let Ok(found) = command_for(alloc, words) else {
-        return Err(LineFault::OutOfMemory);
-    };
-    let Some(command) = found else {
+    let Some(command) = command_for(alloc, words)? else {
         return Err(LineFault::Usage);
     };
     match command.try_get_matches_from(words.as_slice()) {

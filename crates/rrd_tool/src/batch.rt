@@ -64,9 +64,7 @@ fn request(context: Context, text: Option<&[u8]>) -> Result<Option<Command>, Lin
     let Some(text) = text else {
         return Err(LineFault::Usage);
     };
-    let Ok(words) = read_words(context.alloc, text) else {
-        return Err(LineFault::OutOfMemory);
-    };
+    let words = read_words(context.alloc, text)?;
     if words.len() == 0 {
         return Ok(None);
     }

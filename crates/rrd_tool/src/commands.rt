@@ -1,11 +1,11 @@
-//! The commands, and the tables of them: their names and shapes, what reads their values, and what runs them. What is
-//! a command's own stands in its file.
+//! The commands, and the tables of them: their shapes, what reads their values, and what runs them. Their names are in
+//! `name`, and what is a command's own stands in its file.
 ghost use Rattle.std.specs.Prelude.{◌≡◌, ◌∷◌, IfOk, IfSome, List, None, Option, Some, is_some, true, ℕ};
 ghost use Rattle.clap.specs.Words.{app_of, found_of, rows_of, subcommand_rows_of};
-ghost use Rattle.rrd_tool.specs.Commands.{line_of, rrdi_app};
+ghost use Rattle.rrd_tool.specs.Commands.{line_of, rrdi_app, shape_of, values_of};
+ghost use Rattle.rrd_tool.specs.Arguments.Shapes.{HasApp, ServesOrRefuses};
 ghost use Rattle.rrd_tool.specs.Execution.{Executes};
 ghost use Rattle.rrd_tool.specs.Commands.Reading.{IsReading};
-ghost use Rattle.rrd_tool.specs.Arguments.Shapes.{ServesOrRefuses};
 ghost use Rattle.rrd_tool.specs.Fields.Answers.{Meets};
 
 mod create;
@@ -14,15 +14,17 @@ mod first;
 mod info;
 mod last;
 mod lastupdate;
+mod name;
 mod resize;
 mod revert;
 mod tune;
 mod update;
 
-use crate::arguments::{bare_command, command_with, is_flag, parse};
+use crate::arguments::{bare_command, command_with, parse};
 use crate::execution::Outcome;
-use crate::{Fault, LineFault, Words};
+use crate::{Fault, LineFault, Words, begins_with_minus};
 use clap::ArgMatches;
+use name::{CommandName, NAMES};
 use rrd_base::{Change, CreateSpec, Database, Tuning, Update};
 use rrd_fold::Function;
 use std::alloc::{AllocError, Global};
@@ -58,114 +60,88 @@ pub enum Command {
     /// Print the time of the last update (rrdlast).
     Last,
     /// Print the last raw value of each source (rrdlastupdate).
-    Lastupdate,
+    LastUpdate,
     /// Print the settings, and how many changes can be reverted (rrdinfo).
     Info,
     /// Take back the newest change.
     Revert,
 }
 
+impl CommandName {
+    /// The command's shape for clap.
+    fn shape<'a>(self, alloc: Global) -> Result<clap::Command<'a>, AllocError>
+        ensures { IfOk result (HasApp (shape_of self)) }
+    {
+        match self {
+            CommandName::Create => create::shape(alloc),
+            CommandName::Update => update::shape(alloc),
+            CommandName::Fetch => fetch::shape(alloc),
+            CommandName::Tune => tune::shape(alloc),
+            CommandName::Resize => resize::shape(alloc),
+            CommandName::First => first::shape(alloc),
+            CommandName::Last | CommandName::LastUpdate | CommandName::Info | CommandName::Revert =>
+                Ok(self.bare(alloc)),
+        }
+    }
+
+    /// The command of this name with these values.
+    fn read(self, alloc: Global, matches: &ArgMatches<'_>, now: u64) -> Result<Command, LineFault>
+        ensures { Meets (values_of self (rows_of (found_of matches.now)) now) result }
+    {
+        match self {
+            CommandName::Create => create::read(alloc, matches, now),
+            CommandName::Update => update::read(alloc, matches, now),
+            CommandName::Fetch => fetch::read(matches, now),
+            CommandName::Tune => tune::read(matches),
+            CommandName::Resize => resize::read(matches),
+            CommandName::First => first::read(matches),
+            CommandName::Last => Ok(Command::Last),
+            CommandName::LastUpdate => Ok(Command::LastUpdate),
+            CommandName::Info => Ok(Command::Info),
+            CommandName::Revert => Ok(Command::Revert),
+        }
+    }
+}
+
 /// The command with its subcommands.
 pub(crate) fn rrdi_command<'a>(alloc: Global) -> Result<clap::Command<'a>, AllocError>
     ensures { IfOk result (λ c. app_of c ≡ rrdi_app) }
 {
-    bare_command(alloc)
-        .subcommand(create::shape(alloc)?)?
-        .subcommand(update::shape(alloc)?)?
-        .subcommand(fetch::shape(alloc)?)?
-        .subcommand(tune::shape(alloc)?)?
-        .subcommand(resize::shape(alloc)?)?
-        .subcommand(first::shape(alloc)?)?
-        .subcommand(last::shape(alloc))?
-        .subcommand(lastupdate::shape(alloc))?
-        .subcommand(info::shape(alloc))?
-        .subcommand(revert::shape(alloc))
+    let mut command = bare_command(alloc);
+    for name in &NAMES {
+        command = command.subcommand(name.shape(alloc)?)?;
+    }
+    Ok(command)
 }
 
 /// The command for words that begin with this one; none where such words are refused.
 pub(crate) fn command_named<'a>(
     alloc: Global,
-    name: &str,
+    word: &str,
 ) -> Result<Option<clap::Command<'a>>, AllocError>
-    ensures { (rest : List (List ℕ)) → IfOk result (λ o. ServesOrRefuses o (name.now ∷ rest)) }
+    ensures { (rest : List (List ℕ)) → IfOk result (λ o. ServesOrRefuses o (word.now ∷ rest)) }
 {
-    if name == "create" {
-        return Ok(Some(command_with(alloc, create::shape(alloc)?)?));
+    if let Some(name) = CommandName::of(word) {
+        return Ok(Some(command_with(alloc, name.shape(alloc)?)?));
     }
-    if name == "update" {
-        return Ok(Some(command_with(alloc, update::shape(alloc)?)?));
-    }
-    if name == "fetch" {
-        return Ok(Some(command_with(alloc, fetch::shape(alloc)?)?));
-    }
-    if name == "tune" {
-        return Ok(Some(command_with(alloc, tune::shape(alloc)?)?));
-    }
-    if name == "resize" {
-        return Ok(Some(command_with(alloc, resize::shape(alloc)?)?));
-    }
-    if name == "first" {
-        return Ok(Some(command_with(alloc, first::shape(alloc)?)?));
-    }
-    if name == "last" {
-        return Ok(Some(command_with(alloc, last::shape(alloc))?));
-    }
-    if name == "lastupdate" {
-        return Ok(Some(command_with(alloc, lastupdate::shape(alloc))?));
-    }
-    if name == "info" {
-        return Ok(Some(command_with(alloc, info::shape(alloc))?));
-    }
-    if name == "revert" {
-        return Ok(Some(command_with(alloc, revert::shape(alloc))?));
-    }
-    if is_flag(name) {
+    if begins_with_minus(word) {
         return Ok(Some(rrdi_command(alloc)?));
     }
     Ok(None)
 }
 
-// The command of this name with these values.
-fn read_named(
-    alloc: Global,
-    name: &str,
-    matches: &ArgMatches<'_>,
-    now: u64,
-) -> Result<Command, LineFault>
-    ensures { Meets (line_of name.now (rows_of (found_of matches.now)) now) result }
-{
-    if name == "create" {
-        create::read(alloc, matches, now)
-    } else if name == "update" {
-        update::read(alloc, matches, now)
-    } else if name == "tune" {
-        tune::read(matches)
-    } else if name == "resize" {
-        resize::read(matches)
-    } else if name == "fetch" {
-        fetch::read(matches, now)
-    } else if name == "first" {
-        first::read(matches)
-    } else if name == "last" {
-        Ok(Command::Last)
-    } else if name == "lastupdate" {
-        Ok(Command::Lastupdate)
-    } else if name == "info" {
-        Ok(Command::Info)
-    } else {
-        Ok(Command::Revert)
-    }
-}
-
 // The command of the subcommand that the matches name.
 fn read_entered(alloc: Global, matches: &ArgMatches<'_>, now: u64) -> Result<Command, LineFault>
-    requires { is_some (subcommand_rows_of matches.now) ≡ true }
-    ensures { IfSome (subcommand_rows_of matches.now) (λ p. Meets (line_of p.0 p.1 now) result) }
+    requires { is_some (line_of (subcommand_rows_of matches.now) now) ≡ true }
+    ensures { IfSome (line_of (subcommand_rows_of matches.now) now) (λ read. Meets read result) }
 {
-    match matches.subcommand() {
-        None => unreachable!(),
-        Some((name, inner)) => read_named(alloc, name, inner, now),
-    }
+    let Some((word, inner)) = matches.subcommand() else {
+        unreachable!()
+    };
+    let Some(name) = CommandName::of(word) else {
+        unreachable!()
+    };
+    name.read(alloc, inner, now)
 }
 
 /// The command that the words are. `now` is the time that `N` and the defaults mean, in seconds
@@ -207,7 +183,7 @@ pub(crate) fn run<W: Write>(
         } => fetch::run(database, function, asked, start, stop, out),
         Command::First { index } => first::run(database, index, out),
         Command::Last => last::run(database, out),
-        Command::Lastupdate => lastupdate::run(database, out),
+        Command::LastUpdate => lastupdate::run(database, out),
         Command::Info => info::run(database, out),
         Command::Revert => revert::run(database),
         Command::Tune(tuning) => tune::run(alloc, database, &tuning),

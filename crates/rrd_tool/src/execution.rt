@@ -2,7 +2,7 @@
 ghost use Rattle.std.specs.Prelude.{◌≡◌, ℕ, List, Option, Some, None, true, false};
 ghost use Rattle.rrd_spec.specs.Journal.Survivors.{State};
 ghost use Rattle.rrd_fixed.specs.Written.{Writes};
-ghost use Rattle.rrd_tool.specs.Execution.{Executes, RunsOn};
+ghost use Rattle.rrd_tool.specs.Execution.{Executes, PrintsSome, RunsOn};
 ghost use Rattle.rrd_tool.specs.Execution.Printing.{Prints};
 ghost use Rattle.rrd_tool.specs.Effects.{StandsFor};
 
@@ -80,6 +80,7 @@ pub fn execute<W: Write>(
     ensures kept { Executes database command (W.contents out.old) (W.contents out.new) result }
     ensures run { (state : Option State) → StandsFor database state
         → RunsOn state command (W.contents out.old) (W.contents out.new) result }
+    ensures says { PrintsSome database command result }
 {
     laws::created_is_valid();
     laws::database_begins();

@@ -7,6 +7,7 @@ use arrayvec::ArrayString;
 use itoa::Buffer;
 use rrd_base::Refusal;
 use rrd_fixed::{WriteFault, short_text, write_bytes};
+use std::alloc::AllocError;
 use std::io::Write;
 use thiserror::Error;
 
@@ -94,6 +95,18 @@ pub enum LineFault {
     BadWord { part: Part, number: u64 },
     /// There was no memory for reading the words.
     OutOfMemory,
+}
+
+// A growth was refused.
+impl From<AllocError> for LineFault {
+    ghost use Rattle.std.specs.Prelude.{◌≡◌};
+    ghost use Rattle.rrd_tool.specs.declared.faults.LineFault.TheVariants.{OutOfMemory};
+
+    ghost from_gives = { λ _ fault. fault ≡ OutOfMemory };
+
+    fn from(_error: AllocError) -> LineFault {
+        LineFault::OutOfMemory
+    }
 }
 
 impl LineFault {

@@ -1,7 +1,7 @@
 //! What texts stand for, and the parts of a command that are read from them.
 ghost use Rattle.std.specs.Prelude.{◌≡◌, ◌∷◌, ◌<◌, [], IfSome, length, option_map};
 ghost use Rattle.std.specs.Option.{option_map_or};
-ghost use Rattle.rrd_tool.specs.Fields.{bound_of, cut_of, each_in, function_of, kind_of, name_of, pieces};
+ghost use Rattle.rrd_tool.specs.Fields.{bound_of, cut_of, each_in, function_of, function_text, kind_of, kind_text, name_of, named, pieces};
 ghost use Rattle.rrd_tool.specs.Fields.Answers.{Meets};
 ghost use Rattle.rrd_tool.specs.Fields.Parts.{given, optional, or_fault, required};
 ghost use Rattle.rrd_fixed.specs.Reading.{whole_of};
@@ -21,6 +21,30 @@ pub(crate) trait Field: Sized {
     /// What the text stands for; none if it can't be read so.
     fn read(text: &str) -> Option<Self>
         ensures { result ≡ meaning text.now };
+}
+
+/// What has a word for each of its values.
+pub(crate) trait Worded: Copy {
+    ghost use Rattle.std.specs.Prelude.{◌≡◌, ◌≤◌, List, length, ℕ};
+
+    ghost word_of: { Self → List ℕ };
+
+    /// Its word, of at most 16 bytes.
+    fn word(self) -> &'static str
+        ensures word { result.now ≡ word_of self }
+        ensures short { length result.now ≤ 16 };
+}
+
+/// The one of these that has this word.
+pub(crate) fn named<T: Worded>(all: &[T], text: &str) -> Option<T>
+    ensures { result ≡ named T.word_of all.now text.now }
+{
+    for item in all {
+        if text == item.word() {
+            return Some(*item);
+        }
+    }
+    None
 }
 
 /// What was read, or else the fault of that part.
@@ -103,9 +127,7 @@ pub(crate) fn read_pieces<T: Field + Drop>(
     while let Some(text) = left {
         let (piece, rest) = first_piece(text);
         let value = or_fault(part, number, T::read(piece))?;
-        if values.push(value).is_err() {
-            return Err(LineFault::OutOfMemory);
-        }
+        values.push(value)?;
         left = rest;
     }
     Ok(values)
@@ -129,21 +151,48 @@ impl Field for Name {
     }
 }
 
+/// The types of sources.
+const KINDS: [Kind; 4] = [Kind::Gauge, Kind::Counter, Kind::Derive, Kind::Absolute];
+
+impl Worded for Kind {
+    ghost word_of = { kind_text };
+
+    fn word(self) -> &'static str {
+        match self {
+            Kind::Gauge => "GAUGE",
+            Kind::Counter => "COUNTER",
+            Kind::Derive => "DERIVE",
+            Kind::Absolute => "ABSOLUTE",
+        }
+    }
+}
+
 // A source's type (rrdcreate, "DS").
 impl Field for Kind {
     ghost meaning = { kind_of };
 
     fn read(text: &str) -> Option<Kind> {
-        if text == "GAUGE" {
-            Some(Kind::Gauge)
-        } else if text == "COUNTER" {
-            Some(Kind::Counter)
-        } else if text == "DERIVE" {
-            Some(Kind::Derive)
-        } else if text == "ABSOLUTE" {
-            Some(Kind::Absolute)
-        } else {
-            None
+        named(&KINDS, text)
+    }
+}
+
+/// The consolidation functions.
+const FUNCTIONS: [Function; 4] = [
+    Function::Average,
+    Function::Min,
+    Function::Max,
+    Function::Last,
+];
+
+impl Worded for Function {
+    ghost word_of = { function_text };
+
+    fn word(self) -> &'static str {
+        match self {
+            Function::Average => "AVERAGE",
+            Function::Min => "MIN",
+            Function::Max => "MAX",
+            Function::Last => "LAST",
         }
     }
 }
@@ -153,17 +202,7 @@ impl Field for Function {
     ghost meaning = { function_of };
 
     fn read(text: &str) -> Option<Function> {
-        if text == "AVERAGE" {
-            Some(Function::Average)
-        } else if text == "MIN" {
-            Some(Function::Min)
-        } else if text == "MAX" {
-            Some(Function::Max)
-        } else if text == "LAST" {
-            Some(Function::Last)
-        } else {
-            None
-        }
+        named(&FUNCTIONS, text)
     }
 }
 

@@ -1,4 +1,5 @@
 //! Commands over a database: read from words, run, printed.
+//! `rrd_tests/src/examples.rt` has a caller of it, from the first call to the last.
 #![tactic(auto)]
 
 mod arguments;
@@ -14,4 +15,4 @@ pub use batch::{BatchEnd, StreamFault, run_batch};
 pub use commands::{Command, read_command};
 pub use execution::{Outcome, execute};
 pub use faults::{Fault, LineFault, Part, write_error, write_fault};
-pub use words::Words;
+pub use words::{Words, begins_with_minus};

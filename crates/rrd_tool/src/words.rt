@@ -1,6 +1,7 @@
-//! Lists of words.
+//! Words, and lists of them.
 ghost use Rattle.std.specs.Prelude.{◌≡◌, ◌++◌, ◌∷◌, [], length, map, is_ok, if◌then◌else◌, slice_get, option_map};
 ghost use Rattle.std.specs.String.{string_bytes};
+ghost use Rattle.rrd_tool.specs.Arguments.{begins_with_minus};
 
 use std::alloc::{AllocError, Global};
 use std::marker::Model;
@@ -63,4 +64,15 @@ impl Words {
     {
         self.items.as_slice()
     }
+}
+
+/// Whether a word begins with a minus: it is an option then, and no command and no file.
+pub fn begins_with_minus(word: &str) -> bool
+    ensures { result ≡ begins_with_minus word.now }
+{
+    let bytes = word.as_bytes();
+    if bytes.is_empty() {
+        return false;
+    }
+    bytes[0] == b'-'
 }

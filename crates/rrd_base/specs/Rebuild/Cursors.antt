@@ -1,7 +1,7 @@
 -- Glue: a cursor over the cells of a file.
 use Rattle.std.specs.Prelude.{◌≡◌, ℕ, ◌+◌, ◌*◌, ◌%◌, ◌<◌, List, [], ◌∷◌}
 use Rattle.rrd_spec.specs.Files.Slots.{place_in}
-use Rattle.rrd_spec.specs.History.{Archive}
+use Rattle.rrd_spec.specs.History.{Rra}
 use Rattle.rrd_spec.specs.Settings.{resolution}
 use Rattle.rrd_base.specs.declared.rebuild.cursor.Cursor.{Cursor}
 
@@ -15,15 +15,24 @@ KnowsPlace resolution last rows cursor =
     0 < cursor.slot + cursor.source → cursor.place ≡ place_in resolution last rows cursor.slot
 
 -- it knows its place in the first of these archives, if there is one
-abbrev pub KnowsPlaceIn : ℕ → ℕ → List Archive → Cursor → Type 0
+abbrev pub KnowsPlaceIn : ℕ → ℕ → List Rra → Cursor → Type 0
 KnowsPlaceIn step last [] cursor = Unit {0}
 KnowsPlaceIn step last (archive ∷ archives) cursor =
     KnowsPlace (resolution step archive.def) last archive.def.rows cursor
 
 -- so many cells are fewer than the first of these archives has, and none if there is no archive
-abbrev pub AreFewer : ℕ → List Archive → ℕ → Type 0
+abbrev pub AreFewer : ℕ → List Rra → ℕ → Type 0
 AreFewer sources [] filled = filled ≡ 0
 AreFewer sources (archive ∷ archives) filled = filled < sources * archive.def.rows
+
+-- it passes so many rows from the first cell of one, that of a place
+pub record Passes (rows place count : ℕ) (old new : Cursor) : Type 0 where
+  pub within :
+      old.slot + count < rows
+      → new ≡ record old { slot = old.slot + count; place = (place + count) % rows; source = 0 }
+  pub over :
+      old.slot + count ≡ rows
+      → new ≡ record { archive = old.archive + 1; slot = 0; place = (place + count) % rows; source = 0 }
 
 -- it goes from a cell in the row of a place to the next one
 pub record Advances (sources rows place : ℕ) (old new : Cursor) : Type 0 where

@@ -1,14 +1,17 @@
 -- Glue: outlines that a test of an entry is given, and a tune's names.
-use Rattle.std.specs.Prelude.{◌<◌, ◌≤◌, List, length, slice_set, sum}
+use Rattle.std.specs.Prelude.{◌≡◌, ◌<◌, ◌≤◌, List, length, slice_set, sum}
 use Rattle.std.specs.List.{AllByRecursion, fold}
 use Rattle.rrd_fixed.specs.declared.name.Name.{Name}
 use Rattle.rrd_spec.specs.declared.entry.SourceBefore.{SourceBefore}
 use Rattle.rrd_spec.specs.declared.outline.Outline.{Outline}
 use Rattle.rrd_spec.specs.declared.settings.RraDef.{RraDef}
-use Rattle.rrd_spec.specs.Limits.{present}
+use Rattle.rrd_spec.specs.declared.version.Version.{Version}
+use Rattle.rrd_spec.specs.History.{Content}
+use Rattle.rrd_spec.specs.Limits.{limits_of, present}
 use Rattle.rrd_spec.specs.Journal.Entries.{AddedEntry, Entry, RemovedEntry, ResizeEntry, TuneEntry, UpdateEntry}
 use Rattle.rrd_spec.specs.Journal.Fitting.{IsRemovedNumber}
-use Rattle.rrd_spec.specs.Journal.Outlines.{rows_of}
+use Rattle.rrd_spec.specs.Journal.Outlines.{outline_of, rows_of}
+use Rattle.rrd_spec.specs.Validity.{IsValidWithin}
 
 -- the resolution of an archive of these settings is a number above 0, and a small one
 pub record HasSteps (def : RraDef) : Type 0 where
@@ -20,6 +23,12 @@ pub record IsOutline (outline : Outline) : Type 0 where
   pub few_sources : length outline.sources ≤ present.most_sources
   pub have_steps : AllByRecursion HasSteps outline.archives
   pub few_rows : sum (rows_of outline.archives) ≤ present.most_cells
+
+-- that of a content which is valid within the limits of a version
+pub record IsValidOutline (version : Version) (outline : Outline) : Type 0 where
+  pub content : Content
+  pub valid : IsValidWithin (limits_of version) content
+  pub outline_is : outline ≡ outline_of content
 
 -- there is a place for a removed archive
 abbrev pub HasPlace : Outline → Entry → Type 0

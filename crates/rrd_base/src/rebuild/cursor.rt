@@ -1,6 +1,6 @@
 //! Where the next cell of a file goes.
 ghost use Rattle.std.specs.Prelude.{◌≡◌, ◌+◌, ◌%◌, ◌<◌, ◌≤◌};
-ghost use Rattle.rrd_base.specs.Rebuild.Cursors.{Advances, KnowsPlace};
+ghost use Rattle.rrd_base.specs.Rebuild.Cursors.{Advances, KnowsPlace, Passes};
 ghost use Rattle.rrd_spec.specs.Limits.{present};
 ghost use Rattle.rrd_spec.specs.Files.Rebuilding.{IsArchiveDef};
 ghost use Rattle.rrd_spec.specs.Settings.{resolution};
@@ -21,14 +21,15 @@ pub(crate) struct Cursor {
     pub(crate) source: usize,
 }
 
-// The place after a place, among so many rows: the first one follows the last.
-fn next_place(place: u64, rows: u64) -> u64
+// The place so many after a place, among so many rows: the first one follows the last.
+fn later_place(place: u64, count: u64, rows: u64) -> u64
     requires there { place < rows }
+    requires at_most_once { count ≤ rows }
     requires few { rows ≤ present.most_rows }
-    ensures { result ≡ (place + 1) % rows }
+    ensures { result ≡ (place + count) % rows }
 {
-    let next = place + 1;
-    if next < rows { next } else { next - rows }
+    let later = place + count;
+    if later < rows { later } else { later - rows }
 }
 
 impl Cursor {
@@ -76,8 +77,26 @@ impl Cursor {
             return;
         }
         self.source = 0;
-        self.place = next_place(place, rows);
+        self.place = later_place(place, 1, rows);
         self.slot += 1;
+        if self.slot == rows {
+            self.slot = 0;
+            self.archive += 1;
+        }
+    }
+
+    /// Goes on from the first cell of the row of this place by so many rows, to the next one or to the
+    /// next archive. This one has so many rows.
+    pub(super) fn pass(&mut self, place: u64, count: u64, rows: u64)
+        requires archive_there { self.old.archive < present.most_archives }
+        requires rows_there { self.old.slot + count ≤ rows }
+        requires first_cell { self.old.source ≡ 0 }
+        requires place_there { place < rows }
+        requires few_rows { rows ≤ present.most_rows }
+        ensures { Passes rows place count self.old self.new }
+    {
+        self.place = later_place(place, count, rows);
+        self.slot += count;
         if self.slot == rows {
             self.slot = 0;
             self.archive += 1;

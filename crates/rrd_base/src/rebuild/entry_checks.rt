@@ -5,7 +5,7 @@ ghost use Rattle.rrd_base.specs.Rebuild.EntryChecks.{HasSteps, IsOutline, with_n
 ghost use Rattle.rrd_base.specs.Journal.{entry_of, update_of};
 ghost use Rattle.rrd_fixed.specs.declared.cell.Cell.{Cell};
 ghost use Rattle.rrd_fold.specs.declared.function.Function.TheVariants.{Average};
-ghost use Rattle.rrd_ring.specs.Rows.{row_at};
+ghost use Rattle.rrd_ring.specs.Rows.{nth_row};
 ghost use Rattle.rrd_spec.specs.Preparations.{parts_in};
 ghost use Rattle.rrd_spec.specs.Limits.{limits_of, present};
 ghost use Rattle.rrd_spec.specs.Journal.Entries.{AddedEntry};
@@ -14,10 +14,10 @@ ghost use Rattle.rrd_spec.specs.Journal.Fitting.{AreOldRows, AreRemovedSettings,
 ghost use Rattle.rrd_spec.specs.Settings.{names};
 ghost use Rattle.rrd_spec.specs.Validity.{AreParts, IsPart, IsRow, Rise};
 
-use super::piece_checks::{is_archive, is_bounded, is_part, is_source};
+use super::piece_checks::{are_bounded, is_archive, is_part, is_source};
 use crate::create::{has_too_many_cells, is_bad_rows};
 use crate::journal::{BeforeUpdate, Entry, SavedArchive};
-use crate::named::is_double;
+use crate::named::has_double_name;
 use crate::rows::{all_rows, rows_between};
 use crate::rra::Rra;
 use crate::{DsDef, Outline, RraDef, SourceBefore};
@@ -25,6 +25,7 @@ use arrayvec::ArrayVec;
 use rrd_fixed::{Cell, Name};
 use rrd_fold::{Function, RowPrep, StepPrep};
 use rrd_ring::{Archive, Dropped};
+use rrd_spec::limits::{MOST_SOURCES, MOST_TUNED};
 use rrd_spec::{Version, are_accepted};
 
 // ---- rows
@@ -41,7 +42,7 @@ trait Table {
     // The cells of a row, counted from the oldest.
     fn at(&self, number: u64) -> &[Cell]
         requires { number < length (table self.now) }
-        ensures { result.now ≡ row_at (table self.now) number };
+        ensures { result.now ≡ nth_row (table self.now) number };
 }
 
 impl Table for Archive {
@@ -73,15 +74,7 @@ fn is_row(cells: &[Cell], sources: usize) -> bool
     ensures good { result ≡ true → IsRow sources cells.now }
     ensures bad { IsRow sources cells.now → result ≡ true }
 {
-    if cells.len() != sources {
-        return false;
-    }
-    for cell in cells {
-        if !is_bounded(*cell) {
-            return false;
-        }
-    }
-    true
+    cells.len() == sources && are_bounded(cells)
 }
 
 // Whether all are such rows.
@@ -220,7 +213,7 @@ fn are_sources_before(olds: &[SourceBefore], sources: u64) -> bool
 }
 
 // The names of the sources. It takes no memory.
-fn names_of(sources: &[DsDef]) -> ArrayVec<Name, 64>
+fn names_of(sources: &[DsDef]) -> ArrayVec<Name, MOST_SOURCES>
     requires { length sources.now ≤ present.most_sources }
     ensures { result.items ≡ names sources.now }
 {
@@ -244,7 +237,7 @@ fn put_names(names: &mut [Name], olds: &[SourceBefore])
 }
 
 // The names of the sources with those of a tune's entry.
-fn names_with(sources: &[DsDef], olds: &[SourceBefore]) -> ArrayVec<Name, 64>
+fn names_with(sources: &[DsDef], olds: &[SourceBefore]) -> ArrayVec<Name, MOST_SOURCES>
     requires { length sources.now ≤ present.most_sources }
     ensures { result.items ≡ names (with_sources sources.now olds.now) }
 {
@@ -260,13 +253,13 @@ fn may_tune(now: &Outline, olds: &[SourceBefore]) -> bool
     ensures bad { MayTune present now.now olds.now → result ≡ true }
 {
     let sources = now.sources.as_slice();
-    if olds.is_empty() || olds.len() > 5 {
+    if olds.is_empty() || olds.len() > MOST_TUNED {
         return false;
     }
     if !are_sources_before(olds, sources.len() as u64) {
         return false;
     }
-    !is_double(names_with(sources, olds).as_slice())
+    !has_double_name(names_with(sources, olds).as_slice())
 }
 
 // ---- a resize

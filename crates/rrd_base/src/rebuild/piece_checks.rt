@@ -1,5 +1,6 @@
 //! Tests of what a file's pieces say.
 ghost use Rattle.std.specs.Prelude.{◌≡◌, ◌≤◌, true};
+ghost use Rattle.std.specs.List.{AllByRecursion};
 ghost use Rattle.rrd_fixed.specs.Rate.{IsBounded};
 ghost use Rattle.rrd_fold.specs.Bounds.{weight};
 ghost use Rattle.rrd_spec.specs.Limits.{present};
@@ -60,4 +61,17 @@ pub fn is_bounded(cell: Cell) -> bool
         Cell::Unknown => true,
         Cell::Known(value) => value.unsigned_abs() <= GREATEST_BOUND,
     }
+}
+
+/// Whether none of these cells is past the greatest rate.
+pub(super) fn are_bounded(cells: &[Cell]) -> bool
+    ensures good { result ≡ true → AllByRecursion IsBounded cells.now }
+    ensures bad { AllByRecursion IsBounded cells.now → result ≡ true }
+{
+    for cell in cells {
+        if !is_bounded(*cell) {
+            return false;
+        }
+    }
+    true
 }

@@ -7,7 +7,7 @@ use Rattle.rrd_spec.specs.declared.outline.Outline.{Outline}
 use Rattle.rrd_spec.specs.declared.settings.RraDef.{RraDef}
 use Rattle.rrd_spec.specs.Journal.Entries.{Entry, BeforeUpdate, SavedArchive, UpdateEntry, TuneEntry, ResizeEntry, AddedEntry, RemovedEntry}
 use Rattle.rrd_spec.specs.Files.Filed.{Filed}
-use Rattle.rrd_spec.specs.History.{Archive}
+use Rattle.rrd_spec.specs.History.{Rra}
 use Rattle.rrd_spec.specs.Journal.Fitting.{IsSourceBefore}
 use Rattle.rrd_spec.specs.Files.Rebuilding.{limits, outline_left, with_entry}
 use Rattle.rrd_file.specs.Layout.Pieces.{Tag, AnUpdate, ATune, AResize, AnAddition, ARemoval}
@@ -37,7 +37,7 @@ pub record IsUpdateShaped (now : Outline) (old : BeforeUpdate) : Type 0 where
   pub archives_are : AreSavedShaped (length now.sources) now.archives old.archives
 
 -- a removed archive
-pub record IsRemovedShaped (now : Outline) (archive : Archive) : Type 0 where
+pub record IsRemovedShaped (now : Outline) (archive : Rra) : Type 0 where
   pub one_part_each : length archive.parts ≡ length now.sources
   pub rows_are : length archive.rows ≡ archive.def.rows
   pub one_cell_each : HasWidth (length now.sources) archive.rows

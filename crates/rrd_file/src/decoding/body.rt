@@ -11,12 +11,16 @@ use super::faults::block_fault;
 use crate::FileFault;
 use crate::decoding::input::PieceReader;
 use crate::decoding::pieces::{SourceRead, archive_of, source_of};
-use crate::decoding::values::{cell_of, part_of};
+use crate::decoding::values::{cell_of, cells_of, part_of};
 use rrd_base::{Due, Rebuild};
+use rrd_fixed::Cell;
 use std::io::Read;
 
 /// The bytes of a cell.
 const CELL: usize = 16;
+
+/// The cells that are taken at once, at most.
+const AT_ONCE: usize = 1_024;
 
 /// Reads a data source, with its last raw value and its preparation.
 pub(super) fn source<R: Read + Drop>(
@@ -107,6 +111,30 @@ fn cell<R: Read + Drop>(input: &mut PieceReader<R>, build: &mut Rebuild) -> Resu
     }
 }
 
+// Reads cells that wait: as many as the database takes of those that there is room for. Where it takes
+// none, the next one is read alone, which tells why.
+fn some_cells<R: Read + Drop>(
+    input: &mut PieceReader<R>,
+    build: &mut Rebuild,
+    room: &mut [Cell],
+) -> Result<(), FileFault>
+    requires is_due { due build.old ≡ CellDue }
+    requires waits { 16 ≤ length input.old.waiting }
+    ensures steps { (bytes : List ℕ) → Stands bytes (Body build.old) input.old
+        → Reaches bytes (λ x. Body build.new) input.new result }
+    ensures advanced { OnOk result (Advances input.old input.new) }
+{
+    let count = (input.waiting() / CELL).min(room.len());
+    let cells = &mut room[..count];
+    cells_of(input.front(count * CELL), cells);
+    let taken = build.cells(cells);
+    if taken == 0 {
+        return cell(input, build);
+    }
+    input.skip(taken * CELL);
+    Ok(())
+}
+
 /// Reads a cell, and those behind it that came with it.
 pub(super) fn cells<R: Read + Drop>(
     input: &mut PieceReader<R>,
@@ -118,11 +146,12 @@ pub(super) fn cells<R: Read + Drop>(
     ensures advanced { OnOk result (Advances input.old input.new) }
 {
     input.wait_for(CELL)?;
+    let mut room = [Cell::Unknown; AT_ONCE];
     while input.waiting() >= CELL {
         let Due::CellDue = build.due() else {
             return Ok(());
         };
-        cell(input, build)?;
+        some_cells(input, build, &mut room)?;
     }
     Ok(())
 }

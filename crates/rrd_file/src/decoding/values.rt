@@ -1,6 +1,6 @@
 //! Single values from their bytes: numbers, cells, preparations, names, types, functions, a source's settings.
-ghost use Rattle.std.specs.Prelude.{◌≡◌, ◌≢◌, ◌==◌, ◌+◌, ◌++◌, ◌^◌, ◌<◌, ◌≤◌, ℕ, None, IfSome, length, true};
-ghost use Rattle.std.specs.List.{list_all};
+ghost use Rattle.std.specs.Prelude.{◌≡◌, ◌≢◌, ◌==◌, ◌+◌, ◌*◌, ◌++◌, ◌^◌, ◌<◌, ◌≤◌, ℕ, None, IfSome, length, true};
+ghost use Rattle.std.specs.List.{flat_map, list_all};
 ghost use Rattle.rrd_fixed.specs.declared.kind.Kind.{Kind};
 ghost use Rattle.rrd_fixed.specs.declared.name.Name.{Name};
 ghost use Rattle.rrd_fixed.specs.Names.{fits};
@@ -12,6 +12,9 @@ ghost use Rattle.rrd_file.specs.Decoding.Values.{FitsBound, FitsCell, FitsDef, F
 use rrd_base::DsDef;
 use rrd_fixed::{Cell, Kind, Name, Raw};
 use rrd_fold::Function;
+
+// How many numbers eight bytes can say.
+const HALF: u128 = 0x1_0000_0000_0000_0000;
 
 /// A number of two bytes, and the bytes behind it.
 pub(crate) fn two_of(bytes: &[u8]) -> (u64, &[u8])
@@ -46,21 +49,23 @@ pub(crate) fn eight_of(bytes: &[u8]) -> (u64, &[u8])
     ensures room { length result.1.now + 8 ≡ length bytes.now }
 {
     let (front, rest) = bytes.split_at(8);
-    let mut piece = [0u8; 8];
-    piece.copy_from_slice(front);
+    let piece = [
+        front[0], front[1], front[2], front[3], front[4], front[5], front[6], front[7],
+    ];
     (u64::from_be_bytes(piece), rest)
 }
 
-/// A number of sixteen bytes, and the bytes behind it.
+/// A number of sixteen bytes, and the bytes behind it. Each half is one instruction of the processor's to
+/// read, which sixteen bytes at once are not.
 pub(crate) fn signed_of(bytes: &[u8]) -> (i128, &[u8])
     requires { 16 ≤ length bytes.now }
     ensures spelled { bytes.now ≡ spelling.signed_bytes result.0 ++ result.1.now }
     ensures room { length result.1.now + 16 ≡ length bytes.now }
 {
-    let (front, rest) = bytes.split_at(16);
-    let mut piece = [0u8; 16];
-    piece.copy_from_slice(front);
-    (i128::from_be_bytes(piece), rest)
+    let (high, rest) = eight_of(bytes);
+    let (low, rest) = eight_of(rest);
+    let bits = u128::from(high) * HALF + u128::from(low);
+    (bits.cast_signed(), rest)
 }
 
 /// A cell, and the bytes behind it.
@@ -75,6 +80,20 @@ pub(crate) fn cell_of(bytes: &[u8]) -> (Cell, &[u8])
         return (Cell::Unknown, rest);
     }
     (Cell::Known(number), rest)
+}
+
+/// Cells, as many as there is room for.
+pub(crate) fn cells_of(bytes: &[u8], cells: &mut [Cell])
+    requires { length bytes.now ≡ 16 * length cells.old }
+    ensures spelled { bytes.now ≡ flat_map spelling.cell_bytes cells.new }
+    ensures as_many { length cells.new ≡ length cells.old }
+{
+    let mut rest = bytes;
+    for i in 0..cells.len() {
+        let (cell, more) = cell_of(rest);
+        cells[i] = cell;
+        rest = more;
+    }
 }
 
 /// A raw value, and the bytes behind it.

@@ -1,5 +1,6 @@
 //! Bytes that wait to be written, so that many pieces go out in one write. It takes no memory.
-ghost use Rattle.std.specs.Prelude.{◌≡◌, ◌+◌, ◌-◌, ◌^◌, ◌<◌, ◌≤◌, ℤ, List, ℕ, [], ◌∷◌, ◌++◌, OnOk, length, map, replicate, unsigned_abs};
+ghost use Rattle.std.specs.Prelude.{◌≡◌, ◌+◌, ◌-◌, ◌*◌, ◌^◌, ◌<◌, ◌≤◌, ℤ, List, ℕ, [], ◌∷◌, ◌++◌, OnOk, length, map, replicate, unsigned_abs};
+ghost use Rattle.std.specs.List.{flat_map};
 ghost use Rattle.rrd_fixed.specs.declared.cell.Cell.TheVariants.{Unknown};
 ghost use Rattle.rrd_file.specs.Encoding.Block.{Gathers};
 ghost use Rattle.rrd_file.specs.Layout.{spelled};
@@ -17,8 +18,8 @@ use std::marker::Model;
 /// The bytes that fit.
 const ROOM: usize = 32_768;
 
-/// The bytes of the longest piece, a data source.
-const LONGEST: usize = 97;
+/// The bytes of the longest row, 64 cells: no piece has more.
+const LONGEST: usize = 1_024;
 
 /// The bytes of four unknown cells.
 const FOUR_UNKNOWN: [u8; 64] = [
@@ -64,10 +65,10 @@ impl Block {
         &self.bytes[..self.len]
     }
 
-    /// Makes room for a piece: where it could lack, all that waits is written.
+    /// Makes room for a piece, or for a row: where it could lack, all that waits is written.
     pub(crate) fn make_room<W: Write>(&mut self, out: &mut W) -> Result<(), WriteFault>
         ensures added { Gathers (W.contents out.old) self.old (W.contents out.new) self.new [] result }
-        ensures room { OnOk result (length self.new + 97 ≤ 32768) }
+        ensures room { OnOk result (length self.new + 1024 ≤ 32768) }
     {
         if ROOM - self.len < LONGEST {
             write_bytes(out, self.as_slice())?;
@@ -146,6 +147,16 @@ impl Block {
         ensures room { length self.new ≡ length self.old + 16 }
     {
         self.halves(cell_halves(cell));
+    }
+
+    /// Adds cells.
+    pub(crate) fn cells(&mut self, cells: &[Cell])
+        requires { length self.old + 16 * length cells.now ≤ 32768 }
+        ensures { self.new ≡ self.old ++ flat_map spelling.cell_bytes cells.now }
+    {
+        let end = self.len + 16 * cells.len();
+        put_cells(&mut self.bytes[self.len..end], cells);
+        self.len = end;
     }
 
     /// Adds four unknown cells.
@@ -232,5 +243,25 @@ impl Block {
         self.four(archive.steps);
         self.four(archive.xff.unsigned_abs() as u64);
         self.four(archive.rows);
+    }
+}
+
+// Writes a cell over sixteen bytes.
+fn put_cell(place: &mut [u8], cell: Cell)
+    requires { length place.old ≡ 16 }
+    ensures { place.new ≡ spelling.cell_bytes cell }
+{
+    let halves = cell_halves(cell);
+    place[..8].copy_from_slice(&halves.high.to_be_bytes());
+    place[8..].copy_from_slice(&halves.low.to_be_bytes());
+}
+
+// Writes cells over bytes, sixteen for each.
+fn put_cells(place: &mut [u8], cells: &[Cell])
+    requires { length place.old ≡ 16 * length cells.now }
+    ensures { place.new ≡ flat_map spelling.cell_bytes cells.now }
+{
+    for i in 0..cells.len() {
+        put_cell(&mut place[16 * i..16 * i + 16], cells[i]);
     }
 }

@@ -4,7 +4,7 @@ ghost use Rattle.std.specs.List.{flat_map};
 ghost use Rattle.rrd_spec.specs.Files.Filed.{Source, filed, head_of, header_of};
 ghost use Rattle.rrd_spec.specs.Limits.{newest};
 ghost use Rattle.rrd_spec.specs.Files.Slots.{all_cells, cells_by_slot};
-ghost use Rattle.rrd_spec.specs.History.{Archive};
+ghost use Rattle.rrd_spec.specs.History.{Rra};
 ghost use Rattle.rrd_file.specs.Encoding.Block.{Gathers};
 ghost use Rattle.rrd_file.specs.Layout.{body_pieces, head_pieces, row_pieces, spelled};
 ghost use Rattle.rrd_file.specs.Layout.Pieces.{Mark, OfArchive, OfCell, OfHeader, OfPrep, OfSource, OfVersion, spell};
@@ -27,7 +27,7 @@ pub(crate) fn write_header<W: Write>(
     ensures { Gathers (W.contents out.old) block.old (W.contents out.new) block.new
         (spelled (Mark ∷ OfVersion newest ∷ OfHeader (header_of newest database.now) ∷ [])) result }
 {
-    let entries = database.undoable();
+    database.is_valid();
     block.make_room(out)?;
     block.add(b"RRDI");
     block.two(2);
@@ -36,7 +36,7 @@ pub(crate) fn write_header<W: Write>(
     block.four(database.depth());
     block.two(database.sources());
     block.two(database.archives());
-    block.four(entries);
+    block.four(database.undoable());
     Ok(())
 }
 
@@ -69,6 +69,8 @@ fn write_sources<W: Write>(
     ensures { Gathers (W.contents out.old) block.old (W.contents out.new) block.new
         (spelled (map OfSource (filed newest database.now).sources)) result }
 {
+    // So each source has a raw value and a preparation.
+    database.is_valid();
     for number in 0..database.sources() {
         write_source(out, block, database, number)?;
     }
@@ -84,11 +86,11 @@ fn write_settings<W: Write>(
     archive: u64,
 ) -> Result<(), WriteFault>
     requires { archive < length database.now.content.archives }
-    ensures { (a : Archive) → slice_get database.now.content.archives archive ≡ Some a
+    ensures { (a : Rra) → slice_get database.now.content.archives archive ≡ Some a
         → Gathers (W.contents out.old) block.old (W.contents out.new) block.new (spell (OfArchive a.def)) result }
 {
-    // Its clause says that the settings are valid, so that they fit their bytes.
-    let _entries = database.undoable();
+    // So the settings fit their bytes.
+    database.is_valid();
     let def = database.archive(archive);
     block.make_room(out)?;
     block.archive(&def);
@@ -103,9 +105,11 @@ fn write_archive_preps<W: Write>(
     archive: u64,
 ) -> Result<(), WriteFault>
     requires { archive < length database.now.content.archives }
-    ensures { (a : Archive) → slice_get database.now.content.archives archive ≡ Some a
+    ensures { (a : Rra) → slice_get database.now.content.archives archive ≡ Some a
         → Gathers (W.contents out.old) block.old (W.contents out.new) block.new (spelled (map OfPrep a.parts)) result }
 {
+    // So each archive has a preparation for each source.
+    database.is_valid();
     for source in 0..database.sources() {
         write_prep(out, block, database.row_prep(archive, source))?;
     }
@@ -120,7 +124,7 @@ fn write_head<W: Write>(
     archive: u64,
 ) -> Result<(), WriteFault>
     requires { archive < length database.now.content.archives }
-    ensures { (a : Archive) → slice_get database.now.content.archives archive ≡ Some a
+    ensures { (a : Rra) → slice_get database.now.content.archives archive ≡ Some a
         → Gathers (W.contents out.old) block.old (W.contents out.new) block.new
         (spelled (head_pieces (head_of a))) result }
 {
@@ -153,14 +157,15 @@ fn write_rows_between<W: Write>(
     to: u64,
 ) -> Result<(), WriteFault>
     requires archive_there { archive < length database.now.content.archives }
-    requires rows_there { (a : Archive) → slice_get database.now.content.archives archive ≡ Some a
+    requires rows_there { (a : Rra) → slice_get database.now.content.archives archive ≡ Some a
         → to ≤ length a.rows }
-    ensures { (a : Archive) → slice_get database.now.content.archives archive ≡ Some a
+    ensures { (a : Rra) → slice_get database.now.content.archives archive ≡ Some a
         → Gathers (W.contents out.old) block.old (W.contents out.new) block.new
         (spelled (row_pieces (slice_range a.rows from to))) result }
 {
+    let rows = database.rows(archive);
     for place in from..to {
-        write_row(out, block, database.row_at(archive, place))?;
+        write_row(out, block, rows.row(place))?;
     }
     Ok(())
 }
@@ -175,12 +180,14 @@ fn write_run<W: Write>(
     to: u64,
 ) -> Result<(), WriteFault>
     requires archive_there { archive < length database.now.content.archives }
-    requires rows_there { (a : Archive) → slice_get database.now.content.archives archive ≡ Some a
+    requires rows_there { (a : Rra) → slice_get database.now.content.archives archive ≡ Some a
         → to ≤ length a.rows }
-    ensures { (a : Archive) → slice_get database.now.content.archives archive ≡ Some a
+    ensures { (a : Rra) → slice_get database.now.content.archives archive ≡ Some a
         → Gathers (W.contents out.old) block.old (W.contents out.new) block.new
         (spelled (row_pieces (slice_range a.rows from to))) result }
 {
+    // So the cells are few enough to be counted.
+    database.is_valid();
     let unwritten = database
         .unwritten_rows(archive)
         .min(to)
@@ -198,13 +205,13 @@ fn write_slots<W: Write>(
     archive: u64,
 ) -> Result<(), WriteFault>
     requires { archive < length database.now.content.archives }
-    ensures { (a : Archive) → slice_get database.now.content.archives archive ≡ Some a
+    ensures { (a : Rra) → slice_get database.now.content.archives archive ≡ Some a
         → Gathers (W.contents out.old) block.old (W.contents out.new) block.new
         (spelled (map OfCell (cells_by_slot database.now.content.step database.now.content.last a))) result }
 {
     rows_stand_in_slots();
-    // Its clause says that the content is valid, so that times and numbers of rows are small.
-    let _sources = database.sources();
+    // So times and numbers of rows are small.
+    database.is_valid();
     let def = database.archive(archive);
     let first = first_place(def.resolution(database.step()), database.last(), def.rows);
     write_run(out, block, database, archive, first, def.rows)?;

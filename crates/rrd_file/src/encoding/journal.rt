@@ -43,6 +43,8 @@ pub(crate) fn write_entries<W: Write>(
     ensures { Gathers (W.contents out.old) block.old (W.contents out.new) block.new
         (spelled (flat_map entry_pieces database.now.journal)) result }
 {
+    // So each entry is one of a valid content, and its numbers fit their bytes.
+    database.is_valid();
     for number in 0..database.undoable() {
         write_entry(out, block, database.entry(number))?;
     }

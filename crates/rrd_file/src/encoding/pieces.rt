@@ -12,6 +12,9 @@ use rrd_fixed::{Cell, WriteFault};
 use rrd_fold::RowPrep;
 use std::io::Write;
 
+/// The cells of the widest row.
+const WIDEST: usize = 64;
+
 /// Writes a cell.
 #[tactic(auto, unfolding(crate::specs::Layout::Pieces::spell))]
 pub(crate) fn write_cell<W: Write>(
@@ -35,8 +38,12 @@ pub(crate) fn write_row<W: Write>(
     ensures { Gathers (W.contents out.old) block.old (W.contents out.new) block.new
         (spelled (map OfCell row.now)) result }
 {
-    for i in 0..row.len() {
-        write_cell(out, block, row[i])?;
+    let mut done = 0;
+    while done < row.len() {
+        let more = (row.len() - done).min(WIDEST);
+        block.make_room(out)?;
+        block.cells(&row[done..done + more]);
+        done += more;
     }
     Ok(())
 }

@@ -19,7 +19,7 @@ use Rattle.rrd_spec.specs.declared.requests.resize.Change.{Change}
 use Rattle.rrd_spec.specs.declared.requests.resize.Change.TheVariants.{Grow, Shrink}
 use Rattle.rrd_spec.specs.Limits.{Limits, present}
 use Rattle.rrd_spec.specs.History.{Content}
-use Rattle.rrd_spec.specs.Commands.{Asked, Command, Updating, TuningBy, Resizing, settings_of, settings_after, archive_event, events, value_for, tuned}
+use Rattle.rrd_spec.specs.Commands.{Asked, DatabaseChange, Updating, TuningBy, Resizing, settings_of, settings_after, archive_event, events, value_for, tuned}
 use Rattle.rrd_spec.specs.Settings.{Settings, names, cells, has_source, is_double}
 
 -- what can be wrong, and the refusal that says so
@@ -203,17 +203,17 @@ resize_checks limits settings archive change rows =
     TooLarge
     ∷ []
 
-abbrev pub checks : Limits → Content → Command → List Check
+abbrev pub checks : Limits → Content → DatabaseChange → List Check
 checks limits base (Updating update) = update_checks limits base.sources base.last update
 checks limits base (TuningBy tuning) = tune_checks limits (settings_of base) tuning
 checks limits base (Resizing archive change rows) = resize_checks limits (settings_of base) archive change rows
 
 -- the refusal of a command, none if it is accepted. Memory isn't spoken of
-unfoldable pub verdict_within : Limits → Content → Command → Option Refusal
+unfoldable pub verdict_within : Limits → Content → DatabaseChange → Option Refusal
 verdict_within limits base command = first_refusal (checks limits base command)
 
-abbrev pub verdict : Content → Command → Option Refusal
+abbrev pub verdict : Content → DatabaseChange → Option Refusal
 verdict = verdict_within present
 
-abbrev pub is_accepted : Content → Command → Bool
+abbrev pub is_accepted : Content → DatabaseChange → Bool
 is_accepted now command = is_none (verdict now command)

@@ -9,7 +9,7 @@ use Rattle.rrd_spec.specs.declared.refusal.Refusal.TheVariants.{MixedTune, BadXf
 use Rattle.rrd_spec.specs.History.{Content, Added, Removed}
 use Rattle.rrd_spec.specs.History.Lives.{new_archive}
 use Rattle.rrd_spec.specs.History.Cells.{content, oldest_time}
-use Rattle.rrd_spec.specs.Commands.{Command, TuningBy}
+use Rattle.rrd_spec.specs.Commands.{DatabaseChange, TuningBy}
 use Rattle.rrd_spec.specs.Commands.Verdict.{verdict}
 use Rattle.rrd_spec.specs.Journal.Entries.{AddedEntry}
 use Rattle.rrd_spec.specs.Limits.{limits_of}
@@ -19,10 +19,10 @@ use Rattle.rrd_spec.specs.Journal.Survivors.{Changed, Reverted, Stored, stored_a
 use Rattle.rrd_spec.specs.Examples.{archive, at, known, nan, no_tuning, reading, rows, run, small, update}
 use Rattle.rrd_spec.specs.Examples.Commands.{with_maximum}
 
-abbrev pub adding : RraDef → Command
+abbrev pub adding : RraDef → DatabaseChange
 adding def = TuningBy (record no_tuning { archive = Some (Add def) })
 
-abbrev pub removing : ℕ → Command
+abbrev pub removing : ℕ → DatabaseChange
 removing number = TuningBy (record no_tuning { archive = Some (Remove number) })
 
 abbrev pub averages : RraDef

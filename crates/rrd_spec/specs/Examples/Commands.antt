@@ -7,13 +7,13 @@ use Rattle.rrd_fold.specs.declared.function.Function.TheVariants.{Last}
 use Rattle.rrd_spec.specs.declared.settings.DsDef.{DsDef}
 use Rattle.rrd_spec.specs.declared.requests.tune.Tuning.{Tuning}
 use Rattle.rrd_spec.specs.declared.requests.resize.Change.TheVariants.{Grow, Shrink}
-use Rattle.rrd_spec.specs.Commands.{Command, TuningBy, Resizing}
+use Rattle.rrd_spec.specs.Commands.{DatabaseChange, TuningBy, Resizing}
 use Rattle.rrd_spec.specs.declared.refusal.Refusal.TheVariants.{NotLater, NoSample, BadTime, WrongCount, ShrinkTooFar, NoSuchArchive, BadRows, NothingToTune, BadBounds, NoSuchSource}
 use Rattle.rrd_spec.specs.Commands.Verdict.{verdict}
 use Rattle.rrd_spec.specs.Journal.Survivors.{Changed, Reverted, Stored, stored_after}
 use Rattle.rrd_spec.specs.Examples.{created, counter, archive, rows, known, nan, letter, whole, reading, update, no_tuning, small, run}
 
-abbrev pub six : Command
+abbrev pub six : DatabaseChange
 six = update (reading 10 1 ∷ reading 20 2 ∷ reading 30 3 ∷ reading 40 4 ∷ reading 50 5 ∷ reading 60 6 ∷ [])
 
 abbrev pub shrunk : Stored

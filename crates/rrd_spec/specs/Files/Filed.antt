@@ -6,7 +6,7 @@ use Rattle.rrd_fold.specs.Parts.{Part}
 use Rattle.rrd_spec.specs.declared.settings.DsDef.{DsDef}
 use Rattle.rrd_spec.specs.declared.settings.RraDef.{RraDef}
 use Rattle.rrd_spec.specs.declared.version.Version.{Version}
-use Rattle.rrd_spec.specs.History.{Archive}
+use Rattle.rrd_spec.specs.History.{Rra}
 use Rattle.rrd_spec.specs.Journal.Entries.{Entry}
 use Rattle.rrd_spec.specs.Files.Slots.{all_cells}
 use Rattle.rrd_spec.specs.Journal.Survivors.{Stored}
@@ -60,7 +60,7 @@ sources_of (def ∷ defs) (raw ∷ raws) (part ∷ parts) =
     record { def = def; raw = raw; part = part } ∷ sources_of defs raws parts
 sources_of _ _ _ = []
 
-abbrev pub head_of : Archive → Head
+abbrev pub head_of : Rra → Head
 head_of archive = record { def = archive.def; parts = archive.parts }
 
 abbrev pub filed : Version → Stored → Filed

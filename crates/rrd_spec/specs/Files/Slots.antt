@@ -7,7 +7,7 @@ use Rattle.std.specs.Int.{int_div_euclid, int_rem_euclid}
 use Rattle.rrd_fixed.specs.declared.cell.Cell.{Cell}
 use Rattle.rrd_spec.specs.Settings.{resolution}
 use Rattle.rrd_spec.specs.History.Cells.{time_of}
-use Rattle.rrd_spec.specs.History.{Archive, Content}
+use Rattle.rrd_spec.specs.History.{Rra, Content}
 use Rattle.rrd_spec.specs.History.Rows.{row}
 use Rattle.rrd_spec.specs.History.Steps.{step}
 
@@ -31,7 +31,7 @@ abbrev pub by_slot : ℕ → ℕ → List (List Cell) → List Cell
 by_slot resolution last rows = flat_map (row_in resolution last rows) (range_with_len 0 (length rows))
 
 -- an archive's cells in the order of a file
-abbrev pub cells_by_slot : ℕ → ℕ → Archive → List Cell
+abbrev pub cells_by_slot : ℕ → ℕ → Rra → List Cell
 cells_by_slot step last archive = by_slot (resolution step archive.def) last archive.rows
 
 -- those of all archives

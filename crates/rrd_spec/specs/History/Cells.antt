@@ -7,7 +7,7 @@ use Rattle.rrd_spec.specs.declared.refusal.Refusal.{Refusal}
 use Rattle.rrd_spec.specs.declared.refusal.Refusal.TheVariants.{NoSuchArchive}
 use Rattle.rrd_spec.specs.declared.settings.RraDef.{RraDef}
 use Rattle.rrd_spec.specs.Settings.{resolution}
-use Rattle.rrd_spec.specs.History.{Archive, Content, Event, definitions, moment_after, moment_at_end, rows_at_end}
+use Rattle.rrd_spec.specs.History.{Rra, Content, Event, definitions, moment_after, moment_at_end, rows_at_end}
 use Rattle.rrd_spec.specs.History.Lives.{Life, lives}
 use Rattle.rrd_spec.specs.History.Steps.{parts_of}
 use Rattle.rrd_spec.specs.History.Rows.{row_parts, row_ending}
@@ -23,16 +23,16 @@ row_of_age rows unknown (pos age) =
 row_of_age rows unknown (negsuc ahead) = unknown
 
 -- of an archive with cells of so many sources, steps of so many seconds, at a last time
-abbrev pub row_then : ℕ → ℕ → ℕ → Archive → ℤ → List Cell
+abbrev pub row_then : ℕ → ℕ → ℕ → Rra → ℤ → List Cell
 row_then sources step last archive time =
     let size = resolution step archive.def in
     row_of_age archive.rows (replicate sources Cell.Unknown) (pos (last / size) -ℤ int_div_euclid time (pos size))
 
-abbrev pub row_at : Content → Archive → ℤ → List Cell
+abbrev pub row_at : Content → Rra → ℤ → List Cell
 row_at content archive time = row_then (length content.sources) content.step content.last archive time
 
 -- the cell of a source in the row at a time of the archive of this number; unknown where there is none
-abbrev pub cell_in : Content → List Archive → ℕ → ℤ → ℕ → Cell
+abbrev pub cell_in : Content → List Rra → ℕ → ℤ → ℕ → Cell
 cell_in content [] number time source = Unknown
 cell_in content (archive ∷ archives) zero time source = slice_index_or (row_at content archive time) source Unknown
 cell_in content (archive ∷ archives) (suc number) time source = cell_in content archives number time source
@@ -41,7 +41,7 @@ abbrev pub cell_at : Content → ℕ → ℤ → ℕ → Cell
 cell_at content number time source = cell_in content content.archives number time source
 
 -- the preparation of a source's unfinished row in the archive of this number
-abbrev pub prep_in : List Archive → ℕ → ℕ → Consolidating
+abbrev pub prep_in : List Rra → ℕ → ℕ → Consolidating
 prep_in [] number source = record { function = Average; part = nothing }
 prep_in (archive ∷ archives) zero source =
     record { function = archive.def.function; part = slice_index_or archive.parts source nothing }
@@ -128,7 +128,7 @@ rows_by_time base events life =
 
 -- an archive after the events: its settings with its number of rows, what its unfinished row has made of its steps,
 -- and its rows
-abbrev pub archive_by_time : Content → List Event → Life → Archive
+abbrev pub archive_by_time : Content → List Event → Life → Rra
 archive_by_time base events life = record {
   def = record life.begun.def { rows = rows_at_end 0 life.begun.def.rows life.since };
   parts = row_parts base life events;

@@ -5,22 +5,22 @@ use Rattle.std.specs.List.{remove}
 use Rattle.rrd_fixed.specs.declared.cell.Cell.{Cell}
 use Rattle.rrd_fold.specs.Parts.{nothing}
 use Rattle.rrd_spec.specs.declared.settings.RraDef.{RraDef}
-use Rattle.rrd_spec.specs.History.{Archive, Content, Event, Sampled, Tuned, Resized, Added, Removed, Moment, moment_after, moment_of}
+use Rattle.rrd_spec.specs.History.{Rra, Content, Event, Sampled, Tuned, Resized, Added, Removed, Moment, moment_after, moment_of}
 
 -- an archive of a history: what it began with, the moment when it began, how many steps of the history had ended by
 -- then, and what has happened to it since: samples, tunes, and its own resizes, in which it is number 0
 pub record Life : Type 0 where
-  pub begun : Archive
+  pub begun : Rra
   pub birth : Moment
   pub missed : ℕ
   pub since : List Event
 
 -- one of the base's, which begins with the history
-abbrev pub life_of : Content → Archive → Life
+abbrev pub life_of : Content → Rra → Life
 life_of base archive = record { begun = archive; birth = moment_of base; missed = 0; since = [] }
 
 -- an archive in which every row is unknown, for so many sources
-abbrev pub new_archive : ℕ → RraDef → Archive
+abbrev pub new_archive : ℕ → RraDef → Rra
 new_archive sources def =
     record { def = def; parts = replicate sources nothing; rows = replicate def.rows (replicate sources Cell.Unknown) }
 

@@ -4,7 +4,7 @@ use Rattle.rrd_fixed.specs.declared.cell.Cell.{Cell}
 use Rattle.rrd_fold.specs.Parts.{Part, nothing, with_each, row_cell}
 use Rattle.rrd_spec.specs.declared.settings.RraDef.{RraDef}
 use Rattle.rrd_spec.specs.Settings.{resolution}
-use Rattle.rrd_spec.specs.History.{Archive, Content, Event}
+use Rattle.rrd_spec.specs.History.{Rra, Content, Event}
 use Rattle.rrd_spec.specs.History.Groups.{Rule, finished, group_part, unfinished}
 use Rattle.rrd_spec.specs.History.Steps.{steps_of}
 use Rattle.rrd_spec.specs.History.Lives.{Life}
@@ -20,12 +20,12 @@ steps_to_rows def sources =
     }
 
 -- the rows of an archive that end after the base's last time (rrdcreate, "RRA")
-unfoldable pub rows_of : Content → Archive → List Event → List (List Cell)
+unfoldable pub rows_of : Content → Rra → List Event → List (List Cell)
 rows_of base archive events =
     finished (steps_to_rows archive.def (length base.sources)) (base.last / base.step) archive.parts (steps_of base events)
 
 -- what an archive's unfinished row has made of its steps (rrdcreate, "RRA")
-unfoldable pub row_parts_of : Content → Archive → List Event → List Part
+unfoldable pub row_parts_of : Content → Rra → List Event → List Part
 row_parts_of base archive events =
     unfinished (steps_to_rows archive.def (length base.sources)) (base.last / base.step)
     archive.parts (steps_of base events)

@@ -11,8 +11,8 @@ use Rattle.rrd_fold.specs.declared.function.Function.TheVariants.{Average}
 use Rattle.rrd_fold.specs.Parts.{Part}
 use Rattle.std.specs.Option.{option_map_or}
 use Rattle.rrd_spec.specs.Settings.{resolution}
-use Rattle.rrd_spec.specs.History.{Archive, Content, IsBase}
-use Rattle.rrd_spec.specs.Commands.{Asked, Command, Updating, TuningBy, Resizing, moved}
+use Rattle.rrd_spec.specs.History.{Rra, Content, IsBase}
+use Rattle.rrd_spec.specs.Commands.{Asked, DatabaseChange, Updating, TuningBy, Resizing, moved}
 use Rattle.rrd_fixed.specs.Names.{same_name}
 use Rattle.rrd_spec.specs.declared.requests.tune.Tuning.{Tuning}
 use Rattle.rrd_spec.specs.declared.requests.tune.ArchiveTune.{ArchiveTune}
@@ -38,7 +38,7 @@ pub data Entry : Type 0 where
   ResizeEntry : ℕ → List (List Cell) → Entry
   -- an archive was added; the archive of a number was removed
   AddedEntry : Entry
-  RemovedEntry : ℕ → Archive → Entry
+  RemovedEntry : ℕ → Rra → Entry
 
 -- ---- the entry of a command
 
@@ -47,7 +47,7 @@ abbrev pub rows_between : ℕ → RraDef → ℕ → ℕ → ℕ
 rows_between step def from to = to / resolution step def - from / resolution step def
 
 -- of an archive, for an update from one time to another: as many of its oldest rows as the update finishes, or all
-abbrev pub saved : ℕ → ℕ → ℕ → Archive → SavedArchive
+abbrev pub saved : ℕ → ℕ → ℕ → Rra → SavedArchive
 saved step from to archive = record {
   function = archive.def.function;
   parts = archive.parts;
@@ -71,13 +71,13 @@ sources_before tuning number (source ∷ sources) (raw ∷ raws) =
     if is_named tuning source then record { number = number; source = source; raw = raw }
     ∷ sources_before tuning (number + 1) sources raws else sources_before tuning (number + 1) sources raws
 
-abbrev pub rows_at : List Archive → ℕ → List (List Cell)
+abbrev pub rows_at : List Rra → ℕ → List (List Cell)
 rows_at [] index = []
 rows_at (archive ∷ archives) zero = archive.rows
 rows_at (archive ∷ archives) (suc index) = rows_at archives index
 
 -- the archive of a number, which is there
-abbrev pub archive_at : List Archive → ℕ → Archive
+abbrev pub archive_at : List Rra → ℕ → Rra
 archive_at archives number =
     slice_index_or archives number (record {
       def = record { function = Average; xff = pos 0; steps = 0; rows = 0 };
@@ -100,7 +100,7 @@ before base end =
       archives = map (saved base.step base.last end) base.archives;
     }
 
-abbrev pub entry : Content → Command → Entry
+abbrev pub entry : Content → DatabaseChange → Entry
 entry base (Updating update) = UpdateEntry (before base (moved base (Updating update)).last)
 entry base (TuningBy tuning) =
     option_map_or (archive_entry base) tuning.archive (TuneEntry (sources_before tuning 0 base.sources base.raws))
@@ -125,11 +125,11 @@ entry_cells (RemovedEntry number archive) = cells_in archive.rows
 -- ---- undoing
 
 -- the old rows come back as the oldest; as many of the newest go
-abbrev pub put_back : Archive → SavedArchive → Archive
+abbrev pub put_back : Rra → SavedArchive → Rra
 put_back archive old =
     record archive { parts = old.parts; rows = old.rows ++ take (length archive.rows - length old.rows) archive.rows }
 
-abbrev pub put_back_each : List Archive → List SavedArchive → List Archive
+abbrev pub put_back_each : List Rra → List SavedArchive → List Rra
 put_back_each [] olds = []
 put_back_each (archive ∷ archives) [] = archive ∷ archives
 put_back_each (archive ∷ archives) (old ∷ olds) = put_back archive old ∷ put_back_each archives olds
@@ -138,7 +138,7 @@ abbrev pub with_source : Content → SourceBefore → Content
 with_source now old =
     record now { sources = slice_set now.sources old.number old.source; raws = slice_set now.raws old.number old.raw }
 
-abbrev pub with_rows_at : List Archive → ℕ → List (List Cell) → List Archive
+abbrev pub with_rows_at : List Rra → ℕ → List (List Cell) → List Rra
 with_rows_at [] index rows = []
 with_rows_at (archive ∷ archives) zero rows =
     record archive { def = record archive.def { rows = length rows }; rows = rows } ∷ archives

@@ -7,8 +7,8 @@ use Rattle.rrd_fold.specs.declared.function.Function.TheVariants.{Average}
 use Rattle.rrd_spec.specs.declared.entry.SourceBefore.{SourceBefore}
 use Rattle.rrd_spec.specs.declared.outline.Outline.{Outline}
 use Rattle.rrd_spec.specs.declared.settings.RraDef.{RraDef}
-use Rattle.rrd_spec.specs.Limits.{Limits}
-use Rattle.rrd_spec.specs.History.{Archive}
+use Rattle.rrd_spec.specs.Limits.{Limits, most_tuned}
+use Rattle.rrd_spec.specs.History.{Rra}
 use Rattle.rrd_spec.specs.Settings.{cells, is_double, names}
 use Rattle.rrd_spec.specs.Journal.Entries.{BeforeUpdate, Entry, UpdateEntry, TuneEntry, ResizeEntry, AddedEntry, RemovedEntry, SavedArchive, rows_between}
 use Rattle.rrd_spec.specs.Journal.Outlines.{rows_of, with_row_number, with_sources}
@@ -40,7 +40,7 @@ IsSourceBefore limits old = IsSourceWithin limits old.source × IsAccepted old.s
 
 pub record MayTune (limits : Limits) (now : Outline) (olds : List SourceBefore) : Type 0 where
   pub some : 0 < length olds
-  pub few : length olds ≤ 5
+  pub few : length olds ≤ most_tuned
   pub rise : Rise 0 (length now.sources) olds
   pub each : AllByRecursion (IsSourceBefore limits) olds
   pub names_differ : is_double (names (with_sources now.sources olds)) ≡ false
@@ -79,7 +79,7 @@ pub record AreRemovedSettings (limits : Limits) (now : Outline) (def : RraDef) :
   pub few_cells : length now.sources * (sum (rows_of now.archives) + def.rows) ≤ limits.most_cells
 
 -- a removed archive, as an archive of the last time
-pub record MayRemove (limits : Limits) (step : ℕ) (now : Outline) (number : ℕ) (archive : Archive) : Type 0 where
+pub record MayRemove (limits : Limits) (step : ℕ) (now : Outline) (number : ℕ) (archive : Rra) : Type 0 where
   pub number_is : IsRemovedNumber limits now number
   pub settings_are : AreRemovedSettings limits now archive.def
   pub parts_are :

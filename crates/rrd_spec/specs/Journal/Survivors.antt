@@ -1,13 +1,13 @@
 -- Definition: commands that are accepted, refused and reverted, and which of them count in the end (own).
 use Rattle.std.specs.Prelude.{◌≡◌, ℕ, zero, suc, ◌+◌, ◌-◌, ◌≤◌, ◌<◌, min, if◌then◌else◌, None, List, [], ◌∷◌, ◌++◌, length, take, reverse}
 use Rattle.rrd_spec.specs.History.{Content}
-use Rattle.rrd_spec.specs.Commands.{Command, content_of, moved}
+use Rattle.rrd_spec.specs.Commands.{DatabaseChange, content_of, moved}
 use Rattle.rrd_spec.specs.Commands.Verdict.{is_accepted, verdict}
 use Rattle.rrd_spec.specs.Journal.Entries.{Entry, entry, undone, IsSound}
 
 -- a command that changes the database, or a revert
 pub data Action : Type 0 where
-  Changed : Command → Action
+  Changed : DatabaseChange → Action
   Reverted : Action
 
 -- the base, the entries that it came with (newest first), the commands that survive (newest first), and how many of
@@ -15,7 +15,7 @@ pub data Action : Type 0 where
 pub record State : Type 0 where
   pub base : Content
   pub brought : List Entry
-  pub survivors : List Command
+  pub survivors : List DatabaseChange
   pub revertible : ℕ
 
 -- a database as it is stored: the present content, and the journal, newest entry first
@@ -24,11 +24,11 @@ pub record Stored : Type 0 where
   pub journal : List Entry
 
 -- what the survivors make of the base
-abbrev pub survived : Content → List Command → Content
+abbrev pub survived : Content → List DatabaseChange → Content
 survived base newest_first = content_of base (reverse newest_first)
 
 -- the entries of the newest commands, newest first
-abbrev pub entries : Content → ℕ → List Command → List Entry
+abbrev pub entries : Content → ℕ → List DatabaseChange → List Entry
 entries base zero commands = []
 entries base (suc n) [] = []
 entries base (suc n) (command ∷ commands) = entry (survived base commands) command ∷ entries base n commands
@@ -40,7 +40,7 @@ journal_of state = entries state.base state.revertible state.survivors ++ state.
 
 -- an accepted command survives. The journal has `depth` places: what it has no place for are its oldest entries,
 -- those that were brought first of all
-abbrev pub with_change : State → Command → State
+abbrev pub with_change : State → DatabaseChange → State
 with_change state command = record {
   base = state.base;
   brought = take (state.base.depth - (state.revertible + 1)) state.brought;
@@ -50,7 +50,7 @@ with_change state command = record {
 
 -- a revert drops the newest command that can be reverted; with none left, the newest entry that was brought is undone
 -- in the base; with neither it is refused
-abbrev pub without_last : Content → List Entry → List Command → ℕ → State
+abbrev pub without_last : Content → List Entry → List DatabaseChange → ℕ → State
 without_last base brought (command ∷ survivors) (suc n) =
     record { base = base; brought = brought; survivors = survivors; revertible = n }
 without_last base brought [] (suc n) = record { base = base; brought = brought; survivors = []; revertible = suc n }
@@ -69,7 +69,7 @@ abbrev pub reverted : Content → List Entry → Stored
 reverted now [] = record { content = now; journal = [] }
 reverted now (entry ∷ journal) = record { content = undone now entry; journal = journal }
 
-abbrev pub changed : Stored → Command → Stored
+abbrev pub changed : Stored → DatabaseChange → Stored
 changed stored command =
     record {
       content = moved stored.content command;
@@ -83,7 +83,7 @@ stored_after stored Reverted = reverted stored.content stored.journal
 -- ---- that both agree
 
 -- each survivor was accepted on what the earlier ones had made
-abbrev pub AllAccepted : Content → List Command → Type 0
+abbrev pub AllAccepted : Content → List DatabaseChange → Type 0
 AllAccepted base [] = Unit {0}
 AllAccepted base (command ∷ commands) = (verdict (survived base commands) command ≡ None) × AllAccepted base commands
 

@@ -1,7 +1,7 @@
 -- Law: what an archive shows, by time, by list and by age.
 use Rattle.std.specs.Prelude.{◌≡◌, ◌++◌, ℕ, ◌-◌, ◌/◌, List, length, take, map, if◌then◌else◌, ℤ, nat_lt, Some, slice_index_or, ◌<◌, ◌≤◌, min, pos, slice_get}
 use Rattle.std.specs.List.{range_with_len}
-use Rattle.rrd_spec.specs.History.{Content, Archive, Event, moment_of, IsHistory, IsBase, Reading, Sampled, IsArchive}
+use Rattle.rrd_spec.specs.History.{Content, Rra, Event, moment_of, IsHistory, IsBase, Reading, Sampled, IsArchive}
 use Rattle.rrd_spec.specs.Commands.{events}
 use Rattle.rrd_spec.specs.History.Lives.{Life, life_of, lives}
 use Rattle.rrd_fixed.specs.declared.cell.Cell.{Cell}
@@ -26,7 +26,7 @@ IsMultiple time size = int_rem_euclid time (pos size) ≡ pos 0
 abbrev pub ShowsByTime : Content → List Event → Type 0
 ShowsByTime base events =
     IsBase base → IsHistory (moment_of base) events →
-    (index : ℕ) (life : Life) (shown : Archive) → slice_get (lives base events) index ≡ Some life
+    (index : ℕ) (life : Life) (shown : Rra) → slice_get (lives base events) index ≡ Some life
     → slice_get (content base events).archives index ≡ Some shown →
     (time : ℤ) → IsMultiple time (resolution base.step life.begun.def)
     → row_at (content base events) shown time ≡ row_by_time base life events time
@@ -40,7 +40,7 @@ ShowsCells base events =
     → cell_at (content base events) index time source ≡ cell base life events time source
 
 -- the steps and rows of a history, each by itself
-pub record ListsByNumber (base : Content) (archive : Archive) (events : List Event) : Type 0 where
+pub record ListsByNumber (base : Content) (archive : Rra) (events : List Event) : Type 0 where
   pub steps_are : steps_of base events
       ≡ map (step_numbered base events) (range_with_len (base.last / base.step) (length (steps_of base events)))
   pub rows_are : rows_of base archive events
@@ -48,7 +48,7 @@ pub record ListsByNumber (base : Content) (archive : Archive) (events : List Eve
       (range_with_len (base.last / base.step / archive.def.steps) (length (rows_of base archive events)))
 
 -- the rows from before an update: the oldest of them, as many as the update finished, then those that it left
-abbrev pub RowsComeBack : Content → ℕ → Archive → List Reading → Type 0
+abbrev pub RowsComeBack : Content → ℕ → Rra → List Reading → Type 0
 RowsComeBack base index archive samples =
     let f = length (rows_of base archive (map Sampled samples)) in let r = length archive.rows in IsArchive archive
     → take (min f r) archive.rows ++ take (r - min f r) (kept_rows base index archive (map Sampled samples))

@@ -3,7 +3,7 @@ use Rattle.std.specs.Prelude.{◌≡◌, ◌++◌, ℕ, List, [], length, map, f
 use Rattle.std.specs.List.{AllByRecursion, remove}
 use Rattle.rrd_spec.specs.Limits.{present}
 use Rattle.rrd_spec.specs.History.{Content, IsBase, raws_under}
-use Rattle.rrd_spec.specs.Commands.{Command, events, settings_of, moved, content_of, Resizing, TuningBy, raw_of, rows_changed, rows_of_archives, tuned}
+use Rattle.rrd_spec.specs.Commands.{DatabaseChange, events, settings_of, moved, content_of, Resizing, TuningBy, raw_of, rows_changed, rows_of_archives, tuned}
 use Rattle.rrd_fixed.specs.declared.cell.Cell.{Cell}
 use Rattle.rrd_spec.specs.Commands.Verdict.{verdict, Check, checks}
 use Rattle.rrd_spec.specs.Journal.Entries.{IsSound, rows_at, with_rows_at}
@@ -22,7 +22,7 @@ abbrev pub Passes : Check → Type 0
 Passes check = check.wrong ≡ false
 
 -- a command that is accepted passes each check
-abbrev pub PassesAll : Content → Command → Type 0
+abbrev pub PassesAll : Content → DatabaseChange → Type 0
 PassesAll base command = verdict base command ≡ None → AllByRecursion Passes (checks present base command)
 
 -- each source accepts the raw value that it keeps of what is given
@@ -30,19 +30,19 @@ abbrev pub AreKept : (DsDef → Given) → List DsDef → Type 0
 AreKept given sources = AreAccepted sources (map (λ (source : DsDef). raw_of source.kind (given source)) sources)
 
 -- an accepted command makes the same content by list and by time
-abbrev pub MovesListed : Content → Command → Type 0
+abbrev pub MovesListed : Content → DatabaseChange → Type 0
 MovesListed base command =
     IsValid base → verdict base command ≡ None → KeepsArchives (events (settings_of base) command)
     → moved_listed base command ≡ moved base command
 
 -- one command more is one move more
-abbrev pub Moves : Content → List Command → Command → Type 0
+abbrev pub Moves : Content → List DatabaseChange → DatabaseChange → Type 0
 Moves base commands command =
     IsSound base → AllAccepted base (command ∷ commands)
     → survived base (command ∷ commands) ≡ moved (survived base commands) command
 
 -- on the content that accepted commands leave, further commands make the content of all of them
-abbrev pub CommandsGoOn : Content → List Command → List Command → Type 0
+abbrev pub CommandsGoOn : Content → List DatabaseChange → List DatabaseChange → Type 0
 CommandsGoOn base first second =
     IsSound base → AllAccepted base (reverse (first ++ second))
     → content_of base (first ++ second) ≡ content_of (content_of base first) second

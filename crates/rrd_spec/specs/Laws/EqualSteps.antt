@@ -5,21 +5,21 @@ use Rattle.rrd_fixed.specs.declared.cell.Cell.{Cell}
 use Rattle.rrd_fold.specs.declared.function.Function.TheVariants.{Average}
 use Rattle.rrd_fold.specs.Parts.{nothing, row_cell, step_cell, with_each}
 use Rattle.rrd_spec.specs.Limits.{present}
-use Rattle.rrd_spec.specs.History.{Archive, Content, IsBase}
+use Rattle.rrd_spec.specs.History.{Rra, Content, IsBase}
 use Rattle.rrd_spec.specs.Laws.ListedContent.{keep_last}
 use Rattle.rrd_spec.specs.Laws.Passing.{archive_passed, passed}
 
 -- ---- an archive, `before` steps having ended
 
 -- steps may pass in two pieces
-abbrev pub StepsInPieces : ℕ → ℕ → Archive → List (List Cell) → List (List Cell) → Type 0
+abbrev pub StepsInPieces : ℕ → ℕ → Rra → List (List Cell) → List (List Cell) → Type 0
 StepsInPieces sources before archive xs ys =
     0 < archive.def.steps
     → archive_passed sources before (xs ++ ys) archive
     ≡ archive_passed sources (before + length xs) ys (archive_passed sources before xs archive)
 
 -- steps that leave their row unfinished change its parts alone
-abbrev pub StepsWithin : ℕ → ℕ → Archive → List (List Cell) → Type 0
+abbrev pub StepsWithin : ℕ → ℕ → Rra → List (List Cell) → Type 0
 StepsWithin sources before archive steps =
     let def = archive.def in
     0 < def.steps → before + length steps < (before / def.steps + 1) * def.steps →
@@ -32,7 +32,7 @@ steps_left before size = (before / size + 1) * size - (before + 1)
 
 -- a step, and many of another that fill the row and go on: they leave the row that was in progress, whole rows of
 -- that other step, and what is past them
-abbrev pub StepsOver : ℕ → ℕ → ℕ → Archive → List Cell → List Cell → Type 0
+abbrev pub StepsOver : ℕ → ℕ → ℕ → Rra → List Cell → List Cell → Type 0
 StepsOver sources before count archive first then =
     let def = archive.def in
     let left = steps_left before def.steps in

@@ -4,23 +4,23 @@ use Rattle.std.specs.Prelude.{◌≡◌, ◌-◌, List, length, take, None, [], 
 use Rattle.std.specs.List.{fold}
 use Rattle.rrd_spec.specs.Limits.{Limits}
 use Rattle.rrd_spec.specs.History.{Content}
-use Rattle.rrd_spec.specs.Commands.{Command, moved}
+use Rattle.rrd_spec.specs.Commands.{DatabaseChange, moved}
 use Rattle.rrd_spec.specs.Commands.Verdict.{verdict}
 use Rattle.rrd_spec.specs.Journal.Entries.{Entry, entry, undone, IsSound}
 use Rattle.rrd_spec.specs.Journal.Survivors.{Action, changed, reverted, stored_after, after, Stands, State, Stored, AllUndo}
 use Rattle.rrd_spec.specs.Validity.{IsValid, IsValidDatabase, IsValidJournalWithin, IsValidWithin, Fits}
 
 -- the entry of an accepted command fits the content after it
-abbrev pub EntryFits : Content → Command → Type 0
+abbrev pub EntryFits : Content → DatabaseChange → Type 0
 EntryFits base command = IsValid base → verdict base command ≡ None → Fits (moved base command) (entry base command)
 
 -- an accepted command is undone by its entry
-abbrev pub ComesBack : Content → Command → Type 0
+abbrev pub ComesBack : Content → DatabaseChange → Type 0
 ComesBack base command =
     IsSound base → verdict base command ≡ None → undone (moved base command) (entry base command) ≡ base
 
 -- an accepted command leaves a valid database with its journal valid; a full journal drops its oldest entry
-abbrev pub DatabaseStays : Content → List Entry → Command → Type 0
+abbrev pub DatabaseStays : Content → List Entry → DatabaseChange → Type 0
 DatabaseStays now journal command =
     IsValidDatabase now journal
     → verdict now command ≡ None
@@ -33,7 +33,7 @@ RevertStays now journal =
 
 -- a revert takes an accepted command back: the content and the journal are as before it, but for the oldest entry of a
 -- full journal
-abbrev pub RevertTakesBack : Content → List Entry → Command → Type 0
+abbrev pub RevertTakesBack : Content → List Entry → DatabaseChange → Type 0
 RevertTakesBack now journal command =
     let stored = changed (record { content = now; journal = journal }) command in
     IsValidDatabase now journal

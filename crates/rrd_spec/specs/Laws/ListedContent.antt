@@ -4,10 +4,10 @@ use Rattle.std.specs.Prelude.{ℕ, ◌+◌, ◌-◌, ◌/◌, min, List, [], ◌
 use Rattle.std.specs.List.{enumerate_from}
 use Rattle.rrd_fixed.specs.declared.cell.Cell.{Cell}
 use Rattle.rrd_spec.specs.Settings.{resolution}
-use Rattle.rrd_spec.specs.History.{Archive, Content, Event, Sampled, Tuned, Resized, Added, Removed, rows_after, Moment, moment_after, moment_at_end, moment_of, rows_at_end}
+use Rattle.rrd_spec.specs.History.{Rra, Content, Event, Sampled, Tuned, Resized, Added, Removed, rows_after, Moment, moment_after, moment_at_end, moment_of, rows_at_end}
 use Rattle.rrd_spec.specs.History.Steps.{parts_of}
 use Rattle.rrd_spec.specs.History.Rows.{row_parts_of, rows_of}
-use Rattle.rrd_spec.specs.Commands.{Command, events, settings_of}
+use Rattle.rrd_spec.specs.Commands.{DatabaseChange, events, settings_of}
 
 -- no archive comes or goes: of such events the list below is made, all archives being the base's
 abbrev pub KeepsArchives : List Event → Type 0
@@ -35,7 +35,7 @@ abbrev pub filled_up : {A : Type 0} → ℕ → A → List A → List A
 filled_up n unknown items = replicate (n - length items) unknown ++ items
 
 -- the base's rows and those that ended since, as far as they have always had a place (rrdcreate, "RRA"; rrdresize)
-unfoldable pub kept_rows : Content → ℕ → Archive → List Event → List (List Cell)
+unfoldable pub kept_rows : Content → ℕ → Rra → List Event → List (List Cell)
 kept_rows base index archive events =
     let size = resolution base.step archive.def in
     let since = λ (time : ℕ). (moment_at_end base events).last / size - time / size in
@@ -43,7 +43,7 @@ kept_rows base index archive events =
     (keep_last (rows_never_lost index since archive.def.rows (moment_of base) events)
     (archive.rows ++ rows_of base archive events))
 
-abbrev pub archive_of : Content → List Event → ℕ × Archive → Archive
+abbrev pub archive_of : Content → List Event → ℕ × Rra → Rra
 archive_of base events (index, archive) = record {
   def = record archive.def { rows = rows_at_end index archive.def.rows events };
   parts = row_parts_of base archive events;
@@ -61,5 +61,5 @@ content_listed base events = record base {
 }
 
 -- the same, its rows being the list of those that are kept
-abbrev pub moved_listed : Content → Command → Content
+abbrev pub moved_listed : Content → DatabaseChange → Content
 moved_listed base command = content_listed base (events (settings_of base) command)

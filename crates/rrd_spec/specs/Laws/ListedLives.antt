@@ -2,7 +2,7 @@
 use Rattle.std.specs.Prelude.{ℕ, ◌-◌, ◌/◌, List, ◌++◌, map, length, replicate}
 use Rattle.rrd_fixed.specs.declared.cell.Cell.{Cell}
 use Rattle.rrd_spec.specs.Settings.{resolution}
-use Rattle.rrd_spec.specs.History.{Archive, Content, Event, moment_at_end, rows_at_end}
+use Rattle.rrd_spec.specs.History.{Rra, Content, Event, moment_at_end, rows_at_end}
 use Rattle.rrd_spec.specs.History.Groups.{finished}
 use Rattle.rrd_spec.specs.History.Lives.{Life, lives}
 use Rattle.rrd_spec.specs.History.Rows.{row_parts, steps_before, steps_for, steps_to_rows}
@@ -24,7 +24,7 @@ kept_for base events life =
     (keep_last (rows_never_lost 0 since life.begun.def.rows life.birth life.since)
     (life.begun.rows ++ rows_for base events life))
 
-abbrev pub archive_for : Content → List Event → Life → Archive
+abbrev pub archive_for : Content → List Event → Life → Rra
 archive_for base events life = record {
   def = record life.begun.def { rows = rows_at_end 0 life.begun.def.rows life.since };
   parts = row_parts base life events;

@@ -1,7 +1,7 @@
 -- Law: what seconds leave of a content: steps and rows, one after another.
 use Rattle.std.specs.Prelude.{◌≡◌, ◌++◌, ℕ, ◌+◌, ◌-◌, ◌/◌, List, length, map, [], ◌∷◌, ◌<◌, replicate, ◌*◌}
 use Rattle.std.specs.List.{fold}
-use Rattle.rrd_spec.specs.History.{Content, Archive, IsBase, Reading, Sampled, rates}
+use Rattle.rrd_spec.specs.History.{Content, Rra, IsBase, Reading, Sampled, rates}
 use Rattle.rrd_fixed.specs.declared.cell.Cell.{Cell}
 use Rattle.rrd_spec.specs.History.Steps.{seconds_to_steps}
 use Rattle.rrd_spec.specs.History.Rows.{steps_to_rows}
@@ -11,7 +11,7 @@ use Rattle.rrd_fold.specs.declared.function.Function.TheVariants.{Average}
 use Rattle.rrd_fold.specs.Parts.{with_each}
 
 -- an archive after these steps, `before` having ended earlier
-unfoldable pub archive_passed : ℕ → ℕ → List (List Cell) → Archive → Archive
+unfoldable pub archive_passed : ℕ → ℕ → List (List Cell) → Rra → Rra
 archive_passed sources before steps archive = record archive {
   parts = unfinished (steps_to_rows archive.def sources) before archive.parts steps;
   rows =

@@ -4,7 +4,7 @@ use Rattle.std.specs.List.{AllByRecursion}
 use Rattle.rrd_fixed.specs.declared.cell.Cell.{Cell}
 use Rattle.rrd_spec.specs.Settings.{resolution}
 use Rattle.rrd_spec.specs.History.Cells.{row_at, time_of}
-use Rattle.rrd_spec.specs.History.{Archive, Content}
+use Rattle.rrd_spec.specs.History.{Rra, Content}
 use Rattle.rrd_spec.specs.Files.Slots.{by_slot, place_in, row_in, slot_of}
 
 -- ---- slots and places
@@ -39,7 +39,7 @@ StandsInPlace resolution last rows slot =
     → row_in resolution last rows slot ≡ slice_index_or rows (place_in resolution last (length rows) slot) []
 
 -- a content shows at the time of a place the row in it
-abbrev pub ShowsInPlace : Content → Archive → ℕ → Type 0
+abbrev pub ShowsInPlace : Content → Rra → ℕ → Type 0
 ShowsInPlace content archive place =
     let size = resolution content.step archive.def in
     0 < size → place < length archive.rows

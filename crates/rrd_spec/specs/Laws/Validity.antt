@@ -2,8 +2,8 @@
 use Rattle.std.specs.Prelude.{◌≡◌, ℕ, ◌+◌, List, length, None, ◌≤◌}
 use Rattle.std.specs.List.{AllByRecursion}
 use Rattle.rrd_spec.specs.Limits.{present}
-use Rattle.rrd_spec.specs.History.{Content, Archive}
-use Rattle.rrd_spec.specs.Commands.{Command, moved}
+use Rattle.rrd_spec.specs.History.{Content, Rra}
+use Rattle.rrd_spec.specs.Commands.{DatabaseChange, moved}
 use Rattle.rrd_fixed.specs.declared.cell.Cell.{Cell}
 use Rattle.rrd_spec.specs.Commands.Verdict.{verdict}
 use Rattle.rrd_spec.specs.History.Rows.{row}
@@ -19,7 +19,7 @@ abbrev pub CreatedIsValid : CreateSpec → Type 0
 CreatedIsValid spec = create_verdict spec ≡ None → IsValid (created spec)
 
 -- an accepted command moves a valid content to a valid one
-abbrev pub StaysValid : Content → Command → Type 0
+abbrev pub StaysValid : Content → DatabaseChange → Type 0
 StaysValid base command = IsValid base → verdict base command ≡ None → IsValid (moved base command)
 
 -- what seconds leave of a valid content is valid, and what steps leave of a valid archive
@@ -28,7 +28,7 @@ StaysValidFor base seconds =
     IsValid base → AllByRecursion (IsRow (length base.sources)) seconds →
     base.last + length seconds ≤ present.latest_time → IsValid (passed base seconds)
 
-abbrev pub ArchiveStaysValid : ℕ → ℕ → List (List Cell) → Archive → Type 0
+abbrev pub ArchiveStaysValid : ℕ → ℕ → List (List Cell) → Rra → Type 0
 ArchiveStaysValid sources before steps archive =
     IsValidArchive sources before archive → AllByRecursion (IsRow sources) steps
     → IsValidArchive sources (before + length steps) (archive_passed sources before steps archive)

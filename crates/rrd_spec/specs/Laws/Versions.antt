@@ -2,7 +2,7 @@
 -- file of the first version tells nothing.
 use Rattle.std.specs.Prelude.{◌≡◌, ℕ, List}
 use Rattle.rrd_spec.specs.Limits.{limits_of}
-use Rattle.rrd_spec.specs.History.{Archive, Content}
+use Rattle.rrd_spec.specs.History.{Rra, Content}
 use Rattle.rrd_spec.specs.Journal.Entries.{AddedEntry, Entry, RemovedEntry}
 use Rattle.rrd_spec.specs.Validity.{Fits, FitsWithin, IsValid, IsValidDatabase, IsValidDatabaseWithin, IsValidJournal, IsValidJournalWithin, IsValidWithin}
 use Rattle.rrd_spec.specs.Files.Filed.{Filed}
@@ -28,4 +28,4 @@ DatabaseIsWithin version now journal =
 abbrev pub FirstTellsNoArchive : Filed → Type 0
 FirstTellsNoArchive f =
     f.header.version ≡ One
-    → (MayEntry f AddedEntry → ⊥) × ((number : ℕ) (archive : Archive) → MayEntry f (RemovedEntry number archive) → ⊥)
+    → (MayEntry f AddedEntry → ⊥) × ((number : ℕ) (archive : Rra) → MayEntry f (RemovedEntry number archive) → ⊥)

@@ -5,7 +5,7 @@ use Rattle.rrd_fixed.specs.declared.cell.Cell.{Cell}
 use Rattle.rrd_fixed.specs.declared.raw.Raw.{Raw}
 use Rattle.rrd_spec.specs.declared.settings.DsDef.{DsDef}
 use Rattle.rrd_spec.specs.Journal.Entries.{IsSound}
-use Rattle.rrd_spec.specs.History.{Archive, Content, IsArchive, IsBase}
+use Rattle.rrd_spec.specs.History.{Rra, Content, IsArchive, IsBase}
 use Rattle.rrd_spec.specs.Lemmas.Lists.{All-weaker}
 use Rattle.rrd_spec.specs.Validity.{AreAccepted, IsRow, IsValid, IsValidArchive}
 
@@ -24,10 +24,10 @@ rows_wide sources rows is =
     All-weaker (IsRow sources) (λ (row : List Cell). length row ≡ sources) rows (λ row of. of.one_each) is
 
 -- archives have their rows
-pub is_archive : {sources steps : ℕ} (archive : Archive) → IsValidArchive sources steps archive → IsArchive archive
+pub is_archive : {sources steps : ℕ} (archive : Rra) → IsValidArchive sources steps archive → IsArchive archive
 is_archive archive is = record { some_steps = is.some_steps; some_rows = is.some_rows; rows_are = is.rows_are }
 
-pub are_archives : (sources steps : ℕ) (archives : List Archive)
+pub are_archives : (sources steps : ℕ) (archives : List Rra)
     → AllByRecursion (IsValidArchive sources steps) archives → AllByRecursion IsArchive archives
 are_archives sources steps [] is = tt
 are_archives sources steps (archive ∷ archives) is =

@@ -3,7 +3,7 @@ use rrd_fold::Function;
 
 /// What a fetch asks for (rrdfetch).
 #[derive(Clone, Copy, Debug)]
-pub struct Request {
+pub struct FetchRequest {
     /// The function of the archives that may be read.
     pub function: Function,
     /// The seconds in a row that are wished for.

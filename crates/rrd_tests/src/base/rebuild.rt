@@ -17,7 +17,7 @@ const ONE: Cell = Cell::Known(1_000_000);
 
 const BAD: Result<(), PieceFault> = Err(PieceFault::Bad);
 
-fn gauge(name: &[u8], heartbeat: u64) -> Result<DsDef, &'static str> {
+pub(super) fn gauge(name: &[u8], heartbeat: u64) -> Result<DsDef, &'static str> {
     Ok(DsDef {
         name: Name::fit(name).ok_or("no name")?,
         kind: Kind::Gauge,
@@ -28,7 +28,7 @@ fn gauge(name: &[u8], heartbeat: u64) -> Result<DsDef, &'static str> {
 }
 
 // An archive of last values.
-fn archive(steps: u64, rows: u64) -> RraDef {
+pub(super) fn archive(steps: u64, rows: u64) -> RraDef {
     RraDef {
         function: Function::Last,
         xff: 500_000,
@@ -38,7 +38,7 @@ fn archive(steps: u64, rows: u64) -> RraDef {
 }
 
 // A piece that must be taken.
-fn taken(taking: Result<(), PieceFault>) -> Result<(), Fail> {
+pub(super) fn taken(taking: Result<(), PieceFault>) -> Result<(), Fail> {
     taking.map_err(|_| Fail::from("not taken"))
 }
 
@@ -83,7 +83,7 @@ fn before(alloc: Global, last: u64) -> Result<Entry, Fail> {
 }
 
 // The database of all pieces.
-fn finished(rt: &impl Abort, pieces: Rebuild) -> Database {
+pub(super) fn finished(rt: &impl Abort, pieces: Rebuild) -> Database {
     let Due::NothingDue = pieces.due() else {
         panic!(rt; "a piece is due")
     };

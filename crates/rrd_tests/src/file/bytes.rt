@@ -331,10 +331,53 @@ const ONE_REMOVED: &[&[&[u8]]] = &[
     &[&[0x04]], // an archive was added
 ];
 
+// A gauge with a heartbeat of 100 seconds and no bounds, behind its name.
+const UNBOUNDED: &[&[u8]] = &[
+    &PADDING, // of its name
+    &[0x00], // type
+    &[0x00, 0, 0, 0, 0, 0, 0, 0x64], // heartbeat
+    &ABSENT, // min
+    &ABSENT, // max
+    &ABSENT, // last raw value
+];
+
+// Of two sources the first one has a new name.
+const ONE_RENAMED: &[&[&[u8]]] = &[
+    BEGIN,
+    &[
+        &[0x00, 0, 0, 0, 0, 0, 0, 0x00], // last time
+        &[0x00, 0x00, 0x00, 0x10], // depth
+        &[0x00, 0x02], // sources
+        &[0x00, 0x01], // archives
+        &[0x00, 0x00, 0x00, 0x01], // entries
+        &[0x01, 0x63], // the name c
+    ],
+    UNBOUNDED,
+    BETWEEN_STEPS,
+    &[&[0x01, 0x62]], // the name b
+    UNBOUNDED,
+    BETWEEN_STEPS,
+    ARCHIVE,
+    &[&NOTHING], // its preparation for the second source
+    FOUR_UNKNOWN, // slots 0 and 1
+    FOUR_UNKNOWN, // slots 2 and 3
+    &[
+        &[0x02], // entry: a tune
+        &[0x00, 0x01], // of one source
+        &[0x00, 0x00], // the first one
+        &[0x01, 0x61], // its name before, a
+    ],
+    UNBOUNDED,
+];
+
+pub(crate) fn renamed_file(alloc: Global) -> Result<Vec<u8>, AllocError> {
+    joined_parts(alloc, ONE_RENAMED)
+}
+
 // ---- databases
 
 // Steps of 10 seconds, the gauge `g` and an archive of four last values.
-const NEW: &str = "create --step 10 --start 0 DS:g:GAUGE:100:U:U RRA:LAST:0.5:1:4\n";
+pub(crate) const NEW: &str = "create --step 10 --start 0 DS:g:GAUGE:100:U:U RRA:LAST:0.5:1:4\n";
 
 pub(crate) const SAMPLED: &str = "create --step 10 --start 0 DS:g:GAUGE:100:U:U RRA:LAST:0.5:1:4\n\
 update 10:1\n";
@@ -383,6 +426,10 @@ pub(crate) const REMOVED: &str = "create --step 10 --start 0 DS:g:GAUGE:100:U:U 
 tune RRA:LAST:0.5:1:4\n\
 tune DELRRA:0\n";
 
+const RENAMED: &str = "create --step 10 --start 0 \
+DS:a:GAUGE:100:U:U DS:b:GAUGE:100:U:U RRA:LAST:0.5:1:4\n\
+tune --data-source-rename a:c\n";
+
 // Archives come and go among other changes, in the middle of steps and of rows.
 pub(crate) const ARCHIVES_CHANGED: &str =
     "create --step 10 --start 0 DS:a:GAUGE:100:U:U DS:b:COUNTER:100:U:U RRA:LAST:0.5:3:4\n\
@@ -407,6 +454,7 @@ const FILES: &[(&str, &[&[&[u8]]], usize)] = &[
     (THREE_CHANGES, &[THREE_ENTRIES], 494),
     (ADDED, ONE_ADDED, 322),
     (REMOVED, ONE_REMOVED, 325),
+    (RENAMED, ONE_RENAMED, 487),
 ];
 
 #[test]

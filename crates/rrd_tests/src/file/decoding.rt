@@ -2,7 +2,7 @@
 //! texts of faults.
 use crate::file::bytes::{
     ARCHIVES_CHANGED, DATABASES, FOUR_CHANGES, REMOVED, SAMPLED, THREE_CHANGES, file_of, new_file,
-    sampled_file,
+    renamed_file, sampled_file,
 };
 use crate::shared::databases::database_of;
 use crate::shared::joined;
@@ -317,6 +317,22 @@ fn the_first_version_is_written_in_the_second(rt: HostRuntime) -> Result<(), Fai
     Ok(())
 }
 
+// Once the tune is undone, the first source has the name of the second. Byte 411 is the name in the entry.
+#[test]
+fn names_differ_once_a_rename_is_undone(rt: HostRuntime) -> Result<(), Fail> {
+    let alloc = rt.alloc();
+    let renamed = renamed_file(alloc)?;
+    for (name, fault) in [
+        (b'a', None),
+        (b'b', Some(FileFault::BadEntry { number: 1 })),
+        (b'c', None),
+    ] {
+        let bytes = changed(alloc, &renamed, 411, name)?;
+        assert_eq!(&rt; fault_of(alloc, &bytes), fault, "{name}");
+    }
+    Ok(())
+}
+
 // The tune is the third entry. A source has the name of another, once it is undone.
 #[test]
 fn names_differ_once_a_tune_is_undone(rt: HostRuntime) -> Result<(), Fail> {
@@ -383,7 +399,7 @@ fn a_changed_file_of_a_removal_is_another_or_none(rt: HostRuntime) -> Result<(),
 #[test]
 fn each_other_byte_makes_another_file_or_none(rt: HostRuntime) -> Result<(), Fail> {
     let alloc = rt.alloc();
-    let mut files = [new_file(alloc)?, sampled_file(alloc)?];
+    let mut files = [new_file(alloc)?, sampled_file(alloc)?, renamed_file(alloc)?];
     for change in 1..=255u8 {
         for bytes in &mut files {
             for at in 0..bytes.len() {

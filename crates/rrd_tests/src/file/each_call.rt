@@ -1,5 +1,6 @@
 //! Files over readers and writers of which each call fails in turn, or is interrupted.
-use crate::file::bytes::{FOUR_CHANGES, SAMPLED, file_of, sampled_file};
+use crate::file::bytes::{ARCHIVES_CHANGED, FOUR_CHANGES, SAMPLED, file_of, sampled_file};
+use crate::file::decoding::in_first_version;
 use crate::shared::databases::database_of;
 use crate::shared::each_call::{FAULTS, INTERRUPTS, assert_front, failing_after, interrupted};
 use crate::shared::streams::{Giver, PLAIN, Taker};
@@ -40,15 +41,21 @@ fn each_read_of_a_file_fails(rt: HostRuntime) -> Result<(), Fail> {
     for kind in ERRORS {
         assert_each_read_counts(&rt, alloc, &bytes, *kind);
     }
+    let first = in_first_version(alloc, &bytes)?;
+    assert_each_read_counts(&rt, alloc, &first, ErrorKind::Other);
     Ok(())
 }
 
-// A file with an entry of each kind.
+// What these lines leave has, taken together, an entry of each kind in its journal.
+const JOURNALS: [&str; 2] = [FOUR_CHANGES, ARCHIVES_CHANGED];
+
 #[test]
 fn each_read_of_entries_fails(rt: HostRuntime) -> Result<(), Fail> {
     let alloc = rt.alloc();
-    let bytes = file_of(alloc, &database_of(alloc, FOUR_CHANGES)?)?;
-    assert_each_read_counts(&rt, alloc, &bytes, ErrorKind::Other);
+    for lines in JOURNALS {
+        let bytes = file_of(alloc, &database_of(alloc, lines)?)?;
+        assert_each_read_counts(&rt, alloc, &bytes, ErrorKind::Other);
+    }
     Ok(())
 }
 
@@ -114,9 +121,11 @@ fn each_write_of_a_file_fails(rt: HostRuntime) -> Result<(), Fail> {
 #[test]
 fn each_write_of_entries_fails(rt: HostRuntime) -> Result<(), Fail> {
     let alloc = rt.alloc();
-    let database = database_of(alloc, FOUR_CHANGES)?;
-    let bytes = file_of(alloc, &database)?;
-    assert_each_write_counts(&rt, alloc, &database, &bytes, None);
+    for lines in JOURNALS {
+        let database = database_of(alloc, lines)?;
+        let bytes = file_of(alloc, &database)?;
+        assert_each_write_counts(&rt, alloc, &database, &bytes, None);
+    }
     Ok(())
 }
 

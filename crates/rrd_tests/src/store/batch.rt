@@ -22,7 +22,7 @@ fn ended(
 #[test]
 fn a_batch_over_a_place(rt: HostRuntime) -> Result<(), Fail> {
     let alloc = rt.alloc();
-    let mut place = InMemory::with(alloc, b"")?;
+    let mut place = InMemory::missing(alloc);
     let lines = format!(in alloc; "{CREATE}\nupdate 10:1\nlast\nnothing\n")?;
     let mut out = Vec::new(alloc);
     let end = run_file_batch(alloc, 0, &mut place, &mut lines.as_bytes(), &mut out);
@@ -51,7 +51,7 @@ fn a_batch_over_a_place(rt: HostRuntime) -> Result<(), Fail> {
 #[test]
 fn a_batch_that_stores_nothing(rt: HostRuntime) -> Result<(), Fail> {
     let alloc = rt.alloc();
-    let mut place = InMemory::with(alloc, b"")?;
+    let mut place = InMemory::missing(alloc);
     let mut out = Vec::new(alloc);
     let end = run_file_batch(alloc, 0, &mut place, &mut b"last\n".as_slice(), &mut out);
     assert_eq!(&rt; end.ok(), ended(1, None, None));

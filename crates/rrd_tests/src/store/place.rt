@@ -1,16 +1,18 @@
 //! A place in memory that may fail.
-ghost use Rattle.std.specs.Prelude.{Some};
+ghost use Rattle.std.specs.Prelude.{Some, if◌then◌else◌};
+ghost use Rattle.rrd_store.specs.Places.{Bytes, Missing};
 
 use rrd_store::{Access, Place};
 use std::alloc::{AllocError, Global};
 use std::io::{self, Cursor, Error, ErrorKind, Write};
 
-// Bytes in memory, of which none are no file. It may refuse to be opened, or a change to begin or to end,
+// Bytes in memory, or nothing there. It may refuse to be opened, or a change to begin or to end,
 // and takes no more bytes than it has room for. Where those of a change are not all written, it keeps its
 // own or what was written.
 #[derive(Drop)]
 pub(crate) struct InMemory {
     alloc: Global,
+    is_missing: bool,
     pub(crate) bytes: Vec<u8>,
     pub(crate) opens: bool,
     pub(crate) begins: bool,
@@ -30,10 +32,20 @@ pub(crate) struct Waiting {
 }
 
 impl InMemory {
+    pub(crate) fn missing(alloc: Global) -> InMemory {
+        InMemory::of(alloc, true, Vec::new(alloc))
+    }
+
     pub(crate) fn with(alloc: Global, bytes: &[u8]) -> Result<InMemory, AllocError> {
-        Ok(InMemory {
+        let bytes = Vec::from_slice(alloc, bytes)?;
+        Ok(InMemory::of(alloc, false, bytes))
+    }
+
+    fn of(alloc: Global, is_missing: bool, bytes: Vec<u8>) -> InMemory {
+        InMemory {
             alloc,
-            bytes: Vec::from_slice(alloc, bytes)?,
+            is_missing,
+            bytes,
             opens: true,
             begins: true,
             ends: true,
@@ -41,7 +53,7 @@ impl InMemory {
             room: usize::MAX,
             access: None,
             expected: None,
-        })
+        }
     }
 }
 
@@ -61,7 +73,7 @@ impl Write for Waiting {
 }
 
 impl Place for InMemory {
-    ghost contents = { λ s. Some s.bytes.items };
+    ghost contents = { λ s. Some (if s.is_missing then Missing else Bytes s.bytes.items) };
 
     type Reader = Cursor<Vec<u8>>;
 
@@ -72,7 +84,7 @@ impl Place for InMemory {
         if !self.opens {
             return Err(Error::from(ErrorKind::PermissionDenied));
         }
-        if self.bytes.is_empty() {
+        if self.is_missing {
             return Ok(None);
         }
         Ok(Some(Cursor::new(self.bytes.clone()?)))
@@ -93,12 +105,14 @@ impl Place for InMemory {
         if !self.ends {
             return Err(Error::from(ErrorKind::Other));
         }
+        self.is_missing = false;
         self.bytes = writer.bytes;
         Ok(())
     }
 
     fn give_up(&mut self, writer: Waiting) {
         if !self.keeps {
+            self.is_missing = false;
             self.bytes = writer.bytes;
         }
     }

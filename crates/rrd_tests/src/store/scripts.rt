@@ -165,7 +165,7 @@ impl Session {
     fn new(alloc: Global) -> Result<Session, AllocError> {
         Ok(Session {
             alloc,
-            place: InMemory::with(alloc, b"")?,
+            place: InMemory::missing(alloc),
             told: Vec::new(alloc),
             refused: 0,
         })

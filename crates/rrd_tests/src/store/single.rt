@@ -84,7 +84,7 @@ const OVER_NOTHING: &[Step<'_>] = &[
 #[test]
 fn commands_over_one_place(rt: HostRuntime) -> Result<(), Fail> {
     let alloc = rt.alloc();
-    let mut place = InMemory::with(alloc, b"")?;
+    let mut place = InMemory::missing(alloc);
     for step in OVER_NOTHING {
         assert_step(&rt, alloc, &mut place, step)?;
     }
@@ -149,7 +149,7 @@ const OPENED: &[(&str, Option<Access>)] = &[
 #[test]
 fn what_a_place_is_opened_for(rt: HostRuntime) -> Result<(), Fail> {
     let alloc = rt.alloc();
-    let mut place = InMemory::with(alloc, b"")?;
+    let mut place = InMemory::missing(alloc);
     for (line, access) in OPENED {
         let mut out = Vec::new(alloc);
         let end = run_single(alloc, &words_of(alloc, line)?, 0, &mut place, &mut out);
@@ -169,7 +169,7 @@ fn assert_breaks_off(
 ) -> Result<(), Fail> {
     let words = words_of(alloc, line)?;
     let last = words_of(alloc, "last")?;
-    for room in 1..new.len() {
+    for room in 0..new.len() {
         let mut place = InMemory::with(alloc, old)?;
         place.room = room;
         let mut out = Vec::new(alloc);

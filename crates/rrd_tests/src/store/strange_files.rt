@@ -61,7 +61,7 @@ update 15:2\n",
 fn a_revert_gives_the_file_back(rt: HostRuntime) -> Result<(), Fail> {
     let alloc = rt.alloc();
     for (made, lines) in TAKEN_BACK {
-        let mut place = InMemory::with(alloc, b"")?;
+        let mut place = InMemory::missing(alloc);
         assert!(&rt; printed(&rt, alloc, &mut place, made)?.is_empty());
         let before = place.bytes.clone()?;
         assert!(&rt; printed(&rt, alloc, &mut place, lines)?.is_empty());

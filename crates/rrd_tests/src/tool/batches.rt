@@ -4,16 +4,7 @@ use crate::shared::batches::{Case, assert_prints};
 
 // Batches at time 10.
 const AT_TEN: &[Case<'_>] = &[
-    (
-        "a_source_without_a_value",
-        "create --step 10 --start 0 DS:a:GAUGE:100:U:U DS:b:GAUGE:100:U:U RRA:LAST:0.5:1:4\n\
-update -t b N:5\n\
-lastupdate\n",
-        "time: a b\n\
-10: U 5.000000\n",
-        0,
-    ),
-    // At time 10, its last line without an end.
+    // Its last line has no end.
     (
         "templates_and_now",
         "\t\r\n\
@@ -21,12 +12,13 @@ frobnicate\n\
 last\n\
 create --step 10 --start 0 DS:a:GAUGE:100:U:U DS:b:GAUGE:100:U:U RRA:LAST:0.5:1:4\n\
 update -t b N:5\n\
-last\n\
+lastupdate\n\
 fetch LAST -s 0 -e 9\n\
 update -t x 20:1",
         "ERROR: usage\n\
 ERROR: no database\n\
-10\n\
+time: a b\n\
+10: U 5.000000\n\
 time: a b\n\
 10: nan 5.000000\n\
 ERROR: no such data source\n",

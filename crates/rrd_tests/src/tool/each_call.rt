@@ -1,5 +1,5 @@
 //! Texts, commands and batches over readers and writers of which each call fails in turn, or is interrupted.
-use crate::file::bytes::{FOUR_CHANGES, SAMPLED, file_of};
+use crate::file::bytes::{FOUR_CHANGES, NEW, file_of, new_file};
 use crate::shared::batches::last_of;
 use crate::shared::databases::database_of;
 use crate::shared::each_call::{FAULTS, INTERRUPTS, assert_front, failing_after, interrupted};
@@ -10,8 +10,9 @@ use rrd_fold::Function;
 use rrd_tool::{
     Command, Fault, LineFault, StreamFault, execute, run_batch, write_error, write_fault,
 };
-use std::alloc::Global;
+use std::alloc::{AllocError, Global};
 use std::io::{self, ErrorKind, Write};
+use std::mem;
 use std::process::Abort;
 use std::test::Fail;
 
@@ -93,7 +94,7 @@ fn printing(number: usize) -> Command {
         },
         1 => Command::First { index: 1 },
         2 => Command::Last,
-        3 => Command::Lastupdate,
+        3 => Command::LastUpdate,
         _ => Command::Info,
     }
 }
@@ -124,19 +125,45 @@ fn assert_ends(
     Ok(end.database.ok_or("no database")?)
 }
 
-fn assert_each_write_of_command(rt: &impl Abort, alloc: Global, number: usize) -> Result<(), Fail> {
-    let mut database = database_of(alloc, FOUR_CHANGES)?;
-    let before = file_of(alloc, &database)?;
-    let text = printed(alloc, database_of(alloc, FOUR_CHANGES)?, number)?;
+// Each write of what it prints fails so: a front of that is there, and the database is given back.
+fn assert_command_breaks_off(
+    rt: &impl Abort,
+    alloc: Global,
+    mut database: Database,
+    number: usize,
+    text: &[u8],
+    fault: Option<ErrorKind>,
+) -> Result<Database, Fail> {
     for calls in 0..text.len().saturating_add(1) {
-        let mut out = Taker::new(alloc, failing_after(calls, None), PLAIN);
+        let mut out = Taker::new(alloc, failing_after(calls, fault), PLAIN);
         database = assert_ends(rt, alloc, database, number, &mut out, calls < text.len())?;
-        assert_front(rt, &out.taken, &text, calls);
+        assert_front(rt, &out.taken, text, calls);
     }
+    Ok(database)
+}
+
+// The same where each write is interrupted.
+fn assert_command_interrupted(
+    rt: &impl Abort,
+    alloc: Global,
+    mut database: Database,
+    number: usize,
+) -> Result<Database, Fail> {
     for (interrupts, is_written) in INTERRUPTS {
         let mut out = Taker::new(alloc, interrupted(*interrupts), PLAIN);
         database = assert_ends(rt, alloc, database, number, &mut out, !is_written)?;
     }
+    Ok(database)
+}
+
+fn assert_each_write_of_command(rt: &impl Abort, alloc: Global, number: usize) -> Result<(), Fail> {
+    let mut database = database_of(alloc, FOUR_CHANGES)?;
+    let before = file_of(alloc, &database)?;
+    let text = printed(alloc, database_of(alloc, FOUR_CHANGES)?, number)?;
+    for fault in [Some(ErrorKind::Other), None] {
+        database = assert_command_breaks_off(rt, alloc, database, number, &text, fault)?;
+    }
+    let database = assert_command_interrupted(rt, alloc, database, number)?;
     assert_eq!(rt;
         file_of(alloc, &database)?.as_slice(),
         before.as_slice(),
@@ -311,18 +338,44 @@ fn each_flush_of_a_batch_fails(rt: HostRuntime) -> Result<(), Fail> {
 
 // ---- the most rows
 
-// Counts the bytes and lines that it takes, and keeps none.
+// Counts the bytes that it takes, and the lines, of which it keeps the second and the last.
 #[derive(Drop)]
-struct Counted {
+struct Lines {
     bytes: u64,
-    lines: u64,
+    count: u64,
+    second: Vec<u8>,
+    last: Vec<u8>,
+    unfinished: Vec<u8>,
 }
 
-impl Write for Counted {
+impl Lines {
+    fn new(alloc: Global) -> Lines {
+        Lines {
+            bytes: 0,
+            count: 0,
+            second: Vec::new(alloc),
+            last: Vec::new(alloc),
+            unfinished: Vec::new(alloc),
+        }
+    }
+
+    fn end_line(&mut self) -> Result<(), AllocError> {
+        self.count = self.count.saturating_add(1);
+        if self.count == 2 {
+            self.second.extend_from_slice(&self.unfinished)?;
+        }
+        mem::swap(&mut self.last, &mut self.unfinished);
+        self.unfinished.clear();
+        Ok(())
+    }
+}
+
+impl Write for Lines {
     fn write(&mut self, buf: &[u8]) -> io::Result<usize> {
         for byte in buf {
+            self.unfinished.push(*byte)?;
             if *byte == b'\n' {
-                self.lines = self.lines.saturating_add(1);
+                self.end_line()?;
             }
         }
         self.bytes = self.bytes.saturating_add(buf.len() as u64);
@@ -346,15 +399,13 @@ const MOST_ROWS: Command = Command::Fetch {
 #[test]
 fn a_million_rows(rt: HostRuntime) -> Result<(), Fail> {
     let alloc = rt.alloc();
-    let mut out = Counted { bytes: 0, lines: 0 };
-    let end = execute(
-        alloc,
-        Some(database_of(alloc, SAMPLED)?),
-        MOST_ROWS,
-        &mut out,
-    );
+    let mut out = Lines::new(alloc);
+    let database = database_of(alloc, NEW)?;
+    let end = execute(alloc, Some(database), MOST_ROWS, &mut out);
     assert!(&rt; end.fault.is_none());
-    assert_eq!(&rt; (out.bytes, out.lines), (12_888_909, 1_000_001));
+    assert_eq!(&rt; (out.bytes, out.count), (12_888_904, 1_000_001));
+    assert_eq!(&rt; out.second.as_slice(), b"10: nan\n".as_slice());
+    assert_eq!(&rt; out.last.as_slice(), b"10000000: nan\n".as_slice());
     Ok(())
 }
 
@@ -362,14 +413,11 @@ fn a_million_rows(rt: HostRuntime) -> Result<(), Fail> {
 fn a_million_rows_break_off(rt: HostRuntime) -> Result<(), Fail> {
     let alloc = rt.alloc();
     let mut out = Taker::new(alloc, failing_after(8, Some(ErrorKind::Other)), PLAIN);
-    let end = execute(
-        alloc,
-        Some(database_of(alloc, SAMPLED)?),
-        MOST_ROWS,
-        &mut out,
-    );
-    let got = (end.fault, end.changed, last_of(&end.database));
-    assert_eq!(&rt; got, (Some(Fault::Output), false, Some(10)));
+    let database = database_of(alloc, NEW)?;
+    let end = execute(alloc, Some(database), MOST_ROWS, &mut out);
+    assert_eq!(&rt; (end.fault, end.changed), (Some(Fault::Output), false));
     assert_eq!(&rt; out.taken.as_slice(), b"time: g\n".as_slice());
+    let after = file_of(alloc, &end.database.ok_or("no database")?)?;
+    assert_eq!(&rt; after.as_slice(), new_file(alloc)?.as_slice());
     Ok(())
 }

@@ -1,6 +1,6 @@
 //! Calls that take memory, each made again where it found none: what it left is as it was before, and the second one
 //! does all. `.ci/refuse-in-tests` has each growth refused in turn; otherwise the first one does all.
-use crate::file::bytes::{FOUR_CHANGES, SAMPLED, file_of};
+use crate::file::bytes::{ARCHIVES_CHANGED, FOUR_CHANGES, SAMPLED, file_of};
 use crate::shared::databases::{command_of, database_of};
 use crate::shared::words_of;
 use rrd_base::{Database, Refusal};
@@ -46,8 +46,9 @@ fn assert_is_read(rt: &impl Abort, alloc: Global, lines: &str) -> Result<(), Fai
         Err(FileFault::OutOfMemory) => decode(alloc, bytes.as_slice()),
         end => end,
     };
-    let Ok(database) = end else {
-        return Err(Fail::from("no database"));
+    let database = match end {
+        Ok(database) => database,
+        Err(fault) => panic!(rt; "{fault}"),
     };
     assert_eq!(rt; file_of(alloc, &database)?.as_slice(), bytes.as_slice());
     Ok(())
@@ -60,19 +61,26 @@ fn a_file_is_read(rt: HostRuntime) -> Result<(), Fail> {
 
 #[test]
 fn a_file_with_entries_is_read(rt: HostRuntime) -> Result<(), Fail> {
-    assert_is_read(&rt, rt.alloc(), FOUR_CHANGES)
+    assert_is_read(&rt, rt.alloc(), FOUR_CHANGES)?;
+    assert_is_read(&rt, rt.alloc(), ARCHIVES_CHANGED)
 }
 
 // ---- commands
 
+const CREATE: &str = "create --step 10 --start 0 DS:g:GAUGE:100:U:U RRA:LAST:0.5:1:4";
+
 const LINES: &[&str] = &[
-    "create --step 10 --start 0 DS:g:GAUGE:100:U:U RRA:LAST:0.5:1:4",
+    CREATE,
     "update -t s01 150:3 160:5",
     "tune -i s01:-6 -r s01:other",
+    "tune RRA:LAST:0.5:1:4",
     "resize 0 GROW 2",
     "fetch AVERAGE -s 0 -e 150",
     "first --rraindex 1",
     "last",
+    "lastupdate",
+    "info",
+    "revert",
 ];
 
 // Words are read, or read again where there was no memory.
@@ -85,6 +93,21 @@ fn words_are_read(rt: HostRuntime) -> Result<(), Fail> {
             assert_eq!(&rt; fault, LineFault::OutOfMemory, "{line}");
             assert!(&rt; read_command(alloc, &words, 0).is_ok(), "{line}");
         }
+    }
+    Ok(())
+}
+
+// Words that are no command are refused so, or once they are read again.
+#[test]
+fn other_words_are_read(rt: HostRuntime) -> Result<(), Fail> {
+    let alloc = rt.alloc();
+    for line in ["-x", "last -x", "nothing"] {
+        let words = words_of(alloc, line)?;
+        let mut fault = read_command(alloc, &words, 0).err();
+        if fault == Some(LineFault::OutOfMemory) {
+            fault = read_command(alloc, &words, 0).err();
+        }
+        assert_eq!(&rt; fault, Some(LineFault::Usage), "{line}");
     }
     Ok(())
 }
@@ -118,11 +141,20 @@ fn assert_changes(rt: &impl Abort, alloc: Global, line: &str) -> Result<(), Fail
 
 #[test]
 fn a_create_replaces(rt: HostRuntime) -> Result<(), Fail> {
-    assert_changes(
-        &rt,
-        rt.alloc(),
-        "create --step 10 --start 0 DS:g:GAUGE:100:U:U RRA:LAST:0.5:1:4",
-    )
+    assert_changes(&rt, rt.alloc(), CREATE)
+}
+
+#[test]
+fn a_create_makes(rt: HostRuntime) -> Result<(), Fail> {
+    let alloc = rt.alloc();
+    let mut out = Vec::new(alloc);
+    let mut end = execute(alloc, None, command_of(alloc, CREATE)?, &mut out);
+    if end.fault == Some(Fault::Refused(Refusal::OutOfMemory)) {
+        assert!(&rt; end.database.is_none() && !end.changed);
+        end = execute(alloc, None, command_of(alloc, CREATE)?, &mut out);
+    }
+    assert_eq!(&rt; (end.fault, end.changed), (None, true));
+    Ok(())
 }
 
 #[test]
@@ -138,4 +170,9 @@ fn an_archive_grows(rt: HostRuntime) -> Result<(), Fail> {
 #[test]
 fn an_archive_shrinks(rt: HostRuntime) -> Result<(), Fail> {
     assert_changes(&rt, rt.alloc(), "resize 1 SHRINK 2")
+}
+
+#[test]
+fn an_archive_is_added(rt: HostRuntime) -> Result<(), Fail> {
+    assert_changes(&rt, rt.alloc(), "tune RRA:MAX:0.5:1:4")
 }

@@ -44,7 +44,7 @@ fn tell<W: fmt::Write>(f: &mut Formatter<W>, command: &Command) -> fmt::Result {
         } => write!(f, "fetch {function:?} {asked} {start} {stop}"),
         Command::First { index } => write!(f, "first {index}"),
         Command::Last => write!(f, "last"),
-        Command::Lastupdate => write!(f, "lastupdate"),
+        Command::LastUpdate => write!(f, "lastupdate"),
         Command::Info => write!(f, "info"),
         Command::Revert => write!(f, "revert"),
     }

@@ -1,5 +1,5 @@
 -- Glue: the shape of a command that is built, and whether it reads words as the whole one does.
-use Rattle.std.specs.Prelude.{◌≡◌, ◌==◌, Bool, List, [], ◌∷◌, Option, MatchOption, Result, Ok, Err, true, false}
+use Rattle.std.specs.Prelude.{◌≡◌, List, [], Option, MatchOption, Result, Ok, Err, true, false}
 use Rattle.clap.specs.Words.{App, Text, app_of, fault_of, is_simple, is_simple_and_free, subcommand_of, subcommand_rows_of, with_subcommand}
 use Rattle.clap.specs.declared.builder.command.Command.{Command}
 use Rattle.clap.specs.declared.builder.command.Command.TheViews.{out-Command}
@@ -30,10 +30,6 @@ IsRefused words = ¬ (fault_of rrdi_app words ≡ [])
 -- a command that serves, or none for words that are refused
 abbrev pub ServesOrRefuses : Option Command → List Text → Type 0
 ServesOrRefuses found words = MatchOption found (IsRefused words) (λ c. Serves (app_of c) words)
-
-abbrev pub begins_with_minus : Text → Bool
-begins_with_minus [] = false
-begins_with_minus (b ∷ bs) = b == 45
 
 -- the matches are those of words that clap takes; a refusal comes for others, and want of memory for any
 abbrev pub IsParsedBy : List Text → Result ArgMatches LineFault → Type 0

@@ -6,6 +6,7 @@ use Rattle.rrd_spec.specs.Journal.Survivors.{State, Stored}
 use Rattle.rrd_tool.specs.Batch.{Turn, Ran, Stopped, Told}
 use Rattle.rrd_tool.specs.Effects.{StandsFor}
 use Rattle.rrd_tool.specs.Faults.{fault_line}
+use Rattle.rrd_tool.specs.Lines.{is_empty}
 use Rattle.rrd_tool.specs.Batch.Run.{command_turn, refusal_turn, turn, unless_short}
 use Rattle.rrd_tool.specs.declared.commands.Command.{Command}
 use Rattle.rrd_tool.specs.declared.faults.LineFault.{LineFault}
@@ -24,7 +25,7 @@ abbrev pub passed : {S : Type 0} → S → List ℕ → Turn S
 passed state text = record { state = state; text = text; is_fault = Bool.false }
 
 -- what performing a line answers, whose turn depends on whether memory was wanting: its text is written, or a fault is
--- answered and nothing written; where writing or handing on failed a front of the text is there
+-- answered and nothing written; where writing or handing on failed a front of the text is there, and that is some text
 abbrev pub Performs : {S F : Type 0} → (F → List ℕ) → (Bool → Turn S) → S → Option (List ℕ) → Option (List ℕ)
     → Result (Option F) WriteFault → Type 0
 Performs fault_line turn state c0 c1 (Ok None) =
@@ -34,7 +35,7 @@ Performs fault_line turn state c0 c1 (Ok (Some fault)) =
     × (turn is_short ≡ record { state = state; text = fault_line fault; is_fault = Bool.true })
     × Keeps c0 c1
 Performs fault_line turn state c0 c1 (Err e) =
-    (text : List ℕ) × (turn Bool.false ≡ passed state text) × AppendsSome c0 c1 text
+    (text : List ℕ) × (turn Bool.false ≡ passed state text) × AppendsSome c0 c1 text × (is_empty text ≡ Bool.false)
 
 -- the turn of a line, by whether memory was wanting
 abbrev pub line_turns : ℕ → Option State → List ℕ → Bool → Turn (Option State)

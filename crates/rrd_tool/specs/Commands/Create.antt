@@ -8,13 +8,15 @@ use Rattle.rrd_spec.specs.declared.settings.RraDef.{RraDef}
 use Rattle.rrd_tool.specs.Arguments.{letter_rule, many_rule, option_rule, words_of}
 use Rattle.rrd_tool.specs.Fields.{◌>>?◌, bound_of, cut_of, field, function_of, kind_of, name_of}
 use Rattle.rrd_tool.specs.Fields.Parts.{Unread, ◌>>=◌, each_of, given}
+use Rattle.rrd_tool.specs.Commands.Names.{name_text}
 use Rattle.rrd_tool.specs.declared.commands.Command.{Command}
 use Rattle.rrd_tool.specs.declared.commands.Command.TheVariants as command
+use Rattle.rrd_tool.specs.declared.commands.name.CommandName.TheVariants as verb
 use Rattle.rrd_tool.specs.declared.commands.create.Definition.{Definition}
 use Rattle.rrd_tool.specs.declared.faults.Part.TheVariants as part
 
 unfoldable pub create_app : App
-create_app = with_rule (with_rule (with_rule (with_rule (new_app (codes "create"))
+create_app = with_rule (with_rule (with_rule (with_rule (new_app (name_text verb.Create))
     (letter_rule (codes "step") (codes "step") 115))
     (letter_rule (codes "start") (codes "start") 98))
     (option_rule (codes "journal") (codes "journal")))

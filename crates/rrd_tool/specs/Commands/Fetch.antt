@@ -15,12 +15,14 @@ use Rattle.rrd_spec.specs.History.Cells.{cell_at}
 use Rattle.rrd_tool.specs.Arguments.{letter_rule, required_rule}
 use Rattle.rrd_tool.specs.Fields.{function_of}
 use Rattle.rrd_tool.specs.Fields.Parts.{Unread, ◌>>=◌, given, optional, required}
+use Rattle.rrd_tool.specs.Commands.Names.{name_text}
 use Rattle.rrd_tool.specs.declared.commands.Command.{Command}
 use Rattle.rrd_tool.specs.declared.commands.Command.TheVariants as command
+use Rattle.rrd_tool.specs.declared.commands.name.CommandName.TheVariants as verb
 use Rattle.rrd_tool.specs.declared.faults.Part.TheVariants as part
 
 unfoldable pub fetch_app : App
-fetch_app = with_rule (with_rule (with_rule (with_rule (new_app (codes "fetch"))
+fetch_app = with_rule (with_rule (with_rule (with_rule (new_app (name_text verb.Fetch))
     (required_rule (codes "function")))
     (letter_rule (codes "resolution") (codes "resolution") 114))
     (letter_rule (codes "start") (codes "start") 115))

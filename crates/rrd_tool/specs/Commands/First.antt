@@ -9,12 +9,14 @@ use Rattle.rrd_spec.specs.History.{Content}
 use Rattle.rrd_tool.specs.Arguments.{option_rule}
 use Rattle.rrd_tool.specs.Commands.Last.{time_line}
 use Rattle.rrd_tool.specs.Fields.Parts.{Unread, ◌>>=◌, given}
+use Rattle.rrd_tool.specs.Commands.Names.{name_text}
 use Rattle.rrd_tool.specs.declared.commands.Command.{Command}
 use Rattle.rrd_tool.specs.declared.commands.Command.TheVariants as command
+use Rattle.rrd_tool.specs.declared.commands.name.CommandName.TheVariants as verb
 use Rattle.rrd_tool.specs.declared.faults.Part.TheVariants as part
 
 unfoldable pub first_app : App
-first_app = with_rule (new_app (codes "first")) (option_rule (codes "rraindex") (codes "rraindex"))
+first_app = with_rule (new_app (name_text verb.First)) (option_rule (codes "rraindex") (codes "rraindex"))
 
 -- the archive is the one of number 0 by default (rrdfirst)
 abbrev pub first_from : List Row → Result Command Unread

@@ -1,35 +1,18 @@
--- Definition: info: its shape, and what it prints (rrdinfo, with values in plain digits; `journal`, `undoable` and
+-- Definition: info: what it prints (rrdinfo, with values in plain digits; `journal`, `undoable` and
 -- `last_raw` are own).
 use Rattle.std.specs.Prelude.{◌++◌, [], ℕ, ℤ, List, Option, Some, None, Result, Ok, codes, decimal, length, pos, slice_get, slice_index_or}
 use Rattle.std.specs.Option.{option_map_or}
-use Rattle.clap.specs.Words.{App, new_app}
-use Rattle.rrd_fixed.specs.declared.kind.Kind.{Kind}
 use Rattle.rrd_fixed.specs.declared.raw.Raw.{Raw}
 use Rattle.rrd_fixed.specs.Text.{raw_text, signed_text, time_text}
-use Rattle.rrd_fold.specs.declared.function.Function.{Function}
 use Rattle.rrd_spec.specs.declared.refusal.Refusal.{Refusal}
 use Rattle.rrd_spec.specs.declared.settings.DsDef.{DsDef}
 use Rattle.rrd_spec.specs.declared.settings.RraDef.{RraDef}
 use Rattle.rrd_spec.specs.History.{Content, definitions}
 use Rattle.rrd_spec.specs.Journal.Survivors.{Stored}
 use Rattle.rrd_tool.specs.Commands.Fetch.{texts_below}
-
-unfoldable pub info_app : App
-info_app = new_app (codes "info")
+use Rattle.rrd_tool.specs.Fields.{function_text, kind_text}
 
 -- ---- values
-
-abbrev pub kind_text : Kind → List ℕ
-kind_text Kind.Gauge = codes "GAUGE"
-kind_text Kind.Counter = codes "COUNTER"
-kind_text Kind.Derive = codes "DERIVE"
-kind_text Kind.Absolute = codes "ABSOLUTE"
-
-abbrev pub function_text : Function → List ℕ
-function_text Function.Average = codes "AVERAGE"
-function_text Function.Min = codes "MIN"
-function_text Function.Max = codes "MAX"
-function_text Function.Last = codes "LAST"
 
 -- a bound in millionths, or `U` for none
 abbrev pub bound_text : Option ℤ → List ℕ

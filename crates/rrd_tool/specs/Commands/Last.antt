@@ -1,12 +1,8 @@
--- Definition: last: its shape, and what it prints (rrdlast).
+-- Definition: last: what it prints (rrdlast).
 use Rattle.std.specs.Prelude.{◌++◌, ℕ, ℤ, List, Result, Ok, codes, pos}
-use Rattle.clap.specs.Words.{App, new_app}
 use Rattle.rrd_fixed.specs.Text.{time_text}
 use Rattle.rrd_spec.specs.declared.refusal.Refusal.{Refusal}
 use Rattle.rrd_spec.specs.History.{Content}
-
-unfoldable pub last_app : App
-last_app = new_app (codes "last")
 
 abbrev pub time_line : ℤ → List ℕ
 time_line time = time_text time ++ codes "\n"

@@ -1,5 +1,5 @@
 -- Definition: what a list of words means as a command (the order in which the parts are read is own).
-use Rattle.std.specs.Prelude.{◌≡◌, ℕ, List, Option, Some, Result, Ok, Err, option_map}
+use Rattle.std.specs.Prelude.{◌≡◌, ℕ, List, Option, Some, Result, Ok, Err}
 use Rattle.clap.specs.Words.{Text}
 use Rattle.rrd_tool.specs.Commands.{line_of}
 use Rattle.rrd_tool.specs.Arguments.Taken.{IsTaken, entered_of}
@@ -10,7 +10,7 @@ use Rattle.rrd_tool.specs.declared.faults.LineFault.TheVariants.{Usage, BadWord,
 
 -- the command, or the first part that can't be read; none where clap refuses the words
 abbrev pub reading : List Text → ℕ → Option (Result Command Unread)
-reading words now = option_map (λ entered. line_of entered.0 entered.1 now) (entered_of words)
+reading words now = line_of (entered_of words) now
 
 -- what `read_command` answers: where clap takes the words their reading, else `Usage`; want of memory at any
 abbrev pub IsReading : List Text → ℕ → Result Command LineFault → Type 0

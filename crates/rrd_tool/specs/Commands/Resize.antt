@@ -6,12 +6,14 @@ use Rattle.rrd_fixed.specs.Reading.{whole_of}
 use Rattle.rrd_spec.specs.declared.requests.resize.Change.{Change}
 use Rattle.rrd_tool.specs.Arguments.{required_rule}
 use Rattle.rrd_tool.specs.Fields.Parts.{Unread, ◌>>=◌, required}
+use Rattle.rrd_tool.specs.Commands.Names.{name_text}
 use Rattle.rrd_tool.specs.declared.commands.Command.{Command}
 use Rattle.rrd_tool.specs.declared.commands.Command.TheVariants as command
+use Rattle.rrd_tool.specs.declared.commands.name.CommandName.TheVariants as verb
 use Rattle.rrd_tool.specs.declared.faults.Part.TheVariants as part
 
 unfoldable pub resize_app : App
-resize_app = with_rule (with_rule (with_rule (new_app (codes "resize"))
+resize_app = with_rule (with_rule (with_rule (new_app (name_text verb.Resize))
     (required_rule (codes "archive")))
     (required_rule (codes "change")))
     (required_rule (codes "rows"))

@@ -9,12 +9,14 @@ use Rattle.rrd_tool.specs.Fields.{◌>>?◌, bound_of, cut_of, field, kind_of, n
 use Rattle.rrd_spec.specs.declared.requests.tune.ArchiveTune.{ArchiveTune}
 use Rattle.rrd_tool.specs.Commands.Create.{archive_of}
 use Rattle.rrd_tool.specs.Fields.Parts.{Unread, ◌>>=◌, optional}
+use Rattle.rrd_tool.specs.Commands.Names.{name_text}
 use Rattle.rrd_tool.specs.declared.commands.Command.{Command}
 use Rattle.rrd_tool.specs.declared.commands.Command.TheVariants as command
+use Rattle.rrd_tool.specs.declared.commands.name.CommandName.TheVariants as verb
 use Rattle.rrd_tool.specs.declared.faults.Part.TheVariants as part
 
 unfoldable pub tune_app : App
-tune_app = with_rule (with_rule (with_rule (with_rule (with_rule (with_rule (new_app (codes "tune"))
+tune_app = with_rule (with_rule (with_rule (with_rule (with_rule (with_rule (new_app (name_text verb.Tune))
     (option_rule (codes "heartbeat") (codes "heartbeat")))
     (letter_rule (codes "minimum") (codes "minimum") 105))
     (letter_rule (codes "maximum") (codes "maximum") 97))

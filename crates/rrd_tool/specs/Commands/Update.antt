@@ -9,12 +9,14 @@ use Rattle.rrd_spec.specs.declared.requests.update.Sample.{Sample}
 use Rattle.rrd_tool.specs.Arguments.{letter_rule, many_rule, words_of}
 use Rattle.rrd_tool.specs.Fields.{◌>>?◌, each_in, field, is_unknown, name_of, pieces}
 use Rattle.rrd_tool.specs.Fields.Parts.{Unread, ◌>>=◌, each_of, optional}
+use Rattle.rrd_tool.specs.Commands.Names.{name_text}
 use Rattle.rrd_tool.specs.declared.commands.Command.{Command}
 use Rattle.rrd_tool.specs.declared.commands.Command.TheVariants as command
+use Rattle.rrd_tool.specs.declared.commands.name.CommandName.TheVariants as verb
 use Rattle.rrd_tool.specs.declared.faults.Part.TheVariants as part
 
 unfoldable pub update_app : App
-update_app = with_rule (with_rule (new_app (codes "update"))
+update_app = with_rule (with_rule (new_app (name_text verb.Update))
     (letter_rule (codes "template") (codes "template") 116))
     (many_rule (codes "sample"))
 

@@ -6,6 +6,7 @@ ghost use Rattle.rrd_tool.specs.Commands.Create.{archive_of, create_app, create_
 ghost use Rattle.rrd_tool.specs.Execution.{Executes};
 ghost use Rattle.rrd_tool.specs.Fields.Answers.{Meets};
 
+use super::name::CommandName;
 use crate::arguments::{letter_arg, many_arg, option_arg, text_of, texts_of};
 use crate::execution::Outcome;
 use crate::fields::{Field, cut, or_fault, read_or};
@@ -20,7 +21,8 @@ use std::alloc::{AllocError, Global};
 pub(crate) fn shape<'a>(alloc: Global) -> Result<clap::Command<'a>, AllocError>
     ensures { IfOk result (HasApp create_app) }
 {
-    clap::Command::new(alloc, "create")
+    CommandName::Create
+        .bare(alloc)
         .arg(letter_arg(alloc, "step", "step", 's'))?
         .arg(letter_arg(alloc, "start", "start", 'b'))?
         .arg(option_arg(alloc, "journal", "journal"))?
@@ -119,9 +121,7 @@ fn definitions(alloc: Global, words: &[&str]) -> Result<(List<DsDef>, List<RraDe
             Definition::Source(source) => sources.push(source),
             Definition::Archive(archive) => archives.push(archive),
         };
-        if added.is_err() {
-            return Err(LineFault::OutOfMemory);
-        }
+        added?;
     }
     Ok((sources, archives))
 }

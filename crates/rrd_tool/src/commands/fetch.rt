@@ -7,13 +7,13 @@ ghost use Rattle.rrd_fixed.specs.Text.{cell_text};
 ghost use Rattle.rrd_fixed.specs.Written.{Writes};
 ghost use Rattle.rrd_fold.specs.declared.function.Function.{Function};
 ghost use Rattle.rrd_spec.specs.Choice.{choice};
-ghost use Rattle.rrd_spec.specs.Validity.{IsValid};
 ghost use Rattle.rrd_tool.specs.Arguments.Shapes.{HasApp};
 ghost use Rattle.rrd_tool.specs.Commands.Fetched.{IsReadable};
 ghost use Rattle.rrd_tool.specs.Commands.Fetch.{fetch_app, fetch_of, fetch_text, header_text, row_text, rows_text};
 ghost use Rattle.rrd_tool.specs.Execution.{Executes};
 ghost use Rattle.rrd_tool.specs.Fields.Answers.{Meets};
 
+use super::name::CommandName;
 use crate::arguments::{letter_arg, required_arg, text_of};
 use crate::execution::Outcome;
 use crate::fields::{read_optional, read_or, read_required};
@@ -31,7 +31,8 @@ use std::io::Write;
 pub(crate) fn shape<'a>(alloc: Global) -> Result<clap::Command<'a>, AllocError>
     ensures { IfOk result (HasApp fetch_app) }
 {
-    clap::Command::new(alloc, "fetch")
+    CommandName::Fetch
+        .bare(alloc)
         .arg(required_arg(alloc, "function"))?
         .arg(letter_arg(alloc, "resolution", "resolution", 'r'))?
         .arg(letter_arg(alloc, "start", "start", 's'))?
@@ -102,10 +103,9 @@ fn push_name(line: &mut ArrayString<2048>, name: &Name)
     line.push_str(name.as_str());
 }
 
-/// The line of the sources' names. That the content is valid can be told here.
+/// The line of the sources' names.
 pub(crate) fn header_string(database: &Database) -> ArrayString<2048>
-    ensures text { result.bytes ≡ header_text database.now.content.sources }
-    ensures valid { IsValid database.now.content }
+    ensures { result.bytes ≡ header_text database.now.content.sources }
 {
     let mut line = ArrayString::new();
     line.push_str("time:");
@@ -138,6 +138,8 @@ fn write_fetch<W: Write>(out: &mut W, database: &Database, chosen: Chosen) -> Re
         × (choice database.now.content function asked start end ≡ Ok chosen) }
     ensures { Writes (W.contents out.old) (W.contents out.new) (fetch_text database.now.content chosen) result }
 {
+    // So the rows can be read that are chosen.
+    database.is_valid();
     write_bytes(out, header_string(database).as_str().as_bytes())?;
     write_rows(out, database, chosen)
 }

@@ -7,6 +7,7 @@ ghost use Rattle.rrd_tool.specs.Execution.{Executes};
 ghost use Rattle.rrd_tool.specs.Fields.Answers.{Meets};
 
 use super::last::write_line;
+use super::name::CommandName;
 use crate::arguments::{option_arg, text_of};
 use crate::execution::Outcome;
 use crate::fields::read_or;
@@ -21,7 +22,9 @@ use std::io::Write;
 pub(crate) fn shape<'a>(alloc: Global) -> Result<clap::Command<'a>, AllocError>
     ensures { IfOk result (HasApp first_app) }
 {
-    clap::Command::new(alloc, "first").arg(option_arg(alloc, "rraindex", "rraindex"))
+    CommandName::First
+        .bare(alloc)
+        .arg(option_arg(alloc, "rraindex", "rraindex"))
 }
 
 /// The command that the values are.

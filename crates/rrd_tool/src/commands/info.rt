@@ -2,53 +2,20 @@
 //! and archive are built without memory, and then written at once.
 ghost use Rattle.std.specs.Prelude.{◌≡◌, ◌≤◌, ◌+◌, ◌++◌, Some, codes, decimal, length};
 ghost use Rattle.rrd_fixed.specs.Written.{Writes};
-ghost use Rattle.rrd_tool.specs.Arguments.Shapes.{HasApp};
 ghost use Rattle.rrd_tool.specs.Commands.Fetch.{texts_below};
-ghost use Rattle.rrd_tool.specs.Commands.Info.{archive_at, archive_text, bound_text, function_text, head_text, info_app, kind_text, numbered, setting, source_at, source_text};
+ghost use Rattle.rrd_tool.specs.Commands.Info.{archive_at, archive_text, bound_text, head_text, numbered, setting, source_at, source_text};
 ghost use Rattle.rrd_tool.specs.Execution.{Executes};
 
 use crate::Command;
 use crate::execution::Outcome;
+use crate::fields::Worded;
 use arrayvec::ArrayString;
 use itoa::Buffer;
 use rrd_base::{Database, DsDef, RraDef};
-use rrd_fixed::{Cell, Kind, Raw, WriteFault, cell_string, raw_string, write_bytes};
-use rrd_fold::Function;
-use std::alloc::Global;
+use rrd_fixed::{Cell, Raw, WriteFault, cell_string, raw_string, write_bytes};
 use std::io::Write;
 
-/// The command's shape for clap.
-pub(crate) fn shape<'a>(alloc: Global) -> clap::Command<'a>
-    ensures { HasApp info_app result }
-{
-    clap::Command::new(alloc, "info")
-}
-
 // ---- values
-
-fn kind_word(kind: Kind) -> &'static str
-    ensures text { result.now ≡ kind_text kind }
-    ensures short { length result.now ≤ 48 }
-{
-    match kind {
-        Kind::Gauge => "GAUGE",
-        Kind::Counter => "COUNTER",
-        Kind::Derive => "DERIVE",
-        Kind::Absolute => "ABSOLUTE",
-    }
-}
-
-fn function_word(function: Function) -> &'static str
-    ensures text { result.now ≡ function_text function }
-    ensures short { length result.now ≤ 48 }
-{
-    match function {
-        Function::Average => "AVERAGE",
-        Function::Min => "MIN",
-        Function::Max => "MAX",
-        Function::Last => "LAST",
-    }
-}
 
 // A bound in millionths, or `U` for none.
 fn bound_string(bound: Option<i128>) -> ArrayString<48>
@@ -129,7 +96,7 @@ fn source_string(number: u64, source: &DsDef, raw: Raw) -> ArrayString<1024>
     let raw = raw_string(source.kind, raw);
     let mut text = ArrayString::new();
     push_setting(&mut text, of, "name", source.name.as_str());
-    push_setting(&mut text, of, "type", kind_word(source.kind));
+    push_setting(&mut text, of, "type", source.kind.word());
     push_number(&mut text, of, "minimal_heartbeat", source.heartbeat);
     push_setting(&mut text, of, "min", bound_string(source.min).as_str());
     push_setting(&mut text, of, "max", bound_string(source.max).as_str());
@@ -145,7 +112,7 @@ fn archive_string(number: u64, def: RraDef) -> ArrayString<1024>
     let of = of.as_str();
     let xff = cell_string(Cell::Known(def.xff));
     let mut text = ArrayString::new();
-    push_setting(&mut text, of, "cf", function_word(def.function));
+    push_setting(&mut text, of, "cf", def.function.word());
     push_setting(&mut text, of, "xff", xff.as_str());
     push_number(&mut text, of, "steps", def.steps);
     push_number(&mut text, of, "rows", def.rows);

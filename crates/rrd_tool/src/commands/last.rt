@@ -1,8 +1,6 @@
 //! `last`: prints the time of the last update (rrdlast).
 ghost use Rattle.std.specs.Prelude.{Some, ◌++◌, ◌≤◌, codes, length};
 ghost use Rattle.rrd_fixed.specs.Written.{Writes};
-ghost use Rattle.rrd_tool.specs.Arguments.Shapes.{HasApp};
-ghost use Rattle.rrd_tool.specs.Commands.Last.{last_app};
 ghost use Rattle.rrd_tool.specs.Execution.{Executes};
 
 use crate::Command;
@@ -11,15 +9,7 @@ use arrayvec::ArrayString;
 use itoa::Buffer;
 use rrd_base::Database;
 use rrd_fixed::{WriteFault, write_bytes};
-use std::alloc::Global;
 use std::io::Write;
-
-/// The command's shape for clap.
-pub(crate) fn shape<'a>(alloc: Global) -> clap::Command<'a>
-    ensures { HasApp last_app result }
-{
-    clap::Command::new(alloc, "last")
-}
 
 /// Writes a line of this text, of at most 40 bytes.
 pub(crate) fn write_line<W: Write>(out: &mut W, text: &str) -> Result<(), WriteFault>

@@ -3,9 +3,8 @@
 ghost use Rattle.std.specs.Prelude.{◌≡◌, ◌≤◌, ◌+◌, ◌++◌, Some, codes, length};
 ghost use Rattle.rrd_fixed.specs.Text.{raw_text};
 ghost use Rattle.rrd_fixed.specs.Written.{Writes};
-ghost use Rattle.rrd_tool.specs.Arguments.Shapes.{HasApp};
 ghost use Rattle.rrd_tool.specs.Commands.Fetch.{header_text};
-ghost use Rattle.rrd_tool.specs.Commands.Lastupdate.{lastupdate_app, raws_text};
+ghost use Rattle.rrd_tool.specs.Commands.LastUpdate.{raws_text};
 ghost use Rattle.rrd_tool.specs.Execution.{Executes};
 
 use super::fetch::header_string;
@@ -15,15 +14,7 @@ use arrayvec::ArrayString;
 use itoa::Buffer;
 use rrd_base::Database;
 use rrd_fixed::{Kind, Raw, WriteFault, raw_string, write_bytes};
-use std::alloc::Global;
 use std::io::Write;
-
-/// The command's shape for clap.
-pub(crate) fn shape<'a>(alloc: Global) -> clap::Command<'a>
-    ensures { HasApp lastupdate_app result }
-{
-    clap::Command::new(alloc, "lastupdate")
-}
 
 // A space, and the text of a raw value.
 fn push_raw(line: &mut ArrayString<4096>, kind: Kind, raw: Raw)
@@ -65,7 +56,7 @@ fn write_raws<W: Write>(out: &mut W, database: &Database) -> Result<(), WriteFau
 
 /// Prints the raw values.
 pub(crate) fn run<W: Write>(database: Database, out: &mut W) -> Outcome
-    ensures { Executes (Some database) Command.Lastupdate (W.contents out.old) (W.contents out.new) result }
+    ensures { Executes (Some database) Command.LastUpdate (W.contents out.old) (W.contents out.new) result }
 {
     let written = write_raws(out, &database);
     Outcome::of_text(database, written)

@@ -6,6 +6,7 @@ ghost use Rattle.rrd_tool.specs.Commands.Resize.{change_of, resize_app, resize_o
 ghost use Rattle.rrd_tool.specs.Execution.{Executes};
 ghost use Rattle.rrd_tool.specs.Fields.Answers.{Meets};
 
+use super::name::CommandName;
 use crate::arguments::{required_arg, text_of};
 use crate::execution::Outcome;
 use crate::fields::{Field, read_required};
@@ -18,7 +19,8 @@ use std::alloc::{AllocError, Global};
 pub(crate) fn shape<'a>(alloc: Global) -> Result<clap::Command<'a>, AllocError>
     ensures { IfOk result (HasApp resize_app) }
 {
-    clap::Command::new(alloc, "resize")
+    CommandName::Resize
+        .bare(alloc)
         .arg(required_arg(alloc, "archive"))?
         .arg(required_arg(alloc, "change"))?
         .arg(required_arg(alloc, "rows"))

@@ -1,20 +1,10 @@
 //! `revert`: takes back the newest change (this project's own).
 ghost use Rattle.std.specs.Prelude.{List, Option, Some, ℕ};
-ghost use Rattle.rrd_tool.specs.Arguments.Shapes.{HasApp};
-ghost use Rattle.rrd_tool.specs.Commands.Revert.{revert_app};
 ghost use Rattle.rrd_tool.specs.Execution.{Executes};
 
 use crate::execution::Outcome;
 use crate::{Command, Fault};
 use rrd_base::Database;
-use std::alloc::Global;
-
-/// The command's shape for clap.
-pub(crate) fn shape<'a>(alloc: Global) -> clap::Command<'a>
-    ensures { HasApp revert_app result }
-{
-    clap::Command::new(alloc, "revert")
-}
 
 /// Takes back the newest change.
 pub(crate) fn run(mut database: Database) -> Outcome

@@ -6,6 +6,7 @@ ghost use Rattle.rrd_tool.specs.Commands.Tune.{archive_tune_of, setting_of, tune
 ghost use Rattle.rrd_tool.specs.Execution.{Executes};
 ghost use Rattle.rrd_tool.specs.Fields.Answers.{Meets};
 
+use super::name::CommandName;
 use crate::arguments::{letter_arg, option_arg, text_of, word_arg};
 use crate::execution::Outcome;
 use crate::fields::{Field, cut, read_optional};
@@ -19,7 +20,8 @@ use std::alloc::{AllocError, Global};
 pub(crate) fn shape<'a>(alloc: Global) -> Result<clap::Command<'a>, AllocError>
     ensures { IfOk result (HasApp tune_app) }
 {
-    clap::Command::new(alloc, "tune")
+    CommandName::Tune
+        .bare(alloc)
         .arg(option_arg(alloc, "heartbeat", "heartbeat"))?
         .arg(letter_arg(alloc, "minimum", "minimum", 'i'))?
         .arg(letter_arg(alloc, "maximum", "maximum", 'a'))?

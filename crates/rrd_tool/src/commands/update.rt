@@ -7,6 +7,7 @@ ghost use Rattle.rrd_tool.specs.Execution.{Executes};
 ghost use Rattle.rrd_tool.specs.Fields.Answers.{Meets};
 ghost use Rattle.rrd_tool.specs.Fields.Parts.{each_of, or_fault};
 
+use super::name::CommandName;
 use crate::arguments::{letter_arg, many_arg, text_of, texts_of};
 use crate::execution::Outcome;
 use crate::fields::{Field, cut, or_fault, read_pieces};
@@ -20,7 +21,8 @@ use std::alloc::{AllocError, Global};
 pub(crate) fn shape<'a>(alloc: Global) -> Result<clap::Command<'a>, AllocError>
     ensures { IfOk result (HasApp update_app) }
 {
-    clap::Command::new(alloc, "update")
+    CommandName::Update
+        .bare(alloc)
         .arg(letter_arg(alloc, "template", "template", 't'))?
         .arg(many_arg(alloc, "sample"))
 }
@@ -64,9 +66,7 @@ fn samples(alloc: Global, now: u64, words: &[&str]) -> Result<List<Sample>, Line
     let mut samples = List::new(alloc);
     for (place, word) in words.iter().enumerate() {
         let sample = read_sample(alloc, now, place as u64 + 1, word)?;
-        if samples.push(sample).is_err() {
-            return Err(LineFault::OutOfMemory);
-        }
+        samples.push(sample)?;
     }
     Ok(samples)
 }

@@ -6,8 +6,8 @@ use std::os::unix::fs::FileExt;
 /// Bytes that mark no database, as many as mark one at a file's begin.
 pub(super) const SPOILED: [u8; 4] = [0; 4];
 
-/// How often a call is tried again that was interrupted.
-const INTERRUPTIONS: u64 = 1_000;
+/// How often a call is made that is interrupted each time: once, and 1,000 times more.
+const INTERRUPTIONS: u64 = 1_001;
 
 /// How often bytes are tried of which a call has put some.
 const TRIES: u64 = 2;

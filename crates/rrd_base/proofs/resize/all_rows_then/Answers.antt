@@ -1,7 +1,7 @@
 use Rattle.std.proofs.Common.{◌≡◌, sym, ◌∙◌, ap, sum, ◌+◌, arith, get_or}
 use Rattle.rrd_spec.specs.Commands as commands
 use Rattle.rrd_spec.specs.Commands.{all_rows_after, rows_of_archives}
-use Rattle.rrd_spec.specs.History.{Archive, Resized}
+use Rattle.rrd_spec.specs.History.{Rra, Resized}
 use Rattle.rrd_spec.specs.declared.settings.RraDef.{RraDef}
 use Rattle.std.proofs.lemmas.List.{length-map}
 use Rattle.rrd_base.proofs.ResizeLemmas.{changed_few, few_sum, some_of_all, sum_set, rows_at_archive}
@@ -10,7 +10,7 @@ use Rattle.rrd_base.proofs.resize.all_rows_then.Goals as goal
 pub overflow_sub-result : goal.overflow_sub-result
 overflow_sub-result c =
     let archives = c.args.archives.now in
-    let this = ap (λ (a : Archive). a.def.rows) c.index-archives-index.is in
+    let this = ap (λ (a : Rra). a.def.rows) c.index-archives-index.is in
     let def = ap (λ (d : RraDef). d.rows) c.def-old.ensures in
     let some = some_of_all archives c.args.index c.index-archives-index.result c.requires.there in
     let most = few_sum archives c.requires.few_rows in
@@ -20,7 +20,7 @@ pub overflow_add-result : goal.overflow_add-result
 overflow_add-result c =
     let archives = c.args.archives.now in
     let old = c.def-old.result.rows in
-    let this = ap (λ (a : Archive). a.def.rows) c.index-archives-index.is in
+    let this = ap (λ (a : Rra). a.def.rows) c.index-archives-index.is in
     let def = ap (λ (d : RraDef). d.rows) c.def-old.ensures in
     let some = some_of_all archives c.args.index c.index-archives-index.result c.requires.there in
     let most = few_sum archives c.requires.few_rows in
@@ -31,7 +31,7 @@ pub returns-clause-few : goal.returns-clause-few
 returns-clause-few c =
     let archives = c.args.archives.now in
     let old = c.def-old.result.rows in
-    let this = ap (λ (a : Archive). a.def.rows) c.index-archives-index.is in
+    let this = ap (λ (a : Rra). a.def.rows) c.index-archives-index.is in
     let def = ap (λ (d : RraDef). d.rows) c.def-old.ensures in
     let some = some_of_all archives c.args.index c.index-archives-index.result c.requires.there in
     let most = few_sum archives c.requires.few_rows in
@@ -44,12 +44,12 @@ returns-clause-rows c =
     let rows = rows_of_archives archives in
     let index = c.args.index in
     let old = get_or rows index 0 in
-    let this = ap (λ (a : Archive). a.def.rows) c.index-archives-index.is in
+    let this = ap (λ (a : Rra). a.def.rows) c.index-archives-index.is in
     let def = ap (λ (d : RraDef). d.rows) c.def-old.ensures in
     let is : get_or rows index 0 ≡ c.def-old.result.rows = rows_at_archive archives index c.index-archives-index.result c.requires.there ∙ sym this ∙ sym def in
     let some = some_of_all archives index c.index-archives-index.result c.requires.there in
     let new : c.rows_changed.result ≡ commands.rows_changed c.args.change old c.args.rows = c.rows_changed.ensures ∙ ap (λ n. commands.rows_changed c.args.change n c.args.rows) (sym is) in
-    let set = sum_set index (commands.rows_changed c.args.change old c.args.rows) rows (omega (arith, length-map archives (λ (a : Archive). a.def.rows), c.requires.there)) in
+    let set = sum_set index (commands.rows_changed c.args.change old c.args.rows) rows (omega (arith, length-map archives (λ (a : Rra). a.def.rows), c.requires.there)) in
     let sum_is : sum (all_rows_after (Resized index (commands.rows_changed c.args.change old c.args.rows)) rows) + old ≡ sum rows + commands.rows_changed c.args.change old c.args.rows = set in
     let most = few_sum archives c.requires.few_rows in
     omega (arith, this, def, is, some, most, new, sum_is, c.all_rows.ensures, c.requires.few_archives)

@@ -1,5 +1,6 @@
 use Rattle.std.proofs.Common.{◌≡◌, refl, sym, ◌∙◌, ap, suc, ◌+◌, ◌<◌, ◌≤◌, true, false, cond, [], ◌∷◌, ◌++◌, take, get_or, length, length-append, append-nil, arith, lit<}
 use Rattle.rrd_fixed.specs.declared.raw.Raw.TheVariants.{Unknown}
+use Rattle.rrd_spec.specs.Limits.{most_tuned}
 use Rattle.rrd_spec.specs.declared.settings.DsDef.{DsDef}
 use Rattle.rrd_spec.specs.declared.entry.SourceBefore.{SourceBefore}
 use Rattle.rrd_spec.specs.Journal.Entries as entries
@@ -18,11 +19,11 @@ push-requires c =
     let h : SourceBefore = record { number = i; source = get_or sources i d; raw = get_or raws i Unknown } in
     let more = before_more tuning 0 i i sources raws d Unknown within c.requires.one_each (omega arith) in
     let named : entries.is_named tuning (get_or sources i d) ≡ true = ap (entries.is_named tuning) (sym c.index-sources-place.is) ∙ sym c.is_named.ensures ∙ c.if-is_named.true in
-    let grown : entries.sources_before tuning 0 (take (suc i) sources) (take (suc i) raws) ≡ c.loop-place.olds.items ++ h ∷ []
+    let grown : entries.sources_before tuning 0 (take (suc i) sources) (take (suc i) raws) ≡ c.loop-place.kept.items ++ h ∷ []
     = more ∙ ap (λ b. entries.sources_before tuning 0 (take i sources) (take i raws) ++ cond b (h ∷ []) []) named ∙ ap (λ zs. zs ++ h ∷ []) (sym c.loop-place.invariant) in
     let few = before_few tuning 0 (suc i) sources raws in
-    let count : length (c.loop-place.olds.items ++ h ∷ []) ≡ length c.loop-place.olds.items + 1 = omega (arith, length-append c.loop-place.olds.items (h ∷ [])) in
-    let whole : length (c.loop-place.olds.items ++ h ∷ []) ≤ 5 = omega (arith, ap length grown, few, c.requires.few) in
+    let count : length (c.loop-place.kept.items ++ h ∷ []) ≡ length c.loop-place.kept.items + 1 = omega (arith, length-append c.loop-place.kept.items (h ∷ [])) in
+    let whole : length (c.loop-place.kept.items ++ h ∷ []) ≤ most_tuned = omega (arith, ap length grown, few, c.requires.few) in
     (lit< tt, omega arith)
 
 pub loop-place-preserved : goal.loop-place-preserved
@@ -40,11 +41,11 @@ loop-place-preserved c =
     elim c.if-is_named.branch [
       | then-is_named w ↦
           let named : entries.is_named tuning (get_or sources i d) ≡ true = same ∙ w.if-is_named.true in
-          let pushed : c.if-is_named.olds.items ≡ c.loop-place.olds.items ++ h ∷ []
-          = rw (w.olds-is, w.push.ensures.items) (ap (λ (s : DsDef). let x : SourceBefore = record { number = i; source = s; raw = get_or raws i Unknown } in c.loop-place.olds.items ++ x ∷ []) (w.duplicate.ensures ∙ c.index-sources-place.is)) in
+          let pushed : c.if-is_named.kept.items ≡ c.loop-place.kept.items ++ h ∷ []
+          = rw (w.kept-is, w.push.ensures.items) (ap (λ (s : DsDef). let x : SourceBefore = record { number = i; source = s; raw = get_or raws i Unknown } in c.loop-place.kept.items ++ x ∷ []) (w.duplicate.ensures ∙ c.index-sources-place.is)) in
           pushed ∙ ap (λ zs. zs ++ h ∷ []) c.loop-place.invariant ∙ sym (ap (λ b. entries.sources_before tuning 0 (take i sources) (take i raws) ++ cond b (h ∷ []) []) named) ∙ sym more ∙ next
       | else-is_named w ↦
           let other : entries.is_named tuning (get_or sources i d) ≡ false = same ∙ w.if-is_named.false in
-          let kept : c.if-is_named.olds.items ≡ c.loop-place.olds.items = rw w.olds-is refl in
+          let kept : c.if-is_named.kept.items ≡ c.loop-place.kept.items = rw w.kept-is refl in
           kept ∙ c.loop-place.invariant ∙ sym (append-nil (entries.sources_before tuning 0 (take i sources) (take i raws))) ∙ sym (ap (λ b. entries.sources_before tuning 0 (take i sources) (take i raws) ++ cond b (h ∷ []) []) other) ∙ sym more ∙ next
     ]

@@ -5,6 +5,6 @@ use Rattle.rrd_base.proofs.tune.put_sources_back.Given as goal
 
 abbrev pub invariant-loop-old : goal.invariant-loop-old
 invariant-loop-old l = record {
-  sources_are : l.sources ≡ with_sources l.fn.sources (take l.old-index l.olds);
-  raws_are : l.raws ≡ with_raws l.fn.raws (take l.old-index l.olds);
+  sources_are : l.sources ≡ with_sources l.fn.sources (take l.old-index l.kept);
+  raws_are : l.raws ≡ with_raws l.fn.raws (take l.old-index l.kept);
 }

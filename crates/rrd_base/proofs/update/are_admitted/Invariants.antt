@@ -7,4 +7,4 @@ use Rattle.rrd_spec.specs.Commands.Verdict.{is_admitted}
 use Rattle.rrd_base.proofs.update.are_admitted.Given as goal
 
 abbrev pub invariant-loop-place : goal.invariant-loop-place
-invariant-loop-place l = list_all (λ (source : DsDef). is_admitted source (value_for (template_of l.sources l.template) l.values source)) (take l.place l.sources) ≡ true
+invariant-loop-place l = list_all (λ (source : DsDef). is_admitted source (value_for (template_of l.sources l.columns.template.now) l.values source)) (take l.place l.sources) ≡ true

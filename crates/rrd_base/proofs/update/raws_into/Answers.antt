@@ -9,9 +9,9 @@ pub loop-place-preserved : goal.loop-place-preserved
 loop-place-preserved c =
     let i = c.loop-place.place in
     let sources = c.args.sources.now in
-    let f = λ (source : DsDef). raw_of source.kind (value_for (template_of sources c.args.template.now) c.args.values.now source) in
+    let f = λ (source : DsDef). raw_of source.kind (value_for (template_of sources c.args.columns.now.template.now) c.args.values.now source) in
     let within : i < length sources = omega arith in
     let within_raws : i < length c.args.raws.now = omega (arith, c.requires) in
     ap (λ rs. set rs i c.raw_of.result) c.loop-place.invariant
-    ∙ map_more f sources c.args.raws.now i c.index-sources-place.result c.raw_of.result within within_raws (c.raw_of.ensures.value ∙ ap (raw_of c.index-sources-place.result.kind) (c.value_for-given.ensures c.index-sources-place.result ∙ ap (λ source. value_for (template_of sources c.args.template.now) c.args.values.now source) (sym c.index-sources-place.is)) ∙ ap f c.index-sources-place.is)
+    ∙ map_more f sources c.args.raws.now i c.index-sources-place.result c.raw_of.result within within_raws (c.raw_of.ensures.value ∙ ap (raw_of c.index-sources-place.result.kind) (c.value.ensures ∙ c.requires.columns.places i c.index-sources-place.result c.args.values.now within ∙ ap (λ source. value_for (template_of sources c.args.columns.now.template.now) c.args.values.now source) (sym c.index-sources-place.is)) ∙ ap f c.index-sources-place.is)
     ∙ ap (λ k. map f (take k sources) ++ drop k c.args.raws.now) {x = suc i} {y = i + 1} (omega arith)

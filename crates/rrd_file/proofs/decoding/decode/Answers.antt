@@ -8,20 +8,20 @@ use Rattle.rrd_file.proofs.decoding.decode.Goals as goal
 
 pub returns-in_err-mark : goal.returns-in_err-mark
 returns-in_err-mark g c = λ bytes h.
-    let s0 = subst (Stands bytes Start) (sym c.in-Ok.ensures) (begins bytes _ h) in
-    let p = err_from_is_err_and c.from_residual.result c.from_residual.ensures.1 in
+    let s0 = subst (Stands bytes Start) (sym c.in_ok-input.ensures) (begins bytes _ h) in
+    let p = err_from_is_err_and c.from_residual-in_err-mark.result c.from_residual-in_err-mark.ensures.1 in
     rw (p.1, p.2) (c.in_err-mark.ensures bytes s0)
 
 pub returns-in_err-version : goal.returns-in_err-version
 returns-in_err-version g c = λ bytes h.
-    let s0 = subst (Stands bytes Start) (sym c.in-Ok.ensures) (begins bytes _ h) in
+    let s0 = subst (Stands bytes Start) (sym c.in_ok-input.ensures) (begins bytes _ h) in
     let s1 = c.in_ok-mark.ensures bytes s0 in
     let p = err_from_is_err_and c.from_residual-in_err-version.result c.from_residual-in_err-version.ensures.1 in
     rw (p.1, p.2) (c.in_err-version.ensures bytes s1)
 
 pub returns-in_err-build : goal.returns-in_err-build
 returns-in_err-build g c = λ bytes h.
-    let s0 = subst (Stands bytes Start) (sym c.in-Ok.ensures) (begins bytes _ h) in
+    let s0 = subst (Stands bytes Start) (sym c.in_ok-input.ensures) (begins bytes _ h) in
     let s1 = c.in_ok-mark.ensures bytes s0 in
     let s2 = c.in_ok-version.ensures bytes s1 in
     let p = err_from_is_err_and c.from_residual-in_err-build.result c.from_residual-in_err-build.ensures.1 in
@@ -29,7 +29,7 @@ returns-in_err-build g c = λ bytes h.
 
 pub returns-in_err-until_entries : goal.returns-in_err-until_entries
 returns-in_err-until_entries g c = λ bytes h.
-    let s0 = subst (Stands bytes Start) (sym c.in-Ok.ensures) (begins bytes _ h) in
+    let s0 = subst (Stands bytes Start) (sym c.in_ok-input.ensures) (begins bytes _ h) in
     let s1 = c.in_ok-mark.ensures bytes s0 in
     let s2 = c.in_ok-version.ensures bytes s1 in
     let s3 = c.in_ok-build.ensures bytes s2 in
@@ -38,7 +38,7 @@ returns-in_err-until_entries g c = λ bytes h.
 
 pub returns-in_err-entries : goal.returns-in_err-entries
 returns-in_err-entries g c = λ bytes h.
-    let s0 = subst (Stands bytes Start) (sym c.in-Ok.ensures) (begins bytes _ h) in
+    let s0 = subst (Stands bytes Start) (sym c.in_ok-input.ensures) (begins bytes _ h) in
     let s1 = c.in_ok-mark.ensures bytes s0 in
     let s2 = c.in_ok-version.ensures bytes s1 in
     let s3 = c.in_ok-build.ensures bytes s2 in
@@ -48,7 +48,7 @@ returns-in_err-entries g c = λ bytes h.
 
 pub returns-in_err-end : goal.returns-in_err-end
 returns-in_err-end g c = λ bytes h.
-    let s0 = subst (Stands bytes Start) (sym c.in-Ok.ensures) (begins bytes _ h) in
+    let s0 = subst (Stands bytes Start) (sym c.in_ok-input.ensures) (begins bytes _ h) in
     let s1 = c.in_ok-mark.ensures bytes s0 in
     let s2 = c.in_ok-version.ensures bytes s1 in
     let s3 = c.in_ok-build.ensures bytes s2 in
@@ -59,7 +59,7 @@ returns-in_err-end g c = λ bytes h.
 
 pub returns : goal.returns
 returns g c = λ bytes h.
-    let s0 = subst (Stands bytes Start) (sym c.in-Ok.ensures) (begins bytes _ h) in
+    let s0 = subst (Stands bytes Start) (sym c.in_ok-input.ensures) (begins bytes _ h) in
     let s1 = c.in_ok-mark.ensures bytes s0 in
     let s2 = c.in_ok-version.ensures bytes s1 in
     let s3 = c.in_ok-build.ensures bytes s2 in

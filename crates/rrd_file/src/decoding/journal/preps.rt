@@ -63,9 +63,7 @@ pub(super) fn row_preps<R: Read + Drop>(
     let mut preps = Vec::new(alloc);
     for _ in 0..build.sources() {
         let prep = row_prep(input, build, last, def)?;
-        if preps.push(prep).is_err() {
-            return Err(FileFault::OutOfMemory);
-        }
+        preps.push(prep)?;
     }
     Ok(preps)
 }

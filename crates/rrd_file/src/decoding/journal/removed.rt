@@ -76,6 +76,6 @@ pub(super) fn removed<R: Read + Drop>(
     let def = settings(input, build)?;
     let preps = row_preps(alloc, input, build, build.undone().last, &def)?;
     let rows = old_rows(alloc, input, build, def.rows)?;
-    let old = Rra::of(def, preps, rows);
+    let old = Rra::from_parts(def, preps, rows);
     Ok(Entry::Removed { archive, old })
 }

@@ -2,7 +2,7 @@
 ghost use Rattle.std.specs.Prelude.{◌≡◌, true, ◌+◌, ◌<◌, ◌≤◌, ◌++◌, ◌∷◌, [], ℕ, List, IfOk};
 ghost use Rattle.rrd_base.specs.Journal.{entry_of};
 ghost use Rattle.rrd_spec.specs.Files.Rebuilding.{due, outline_left};
-ghost use Rattle.rrd_spec.specs.Limits.{present};
+ghost use Rattle.rrd_spec.specs.Limits.{most_tuned, present};
 ghost use Rattle.rrd_spec.specs.declared.due.Due.TheVariants.{EntryDue};
 ghost use Rattle.rrd_file.specs.Layout.Pieces.{ATune, OfCount, OfSourceBefore, OfTag, Piece};
 ghost use Rattle.rrd_file.specs.Decoding.Journal.{IsShaped, KeepsNamed};
@@ -16,14 +16,15 @@ use crate::decoding::pieces::source_before_of;
 use crate::decoding::values::two_of;
 use arrayvec::ArrayVec;
 use rrd_base::{Entry, Rebuild, SourceBefore, is_source};
+use rrd_spec::limits::MOST_TUNED;
 use std::io::Read;
 
 // Whether a tune can have named so many sources.
 fn can_name(count: u64) -> bool
-    ensures good { result ≡ true → (0 < count) × (count ≤ 5) }
-    ensures bad { (0 < count) × (count ≤ 5) → result ≡ true }
+    ensures good { result ≡ true → (0 < count) × (count ≤ most_tuned) }
+    ensures bad { (0 < count) × (count ≤ most_tuned) → result ≡ true }
 {
-    0 < count && count <= 5
+    0 < count && count <= MOST_TUNED as u64
 }
 
 // Reads how many sources a tune named, 1 to 5.
@@ -32,7 +33,7 @@ fn count<R: Read + Drop>(input: &mut PieceReader<R>, build: &Rebuild) -> Result<
         → Comes bytes build.now pieces (CountDue ∷ later) input.old
         → Brings bytes build.now (λ count. pieces ++ OfCount count ∷ []) (λ count. named_due 0 count ++ later)
         input.new result }
-    ensures few { IfOk result (λ count. count ≤ 5) }
+    ensures few { IfOk result (λ count. count ≤ most_tuned) }
 {
     let mut piece = [0u8; 2];
     input.piece(&mut piece)?;

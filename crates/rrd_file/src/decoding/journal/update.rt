@@ -97,9 +97,8 @@ fn sources<R: Read + Drop>(
     let mut preps = Vec::new(alloc);
     for source in 0..build.undone().sources.len() {
         let (raw, prep) = raw_and_part(input, build, last, source)?;
-        if raws.push(raw).is_err() || preps.push(prep).is_err() {
-            return Err(FileFault::OutOfMemory);
-        }
+        raws.push(raw)?;
+        preps.push(prep)?;
     }
     Ok((raws, preps))
 }
@@ -180,9 +179,7 @@ fn archives<R: Read + Drop>(
     let mut olds = Vec::new(alloc);
     for archive in 0..build.undone().archives.len() {
         let old = saved_archive(alloc, input, build, last, archive)?;
-        if olds.push(old).is_err() {
-            return Err(FileFault::OutOfMemory);
-        }
+        olds.push(old)?;
     }
     Ok(olds)
 }

@@ -2,6 +2,7 @@
 ghost use Rattle.std.specs.Prelude.{◌≡◌, ◌<◌, ◌≤◌, ◌^◌, ◌∷◌, [], length, map};
 ghost use Rattle.std.specs.List.{AllByRecursion};
 ghost use Rattle.rrd_spec.specs.Journal.Entries.{TuneEntry};
+ghost use Rattle.rrd_spec.specs.Limits.{most_tuned};
 ghost use Rattle.rrd_file.specs.Encoding.Block.{Gathers};
 ghost use Rattle.rrd_file.specs.Encoding.Journal.{HasSmallNumber};
 ghost use Rattle.rrd_file.specs.Layout.{entry_pieces, spelled};
@@ -15,7 +16,7 @@ use std::io::Write;
 // Writes the tag of a tune, and how many sources it named.
 #[tactic(auto, unfolding(crate::specs::Layout::Pieces::spell))]
 fn write_tuned<W: Write>(out: &mut W, block: &mut Block, count: usize) -> Result<(), WriteFault>
-    requires { count ≤ 5 }
+    requires { count ≤ most_tuned }
     ensures { Gathers (W.contents out.old) block.old (W.contents out.new) block.new
         (spelled (OfTag ATune ∷ OfCount count ∷ [])) result }
 {
@@ -65,7 +66,7 @@ pub(super) fn write_tune<W: Write>(
     block: &mut Block,
     olds: &[SourceBefore],
 ) -> Result<(), WriteFault>
-    requires few { length olds.now ≤ 5 }
+    requires few { length olds.now ≤ most_tuned }
     requires numbers { AllByRecursion HasSmallNumber olds.now }
     ensures { Gathers (W.contents out.old) block.old (W.contents out.new) block.new
         (spelled (entry_pieces (TuneEntry olds.now))) result }

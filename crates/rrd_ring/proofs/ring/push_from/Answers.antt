@@ -1,30 +1,42 @@
-use Rattle.std.proofs.Common.{◌≡◌, ◌+◌, ◌-◌, ◌++◌, ◌∙◌, ap, ℕ, List, take, drop, replicate, vec_len, arith}
-use Rattle.std.proofs.lemmas.List.{append_assoc, take_all}
+use Rattle.std.proofs.Common.{◌≡◌, ◌⊎◌, inl, inr, ⊎_elim, ◌+◌, ◌-◌, ◌<◌, ◌≤◌, ◌++◌, ◌∙◌, ap, ℕ, List, length, take, drop, length-append, length-drop, arith}
+use Rattle.std.proofs.lemmas.Bool.{cases_lt}
+use Rattle.std.proofs.lemmas.List.{append_assoc, length-take-le}
 use Rattle.rrd_fixed.specs.declared.cell.Cell.{Cell}
-use Rattle.rrd_fixed.specs.declared.cell.Cell.TheVariants.{Unknown}
-use Rattle.rrd_ring.proofs.WrittenLemmas.{copied_pieces}
+use Rattle.rrd_ring.specs.Ring.{from_place, with_unwritten}
+use Rattle.rrd_ring.proofs.RingLemmas.{copied_from}
+use Rattle.rrd_ring.proofs.WrittenLemmas.{length-with_unwritten}
 use Rattle.rrd_ring.proofs.ring.push_from.Goals as goal
+
+pub push_part-requires-2-clause-short : goal.push_part-requires-2-clause-short
+push_part-requires-2-clause-short c =
+    let all = c.args.all in
+    let start = c.args.start in
+    let first = c.min-first.result in
+    let cells = with_unwritten all c.args.ring.now in
+    let long : length cells ≡ all = length-with_unwritten all c.args.ring.now c.requires.written in
+    let one = c.in_ok-push_part.ensures all c.requires.written (omega (arith, c.requires.within, c.min-first.ensures)) in
+    let within : first ≤ length (drop start cells) = omega (arith, length-drop start cells, long, c.min-first.ensures) in
+    omega (arith, c.push_part.new.copies.ok.0, c.args.copies.now.ok.0, c.requires.short, c.requires.small, c.requires.few, c.min-first.ensures, ap length one, length-append c.args.copies.now.items (take first (drop start cells)), length-take-le first (drop start cells) within)
 
 pub returns : goal.returns
 returns c =
-    let xs = c.args.ring.now in
     let old = c.args.copies.now.items in
+    let all = c.args.all in
     let start = c.args.start in
+    let count = c.args.count in
     let first = c.min-first.result in
-    let between = c.min-unwritten.result in
-    let last = c.args.count - first - between in
-    let one = c.extend_from_slice.new.self in
-    let n = c.len.result + between in
-    let long : start + first - start ≡ first = omega arith in
-    let added : n - vec_len one ≡ between = omega (arith, c.len.ensures) in
-    let unknown = replicate between Unknown in
-    let grown : c.resize.new.self.items ≡ one.items ++ unknown =
-    c.in_ok-resize.ensures.items
-    ∙ ap (λ (zs : List Cell). zs ++ replicate (n - vec_len one) Unknown) (take_all n one.items (omega (arith, one.ok.0, c.len.ensures)))
-    ∙ ap (λ (k : ℕ). one.items ++ replicate k Unknown) added in
-    let part = take first (drop start xs) in
-    c.in_ok-extend_from_slice-2.ensures.items
-    ∙ ap (λ (zs : List Cell). zs ++ take last xs) (grown ∙ ap (λ (zs : List Cell). zs ++ unknown) (c.in_ok-extend_from_slice.ensures.items ∙ ap (λ (k : ℕ). old ++ take k (drop start xs)) long))
-    ∙ append_assoc (old ++ part) unknown (take last xs)
-    ∙ append_assoc old part (unknown ++ take last xs)
-    ∙ ap (λ (zs : List Cell). old ++ zs) (copied_pieces c.args.all start c.args.count first between xs c.requires.within c.requires.written c.requires.few c.min-first.ensures c.min-unwritten.ensures)
+    let rest = count - first in
+    let least = c.min-first.ensures in
+    let cells = with_unwritten all c.args.ring.now in
+    let long : length cells ≡ all = length-with_unwritten all c.args.ring.now c.requires.written in
+    let within = c.requires.within in
+    let one = c.in_ok-push_part.ensures all c.requires.written (omega (arith, within, least)) in
+    let two = c.in_ok-push_part-2.ensures all c.requires.written (omega (arith, c.requires.few)) in
+    let sum : first + rest ≡ count = omega (arith, least) in
+    let which : (rest ≡ 0) ⊎ (length cells - start ≤ first) =
+    ⊎_elim (λ (more : all - start < count). inr (omega (arith, least, long))) (λ (enough : count ≤ all - start). inl (omega (arith, least))) (cases_lt (all - start) count) in
+    two
+    ∙ ap (λ (zs : List Cell). zs ++ take rest cells) one
+    ∙ append_assoc old (take first (drop start cells)) (take rest cells)
+    ∙ ap (λ (zs : List Cell). old ++ zs) (copied_from cells start first rest (omega (arith, long, within)) (omega (arith, long, least)) (omega (arith, long, least, c.requires.few)) which)
+    ∙ ap (λ (n : ℕ). old ++ take n (from_place start cells)) sum

@@ -2,7 +2,7 @@ use Rattle.std.proofs.Common.{◌≡◌, Some, length, arith}
 use Rattle.std.proofs.lemmas.Bool.{leb-false}
 use Rattle.std.proofs.lemmas.List.{length-map}
 use Rattle.rrd_spec.specs.Commands.{rows_of_archives}
-use Rattle.rrd_spec.specs.History.{Archive}
+use Rattle.rrd_spec.specs.History.{Rra}
 use Rattle.rrd_spec.specs.Lemmas.Validity.{base_of_valid}
 use Rattle.rrd_spec.specs.declared.requests.tune.ArchiveTune.TheVariants.{Remove}
 use Rattle.rrd_spec.proofs.Accepted.{tune_passes}
@@ -15,5 +15,5 @@ returns-clause-added c = λ base tuning def is e h. tune_added base tuning def (
 pub returns-clause-removed : goal.returns-clause-removed
 returns-clause-removed c = λ base tuning number is e h.
     let p = tune_passes base tuning (Some (Remove number)) e h in
-    let as_many : length (rows_of_archives base.archives) ≡ length base.archives = length-map base.archives (λ (a : Archive). a.def.rows) in
+    let as_many : length (rows_of_archives base.archives) ≡ length base.archives = length-map base.archives (λ (a : Rra). a.def.rows) in
     (omega (arith, leb-false (length (rows_of_archives base.archives)) number p.0, as_many), tune_removed base tuning number (base_of_valid base is) e)

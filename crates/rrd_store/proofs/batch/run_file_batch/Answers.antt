@@ -1,17 +1,13 @@
-use Rattle.rrd_store.specs.Places.{Leaves}
-use Rattle.rrd_store.proofs.Left.{left_by}
+use Rattle.rrd_store.specs.Runs.{ByBatch}
 use Rattle.rrd_store.proofs.batch.run_file_batch.Goals as goal
 
-pub returns : goal.returns
-returns g c =
-    let old = g.P.Place.contents c.args.place.now in
-    let new = g.P.Place.contents c.store.new.place in
-    let left : Leaves c.run_batch-end.result.database old new c.store.result = rw (c.load.ensures.stays, c.as_ref.ensures.value) at c.store.ensures in (
-      c.in_ok-database.database,
-      c.in_ok-database.ensures.found,
-      record {
-        last = c.run_batch-end.result.database;
-        runs = c.run_batch-end.ensures;
-        left = left_by c.run_batch-end.result.database old new c.store.result c.err-unstored.result c.err-unstored.ensures.value left;
-      },
-    )
+pub returns-clause-computed : goal.returns-clause-computed
+returns-clause-computed g c =
+    c.place_runs_are_computed.ensures (g.P.Place.contents c.args.place.now) (ByBatch (record {
+      now = c.args.now;
+      in_before = g.R.Read.remaining c.args.reader.now;
+      in_after = g.R.Read.remaining c.run_over.new.reader;
+      out_before = g.W.Write.contents c.args.out.now;
+      out_after = g.W.Write.contents c.run_over.new.out;
+      end = c.run_over.result;
+    })) (g.P.Place.contents c.run_over.new.place) c.run_over.ensures

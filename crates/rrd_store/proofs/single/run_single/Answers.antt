@@ -1,25 +1,12 @@
-use Rattle.std.proofs.Common.{Ok, Err, refl}
-use Rattle.std.proofs.lemmas.Result.{err_from_is_err_and}
-use Rattle.std.specs.Io.KnownBytes.{Keeps}
-use Rattle.rrd_store.specs.Single.{Ends}
-use Rattle.rrd_store.proofs.Kept.{executes_kept, keeps_same}
+use Rattle.rrd_store.specs.Runs.{ByCommand}
 use Rattle.rrd_store.proofs.single.run_single.Goals as goal
 
-pub returns-in_err-database : goal.returns-in_err-database
-returns-in_err-database g c =
-    let p = err_from_is_err_and c.from_residual.result c.from_residual.ensures.1 in
-    let old = g.P.Place.contents c.args.place.now in
-    let place : Keeps old (g.P.Place.contents c.start.new.place) = rw c.start.ensures.stays (keeps_same old) in
-    let out = keeps_same (g.W.Write.contents c.args.out.now) in
-    rw (p.1, p.2) (Ok c.in-Ok.command, c.in-Ok.ensures, (Err c.in_err-database.field-0.0, c.in_err-database.ensures.start, (refl, place, out)))
-
-pub returns : goal.returns
-returns g c =
-    let old = g.W.Write.contents c.args.out.now in
-    let mid = g.W.Write.contents c.execute-outcome.new.out in
-    let new = g.W.Write.contents c.finish.new.out in
-    let done = executes_kept c.in_ok-database.database c.in-Ok.command old mid new c.execute-outcome.result c.execute-outcome.ensures.kept c.finish.ensures.out in
-    let before = g.P.Place.contents c.args.place.now in
-    let after = g.P.Place.contents c.finish.new.place in
-    let ends : Ends c.execute-outcome.result before after c.finish.result = rw c.start.ensures.stays at c.finish.ensures.place in
-    (Ok c.in-Ok.command, c.in-Ok.ensures, (Ok c.in_ok-database.database, c.in_ok-database.ensures.start, (c.execute-outcome.result, done, ends)))
+pub returns-clause-computed : goal.returns-clause-computed
+returns-clause-computed g c =
+    c.place_runs_are_computed.ensures (g.P.Place.contents c.args.place.now) (ByCommand (record {
+      words = c.args.words.now;
+      now = c.args.now;
+      out_before = g.W.Write.contents c.args.out.now;
+      out_after = g.W.Write.contents c.run_words.new.out;
+      end = c.run_words.result;
+    })) (g.P.Place.contents c.run_words.new.place) c.run_words.ensures

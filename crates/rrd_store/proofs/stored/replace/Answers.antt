@@ -1,14 +1,30 @@
 use Rattle.rrd_file.specs.Layout.{layout}
-use Rattle.rrd_store.proofs.Fallen.{fallen, writes_front}
-use Rattle.rrd_store.specs.Places.{FallsBack}
+use Rattle.rrd_spec.specs.Limits.{newest}
+use Rattle.rrd_store.proofs.Fallen.{fallen, ready_cut, untaken, writes_all, writes_front}
+use Rattle.rrd_store.proofs.Found.{some_layout}
 use Rattle.rrd_store.proofs.stored.replace.Goals as goal
+
+pub returns-in_default : goal.returns-in_default
+returns-in_default g c =
+    ready_cut (g.P.Place.contents c.args.place.now) (g.P.Place.contents c.begin.new.self) (layout c.args.database.now)
+    (some_layout newest c.args.database.now) c.begin.ensures.ready
 
 pub returns-then-is_err : goal.returns-then-is_err
 returns-then-is_err g c =
     let old = g.P.Place.contents c.args.place.now in
+    let mid = g.P.Place.contents c.begin.new.self in
     let new = g.P.Place.contents c.give_up.new.self in
     let begun = g.P.Writer.Write.contents c.in-Ok.writer in
     let written = g.P.Writer.Write.contents c.encode.new.out in
-    let fell : FallsBack old new written = rw c.begin.ensures.stays at c.give_up.ensures in
     let front = writes_front begun written (layout c.args.database.now) c.encode.result (cc) c.encode.ensures in
-    fallen old new begun written (layout c.args.database.now) c.in-Ok.ensures.new front fell
+    fallen old mid new begun written (layout c.args.database.now) c.begin.ensures.ready c.in-Ok.ensures.begun front c.give_up.ensures
+
+pub returns-in-Err : goal.returns-in-Err
+returns-in-Err g c =
+    let old = g.P.Place.contents c.args.place.now in
+    let mid = g.P.Place.contents c.begin.new.self in
+    let new = g.P.Place.contents c.end.new.self in
+    let begun = g.P.Writer.Write.contents c.in-Ok.writer in
+    let written = g.P.Writer.Write.contents c.encode.new.out in
+    let all = writes_all begun written (layout c.args.database.now) c.encode.result (cc) c.encode.ensures in
+    untaken old mid new begun written (layout c.args.database.now) (some_layout newest c.args.database.now) c.begin.ensures.ready c.in-Ok.ensures.begun all c.in-Err.ensures.err

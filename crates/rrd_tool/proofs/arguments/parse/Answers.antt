@@ -6,19 +6,19 @@ use Rattle.rrd_tool.specs.Arguments.Taken.{entered_of}
 use Rattle.rrd_tool.proofs.Simple.{refused}
 use Rattle.rrd_tool.proofs.arguments.parse.Goals as goal
 
-pub returns-in-Ok-try_get_matches_from : goal.returns-in-Ok-try_get_matches_from
+pub returns-in-Ok : goal.returns-in-Ok
 unfolding entered_of
-returns-in-Ok-try_get_matches_from c =
-    let serves : Serves (app_of c.in-Some.command) c.args.words.now = rw c.in-Some.is at c.in-Ok.ensures in
+returns-in-Ok c =
+    let serves : Serves (app_of c.in-Some.command) c.args.words.now = rw c.in-Some.is at c.in_ok-command.ensures in
     let app = app_of c.in-Some.command in
-    let parse = c.in-Ok-try_get_matches_from.ensures in (
+    let parse = c.in-Ok.ensures in (
       sym serves.0 ∙ (sym (ap (fault_of app) c.as_slice.ensures) ∙ parse.kinds serves.3),
       (parse.matches serves.2).1 ∙ (ap (subcommand_of app) c.as_slice.ensures ∙ serves.1),
     )
 
 pub returns : goal.returns
 returns c =
-    let serves : Serves (app_of c.in-Some.command) c.args.words.now = rw c.in-Some.is at c.in-Ok.ensures in
+    let serves : Serves (app_of c.in-Some.command) c.args.words.now = rw c.in-Some.is at c.in_ok-command.ensures in
     let app = app_of c.in-Some.command in
     let parse = c.in-Err.ensures in
     let kinds = parse.kinds serves.3 in

@@ -1,6 +1,9 @@
+use Rattle.std.proofs.Common.{◌∙◌, option_map, sym}
 use Rattle.std.proofs.lemmas.Result.{err_from_is_err_and}
 use Rattle.rrd_tool.specs.Commands.{effect}
 use Rattle.rrd_tool.proofs.RunLemmas.{done_performs, flushed_performs, refused_performs, unflushed_performs, unwritten_performs}
+use Rattle.rrd_tool.specs.Effects.{stored_of}
+use Rattle.rrd_tool.proofs.SaidLemmas.{shown_says}
 use Rattle.rrd_tool.proofs.batch.run_command.Goals as goal
 
 pub returns-then-outcome : goal.returns-then-outcome
@@ -14,7 +17,8 @@ returns-in_err-flush g c s0 s =
     let p = err_from_is_err_and c.from_residual.result c.from_residual.ensures.1 in
     let outcome = c.execute-outcome.result in
     let done = rw c.in_default.is at (c.execute-outcome.ensures.run s0 (rw c.take.ensures.value s)) in
-    rw p.1 (unflushed_performs s0 (effect c.args.command) outcome.database (g.W.Write.contents c.args.out.now) (g.W.Write.contents c.execute-outcome.new.out) outcome.changed (g.W.Write.contents c.flush.new.out) p.0 done c.flush.ensures)
+    let says = shown_says (option_map stored_of s0) c.args.command done.0 (sym c.if-outcome.false ∙ done.2) in
+    rw p.1 (unflushed_performs s0 (effect c.args.command) outcome.database (g.W.Write.contents c.args.out.now) (g.W.Write.contents c.execute-outcome.new.out) outcome.changed (g.W.Write.contents c.flush.new.out) p.0 done says c.flush.ensures)
 
 pub returns-in_default : goal.returns-in_default
 returns-in_default g c s0 s =

@@ -15,8 +15,8 @@ returns-in-First g c = rw c.in-First.is c.run-in-First.ensures
 pub returns-in-Last : goal.returns-in-Last
 returns-in-Last g c = rw c.in-Last.is c.run-in-Last.ensures
 
-pub returns-in-Lastupdate : goal.returns-in-Lastupdate
-returns-in-Lastupdate g c = rw c.in-Lastupdate.is c.run-in-Lastupdate.ensures
+pub returns-in-LastUpdate : goal.returns-in-LastUpdate
+returns-in-LastUpdate g c = rw c.in-LastUpdate.is c.run-in-LastUpdate.ensures
 
 pub returns-in-Info : goal.returns-in-Info
 returns-in-Info g c = rw c.in-Info.is c.run-in-Info.ensures

@@ -1,5 +1,6 @@
 use Rattle.rrd_tool.specs.Commands.{effect}
 use Rattle.rrd_tool.proofs.RunLemmas.{runs_on}
+use Rattle.rrd_tool.proofs.SaidLemmas.{prints_some}
 use Rattle.rrd_tool.proofs.execution.execute.Goals as goal
 
 pub returns-in-None-clause-kept : goal.returns-in-None-clause-kept
@@ -14,3 +15,12 @@ pub returns-in-Some-clause-run : goal.returns-in-Some-clause-run
 returns-in-Some-clause-run g c state s =
     let outcome = c.run.result in
     runs_on c.created_is_valid.ensures c.database_begins.ensures c.action_goes_on.ensures (effect c.args.command) c.args.database outcome.database state _ _ outcome.changed outcome.fault s (rw c.in-Some.is c.run.ensures)
+
+pub returns-in-None-clause-says : goal.returns-in-None-clause-says
+returns-in-None-clause-says g c =
+    let out = g.W.Write.contents c.args.out.now in
+    prints_some c.args.database c.args.command out out c.run_without.result (rw c.in-None.is (c.run_without.ensures out))
+
+pub returns-in-Some-clause-says : goal.returns-in-Some-clause-says
+returns-in-Some-clause-says g c =
+    prints_some c.args.database c.args.command (g.W.Write.contents c.args.out.now) (g.W.Write.contents c.run.new.out) c.run.result (rw c.in-Some.is c.run.ensures)

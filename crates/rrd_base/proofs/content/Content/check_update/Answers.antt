@@ -1,13 +1,20 @@
-use Rattle.std.proofs.Common.{◌∙◌, ap}
+use Rattle.std.proofs.Common.{◌≡◌, ◌∙◌, ap, subst}
+use Rattle.std.specs.Result.{IfOk}
 use Rattle.rrd_spec.specs.Commands.{Updating}
 use Rattle.rrd_spec.specs.History.{Content}
 use Rattle.rrd_spec.specs.Commands.Verdict.{first_refusal, update_checks, verdict, verdict_within}
+use Rattle.rrd_base.specs.Update.{AreColumns}
 use Rattle.rrd_base.proofs.content.Content.check_update.Goals as goal
 use Rattle.rrd_spec.specs.Limits.{present}
 
-pub returns : goal.returns
+pub returns-clause-refusal : goal.returns-clause-refusal
 unfolding verdict_within
-returns c =
+returns-clause-refusal c =
     let update = c.args.update.now in
-    c.check_update.ensures ∙ ap (λ sources. first_refusal (update_checks present sources c.self.inside.last update)) c.deref.ensures.value
+    c.check_update.ensures.refusal ∙ ap (λ sources. first_refusal (update_checks present sources c.self.inside.last update)) c.deref.ensures.value
     ∙ ap (λ (x : Content). verdict x (Updating update)) c.self.view_is
+
+pub returns-clause-columns : goal.returns-clause-columns
+returns-clause-columns c =
+    let same = c.deref.ensures.value ∙ ap (λ (x : Content). x.sources) c.self.view_is in
+    subst (λ sources. IfOk c.check_update.result (λ columns. AreColumns sources columns × (columns.template.now ≡ c.args.update.now.template))) same c.check_update.ensures.columns

@@ -1,5 +1,5 @@
 use Rattle.std.proofs.Common.{◌≡◌, sym, ◌∙◌, ap, subst, ◌<◌, length, set}
-use Rattle.rrd_spec.specs.History.{Archive, Content}
+use Rattle.rrd_spec.specs.History.{Rra, Content}
 use Rattle.rrd_spec.specs.Journal.Entries.{rows_at, with_rows_at}
 use Rattle.rrd_base.specs.Content.{content_of}
 use Rattle.rrd_spec.specs.Validity.{IsValid}
@@ -14,7 +14,7 @@ invariant_of-self c =
     let rows = c.args.rows in
     let there : k < length d.archives = subst (λ (x : Content). k < length x.archives) (sym c.self.view_is) c.requires.there in
     let archives : set d.archives k c.swap_rows.new.self ≡ with_rows_at d.archives k rows
-    = ap (set d.archives k) (c.swap_rows.ensures.mine ∙ ap (λ (a : Archive). let b : Archive = record a { def = record a.def { rows = length rows }; rows = rows } in b) c.get_mut.ensures.value)
+    = ap (set d.archives k) (c.swap_rows.ensures.mine ∙ ap (λ (a : Rra). let b : Rra = record a { def = record a.def { rows = length rows }; rows = rows } in b) c.get_mut.ensures.value)
     ∙ rows_set d.archives k c.get_mut.result.now rows there in
     subst (λ xs. IsValid (record (content_of d) { archives = xs })) (sym archives) (subst (λ (x : Content). IsValid (record x { archives = with_rows_at x.archives k rows })) (sym c.self.view_is) c.requires.valid)
 
@@ -25,7 +25,7 @@ returns-clause-content c =
     let rows = c.args.rows in
     let there : k < length d.archives = subst (λ (x : Content). k < length x.archives) (sym c.self.view_is) c.requires.there in
     let archives : set d.archives k c.swap_rows.new.self ≡ with_rows_at d.archives k rows
-    = ap (set d.archives k) (c.swap_rows.ensures.mine ∙ ap (λ (a : Archive). let b : Archive = record a { def = record a.def { rows = length rows }; rows = rows } in b) c.get_mut.ensures.value)
+    = ap (set d.archives k) (c.swap_rows.ensures.mine ∙ ap (λ (a : Rra). let b : Rra = record a { def = record a.def { rows = length rows }; rows = rows } in b) c.get_mut.ensures.value)
     ∙ rows_set d.archives k c.get_mut.result.now rows there in
     ap (λ xs. let x : Content = record (content_of d) { archives = xs } in x) archives ∙ ap (λ (x : Content). let y : Content = record x { archives = with_rows_at x.archives k rows } in y) c.self.view_is
 
@@ -34,4 +34,4 @@ returns-clause-old c =
     let d = c.self.inside in
     let k = c.args.archive in
     let there : k < length d.archives = subst (λ (x : Content). k < length x.archives) (sym c.self.view_is) c.requires.there in
-    c.swap_rows.ensures.others ∙ ap (λ (a : Archive). a.rows) c.get_mut.ensures.value ∙ rows_of_place d.archives k c.get_mut.result.now there ∙ ap (λ (x : Content). rows_at x.archives k) c.self.view_is
+    c.swap_rows.ensures.others ∙ ap (λ (a : Rra). a.rows) c.get_mut.ensures.value ∙ rows_of_place d.archives k c.get_mut.result.now there ∙ ap (λ (x : Content). rows_at x.archives k) c.self.view_is

@@ -1,5 +1,5 @@
 use Rattle.std.proofs.Common.{◌≡◌, sym, ◌∙◌, ap, subst, ◌/◌, ◌<◌, ◌≤◌, length, IfOk, None, get_or, arith}
-use Rattle.rrd_spec.specs.History.{Archive, Content}
+use Rattle.rrd_spec.specs.History.{Rra, Content}
 use Rattle.rrd_spec.specs.declared.settings.RraDef.{RraDef}
 use Rattle.rrd_spec.specs.Commands.{Resizing, rows_changed, rows_of_archives}
 use Rattle.rrd_base.specs.Content.{content_of}
@@ -19,7 +19,7 @@ rows_changed-requires-clause-small c =
     let X = content_of c.self.inside in
     let k = c.args.archive in
     let accepted = subst (λ (x : Content). verdict x (Resizing k c.args.change c.args.rows) ≡ None) (sym c.self.view_is) c.requires in
-    let old : c.def.result.rows ≡ (get_or X.archives k c.get-rra.result.now).def.rows = ap (λ (d : RraDef). d.rows) c.def.ensures ∙ ap (λ (a : Archive). a.def.rows) c.get-rra.ensures in
+    let old : c.def.result.rows ≡ (get_or X.archives k c.get-rra.result.now).def.rows = ap (λ (d : RraDef). d.rows) c.def.ensures ∙ ap (λ (a : Rra). a.def.rows) c.get-rra.ensures in
     omega (arith, old, few_at X.archives k c.get-rra.result.now (c.resize_changes_rows.ensures.fits X k c.args.change c.args.rows c.self.invariant accepted).there (have_few (length X.sources) (X.last / X.step) X.archives c.self.invariant.archives_are))
 
 pub rows_changed-requires-clause-few : goal.rows_changed-requires-clause-few
@@ -33,7 +33,7 @@ resized-requires-clause-some_rows c =
     let X = content_of c.self.inside in
     let k = c.args.archive in
     let accepted = subst (λ (x : Content). verdict x (Resizing k c.args.change c.args.rows) ≡ None) (sym c.self.view_is) c.requires in
-    let old : c.def.result.rows ≡ (get_or X.archives k c.get-rra.result.now).def.rows = ap (λ (d : RraDef). d.rows) c.def.ensures ∙ ap (λ (a : Archive). a.def.rows) c.get-rra.ensures in
+    let old : c.def.result.rows ≡ (get_or X.archives k c.get-rra.result.now).def.rows = ap (λ (d : RraDef). d.rows) c.def.ensures ∙ ap (λ (a : Rra). a.def.rows) c.get-rra.ensures in
     let fits = c.resize_changes_rows.ensures.fits X k c.args.change c.args.rows c.self.invariant accepted in
     let new : c.rows_changed.result ≡ rows_changed c.args.change (get_or (rows_of_archives X.archives) k 0) c.args.rows
     = c.rows_changed.ensures ∙ ap (λ m. rows_changed c.args.change m c.args.rows) (old ∙ sym (rows_at_archive X.archives k c.get-rra.result.now fits.there)) in
@@ -44,7 +44,7 @@ resized-requires-clause-few_rows c =
     let X = content_of c.self.inside in
     let k = c.args.archive in
     let accepted = subst (λ (x : Content). verdict x (Resizing k c.args.change c.args.rows) ≡ None) (sym c.self.view_is) c.requires in
-    let old : c.def.result.rows ≡ (get_or X.archives k c.get-rra.result.now).def.rows = ap (λ (d : RraDef). d.rows) c.def.ensures ∙ ap (λ (a : Archive). a.def.rows) c.get-rra.ensures in
+    let old : c.def.result.rows ≡ (get_or X.archives k c.get-rra.result.now).def.rows = ap (λ (d : RraDef). d.rows) c.def.ensures ∙ ap (λ (a : Rra). a.def.rows) c.get-rra.ensures in
     let fits = c.resize_changes_rows.ensures.fits X k c.args.change c.args.rows c.self.invariant accepted in
     let new : c.rows_changed.result ≡ rows_changed c.args.change (get_or (rows_of_archives X.archives) k 0) c.args.rows
     = c.rows_changed.ensures ∙ ap (λ m. rows_changed c.args.change m c.args.rows) (old ∙ sym (rows_at_archive X.archives k c.get-rra.result.now fits.there)) in
@@ -56,10 +56,10 @@ returns c =
     let k = c.args.archive in
     let accepted = subst (λ (x : Content). verdict x (Resizing k c.args.change c.args.rows) ≡ None) (sym c.self.view_is) c.requires in
     let there = (c.resize_changes_rows.ensures.fits X k c.args.change c.args.rows c.self.invariant accepted).there in
-    let old : c.def.result.rows ≡ (get_or X.archives k c.get-rra.result.now).def.rows = ap (λ (d : RraDef). d.rows) c.def.ensures ∙ ap (λ (a : Archive). a.def.rows) c.get-rra.ensures in
+    let old : c.def.result.rows ≡ (get_or X.archives k c.get-rra.result.now).def.rows = ap (λ (d : RraDef). d.rows) c.def.ensures ∙ ap (λ (a : Rra). a.def.rows) c.get-rra.ensures in
     let new : c.rows_changed.result ≡ rows_changed c.args.change (get_or (rows_of_archives X.archives) k 0) c.args.rows
     = c.rows_changed.ensures ∙ ap (λ m. rows_changed c.args.change m c.args.rows) (old ∙ sym (rows_at_archive X.archives k c.get-rra.result.now there)) in
-    let place : c.get-rra.result.now.rows ≡ rows_at X.archives k = ap (λ (a : Archive). a.rows) c.get-rra.ensures ∙ rows_of_place X.archives k c.get-rra.result.now there in
+    let place : c.get-rra.result.now.rows ≡ rows_at X.archives k = ap (λ (a : Rra). a.rows) c.get-rra.ensures ∙ rows_of_place X.archives k c.get-rra.result.now there in
     subst (λ (x : Content). IfOk c.resized.result (λ new. new ≡ newest_rows (rows_changed c.args.change (get_or (rows_of_archives x.archives) k 0) c.args.rows) (rows_at x.archives k))) c.self.view_is
     (subst (λ n. IfOk c.resized.result (λ new. new ≡ newest_rows n (rows_at X.archives k))) new
     (subst (λ rs. IfOk c.resized.result (λ new. new ≡ newest_rows c.rows_changed.result rs)) place c.resized.ensures))

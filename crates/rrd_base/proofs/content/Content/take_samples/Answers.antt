@@ -51,6 +51,7 @@ take_sample-requires-clause-accepted c =
     let values = c.as_slice-values.result.now in
     let raws_are : raws ≡ map (λ (source : DsDef). raw_of source.kind (value_for template sample.values source)) X.sources
     = c.raws_into.ensures.value
+    ∙ ap (λ asked. map (λ (source : DsDef). raw_of source.kind (value_for (template_of S asked) values source)) S) c.requires.template
     ∙ ap (λ ss. map (λ (source : DsDef). raw_of source.kind (value_for (template_of ss asked) values source)) ss) sources
     ∙ ap (λ vs. map (λ (source : DsDef). raw_of source.kind (value_for template vs source)) X.sources) c.as_slice-values.ensures in
     let written : given ≡ raws = with_items_is c.loop-sample.walk.raws raws (omega (arith, c.raws_into.auto.raws, c.deref_mut.ensures.len)) in
@@ -79,6 +80,7 @@ loop-sample-preserved c =
     let values = c.as_slice-values.result.now in
     let raws_are : raws ≡ map (λ (source : DsDef). raw_of source.kind (value_for template sample.values source)) X.sources
     = c.raws_into.ensures.value
+    ∙ ap (λ asked. map (λ (source : DsDef). raw_of source.kind (value_for (template_of S asked) values source)) S) c.requires.template
     ∙ ap (λ ss. map (λ (source : DsDef). raw_of source.kind (value_for (template_of ss asked) values source)) ss) sources
     ∙ ap (λ vs. map (λ (source : DsDef). raw_of source.kind (value_for template vs source)) X.sources) c.as_slice-values.ensures in
     let written : given ≡ raws = with_items_is c.loop-sample.walk.raws raws (omega (arith, c.raws_into.auto.raws, c.deref_mut.ensures.len)) in

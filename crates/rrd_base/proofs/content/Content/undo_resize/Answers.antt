@@ -1,5 +1,5 @@
 use Rattle.std.proofs.Common.{◌≡◌, sym, ◌∙◌, ap, subst, ◌<◌, length, set}
-use Rattle.rrd_spec.specs.History.{Archive, Content}
+use Rattle.rrd_spec.specs.History.{Rra, Content}
 use Rattle.rrd_spec.specs.Journal.Entries.{ResizeEntry, undone, with_rows_at}
 use Rattle.rrd_base.specs.Content.{content_of}
 use Rattle.rrd_spec.specs.Validity.{IsValid}
@@ -13,7 +13,7 @@ invariant_of-self c =
     let old = c.args.old in
     let there : k < length d.archives = subst (λ (x : Content). k < length x.archives) (sym c.self.view_is) c.requires.there in
     let archives : set d.archives k c.swap_rows.new.self ≡ with_rows_at d.archives k old
-    = ap (set d.archives k) (c.swap_rows.ensures.mine ∙ ap (λ (a : Archive). let b : Archive = record a { def = record a.def { rows = length old }; rows = old } in b) c.get_mut.ensures.value)
+    = ap (set d.archives k) (c.swap_rows.ensures.mine ∙ ap (λ (a : Rra). let b : Rra = record a { def = record a.def { rows = length old }; rows = old } in b) c.get_mut.ensures.value)
     ∙ rows_set d.archives k c.get_mut.result.now old there in
     subst (λ xs. IsValid (record (content_of d) { archives = xs })) (sym archives) (subst (λ (x : Content). IsValid (undone x (ResizeEntry k old))) (sym c.self.view_is) c.requires.valid)
 
@@ -24,6 +24,6 @@ returns c =
     let old = c.args.old in
     let there : k < length d.archives = subst (λ (x : Content). k < length x.archives) (sym c.self.view_is) c.requires.there in
     let archives : set d.archives k c.swap_rows.new.self ≡ with_rows_at d.archives k old
-    = ap (set d.archives k) (c.swap_rows.ensures.mine ∙ ap (λ (a : Archive). let b : Archive = record a { def = record a.def { rows = length old }; rows = old } in b) c.get_mut.ensures.value)
+    = ap (set d.archives k) (c.swap_rows.ensures.mine ∙ ap (λ (a : Rra). let b : Rra = record a { def = record a.def { rows = length old }; rows = old } in b) c.get_mut.ensures.value)
     ∙ rows_set d.archives k c.get_mut.result.now old there in
     ap (λ xs. let x : Content = record (content_of d) { archives = xs } in x) archives ∙ ap (λ (x : Content). undone x (ResizeEntry k old)) c.self.view_is

@@ -14,7 +14,7 @@ pub invariant_of-self : goal.invariant_of-self
 invariant_of-self c =
     let d = c.self.inside in
     let X : Content = content_of d in
-    let olds = c.args.olds.now.items in
+    let olds = c.args.kept.now.items in
     let list = c.as_slice.ensures.value in
     let sources : (with_items d.sources c.put_sources_back.new.sources).items ≡ with_sources d.sources.items olds
     = with_items_is d.sources c.put_sources_back.new.sources (omega (arith, c.put_sources_back.auto.sources, c.deref_mut.ensures.len)) ∙ c.put_sources_back.ensures.sources
@@ -29,7 +29,7 @@ pub returns : goal.returns
 returns c =
     let d = c.self.inside in
     let X : Content = content_of d in
-    let olds = c.args.olds.now.items in
+    let olds = c.args.kept.now.items in
     let list = c.as_slice.ensures.value in
     let sources : (with_items d.sources c.put_sources_back.new.sources).items ≡ with_sources d.sources.items olds
     = with_items_is d.sources c.put_sources_back.new.sources (omega (arith, c.put_sources_back.auto.sources, c.deref_mut.ensures.len)) ∙ c.put_sources_back.ensures.sources

@@ -1,5 +1,5 @@
 use Rattle.std.proofs.Common.{◌∙◌, ap}
-use Rattle.rrd_spec.specs.declared.requests.fetch.Request.{Request}
+use Rattle.rrd_spec.specs.declared.requests.fetch.FetchRequest.{FetchRequest}
 use Rattle.rrd_spec.specs.Choice.{choice_within, choice_of}
 use Rattle.rrd_spec.specs.History.{definitions}
 use Rattle.rrd_spec.specs.Journal.Survivors.{Stored}
@@ -9,5 +9,5 @@ use Rattle.rrd_spec.specs.Limits.{present}
 pub returns : goal.returns
 unfolding choice_within
 returns c =
-    let request : Request = record { function = c.args.function; asked = c.args.asked; start = c.args.start; end = c.args.end } in
+    let request : FetchRequest = record { function = c.args.function; asked = c.args.asked; start = c.args.start; end = c.args.end } in
     c.choose.ensures ∙ ap (λ (k : Stored). choice_of present k.content.step k.content.last (definitions k.content.archives) request) c.self.view_is

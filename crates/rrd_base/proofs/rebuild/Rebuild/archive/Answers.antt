@@ -1,6 +1,6 @@
 use Rattle.std.proofs.Common.{◌≡◌, ◌∙◌, ◌++◌, ◌∷◌, [], refl, replicate, sym, ap, subst, arith}
 use Rattle.rrd_fixed.specs.declared.cell.Cell.{Cell}
-use Rattle.rrd_spec.specs.History.{Archive}
+use Rattle.rrd_spec.specs.History.{Rra}
 use Rattle.rrd_spec.specs.Files.Rebuilding.{MayHead, with_head}
 use Rattle.rrd_base.specs.Rebuild.{coming, filed_in, IsRebuilding}
 use Rattle.rrd_base.proofs.Comes.{archive_came, at_head, cursor_stays, head_keeps, head_is, none_later, outlines_lengths}
@@ -10,7 +10,7 @@ use Rattle.rrd_base.proofs.rebuild.Rebuild.archive.Goals as goal
 pub begin-requires : goal.begin-requires
 begin-requires c =
     let may : MayHead (filed_in (coming c.self.inside)) c.args.def = subst (λ f. MayHead f c.args.def) (sym c.self.view_is) (c.may_head.ensures.good c.if-not-may_head.false) in
-    record { some_rows = may.def_is.some_rows; few_rows = may.def_is.few_rows; some_sources = c.self.invariant.came.header_is.some_source; few_sources = c.self.invariant.came.header_is.few_sources }
+    record { few_rows = may.def_is.few_rows; some_sources = c.self.invariant.came.header_is.some_source; few_sources = c.self.invariant.came.header_is.few_sources; there = c.first_place-first.ensures.there }
 
 pub push-requires : goal.push-requires
 push-requires c =
@@ -30,7 +30,7 @@ push-requires-2 c =
 pub invariant_of-self : goal.invariant_of-self
 invariant_of-self c =
     let d = coming c.self.inside in
-    let a : Archive = record { def = c.args.def; parts = []; rows = replicate c.args.def.rows (replicate d.sources_due Cell.Unknown) } in
+    let a : Rra = record { def = c.args.def; parts = []; rows = replicate c.args.def.rows (replicate d.sources_due Cell.Unknown) } in
     let may : MayHead (filed_in d) a.def = subst (λ f. MayHead f a.def) (sym c.self.view_is) (c.may_head.ensures.good c.if-not-may_head.false) in
     let path : archive_came d a ≡ record d { archives = c.push.new.self; outline = record d.outline { archives = c.push-2.new.self } } =
     λ i. record d { archives = sym (c.push.ensures ∙ ap (λ s. d.archives ++ s ∷ []) c.in-Ok.ensures) i; outline = record d.outline { archives = sym c.push-2.ensures i } } in
@@ -42,7 +42,7 @@ invariant_of-self c =
 pub returns-clause-ok : goal.returns-clause-ok
 returns-clause-ok c =
     let d = coming c.self.inside in
-    let a : Archive = record { def = c.args.def; parts = []; rows = replicate c.args.def.rows (replicate d.sources_due Cell.Unknown) } in
+    let a : Rra = record { def = c.args.def; parts = []; rows = replicate c.args.def.rows (replicate d.sources_due Cell.Unknown) } in
     let may : MayHead (filed_in d) a.def = subst (λ f. MayHead f a.def) (sym c.self.view_is) (c.may_head.ensures.good c.if-not-may_head.false) in
     let path : archive_came d a ≡ record d { archives = c.push.new.self; outline = record d.outline { archives = c.push-2.new.self } } =
     λ i. record d { archives = sym (c.push.ensures ∙ ap (λ s. d.archives ++ s ∷ []) c.in-Ok.ensures) i; outline = record d.outline { archives = sym c.push-2.ensures i } } in

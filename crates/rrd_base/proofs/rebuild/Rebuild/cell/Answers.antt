@@ -1,7 +1,7 @@
 use Rattle.std.proofs.Common.{◌≡◌, ◌∙◌, ◌<◌, ◌≤◌, refl, sym, ap, subst, arith}
 use Rattle.rrd_spec.specs.declared.due.Due.TheVariants.{CellDue}
 use Rattle.rrd_spec.specs.declared.settings.RraDef.{RraDef}
-use Rattle.rrd_spec.specs.History.{Archive}
+use Rattle.rrd_spec.specs.History.{Rra}
 use Rattle.rrd_spec.specs.Limits.{present}
 use Rattle.rrd_spec.specs.Files.Rebuilding.{IsArchiveDef, due, with_cell}
 use Rattle.rrd_spec.specs.Settings.{resolution}
@@ -125,8 +125,8 @@ invariant_of-self c =
     let goes : Advances d.sources_due a.def.rows place cursor c.advance.new.self = subst (λ (def : RraDef). Advances d.sources_due def.rows place cursor c.advance.new.self) c.def-def.ensures c.advance.ensures in
     let after = cell_comes c.cells_stand_in_slots.ensures.as_many d a b c.args.cell place cursor c.advance.new.self c.self.invariant.came here.at put refl refl place_is c.self.invariant.cursor_is.source_there here.slot goes in
     record {
-      came = subst (λ (x : Archive). IsRebuilding (cell_came d x c.advance.new.self.archive (filled_by d.sources_due c.advance.new.self))) (sym c.put.ensures) after.came;
-      cursor_is = subst (λ (x : Archive). IsCursor (cell_came d x c.advance.new.self.archive (filled_by d.sources_due c.advance.new.self)) c.advance.new.self) (sym c.put.ensures) after.cursor_is;
+      came = subst (λ (x : Rra). IsRebuilding (cell_came d x c.advance.new.self.archive (filled_by d.sources_due c.advance.new.self))) (sym c.put.ensures) after.came;
+      cursor_is = subst (λ (x : Rra). IsCursor (cell_came d x c.advance.new.self.archive (filled_by d.sources_due c.advance.new.self)) c.advance.new.self) (sym c.put.ensures) after.cursor_is;
     }
 
 pub returns-clause-ok : goal.returns-clause-ok
@@ -144,4 +144,4 @@ returns-clause-ok c =
     let put = is_put c.cells_stand_in_slots.ensures.as_many c.cells_stand_in_slots.ensures.cell_put d a c.args.cell place cursor c.self.invariant.came here.at.there c.get_mut-rra.ensures.value refl place_is c.self.invariant.cursor_is.source_there (omega (arith, inside, here.so_far.rows_are)) may.bounded in
     let goes : Advances d.sources_due a.def.rows place cursor c.advance.new.self = subst (λ (def : RraDef). Advances d.sources_due def.rows place cursor c.advance.new.self) c.def-def.ensures c.advance.ensures in
     let after = cell_comes c.cells_stand_in_slots.ensures.as_many d a b c.args.cell place cursor c.advance.new.self c.self.invariant.came here.at put refl refl place_is c.self.invariant.cursor_is.source_there here.slot goes in
-    (may, ap (λ (x : Archive). filed_in (cell_came d x c.advance.new.self.archive (filled_by d.sources_due c.advance.new.self))) c.put.ensures ∙ (after.filed_is ∙ ap (λ f. with_cell f c.args.cell) c.self.view_is))
+    (may, ap (λ (x : Rra). filed_in (cell_came d x c.advance.new.self.archive (filled_by d.sources_due c.advance.new.self))) c.put.ensures ∙ (after.filed_is ∙ ap (λ f. with_cell f c.args.cell) c.self.view_is))

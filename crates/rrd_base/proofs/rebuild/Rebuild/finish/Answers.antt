@@ -14,8 +14,8 @@ invariant_of-content c =
     let d = coming c.self.inside in
     c.versions_stay_within.ensures.content d.version (content_so_far d) (content_valid d c.self.invariant.came (all_came (filed_of c.self.inside) (subst (λ (f : Filed). due f ≡ NothingDue) (sym c.self.view_is) c.requires)))
 
-pub of-requires-clause-valid : goal.of-requires-clause-valid
-of-requires-clause-valid c =
+pub from_parts-requires-clause-valid : goal.from_parts-requires-clause-valid
+from_parts-requires-clause-valid c =
     let d = coming c.self.inside in
     c.versions_stay_within.ensures.database d.version (content_so_far d) (journal_of d.journal) (database_valid d c.self.invariant.came (all_came (filed_of c.self.inside) (subst (λ (f : Filed). due f ≡ NothingDue) (sym c.self.view_is) c.requires)))
 
@@ -23,10 +23,10 @@ pub returns-clause-filed : goal.returns-clause-filed
 returns-clause-filed c =
     let came = all_came (filed_of c.self.inside) (subst (λ (f : Filed). due f ≡ NothingDue) (sym c.self.view_is) c.requires) in
     let same = ap (λ (f : Filed). f.header.version) (sym c.self.view_is) in
-    (λ i. filed (same i) (c.of.ensures i)) ∙ (filed_whole (coming c.self.inside) c.self.invariant.came came ∙ c.self.view_is)
+    (λ i. filed (same i) (c.from_parts.ensures i)) ∙ (filed_whole (coming c.self.inside) c.self.invariant.came came ∙ c.self.view_is)
 
 pub returns-clause-valid : goal.returns-clause-valid
 returns-clause-valid c =
     let valid = database_valid (coming c.self.inside) c.self.invariant.came (all_came (filed_of c.self.inside) (subst (λ (f : Filed). due f ≡ NothingDue) (sym c.self.view_is) c.requires)) in
-    let here = subst (λ (d : Stored). IsValidDatabaseWithin (limits (filed_of c.self.inside)) d.content d.journal) (sym c.of.ensures) valid in
-    subst (λ (f : Filed). IsValidDatabaseWithin (limits f) c.of.result.content c.of.result.journal) c.self.view_is here
+    let here = subst (λ (d : Stored). IsValidDatabaseWithin (limits (filed_of c.self.inside)) d.content d.journal) (sym c.from_parts.ensures) valid in
+    subst (λ (f : Filed). IsValidDatabaseWithin (limits f) c.from_parts.result.content c.from_parts.result.journal) c.self.view_is here

@@ -1,19 +1,19 @@
 use Rattle.std.proofs.Common.{◌≡◌, ◌∙◌, sym, ap, subst}
-use Rattle.rrd_spec.specs.declared.due.Due.TheVariants.{EntryDue}
 use Rattle.rrd_spec.specs.declared.outline.Outline.{Outline}
 use Rattle.rrd_spec.specs.Limits.{limits_of}
 use Rattle.rrd_spec.specs.Journal.Fitting.{MayUndo}
-use Rattle.rrd_spec.specs.Files.Rebuilding.{MayEntry, due}
+use Rattle.rrd_spec.specs.Files.Rebuilding.{MayEntry, due, outline_left}
 use Rattle.rrd_base.specs.Journal.{entry_of}
 use Rattle.rrd_base.specs.Rebuild.{coming, filed_in}
-use Rattle.rrd_base.proofs.EntryComes.{at_entry, outline_fits}
+use Rattle.rrd_base.specs.Rebuild.EntryChecks.{IsOutline}
+use Rattle.rrd_base.proofs.Entering.{fits as left_fits}
 use Rattle.rrd_base.proofs.rebuild.Rebuild.may_entry.Goals as goal
 
 pub may_undo-requires-clause-now_is : goal.may_undo-requires-clause-now_is
 may_undo-requires-clause-now_is c =
     let d = coming c.self.inside in
-    let is_due : due (filed_in d) ≡ EntryDue = ap due c.self.view_is ∙ (sym c.due.ensures ∙ c.in-EntryDue.is) in
-    outline_fits c.outlines_follow.ensures.undone c.outlines_follow.ensures.filed c.journals_in_pieces.ensures.leaves d c.self.invariant.came (at_entry c.cells_stand_in_slots.ensures.as_many d c.self.invariant.came is_due)
+    let out : d.outline ≡ outline_left c.args.self.now = c.self.invariant.came.outline_is ∙ ap outline_left c.self.view_is in
+    subst IsOutline (sym out) (left_fits c.args.self.now.header.version (outline_left c.args.self.now) c.outline_is_valid.ensures)
 
 pub returns-clause-good : goal.returns-clause-good
 returns-clause-good c = λ fits.

@@ -6,7 +6,7 @@ use Rattle.rrd_fixed.specs.Rate.{top}
 use Rattle.rrd_fold.specs.Bounds.{Consolidating}
 use Rattle.rrd_fold.specs.Parts.{Part}
 use Rattle.rrd_spec.specs.declared.settings.RraDef.{RraDef}
-use Rattle.rrd_spec.specs.History.{Archive}
+use Rattle.rrd_spec.specs.History.{Rra}
 use Rattle.rrd_spec.specs.Files.Rebuilding.{MayPrep, with_prep}
 use Rattle.rrd_base.specs.Rebuild.{Coming, IsCursor, IsRebuilding, coming, filed_in}
 use Rattle.std.proofs.lemmas.List.{set-get_or}
@@ -32,8 +32,8 @@ get-requires c =
     let at : AtPrep d may.def = at_prep d may.def c.self.invariant.came may.is_due in
     omega (arith, at.some)
 
-pub made_row-prep-requires-clause-few : goal.made_row-prep-requires-clause-few
-made_row-prep-requires-clause-few c =
+pub from_part-prep-requires-clause-few : goal.from_part-prep-requires-clause-few
+from_part-prep-requires-clause-few c =
     let d = coming c.self.inside in
     let same : to_z w128 (of_z w128 c.args.value) ≡ c.args.value = to_z-of_z {w = w128} c.ranges.value in
     let now : MayPrep c.args.self.now (record { known = c.args.known; value = c.args.value }) = subst (λ z. MayPrep c.args.self.now (record { known = c.args.known; value = z })) same (c.may_prep.ensures.good c.if-not-may_prep.false) in
@@ -41,8 +41,8 @@ made_row-prep-requires-clause-few c =
     let at : AtPrep d may.def = at_prep d may.def c.self.invariant.came may.is_due in
     omega (arith, may.part_is.few, at.def_is.some_steps, at.def_is.few_steps)
 
-pub made_row-prep-requires-clause-bounded : goal.made_row-prep-requires-clause-bounded
-made_row-prep-requires-clause-bounded c =
+pub from_part-prep-requires-clause-bounded : goal.from_part-prep-requires-clause-bounded
+from_part-prep-requires-clause-bounded c =
     let d = coming c.self.inside in
     let same : to_z w128 (of_z w128 c.args.value) ≡ c.args.value = to_z-of_z {w = w128} c.ranges.value in
     let now : MayPrep c.args.self.now (record { known = c.args.known; value = c.args.value }) = subst (λ z. MayPrep c.args.self.now (record { known = c.args.known; value = z })) same (c.may_prep.ensures.good c.if-not-may_prep.false) in
@@ -74,7 +74,7 @@ push_prep-requires c =
     let x = c.get_mut.result.now in
     let count : length d.archives ≡ suc (c.len-last.result - 1) = omega (arith, at.some) in
     let two = last_prep d x (c.len-last.result - 1) may.def c.self.invariant.came count c.get_mut.ensures.value at.is in
-    ap (λ (p : Consolidating). p.function) c.made_row-prep.ensures ∙ (function ∙ ap (λ (def : RraDef). def.function) (sym two.1))
+    ap (λ (p : Consolidating). p.function) c.from_part-prep.ensures ∙ (function ∙ ap (λ (def : RraDef). def.function) (sym two.1))
 
 pub invariant_of-self : goal.invariant_of-self
 invariant_of-self c =
@@ -97,8 +97,8 @@ invariant_of-self-2 c =
     let count : length d.archives ≡ suc (c.len-last.result - 1) = omega (arith, at.some) in
     let two = last_prep d x (c.len-last.result - 1) may.def c.self.invariant.came count c.get_mut.ensures.value at.is in
     let part : Part = record { known = c.args.known; value = c.args.value } in
-    let made : c.made_row-prep.result.part ≡ part = ap (λ (p : Consolidating). p.part) c.made_row-prep.ensures ∙ ap (λ z. let p : Part = record { known = c.args.known; value = z } in p) same in
-    let pushed : c.push_prep.new.self ≡ record x { parts = x.parts ++ part ∷ [] } = c.in-Ok.ensures.ok ∙ ap (λ (p : Part). let a : Archive = record x { parts = x.parts ++ p ∷ [] } in a) made in
+    let made : c.from_part-prep.result.part ≡ part = ap (λ (p : Consolidating). p.part) c.from_part-prep.ensures ∙ ap (λ z. let p : Part = record { known = c.args.known; value = z } in p) same in
+    let pushed : c.push_prep.new.self ≡ record x { parts = x.parts ++ part ∷ [] } = c.in-Ok.ensures.ok ∙ ap (λ (p : Part). let a : Rra = record x { parts = x.parts ++ p ∷ [] } in a) made in
     let path : prep_came d (c.len-last.result - 1) x part ≡ record d { archives = set d.archives (c.len-last.result - 1) c.push_prep.new.self } = λ i. record d { archives = set d.archives (c.len-last.result - 1) (sym pushed i) } in
     record {
       came = subst IsRebuilding path (prep_keeps d (c.len-last.result - 1) x may.def part c.self.invariant.came count c.get_mut.ensures.value at.is may.part_is);
@@ -116,7 +116,7 @@ returns-clause-ok c =
     let count : length d.archives ≡ suc (c.len-last.result - 1) = omega (arith, at.some) in
     let two = last_prep d x (c.len-last.result - 1) may.def c.self.invariant.came count c.get_mut.ensures.value at.is in
     let part : Part = record { known = c.args.known; value = c.args.value } in
-    let made : c.made_row-prep.result.part ≡ part = ap (λ (p : Consolidating). p.part) c.made_row-prep.ensures ∙ ap (λ z. let p : Part = record { known = c.args.known; value = z } in p) same in
-    let pushed : c.push_prep.new.self ≡ record x { parts = x.parts ++ part ∷ [] } = c.in-Ok.ensures.ok ∙ ap (λ (p : Part). let a : Archive = record x { parts = x.parts ++ p ∷ [] } in a) made in
+    let made : c.from_part-prep.result.part ≡ part = ap (λ (p : Consolidating). p.part) c.from_part-prep.ensures ∙ ap (λ z. let p : Part = record { known = c.args.known; value = z } in p) same in
+    let pushed : c.push_prep.new.self ≡ record x { parts = x.parts ++ part ∷ [] } = c.in-Ok.ensures.ok ∙ ap (λ (p : Part). let a : Rra = record x { parts = x.parts ++ p ∷ [] } in a) made in
     let path : prep_came d (c.len-last.result - 1) x part ≡ record d { archives = set d.archives (c.len-last.result - 1) c.push_prep.new.self } = λ i. record d { archives = set d.archives (c.len-last.result - 1) (sym pushed i) } in
     (now, ap filed_in (sym path) ∙ (prep_is d (c.len-last.result - 1) x may.def part c.self.invariant.came count c.get_mut.ensures.value at.is ∙ ap (λ f. with_prep f part) c.self.view_is))

@@ -25,7 +25,7 @@ invariant_of-self-2 c =
     let d = coming c.self.inside in
     let e = c.in-Ok.ensures.ok in
     let same : to_z w128 (of_z w128 c.args.sum) ≡ c.args.sum = to_z-of_z {w = w128} c.ranges.sum in
-    let part = c.made_step-prep.ensures ∙ ap (λ z. let p : Part = record { known = c.args.known; value = z } in p) same in
+    let part = c.from_part-prep.ensures ∙ ap (λ z. let p : Part = record { known = c.args.known; value = z } in p) same in
     let source : Source = record { def = c.args.def; raw = c.args.raw; part = record { known = c.args.known; value = c.args.sum } } in
     let may : MaySource (filed_in d) source = subst (λ f. MaySource f source) (sym c.self.view_is) (subst (λ z. MaySource c.args.self.now (record { def = c.args.def; raw = c.args.raw; part = record { known = c.args.known; value = z } })) same (c.may_source.ensures.good c.if-not-may_source.false)) in
     let path : source_came d source.def source.raw source.part ≡ record d { sources = c.push_source.new.sources.items; raws = c.push_source.new.raws.items; preps = c.push_source.new.preps.items; outline = record d.outline { sources = c.push_source.new.defs } } =
@@ -40,7 +40,7 @@ returns-clause-ok c =
     let d = coming c.self.inside in
     let e = c.in-Ok.ensures.ok in
     let same : to_z w128 (of_z w128 c.args.sum) ≡ c.args.sum = to_z-of_z {w = w128} c.ranges.sum in
-    let part = c.made_step-prep.ensures ∙ ap (λ z. let p : Part = record { known = c.args.known; value = z } in p) same in
+    let part = c.from_part-prep.ensures ∙ ap (λ z. let p : Part = record { known = c.args.known; value = z } in p) same in
     let source : Source = record { def = c.args.def; raw = c.args.raw; part = record { known = c.args.known; value = c.args.sum } } in
     let path : source_came d source.def source.raw source.part ≡ record d { sources = c.push_source.new.sources.items; raws = c.push_source.new.raws.items; preps = c.push_source.new.preps.items; outline = record d.outline { sources = c.push_source.new.defs } } =
     λ i. record d { sources = sym e.0 i; raws = sym e.1 i; preps = sym (e.2 ∙ ap (λ p. d.preps ++ p ∷ []) part) i; outline = record d.outline { sources = sym e.3 i } } in

@@ -3,7 +3,7 @@ use Rattle.std.proofs.lemmas.List.{with_items_is, length-map}
 use Rattle.std.specs.List.{AllByRecursion}
 use Rattle.rrd_fold.specs.Bounds.{Consolidating}
 use Rattle.rrd_fold.specs.Parts.{Part, nothing, row_cell}
-use Rattle.rrd_spec.specs.History.{Archive}
+use Rattle.rrd_spec.specs.History.{Rra}
 use Rattle.rrd_spec.specs.Preparations.{anew, row_of, AllOf}
 use Rattle.rrd_spec.specs.Lemmas.Preparations.{AllOf-anew}
 use Rattle.rrd_base.proofs.RraLemmas.{shown, closes, parts_fit, row_of_parts}
@@ -12,7 +12,7 @@ use Rattle.rrd_base.proofs.rra.Rra.close_row.Goals as goal
 pub close_rows-requires-clause-fits : goal.close_rows-requires-clause-fits
 close_rows-requires-clause-fits c =
     let a = c.self.inside in
-    let fits = subst (λ (x : Archive). AllByRecursion (λ (p : Part). p.known ≤ x.def.steps) x.parts) (sym c.self.view_is) c.requires.fits in
+    let fits = subst (λ (x : Rra). AllByRecursion (λ (p : Part). p.known ≤ x.def.steps) x.parts) (sym c.self.view_is) c.requires.fits in
     subst (λ (preps : List Consolidating). AllByRecursion (λ (prep : Consolidating). prep.part.known ≤ a.def.steps) preps) (sym c.deref_mut.ensures.value)
     (parts_fit a.def.steps a.preps.items fits)
 
@@ -27,10 +27,10 @@ returns-clause-value c =
     let a = c.self.inside in
     let n = length c.args.row.now in
     let now = with_items_is a.preps c.close_rows.new.preps (omega arith) ∙ c.close_rows.ensures.anew ∙ ap (map anew) c.deref_mut.ensures.value in
-    let as_many : length a.preps.items ≡ n = sym (length-map a.preps.items (λ (prep : Consolidating). prep.part)) ∙ ap (λ (x : Archive). length x.parts) c.self.view_is ∙ sym c.requires.places in
+    let as_many : length a.preps.items ≡ n = sym (length-map a.preps.items (λ (prep : Consolidating). prep.part)) ∙ ap (λ (x : Rra). length x.parts) c.self.view_is ∙ sym c.requires.places in
     ap (λ preps. shown a.def preps a.rows) now
     ∙ closes a.def n a.preps.items a.rows as_many
-    ∙ ap (λ (x : Archive). let y : Archive = record x { parts = replicate n nothing } in y) c.self.view_is
+    ∙ ap (λ (x : Rra). let y : Rra = record x { parts = replicate n nothing } in y) c.self.view_is
 
 pub returns-clause-cells : goal.returns-clause-cells
 returns-clause-cells c =
@@ -38,4 +38,4 @@ returns-clause-cells c =
     c.close_rows.ensures.cells
     ∙ ap (map (row_of a.def.xff a.def.steps)) c.deref_mut.ensures.value
     ∙ row_of_parts a.def.function a.def.xff a.def.steps a.preps.items c.self.invariant
-    ∙ ap (λ (x : Archive). map (row_cell x.def.function x.def.xff x.def.steps) x.parts) c.self.view_is
+    ∙ ap (λ (x : Rra). map (row_cell x.def.function x.def.xff x.def.steps) x.parts) c.self.view_is

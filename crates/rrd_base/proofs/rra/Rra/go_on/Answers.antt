@@ -3,7 +3,7 @@ use Rattle.std.proofs.lemmas.List.{with_items_is}
 use Rattle.std.specs.List.{AllByRecursion, fold}
 use Rattle.rrd_fold.specs.Bounds.{Consolidating}
 use Rattle.rrd_fold.specs.Parts.{Part, with_each}
-use Rattle.rrd_spec.specs.History.{Archive}
+use Rattle.rrd_spec.specs.History.{Rra}
 use Rattle.rrd_spec.specs.Preparations.{map_each, with_steps, AllOf}
 use Rattle.rrd_spec.specs.Lemmas.Preparations.{AllOf-with_steps}
 use Rattle.rrd_base.proofs.RraLemmas.{shown, goes_on, preps_fit}
@@ -13,7 +13,7 @@ pub add_steps-requires-clause-fits : goal.add_steps-requires-clause-fits
 add_steps-requires-clause-fits c =
     let a = c.self.inside in
     let n : ℕ = c.args.count in
-    let fits = subst (λ (x : Archive). AllByRecursion (λ (p : Part). p.known + n ≤ 1000000) x.parts) (sym c.self.view_is) c.requires.fits in
+    let fits = subst (λ (x : Rra). AllByRecursion (λ (p : Part). p.known + n ≤ 1000000) x.parts) (sym c.self.view_is) c.requires.fits in
     subst (λ (preps : List Consolidating). AllByRecursion (λ (prep : Consolidating). prep.part.known + n ≤ 1000000) preps) (sym c.deref_mut.ensures.value)
     (preps_fit n 1000000 1000000 a.preps.items (omega arith) fits)
 
@@ -31,4 +31,4 @@ returns-clause-value c =
     let now = with_items_is a.preps c.add_steps.new.preps (omega arith) ∙ c.add_steps.ensures.added ∙ ap (λ preps. map_each (with_steps count) preps step) c.deref_mut.ensures.value in
     ap (λ preps. shown a.def preps a.rows) now
     ∙ goes_on a.def a.preps.items a.rows step count c.self.invariant
-    ∙ ap (λ (x : Archive). let y : Archive = record x { parts = fold (with_each x.def.function) x.parts (replicate count step) } in y) c.self.view_is
+    ∙ ap (λ (x : Rra). let y : Rra = record x { parts = fold (with_each x.def.function) x.parts (replicate count step) } in y) c.self.view_is

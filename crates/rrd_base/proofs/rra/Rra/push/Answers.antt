@@ -3,7 +3,7 @@ use Rattle.std.proofs.lemmas.List.{length-drop, length-replicate}
 use Rattle.rrd_fixed.specs.declared.cell.Cell.{Cell}
 use Rattle.rrd_ring.specs.Rows.{HasWidth}
 use Rattle.rrd_ring.specs.Widths.{HasWidth-append, HasWidth-drop, width_is}
-use Rattle.rrd_spec.specs.History.{Archive}
+use Rattle.rrd_spec.specs.History.{Rra}
 use Rattle.rrd_spec.specs.Laws.ListedContent.{keep_last}
 use Rattle.rrd_base.specs.declared.rra.Rra.TheInside.{Inside}
 use Rattle.rrd_base.proofs.PushedRows.{push_before, push_past}
@@ -17,7 +17,7 @@ push_row-requires-clause-one_each c =
     let row = c.args.row.now in
     let n = length row in
     let one : List (List Cell) = row ∷ [] in
-    let wide = subst (λ (x : Archive). HasWidth n x.rows) (sym c.self.view_is) c.requires.wide in
+    let wide = subst (λ (x : Rra). HasWidth n x.rows) (sym c.self.view_is) c.requires.wide in
     sym (width_is n rows wide (omega (arith, c.rows.ensures.count, c.rows.ensures.some)))
 
 pub push_row-requires-clause-turns : goal.push_row-requires-clause-turns
@@ -27,7 +27,7 @@ push_row-requires-clause-turns c =
     let n = length row in
     let r = length rows in
     let k : ℕ = c.args.times in
-    let most = subst (λ (x : Archive). c.args.meter.now + n * min (1 + k) (length x.rows) < 2 ^ 64) (sym c.self.view_is) c.requires.turns in
+    let most = subst (λ (x : Rra). c.args.meter.now + n * min (1 + k) (length x.rows) < 2 ^ 64) (sym c.self.view_is) c.requires.turns in
     let more : min (1 + k) r ≡ 1 + k = omega (arith, c.if-times-rows.true, c.rows.ensures.count) in
     let all = subst (λ x. c.args.meter.now + n * x < 2 ^ 64) more most in
     omega (arith, all)
@@ -38,7 +38,7 @@ push_times-requires-clause-wide c =
     let row = c.args.row.now in
     let n = length row in
     let one : List (List Cell) = row ∷ [] in
-    let wide = subst (λ (x : Archive). HasWidth n x.rows) (sym c.self.view_is) c.requires.wide in
+    let wide = subst (λ (x : Rra). HasWidth n x.rows) (sym c.self.view_is) c.requires.wide in
     subst (λ k. HasWidth k c.if-times-rows.self-inside.rows) (sym c.requires.same_width)
     (elim c.if-times-rows.branch [
       | then-times-rows w ↦ subst (HasWidth n) (sym (ap (λ (x : Inside). x.rows) w.self-inside-is ∙ w.push_row.ensures.rows)) (HasWidth-drop n 1 (rows ++ one) (HasWidth-append n rows one wide (refl, tt)))
@@ -54,7 +54,7 @@ push_times-requires-clause-turns c =
     let r = length rows in
     let k : ℕ = c.args.times in
     let one : List (List Cell) = row ∷ [] in
-    let most = subst (λ (x : Archive). c.args.meter.now + n * min (1 + k) (length x.rows) < 2 ^ 64) (sym c.self.view_is) c.requires.turns in
+    let most = subst (λ (x : Rra). c.args.meter.now + n * min (1 + k) (length x.rows) < 2 ^ 64) (sym c.self.view_is) c.requires.turns in
     subst (λ m. c.if-times-rows.meter + m * min k (length now) < 2 ^ 64) (sym c.requires.same_width)
     (elim c.if-times-rows.branch [
       | then-times-rows w ↦
@@ -75,7 +75,7 @@ returns-clause-value c =
     let a = c.self.inside in
     let now = c.if-times-rows.self-inside in
     let row = c.args.row.now in
-    let more = replicate c.args.times c.args.then.now in
+    let more = replicate c.args.times c.args.other.now in
     let kept = λ (x : Inside). keep_last (length x.rows) (x.rows ++ more) in
     let with_rows = shown a.def a.preps.items in
     ap (shown now.def now.preps.items) c.push_times.ensures.rows
@@ -84,9 +84,9 @@ returns-clause-value c =
           ∙ ap (λ z. with_rows (keep_last (length z) (z ++ more))) w.push_row.ensures.rows
           ∙ ap with_rows (push_before a.rows more row)
       | else-times-rows w ↦ ap (λ (x : Inside). shown x.def x.preps.items (kept x)) w.self-inside-is
-          ∙ ap with_rows (push_past a.rows more row (omega (arith, w.if-times-rows.false, c.rows.ensures.count, length-replicate c.args.times c.args.then.now)))
+          ∙ ap with_rows (push_past a.rows more row (omega (arith, w.if-times-rows.false, c.rows.ensures.count, length-replicate c.args.times c.args.other.now)))
     ])
-    ∙ ap (λ (x : Archive). let y : Archive = record x { rows = keep_last (length x.rows) (x.rows ++ row ∷ more) } in y) c.self.view_is
+    ∙ ap (λ (x : Rra). let y : Rra = record x { rows = keep_last (length x.rows) (x.rows ++ row ∷ more) } in y) c.self.view_is
 
 pub returns-clause-ticked : goal.returns-clause-ticked
 returns-clause-ticked c =
@@ -111,4 +111,4 @@ returns-clause-ticked c =
           let same : min k r ≡ min (1 + k) r = omega (arith, w.if-times-rows.false, c.rows.ensures.count) in
           ap (λ (x : Inside). c.if-times-rows.meter + n * min k (length x.rows)) w.self-inside-is ∙ ap (λ m. m + n * min k r) w.meter-is ∙ ap (λ x. c.args.meter.now + n * x) same
     ])
-    ∙ ap (λ (x : Archive). c.args.meter.now + n * min (1 + k) (length x.rows)) c.self.view_is
+    ∙ ap (λ (x : Rra). c.args.meter.now + n * min (1 + k) (length x.rows)) c.self.view_is

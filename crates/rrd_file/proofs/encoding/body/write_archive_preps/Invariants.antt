@@ -1,12 +1,12 @@
 use Rattle.std.proofs.Common.{◌≡◌, Some, map, take}
 use Rattle.std.specs.Prelude.{slice_get}
 use Rattle.std.specs.List.{flat_map}
-use Rattle.rrd_spec.specs.History.{Archive}
+use Rattle.rrd_spec.specs.History.{Rra}
 use Rattle.rrd_file.specs.Layout.Pieces.{OfPrep, spell}
 use Rattle.rrd_file.specs.Encoding.Block.{Adds}
 use Rattle.rrd_file.proofs.encoding.body.write_archive_preps.Given as goal
 
 abbrev pub invariant-loop-source : goal.invariant-loop-source
 invariant-loop-source g l =
-    (a : Archive) → slice_get l.database.content.archives l.archive ≡ Some a
+    (a : Rra) → slice_get l.database.content.archives l.archive ≡ Some a
     → Adds (g.W.Write.contents l.fn.out) l.fn.block (g.W.Write.contents l.out) l.block (flat_map spell (take l.source (map OfPrep a.parts)))

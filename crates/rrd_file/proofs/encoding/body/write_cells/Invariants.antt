@@ -1,6 +1,6 @@
 use Rattle.std.proofs.Common.{map, take}
 use Rattle.std.specs.List.{flat_map}
-use Rattle.rrd_spec.specs.History.{Archive}
+use Rattle.rrd_spec.specs.History.{Rra}
 use Rattle.rrd_spec.specs.Files.Slots.{cells_by_slot}
 use Rattle.rrd_file.specs.Layout.{spelled}
 use Rattle.rrd_file.specs.Layout.Pieces.{OfCell}
@@ -10,4 +10,4 @@ use Rattle.rrd_file.proofs.encoding.body.write_cells.Given as goal
 abbrev pub invariant-loop-archive : goal.invariant-loop-archive
 invariant-loop-archive g l =
     let d = l.database.content in
-    Adds (g.W.Write.contents l.fn.out) l.fn.block (g.W.Write.contents l.out) l.block (flat_map (λ (a : Archive). spelled (map OfCell (cells_by_slot d.step d.last a))) (take l.archive d.archives))
+    Adds (g.W.Write.contents l.fn.out) l.fn.block (g.W.Write.contents l.out) l.block (flat_map (λ (a : Rra). spelled (map OfCell (cells_by_slot d.step d.last a))) (take l.archive d.archives))

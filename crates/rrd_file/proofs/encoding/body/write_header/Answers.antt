@@ -19,7 +19,7 @@ unfolding spell
 returns g c =
     let d = c.args.database.now in
     let header : c.four-3.new.self ≡ c.two.new.self ++ header_bytes newest (header_of newest d) =
-    six_parts (four_bytes c.step.result) (eight_bytes c.last.result) (four_bytes c.depth.result) (two_bytes c.sources.result) (two_bytes c.archives.result) (four_bytes c.undoable-entries.result) _ _ _ _ _ _ _ c.four.ensures c.eight.ensures c.four-2.ensures c.two-2.ensures c.two-3.ensures c.four-3.ensures
-    ∙ (λ i. c.two.new.self ++ (four_bytes (c.step.ensures i) ++ (eight_bytes (c.last.ensures i) ++ (four_bytes (c.depth.ensures i) ++ (two_bytes (c.sources.ensures.count i) ++ (two_bytes (c.archives.ensures.count i) ++ four_bytes (c.undoable-entries.ensures.count i))))))) in
+    six_parts (four_bytes c.step.result) (eight_bytes c.last.result) (four_bytes c.depth.result) (two_bytes c.sources.result) (two_bytes c.archives.result) (four_bytes c.undoable.result) _ _ _ _ _ _ _ c.four.ensures c.eight.ensures c.four-2.ensures c.two-2.ensures c.two-3.ensures c.four-3.ensures
+    ∙ (λ i. c.two.new.self ++ (four_bytes (c.step.ensures i) ++ (eight_bytes (c.last.ensures i) ++ (four_bytes (c.depth.ensures i) ++ (two_bytes (c.sources.ensures.count i) ++ (two_bytes (c.archives.ensures.count i) ++ four_bytes (c.undoable.ensures.count i))))))) in
     piece_added (spelled (Mark ∷ OfVersion newest ∷ OfHeader (header_of newest d) ∷ [])) c.in_ok-make_room.ensures.added
     (head_parts (spell Mark) (spell (OfVersion newest)) (header_bytes newest (header_of newest d)) _ _ _ _ c.add.ensures c.two.ensures header)

@@ -14,10 +14,10 @@ overflow_mul-unwritten g c =
     let d = c.args.database.now.content in
     let run = c.saturating_sub-unwritten.result in
     let found = there d.archives c.args.archive c.requires.archive_there in
-    let archive = archive_at d c.args.archive found.0 c.sources.ensures.valid found.1 in
+    let archive = archive_at d c.args.archive found.0 c.is_valid.ensures.content_is found.1 in
     let rows : c.unwritten_rows.result ≤ 1000000 = omega (arith, c.unwritten_rows.ensures.few found.0 found.1, archive.rows_are, archive.few_rows) in
     let few_rows : run ≤ 1000000 = omega (arith, rows, c.min.ensures, c.saturating_sub-unwritten.ensures) in
-    let few_sources : c.sources.result ≤ 64 = omega (arith, c.sources.ensures.count, c.sources.ensures.valid.few_sources) in
+    let few_sources : c.sources.result ≤ 64 = c.sources.ensures.few in
     omega (arith, mul-le run c.sources.result 1000000 64 few_rows few_sources)
 
 pub returns-in_err-write_unknown : goal.returns-in_err-write_unknown

@@ -4,17 +4,24 @@ use Rattle.rrd_fixed.specs.declared.cell.Cell.{Cell}
 use Rattle.rrd_fixed.specs.declared.cell.Cell.TheVariants.{Unknown}
 use Rattle.rrd_ring.specs.Rows.{unknown_rows}
 use Rattle.rrd_ring.specs.Ring.{from_place, ring_rows, with_unwritten}
-use Rattle.rrd_ring.proofs.RingLemmas.{length-resized, ring_len, ring_resized, ring_width}
-use Rattle.rrd_ring.proofs.WrittenLemmas.{AreWritten, all_written, are_few, newest_of_known, newest_within, unwritten_rows, wholly}
+use Rattle.std.proofs.lemmas.Nat.{mod_below}
+use Rattle.rrd_ring.proofs.RingLemmas.{cells_le, length-resized, ring_len, ring_resized, ring_width}
+use Rattle.rrd_ring.proofs.WrittenLemmas.{AreWritten, all_written, are_few, newest_of_known, unwritten_rows, wholly}
 use Rattle.rrd_ring.proofs.archive.Archive.resized.Goals as goal
 
 pub push_from-requires-clause-within : goal.push_from-requires-clause-within
 push_from-requires-clause-within c =
     let a = c.self.inside in
-    let kept = c.min-kept.result in
-    let are = subst (λ len. AreWritten a.rows a.sources a.oldest len c.rows_written-written.result) c.len.ensures (c.rows_written-written.ensures.all, c.rows_written-written.ensures.part) in
-    rw (c.deref.ensures.value, c.cells_of-start.ensures.count, c.wrap-first.ensures)
-    (newest_within a.rows a.sources a.oldest c.rows_written-written.result kept a.cells c.self.invariant are (omega (arith, c.min-kept.ensures)))
+    let first : c.wrap-first.result ≤ a.rows = omega (arith, c.wrap-first.ensures, mod_below (a.oldest + (a.rows - c.min-kept.result)) a.rows c.self.invariant.ring.some_rows) in
+    omega (arith, c.cells_of-start.ensures.count, c.cells_of-all.ensures.count, cells_le c.wrap-first.result a.rows a.sources first)
+
+pub push_from-requires-clause-few : goal.push_from-requires-clause-few
+push_from-requires-clause-few c =
+    let a = c.self.inside in
+    let are = subst (λ len. AreWritten a.rows a.sources a.oldest len c.rows_written-written.result) c.len.ensures (c.rows_written-written.ensures.part, c.rows_written-written.ensures.all) in
+    let few = are_few a.rows a.sources a.oldest c.rows_written-written.result a.cells c.self.invariant are in
+    let kept : c.min-kept.result ≤ a.rows = omega (arith, c.min-kept.ensures, few) in
+    omega (arith, c.cells_of-count.ensures.count, c.cells_of-all.ensures.count, cells_le c.min-kept.result a.rows a.sources kept)
 
 pub invariant_of-result : goal.invariant_of-result
 invariant_of-result c =
@@ -24,7 +31,7 @@ invariant_of-result c =
     let xs = with_unwritten all a.cells.items in
     let kept = c.min-kept.result in
     let least = c.min-kept.ensures in
-    let are = subst (λ len. AreWritten a.rows a.sources a.oldest len c.rows_written-written.result) c.len.ensures (c.rows_written-written.ensures.all, c.rows_written-written.ensures.part) in
+    let are = subst (λ len. AreWritten a.rows a.sources a.oldest len c.rows_written-written.result) c.len.ensures (c.rows_written-written.ensures.part, c.rows_written-written.ensures.all) in
     let few = are_few a.rows a.sources a.oldest c.rows_written-written.result a.cells c.self.invariant are in
     let all_rows : wanted ≡ wanted - kept + kept = omega (arith, least) in
     let sum : wanted * a.sources ≡ (wanted - kept) * a.sources + kept * a.sources = ap (λ k. k * a.sources) all_rows ∙ add-mul (wanted - kept) kept a.sources in
@@ -50,7 +57,7 @@ returns c =
     let known = c.rows_written-written.result in
     let kept = c.min-kept.result in
     let least = c.min-kept.ensures in
-    let are = subst (λ len. AreWritten a.rows a.sources a.oldest len known) c.len.ensures (c.rows_written-written.ensures.all, c.rows_written-written.ensures.part) in
+    let are = subst (λ len. AreWritten a.rows a.sources a.oldest len known) c.len.ensures (c.rows_written-written.ensures.part, c.rows_written-written.ensures.all) in
     let few = are_few a.rows a.sources a.oldest known a.cells c.self.invariant are in
     let rows = c.args.self.now in
     let long = ring_len a.rows a.sources a.oldest xs rows c.self.view_is in

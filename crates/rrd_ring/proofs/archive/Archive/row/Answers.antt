@@ -1,8 +1,8 @@
 use Rattle.std.proofs.Common.{◌≡◌, ◌+◌, ◌*◌, ◌%◌, ◌<◌, ◌∙◌, sym, ap, length, take, drop, arith}
 use Rattle.std.proofs.lemmas.Nat.{mod_below, row_fits}
-use Rattle.rrd_ring.specs.Rows.{row_at}
+use Rattle.rrd_ring.specs.Rows.{nth_row}
 use Rattle.rrd_ring.specs.Ring.{with_unwritten}
-use Rattle.rrd_ring.proofs.RingLemmas.{ring_len, row_at-ring_rows}
+use Rattle.rrd_ring.proofs.RingLemmas.{ring_len, nth_row-ring_rows}
 use Rattle.rrd_ring.proofs.WrittenLemmas.{whole_row}
 use Rattle.rrd_ring.proofs.archive.Archive.row.Goals as goal
 
@@ -23,7 +23,7 @@ row_from-requires-clause-whole c =
     let at = (a.oldest + c.args.i) % a.rows in
     let begins : c.cells_of-start.result ≡ at * a.sources = c.cells_of-start.ensures.count ∙ ap (λ k. k * a.sources) c.wrap-place.ensures in
     rw (c.deref.ensures.value)
-    (omega (arith, begins, whole_row a.rows a.sources a.oldest at a.cells c.self.invariant (mod_below (a.oldest + c.args.i) a.rows c.self.invariant.ring.some_rows) (omega (arith, below, begins, ap length c.deref.ensures.value))))
+    (omega (arith, begins, whole_row a.sources at a.cells.items c.self.invariant.ends (omega (arith, below, begins, ap length c.deref.ensures.value))))
 
 pub returns : goal.returns
 returns c =
@@ -36,5 +36,5 @@ returns c =
     c.row_from.ensures (a.rows * a.sources) (omega (arith, begins, fits))
     ∙ ap (λ ys. take a.sources (drop c.cells_of-start.result (with_unwritten (a.rows * a.sources) ys))) c.deref.ensures.value
     ∙ ap (λ k. take a.sources (drop k xs)) begins
-    ∙ sym (row_at-ring_rows a.rows a.sources a.oldest xs c.args.i within)
-    ∙ ap (λ all. row_at all c.args.i) c.self.view_is
+    ∙ sym (nth_row-ring_rows a.rows a.sources a.oldest xs c.args.i within)
+    ∙ ap (λ all. nth_row all c.args.i) c.self.view_is

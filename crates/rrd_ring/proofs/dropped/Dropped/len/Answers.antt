@@ -1,4 +1,5 @@
-use Rattle.std.proofs.Common.{◌∙◌, sym, ap, subst, length}
+use Rattle.std.proofs.Common.{◌*◌, ◌∙◌, sym, ap, subst, length}
+use Rattle.rrd_ring.specs.Ring.{with_unwritten}
 use Rattle.rrd_ring.specs.Rows.{AreDropped}
 use Rattle.rrd_ring.proofs.RingLemmas.{length-rows_of, AreDropped-rows_of}
 use Rattle.rrd_ring.proofs.dropped.Dropped.len.Goals as goal
@@ -6,9 +7,9 @@ use Rattle.rrd_ring.proofs.dropped.Dropped.len.Goals as goal
 pub returns-clause-count : goal.returns-clause-count
 returns-clause-count c =
     let a = c.self.inside in
-    sym (length-rows_of a.rows a.sources a.cells.items) ∙ ap length c.self.view_is
+    sym (length-rows_of a.rows a.sources (with_unwritten (a.rows * a.sources) a.cells.items)) ∙ ap length c.self.view_is
 
 pub returns-clause-each_row : goal.returns-clause-each_row
 returns-clause-each_row c =
     let a = c.self.inside in
-    (subst AreDropped c.self.view_is (AreDropped-rows_of a.rows a.sources a.cells.items c.self.invariant)).one_width
+    (subst AreDropped c.self.view_is (AreDropped-rows_of a.rows a.sources (with_unwritten (a.rows * a.sources) a.cells.items) c.self.invariant.rows_are)).one_width

@@ -1,24 +1,33 @@
-use Rattle.std.proofs.Common.{◌≡◌, ◌+◌, ◌-◌, ◌<◌, ◌∙◌, sym, ap, arith}
-use Rattle.rrd_ring.specs.Rows.{row_at}
-use Rattle.rrd_ring.proofs.RingLemmas.{rows_len, rows_fit, row_at-rows_of}
+use Rattle.std.proofs.Common.{◌*◌, ◌<◌, ◌∙◌, sym, ap, length, take, drop, arith}
+use Rattle.std.proofs.lemmas.Nat.{row_fits}
+use Rattle.rrd_ring.specs.Rows.{nth_row}
+use Rattle.rrd_ring.specs.Ring.{with_unwritten}
+use Rattle.rrd_ring.proofs.RingLemmas.{rows_len, nth_row-rows_of}
+use Rattle.rrd_ring.proofs.WrittenLemmas.{whole_row}
 use Rattle.rrd_ring.proofs.dropped.Dropped.row.Goals as goal
 
 pub cells_of-start-requires-clause-few_rows : goal.cells_of-start-requires-clause-few_rows
 cells_of-start-requires-clause-few_rows c =
     let a = c.self.inside in
-    omega (arith, c.requires, c.self.invariant.few_rows, rows_len a.rows a.sources a.cells.items c.args.self.now c.self.view_is)
+    omega (arith, c.requires, c.self.invariant.rows_are.few_rows, rows_len a.rows a.sources (with_unwritten (a.rows * a.sources) a.cells.items) c.args.self.now c.self.view_is)
 
-pub slice_bounds-result-end : goal.slice_bounds-result-end
-slice_bounds-result-end c =
+pub row_from-requires-clause-whole : goal.row_from-requires-clause-whole
+row_from-requires-clause-whole c =
+    λ below.
     let a = c.self.inside in
-    let within : c.args.i < a.rows = omega (arith, c.requires, rows_len a.rows a.sources a.cells.items c.args.self.now c.self.view_is) in
-    omega (arith, c.deref.ensures.len, a.cells.ok.0, c.cells_of-start.ensures.count, rows_fit a.rows a.sources c.args.i a.cells.items c.self.invariant within)
+    rw (c.deref.ensures.value)
+    (omega (arith, c.cells_of-start.ensures.count, whole_row a.sources c.args.i a.cells.items c.self.invariant.ends (omega (arith, below, c.cells_of-start.ensures.count, ap length c.deref.ensures.value))))
 
 pub returns : goal.returns
 returns c =
     let a = c.self.inside in
-    let start = c.cells_of-start.result in
-    let within : c.args.i < a.rows = omega (arith, c.requires, rows_len a.rows a.sources a.cells.items c.args.self.now c.self.view_is) in
-    let long : start + a.sources - start ≡ a.sources = omega arith in
-    rw (long, c.deref.ensures.value, c.cells_of-start.ensures.count)
-    (sym (row_at-rows_of a.rows a.sources a.cells.items c.args.i within) ∙ ap (λ all. row_at all c.args.i) c.self.view_is)
+    let all = a.rows * a.sources in
+    let xs = with_unwritten all a.cells.items in
+    let within : c.args.i < a.rows = omega (arith, c.requires, rows_len a.rows a.sources xs c.args.self.now c.self.view_is) in
+    let begins = c.cells_of-start.ensures.count in
+    let fits = row_fits c.args.i a.sources a.rows a.sources within (omega arith) in
+    c.row_from.ensures all (omega (arith, begins, fits))
+    ∙ ap (λ ys. take a.sources (drop c.cells_of-start.result (with_unwritten all ys))) c.deref.ensures.value
+    ∙ ap (λ k. take a.sources (drop k xs)) begins
+    ∙ sym (nth_row-rows_of a.rows a.sources xs c.args.i within)
+    ∙ ap (λ rows. nth_row rows c.args.i) c.self.view_is

@@ -30,12 +30,12 @@ loop-place-preserved c =
     let word : get_or ws c.loop-place.place [] ≡ w = get_or-map _ c.args.words.now c.loop-place.place _ [] inside in
     elim c.match-definition.branch [
       | in-Source b ↦
-          let good : is_ok b.push-added.result ≡ true = ap is_ok (sym b.added-is) ∙ c.if-is_err.ensures.negation in
+          let good : is_ok b.push-added.result ≡ true = ap is_ok (sym b.added-is ∙ c.in_ok-added.was) in
           let pushed : b.push-added.new.self ≡ c.loop-place.sources ++ b.in-Source.source ∷ [] = rw good at b.push-added.ensures in
           read_more ws c.loop-place.place w (Definition.Source b.in-Source.source) _ _ _ _ c.loop-place.invariant here word
           (ap (or_fault part.Definition (c.loop-place.place + 1)) (sym c.read.ensures) ∙ c.in_ok-definition.ensures ∙ ap (λ d. Ok d) b.in-Source.is) (b.sources-is ∙ pushed) (b.archives-is ∙ sym (append-nil _))
       | in-Archive b ↦
-          let good : is_ok b.push-added-in-Archive.result ≡ true = ap is_ok (sym b.added-is) ∙ c.if-is_err.ensures.negation in
+          let good : is_ok b.push-added-in-Archive.result ≡ true = ap is_ok (sym b.added-is ∙ c.in_ok-added.was) in
           let pushed : b.push-added-in-Archive.new.self ≡ c.loop-place.archives ++ b.in-Archive.archive ∷ [] = rw good at b.push-added-in-Archive.ensures in
           read_more ws c.loop-place.place w (Definition.Archive b.in-Archive.archive) _ _ _ _ c.loop-place.invariant here word
           (ap (or_fault part.Definition (c.loop-place.place + 1)) (sym c.read.ensures) ∙ c.in_ok-definition.ensures ∙ ap (λ d. Ok d) b.in-Archive.is) (b.sources-is ∙ sym (append-nil _)) (b.archives-is ∙ pushed)

@@ -3,6 +3,8 @@ use Rattle.std.proofs.lemmas.Result.{IfOk-weaker}
 use Rattle.clap.specs.Words.{new_app, rule_of}
 use Rattle.rrd_tool.proofs.Added.{added}
 use Rattle.rrd_tool.specs.Arguments.Shapes.{HasApp}
+use Rattle.rrd_tool.specs.Commands.Names.{name_text}
+use Rattle.rrd_tool.specs.declared.commands.name.CommandName.TheVariants as verb
 use Rattle.rrd_tool.specs.Arguments.{letter_rule, many_rule, option_rule}
 use Rattle.rrd_tool.specs.Commands.Create.{create_app}
 use Rattle.rrd_tool.proofs.commands.create.shape.Goals as goal
@@ -10,7 +12,7 @@ use Rattle.rrd_tool.proofs.commands.create.shape.Goals as goal
 pub returns : goal.returns
 unfolding create_app
 returns c =
-    let start : HasApp (new_app (codes "create")) c.new.result = (search rules, search rules) in
+    let start : HasApp (new_app (name_text verb.Create)) c.bare.result = c.bare.ensures in
     let a : rule_of c.letter_arg.result ≡ letter_rule (codes "step") (codes "step") 115 = search rules in
     let b : rule_of c.letter_arg-2.result ≡ letter_rule (codes "start") (codes "start") 98 = search rules in
     let d : rule_of c.option_arg.result ≡ option_rule (codes "journal") (codes "journal") = search rules in

@@ -3,6 +3,8 @@ use Rattle.std.proofs.lemmas.Result.{IfOk-weaker}
 use Rattle.clap.specs.Words.{new_app, rule_of}
 use Rattle.rrd_tool.proofs.Added.{added}
 use Rattle.rrd_tool.specs.Arguments.Shapes.{HasApp}
+use Rattle.rrd_tool.specs.Commands.Names.{name_text}
+use Rattle.rrd_tool.specs.declared.commands.name.CommandName.TheVariants as verb
 use Rattle.rrd_tool.specs.Arguments.{letter_rule, required_rule}
 use Rattle.rrd_tool.specs.Commands.Fetch.{fetch_app}
 use Rattle.rrd_tool.proofs.commands.fetch.shape.Goals as goal
@@ -10,7 +12,7 @@ use Rattle.rrd_tool.proofs.commands.fetch.shape.Goals as goal
 pub returns : goal.returns
 unfolding fetch_app
 returns c =
-    let start : HasApp (new_app (codes "fetch")) c.new.result = (search rules, search rules) in
+    let start : HasApp (new_app (name_text verb.Fetch)) c.bare.result = c.bare.ensures in
     let a : rule_of c.required_arg.result ≡ required_rule (codes "function") = search rules in
     let b : rule_of c.letter_arg.result ≡ letter_rule (codes "resolution") (codes "resolution") 114 = search rules in
     let d : rule_of c.letter_arg-2.result ≡ letter_rule (codes "start") (codes "start") 115 = search rules in

@@ -3,7 +3,7 @@ use Rattle.rrd_fixed.specs.declared.raw.Raw.TheVariants.{Unknown}
 use Rattle.rrd_fixed.specs.Text.{raw_text, time_text}
 use Rattle.rrd_spec.specs.declared.settings.DsDef.{DsDef}
 use Rattle.rrd_tool.specs.Commands.Fetch.{texts_below}
-use Rattle.rrd_tool.specs.Commands.Lastupdate.{raw_at}
+use Rattle.rrd_tool.specs.Commands.LastUpdate.{raw_at}
 use Rattle.rrd_tool.proofs.PrintLemmas.{at_place, below_more}
 use Rattle.rrd_tool.proofs.commands.lastupdate.raws_string.Goals as goal
 

@@ -1,6 +1,6 @@
 use Rattle.std.proofs.Common.{◌++◌, refl}
 use Rattle.rrd_tool.specs.Commands.Fetch.{header_text}
-use Rattle.rrd_tool.specs.Commands.Lastupdate.{lastupdate_text, raws_text}
+use Rattle.rrd_tool.specs.Commands.LastUpdate.{lastupdate_text, raws_text}
 use Rattle.rrd_tool.proofs.RunLemmas.{shown_comes}
 use Rattle.rrd_tool.proofs.commands.lastupdate.run.Goals as goal
 

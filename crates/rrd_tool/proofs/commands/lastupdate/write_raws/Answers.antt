@@ -4,7 +4,7 @@ use Rattle.std.specs.Io.KnownBytes.{Appends}
 use Rattle.rrd_fixed.specs.Written.{AppendsFront, Writes}
 use Rattle.rrd_fixed.specs.Writing.{writes_stop, writes_then}
 use Rattle.rrd_tool.specs.Commands.Fetch.{header_text}
-use Rattle.rrd_tool.specs.Commands.Lastupdate.{raws_text}
+use Rattle.rrd_tool.specs.Commands.LastUpdate.{raws_text}
 use Rattle.rrd_tool.proofs.commands.lastupdate.write_raws.Goals as goal
 
 pub returns-in_err-write_bytes : goal.returns-in_err-write_bytes
@@ -13,7 +13,7 @@ returns-in_err-write_bytes g c =
     let content = c.args.database.now.content in
     let old = g.W.Write.contents c.args.out.now in
     let new = g.W.Write.contents c.write_bytes.new.out in
-    let header : c.as_bytes.result.now ≡ header_text content.sources = c.as_bytes.ensures.value ∙ (c.as_str.ensures.value ∙ c.header_string.ensures.text) in
+    let header : c.as_bytes.result.now ≡ header_text content.sources = c.as_bytes.ensures.value ∙ (c.as_str.ensures.value ∙ c.header_string.ensures) in
     let bad : AppendsFront old new (header_text content.sources) = rw header at c.in_err-write_bytes.ensures in
     rw p.1 (writes_stop old new (header_text content.sources) (raws_text content) bad)
 
@@ -23,7 +23,7 @@ returns g c =
     let old = g.W.Write.contents c.args.out.now in
     let mid = g.W.Write.contents c.write_bytes.new.out in
     let new = g.W.Write.contents c.write_bytes-2.new.out in
-    let header : c.as_bytes.result.now ≡ header_text content.sources = c.as_bytes.ensures.value ∙ (c.as_str.ensures.value ∙ c.header_string.ensures.text) in
+    let header : c.as_bytes.result.now ≡ header_text content.sources = c.as_bytes.ensures.value ∙ (c.as_str.ensures.value ∙ c.header_string.ensures) in
     let raws : c.as_bytes-2.result.now ≡ raws_text content = c.as_bytes-2.ensures.value ∙ (c.as_str-2.ensures.value ∙ c.raws_string.ensures) in
     let good : Appends old mid (header_text content.sources) = rw header at c.in_ok-write_bytes.ensures in
     let next : Writes mid new (raws_text content) c.write_bytes-2.result = rw raws at c.write_bytes-2.ensures in

@@ -3,6 +3,8 @@ use Rattle.std.proofs.lemmas.Result.{IfOk-weaker}
 use Rattle.clap.specs.Words.{new_app, rule_of}
 use Rattle.rrd_tool.proofs.Added.{added}
 use Rattle.rrd_tool.specs.Arguments.Shapes.{HasApp}
+use Rattle.rrd_tool.specs.Commands.Names.{name_text}
+use Rattle.rrd_tool.specs.declared.commands.name.CommandName.TheVariants as verb
 use Rattle.rrd_tool.specs.Arguments.{required_rule}
 use Rattle.rrd_tool.specs.Commands.Resize.{resize_app}
 use Rattle.rrd_tool.proofs.commands.resize.shape.Goals as goal
@@ -10,7 +12,7 @@ use Rattle.rrd_tool.proofs.commands.resize.shape.Goals as goal
 pub returns : goal.returns
 unfolding resize_app
 returns c =
-    let start : HasApp (new_app (codes "resize")) c.new.result = (search rules, search rules) in
+    let start : HasApp (new_app (name_text verb.Resize)) c.bare.result = c.bare.ensures in
     let a : rule_of c.required_arg.result ≡ required_rule (codes "archive") = search rules in
     let b : rule_of c.required_arg-2.result ≡ required_rule (codes "change") = search rules in
     let d : rule_of c.required_arg-3.result ≡ required_rule (codes "rows") = search rules in

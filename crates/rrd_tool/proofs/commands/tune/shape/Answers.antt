@@ -3,6 +3,8 @@ use Rattle.std.proofs.lemmas.Result.{IfOk-weaker}
 use Rattle.clap.specs.Words.{new_app, rule_of}
 use Rattle.rrd_tool.proofs.Added.{added}
 use Rattle.rrd_tool.specs.Arguments.Shapes.{HasApp}
+use Rattle.rrd_tool.specs.Commands.Names.{name_text}
+use Rattle.rrd_tool.specs.declared.commands.name.CommandName.TheVariants as verb
 use Rattle.rrd_tool.specs.Arguments.{letter_rule, option_rule, word_rule}
 use Rattle.rrd_tool.specs.Commands.Tune.{tune_app}
 use Rattle.rrd_tool.proofs.commands.tune.shape.Goals as goal
@@ -10,7 +12,7 @@ use Rattle.rrd_tool.proofs.commands.tune.shape.Goals as goal
 pub returns : goal.returns
 unfolding tune_app
 returns c =
-    let start : HasApp (new_app (codes "tune")) c.new.result = (search rules, search rules) in
+    let start : HasApp (new_app (name_text verb.Tune)) c.bare.result = c.bare.ensures in
     let a : rule_of c.option_arg.result ≡ option_rule (codes "heartbeat") (codes "heartbeat") = search rules in
     let b : rule_of c.letter_arg.result ≡ letter_rule (codes "minimum") (codes "minimum") 105 = search rules in
     let d : rule_of c.letter_arg-2.result ≡ letter_rule (codes "maximum") (codes "maximum") 97 = search rules in

@@ -24,5 +24,5 @@ loop-place-preserved c =
     let here : c.loop-place.place < length ws = simp length-map (omega arith) in
     let word : get_or ws c.loop-place.place [] ≡ (get_or c.args.words.now c.loop-place.place (record { ref_ptr = (0, 0); now = [] })).now =
     get_or-map _ c.args.words.now c.loop-place.place _ [] inside in
-    let pushed : c.push.new.self ≡ c.loop-place.samples ++ c.in_ok-sample.sample ∷ [] = rw c.if-is_err.ensures.negation at c.push.ensures in
+    let pushed : c.push.new.self ≡ c.loop-place.samples ++ c.in_ok-sample.sample ∷ [] = c.in_ok-push.ensures in
     c.loop-place.invariant ∙ rw pushed (word_more (sample_of c.args.now) Sample (c.loop-place.place + 1) ws c.loop-place.place _ c.loop-place.samples c.in_ok-sample.sample here word c.in_ok-sample.ensures)

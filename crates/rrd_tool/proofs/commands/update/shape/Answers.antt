@@ -3,6 +3,8 @@ use Rattle.std.proofs.lemmas.Result.{IfOk-weaker}
 use Rattle.clap.specs.Words.{new_app, rule_of}
 use Rattle.rrd_tool.proofs.Added.{added}
 use Rattle.rrd_tool.specs.Arguments.Shapes.{HasApp}
+use Rattle.rrd_tool.specs.Commands.Names.{name_text}
+use Rattle.rrd_tool.specs.declared.commands.name.CommandName.TheVariants as verb
 use Rattle.rrd_tool.specs.Arguments.{letter_rule, many_rule}
 use Rattle.rrd_tool.specs.Commands.Update.{update_app}
 use Rattle.rrd_tool.proofs.commands.update.shape.Goals as goal
@@ -10,7 +12,7 @@ use Rattle.rrd_tool.proofs.commands.update.shape.Goals as goal
 pub returns : goal.returns
 unfolding update_app
 returns c =
-    let start : HasApp (new_app (codes "update")) c.new.result = (search rules, search rules) in
+    let start : HasApp (new_app (name_text verb.Update)) c.bare.result = c.bare.ensures in
     let template : rule_of c.letter_arg.result ≡ letter_rule (codes "template") (codes "template") 116 = search rules in
     let samples : rule_of c.many_arg.result ≡ many_rule (codes "sample") = search rules in
     let one = added _ _ _ _ _ c.in_ok-arg.ensures start template c.letter_arg.ensures.local in

@@ -1,7 +1,7 @@
 use Rattle.std.proofs.Common.{◌++◌, ◌∷◌, [], List, sym, subst, append_assoc, length, map, replicate}
 use Rattle.std.proofs.lemmas.Result.{err_from_is_err_and}
 use Rattle.rrd_spec.specs.declared.outline.Outline.{Outline}
-use Rattle.rrd_spec.specs.History.{Archive}
+use Rattle.rrd_spec.specs.History.{Rra}
 use Rattle.rrd_spec.specs.Preparations.{parts_in}
 use Rattle.rrd_spec.specs.Journal.Entries.{RemovedEntry}
 use Rattle.rrd_spec.specs.Files.Rebuilding.{outline_left}
@@ -67,5 +67,5 @@ returns-clause-closes g c = λ bytes st.
     let rows = c.in_ok-rows.rows in
     let s5 = c.in_ok-preps.ensures.brings bytes first (cells ++ []) s4 in
     let s6 = c.in_ok-rows.ensures.brings bytes (first ++ parts) [] s5 in
-    subst (λ (a : Archive). Comes bytes f (entry_pieces (RemovedEntry c.in_ok-archive.archive a)) [] c.old_rows.new.input) (sym c.of-old.ensures)
+    subst (λ (a : Rra). Comes bytes f (entry_pieces (RemovedEntry c.in_ok-archive.archive a)) [] c.old_rows.new.input) (sym c.from_parts-old.ensures)
     (subst (λ (l : List Piece). Comes bytes f l [] c.old_rows.new.input) (append_assoc first parts (row_pieces rows)) s6)

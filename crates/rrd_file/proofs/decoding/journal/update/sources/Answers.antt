@@ -31,7 +31,7 @@ loop-source-preserved g c =
     let raw = c.in_ok-raw.raw in
     let prep = c.in_ok-raw.prep in
     let first : c.push.new.self.items ≡ raws ++ raw ∷ [] = search rules in
-    let second : c.push-else-is_err.new.self.items ≡ preps ++ prep ∷ [] = search rules in (
+    let second : c.push-in-loop-source.new.self.items ≡ preps ++ prep ∷ [] = search rules in (
       omega (arith, ap length first, length-append raws (raw ∷ []), c.loop-source.invariant.0),
       omega (arith, ap length second, length-append preps (prep ∷ []), c.loop-source.invariant.1),
       λ bytes pieces later st.

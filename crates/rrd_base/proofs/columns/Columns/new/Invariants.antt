@@ -1,0 +1,12 @@
+use Rattle.std.proofs.Common.{◌≡◌, ◌<◌, ℕ, List, None, get_or, length}
+use Rattle.rrd_spec.specs.declared.requests.update.Given.{Given}
+use Rattle.rrd_spec.specs.declared.settings.DsDef.{DsDef}
+use Rattle.rrd_spec.specs.Commands.{value_for}
+use Rattle.rrd_base.specs.Update.{template_of, value_in}
+use Rattle.rrd_base.proofs.columns.Columns.new.Given as goal
+
+abbrev pub invariant-loop-source : goal.invariant-loop-source
+invariant-loop-source l = record {
+  count : length l.places.items ≡ l.source;
+  places : (source : ℕ) (d : DsDef) (values : List Given) → source < l.source → value_in values (get_or l.places.items source None) ≡ value_for (template_of l.sources l.template) values (get_or l.sources source d);
+}

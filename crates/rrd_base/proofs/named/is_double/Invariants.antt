@@ -1,6 +1,0 @@
-use Rattle.std.proofs.Common.{◌≡◌, drop, map}
-use Rattle.rrd_spec.specs.Settings.{is_double}
-use Rattle.rrd_base.proofs.named.is_double.Given as goal
-
-abbrev pub invariant-loop-place : goal.invariant-loop-place
-invariant-loop-place g l = is_double (map g.T.Named.called (drop l.place l.named)) ≡ is_double (map g.T.Named.called l.named)

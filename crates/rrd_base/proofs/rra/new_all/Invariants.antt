@@ -1,6 +1,0 @@
-use Rattle.std.proofs.Common.{◌≡◌, map, take}
-use Rattle.rrd_spec.specs.Commands.Creating.{new_archive}
-use Rattle.rrd_base.proofs.rra.new_all.Given as goal
-
-abbrev pub invariant-loop-def : goal.invariant-loop-def
-invariant-loop-def l = l.archives ≡ map (new_archive l.sources) (take l.def-index l.defs)

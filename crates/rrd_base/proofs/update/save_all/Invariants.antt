@@ -1,6 +1,0 @@
-use Rattle.std.proofs.Common.{◌≡◌, take, map}
-use Rattle.rrd_spec.specs.Journal.Entries.{saved}
-use Rattle.rrd_base.proofs.update.save_all.Given as goal
-
-abbrev pub invariant-loop-rra : goal.invariant-loop-rra
-invariant-loop-rra l = l.all.items ≡ map (saved l.step l.from l.to) (take l.rra-index l.archives)

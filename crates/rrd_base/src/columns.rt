@@ -1,0 +1,76 @@
+//! Which value of a sample is which source's.
+ghost use Rattle.std.specs.Prelude.{◌≡◌, List, ◌<◌, ◌≤◌, false, length, slice_index_or, None as NoPlace};
+ghost use Rattle.rrd_spec.specs.declared.requests.update.Given.{Given};
+ghost use Rattle.rrd_spec.specs.declared.settings.DsDef.{DsDef};
+ghost use Rattle.rrd_spec.specs.Commands.{value_for};
+ghost use Rattle.rrd_spec.specs.Limits.{present};
+ghost use Rattle.rrd_spec.specs.Settings.{is_double, names};
+ghost use Rattle.rrd_base.specs.Update.{AreColumns, template_of, value_in};
+
+use crate::{DsDef, Given, List};
+use arrayvec::ArrayVec;
+use rrd_fixed::Name;
+use rrd_spec::limits::MOST_SOURCES;
+
+/// Where in an update's samples each source's value stands. It is looked up once an update: by the
+/// template, or without one in the sources' order.
+#[derive(Drop)]
+pub(crate) struct Columns<'a> {
+    /// The template.
+    pub(crate) template: &'a Option<List<Name>>,
+    /// For each source the place of its value; none if the template doesn't name it.
+    pub(crate) places: ArrayVec<Option<usize>, MOST_SOURCES>,
+}
+
+// The place of a source's name; none if it isn't there.
+fn place_named(names: &[Name], source: &DsDef) -> Option<usize>
+    ensures { (values : List Given) → value_in values result ≡ value_for names.now values source.now }
+{
+    for place in 0..names.len() {
+        if names[place].same(&source.name) {
+            return Some(place);
+        }
+    }
+    None
+}
+
+// The place of the value for a source. As the sources' names differ, without a template that is the
+// source's own place.
+fn place_of(template: &Option<List<Name>>, sources: &[DsDef], source: usize) -> Option<usize>
+    requires there { source < length sources.now }
+    requires names_differ { is_double (names sources.now) ≡ false }
+    ensures { (values : List Given) (d : DsDef) → value_in values result
+        ≡ value_for (template_of sources.now template.now) values (slice_index_or sources.now source d) }
+{
+    match template {
+        Some(names) => place_named(names.as_slice(), &sources[source]),
+        None => Some(source),
+    }
+}
+
+impl<'a> Columns<'a> {
+    /// The places of these sources' values.
+    pub(crate) fn new(template: &'a Option<List<Name>>, sources: &[DsDef]) -> Columns<'a>
+        requires names_differ { is_double (names sources.now) ≡ false }
+        requires few { length sources.now ≤ present.most_sources }
+        ensures places { AreColumns sources.now result }
+        ensures template { result.template.now ≡ template.now }
+    {
+        let mut places = ArrayVec::new();
+        for source in 0..sources.len() {
+            places.push(place_of(template, sources, source));
+        }
+        Columns { template, places }
+    }
+
+    /// What is given for the source of this number; unknown if there is no value for it.
+    pub(crate) fn value(&self, values: &[Given], source: usize) -> Given
+        requires { source < length self.now.places.items }
+        ensures { result ≡ value_in values.now (slice_index_or self.now.places.items source NoPlace) }
+    {
+        match self.places.as_slice()[source] {
+            Some(place) if place < values.len() => values[place],
+            _ => Given::Unknown,
+        }
+    }
+}

@@ -1,0 +1,113 @@
+-- Cells one after another, and their bytes.
+use Rattle.std.proofs.Common.{◌≡◌, ◌∙◌, ◌++◌, ◌∷◌, ◌+◌, ◌*◌, ◌<◌, ◌≤◌, ℕ, zero, suc, List, [], sym, ap, subst, refl, set, take, drop, append_assoc, append-nil, length, length-append, map, add-one, arith, take_at}
+use Rattle.std.specs.List.{flat_map}
+use Rattle.std.proofs.lemmas.Grind.{flat_map-append}
+use Rattle.std.proofs.lemmas.List.{length-take-le, take_all, take-append-drop}
+use Rattle.std.proofs.Math.Seq.{take-add}
+use Rattle.std.proofs.lemmas.List.Concat.{flat_map-cons}
+use Rattle.rrd_fixed.specs.declared.cell.Cell.{Cell}
+use Rattle.rrd_spec.specs.Files.Filed.{Filed}
+use Rattle.rrd_spec.specs.Files.Rebuilding.{MayCell, with_cell}
+use Rattle.rrd_base.specs.Rebuild.Runs.{MayCells, with_cells}
+use Rattle.rrd_file.specs.Faults.{Front}
+use Rattle.rrd_file.specs.Decoding.Input.{Gives, Input, left}
+use Rattle.rrd_file.specs.Decoding.Progress.{Stands}
+use Rattle.rrd_file.specs.Layout.Pieces.{OfCell, spell}
+use Rattle.rrd_file.specs.Layout.Values.{cell_bytes, cell_number}
+use Rattle.rrd_file.specs.Stages.{Body, Takes}
+use Rattle.rrd_file.proofs.Reached.{front_more, gives_rest}
+use Rattle.rrd_file.proofs.SignedBytes.{signed_length}
+
+-- the bytes of cells
+abbrev pub cells_bytes : List Cell → List ℕ
+cells_bytes cells = flat_map cell_bytes cells
+
+pub bytes_joined : (xs ys : List Cell) → cells_bytes (xs ++ ys) ≡ cells_bytes xs ++ cells_bytes ys
+bytes_joined xs ys = flat_map-append cell_bytes xs ys
+
+one_alone : (cell : Cell) → cells_bytes (cell ∷ []) ≡ cell_bytes cell
+one_alone cell = flat_map-cons cell_bytes cell [] ∙ append-nil (cell_bytes cell)
+
+pub bytes_count : (cells : List Cell) → length (cells_bytes cells) ≡ 16 * length cells
+bytes_count [] = omega arith
+bytes_count (cell ∷ cells) =
+    ap length (flat_map-cons cell_bytes cell cells) ∙ omega (arith, length-append (cell_bytes cell) (cells_bytes cells), signed_length (cell_number cell), bytes_count cells)
+
+-- as pieces they have the same bytes
+pub spelled_so : (cells : List Cell) → flat_map spell (map OfCell cells) ≡ cells_bytes cells
+unfolding spell
+spelled_so [] = refl
+spelled_so (cell ∷ cells) = flat_map-cons spell (OfCell cell) (map OfCell cells) ∙ ap (λ (l : List ℕ). cell_bytes cell ++ l) (spelled_so cells) ∙ sym (flat_map-cons cell_bytes cell cells)
+
+-- the first of them, and their bytes
+pub first_bytes : (cells : List Cell) (n : ℕ) (bytes : List ℕ) → n ≤ length cells → bytes ≡ cells_bytes cells → take (16 * n) bytes ≡ cells_bytes (take n cells)
+first_bytes cells n bytes h is =
+    let front = cells_bytes (take n cells) in
+    let back = cells_bytes (drop n cells) in
+    let whole : cells_bytes cells ≡ front ++ back = ap cells_bytes (sym (take-append-drop n cells)) ∙ bytes_joined (take n cells) (drop n cells) in
+    ap (take (16 * n)) (is ∙ whole) ∙ take_at front back (16 * n) (bytes_count (take n cells) ∙ ap (λ (k : ℕ). 16 * k) (length-take-le n cells h))
+
+-- one more that was read
+take_set : (xs : List Cell) (i : ℕ) (cell : Cell) → i < length xs → take (suc i) (set xs i cell) ≡ take i xs ++ cell ∷ []
+take_set [] i cell h = absurd (omega arith)
+take_set (x ∷ xs) zero cell h = refl
+take_set (x ∷ xs) (suc i) cell h = ap (λ (l : List Cell). x ∷ l) (take_set xs i cell (omega arith))
+
+pub one_read : (xs : List Cell) (i : ℕ) (cell : Cell) (bytes rest more : List ℕ) → i < length xs → bytes ≡ cells_bytes (take i xs) ++ rest → rest ≡ cell_bytes cell ++ more → bytes ≡ cells_bytes (take (i + 1) (set xs i cell)) ++ more
+one_read xs i cell bytes rest more h before here =
+    let same : cells_bytes (take (i + 1) (set xs i cell)) ≡ cells_bytes (take i xs) ++ cell_bytes cell =
+    ap (λ (n : ℕ). cells_bytes (take n (set xs i cell))) (add-one i) ∙ ap cells_bytes (take_set xs i cell h) ∙ bytes_joined (take i xs) (cell ∷ []) ∙ ap (λ (l : List ℕ). cells_bytes (take i xs) ++ l) (one_alone cell) in
+    before ∙ ap (λ (l : List ℕ). cells_bytes (take i xs) ++ l) here ∙ sym (append_assoc (cells_bytes (take i xs)) (cell_bytes cell) more) ∙ ap (λ (l : List ℕ). l ++ more) (sym same)
+
+-- all were read
+no_more : (rest : List ℕ) → length rest ≡ 0 → rest ≡ []
+no_more [] h = refl
+no_more (b ∷ rest) h = absurd (omega arith)
+
+pub all_read : (xs : List Cell) (i : ℕ) (bytes rest : List ℕ) → length xs ≤ i → length rest + 16 * i ≡ 16 * length xs → bytes ≡ cells_bytes (take i xs) ++ rest → bytes ≡ cells_bytes xs
+all_read xs i bytes rest le room is =
+    is ∙ ap (λ (l : List ℕ). cells_bytes (take i xs) ++ l) (no_more rest (omega (arith, room, le))) ∙ append-nil (cells_bytes (take i xs)) ∙ ap cells_bytes (take_all i xs le)
+
+-- ---- cells as pieces
+
+pub more_spelled : (row : List Cell) (done more : ℕ) → flat_map spell (map OfCell (take done row)) ++ cells_bytes (take more (drop done row)) ≡ flat_map spell (map OfCell (take (done + more) row))
+more_spelled row done more =
+    ap (λ (l : List ℕ). l ++ cells_bytes (take more (drop done row))) (spelled_so (take done row))
+    ∙ sym (bytes_joined (take done row) (take more (drop done row)))
+    ∙ ap cells_bytes (sym (take-add done more row))
+    ∙ sym (spelled_so (take (done + more) row))
+
+pub rest_spelled : (row : List Cell) (done : ℕ) → flat_map spell (map OfCell (take done row)) ++ cells_bytes (drop done row) ≡ flat_map spell (map OfCell row)
+rest_spelled row done =
+    ap (λ (l : List ℕ). l ++ cells_bytes (drop done row)) (spelled_so (take done row))
+    ∙ sym (bytes_joined (take done row) (drop done row))
+    ∙ ap cells_bytes (take-append-drop done row)
+    ∙ sym (spelled_so row)
+
+-- ---- cells that came one after another
+
+takes_cell : (f : Filed) (cell : Cell) → MayCell f cell → Takes (Body f) (OfCell cell) (Body (with_cell f cell))
+unfolding Takes
+takes_cell f cell may = (may, refl)
+
+cell_spelled : (cell : Cell) → spell (OfCell cell) ≡ cell_bytes cell
+unfolding spell
+cell_spelled cell = refl
+
+front_cells : (bytes : List ℕ) (f : Filed) (cells : List Cell) (rest : List ℕ) → Front bytes (Body f) (cells_bytes cells ++ rest) → MayCells f cells → Front bytes (Body (with_cells f cells)) rest
+front_cells bytes f [] rest front may = front
+front_cells bytes f (cell ∷ cells) rest front may =
+    let same : cells_bytes (cell ∷ cells) ++ rest ≡ spell (OfCell cell) ++ (cells_bytes cells ++ rest) =
+    ap (λ (l : List ℕ). l ++ rest) (flat_map-cons cell_bytes cell cells) ∙ append_assoc (cell_bytes cell) (cells_bytes cells) rest ∙ ap (λ (l : List ℕ). l ++ (cells_bytes cells ++ rest)) (sym (cell_spelled cell)) in
+    front_cells bytes (with_cell f cell) cells rest (front_more bytes (Body f) (Body (with_cell f cell)) (OfCell cell) (cells_bytes cells ++ rest) (subst (Front bytes (Body f)) same front) (takes_cell f cell may.0)) may.1
+
+pub cells_taken : (bytes piece : List ℕ) (old new : Input) (f to : Filed) (cells : List Cell) → Stands bytes (Body f) old → Gives old piece new → piece ≡ cells_bytes cells → MayCells f cells → to ≡ with_cells f cells → Stands bytes (Body to) new
+cells_taken bytes piece old new f to cells st g is may to_is =
+    let after = gives_rest (left old) (left new) piece st.rest st.left_is g.consumed in
+    let same : st.rest ≡ cells_bytes cells ++ after.0 = after.2 ∙ ap (λ (l : List ℕ). l ++ after.0) is in
+    record {
+      rest = after.0;
+      front = subst (λ (g : Filed). Front bytes (Body g) after.0) (sym to_is) (front_cells bytes f cells after.0 (subst (Front bytes (Body f)) same st.front) may);
+      left_is = after.1;
+      place = omega (arith, st.place, g.advanced, ap length after.2, length-append piece after.0);
+    }

@@ -1,0 +1,248 @@
+-- Rows that come as one list of cells are written into a ring.
+use Rattle.std.proofs.Common.{Vec, Global, ◌≡◌, ⊎_elim, refl, sym, ◌∙◌, ap, subst, ℕ, zero, suc, ◌+◌, ◌*◌, ◌/◌, ◌%◌, ◌<◌, ◌≤◌, List, ◌++◌, length, set, take, drop, arith, length-append, length-drop, length-set, vec_capacity}
+use Rattle.std.proofs.Math.Nat.{add-mul, add-mul-mod_self_right, mod-add-div', mod-eq_of_lt, mod_self}
+use Rattle.std.proofs.Math.Seq.{take-add}
+use Rattle.std.proofs.lemmas.Bool.{cases_lt}
+use Rattle.std.proofs.lemmas.Nat.{mod_below}
+use Rattle.std.proofs.lemmas.List.{append_assoc, length-take-le, take-append-drop, drop-drop, take_at, drop_at}
+use Rattle.rrd_fixed.specs.declared.cell.Cell.{Cell}
+use Rattle.rrd_ring.specs.Rows.{with_rows}
+use Rattle.rrd_ring.specs.Ring.{row_of, ring_rows, with_unwritten, ArePartlyWritten, AreWhole, IsRing, IsPartlyWritten}
+use Rattle.std.specs.Vec.{with_items_from}
+use Rattle.rrd_ring.proofs.RingLemmas.{cells_le, length-row_of, length-ring_rows, length-with_cells, ring_fits, ring_written, rows_fit, vec_written, with_cells}
+use Rattle.rrd_ring.proofs.WrittenLemmas.{filled_further, filled_long, length-put, whole_filled, written_over}
+
+-- the cells with those of so many rows in place of the ones from row k on
+abbrev pub with_block : ℕ → ℕ → ℕ → List Cell → List Cell → List Cell
+with_block w k n xs cells = take (k * w) xs ++ (take (n * w) cells ++ drop (n * w) (drop (k * w) xs))
+
+pub one_more : (n w : ℕ) → (n + 1) * w ≡ n * w + w
+one_more n w = add-mul n 1 w ∙ (let one : n * w + 1 * w ≡ n * w + w = omega arith in one)
+
+pub length-with_block : (w k n : ℕ) (xs cells : List Cell) → (k + n) * w ≤ length xs → n * w ≤ length cells → length (with_block w k n xs cells) ≡ length xs
+length-with_block w k n xs cells fits has =
+    let rest = drop (n * w) (drop (k * w) xs) in
+    let sum = add-mul k n w in
+    omega (arith, sum, length-append (take (k * w) xs) (take (n * w) cells ++ rest), length-append (take (n * w) cells) rest, length-take-le (k * w) xs (omega (arith, sum)), length-take-le (n * w) cells has, length-drop (n * w) (drop (k * w) xs), length-drop (k * w) xs)
+
+-- a row more
+block_more : (w k n : ℕ) (xs cells : List Cell) → (k + n) * w + w ≤ length xs → (n + 1) * w ≤ length cells → with_cells w (k + n) (with_block w k n xs cells) (row_of w cells n) ≡ with_block w k (n + 1) xs cells
+block_more w k n xs cells fits has =
+    let sum = add-mul k n w in
+    let more = one_more n w in
+    let front = take (k * w) xs in
+    let part = take (n * w) cells in
+    let row = row_of w cells n in
+    let back = drop (k * w) xs in
+    let rest = drop (n * w) back in
+    let long : length (front ++ part) ≡ (k + n) * w = omega (arith, sum, length-append front part, length-take-le (k * w) xs (omega (arith, sum)), length-take-le (n * w) cells (omega (arith, more, has))) in
+    let same : with_block w k n xs cells ≡ (front ++ part) ++ rest = sym (append_assoc front part rest) in
+    let next : part ++ row ≡ take ((n + 1) * w) cells = sym (ap (λ (m : ℕ). take m cells) more ∙ take-add (n * w) w cells) in
+    let later : drop w rest ≡ drop ((n + 1) * w) back = drop-drop w (n * w) back ∙ ap (λ (m : ℕ). drop m back) (sym more) in
+    ap (λ (ys : List Cell). take ((k + n) * w) ys ++ (row ++ drop w (drop ((k + n) * w) ys))) same
+    ∙ ap (λ (ys : List Cell). ys ++ (row ++ drop w (drop ((k + n) * w) ((front ++ part) ++ rest)))) (take_at (front ++ part) rest ((k + n) * w) long)
+    ∙ ap (λ (ys : List Cell). (front ++ part) ++ (row ++ drop w ys)) (drop_at (front ++ part) rest ((k + n) * w) long)
+    ∙ append_assoc front part (row ++ drop w rest)
+    ∙ ap (λ (ys : List Cell). front ++ ys) (sym (append_assoc part row (drop w rest)))
+    ∙ ap (λ (ys : List Cell). front ++ (ys ++ drop w rest)) next
+    ∙ ap (λ (ys : List Cell). front ++ (take ((n + 1) * w) cells ++ ys)) later
+
+IsRing-same : (rows w place : ℕ) (xs ys : List Cell) → IsRing rows w place xs → length ys ≡ length xs → IsRing rows w place ys
+IsRing-same rows w place xs ys is e = record { some_rows = is.some_rows; few_rows = is.few_rows; some_sources = is.some_sources; few_sources = is.few_sources; whole = e ∙ is.whole; place_within = is.place_within }
+
+pub block_ring : (rows w place k n : ℕ) (xs cells : List Cell) → IsRing rows w place xs → k + n ≤ rows → n * w ≤ length cells → IsRing rows w place (with_block w k n xs cells)
+block_ring rows w place k n xs cells is fits has = IsRing-same rows w place xs (with_block w k n xs cells) is (length-with_block w k n xs cells (omega (arith, is.whole, cells_le (k + n) rows w fits)) has)
+
+mod_right : (a b m : ℕ) → (a + b % m) % m ≡ (a + b) % m
+mod_right a b m =
+    let is : a + b ≡ (a + b % m) + b / m * m = omega (arith, mod-add-div' b m) in
+    sym (ap (λ (n : ℕ). n % m) is ∙ add-mul-mod_self_right (a + b % m) (b / m) m)
+
+mod_left : (a b m : ℕ) → (a % m + b) % m ≡ (a + b) % m
+mod_left a b m =
+    let is : a + b ≡ (a % m + b) + a / m * m = omega (arith, mod-add-div' a m) in
+    sym (ap (λ (n : ℕ). n % m) is ∙ add-mul-mod_self_right (a % m + b) (a / m) m)
+
+-- so many places after a row's are in the vector so many rows after its own
+places_on : (rows place i n : ℕ) → (place + i) % rows + n < rows → (place + (i + n) % rows) % rows ≡ (place + i) % rows + n
+places_on rows place i n h =
+    let sum : place + (i + n) ≡ (place + i) + n = omega arith in
+    mod_right place (i + n) rows ∙ ap (λ (m : ℕ). m % rows) sum ∙ sym (mod_left (place + i) n rows) ∙ mod-eq_of_lt h
+
+-- rows from one on, as far as the vector goes on
+pub block_written : (rows w place i n : ℕ) (xs cells : List Cell) → IsRing rows w place xs → (place + i) % rows + n ≤ rows → n * w ≤ length cells
+    → ring_rows rows w place (with_block w ((place + i) % rows) n xs cells) ≡ with_rows n w (ring_rows rows w place xs) i cells
+block_written rows w place i zero xs cells is fits has =
+    let k = (place + i) % rows in
+    let none : 0 * w ≡ 0 = omega arith in
+    ap (ring_rows rows w place) (ap (λ (m : ℕ). take (k * w) xs ++ (take m cells ++ drop m (drop (k * w) xs))) none ∙ take-append-drop (k * w) xs)
+block_written rows w place i (suc n) xs cells is fits has =
+    let k = (place + i) % rows in
+    let all = ring_rows rows w place xs in
+    let before = with_block w k n xs cells in
+    let row = row_of w cells n in
+    let next = (i + n) % rows in
+    let one = one_more n w in
+    let named : n + 1 ≡ suc n = omega arith in
+    let enough : (n + 1) * w ≤ length cells = subst (λ (m : ℕ). m * w ≤ length cells) (sym named) has in
+    let less : n * w ≤ length cells = omega (arith, one, enough) in
+    let ring = block_ring rows w place k n xs cells is (omega (arith, fits)) less in
+    let at : (place + next) % rows ≡ k + n = places_on rows place i n (omega (arith, fits)) in
+    let sum : k + n + 1 ≡ k + suc n = omega arith in
+    let top : (k + n) * w + w ≤ length xs = omega (arith, is.whole, one_more (k + n) w, cells_le (k + n + 1) rows w (omega (arith, fits))) in
+    ap (λ (m : ℕ). ring_rows rows w place (with_block w k m xs cells)) (sym named)
+    ∙ ap (ring_rows rows w place) (sym (block_more w k n xs cells top enough))
+    ∙ ap (λ (m : ℕ). ring_rows rows w place (with_cells w m before row)) (sym at)
+    ∙ ring_written rows w place next before row ring (mod_below (i + n) rows is.some_rows) (length-row_of w cells n (omega (arith, one, enough)))
+    ∙ ap (λ (rs : List (List Cell)). set rs next row) (block_written rows w place i n xs cells is (omega (arith, fits)) less)
+    ∙ ap (λ (m : ℕ). set (with_rows n w all i cells) ((i + n) % m) row) (sym (length-ring_rows rows w place xs))
+
+length-with_rows : (n w : ℕ) (rows : List (List Cell)) (i : ℕ) (cells : List Cell) → length (with_rows n w rows i cells) ≡ length rows
+length-with_rows zero w rows i cells = refl
+length-with_rows (suc n) w rows i cells = length-set (with_rows n w rows i cells) ((i + n) % length rows) (take w (drop (n * w) cells)) ∙ length-with_rows n w rows i cells
+
+-- some rows, and then others
+pub rows_on : (m n w : ℕ) (rows : List (List Cell)) (i : ℕ) (cells : List Cell) → with_rows n w (with_rows m w rows i cells) ((i + m) % length rows) (drop (m * w) cells) ≡ with_rows (m + n) w rows i cells
+rows_on m zero w rows i cells = ap (λ (k : ℕ). with_rows k w rows i cells) (let same : m ≡ m + 0 = omega arith in same)
+rows_on m (suc n) w rows i cells =
+    let front = with_rows m w rows i cells in
+    let at = (i + m) % length rows in
+    let rest = drop (m * w) cells in
+    let sum : i + m + n ≡ i + (m + n) = omega arith in
+    let named : suc (m + n) ≡ m + suc n = omega arith in
+    let place : (at + n) % length front ≡ (i + (m + n)) % length rows = ap (λ (k : ℕ). (at + n) % k) (length-with_rows m w rows i cells) ∙ mod_left (i + m) n (length rows) ∙ ap (λ (k : ℕ). k % length rows) sum in
+    let row : row_of w rest n ≡ row_of w cells (m + n) = ap (take w) (drop-drop (n * w) (m * w) cells ∙ ap (λ (k : ℕ). drop k cells) (sym (add-mul m n w))) in
+    ap (λ (k : ℕ). set (with_rows n w front at rest) k (row_of w rest n)) place
+    ∙ ap (λ (r : List Cell). set (with_rows n w front at rest) ((i + (m + n)) % length rows) r) row
+    ∙ ap (λ (rs : List (List Cell)). set rs ((i + (m + n)) % length rows) (row_of w cells (m + n))) (rows_on m n w rows i cells)
+    ∙ ap (λ (k : ℕ). with_rows k w rows i cells) named
+
+-- ---- a vector with such rows
+
+pub record IsPutInto (rows w place k n : ℕ) (v new : Vec Cell Global) (cells : List Cell) : Type 0 where
+  pub is : IsPartlyWritten rows w place new
+  pub items : with_unwritten (rows * w) new.items ≡ with_block w k n (with_unwritten (rows * w) v.items) cells
+
+pub block_put : (rows w place k n : ℕ) (v new : Vec Cell Global) (cells part : List Cell) (start : ℕ) → IsPartlyWritten rows w place v → k + n ≤ rows → n * w ≤ length cells → part ≡ take (n * w) cells → start ≡ k * w
+    → new.items ≡ take start (with_unwritten (start + length part) v.items) ++ (part ++ drop (length part) (drop start (with_unwritten (start + length part) v.items)))
+    → vec_capacity v ≤ vec_capacity new → IsPutInto rows w place k n v new cells
+block_put rows w place k n v new cells part start is fits has part_is start_is items room =
+    let all = rows * w in
+    let count : length part ≡ n * w = ap length part_is ∙ length-take-le (n * w) cells has in
+    let end : start + length part ≡ (k + n) * w = omega (arith, count, start_is, add-mul k n w) in
+    let filled = with_unwritten (start + length part) v.items in
+    let turned : filled ≡ with_unwritten ((k + n) * w) v.items = ap (λ (m : ℕ). with_unwritten m v.items) end in
+    let top : (k + n) * w ≤ all = cells_le (k + n) rows w fits in
+    let long : start + length part ≤ length filled = filled_long (start + length part) v.items in
+    let xs = with_unwritten all v.items in
+    let same : with_unwritten all filled ≡ xs = filled_further all (start + length part) v.items (omega (arith, end, top)) in
+    let new_is = take start filled ++ (part ++ drop (length part) (drop start filled)) in
+    let cells_are : with_unwritten all new.items ≡ with_block w k n xs cells =
+    ap (with_unwritten all) items
+    ∙ written_over all (length part) start filled part long refl
+    ∙ ap (λ (ys : List Cell). take start ys ++ (part ++ drop (length part) (drop start ys))) same
+    ∙ ap (λ (m : ℕ). take start xs ++ (part ++ drop m (drop start xs))) count
+    ∙ ap (λ (m : ℕ). take m xs ++ (part ++ drop (n * w) (drop m xs))) start_is
+    ∙ ap (λ (ys : List Cell). take (k * w) xs ++ (ys ++ drop (n * w) (drop (k * w) xs))) part_is in
+    let as_long : length new.items ≡ length filled = ap length items ∙ length-put start (length part) filled part refl long in
+    let whole : AreWhole w filled = subst (AreWhole w) (sym turned) (whole_filled w (k + n) v.items is.ends) in
+    let had : all ≤ vec_capacity v = is.room in
+    record {
+      is = record {
+        ring = subst (IsRing rows w place) (sym cells_are) (block_ring rows w place k n xs cells is.ring fits has);
+        room = omega (arith, had, room);
+        ends = record { count = whole.count; whole = as_long ∙ whole.whole };
+      };
+      items = cells_are;
+    }
+
+no_block : (w : ℕ) (xs cells : List Cell) → with_block w 0 0 xs cells ≡ xs
+no_block w xs cells =
+    let none : 0 * w ≡ 0 = omega arith in
+    ap (λ (m : ℕ). take m xs ++ (take m cells ++ drop m (drop m xs))) none
+
+-- rows up to the vector's end, and the others from its first row on
+pub record ArePut (rows w place i count : ℕ) (v new : Vec Cell Global) (cells : List Cell) : Type 0 where
+  pub is : IsPartlyWritten rows w place new
+  pub rows_are : ring_rows rows w place (with_unwritten (rows * w) new.items) ≡ with_rows count w (ring_rows rows w place (with_unwritten (rows * w) v.items)) i cells
+
+pub rows_put : (rows w place i first rest : ℕ) (v one two : Vec Cell Global) (cells : List Cell) → i < rows → (place + i) % rows + first ≤ rows → rest ≤ rows → (0 < rest → (place + i) % rows + first ≡ rows) → (first + rest) * w ≤ length cells
+    → IsPutInto rows w place ((place + i) % rows) first v one cells → IsPutInto rows w place 0 rest one two (drop (first * w) cells) → IsPartlyWritten rows w place v → ArePut rows w place i (first + rest) v two cells
+rows_put rows w place i first rest v one two cells there fits few turns has a b is =
+    let all = rows * w in
+    let xs = with_unwritten all v.items in
+    let ys = with_unwritten all one.items in
+    let later = drop (first * w) cells in
+    let at = (place + i) % rows in
+    let next = (i + first) % rows in
+    let ring = ring_rows rows w place xs in
+    let sum = add-mul first rest w in
+    let front : ring_rows rows w place ys ≡ with_rows first w ring i cells = ap (ring_rows rows w place) a.items ∙ block_written rows w place i first xs cells is.ring fits (omega (arith, has, sum)) in
+    let back : ring_rows rows w place (with_unwritten all two.items) ≡ with_rows rest w (ring_rows rows w place ys) next later =
+    ⊎_elim (λ (some : 0 < rest).
+    let sum_of : place + (i + first) ≡ (place + i) + first = omega arith in
+    let zeroth : (place + next) % rows ≡ 0 = mod_right place (i + first) rows ∙ ap (λ (m : ℕ). m % rows) sum_of ∙ sym (mod_left (place + i) first rows) ∙ ap (λ (m : ℕ). m % rows) (turns some) ∙ mod_self rows in
+    ap (ring_rows rows w place) (b.items ∙ ap (λ (m : ℕ). with_block w m rest ys later) (sym zeroth))
+    ∙ block_written rows w place next rest ys later a.is.ring (omega (arith, zeroth, few)) (omega (arith, has, sum, length-drop (first * w) cells)))
+    (λ (none : rest ≤ 0).
+    let zero_rest : rest ≡ 0 = omega (arith, none) in
+    ap (ring_rows rows w place) (b.items ∙ ap (λ (m : ℕ). with_block w 0 m ys later) zero_rest ∙ no_block w ys later)
+    ∙ ap (λ (m : ℕ). with_rows m w (ring_rows rows w place ys) next later) (sym zero_rest))
+    (cases_lt 0 rest) in
+    record {
+      is = b.is;
+      rows_are = back
+          ∙ ap (λ (rs : List (List Cell)). with_rows rest w rs next later) front
+          ∙ ap (λ (m : ℕ). with_rows rest w (with_rows first w ring i cells) ((i + first) % m) later) (sym (length-ring_rows rows w place xs))
+          ∙ rows_on first rest w ring i cells;
+    }
+
+-- ---- a row that was lent has come back with as many cells
+
+pub record HasCameBack (rows w place at : ℕ) (v new : Vec Cell Global) (row : List Cell) : Type 0 where
+  pub is : IsPartlyWritten rows w place new
+  pub items : with_unwritten (rows * w) new.items ≡ with_cells w at (with_unwritten (rows * w) v.items) row
+
+pub row_back : (rows w place at start : ℕ) (v : Vec Cell Global) (row : List Cell) → IsPartlyWritten rows w place v → at < rows → at * w + w ≤ length v.items → length row ≡ w → start ≡ at * w
+    → HasCameBack rows w place at v (with_items_from v start row) row
+row_back rows w place at start v row is below fits e start_is =
+    let all = rows * w in
+    let xs = v.items in
+    let ys = with_unwritten all xs in
+    let written = vec_written v w at start row start_is fits e in
+    let over : with_unwritten all (with_items_from v start row).items ≡ with_cells w at ys row =
+    ap (with_unwritten all) written
+    ∙ ap (λ (n : ℕ). with_unwritten all (take (at * w) xs ++ (row ++ drop n (drop (at * w) xs)))) (sym e)
+    ∙ written_over all w (at * w) xs row fits e in
+    record {
+      is = record {
+        ring = IsRing-same rows w place ys (with_unwritten all (with_items_from v start row).items) is.ring (ap length over ∙ length-with_cells w at ys row (ring_fits rows w place at ys is.ring below) e);
+        room = is.room;
+        ends = record { count = is.ends.count; whole = ap length written ∙ length-with_cells w at xs row fits e ∙ is.ends.whole };
+      };
+      items = over;
+    }
+
+pub record HasDroppedBack (rows w at : ℕ) (v new : Vec Cell Global) (row : List Cell) : Type 0 where
+  pub are : ArePartlyWritten rows w new
+  pub items : with_unwritten (rows * w) new.items ≡ with_cells w at (with_unwritten (rows * w) v.items) row
+
+pub dropped_back : (rows w at start : ℕ) (v : Vec Cell Global) (row : List Cell) → ArePartlyWritten rows w v → at < rows → at * w + w ≤ length v.items → length row ≡ w → start ≡ at * w
+    → HasDroppedBack rows w at v (with_items_from v start row) row
+dropped_back rows w at start v row are below fits e start_is =
+    let all = rows * w in
+    let xs = v.items in
+    let ys = with_unwritten all xs in
+    let written = vec_written v w at start row start_is fits e in
+    let over : with_unwritten all (with_items_from v start row).items ≡ with_cells w at ys row =
+    ap (with_unwritten all) written
+    ∙ ap (λ (n : ℕ). with_unwritten all (take (at * w) xs ++ (row ++ drop n (drop (at * w) xs)))) (sym e)
+    ∙ written_over all w (at * w) xs row fits e in
+    record {
+      are = record {
+        rows_are = record { few_rows = are.rows_are.few_rows; few_sources = are.rows_are.few_sources; whole = ap length over ∙ length-with_cells w at ys row (rows_fit rows w at ys are.rows_are below) e ∙ are.rows_are.whole };
+        room = are.room;
+        ends = record { count = are.ends.count; whole = ap length written ∙ length-with_cells w at xs row fits e ∙ are.ends.whole };
+      };
+      items = over;
+    }

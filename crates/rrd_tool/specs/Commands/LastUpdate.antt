@@ -1,0 +1,26 @@
+-- Definition: lastupdate: what it prints (rrdlastupdate, with fetch's header and raw values in plain
+-- digits).
+use Rattle.std.specs.Prelude.{◌++◌, [], ℕ, List, Result, Ok, codes, length, pos, slice_get, slice_index_or}
+use Rattle.std.specs.Option.{option_map_or}
+use Rattle.rrd_fixed.specs.declared.raw.Raw.TheVariants.{Unknown}
+use Rattle.rrd_fixed.specs.Text.{raw_text, time_text}
+use Rattle.rrd_spec.specs.declared.settings.DsDef.{DsDef}
+use Rattle.rrd_spec.specs.declared.refusal.Refusal.{Refusal}
+use Rattle.rrd_spec.specs.History.{Content}
+use Rattle.rrd_tool.specs.Commands.Fetch.{header_text, texts_below}
+
+-- a space, and the raw value of the source of this number
+abbrev pub raw_at : Content → ℕ → List ℕ
+raw_at content number =
+    option_map_or
+    (λ (source : DsDef). codes " " ++ raw_text source.kind (slice_index_or content.raws number Unknown))
+    (slice_get content.sources number) []
+
+-- the last time, and the raw values
+abbrev pub raws_text : Content → List ℕ
+raws_text content =
+    time_text (pos content.last) ++ codes ":" ++ texts_below (raw_at content) (length content.sources) ++ codes "\n"
+
+-- that line below a line of the sources' names
+abbrev pub lastupdate_text : Content → Result (List ℕ) Refusal
+lastupdate_text content = Ok (header_text content.sources ++ raws_text content)

@@ -1,0 +1,73 @@
+//! The commands' names.
+ghost use Rattle.std.specs.Prelude.{◌≡◌};
+ghost use Rattle.clap.specs.Words.{new_app};
+ghost use Rattle.rrd_tool.specs.Arguments.Shapes.{HasApp};
+ghost use Rattle.rrd_tool.specs.Commands.Names.{name_in, name_text};
+
+use crate::fields::{Worded, named};
+use std::alloc::Global;
+
+/// A command's name.
+#[derive(Clone, Copy)]
+pub(crate) enum CommandName {
+    Create,
+    Update,
+    Fetch,
+    Tune,
+    Resize,
+    First,
+    Last,
+    LastUpdate,
+    Info,
+    Revert,
+}
+
+/// All of them, in the order in which clap has them.
+pub(crate) const NAMES: [CommandName; 10] = [
+    CommandName::Create,
+    CommandName::Update,
+    CommandName::Fetch,
+    CommandName::Tune,
+    CommandName::Resize,
+    CommandName::First,
+    CommandName::Last,
+    CommandName::LastUpdate,
+    CommandName::Info,
+    CommandName::Revert,
+];
+
+impl Worded for CommandName {
+    ghost word_of = { name_text };
+
+    fn word(self) -> &'static str {
+        match self {
+            CommandName::Create => "create",
+            CommandName::Update => "update",
+            CommandName::Fetch => "fetch",
+            CommandName::Tune => "tune",
+            CommandName::Resize => "resize",
+            CommandName::First => "first",
+            CommandName::Last => "last",
+            CommandName::LastUpdate => "lastupdate",
+            CommandName::Info => "info",
+            CommandName::Revert => "revert",
+        }
+    }
+}
+
+impl CommandName {
+    /// The command of this name; none for another word.
+    pub(crate) fn of(word: &str) -> Option<CommandName>
+        ensures { result ≡ name_in word.now }
+    {
+        named(&NAMES, word)
+    }
+
+    /// The command's shape for clap, but for its arguments.
+    pub(crate) fn bare<'a>(self, alloc: Global) -> clap::Command<'a>
+        ensures { HasApp (new_app (name_text self)) result }
+    {
+        let word: &'a str = self.word();
+        clap::Command::new(alloc, word)
+    }
+}
