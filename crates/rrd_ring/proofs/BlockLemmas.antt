@@ -1,16 +1,17 @@
 -- Rows that come as one list of cells are written into a ring.
-use Rattle.std.proofs.Common.{Vec, Global, ◌≡◌, ⊎_elim, refl, sym, ◌∙◌, ap, subst, ℕ, zero, suc, ◌+◌, ◌*◌, ◌/◌, ◌%◌, ◌<◌, ◌≤◌, List, ◌++◌, length, set, take, drop, arith, length-append, length-drop, length-set, vec_capacity}
+use Rattle.std.proofs.Common.{Vec, Global, ◌≡◌, ⊎_elim, refl, sym, ◌∙◌, ap, subst, ℕ, zero, suc, ◌+◌, ◌-◌, ◌*◌, ◌/◌, ◌%◌, ◌<◌, ◌≤◌, List, ◌++◌, length, min, replicate, set, take, drop, arith, length-append, length-drop, length-set, vec_capacity}
 use Rattle.std.proofs.Math.Nat.{add-mul, add-mul-mod_self_right, mod-add-div', mod-eq_of_lt, mod_self}
 use Rattle.std.proofs.Math.Seq.{take-add}
 use Rattle.std.proofs.lemmas.Bool.{cases_lt}
 use Rattle.std.proofs.lemmas.Nat.{mod_below}
-use Rattle.std.proofs.lemmas.List.{append_assoc, length-take-le, take-append-drop, drop-drop, take_at, drop_at}
+use Rattle.std.proofs.lemmas.List.{append_assoc, length-take-le, take-append-drop, drop-drop, take_all, take_at, drop_at, length-replicate, take-replicate, drop-replicate}
 use Rattle.rrd_fixed.specs.declared.cell.Cell.{Cell}
+use Rattle.rrd_fixed.specs.declared.cell.Cell.TheVariants.{Unknown}
 use Rattle.rrd_ring.specs.Rows.{with_rows}
 use Rattle.rrd_ring.specs.Ring.{row_of, ring_rows, with_unwritten, ArePartlyWritten, AreWhole, IsRing, IsPartlyWritten}
 use Rattle.std.specs.Vec.{with_items_from}
 use Rattle.rrd_ring.proofs.RingLemmas.{cells_le, length-row_of, length-ring_rows, length-with_cells, ring_fits, ring_written, rows_fit, vec_written, with_cells}
-use Rattle.rrd_ring.proofs.WrittenLemmas.{filled_further, filled_long, length-put, whole_filled, written_over}
+use Rattle.rrd_ring.proofs.WrittenLemmas.{filled_further, filled_long, length-put, ring_le, whole_filled, written_over}
 
 -- the cells with those of so many rows in place of the ones from row k on
 abbrev pub with_block : ℕ → ℕ → ℕ → List Cell → List Cell → List Cell
@@ -197,52 +198,122 @@ rows_put rows w place i first rest v one two cells there fits few turns has a b 
           ∙ rows_on first rest w ring i cells;
     }
 
+-- what a vector is once cells were put from a place on
+pub record Puts (start : ℕ) (part : List Cell) (v new : Vec Cell Global) : Type 0 where
+  pub items : let filled = with_unwritten (start + length part) v.items in
+      new.items ≡ take start filled ++ (part ++ drop (length part) (drop start filled))
+  pub room : vec_capacity v ≤ vec_capacity new
+
+pub are_put : (rows w place i count first start : ℕ) (v one two : Vec Cell Global) (cells front later : List Cell) → IsPartlyWritten rows w place v → i < rows → count ≤ rows → length cells ≡ count * w → first ≡ min (rows - (place + i) % rows) count
+    → start ≡ ((place + i) % rows) * w → front ≡ take (first * w) cells → later ≡ drop (first * w) cells → Puts start front v one → Puts 0 later one two → ArePut rows w place i count v two cells
+are_put rows w place i count first start v one two cells front later is there few long least start_is front_is later_is a b =
+    let at = (place + i) % rows in
+    let rest = count - first in
+    let behind = drop (first * w) cells in
+    let below : at < rows = mod_below (place + i) rows is.ring.some_rows in
+    let sum : first + rest ≡ count = omega (arith, least) in
+    let both : count * w ≡ first * w + rest * w = ap (λ (n : ℕ). n * w) (sym sum) ∙ add-mul first rest w in
+    let left : length behind ≡ rest * w = omega (arith, length-drop (first * w) cells, long, both) in
+    let whole : later ≡ take (rest * w) behind = later_is ∙ sym (take_all (rest * w) behind (omega (arith, left))) in
+    let x = block_put rows w place at first v one cells front start is (omega (arith, least, below)) (omega (arith, long, both)) front_is start_is a.items a.room in
+    let y = block_put rows w place 0 rest one two behind later 0 x.is (omega (arith, few)) (omega (arith, left)) whole (omega arith) b.items b.room in
+    subst (λ (n : ℕ). ArePut rows w place i n v two cells) sum
+    (rows_put rows w place i first rest v one two cells there (omega (arith, least, below)) (omega (arith, few)) (λ some. omega (arith, some, least, below)) (omega (arith, long, ap (λ (n : ℕ). n * w) sum)) x y is)
+
+-- ---- rows are made unknown
+
+pub record Forgets (start count : ℕ) (v new : Vec Cell Global) : Type 0 where
+  pub cells : (all : ℕ) → length v.items ≤ all → start + count ≤ all
+      → with_unwritten all new.items ≡ take start (with_unwritten all v.items) ++ (replicate count Unknown ++ drop count (drop start (with_unwritten all v.items)))
+  pub as_many : length new.items ≡ length v.items
+  pub room : vec_capacity v ≤ vec_capacity new
+
+block_forgotten : (rows w place k n start count : ℕ) (v new : Vec Cell Global) (cells : List Cell) → IsPartlyWritten rows w place v → k + n ≤ rows → n * w ≤ length cells → take (n * w) cells ≡ replicate (n * w) Unknown → start ≡ k * w → count ≡ n * w
+    → Forgets start count v new → IsPutInto rows w place k n v new cells
+block_forgotten rows w place k n start count v new cells is fits has unknown start_is count_is gone =
+    let all = rows * w in
+    let xs = with_unwritten all v.items in
+    let had : all ≤ vec_capacity v = is.room in
+    let cells_are : with_unwritten all new.items ≡ with_block w k n xs cells =
+    gone.cells all (ring_le rows w place v is) (omega (arith, start_is, count_is, add-mul k n w, cells_le (k + n) rows w fits))
+    ∙ ap (λ (m : ℕ). take m xs ++ (replicate count Unknown ++ drop count (drop m xs))) start_is
+    ∙ ap (λ (m : ℕ). take (k * w) xs ++ (replicate m Unknown ++ drop m (drop (k * w) xs))) count_is
+    ∙ ap (λ (ys : List Cell). take (k * w) xs ++ (ys ++ drop (n * w) (drop (k * w) xs))) (sym unknown) in
+    record {
+      is = record {
+        ring = subst (IsRing rows w place) (sym cells_are) (block_ring rows w place k n xs cells is.ring fits has);
+        room = omega (arith, had, gone.room);
+        ends = record { count = is.ends.count; whole = gone.as_many ∙ is.ends.whole };
+      };
+      items = cells_are;
+    }
+
+pub are_forgotten : (rows w place i count first start many others : ℕ) (v one two : Vec Cell Global) → IsPartlyWritten rows w place v → i < rows → count ≤ rows → first ≡ min (rows - (place + i) % rows) count
+    → start ≡ ((place + i) % rows) * w → many ≡ first * w → others ≡ (count - first) * w → Forgets start many v one → Forgets 0 others one two → ArePut rows w place i count v two (replicate (count * w) Unknown)
+are_forgotten rows w place i count first start many others v one two is there few least start_is many_is others_is a b =
+    let at = (place + i) % rows in
+    let rest = count - first in
+    let cells = replicate (count * w) Unknown in
+    let later = drop (first * w) cells in
+    let below : at < rows = mod_below (place + i) rows is.ring.some_rows in
+    let sum : first + rest ≡ count = omega (arith, least) in
+    let both : count * w ≡ first * w + rest * w = ap (λ (n : ℕ). n * w) (sym sum) ∙ add-mul first rest w in
+    let long = length-replicate (count * w) Unknown in
+    let left : later ≡ replicate (count * w - first * w) Unknown = drop-replicate (first * w) (count * w) Unknown in
+    let has : rest * w ≤ length later = omega (arith, both, long, length-drop (first * w) cells) in
+    let x = block_forgotten rows w place at first start many v one cells is (omega (arith, least, below)) (omega (arith, both, long)) (take-replicate (first * w) (count * w) Unknown (omega (arith, both))) start_is many_is a in
+    let y = block_forgotten rows w place 0 rest 0 others one two later x.is (omega (arith, few)) has (ap (take (rest * w)) left ∙ take-replicate (rest * w) (count * w - first * w) Unknown (omega (arith, both))) (omega arith) others_is b in
+    subst (λ (n : ℕ). ArePut rows w place i n v two cells) sum
+    (rows_put rows w place i first rest v one two cells there (omega (arith, least, below)) (omega (arith, few)) (λ some. omega (arith, some, least, below)) (omega (arith, long, ap (λ (n : ℕ). n * w) sum)) x y is)
+
 -- ---- a row that was lent has come back with as many cells
 
 pub record HasCameBack (rows w place at : ℕ) (v new : Vec Cell Global) (row : List Cell) : Type 0 where
   pub is : IsPartlyWritten rows w place new
   pub items : with_unwritten (rows * w) new.items ≡ with_cells w at (with_unwritten (rows * w) v.items) row
 
+pub record HasDroppedBack (rows w at : ℕ) (v new : Vec Cell Global) (row : List Cell) : Type 0 where
+  pub are : ArePartlyWritten rows w new
+  pub items : with_unwritten (rows * w) new.items ≡ with_cells w at (with_unwritten (rows * w) v.items) row
+
+came_back : (all w at start : ℕ) (v : Vec Cell Global) (row : List Cell) → at * w + w ≤ length v.items → length row ≡ w → start ≡ at * w
+    → with_unwritten all (with_items_from v start row).items ≡ with_cells w at (with_unwritten all v.items) row
+came_back all w at start v row fits e start_is =
+    let xs = v.items in
+    ap (with_unwritten all) (vec_written v w at start row start_is fits e)
+    ∙ ap (λ (n : ℕ). with_unwritten all (take (at * w) xs ++ (row ++ drop n (drop (at * w) xs)))) (sym e)
+    ∙ written_over all w (at * w) xs row fits e
+
+whole_back : (w at start : ℕ) (v : Vec Cell Global) (row : List Cell) → AreWhole w v.items → at * w + w ≤ length v.items → length row ≡ w → start ≡ at * w → AreWhole w (with_items_from v start row).items
+whole_back w at start v row ends fits e start_is =
+    record { count = ends.count; whole = ap length (vec_written v w at start row start_is fits e) ∙ length-with_cells w at v.items row fits e ∙ ends.whole }
+
 pub row_back : (rows w place at start : ℕ) (v : Vec Cell Global) (row : List Cell) → IsPartlyWritten rows w place v → at < rows → at * w + w ≤ length v.items → length row ≡ w → start ≡ at * w
     → HasCameBack rows w place at v (with_items_from v start row) row
 row_back rows w place at start v row is below fits e start_is =
     let all = rows * w in
-    let xs = v.items in
-    let ys = with_unwritten all xs in
-    let written = vec_written v w at start row start_is fits e in
-    let over : with_unwritten all (with_items_from v start row).items ≡ with_cells w at ys row =
-    ap (with_unwritten all) written
-    ∙ ap (λ (n : ℕ). with_unwritten all (take (at * w) xs ++ (row ++ drop n (drop (at * w) xs)))) (sym e)
-    ∙ written_over all w (at * w) xs row fits e in
+    let ys = with_unwritten all v.items in
+    let over = came_back all w at start v row fits e start_is in
     record {
       is = record {
         ring = IsRing-same rows w place ys (with_unwritten all (with_items_from v start row).items) is.ring (ap length over ∙ length-with_cells w at ys row (ring_fits rows w place at ys is.ring below) e);
         room = is.room;
-        ends = record { count = is.ends.count; whole = ap length written ∙ length-with_cells w at xs row fits e ∙ is.ends.whole };
+        ends = whole_back w at start v row is.ends fits e start_is;
       };
       items = over;
     }
-
-pub record HasDroppedBack (rows w at : ℕ) (v new : Vec Cell Global) (row : List Cell) : Type 0 where
-  pub are : ArePartlyWritten rows w new
-  pub items : with_unwritten (rows * w) new.items ≡ with_cells w at (with_unwritten (rows * w) v.items) row
 
 pub dropped_back : (rows w at start : ℕ) (v : Vec Cell Global) (row : List Cell) → ArePartlyWritten rows w v → at < rows → at * w + w ≤ length v.items → length row ≡ w → start ≡ at * w
     → HasDroppedBack rows w at v (with_items_from v start row) row
 dropped_back rows w at start v row are below fits e start_is =
     let all = rows * w in
-    let xs = v.items in
-    let ys = with_unwritten all xs in
-    let written = vec_written v w at start row start_is fits e in
-    let over : with_unwritten all (with_items_from v start row).items ≡ with_cells w at ys row =
-    ap (with_unwritten all) written
-    ∙ ap (λ (n : ℕ). with_unwritten all (take (at * w) xs ++ (row ++ drop n (drop (at * w) xs)))) (sym e)
-    ∙ written_over all w (at * w) xs row fits e in
+    let ys = with_unwritten all v.items in
+    let over = came_back all w at start v row fits e start_is in
     record {
       are = record {
-        rows_are = record { few_rows = are.rows_are.few_rows; few_sources = are.rows_are.few_sources; whole = ap length over ∙ length-with_cells w at ys row (rows_fit rows w at ys are.rows_are below) e ∙ are.rows_are.whole };
+        rows_are = record { few_rows = are.rows_are.few_rows; some_sources = are.rows_are.some_sources; few_sources = are.rows_are.few_sources; whole = ap length over ∙ length-with_cells w at ys row (rows_fit rows w at ys are.rows_are below) e ∙ are.rows_are.whole };
         room = are.room;
-        ends = record { count = are.ends.count; whole = ap length written ∙ length-with_cells w at xs row fits e ∙ are.ends.whole };
+        ends = whole_back w at start v row are.ends fits e start_is;
       };
       items = over;
     }

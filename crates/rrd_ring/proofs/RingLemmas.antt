@@ -9,7 +9,7 @@ use Rattle.std.proofs.lemmas.List.FromFn.{length-map-range_with_len, get_or-map-
 use Rattle.std.specs.Vec.{with_items_from}
 use Rattle.rrd_fixed.specs.declared.cell.Cell.{Cell}
 use Rattle.rrd_fixed.specs.declared.cell.Cell.TheVariants.{Unknown}
-use Rattle.rrd_ring.specs.Rows.{nth_row, width, HasWidth, unknown_rows, IsArchive, AreDropped, most_rows}
+use Rattle.rrd_ring.specs.Rows.{nth_row, row_cells, width, HasWidth, unknown_rows, IsArchive, AreDropped, most_rows}
 use Rattle.rrd_ring.specs.Ring.{row_of, rows_of, ring_rows, from_place, IsRing, AreRows}
 use Rattle.rrd_ring.specs.Widths.{width_is}
 use Rattle.rrd_ring.proofs.RowLemmas.{IsArchive-from_width, AreDropped-from_width}
@@ -224,6 +224,50 @@ AreDropped-rows_of rows w xs are =
     let few : rows ≤ most_rows = are.few_rows in
     AreDropped-from_width w (rows_of rows w xs) (HasWidth-rows_of rows w xs are.whole) (omega arith)
 
+-- ---- rows that lie together
+
+-- the cells of rows are those of the vector
+row_cells-rows_of : (n w : ℕ) (xs : List Cell) → length xs ≡ n * w → row_cells (rows_of n w xs) ≡ xs
+row_cells-rows_of zero w xs e = let none : length xs ≤ 0 = omega (arith, e) in sym (drop_all 0 xs none)
+row_cells-rows_of (suc n) w xs e =
+    let one : 1 * w ≡ w = omega arith in
+    let named : suc n ≡ n + 1 = omega arith in
+    let count : suc n * w ≡ n * w + 1 * w = ap (λ (m : ℕ). m * w) named ∙ add-mul n 1 w in
+    let less : suc n - 1 ≡ n = omega arith in
+    let front = take (1 * w) xs in
+    let back = drop (1 * w) xs in
+    let wide : length front ≡ w = length-take-le (1 * w) xs (omega (arith, e, count)) ∙ one in
+    ap row_cells (split_rows 1 (suc n) w xs (omega arith) e)
+    ∙ ap (λ (rs : List (List Cell)). row_cells (rs ++ rows_of (suc n - 1) w back)) (rows_of_one w front wide)
+    ∙ ap (λ (m : ℕ). front ++ row_cells (rows_of m w back)) less
+    ∙ ap (λ (ys : List Cell). front ++ ys) (row_cells-rows_of n w back (omega (arith, e, count, length-drop (1 * w) xs)))
+    ∙ take-append-drop (1 * w) xs
+
+pub rows_run : (rows w i n : ℕ) (xs : List Cell) → length xs ≡ rows * w → i + n ≤ rows → row_cells (take n (drop i (rows_of rows w xs))) ≡ take (n * w) (drop (i * w) xs)
+rows_run rows w i n xs e h =
+    let back = drop (i * w) xs in
+    let sum : rows ≡ i + (rows - i) = omega arith in
+    let count : rows * w ≡ i * w + (rows - i) * w = ap (λ (m : ℕ). m * w) sum ∙ add-mul i (rows - i) w in
+    let long : length back ≡ (rows - i) * w = omega (arith, length-drop (i * w) xs, e, count) in
+    ap (λ (rs : List (List Cell)). row_cells (take n rs)) (sym (rows_of-drop i rows w xs (omega arith) e))
+    ∙ ap row_cells (sym (rows_of-take n (rows - i) w back (omega arith) long))
+    ∙ row_cells-rows_of n w (take (n * w) back) (length-take-le (n * w) back (omega (arith, long, cells_le n (rows - i) w (omega arith))))
+
+-- where they don't go on from the vector's first row
+pub ring_run : (rows w place i n : ℕ) (xs : List Cell) → IsRing rows w place xs → i + n ≤ rows → (place + i) % rows + n ≤ rows
+    → row_cells (take n (drop i (ring_rows rows w place xs))) ≡ take (n * w) (drop (((place + i) % rows) * w) xs)
+ring_run rows w place i n xs is h k =
+    let at = (place + i) % rows in
+    let turned = from_place (place * w) xs in
+    let lt = length-turned rows w place xs is in
+    let here = add-mul i n w in
+    let there = add-mul at n w in
+    ap (λ (rs : List (List Cell)). row_cells (take n (drop i rs))) (ring_rows-from_place rows w place xs is.place_within is.whole)
+    ∙ rows_run rows w i n turned lt h
+    ∙ sym (take-append-le (n * w) (drop (i * w) turned) (take (i * w) turned) (omega (arith, length-drop (i * w) turned, lt, here, cells_le (i + n) rows w h)))
+    ∙ ap (take (n * w)) (from_place-rows rows w place i xs is.whole is.place_within (omega arith))
+    ∙ take-append-le (n * w) (drop (at * w) xs) (take (at * w) xs) (omega (arith, length-drop (at * w) xs, is.whole, there, cells_le (at + n) rows w k))
+
 -- ---- a row is pushed
 
 -- the cells with other ones in the place of row k
@@ -406,6 +450,7 @@ AreRows-take n rows w place xs h is =
     let few : rows ≤ most_rows = is.few_rows in
     record {
       few_rows = omega arith;
+      some_sources = is.some_sources;
       few_sources = is.few_sources;
       whole = length-take-le (n * w) (from_place (place * w) xs) (omega (arith, length-turned rows w place xs is, cells_le n rows w h));
     }

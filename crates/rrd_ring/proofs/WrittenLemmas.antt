@@ -1,6 +1,6 @@
 -- Rings of which a front is written, and the rest unknown.
-use Rattle.std.proofs.Common.{Vec, Global, ◌≡◌, ◌⊎◌, inl, inr, min, refl, sym, ◌∙◌, ap, subst, ℕ, zero, suc, ◌+◌, ◌-◌, ◌*◌, ◌%◌, ◌<◌, ◌≤◌, List, [], ◌∷◌, ◌++◌, length, take, drop, replicate, ⊎_elim, arith, length-append, length-drop, vec_len, vec_capacity}
-use Rattle.std.proofs.Math.Nat.{add-mul}
+use Rattle.std.proofs.Common.{Vec, Global, ◌≡◌, ◌⊎◌, inl, inr, min, refl, sym, ◌∙◌, ap, subst, ℕ, zero, suc, ◌+◌, ◌-◌, ◌*◌, ◌/◌, ◌%◌, ◌<◌, ◌≤◌, List, [], ◌∷◌, ◌++◌, length, take, drop, replicate, ⊎_elim, arith, length-append, length-drop, vec_len, vec_capacity}
+use Rattle.std.proofs.Math.Nat.{add-mul, mul-div_cancel}
 use Rattle.std.proofs.lemmas.Bool.{cases_lt}
 use Rattle.std.proofs.lemmas.Nat.{row_fits, mod_below}
 use Rattle.std.proofs.lemmas.List.{append_assoc, append-nil, take-append-drop, replicate-append-replicate, length-take-le, length-replicate, take-append-le, take_min, drop-append-le, drop-drop, take_at, drop_at, take_all, drop_all, take-replicate, drop-replicate}
@@ -8,7 +8,7 @@ use Rattle.rrd_fixed.specs.declared.cell.Cell.{Cell}
 use Rattle.rrd_fixed.specs.declared.cell.Cell.TheVariants.{Unknown}
 use Rattle.rrd_ring.specs.Rows.{width, newest_rows, unknown_rows}
 use Rattle.rrd_ring.specs.Ring.{from_place, ring_rows, rows_of, with_unwritten, AreRows, AreWhole, ArePartlyWritten, IsRing, IsPartlyWritten}
-use Rattle.rrd_ring.proofs.RingLemmas.{cells_le, with_cells, length-with_cells, ring_fits, ring_take, rows_of_unknown}
+use Rattle.rrd_ring.proofs.RingLemmas.{cells_le, with_cells, length-with_cells, ring_fits, ring_take, ring_unknown, rows_of_unknown}
 
 -- ---- the cells
 
@@ -64,18 +64,21 @@ row_written all start w xs h =
     let rest = replicate (all - length xs) Unknown in
     sym (ap (take w) (drop-append-le start xs rest (omega arith)) ∙ take-append-le w (drop start xs) rest (omega (arith, length-drop start xs)))
 
-pub row_unwritten : (all start w : ℕ) (xs : List Cell) → length xs ≤ start → start + w ≤ all → w ≤ 64 → take w (replicate 64 Unknown) ≡ take w (drop start (with_unwritten all xs))
-row_unwritten all start w xs h fits few =
+-- those that aren't are unknown
+pub unknown_there : (all start n : ℕ) (xs : List Cell) → length xs ≤ start → start + n ≤ all → take n (drop start (with_unwritten all xs)) ≡ replicate n Unknown
+unknown_there all start n xs h fits =
     let rest = replicate (all - length xs) Unknown in
     let past = start - length xs in
     let sum : length xs + past ≡ start = omega arith in
     let later : drop start (xs ++ rest) ≡ replicate (all - length xs - past) Unknown =
-    ap (λ (n : ℕ). drop n (xs ++ rest)) (sym sum)
+    ap (λ (k : ℕ). drop k (xs ++ rest)) (sym sum)
     ∙ sym (drop-drop past (length xs) (xs ++ rest))
     ∙ ap (drop past) (drop_at xs rest (length xs) refl)
     ∙ drop-replicate past (all - length xs) Unknown in
-    take-replicate w 64 Unknown few
-    ∙ sym (ap (take w) later ∙ take-replicate w (all - length xs - past) Unknown (omega arith))
+    ap (take n) later ∙ take-replicate n (all - length xs - past) Unknown (omega arith)
+
+pub row_unwritten : (all start w : ℕ) (xs : List Cell) → length xs ≤ start → start + w ≤ all → w ≤ 64 → take w (replicate 64 Unknown) ≡ take w (drop start (with_unwritten all xs))
+row_unwritten all start w xs h fits few = take-replicate w 64 Unknown few ∙ sym (unknown_there all start w xs h fits)
 
 -- ---- a row is written
 
@@ -111,6 +114,52 @@ written_behind all w k ys row end fits e =
     ∙ ap (λ (zs : List Cell). ys ++ (row ++ zs)) (sym (ap (drop w) (drop_at ys rest start (sym end)) ∙ drop-replicate w (all - length ys) Unknown))
     ∙ ap (λ (zs : List Cell). zs ++ (row ++ drop w (drop start (ys ++ rest)))) (sym (take_at ys rest start (sym end)))
 
+-- ---- cells are made unknown
+
+-- those that are so already
+same_unknown : (start n : ℕ) (ys : List Cell) → take n (drop start ys) ≡ replicate n Unknown → ys ≡ take start ys ++ (replicate n Unknown ++ drop n (drop start ys))
+same_unknown start n ys e =
+    sym (ap (λ (zs : List Cell). take start ys ++ (zs ++ drop n (drop start ys))) (sym e)
+    ∙ ap (λ (zs : List Cell). take start ys ++ zs) (take-append-drop n (drop start ys))
+    ∙ take-append-drop start ys)
+
+pub never_written : (all start n : ℕ) (xs : List Cell) → start + n ≤ all → min (length xs) (start + n) ≤ start
+    → with_unwritten all xs ≡ take start (with_unwritten all xs) ++ (replicate n Unknown ++ drop n (drop start (with_unwritten all xs)))
+never_written all start n xs fits h =
+    let ys = with_unwritten all xs in
+    same_unknown start n ys (⊎_elim
+    (λ (within : start < length xs).
+    let none : n ≡ 0 = omega arith in
+    ap (λ (k : ℕ). take k (drop start ys)) none ∙ sym (ap (λ (k : ℕ). replicate k Unknown) none))
+    (λ (past : length xs ≤ start). unknown_there all start n xs past fits)
+    (cases_lt start (length xs)))
+
+-- and those that are written
+pub forgotten : (all start n end : ℕ) (xs new : List Cell) → start + n ≤ all → end ≡ min (length xs) (start + n) → start < end
+    → new ≡ take start xs ++ (replicate (end - start) Unknown ++ drop (end - start) (drop start xs))
+    → with_unwritten all new ≡ take start (with_unwritten all xs) ++ (replicate n Unknown ++ drop n (drop start (with_unwritten all xs)))
+forgotten all start n end xs new fits is some items =
+    let ys = with_unwritten all xs in
+    let back = drop start ys in
+    let m = end - start in
+    let more = n - m in
+    let gone = replicate m Unknown in
+    let count : length gone ≡ m = length-replicate m Unknown in
+    let sum : m + more ≡ n = omega (arith, is, some) in
+    let later : drop m back ≡ drop (start + m) ys = drop-drop m start ys in
+    let others : take more (drop m back) ≡ replicate more Unknown = ⊎_elim
+    (λ (left : 0 < more). ap (take more) later ∙ unknown_there all (start + m) more xs (omega (arith, is, some, left)) (omega (arith, sum, fits)))
+    (λ (least : more ≤ 0).
+    let none : more ≡ 0 = omega arith in
+    ap (λ (k : ℕ). take k (drop m back)) none ∙ sym (ap (λ (k : ℕ). replicate k Unknown) none))
+    (cases_lt 0 more) in
+    ap (with_unwritten all) (items ∙ ap (λ (k : ℕ). take start xs ++ (gone ++ drop k (drop start xs))) (sym count))
+    ∙ written_over all m start xs gone (omega (arith, is, some)) count
+    ∙ ap (λ (zs : List Cell). take start ys ++ (gone ++ zs)) (sym (take-append-drop more (drop m back)) ∙ ap (λ (zs : List Cell). zs ++ drop more (drop m back)) others)
+    ∙ ap (λ (zs : List Cell). take start ys ++ zs) (sym (append_assoc gone (replicate more Unknown) (drop more (drop m back))))
+    ∙ ap (λ (zs : List Cell). take start ys ++ (zs ++ drop more (drop m back))) (replicate-append-replicate m more Unknown ∙ ap (λ (k : ℕ). replicate k Unknown) sum)
+    ∙ ap (λ (zs : List Cell). take start ys ++ (replicate n Unknown ++ zs)) (drop-drop more m back ∙ ap (λ (k : ℕ). drop k back) sum)
+
 -- ---- the invariant
 
 pub ring_le : (rows w place : ℕ) (v : Vec Cell Global) → IsPartlyWritten rows w place v → length v.items ≤ rows * w
@@ -129,6 +178,31 @@ next_row w k xs is le = ⊎_elim
     (λ (less : k * w < length xs). inl (whole_row w k xs is less))
     (λ (past : length xs ≤ k * w). inr (omega (arith, le, past)))
     (cases_lt (k * w) (length xs))
+
+-- so many rows are written
+pub rows_in : (w len : ℕ) (xs : List Cell) → 0 < w → AreWhole w xs → len ≡ length xs → len / w * w ≡ length xs
+rows_in w len xs some is e =
+    let count : len / w ≡ is.count = ap (λ (n : ℕ). n / w) (e ∙ is.whole) ∙ mul-div_cancel is.count some in
+    ap (λ (n : ℕ). n * w) count ∙ sym is.whole
+
+-- of rows that lie together, as far as they are written or one that isn't, there are no more than all
+pub run_fits : (rows w place n written : ℕ) (xs : List Cell) → 0 < w → written * w ≡ length xs → length xs ≤ rows * w → place < rows → (place < written → place + n ≤ written) → (written ≤ place → n ≡ 1) → place + n ≤ rows
+run_fits rows w place n written xs some is few within before behind = ⊎_elim
+    (λ (there : place < written). ⊎_elim (λ (more : rows < written). absurd (omega (arith, is, few, some, add-mul rows 1 w, cells_le (rows + 1) written w (omega arith)))) (λ (all : written ≤ rows). omega (arith, before there)) (cases_lt rows written))
+    (λ (past : written ≤ place). omega (arith, behind past))
+    (cases_lt place written)
+
+pub run_whole : (w place n written : ℕ) (xs : List Cell) → written * w ≡ length xs → (place < written → place + n ≤ written) → place * w < length xs → place * w + n * w ≤ length xs
+run_whole w place n written xs is before below = ⊎_elim
+    (λ (there : place < written). omega (arith, is, add-mul place n w, cells_le (place + n) written w (before there)))
+    (λ (past : written ≤ place). absurd (omega (arith, is, below, cells_le written place w past)))
+    (cases_lt place written)
+
+pub run_one : (w place n written : ℕ) (xs : List Cell) → 0 < w → written * w ≡ length xs → (written ≤ place → n ≡ 1) → length xs ≤ place * w → n * w ≡ w
+run_one w place n written xs some is behind past = ⊎_elim
+    (λ (there : place < written). absurd (omega (arith, is, past, some, add-mul place 1 w, cells_le (place + 1) written w (omega arith))))
+    (λ (after : written ≤ place). let one : 1 * w ≡ w = omega arith in ap (λ (k : ℕ). k * w) (behind after) ∙ one)
+    (cases_lt place written)
 
 -- filled up as far as some row, it is the same ring
 pub filled_ring : (rows w place k : ℕ) (v new : Vec Cell Global) → IsPartlyWritten rows w place v → k ≤ rows → new.items ≡ with_unwritten (k * w) v.items → vec_capacity v ≤ vec_capacity new
@@ -201,27 +275,27 @@ wholly rows w place v is = record {
 
 -- ---- what isn't written
 
--- so many of the newest rows are written: those before the oldest one's place where what is written ends there, else it
--- can be all
+-- so many of the newest rows can be written: none where no cell is, those before the oldest one's place where what is
+-- written ends there or before it, and else all
 abbrev pub AreWritten : ℕ → ℕ → ℕ → ℕ → ℕ → Type 0
-AreWritten rows w place len written = (len ≡ place * w → written ≡ place) × ((len ≡ place * w → ⊥) → written ≡ rows)
+AreWritten rows w place len written = (len ≡ 0 → written ≡ 0) × (0 < len → len ≤ place * w → written ≡ place) × (place * w < len → written ≡ rows)
 
-same_or_not : (a b : ℕ) → (a ≡ b) ⊎ (a ≡ b → ⊥)
-same_or_not a b = ⊎_elim (λ (lt : a < b). inr (λ (e : a ≡ b). absurd (omega (arith, lt, e))))
-    (λ (le : b ≤ a). ⊎_elim (λ (gt : b < a). inr (λ (e : a ≡ b). absurd (omega (arith, gt, e)))) (λ (ge : a ≤ b). inl (omega (arith, le, ge))) (cases_lt b a))
-    (cases_lt a b)
-
-either : (rows w place written : ℕ) (v : Vec Cell Global) → AreWritten rows w place (vec_len v) written → (written ≡ rows) ⊎ ((written ≡ place) × (length v.items ≡ place * w))
-either rows w place written v are =
+which : (rows w place written : ℕ) (v : Vec Cell Global) → AreWritten rows w place (vec_len v) written → (written ≡ rows) ⊎ (((written ≡ place) × (length v.items ≤ place * w)) ⊎ ((written ≡ 0) × (length v.items ≡ 0)))
+which rows w place written v are =
     let len = v.ok.0 in
-    ⊎_elim (λ (ending : vec_len v ≡ place * w). inr (are.0 ending, omega (arith, len, ending)))
-    (λ (not : vec_len v ≡ place * w → ⊥). inl (are.1 not))
-    (same_or_not (vec_len v) (place * w))
+    ⊎_elim (λ (behind : place * w < vec_len v). inl (are.2 behind))
+    (λ (within : vec_len v ≤ place * w). inr (⊎_elim (λ (some : 0 < vec_len v). inl (are.1 some within, omega (arith, len, within)))
+    (λ (least : vec_len v ≤ 0). let none : vec_len v ≡ 0 = omega (arith, least) in inr (are.0 none, omega (arith, len, none)))
+    (cases_lt 0 (vec_len v))))
+    (cases_lt (place * w) (vec_len v))
 
 pub are_few : (rows w place written : ℕ) (v : Vec Cell Global) → IsPartlyWritten rows w place v → AreWritten rows w place (vec_len v) written → written ≤ rows
 are_few rows w place written v is are =
     let within : place < rows = is.ring.place_within in
-    ⊎_elim (λ (all : written ≡ rows). omega (arith, all)) (λ (part : (written ≡ place) × (length v.items ≡ place * w)). omega (arith, part.0)) (either rows w place written v are)
+    ⊎_elim (λ (all : written ≡ rows). omega (arith, all))
+    (λ (fewer : ((written ≡ place) × (length v.items ≤ place * w)) ⊎ ((written ≡ 0) × (length v.items ≡ 0))).
+    ⊎_elim (λ (part : (written ≡ place) × (length v.items ≤ place * w)). omega (arith, part.0)) (λ (none : (written ≡ 0) × (length v.items ≡ 0)). omega (arith, none.0)) fewer)
+    (which rows w place written v are)
 
 -- the others are the oldest, and unknown
 pub unwritten_rows : (rows w place written : ℕ) (v : Vec Cell Global) → IsPartlyWritten rows w place v → AreWritten rows w place (vec_len v) written
@@ -229,25 +303,30 @@ pub unwritten_rows : (rows w place written : ℕ) (v : Vec Cell Global) → IsPa
 unwritten_rows rows w place written v is are =
     let xs = v.items in
     let all = rows * w in
-    let rest = replicate (all - length xs) Unknown in
-    let ring = ring_rows rows w place (with_unwritten all xs) in
-    ⊎_elim (λ (full : written ≡ rows).
-    let none : rows - written ≡ 0 = omega (arith, full) in
-    ap (λ (k : ℕ). take k ring) none ∙ sym (ap (λ (k : ℕ). unknown_rows k w) none))
-    (λ (part : (written ≡ place) × (length xs ≡ place * w)).
+    let ys = with_unwritten all xs in
+    let ring = ring_rows rows w place ys in
     let n = rows - written in
+    let long : length ys ≡ all = is.ring.whole in
     let within : place < rows = is.ring.place_within in
-    let there : written ≡ place = part.0 in
-    let end : length xs ≡ place * w = part.1 in
-    let sum : rows ≡ place + n = omega arith in
+    ⊎_elim (λ (full : written ≡ rows).
+    let none : n ≡ 0 = omega (arith, full) in
+    ap (λ (k : ℕ). take k ring) none ∙ sym (ap (λ (k : ℕ). unknown_rows k w) none))
+    (λ (fewer : ((written ≡ place) × (length xs ≤ place * w)) ⊎ ((written ≡ 0) × (length xs ≡ 0))). ⊎_elim (λ (part : (written ≡ place) × (length xs ≤ place * w)).
+    let sum : rows ≡ place + n = omega (arith, part.0) in
     let count : all ≡ place * w + n * w = ap (λ (k : ℕ). k * w) sum ∙ add-mul place n w in
-    let left : all - length xs ≡ n * w = omega arith in
-    let turned : from_place (place * w) (xs ++ rest) ≡ rest ++ xs = ap (λ (zs : List Cell). zs ++ take (place * w) (xs ++ rest)) (drop_at xs rest (place * w) end) ∙ ap (λ (zs : List Cell). rest ++ zs) (take_at xs rest (place * w) end) in
-    sym (ring_take n rows w place (with_unwritten all xs) (omega arith) is.ring)
-    ∙ ap (λ (zs : List Cell). rows_of n w (take (n * w) zs)) turned
-    ∙ ap (rows_of n w) (take_at rest xs (n * w) (length-replicate (all - length xs) Unknown ∙ left) ∙ ap (λ (k : ℕ). replicate k Unknown) left)
+    let back = drop (place * w) ys in
+    let unknown : take (n * w) (from_place (place * w) ys) ≡ replicate (n * w) Unknown =
+    take-append-le (n * w) back (take (place * w) ys) (omega (arith, length-drop (place * w) ys, long, count)) ∙ unknown_there all (place * w) (n * w) xs part.1 (omega (arith, count)) in
+    sym (ring_take n rows w place ys (omega arith) is.ring)
+    ∙ ap (rows_of n w) unknown
     ∙ rows_of_unknown n w)
-    (either rows w place written v are)
+    (λ (none : (written ≡ 0) × (length xs ≡ 0)).
+    let every : ys ≡ replicate all Unknown = sym (take_all all ys (omega (arith, long))) ∙ unknown_there all 0 all xs (omega (arith, none.1)) (omega arith) in
+    ap (λ (zs : List Cell). take n (ring_rows rows w place zs)) every
+    ∙ ap (take n) (ring_unknown rows w place within)
+    ∙ take-replicate n rows (replicate w Unknown) (omega arith))
+    fewer)
+    (which rows w place written v are)
 
 -- the newest rows, where the oldest of them are unknown: as many as there are of the others, after unknown ones
 pub newest_of_known : (n known w : ℕ) (rows : List (List Cell)) → known ≤ length rows → width rows ≡ w → take (length rows - known) rows ≡ unknown_rows (length rows - known) w

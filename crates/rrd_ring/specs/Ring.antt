@@ -51,6 +51,7 @@ pub record IsPartlyWritten (rows sources place : ℕ) (written : Vec Cell Global
 -- rows of as many cells each, in one vector
 pub record AreRows (rows sources : ℕ) (cells : List Cell) : Type 0 where
   pub few_rows : rows ≤ most_rows
+  pub some_sources : 0 < sources
   pub few_sources : sources ≤ most_sources
   pub whole : length cells ≡ rows * sources
 

@@ -1,6 +1,6 @@
 -- Definition: rows of cells, oldest first.
 use Rattle.std.specs.Prelude.{◌≡◌, ℕ, zero, suc, ◌+◌, ◌-◌, ◌*◌, ◌%◌, ◌<◌, ◌≤◌, List, [], ◌∷◌, ◌++◌, length, take, drop, replicate, slice_index_or, slice_set}
-use Rattle.std.specs.List.{AllByRecursion, refill}
+use Rattle.std.specs.List.{AllByRecursion, flat_map, refill}
 use Rattle.rrd_fixed.specs.declared.cell.Cell.{Cell}
 use Rattle.rrd_fixed.specs.declared.cell.Cell.TheVariants.{Unknown}
 
@@ -17,6 +17,10 @@ abbrev pub with_rows : ℕ → ℕ → List (List Cell) → ℕ → List Cell �
 with_rows zero sources rows i cells = rows
 with_rows (suc n) sources rows i cells =
     slice_set (with_rows n sources rows i cells) ((i + n) % length rows) (take sources (drop (n * sources) cells))
+
+-- the cells of rows, one row after another
+abbrev pub row_cells : List (List Cell) → List Cell
+row_cells rows = flat_map (λ (row : List Cell). row) rows
 
 -- how many cells the oldest row has
 abbrev pub width : List (List Cell) → ℕ

@@ -1,13 +1,14 @@
 //! Archives of consolidated rows.
-ghost use Rattle.std.specs.Prelude.{◌≡◌, ◌+◌, ◌-◌, ◌<◌, ◌≤◌, ◌^◌, ◌*◌, List, [], ◌∷◌, ◌++◌, length, take, drop, slice_set, IfOk};
+ghost use Rattle.std.specs.Prelude.{◌≡◌, ◌+◌, ◌-◌, ◌<◌, ◌≤◌, ◌^◌, ◌*◌, List, [], ◌∷◌, ◌++◌, length, replicate, take, drop, slice_set, IfOk};
 ghost use Rattle.std.specs.Borrow.{sem};
 ghost use Rattle.rrd_fixed.specs.declared.cell.Cell.{Cell};
-ghost use Rattle.rrd_ring.specs.Rows.{nth_row, width, HasWidth, with_row, with_rows, unknown_rows, newest_rows, most_rows, most_sources};
+ghost use Rattle.rrd_fixed.specs.declared.cell.Cell.TheVariants.{Unknown};
+ghost use Rattle.rrd_ring.specs.Rows.{nth_row, row_cells, width, HasWidth, with_row, with_rows, unknown_rows, newest_rows, most_rows, most_sources};
 
 use crate::dropped::Dropped;
 use crate::ring::{
-    cells_of, fill_up, push_from, put_cells, put_row, row_from, row_mut, rows_written,
-    unknown_cells, wrap, write_from,
+    cells_of, fill_up, forget, push_from, put_cells, put_row, row_from, row_mut, rows_together,
+    rows_written, unknown_cells, wrap, write_from,
 };
 use rrd_fixed::{Cell, Meter};
 use std::alloc::{AllocError, Global};
@@ -118,6 +119,23 @@ impl Archive {
         row_from(&self.cells, start, self.sources)
     }
 
+    /// Rows from row `first` on, counted from the oldest, as many of the next `most` as lie together: how
+    /// many they are, at least one, and their cells, one row after another. Rows that were never written
+    /// may come one by one.
+    pub fn run(&self, first: u64, most: u64) -> (u64, &[Cell])
+        requires some { 0 < most }
+        requires there { first + most ≤ length self.now }
+        ensures some { 0 < result.0 }
+        ensures few { result.0 ≤ most }
+        ensures cells { result.1.now ≡ row_cells (take result.0 (drop first self.now)) }
+    {
+        let place = wrap(self.oldest + first as usize, self.rows);
+        let count = rows_together(self.cells.len() / self.sources, place, most as usize);
+        let start = cells_of(place, self.sources);
+        let cells = row_from(&self.cells, start, cells_of(count, self.sources));
+        (count as u64, cells)
+    }
+
     /// The cells of row `i`, counted from the oldest, to be written. The archive ends with what was
     /// written in their place.
     pub fn row_mut(&mut self, i: u64) -> &mut [Cell]
@@ -146,6 +164,25 @@ impl Archive {
         let (front, rest) = cells.split_at(cells_of(first, self.sources));
         put_cells(&mut self.cells, cells_of(place, self.sources), front);
         put_cells(&mut self.cells, 0, rest);
+    }
+
+    /// Makes `count` rows unknown, at most as many as there are, from row `i` on, counted from the oldest, to
+    /// the newest and then from the oldest on. It takes no memory, and touches that of written rows alone.
+    pub fn put_unknown(&mut self, i: u64, count: u64)
+        requires there { i < length self.old }
+        requires few { count ≤ length self.old }
+        ensures { let cells = replicate (count * width self.old) Unknown in
+            self.new ≡ with_rows count (width self.old) self.old i cells }
+    {
+        let place = wrap(self.oldest + i as usize, self.rows);
+        let first = (self.rows - place).min(count as usize);
+        let rest = count as usize - first;
+        forget(
+            &mut self.cells,
+            cells_of(place, self.sources),
+            cells_of(first, self.sources),
+        );
+        forget(&mut self.cells, 0, cells_of(rest, self.sources));
     }
 
     /// Drops the oldest row, and takes `cells`, one for each data source, as the newest. Adds a turn

@@ -1,10 +1,10 @@
 //! Rows that an archive dropped.
-ghost use Rattle.std.specs.Prelude.{◌≡◌, ◌<◌, ◌≤◌, List, length, slice_set, IfOk};
+ghost use Rattle.std.specs.Prelude.{◌≡◌, ◌+◌, ◌<◌, ◌≤◌, List, length, take, drop, slice_set, IfOk};
 ghost use Rattle.std.specs.Borrow.{sem};
 ghost use Rattle.rrd_fixed.specs.declared.cell.Cell.{Cell};
-ghost use Rattle.rrd_ring.specs.Rows.{nth_row, width, HasWidth, with_row, unknown_rows, most_rows, most_sources};
+ghost use Rattle.rrd_ring.specs.Rows.{nth_row, row_cells, width, HasWidth, with_row, unknown_rows, most_rows, most_sources};
 
-use crate::ring::{cells_of, fill_up, row_from, row_mut};
+use crate::ring::{cells_of, fill_up, row_from, row_mut, rows_together};
 use rrd_fixed::Cell;
 use std::alloc::{AllocError, Global};
 use std::marker::Model;
@@ -69,6 +69,23 @@ impl Dropped {
     {
         let start = cells_of(i as usize, self.sources);
         row_from(&self.cells, start, self.sources)
+    }
+
+    /// Rows from row `first` on, counted from the oldest, as many of the next `most` as lie together: how
+    /// many they are, at least one, and their cells, one row after another. Rows that were never written
+    /// may come one by one.
+    pub fn run(&self, first: u64, most: u64) -> (u64, &[Cell])
+        requires some { 0 < most }
+        requires there { first + most ≤ length self.now }
+        ensures some { 0 < result.0 }
+        ensures few { result.0 ≤ most }
+        ensures cells { result.1.now ≡ row_cells (take result.0 (drop first self.now)) }
+    {
+        let first = first as usize;
+        let count = rows_together(self.cells.len() / self.sources, first, most as usize);
+        let start = cells_of(first, self.sources);
+        let cells = row_from(&self.cells, start, cells_of(count, self.sources));
+        (count as u64, cells)
     }
 
     /// The cells of row `i`, counted from the oldest, to be written. The list ends with what was

@@ -5,6 +5,8 @@
 mod archive;
 mod dropped;
 mod ring;
+mod table;
 
 pub use archive::Archive;
 pub use dropped::Dropped;
+pub use table::Table;

@@ -45,32 +45,52 @@ pub(crate) fn unknown_cells(
     Ok(cells)
 }
 
-// How many of the newest rows are written of a ring of so many, where so many cells are: those before the
-// oldest one's place where what is written ends there. Else it can be all of them.
+// How many of the newest rows can be written of a ring of so many, where so many cells are: none where no cell is,
+// those before the oldest one's place where what is written ends there or before it, and else all of them.
 pub(crate) fn rows_written(cells: usize, rows: usize, sources: usize, oldest: usize) -> usize
     requires few_rows { rows ≤ most_rows }
     requires few_sources { sources ≤ most_sources }
     requires within { oldest < rows }
-    ensures part { cells ≡ oldest * sources → result ≡ oldest }
-    ensures all { (cells ≡ oldest * sources → ⊥) → result ≡ rows }
+    ensures none { cells ≡ 0 → result ≡ 0 }
+    ensures part { 0 < cells → cells ≤ oldest * sources → result ≡ oldest }
+    ensures all { oldest * sources < cells → result ≡ rows }
 {
-    if cells == cells_of(oldest, sources) {
+    if cells == 0 {
+        return 0;
+    }
+    if cells <= cells_of(oldest, sources) {
         return oldest;
     }
     rows
 }
 
-// The row from `start` on of a ring's vector, of which whole rows are written.
-pub(crate) fn row_from(cells: &[Cell], start: usize, sources: usize) -> &[Cell]
-    requires few_sources { sources ≤ most_sources }
-    requires whole { start < length cells.now → start + sources ≤ length cells.now }
-    ensures { (all : ℕ) → start + sources ≤ all
-        → result.now ≡ take sources (drop start (with_unwritten all cells.now)) }
+// How many of `most` rows from `place` on lie together, of a vector that has so many written rows: as far as
+// these go, or the first one alone where it isn't written.
+pub(crate) fn rows_together(written: usize, place: usize, most: usize) -> usize
+    requires { 0 < most }
+    ensures some { 0 < result }
+    ensures few { result ≤ most }
+    ensures within { place < written → place + result ≤ written }
+    ensures behind { written ≤ place → result ≡ 1 }
+{
+    if place < written {
+        return most.min(written - place);
+    }
+    1
+}
+
+// The `count` cells from `start` on of a ring's vector, those of whole rows that are written, or of one that
+// isn't.
+pub(crate) fn row_from(cells: &[Cell], start: usize, count: usize) -> &[Cell]
+    requires few { length cells.now ≤ start → count ≤ most_sources }
+    requires whole { start < length cells.now → start + count ≤ length cells.now }
+    ensures { (all : ℕ) → start + count ≤ all
+        → result.now ≡ take count (drop start (with_unwritten all cells.now)) }
 {
     if start < cells.len() {
-        return &cells[start..start + sources];
+        return &cells[start..start + count];
     }
-    &UNWRITTEN[..sources]
+    &UNWRITTEN[..count]
 }
 
 // Adds copies of `count` cells of a ring's vector from the one at `start` on: those that are written, and
@@ -143,6 +163,33 @@ pub(crate) fn put_cells(cells: &mut Vec<Cell>, start: usize, part: &[Cell])
     let end = start + part.len();
     fill_up(cells, end);
     cells[start..end].copy_from_slice(part);
+}
+
+// Makes cells that are written unknown: those from `start` on and before `end`.
+fn overwrite(cells: &mut Vec<Cell>, start: usize, end: usize)
+    requires start_le_end { start ≤ end }
+    requires in_bounds { end ≤ vec_len cells.old }
+    ensures items { cells.new.items ≡ take start cells.old.items
+        ++ (replicate (end - start) Unknown ++ drop (end - start) (drop start cells.old.items)) }
+    ensures capacity { vec_capacity cells.old ≤ vec_capacity cells.new }
+{
+    cells[start..end].fill(Cell::Unknown);
+}
+
+// Makes the `count` cells of a ring's vector from `start` on unknown: those that were never written are. It
+// takes no memory.
+pub(crate) fn forget(cells: &mut Vec<Cell>, start: usize, count: usize)
+    requires { start + count < 2 ^ 64 }
+    ensures cells { (all : ℕ) → length cells.old.items ≤ all → start + count ≤ all
+        → with_unwritten all cells.new.items ≡ take start (with_unwritten all cells.old.items)
+        ++ (replicate count Unknown ++ drop count (drop start (with_unwritten all cells.old.items))) }
+    ensures as_many { length cells.new.items ≡ length cells.old.items }
+    ensures capacity { vec_capacity cells.old ≤ vec_capacity cells.new }
+{
+    let end = cells.len().min(start + count);
+    if start < end {
+        overwrite(cells, start, end);
+    }
 }
 
 // Writes `cells` into a ring from the one at `start` on: at most two pieces of its vector.

@@ -1,11 +1,10 @@
-use Rattle.std.proofs.Common.{◌≡◌, ℕ, ◌+◌, ◌-◌, ◌*◌, ◌%◌, ◌<◌, ◌≤◌, ◌∙◌, min, sym, ap, List, length, take, drop, length-drop, arith}
+use Rattle.std.proofs.Common.{◌≡◌, ℕ, ◌+◌, ◌-◌, ◌*◌, ◌%◌, ◌≤◌, ◌∙◌, min, sym, ap, List, take, drop, arith}
 use Rattle.std.proofs.Math.Nat.{add-mul}
-use Rattle.std.proofs.lemmas.List.{take_all}
 use Rattle.std.proofs.lemmas.Nat.{mod_below}
 use Rattle.rrd_fixed.specs.declared.cell.Cell.{Cell}
-use Rattle.rrd_ring.specs.Ring.{ring_rows, with_unwritten}
+use Rattle.rrd_ring.specs.Ring.{with_unwritten}
 use Rattle.rrd_ring.specs.Rows.{with_rows}
-use Rattle.rrd_ring.proofs.BlockLemmas.{block_put, rows_put}
+use Rattle.rrd_ring.proofs.BlockLemmas.{are_put}
 use Rattle.rrd_ring.proofs.RingLemmas.{cells_le, ring_len, ring_width}
 use Rattle.rrd_ring.proofs.archive.Archive.put_rows.Goals as goal
 
@@ -48,52 +47,30 @@ pub invariant_of-self : goal.invariant_of-self
 invariant_of-self c =
     let a = c.self.inside in
     let i = c.args.i in
-    let cells = c.args.cells.now in
     let first = c.min-first.result in
-    let rest = c.args.count - first in
-    let at = (a.oldest + i) % a.rows in
     let xs = with_unwritten (a.rows * a.sources) a.cells.items in
     let wide = ring_width a.rows a.sources a.oldest xs c.args.self.now c.self.invariant.ring c.self.view_is in
     let rows = ring_len a.rows a.sources a.oldest xs c.args.self.now c.self.view_is in
-    let below : at < a.rows = mod_below (a.oldest + i) a.rows c.self.invariant.ring.some_rows in
-    let least : first ≡ min (a.rows - at) c.args.count = c.min-first.ensures ∙ ap (λ (n : ℕ). min (a.rows - n) c.args.count) c.wrap-place.ensures in
-    let sum : first + rest ≡ c.args.count = omega (arith, least) in
-    let has : (first + rest) * a.sources ≡ length cells = ap (λ (n : ℕ). n * a.sources) sum ∙ ap (λ (n : ℕ). c.args.count * n) (sym wide) ∙ sym c.requires.one_each in
-    let both = add-mul first rest a.sources in
+    let place = c.wrap-place.ensures in
     let cut = c.cells_of.ensures.count in
-    let one = block_put a.rows a.sources a.oldest at first a.cells c.put_cells.new.cells cells c.split_at.result.0.now c.cells_of-2.result c.self.invariant (omega (arith, least, below)) (omega (arith, has, both))
-    (c.split_at.ensures.front ∙ ap (λ (n : ℕ). take n cells) cut) (c.cells_of-2.ensures.count ∙ ap (λ (n : ℕ). n * a.sources) c.wrap-place.ensures) c.put_cells.ensures.items c.put_cells.ensures.capacity in
-    let later = drop (first * a.sources) cells in
-    let left : length later ≡ rest * a.sources = omega (arith, length-drop (first * a.sources) cells, has, both) in
-    let whole : c.split_at.result.1.now ≡ take (rest * a.sources) later = c.split_at.ensures.back ∙ ap (λ (n : ℕ). drop n cells) cut ∙ sym (take_all (rest * a.sources) later (omega (arith, left))) in
-    let two = block_put a.rows a.sources a.oldest 0 rest c.put_cells.new.cells c.put_cells-2.new.cells later c.split_at.result.1.now 0 one.is (omega (arith, c.requires.few, rows)) (omega (arith, left)) whole (omega arith) c.put_cells-2.ensures.items c.put_cells-2.ensures.capacity in
-    two.is
+    let least : first ≡ min (a.rows - (a.oldest + i) % a.rows) c.args.count = c.min-first.ensures ∙ ap (λ (n : ℕ). min (a.rows - n) c.args.count) place in
+    (are_put a.rows a.sources a.oldest i c.args.count first c.cells_of-2.result a.cells c.put_cells.new.cells c.put_cells-2.new.cells c.args.cells.now c.split_at.result.0.now c.split_at.result.1.now c.self.invariant (omega (arith, c.requires.there, rows)) (omega (arith, c.requires.few, rows))
+    (c.requires.one_each ∙ ap (λ (n : ℕ). c.args.count * n) wide) least (c.cells_of-2.ensures.count ∙ ap (λ (n : ℕ). n * a.sources) place) (c.split_at.ensures.front ∙ ap (λ (n : ℕ). take n c.args.cells.now) cut) (c.split_at.ensures.back ∙ ap (λ (n : ℕ). drop n c.args.cells.now) cut)
+    (record { items = c.put_cells.ensures.items; room = c.put_cells.ensures.capacity }) (record { items = c.put_cells-2.ensures.items; room = c.put_cells-2.ensures.capacity })).is
 
 pub returns : goal.returns
 returns c =
     let a = c.self.inside in
     let i = c.args.i in
-    let cells = c.args.cells.now in
     let first = c.min-first.result in
-    let rest = c.args.count - first in
-    let at = (a.oldest + i) % a.rows in
     let xs = with_unwritten (a.rows * a.sources) a.cells.items in
     let wide = ring_width a.rows a.sources a.oldest xs c.args.self.now c.self.invariant.ring c.self.view_is in
     let rows = ring_len a.rows a.sources a.oldest xs c.args.self.now c.self.view_is in
-    let below : at < a.rows = mod_below (a.oldest + i) a.rows c.self.invariant.ring.some_rows in
-    let least : first ≡ min (a.rows - at) c.args.count = c.min-first.ensures ∙ ap (λ (n : ℕ). min (a.rows - n) c.args.count) c.wrap-place.ensures in
-    let sum : first + rest ≡ c.args.count = omega (arith, least) in
-    let has : (first + rest) * a.sources ≡ length cells = ap (λ (n : ℕ). n * a.sources) sum ∙ ap (λ (n : ℕ). c.args.count * n) (sym wide) ∙ sym c.requires.one_each in
-    let both = add-mul first rest a.sources in
+    let place = c.wrap-place.ensures in
     let cut = c.cells_of.ensures.count in
-    let one = block_put a.rows a.sources a.oldest at first a.cells c.put_cells.new.cells cells c.split_at.result.0.now c.cells_of-2.result c.self.invariant (omega (arith, least, below)) (omega (arith, has, both))
-    (c.split_at.ensures.front ∙ ap (λ (n : ℕ). take n cells) cut) (c.cells_of-2.ensures.count ∙ ap (λ (n : ℕ). n * a.sources) c.wrap-place.ensures) c.put_cells.ensures.items c.put_cells.ensures.capacity in
-    let later = drop (first * a.sources) cells in
-    let left : length later ≡ rest * a.sources = omega (arith, length-drop (first * a.sources) cells, has, both) in
-    let whole : c.split_at.result.1.now ≡ take (rest * a.sources) later = c.split_at.ensures.back ∙ ap (λ (n : ℕ). drop n cells) cut ∙ sym (take_all (rest * a.sources) later (omega (arith, left))) in
-    let two = block_put a.rows a.sources a.oldest 0 rest c.put_cells.new.cells c.put_cells-2.new.cells later c.split_at.result.1.now 0 one.is (omega (arith, c.requires.few, rows)) (omega (arith, left)) whole (omega arith) c.put_cells-2.ensures.items c.put_cells-2.ensures.capacity in
-    let there : i < a.rows = omega (arith, c.requires.there, rows) in
-    (rows_put a.rows a.sources a.oldest i first rest a.cells c.put_cells.new.cells c.put_cells-2.new.cells cells there (omega (arith, least, below)) (omega (arith, c.requires.few, rows)) (λ some. omega (arith, some, least, below)) (omega (arith, has)) one two c.self.invariant).rows_are
-    ∙ ap (λ (n : ℕ). with_rows n a.sources (ring_rows a.rows a.sources a.oldest xs) i cells) sum
-    ∙ ap (λ (rs : List (List Cell)). with_rows c.args.count a.sources rs i cells) c.self.view_is
-    ∙ ap (λ (n : ℕ). with_rows c.args.count n c.args.self.now i cells) (sym wide)
+    let least : first ≡ min (a.rows - (a.oldest + i) % a.rows) c.args.count = c.min-first.ensures ∙ ap (λ (n : ℕ). min (a.rows - n) c.args.count) place in
+    (are_put a.rows a.sources a.oldest i c.args.count first c.cells_of-2.result a.cells c.put_cells.new.cells c.put_cells-2.new.cells c.args.cells.now c.split_at.result.0.now c.split_at.result.1.now c.self.invariant (omega (arith, c.requires.there, rows)) (omega (arith, c.requires.few, rows))
+    (c.requires.one_each ∙ ap (λ (n : ℕ). c.args.count * n) wide) least (c.cells_of-2.ensures.count ∙ ap (λ (n : ℕ). n * a.sources) place) (c.split_at.ensures.front ∙ ap (λ (n : ℕ). take n c.args.cells.now) cut) (c.split_at.ensures.back ∙ ap (λ (n : ℕ). drop n c.args.cells.now) cut)
+    (record { items = c.put_cells.ensures.items; room = c.put_cells.ensures.capacity }) (record { items = c.put_cells-2.ensures.items; room = c.put_cells-2.ensures.capacity })).rows_are
+    ∙ ap (λ (rs : List (List Cell)). with_rows c.args.count a.sources rs i c.args.cells.now) c.self.view_is
+    ∙ ap (λ (n : ℕ). with_rows c.args.count n c.args.self.now i c.args.cells.now) (sym wide)

@@ -18,7 +18,7 @@ push_from-requires-clause-within c =
 pub push_from-requires-clause-few : goal.push_from-requires-clause-few
 push_from-requires-clause-few c =
     let a = c.self.inside in
-    let are = subst (λ len. AreWritten a.rows a.sources a.oldest len c.rows_written-written.result) c.len.ensures (c.rows_written-written.ensures.part, c.rows_written-written.ensures.all) in
+    let are = subst (λ len. AreWritten a.rows a.sources a.oldest len c.rows_written-written.result) c.len.ensures (c.rows_written-written.ensures.none, c.rows_written-written.ensures.part, c.rows_written-written.ensures.all) in
     let few = are_few a.rows a.sources a.oldest c.rows_written-written.result a.cells c.self.invariant are in
     let kept : c.min-kept.result ≤ a.rows = omega (arith, c.min-kept.ensures, few) in
     omega (arith, c.cells_of-count.ensures.count, c.cells_of-all.ensures.count, cells_le c.min-kept.result a.rows a.sources kept)
@@ -31,7 +31,7 @@ invariant_of-result c =
     let xs = with_unwritten all a.cells.items in
     let kept = c.min-kept.result in
     let least = c.min-kept.ensures in
-    let are = subst (λ len. AreWritten a.rows a.sources a.oldest len c.rows_written-written.result) c.len.ensures (c.rows_written-written.ensures.part, c.rows_written-written.ensures.all) in
+    let are = subst (λ len. AreWritten a.rows a.sources a.oldest len c.rows_written-written.result) c.len.ensures (c.rows_written-written.ensures.none, c.rows_written-written.ensures.part, c.rows_written-written.ensures.all) in
     let few = are_few a.rows a.sources a.oldest c.rows_written-written.result a.cells c.self.invariant are in
     let all_rows : wanted ≡ wanted - kept + kept = omega (arith, least) in
     let sum : wanted * a.sources ≡ (wanted - kept) * a.sources + kept * a.sources = ap (λ k. k * a.sources) all_rows ∙ add-mul (wanted - kept) kept a.sources in
@@ -57,7 +57,7 @@ returns c =
     let known = c.rows_written-written.result in
     let kept = c.min-kept.result in
     let least = c.min-kept.ensures in
-    let are = subst (λ len. AreWritten a.rows a.sources a.oldest len known) c.len.ensures (c.rows_written-written.ensures.part, c.rows_written-written.ensures.all) in
+    let are = subst (λ len. AreWritten a.rows a.sources a.oldest len known) c.len.ensures (c.rows_written-written.ensures.none, c.rows_written-written.ensures.part, c.rows_written-written.ensures.all) in
     let few = are_few a.rows a.sources a.oldest known a.cells c.self.invariant are in
     let rows = c.args.self.now in
     let long = ring_len a.rows a.sources a.oldest xs rows c.self.view_is in

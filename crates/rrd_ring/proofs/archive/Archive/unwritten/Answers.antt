@@ -16,7 +16,7 @@ returns-clause-unknown c =
     let a = c.self.inside in
     let xs = with_unwritten (a.rows * a.sources) a.cells.items in
     let written = c.rows_written-written.result in
-    let are = subst (λ len. AreWritten a.rows a.sources a.oldest len written) c.len.ensures (c.rows_written-written.ensures.part, c.rows_written-written.ensures.all) in
+    let are = subst (λ len. AreWritten a.rows a.sources a.oldest len written) c.len.ensures (c.rows_written-written.ensures.none, c.rows_written-written.ensures.part, c.rows_written-written.ensures.all) in
     ap (take (a.rows - written)) (sym c.self.view_is)
     ∙ unwritten_rows a.rows a.sources a.oldest written a.cells c.self.invariant are
     ∙ ap (unknown_rows (a.rows - written)) (sym (ring_width a.rows a.sources a.oldest xs c.args.self.now c.self.invariant.ring c.self.view_is))

@@ -1,0 +1,66 @@
+//! What the rows of an archive and those that it dropped have in common.
+use crate::archive::Archive;
+use crate::dropped::Dropped;
+use rrd_fixed::Cell;
+
+/// Rows of cells (millionths, or unknown), oldest first, at most 1,000,000: those of an archive, or those that
+/// it dropped.
+pub trait Table {
+    ghost use Rattle.std.specs.Prelude.{◌≡◌, ◌+◌, ◌<◌, ◌≤◌, List, length, take, drop};
+    ghost use Rattle.rrd_fixed.specs.declared.cell.Cell.{Cell};
+    ghost use Rattle.rrd_ring.specs.Rows.{nth_row, row_cells, most_rows};
+
+    // The rows, as contracts see them.
+    ghost table: { Self → List (List Cell) };
+
+    /// How many rows there are.
+    fn count(&self) -> u64
+        ensures count { result ≡ length (table self.now) }
+        ensures few { result ≤ most_rows };
+
+    /// The cells of a row, counted from the oldest.
+    fn at(&self, number: u64) -> &[Cell]
+        requires { number < length (table self.now) }
+        ensures { result.now ≡ nth_row (table self.now) number };
+
+    /// Rows from row `first` on, as many of the next `most` as lie together: how many they are, at least one,
+    /// and their cells, one row after another.
+    fn together(&self, first: u64, most: u64) -> (u64, &[Cell])
+        requires some { 0 < most }
+        requires there { first + most ≤ length (table self.now) }
+        ensures some { 0 < result.0 }
+        ensures few { result.0 ≤ most }
+        ensures cells { result.1.now ≡ row_cells (take result.0 (drop first (table self.now))) };
+}
+
+impl Table for Archive {
+    ghost table = { λ rows. rows };
+
+    fn count(&self) -> u64 {
+        self.rows()
+    }
+
+    fn at(&self, number: u64) -> &[Cell] {
+        self.row(number)
+    }
+
+    fn together(&self, first: u64, most: u64) -> (u64, &[Cell]) {
+        self.run(first, most)
+    }
+}
+
+impl Table for Dropped {
+    ghost table = { λ rows. rows };
+
+    fn count(&self) -> u64 {
+        self.len()
+    }
+
+    fn at(&self, number: u64) -> &[Cell] {
+        self.row(number)
+    }
+
+    fn together(&self, first: u64, most: u64) -> (u64, &[Cell]) {
+        self.run(first, most)
+    }
+}
