@@ -1,6 +1,6 @@
 -- What tests of an entry find out, item by item.
-use Rattle.std.proofs.Common.{◌≡◌, ◌∙◌, ◌+◌, ◌<◌, ◌≤◌, ℕ, zero, suc, List, [], ◌∷◌, sym, ap, subst, arith, length, map, take, drop, refl, get_or, set, take_all, add-one, length-set, append-nil, ◌-◌, ◌^◌, min}
-use Rattle.std.specs.Prelude.{sum, slice_index_or, slice_set}
+use Rattle.std.proofs.Common.{◌≡◌, ◌∙◌, ◌+◌, ◌<◌, ◌≤◌, ℕ, zero, suc, List, [], ◌∷◌, Some, sym, ap, subst, arith, length, map, take, drop, refl, get_or, set, take_all, add-one, length-set, append-nil, ◌-◌, ◌^◌, min}
+use Rattle.std.specs.Prelude.{sum, slice_get, slice_index_or, slice_set}
 use Rattle.std.specs.List.{AllByRecursion, refill}
 use Rattle.std.proofs.lemmas.List.{drop_all, map-set}
 use Rattle.rrd_fixed.specs.declared.name.Name.{Name}
@@ -41,6 +41,11 @@ pub All_here_part : (P : Part → Type 0) (preps : List Consolidating) (i : ℕ)
 All_here_part P [] i prep h e all = absurd (omega arith)
 All_here_part P (x ∷ preps) zero prep h e all = subst (λ (c : Consolidating). P c.part) (sym e) all.0
 All_here_part P (x ∷ preps) (suc i) prep h e all = All_here_part P preps i prep (omega arith) e all.1
+
+pub item_there : {A : Type 0} (xs : List A) (i : ℕ) (x : A) → slice_get xs i ≡ Some x → x ≡ get_or xs i x
+item_there [] i x e = absurd cc
+item_there (y ∷ xs) zero x e = let same : y ≡ x = cc in sym same
+item_there (y ∷ xs) (suc i) x e = item_there xs i x e
 
 -- ---- what was saved of archives
 
@@ -136,17 +141,20 @@ rows_put (x ∷ defs) zero rows h = omega (arith, fold_sum rows (rows_of defs), 
 rows_put (x ∷ defs) (suc i) rows h = omega (arith, fold_sum x.rows (rows_of (with_row_number defs i rows)), fold_sum x.rows (rows_of defs), rows_put defs i rows (omega arith))
 
 -- as code counts them
-pub record RowsPut (defs : List RraDef) (i : ℕ) (d : RraDef) (rows all : ℕ) : Type 0 where
-  pub within : (get_or defs i d).rows ≤ all
-  pub old_is : (get_or defs i d).rows ≡ slice_index_or (rows_of defs) i 0
-  pub all_is : all - (get_or defs i d).rows + rows ≡ sum (rows_of (with_row_number defs i rows))
+pub record RowsPut (held : RraDef) (defs : List RraDef) (i rows all : ℕ) : Type 0 where
+  pub within : held.rows ≤ all
+  pub few : all ≤ present.most_cells
+  pub old_is : held.rows ≡ slice_index_or (rows_of defs) i 0
+  pub all_is : all - held.rows + rows ≡ sum (rows_of (with_row_number defs i rows))
 
-pub rows_are_put : (defs : List RraDef) (i : ℕ) (d : RraDef) (rows all : ℕ) → i < length defs → sum (rows_of defs) ≤ present.most_cells → all ≡ min (sum (rows_of defs)) (2 ^ 64 - 1) → RowsPut defs i d rows all
-rows_are_put defs i d rows all h few e =
+pub rows_are_put : (items defs : List RraDef) (i rows all : ℕ) (d : RraDef) → items ≡ defs → i < length defs → sum (rows_of defs) ≤ present.most_cells → all ≡ min (sum (rows_of items)) (2 ^ 64 - 1) → RowsPut (get_or items i d) defs i rows all
+rows_are_put items defs i rows all d same h few e =
+    let all_is = e ∙ ap (λ (ds : List RraDef). min (sum (rows_of ds)) (2 ^ 64 - 1)) same in
     let old = rows_at_is defs i d h in
     let put = rows_put defs i rows h in
     let none = rows_put defs i 0 h in
-    record { within = omega (arith, old, none, few, e); old_is = old; all_is = omega (arith, old, put, none, few, e) }
+    subst (λ (ds : List RraDef). RowsPut (get_or ds i d) defs i rows all) (sym same)
+    (record { within = omega (arith, old, none, few, all_is); few = omega (arith, few, all_is); old_is = old; all_is = omega (arith, old, put, none, few, all_is) })
 
 -- an archive's number of rows set in its place
 pub row_number_set : (defs : List RraDef) (i rows : ℕ) (def : RraDef) → i < length defs → def ≡ get_or defs i def → set defs i (record def { rows = rows }) ≡ with_row_number defs i rows

@@ -5,24 +5,27 @@ use Rattle.rrd_fixed.specs.declared.cell.Cell.{Cell}
 use Rattle.rrd_fixed.specs.declared.raw.Raw.{Raw}
 use Rattle.rrd_fold.specs.Parts.{Part}
 use Rattle.rrd_fold.specs.declared.function.Function.TheVariants.{Average}
-use Rattle.rrd_spec.specs.declared.outline.Outline.{Outline}
 use Rattle.rrd_spec.specs.declared.settings.DsDef.{DsDef}
 use Rattle.rrd_spec.specs.Commands.{rows_of_archives}
 use Rattle.rrd_spec.specs.Files.Filed.{Filed, head_of, sources_of}
 use Rattle.rrd_spec.specs.History.{Rra, Content}
 use Rattle.rrd_spec.specs.Limits.{limits_of, present}
 use Rattle.rrd_spec.specs.declared.version.Version.{Version}
-use Rattle.rrd_spec.specs.Files.Rebuilding.{IsArchiveDef, IsHeader, IsRowPart, outline_left, unprepared}
+use Rattle.rrd_spec.specs.Files.Rebuilding.{IsArchiveDef, IsHeader, IsRowPart, unprepared}
 use Rattle.rrd_spec.specs.Settings.{is_double, names}
 use Rattle.rrd_spec.specs.Files.Slots.{cells_by_slot}
 use Rattle.rrd_spec.specs.Validity.{AreAccepted, IsPart, IsRow, IsSourceWithin, IsValidJournalWithin}
 use Rattle.rrd_base.specs.Rebuild.Cursors.{AreFewer, KnowsPlaceIn, filled_by}
+use Rattle.rrd_base.specs.Rebuild.Judges.{Judge, judge}
 use Rattle.rrd_base.specs.Journal.{journal_of}
 use Rattle.rrd_base.specs.declared.journal.Entry.{Entry}
 use Rattle.rrd_base.specs.declared.rebuild.Rebuild.TheInside.{Inside}
 use Rattle.rrd_base.specs.declared.rebuild.cursor.Cursor.{Cursor}
+pub mod Begins
 pub mod Cursors
+pub mod Judges
 pub mod Runs
+pub mod CellRun
 pub mod EntryChecks
 
 -- the cells of the archives before one, and so many of its own, in the order of a file
@@ -48,7 +51,7 @@ pub record Coming : Type 0 where
   pub filled : ℕ
   pub places : ℕ
   pub journal : List Entry
-  pub outline : Outline
+  pub judge : Judge
 
 abbrev pub coming : Inside → Coming
 coming d = record {
@@ -67,7 +70,7 @@ coming d = record {
   filled = filled_by d.sources_due d.cursor;
   places = d.journal.capacity;
   journal = d.journal.items;
-  outline = d.outline;
+  judge = d.judge;
 }
 
 -- what has come
@@ -139,7 +142,7 @@ pub record IsRebuilding (d : Coming) : Type 0 where
   pub few_cells : d.sources_due * sum (rows_of_archives d.archives) ≤ (limits_of d.version).most_cells
   pub places : d.places ≡ d.depth
   pub few_entries : length d.journal ≤ d.entries_due
-  pub outline_is : d.outline ≡ outline_left (filed_in d)
+  pub judge_is : d.judge ≡ judge (filed_in d)
   pub journal_is : IsValidJournalWithin (limits_of d.version) (content_so_far d) (journal_of d.journal)
   pub sources_first : 0 < length d.archives → length d.sources ≡ d.sources_due
   pub archives_prepared : ArePrepared d.sources_due d.archives

@@ -3,6 +3,7 @@
 #![tactic(auto)]
 
 mod archives;
+mod cell_run;
 mod columns;
 mod content;
 mod create;
@@ -21,7 +22,7 @@ mod walk;
 pub use create::check_create;
 pub use database::Database;
 pub use journal::{BeforeUpdate, Entry, SavedArchive};
-pub use rebuild::{PieceFault, Rebuild, is_bounded, is_source};
+pub use rebuild::{Judge, PieceFault, Rebuild, is_bounded};
 pub use rra::Rra;
 pub use rrd_spec::{
     ArchiveList, ArchiveTune, Change, Chosen, CreateSpec, DsDef, Due, Given, List, Outline,

@@ -4,42 +4,43 @@
 //! `finish` has one; each rule of the layout is asked at the piece that can break it first, so the first piece
 //! that is refused is the file's first fault, and `decode` has to ask nothing again. A new rule goes into the
 //! definition of the piece that it is about (`MaySource`, `MayHead`, ..) and into the check of that name, and
-//! what `finish` promises says whether one is lacking.
+//! what `finish` promises says whether one is lacking. A rule of an entry goes into `Judge`, which a reader asks of
+//! each piece, and this module once all of them make an entry.
 //!
 //! What goes wrong easily. Entries come newest first, and each is judged by the outline that is left once all
 //! that came before it are undone, not by the present settings: names, numbers and types of archives and sources
 //! were others then. The limits are those of the version that `begin` took, in entries too. A piece is judged
 //! before it is given memory, so that want of memory hides no fault, and changes nothing until it has all. Rows
-//! come by slot, not by time: `Cursor` alone knows which is next, and where it goes. `cells` takes whole rows at
-//! once and has to come to what `cell` does one after another.
-ghost use Rattle.std.specs.Prelude.{◌≡◌, ◌++◌, ◌∷◌, [], ◌%◌, ◌<◌, ◌≤◌, None, Some, length, min, slice_get, take, true, IfOk, IfErr, IfSome, OnOk, OnErr};
+//! come by slot, not by time: `Cursor` alone knows which is next, and where it goes. `whole_rows` takes whole rows
+//! at once and has to come to what `cell` does one after another.
+ghost use Rattle.std.specs.Prelude.{◌≡◌, ◌++◌, ◌∷◌, [], ◌<◌, ◌≤◌, Some, length, replicate, slice_get, take, true, IfErr, OnOk, OnErr};
+ghost use Rattle.std.specs.List.{AllByRecursion};
+ghost use Rattle.rrd_fixed.specs.Rate.{IsBounded};
+ghost use Rattle.rrd_fixed.specs.declared.cell.Cell.TheVariants.{Unknown as CellUnknown};
+ghost use Rattle.rrd_base.specs.Rebuild.Begins.{Begins};
+ghost use Rattle.rrd_base.specs.Rebuild.CellRun.{run_cells};
 ghost use Rattle.rrd_base.specs.Rebuild.Runs.{MayCells, with_cells};
 ghost use Rattle.rrd_base.specs.Journal.{entry_of};
 ghost use Rattle.rrd_fold.specs.Parts.{Part};
-ghost use Rattle.rrd_fold.specs.declared.function.Function.TheVariants.{Average};
 ghost use Rattle.rrd_base.specs.declared.rebuild.PieceFault.TheVariants.{Bad, OutOfMemory};
 ghost use Rattle.rrd_spec.specs.declared.due.Due.TheVariants.{EntryDue, NothingDue};
-ghost use Rattle.rrd_spec.specs.declared.settings.RraDef.{RraDef};
-ghost use Rattle.rrd_base.specs.Rebuild.EntryChecks.{IsValidOutline};
+ghost use Rattle.rrd_base.specs.Rebuild.Judges.{judge};
 ghost use Rattle.rrd_spec.specs.Files.Filed.{Header, Source, filed};
-ghost use Rattle.rrd_spec.specs.Files.Rebuilding.{IsHeader, IsRowPart, MayCell, MayEntry, MayHead, MayPrep, MaySource, begun, due, limits, outline_left, unprepared, with_cell, with_entry, with_head, with_prep, with_source};
-ghost use Rattle.rrd_spec.specs.Journal.Entries.{rows_between};
-ghost use Rattle.rrd_spec.specs.Journal.Fitting.{AreOldRows, AreRemovedSettings, IsRemovedNumber};
+ghost use Rattle.rrd_spec.specs.Files.Rebuilding.{MayCell, MayEntry, MayHead, MayPrep, MaySource, due, limits, outline_left, unprepared, with_cell, with_entry, with_head, with_prep, with_source};
 ghost use Rattle.rrd_spec.specs.Limits.{present};
-ghost use Rattle.rrd_spec.specs.Validity.{IsPart, IsValidDatabaseWithin};
+ghost use Rattle.rrd_spec.specs.Validity.{IsValidDatabaseWithin};
 
+use crate::cell_run::CellRun;
 use crate::content::Content;
 use crate::create::{has_too_many_cells, is_bad_step};
 use crate::journal::Entry;
 use crate::named::has_source;
-use crate::rows::{all_rows, rows_between};
+use crate::rows::all_rows;
 use crate::rra::Rra;
-use crate::{ArchiveList, Database, DsDef, Due, List, Outline, RraDef};
+use crate::{ArchiveList, Database, DsDef, Due, Outline, RraDef};
 use circular_buffer::HeapCircularBuffer;
 use cursor::Cursor;
-use entry_checks::{had_number, had_rows, had_settings, may_undo};
-use outline::undo;
-use piece_checks::{are_bounded, is_archive, is_part};
+use piece_checks::{bounded_front, is_archive, is_part, is_source};
 use rrd_fixed::{Cell, Raw};
 use rrd_fold::{Function, RowPrep, StepPrep};
 use rrd_spec::limits::{LATEST_TIME, MOST_SOURCES};
@@ -49,10 +50,12 @@ use std::marker::Model;
 
 mod cursor;
 mod entry_checks;
+mod judge;
 mod outline;
 mod piece_checks;
 
-pub use piece_checks::{is_bounded, is_source};
+pub use judge::Judge;
+pub use piece_checks::is_bounded;
 
 /// Why a piece is not taken.
 #[derive(Clone, Copy, Debug, PartialEq, Eq)]
@@ -61,6 +64,14 @@ pub enum PieceFault {
     Bad,
     /// There is no memory for it.
     OutOfMemory,
+}
+
+impl From<AllocError> for PieceFault {
+    ghost from_gives = { λ _ fault. fault ≡ OutOfMemory };
+
+    fn from(_error: AllocError) -> PieceFault {
+        PieceFault::OutOfMemory
+    }
 }
 
 /// A database of which a file's pieces came so far. Contracts see the lists of those pieces.
@@ -81,8 +92,8 @@ pub struct Rebuild {
     archives: ArchiveList<Rra>,
     cursor: Cursor,
     journal: HeapCircularBuffer<Entry>,
-    // Once the entries that came have been undone.
-    outline: Outline,
+    // By the outline that is left once the entries that came have been undone.
+    judge: Judge,
 }
 
 impl Model for Rebuild {
@@ -112,7 +123,7 @@ impl Rebuild {
         archives: u64,
         entries: u64,
     ) -> Result<Rebuild, PieceFault>
-        ensures ok { let header : Header = record {
+        ensures { let header : Header = record {
           version = version;
           step = step;
           last = last;
@@ -120,25 +131,7 @@ impl Rebuild {
           sources = sources;
           archives = archives;
           entries = entries;
-        } in IfOk result (λ r. IsHeader header × (r ≡ begun header)) }
-        ensures bad { let header : Header = record {
-          version = version;
-          step = step;
-          last = last;
-          depth = depth;
-          sources = sources;
-          archives = archives;
-          entries = entries;
-        } in IfErr result (λ e. e ≡ Bad → IsHeader header → ⊥) }
-        ensures want { let header : Header = record {
-          version = version;
-          step = step;
-          last = last;
-          depth = depth;
-          sources = sources;
-          archives = archives;
-          entries = entries;
-        } in IfErr result (λ e. e ≡ OutOfMemory → IsHeader header) }
+        } in Begins header result }
     {
         if is_bad_step(step) || last > LATEST_TIME {
             return Err(PieceFault::Bad);
@@ -152,15 +145,9 @@ impl Rebuild {
         if archives == 0 || archives > version.most_archives() as u64 {
             return Err(PieceFault::Bad);
         }
-        let Ok(journal) = HeapCircularBuffer::with_capacity(alloc, depth as usize) else {
-            return Err(PieceFault::OutOfMemory);
-        };
-        let Ok(rras) = ArchiveList::new(alloc) else {
-            return Err(PieceFault::OutOfMemory);
-        };
-        let Ok(defs) = ArchiveList::new(alloc) else {
-            return Err(PieceFault::OutOfMemory);
-        };
+        let journal = HeapCircularBuffer::with_capacity(alloc, depth as usize)?;
+        let rras = ArchiveList::new(alloc)?;
+        let judge = Judge::new(alloc, version, step, last)?;
         Ok(Rebuild {
             alloc,
             version,
@@ -176,11 +163,7 @@ impl Rebuild {
             archives: rras,
             cursor: Cursor::new(),
             journal,
-            outline: Outline {
-                last,
-                sources: List::new(alloc),
-                archives: defs,
-            },
+            judge,
         })
     }
 
@@ -228,7 +211,14 @@ impl Rebuild {
     pub fn undone(&self) -> &Outline
         ensures { result.now ≡ outline_left self.now }
     {
-        &self.outline
+        self.judge.outline()
+    }
+
+    /// What judges the next entry, by that outline.
+    pub fn judge(&self) -> &Judge
+        ensures { result.now ≡ judge self.now }
+    {
+        &self.judge
     }
 
     // Whether a data source may come.
@@ -271,17 +261,15 @@ impl Rebuild {
             return Err(PieceFault::Bad);
         }
         let prep = StepPrep::from_part(known, sum);
-        let Ok(()) = push_source(
+        push_source(
             &mut self.sources,
             &mut self.raws,
             &mut self.preps,
-            &mut self.outline.sources,
+            &mut self.judge,
             def,
             raw,
             prep,
-        ) else {
-            return Err(PieceFault::OutOfMemory);
-        };
+        )?;
         Ok(())
     }
 
@@ -314,11 +302,9 @@ impl Rebuild {
             return Err(PieceFault::Bad);
         }
         let first = first_place(def.resolution(self.step), self.last, def.rows);
-        let Ok(rra) = Rra::begin(self.alloc, def, self.sources_due, first) else {
-            return Err(PieceFault::OutOfMemory);
-        };
+        let rra = Rra::begin(self.alloc, def, self.sources_due, first)?;
         self.archives.push(rra);
-        self.outline.archives.push(def);
+        self.judge.push_archive(def);
         Ok(())
     }
 
@@ -341,7 +327,8 @@ impl Rebuild {
         ensures ok { let part : Part = record { known = known; value = value } in
             OnOk result (MayPrep self.old part × (self.new ≡ with_prep self.old part)) }
         ensures bad { IfErr result (λ e. e ≡ Bad → MayPrep self.old (record { known = known; value = value }) → ⊥) }
-        ensures want { IfErr result (λ e. e ≡ OutOfMemory → MayPrep self.old (record { known = known; value = value })) }
+        ensures want { IfErr result (λ e. e ≡ OutOfMemory
+            → MayPrep self.old (record { known = known; value = value })) }
         ensures err { OnErr result (self.new ≡ self.old) }
     {
         if !self.may_prep(known, value) {
@@ -350,10 +337,17 @@ impl Rebuild {
         let last = self.archives.len() - 1;
         let function = self.archives.get(last).def().function;
         let prep = RowPrep::from_part(function, known, value);
-        let Ok(()) = self.archives.get_mut(last).push_prep(prep) else {
-            return Err(PieceFault::OutOfMemory);
-        };
+        self.archives.get_mut(last).push_prep(prep)?;
         Ok(())
+    }
+
+    /// How many cells each row has: 1 to 64.
+    pub fn cells_in_row(&self) -> usize
+        ensures count { result ≡ self.now.header.sources }
+        ensures some { 0 < result }
+        ensures few { result ≤ present.most_sources }
+    {
+        self.sources_due as usize
     }
 
     // Whether a cell may come.
@@ -390,13 +384,13 @@ impl Rebuild {
         Ok(())
     }
 
-    // Takes the first of these cells that make whole rows of an archive, if its next cell begins a row and
-    // none of them is past the greatest rate: answers how many. What is due and where it goes is found
-    // once for all of them.
-    fn rows(&mut self, cells: &[Cell]) -> usize
-        ensures few { result ≤ length cells.now }
-        ensures may { MayCells self.old (take result cells.now) }
-        ensures came { self.new ≡ with_cells self.old (take result cells.now) }
+    // Takes the first of these cells that make whole rows of an archive, if its next cell begins a row:
+    // answers how many. What is due and where it goes is found once for all of them.
+    fn whole_rows(&mut self, cells: CellRun) -> usize
+        requires { AllByRecursion IsBounded (run_cells cells) }
+        ensures few { result ≤ length (run_cells cells.entry) }
+        ensures may { MayCells self.old (take result (run_cells cells.entry)) }
+        ensures came { self.new ≡ with_cells self.old (take result (run_cells cells.entry)) }
     {
         laws::rows_stand_in_slots();
         laws::cells_stand_in_slots();
@@ -411,15 +405,33 @@ impl Rebuild {
         let left = (def.rows - self.cursor.slot) as usize;
         let count = (cells.len() / sources).min(left);
         let taken = count * sources;
-        let whole = &cells[..taken];
-        if !are_bounded(whole) {
-            return 0;
-        }
         let place = self.cursor.place(&def, self.step, self.last);
         let rra = self.archives.get_mut(self.cursor.archive);
-        rra.put_rows(place, count as u64, whole);
+        rra.put_rows(place, count as u64, cells.front(taken));
         self.cursor.pass(place, count as u64, def.rows);
         taken
+    }
+
+    /// Takes the first of these cells, none of which may be past the greatest rate, that make whole rows of
+    /// an archive, as `cell` does one after another, and answers how many: 0 where the next cell to come
+    /// isn't the first of a row. It takes no memory.
+    pub fn rows(&mut self, cells: &[Cell]) -> usize
+        requires { AllByRecursion IsBounded cells.now }
+        ensures few { result ≤ length cells.now }
+        ensures may { MayCells self.old (take result cells.now) }
+        ensures came { self.new ≡ with_cells self.old (take result cells.now) }
+    {
+        self.whole_rows(CellRun::Given(cells))
+    }
+
+    /// Takes unknown cells as `rows` does, at most so many, and answers how many. What was never written
+    /// stays so: they touch no memory.
+    pub fn unknown_rows(&mut self, most: usize) -> usize
+        ensures few { result ≤ most }
+        ensures may { MayCells self.old (replicate result CellUnknown) }
+        ensures came { self.new ≡ with_cells self.old (replicate result CellUnknown) }
+    {
+        self.whole_rows(CellRun::Unknown(most))
     }
 
     /// Takes cells one after another, as `cell` does, up to the first that may not come, and answers how
@@ -432,7 +444,8 @@ impl Rebuild {
     {
         let mut taken = 0;
         while taken < cells.len() {
-            let whole = self.rows(&cells[taken..]);
+            let rest = &cells[taken..];
+            let whole = self.rows(&rest[..bounded_front(rest)]);
             if whole == 0 {
                 let Ok(()) = self.cell(cells[taken]) else {
                     return taken;
@@ -445,7 +458,7 @@ impl Rebuild {
         taken
     }
 
-    // ---- what the pieces of the next entry are judged by, before there is an entry
+    // ---- entries
 
     /// How many entries came, at most 100,000.
     pub fn entries(&self) -> u64
@@ -455,32 +468,6 @@ impl Rebuild {
         self.journal.len() as u64
     }
 
-    // That a valid content has the outline that is left, where an entry is due. It does nothing: a call of
-    // it makes this known where it stands.
-    fn outline_is_valid(&self)
-        requires { due self.now ≡ EntryDue }
-        ensures { IsValidOutline self.now.header.version (outline_left self.now) }
-    {
-        laws::cells_stand_in_slots();
-        laws::journals_in_pieces();
-        laws::outlines_follow();
-        // A look at a field is what makes a struct's invariant known.
-        let _ = &self.outline;
-    }
-
-    /// The settings of an archive, once the entries that came have been undone.
-    pub fn archive_left(&self, archive: usize) -> &RraDef
-        requires is_due { due self.now ≡ EntryDue }
-        requires there { archive < length (outline_left self.now).archives }
-        ensures value { slice_get (outline_left self.now).archives archive ≡ Some result.now }
-        ensures some_steps { 0 < result.now.steps }
-        ensures few_steps { result.now.steps ≤ present.most_steps }
-        ensures few_rows { result.now.rows ≤ present.most_rows }
-    {
-        self.outline_is_valid();
-        self.outline.archives.get(archive)
-    }
-
     /// How many data sources there are: 1 to 64, where an entry is due.
     pub fn sources(&self) -> u64
         requires { due self.now ≡ EntryDue }
@@ -488,93 +475,11 @@ impl Rebuild {
         ensures some { 0 < result }
         ensures few { result ≤ present.most_sources }
     {
-        self.outline_is_valid();
-        self.outline.sources.len() as u64
+        laws::cells_stand_in_slots();
+        laws::journals_in_pieces();
+        laws::outlines_follow();
+        self.judge.outline().sources.len() as u64
     }
-
-    /// The preparation of a data source's unfinished step at a time, in seconds since 1970: how many
-    /// seconds are known, and their sum in millionths. None where no preparation can be this.
-    pub fn step_part(&self, last: u64, known: u64, sum: i128) -> Option<StepPrep>
-        ensures some { IfSome result (λ prep. IsPart Average (last % self.now.header.step) prep
-            × (prep ≡ record { known = known; value = sum })) }
-        ensures none { result ≡ None
-            → IsPart Average (last % self.now.header.step) (record { known = known; value = sum }) → ⊥ }
-    {
-        if !is_part(Function::Average, last % self.step, known, sum) {
-            return None;
-        }
-        Some(StepPrep::from_part(known, sum))
-    }
-
-    /// The preparation of an unfinished row of an archive of these settings at a time, in seconds since
-    /// 1970: how many steps are known, and what they come to in millionths. None where no preparation can
-    /// be this.
-    pub fn row_part(&self, last: u64, def: &RraDef, known: u64, value: i128) -> Option<RowPrep>
-        requires some_steps { 0 < def.now.steps }
-        requires few_steps { def.now.steps ≤ present.most_steps }
-        ensures some { IfSome result (λ prep. IsRowPart self.now.header.step last def.now prep.part
-            × (prep ≡ record { function = def.now.function; part = record { known = known; value = value } })) }
-        ensures none { result ≡ None
-            → IsRowPart self.now.header.step last def.now (record { known = known; value = value }) → ⊥ }
-    {
-        let passed = last / self.step % def.steps;
-        if !is_part(def.function, passed, known, value) {
-            return None;
-        }
-        Some(RowPrep::from_part(def.function, known, value))
-    }
-
-    /// How many rows of an archive an update replaced that began at a time, in seconds since 1970: at
-    /// most 1,000,000.
-    pub fn rows_replaced(&self, last: u64, archive: usize) -> u64
-        requires is_due { due self.now ≡ EntryDue }
-        requires there { archive < length (outline_left self.now).archives }
-        requires earlier { last < (outline_left self.now).last }
-        ensures value { (def : RraDef) → slice_get (outline_left self.now).archives archive ≡ Some def
-            → result ≡ min (rows_between self.now.header.step def last (outline_left self.now).last) def.rows }
-        ensures few { result ≤ present.most_rows }
-    {
-        let def = self.archive_left(archive);
-        rows_between(def, self.step, last, self.outline.last).min(def.rows)
-    }
-
-    /// Whether an archive can have had so many rows before it was resized.
-    pub fn are_old_rows(&self, archive: usize, rows: u64) -> bool
-        requires is_due { due self.now ≡ EntryDue }
-        requires there { archive < length (outline_left self.now).archives }
-        ensures good { result ≡ true → AreOldRows (limits self.now) (outline_left self.now) archive rows }
-        ensures bad { AreOldRows (limits self.now) (outline_left self.now) archive rows → result ≡ true }
-    {
-        self.outline_is_valid();
-        had_rows(self.version, &self.outline, archive, rows)
-    }
-
-    /// Whether the file's version lets archives come and go.
-    pub fn archives_come_and_go(&self) -> bool
-        ensures { result ≡ (limits self.now).archives_come_and_go }
-    {
-        self.version.archives_come_and_go()
-    }
-
-    /// Whether a removed archive can have had this number: there is a place for it.
-    pub fn is_removed_number(&self, number: u64) -> bool
-        ensures good { result ≡ true → IsRemovedNumber (limits self.now) (outline_left self.now) number }
-        ensures bad { IsRemovedNumber (limits self.now) (outline_left self.now) number → result ≡ true }
-    {
-        had_number(self.version, &self.outline, number)
-    }
-
-    /// Whether a removed archive can have had these settings.
-    pub fn are_removed_settings(&self, def: &RraDef) -> bool
-        requires { due self.now ≡ EntryDue }
-        ensures good { result ≡ true → AreRemovedSettings (limits self.now) (outline_left self.now) def.now }
-        ensures bad { AreRemovedSettings (limits self.now) (outline_left self.now) def.now → result ≡ true }
-    {
-        self.outline_is_valid();
-        had_settings(self.version, &self.outline, def)
-    }
-
-    // ---- entries
 
     // Whether an entry may come.
     fn may_entry(&self, entry: &Entry) -> bool
@@ -584,8 +489,7 @@ impl Rebuild {
         let Due::EntryDue = self.due() else {
             return false;
         };
-        self.outline_is_valid();
-        may_undo(self.version, self.step, &self.outline, entry)
+        self.judge().may_undo(entry)
     }
 
     /// Takes the next entry, newest first. Bad where another piece is due or it doesn't fit the
@@ -599,12 +503,13 @@ impl Rebuild {
         ensures err { OnErr result (self.new ≡ self.old) }
     {
         laws::cells_stand_in_slots();
+        laws::journals_in_pieces();
         laws::outlines_follow();
         laws::outlines_judge_journals();
         if !self.may_entry(&entry) {
             return Err(PieceFault::Bad);
         }
-        undo(&mut self.outline, &entry);
+        self.judge.undo(&entry);
         let _oldest = self.journal.push_front(entry);
         Ok(())
     }
@@ -645,24 +550,27 @@ fn push_source(
     sources: &mut Vec<DsDef>,
     raws: &mut Vec<Raw>,
     preps: &mut Vec<StepPrep>,
-    defs: &mut List<DsDef>,
+    judge: &mut Judge,
     def: DsDef,
     raw: Raw,
     prep: StepPrep,
 ) -> Result<(), AllocError>
+    requires { length judge.old.outline.sources < present.most_sources }
     ensures ok { OnOk result ((sources.new.items ≡ sources.old.items ++ def ∷ [])
         × (raws.new.items ≡ raws.old.items ++ raw ∷ [])
         × (preps.new.items ≡ preps.old.items ++ prep ∷ [])
-        × (defs.new ≡ defs.old ++ def ∷ [])) }
+        × (judge.new ≡ record judge.old {
+          outline = record judge.old.outline { sources = judge.old.outline.sources ++ def ∷ [] };
+        })) }
     ensures err { OnErr result ((sources.new.items ≡ sources.old.items)
         × (raws.new.items ≡ raws.old.items)
         × (preps.new.items ≡ preps.old.items)
-        × (defs.new ≡ defs.old)) }
+        × (judge.new ≡ judge.old)) }
 {
     sources.reserve(1)?;
     raws.reserve(1)?;
     preps.reserve(1)?;
-    defs.push(def.duplicate())?;
+    judge.push_source(def.duplicate())?;
     sources.push_reserved(def);
     raws.push_reserved(raw);
     preps.push_reserved(prep);

@@ -13,10 +13,12 @@ ghost use Rattle.rrd_spec.specs.Laws.ListedContent.{keep_last};
 ghost use Rattle.rrd_spec.specs.Laws.Passing.{archive_passed};
 ghost use Rattle.rrd_spec.specs.History.Cells.{row_of_age};
 ghost use Rattle.rrd_base.specs.Rra.{CanPutBack, IsStepped};
+ghost use Rattle.rrd_base.specs.Rebuild.CellRun.{run_cells};
 ghost use Rattle.rrd_base.specs.Walk.{AreSteps, cells_of, count_of, sources_of};
 ghost use Rattle.rrd_base.specs.Walk.Turns.{least_of_one, most_of_one};
 ghost use Rattle.rrd_spec.specs.Validity.{IsRow, IsValidArchive};
 
+use crate::cell_run::CellRun;
 use crate::rows::{HasRows, rows_between};
 use crate::walk::Steps;
 use crate::walk::preparations::{add_steps, close_rows};
@@ -137,14 +139,17 @@ impl Rra {
 
     /// Writes so many rows, at most all, from one on, counted from the oldest, to the newest and then from
     /// the oldest on: `cells` has theirs, one row after another.
-    pub(crate) fn put_rows(&mut self, row: u64, count: u64, cells: &[Cell])
+    pub(crate) fn put_rows(&mut self, row: u64, count: u64, cells: CellRun)
         requires there { row < length self.old.rows }
         requires few { count ≤ length self.old.rows }
-        requires one_each { length cells.now ≡ count * width self.old.rows }
-        ensures { let rows = with_rows count (width self.old.rows) self.old.rows row cells.now in
+        requires one_each { length (run_cells cells) ≡ count * width self.old.rows }
+        ensures { let rows = with_rows count (width self.old.rows) self.old.rows row (run_cells cells.entry) in
             self.new ≡ record self.old { rows = rows } }
     {
-        self.rows.put_rows(row, count, cells);
+        match cells {
+            CellRun::Given(cells) => self.rows.put_rows(row, count, cells),
+            CellRun::Unknown(_) => self.rows.put_unknown(row, count),
+        }
     }
 
     /// The settings.

@@ -1,28 +1,28 @@
--- Glue: outlines that a test of an entry is given, and a tune's names.
+-- Glue: outlines that a test of an entry can work with; and a tune's names.
 use Rattle.std.specs.Prelude.{◌≡◌, ◌<◌, ◌≤◌, List, length, slice_set, sum}
 use Rattle.std.specs.List.{AllByRecursion, fold}
 use Rattle.rrd_fixed.specs.declared.name.Name.{Name}
 use Rattle.rrd_spec.specs.declared.entry.SourceBefore.{SourceBefore}
 use Rattle.rrd_spec.specs.declared.outline.Outline.{Outline}
-use Rattle.rrd_spec.specs.declared.settings.RraDef.{RraDef}
 use Rattle.rrd_spec.specs.declared.version.Version.{Version}
 use Rattle.rrd_spec.specs.History.{Content}
 use Rattle.rrd_spec.specs.Limits.{limits_of, present}
 use Rattle.rrd_spec.specs.Journal.Entries.{AddedEntry, Entry, RemovedEntry, ResizeEntry, TuneEntry, UpdateEntry}
-use Rattle.rrd_spec.specs.Journal.Fitting.{IsRemovedNumber}
+use Rattle.rrd_spec.specs.Journal.Fitting.{IsArchiveDef, IsRemovedNumber}
 use Rattle.rrd_spec.specs.Journal.Outlines.{outline_of, rows_of}
 use Rattle.rrd_spec.specs.Validity.{IsValidWithin}
+use Rattle.rrd_base.specs.Rebuild.Judges.{Judge}
 
--- the resolution of an archive of these settings is a number above 0, and a small one
-pub record HasSteps (def : RraDef) : Type 0 where
-  pub some_steps : 0 < def.steps
-  pub few_steps : def.steps ≤ present.most_steps
-
--- that of a valid content
+-- an outline whose numbers of rows and steps can be worked with: that of a valid content, and of one that is begun
 pub record IsOutline (outline : Outline) : Type 0 where
   pub few_sources : length outline.sources ≤ present.most_sources
-  pub have_steps : AllByRecursion HasSteps outline.archives
+  pub archives_are : AllByRecursion (IsArchiveDef present) outline.archives
   pub few_rows : sum (rows_of outline.archives) ≤ present.most_cells
+
+pub record IsJudge (j : Judge) : Type 0 where
+  pub some_step : 0 < j.step
+  pub small_step : j.step ≤ present.longest_step
+  pub outline_is : IsOutline j.outline
 
 -- that of a content which is valid within the limits of a version
 pub record IsValidOutline (version : Version) (outline : Outline) : Type 0 where

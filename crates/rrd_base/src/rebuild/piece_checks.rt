@@ -1,5 +1,5 @@
 //! Tests of what a file's pieces say.
-ghost use Rattle.std.specs.Prelude.{◌≡◌, ◌≤◌, true};
+ghost use Rattle.std.specs.Prelude.{◌≡◌, ◌≤◌, length, take, true};
 ghost use Rattle.std.specs.List.{AllByRecursion};
 ghost use Rattle.rrd_fixed.specs.Rate.{IsBounded};
 ghost use Rattle.rrd_fold.specs.Bounds.{weight};
@@ -13,8 +13,12 @@ use rrd_fixed::Cell;
 use rrd_fold::Function;
 use rrd_spec::limits::GREATEST_BOUND;
 
+// The greatest rate, in millionths, as a number with a sign: comparing with both ends is quicker than taking
+// the size first.
+const GREATEST: i128 = GREATEST_BOUND as i128;
+
 /// Whether a source's settings are good.
-pub fn is_source(source: &DsDef) -> bool
+pub(super) fn is_source(source: &DsDef) -> bool
     ensures good { result ≡ true → IsSource source.now }
     ensures bad { IsSource source.now → result ≡ true }
 {
@@ -59,8 +63,21 @@ pub fn is_bounded(cell: Cell) -> bool
 {
     match cell {
         Cell::Unknown => true,
-        Cell::Known(value) => value.unsigned_abs() <= GREATEST_BOUND,
+        Cell::Known(value) => -GREATEST <= value && value <= GREATEST,
     }
+}
+
+/// How many of these cells come before the first that is past the greatest rate.
+pub(super) fn bounded_front(cells: &[Cell]) -> usize
+    ensures few { result ≤ length cells.now }
+    ensures bounded { AllByRecursion IsBounded (take result cells.now) }
+{
+    for (i, cell) in cells.iter().enumerate() {
+        if !is_bounded(*cell) {
+            return i;
+        }
+    }
+    cells.len()
 }
 
 /// Whether none of these cells is past the greatest rate.

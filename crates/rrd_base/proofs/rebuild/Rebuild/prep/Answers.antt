@@ -82,7 +82,7 @@ invariant_of-self c =
     let x = c.get_mut.result.now in
     let i = c.len-last.result - 1 in
     let cursor = c.self.inside.cursor in
-    let same : set d.archives i c.push_prep.new.self ≡ d.archives = ap (set d.archives i) (c.in_default.ensures.err ∙ c.get_mut.ensures.value) ∙ set-get_or d.archives i x in
+    let same : set d.archives i c.push_prep.new.self ≡ d.archives = ap (set d.archives i) (c.in_err-push_prep.ensures.err ∙ c.get_mut.ensures.value) ∙ set-get_or d.archives i x in
     let path : d ≡ record d { archives = set d.archives i c.push_prep.new.self } = λ j. record d { archives = sym same j } in
     record { came = subst IsRebuilding path c.self.invariant.came; cursor_is = subst (λ (e : Coming). IsCursor e cursor) path c.self.invariant.cursor_is }
 
@@ -98,7 +98,7 @@ invariant_of-self-2 c =
     let two = last_prep d x (c.len-last.result - 1) may.def c.self.invariant.came count c.get_mut.ensures.value at.is in
     let part : Part = record { known = c.args.known; value = c.args.value } in
     let made : c.from_part-prep.result.part ≡ part = ap (λ (p : Consolidating). p.part) c.from_part-prep.ensures ∙ ap (λ z. let p : Part = record { known = c.args.known; value = z } in p) same in
-    let pushed : c.push_prep.new.self ≡ record x { parts = x.parts ++ part ∷ [] } = c.in-Ok.ensures.ok ∙ ap (λ (p : Part). let a : Rra = record x { parts = x.parts ++ p ∷ [] } in a) made in
+    let pushed : c.push_prep.new.self ≡ record x { parts = x.parts ++ part ∷ [] } = c.in_ok-push_prep.ensures.ok ∙ ap (λ (p : Part). let a : Rra = record x { parts = x.parts ++ p ∷ [] } in a) made in
     let path : prep_came d (c.len-last.result - 1) x part ≡ record d { archives = set d.archives (c.len-last.result - 1) c.push_prep.new.self } = λ i. record d { archives = set d.archives (c.len-last.result - 1) (sym pushed i) } in
     record {
       came = subst IsRebuilding path (prep_keeps d (c.len-last.result - 1) x may.def part c.self.invariant.came count c.get_mut.ensures.value at.is may.part_is);
@@ -117,6 +117,6 @@ returns-clause-ok c =
     let two = last_prep d x (c.len-last.result - 1) may.def c.self.invariant.came count c.get_mut.ensures.value at.is in
     let part : Part = record { known = c.args.known; value = c.args.value } in
     let made : c.from_part-prep.result.part ≡ part = ap (λ (p : Consolidating). p.part) c.from_part-prep.ensures ∙ ap (λ z. let p : Part = record { known = c.args.known; value = z } in p) same in
-    let pushed : c.push_prep.new.self ≡ record x { parts = x.parts ++ part ∷ [] } = c.in-Ok.ensures.ok ∙ ap (λ (p : Part). let a : Rra = record x { parts = x.parts ++ p ∷ [] } in a) made in
+    let pushed : c.push_prep.new.self ≡ record x { parts = x.parts ++ part ∷ [] } = c.in_ok-push_prep.ensures.ok ∙ ap (λ (p : Part). let a : Rra = record x { parts = x.parts ++ p ∷ [] } in a) made in
     let path : prep_came d (c.len-last.result - 1) x part ≡ record d { archives = set d.archives (c.len-last.result - 1) c.push_prep.new.self } = λ i. record d { archives = set d.archives (c.len-last.result - 1) (sym pushed i) } in
     (now, ap filed_in (sym path) ∙ (prep_is d (c.len-last.result - 1) x may.def part c.self.invariant.came count c.get_mut.ensures.value at.is ∙ ap (λ f. with_prep f part) c.self.view_is))

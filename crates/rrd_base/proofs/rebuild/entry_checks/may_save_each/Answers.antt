@@ -1,34 +1,35 @@
-use Rattle.std.proofs.Common.{◌<◌, length, get_or, arith, pos}
-use Rattle.std.proofs.lemmas.List.{get_or_default}
-use Rattle.rrd_fold.specs.declared.function.Function.TheVariants.{Average}
-use Rattle.rrd_spec.specs.declared.settings.RraDef.{RraDef}
-use Rattle.rrd_base.proofs.FittingLemmas.{saves_here, saves_lengths, saves_more}
+use Rattle.std.proofs.Common.{◌<◌, ap, length, arith}
+use Rattle.rrd_spec.specs.declared.outline.Outline.{Outline}
+use Rattle.rrd_base.proofs.FittingLemmas.{item_there, saves_here, saves_lengths, saves_more}
 use Rattle.rrd_base.proofs.rebuild.entry_checks.may_save_each.Goals as goal
 
-pub returns-then-olds-defs-clause-bad : goal.returns-then-olds-defs-clause-bad
-returns-then-olds-defs-clause-bad c = λ is. absurd (omega (arith, saves_lengths c.args.span.step c.args.span.from c.args.span.to c.args.span.sources c.args.defs.now c.args.olds.now is))
+pub returns-then-olds-archives-clause-bad : goal.returns-then-olds-archives-clause-bad
+returns-then-olds-archives-clause-bad c = λ is.
+    let judge = c.args.judge.now in
+    let now = judge.outline in
+    absurd (omega (arith, saves_lengths judge.step c.args.from now.last (length now.sources) now.archives c.args.olds.now is, ap (λ (o : Outline). length o.archives) c.outline.ensures.value))
 
 pub returns-then-not-may_save-clause-bad : goal.returns-then-not-may_save-clause-bad
 returns-then-not-may_save-clause-bad c = λ is.
-    let span = c.args.span in
-    let defs = c.args.defs.now in
+    let judge = c.args.judge.now in
+    let now = judge.outline in
     let olds = c.args.olds.now in
     let i = c.loop-place.place in
-    let h : i < length defs = omega arith in
+    let same = ap (λ (o : Outline). length o.archives) c.outline.ensures.value in
+    let h : i < length now.archives = omega (arith, same) in
     let k : i < length olds = omega arith in
-    let none : RraDef = record { function = Average; xff = pos 0; steps = 0; rows = 0 } in
-    let def = get_or defs i none in
-    let e = c.may_save.ensures.bad (saves_here span.step span.from span.to span.sources defs olds i def c.index-olds-place.result h k (get_or_default defs i none def h) c.index-olds-place.is is) in
+    let def = c.archive.result.now in
+    let e = c.may_save.ensures.bad (saves_here judge.step c.args.from now.last (length now.sources) now.archives olds i def c.index-olds-place.result h k (item_there now.archives i def c.archive.ensures.value) c.index-olds-place.is is) in
     cc
 
 pub loop-place-preserved : goal.loop-place-preserved
 loop-place-preserved c =
-    let span = c.args.span in
-    let defs = c.args.defs.now in
+    let judge = c.args.judge.now in
+    let now = judge.outline in
     let olds = c.args.olds.now in
     let i = c.loop-place.place in
-    let h : i < length defs = omega arith in
+    let same = ap (λ (o : Outline). length o.archives) c.outline.ensures.value in
+    let h : i < length now.archives = omega (arith, same) in
     let k : i < length olds = omega arith in
-    let none : RraDef = record { function = Average; xff = pos 0; steps = 0; rows = 0 } in
-    let def = get_or defs i none in
-    saves_more span.step span.from span.to span.sources defs olds i def c.index-olds-place.result h k (get_or_default defs i none def h) c.index-olds-place.is c.loop-place.invariant (c.may_save.ensures.good c.if-not-may_save.false)
+    let def = c.archive.result.now in
+    saves_more judge.step c.args.from now.last (length now.sources) now.archives olds i def c.index-olds-place.result h k (item_there now.archives i def c.archive.ensures.value) c.index-olds-place.is c.loop-place.invariant (c.may_save.ensures.good c.if-not-may_save.false)

@@ -1,8 +1,9 @@
-use Rattle.std.proofs.Common.{◌≡◌, ◌∙◌, ◌+◌, ◌-◌, ◌*◌, ◌<◌, ◌≤◌, refl, sym, ap, subst, arith, length, take}
+use Rattle.std.proofs.Common.{List, ◌≡◌, ◌∙◌, ◌+◌, ◌-◌, ◌*◌, ◌<◌, ◌≤◌, refl, sym, ap, subst, arith, length, take}
 use Rattle.std.specs.Prelude.{◌⊎◌}
 use Rattle.std.specs.List.{AllByRecursion}
 use Rattle.std.proofs.lemmas.List.{length-take-le}
 use Rattle.rrd_fixed.specs.Rate.{IsBounded}
+use Rattle.rrd_fixed.specs.declared.cell.Cell.{Cell}
 use Rattle.rrd_ring.specs.Rows.{width, with_rows}
 use Rattle.rrd_spec.specs.declared.due.Due.TheVariants.{CellDue}
 use Rattle.rrd_spec.specs.declared.settings.RraDef.{RraDef}
@@ -14,11 +15,13 @@ use Rattle.rrd_spec.specs.Settings.{resolution}
 use Rattle.rrd_spec.specs.Files.Slots.{place_in}
 use Rattle.rrd_base.specs.Rebuild.Cursors.{KnowsPlace, Passes, filled_by}
 use Rattle.rrd_base.specs.Rebuild.{IsCursor, IsRebuilding, coming, filed_in}
+use Rattle.rrd_spec.specs.Lemmas.Lists.{All-take}
+use Rattle.rrd_base.specs.Rebuild.CellRun.{run_cells}
 use Rattle.rrd_base.specs.Rebuild.Runs.{MayCells}
 use Rattle.rrd_base.proofs.CellComes.{GoesOn, StaysIn, at_cell, cell_came, cell_here, cells_come, place_there, with_more}
 use Rattle.rrd_base.proofs.RowsCome.{are_put, may_come, one_item, passes_on, whole_few, width_is, within, with_cells_is, with_rows_at}
 use Rattle.rrd_base.proofs.Versions.{few_archives}
-use Rattle.rrd_base.proofs.rebuild.Rebuild.rows.Goals as goal
+use Rattle.rrd_base.proofs.rebuild.Rebuild.whole_rows.Goals as goal
 
 pub get-requires : goal.get-requires
 get-requires c =
@@ -92,9 +95,9 @@ put_rows-requires-clause-few c =
     let rows = ap (λ (def : RraDef). def.rows) c.def-def.ensures in
     let count = c.min-count.result in
     let fits : cursor.slot + count ≤ first.def.rows = omega (arith, c.min-count.ensures, rows, here.slot) in
-    let few : count * d.sources_due ≤ length c.args.cells.now = whole_few count d.sources_due (length c.args.cells.now) (c.def-def.result.rows - cursor.slot) is.header_is.some_source c.min-count.ensures in
-    let whole = take (count * d.sources_due) c.args.cells.now in
-    let long : length whole ≡ count * d.sources_due = length-take-le (count * d.sources_due) c.args.cells.now few in
+    let few : count * d.sources_due ≤ length (run_cells c.args.cells) = omega (arith, c.len.ensures, whole_few count d.sources_due c.len.result (c.def-def.result.rows - cursor.slot) is.header_is.some_source c.min-count.ensures) in
+    let whole = take (count * d.sources_due) (run_cells c.args.cells) in
+    let long : length whole ≡ count * d.sources_due = length-take-le (count * d.sources_due) (run_cells c.args.cells) few in
     let a = c.get_mut-rra.result.now in
     let same : first ≡ a = one_item d.archives d.archive first a here.at.there c.get.ensures c.get_mut-rra.ensures.value in
     subst (λ (x : Rra). count ≤ length x.rows) same (omega (arith, fits, here.so_far.rows_are))
@@ -113,12 +116,12 @@ put_rows-requires-clause-one_each c =
     let rows = ap (λ (def : RraDef). def.rows) c.def-def.ensures in
     let count = c.min-count.result in
     let fits : cursor.slot + count ≤ first.def.rows = omega (arith, c.min-count.ensures, rows, here.slot) in
-    let few : count * d.sources_due ≤ length c.args.cells.now = whole_few count d.sources_due (length c.args.cells.now) (c.def-def.result.rows - cursor.slot) is.header_is.some_source c.min-count.ensures in
-    let whole = take (count * d.sources_due) c.args.cells.now in
-    let long : length whole ≡ count * d.sources_due = length-take-le (count * d.sources_due) c.args.cells.now few in
+    let few : count * d.sources_due ≤ length (run_cells c.args.cells) = omega (arith, c.len.ensures, whole_few count d.sources_due c.len.result (c.def-def.result.rows - cursor.slot) is.header_is.some_source c.min-count.ensures) in
+    let whole = take (count * d.sources_due) (run_cells c.args.cells) in
+    let long : length whole ≡ count * d.sources_due = length-take-le (count * d.sources_due) (run_cells c.args.cells) few in
     let a = c.get_mut-rra.result.now in
     let same : first ≡ a = one_item d.archives d.archive first a here.at.there c.get.ensures c.get_mut-rra.ensures.value in
-    subst (λ (x : Rra). length whole ≡ count * width x.rows) same (long ∙ ap (λ n. count * n) (sym (width_is d.sources_due first.rows here.so_far.each_row (omega (arith, here.so_far.rows_are, inside)))))
+    ap length c.front.ensures ∙ subst (λ (x : Rra). length whole ≡ count * width x.rows) same (long ∙ ap (λ n. count * n) (sym (width_is d.sources_due first.rows here.so_far.each_row (omega (arith, here.so_far.rows_are, inside)))))
 
 pub pass-requires-clause-archive_there : goal.pass-requires-clause-archive_there
 pass-requires-clause-archive_there c =
@@ -141,9 +144,9 @@ pass-requires-clause-rows_there c =
     let rows = ap (λ (def : RraDef). def.rows) c.def-def.ensures in
     let count = c.min-count.result in
     let fits : cursor.slot + count ≤ first.def.rows = omega (arith, c.min-count.ensures, rows, here.slot) in
-    let few : count * d.sources_due ≤ length c.args.cells.now = whole_few count d.sources_due (length c.args.cells.now) (c.def-def.result.rows - cursor.slot) is.header_is.some_source c.min-count.ensures in
-    let whole = take (count * d.sources_due) c.args.cells.now in
-    let long : length whole ≡ count * d.sources_due = length-take-le (count * d.sources_due) c.args.cells.now few in
+    let few : count * d.sources_due ≤ length (run_cells c.args.cells) = omega (arith, c.len.ensures, whole_few count d.sources_due c.len.result (c.def-def.result.rows - cursor.slot) is.header_is.some_source c.min-count.ensures) in
+    let whole = take (count * d.sources_due) (run_cells c.args.cells) in
+    let long : length whole ≡ count * d.sources_due = length-take-le (count * d.sources_due) (run_cells c.args.cells) few in
     omega (arith, fits, rows)
 
 pub pass-requires-clause-place_there : goal.pass-requires-clause-place_there
@@ -183,10 +186,10 @@ invariant_of-self c =
     let rows = ap (λ (def : RraDef). def.rows) c.def-def.ensures in
     let count = c.min-count.result in
     let fits : cursor.slot + count ≤ first.def.rows = omega (arith, c.min-count.ensures, rows, here.slot) in
-    let few : count * d.sources_due ≤ length c.args.cells.now = whole_few count d.sources_due (length c.args.cells.now) (c.def-def.result.rows - cursor.slot) is.header_is.some_source c.min-count.ensures in
-    let whole = take (count * d.sources_due) c.args.cells.now in
-    let long : length whole ≡ count * d.sources_due = length-take-le (count * d.sources_due) c.args.cells.now few in
-    let bounded : AllByRecursion IsBounded whole = c.are_bounded.ensures.good c.if-not-are_bounded.false in
+    let few : count * d.sources_due ≤ length (run_cells c.args.cells) = omega (arith, c.len.ensures, whole_few count d.sources_due c.len.result (c.def-def.result.rows - cursor.slot) is.header_is.some_source c.min-count.ensures) in
+    let whole = take (count * d.sources_due) (run_cells c.args.cells) in
+    let long : length whole ≡ count * d.sources_due = length-take-le (count * d.sources_due) (run_cells c.args.cells) few in
+    let bounded : AllByRecursion IsBounded whole = All-take IsBounded (count * d.sources_due) (run_cells c.args.cells) c.requires in
     let none : cursor.source ≡ 0 = omega (arith, c.if-self-gt0.false) in
     let put = are_put c.cells_stand_in_slots.ensures.as_many c.cells_stand_in_slots.ensures.row_put d first cursor place count whole is here c.get.ensures refl none place_is fits long bounded in
     let goes : Passes first.def.rows place count cursor c.pass.new.self = subst (λ (def : RraDef). Passes def.rows place count cursor c.pass.new.self) c.def-def.ensures (record { within = c.pass.ensures.within; over = c.pass.ensures.over }) in
@@ -198,7 +201,7 @@ invariant_of-self c =
     let same : first ≡ a = one_item d.archives d.archive first a here.at.there c.get.ensures c.get_mut-rra.ensures.value in
     let wide : width first.rows ≡ d.sources_due = width_is d.sources_due first.rows here.so_far.each_row (omega (arith, here.so_far.rows_are, inside)) in
     let new : c.put_rows.new.self ≡ b =
-    c.put_rows.ensures ∙ ap (λ (x : Rra). let y : Rra = record x { rows = with_rows count (width x.rows) x.rows place whole } in y) (sym same)
+    c.put_rows.ensures ∙ ap (λ (cs : List Cell). let y : Rra = record a { rows = with_rows count (width a.rows) a.rows place cs } in y) c.front.ensures ∙ ap (λ (x : Rra). let y : Rra = record x { rows = with_rows count (width x.rows) x.rows place whole } in y) (sym same)
     ∙ ap (λ n. let y : Rra = record first { rows = with_rows count n first.rows place whole } in y) wide in
     record {
       came = subst (λ (x : Rra). IsRebuilding (cell_came d x c.pass.new.self.archive (filled_by d.sources_due c.pass.new.self))) (sym new) after.came;
@@ -216,10 +219,10 @@ returns-clause-may c =
     let rows = ap (λ (def : RraDef). def.rows) c.def-def.ensures in
     let count = c.min-count.result in
     let fits : cursor.slot + count ≤ first.def.rows = omega (arith, c.min-count.ensures, rows, here.slot) in
-    let few : count * d.sources_due ≤ length c.args.cells.now = whole_few count d.sources_due (length c.args.cells.now) (c.def-def.result.rows - cursor.slot) is.header_is.some_source c.min-count.ensures in
-    let whole = take (count * d.sources_due) c.args.cells.now in
-    let long : length whole ≡ count * d.sources_due = length-take-le (count * d.sources_due) c.args.cells.now few in
-    let bounded : AllByRecursion IsBounded whole = c.are_bounded.ensures.good c.if-not-are_bounded.false in
+    let few : count * d.sources_due ≤ length (run_cells c.args.cells) = omega (arith, c.len.ensures, whole_few count d.sources_due c.len.result (c.def-def.result.rows - cursor.slot) is.header_is.some_source c.min-count.ensures) in
+    let whole = take (count * d.sources_due) (run_cells c.args.cells) in
+    let long : length whole ≡ count * d.sources_due = length-take-le (count * d.sources_due) (run_cells c.args.cells) few in
+    let bounded : AllByRecursion IsBounded whole = All-take IsBounded (count * d.sources_due) (run_cells c.args.cells) c.requires in
     let none : cursor.source ≡ 0 = omega (arith, c.if-self-gt0.false) in
     subst (λ (f : Filed). MayCells f whole) c.self.view_is (may_come c.cells_stand_in_slots.ensures.as_many d first whole is here.at c.get.ensures bounded (within d.sources_due cursor.slot cursor.source count first.def.rows (length whole) none long fits))
 
@@ -237,10 +240,10 @@ returns-clause-came c =
     let rows = ap (λ (def : RraDef). def.rows) c.def-def.ensures in
     let count = c.min-count.result in
     let fits : cursor.slot + count ≤ first.def.rows = omega (arith, c.min-count.ensures, rows, here.slot) in
-    let few : count * d.sources_due ≤ length c.args.cells.now = whole_few count d.sources_due (length c.args.cells.now) (c.def-def.result.rows - cursor.slot) is.header_is.some_source c.min-count.ensures in
-    let whole = take (count * d.sources_due) c.args.cells.now in
-    let long : length whole ≡ count * d.sources_due = length-take-le (count * d.sources_due) c.args.cells.now few in
-    let bounded : AllByRecursion IsBounded whole = c.are_bounded.ensures.good c.if-not-are_bounded.false in
+    let few : count * d.sources_due ≤ length (run_cells c.args.cells) = omega (arith, c.len.ensures, whole_few count d.sources_due c.len.result (c.def-def.result.rows - cursor.slot) is.header_is.some_source c.min-count.ensures) in
+    let whole = take (count * d.sources_due) (run_cells c.args.cells) in
+    let long : length whole ≡ count * d.sources_due = length-take-le (count * d.sources_due) (run_cells c.args.cells) few in
+    let bounded : AllByRecursion IsBounded whole = All-take IsBounded (count * d.sources_due) (run_cells c.args.cells) c.requires in
     let none : cursor.source ≡ 0 = omega (arith, c.if-self-gt0.false) in
     let put = are_put c.cells_stand_in_slots.ensures.as_many c.cells_stand_in_slots.ensures.row_put d first cursor place count whole is here c.get.ensures refl none place_is fits long bounded in
     let goes : Passes first.def.rows place count cursor c.pass.new.self = subst (λ (def : RraDef). Passes def.rows place count cursor c.pass.new.self) c.def-def.ensures (record { within = c.pass.ensures.within; over = c.pass.ensures.over }) in
@@ -252,7 +255,7 @@ returns-clause-came c =
     let same : first ≡ a = one_item d.archives d.archive first a here.at.there c.get.ensures c.get_mut-rra.ensures.value in
     let wide : width first.rows ≡ d.sources_due = width_is d.sources_due first.rows here.so_far.each_row (omega (arith, here.so_far.rows_are, inside)) in
     let new : c.put_rows.new.self ≡ b =
-    c.put_rows.ensures ∙ ap (λ (x : Rra). let y : Rra = record x { rows = with_rows count (width x.rows) x.rows place whole } in y) (sym same)
+    c.put_rows.ensures ∙ ap (λ (cs : List Cell). let y : Rra = record a { rows = with_rows count (width a.rows) a.rows place cs } in y) c.front.ensures ∙ ap (λ (x : Rra). let y : Rra = record x { rows = with_rows count (width x.rows) x.rows place whole } in y) (sym same)
     ∙ ap (λ n. let y : Rra = record first { rows = with_rows count n first.rows place whole } in y) wide in
     ap (λ (x : Rra). filed_in (cell_came d x c.pass.new.self.archive (filled_by d.sources_due c.pass.new.self))) new
     ∙ (after.filed_is ∙ ap (λ (f : Filed). with_more f whole) c.self.view_is ∙ sym (with_cells_is c.args.self.now whole))

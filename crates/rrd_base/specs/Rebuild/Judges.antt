@@ -1,0 +1,16 @@
+-- Definition: what judges an entry of a journal.
+use Rattle.std.specs.Prelude.{ℕ}
+use Rattle.rrd_spec.specs.declared.outline.Outline.{Outline}
+use Rattle.rrd_spec.specs.declared.version.Version.{Version}
+use Rattle.rrd_spec.specs.Files.Filed.{Filed}
+use Rattle.rrd_spec.specs.Files.Rebuilding.{outline_left}
+
+-- the version whose limits hold, the seconds in a step, and the outline
+pub record Judge : Type 0 where
+  pub version : Version
+  pub step : ℕ
+  pub outline : Outline
+
+-- those of a file, of which so much came
+abbrev pub judge : Filed → Judge
+judge f = record { version = f.header.version; step = f.header.step; outline = outline_left f }
