@@ -1,17 +1,21 @@
 -- Cells one after another, and their bytes.
-use Rattle.std.proofs.Common.{◌≡◌, ◌∙◌, ◌++◌, ◌∷◌, ◌+◌, ◌*◌, ◌<◌, ◌≤◌, ℕ, zero, suc, List, [], sym, ap, subst, refl, set, take, drop, append_assoc, append-nil, length, length-append, map, add-one, arith, take_at}
-use Rattle.std.specs.List.{flat_map}
+use Rattle.std.proofs.Common.{◌≡◌, ◌∙◌, ◌++◌, ◌∷◌, ◌+◌, ◌*◌, ◌^◌, ◌<◌, ◌≤◌, ℕ, zero, suc, List, [], sym, ap, subst, refl, replicate, set, take, drop, append_assoc, append-nil, length, length-append, map, add-one, arith, take_at}
+use Rattle.std.specs.Io.KnownBytes.{Consumes}
+use Rattle.std.specs.List.{AllByRecursion, flat_map}
 use Rattle.std.proofs.lemmas.Grind.{flat_map-append}
-use Rattle.std.proofs.lemmas.List.{length-take-le, take_all, take-append-drop}
+use Rattle.std.proofs.lemmas.List.{length-replicate, length-take, length-take-le, replicate-append-replicate, take_all, take-append-drop, take-take}
 use Rattle.std.proofs.Math.Seq.{take-add}
 use Rattle.std.proofs.lemmas.List.Concat.{flat_map-cons}
+use Rattle.rrd_fixed.specs.Rate.{IsBounded}
 use Rattle.rrd_fixed.specs.declared.cell.Cell.{Cell}
+use Rattle.rrd_fixed.specs.declared.cell.Cell.TheVariants.{Unknown}
 use Rattle.rrd_spec.specs.Files.Filed.{Filed}
 use Rattle.rrd_spec.specs.Files.Rebuilding.{MayCell, with_cell}
+use Rattle.rrd_spec.specs.Lemmas.Lists.{All-append}
 use Rattle.rrd_base.specs.Rebuild.Runs.{MayCells, with_cells}
 use Rattle.rrd_file.specs.Faults.{Front}
-use Rattle.rrd_file.specs.Decoding.Input.{Gives, Input, left}
-use Rattle.rrd_file.specs.Decoding.Progress.{Stands}
+use Rattle.rrd_file.specs.Reader.{Gives, Input, left}
+use Rattle.rrd_file.specs.Progress.{Stands}
 use Rattle.rrd_file.specs.Layout.Pieces.{OfCell, spell}
 use Rattle.rrd_file.specs.Layout.Values.{cell_bytes, cell_number}
 use Rattle.rrd_file.specs.Stages.{Body, Takes}
@@ -58,6 +62,40 @@ one_read xs i cell bytes rest more h before here =
     let same : cells_bytes (take (i + 1) (set xs i cell)) ≡ cells_bytes (take i xs) ++ cell_bytes cell =
     ap (λ (n : ℕ). cells_bytes (take n (set xs i cell))) (add-one i) ∙ ap cells_bytes (take_set xs i cell h) ∙ bytes_joined (take i xs) (cell ∷ []) ∙ ap (λ (l : List ℕ). cells_bytes (take i xs) ++ l) (one_alone cell) in
     before ∙ ap (λ (l : List ℕ). cells_bytes (take i xs) ++ l) here ∙ sym (append_assoc (cells_bytes (take i xs)) (cell_bytes cell) more) ∙ ap (λ (l : List ℕ). l ++ more) (sym same)
+
+pub one_bounded : (xs : List Cell) (i : ℕ) (cell : Cell) → i < length xs → AllByRecursion IsBounded (take i xs) → IsBounded cell → AllByRecursion IsBounded (take (i + 1) (set xs i cell))
+one_bounded xs i cell h before here =
+    let next : take (i + 1) (set xs i cell) ≡ take i xs ++ cell ∷ [] = ap (λ (n : ℕ). take n (set xs i cell)) (add-one i) ∙ take_set xs i cell h in
+    subst (AllByRecursion IsBounded) (sym next) (All-append IsBounded (take i xs) (cell ∷ []) before (here, tt))
+
+-- the first were read
+pub some_read : (xs : List Cell) (i : ℕ) (bytes rest : List ℕ) → i ≤ length xs → bytes ≡ cells_bytes (take i xs) ++ rest → take (16 * i) bytes ≡ cells_bytes (take i xs)
+some_read xs i bytes rest h is =
+    let front = cells_bytes (take i xs) in
+    ap (take (16 * i)) is ∙ take_at front rest (16 * i) (bytes_count (take i xs) ∙ ap (λ (k : ℕ). 16 * k) (length-take-le i xs h))
+
+-- one in its place leaves those before it
+pub take_before : (xs : List Cell) (i : ℕ) (cell : Cell) → take i (set xs i cell) ≡ take i xs
+take_before [] i cell = refl
+take_before (x ∷ xs) zero cell = refl
+take_before (x ∷ xs) (suc i) cell = ap (λ (l : List Cell). x ∷ l) (take_before xs i cell)
+
+-- the bytes of unknown ones
+pub unknown_flat : (n : ℕ) → flat_map (λ (bytes : List ℕ). bytes) (replicate n (cell_bytes Unknown)) ≡ cells_bytes (replicate n Unknown)
+unknown_flat zero = refl
+unknown_flat (suc n) =
+    flat_map-cons (λ (bytes : List ℕ). bytes) (cell_bytes Unknown) (replicate n (cell_bytes Unknown))
+    ∙ ap (λ (l : List ℕ). cell_bytes Unknown ++ l) (unknown_flat n)
+    ∙ sym (flat_map-cons cell_bytes Unknown (replicate n Unknown))
+
+-- unknown ones, some and then more
+pub unknown_bytes_on : (m n : ℕ) → cells_bytes (replicate m Unknown) ++ cells_bytes (replicate n Unknown) ≡ cells_bytes (replicate (m + n) Unknown)
+unknown_bytes_on m n = sym (bytes_joined (replicate m Unknown) (replicate n Unknown)) ∙ ap cells_bytes (replicate-append-replicate m n Unknown)
+
+pub unknown_read : (count : ℕ) (bytes rest : List ℕ) → bytes ≡ cells_bytes (replicate count Unknown) ++ rest → take (16 * count) bytes ≡ cells_bytes (replicate count Unknown)
+unknown_read count bytes rest is =
+    let front = cells_bytes (replicate count Unknown) in
+    ap (take (16 * count)) is ∙ take_at front rest (16 * count) (bytes_count (replicate count Unknown) ∙ ap (λ (k : ℕ). 16 * k) (length-replicate count Unknown))
 
 -- all were read
 no_more : (rest : List ℕ) → length rest ≡ 0 → rest ≡ []
@@ -111,3 +149,26 @@ cells_taken bytes piece old new f to cells st g is may to_is =
       left_is = after.1;
       place = omega (arith, st.place, g.advanced, ap length after.2, length-append piece after.0);
     }
+
+-- the first of the cells that wait were taken
+pub some_taken : (bytes : List ℕ) (old new : Input) (f to : Filed) (cells : List Cell) (taken n size : ℕ) (front : List ℕ) → Stands bytes (Body f) old → front ≡ take size old.waiting → take (16 * n) front ≡ cells_bytes cells → length cells ≡ n → taken ≤ n
+    → MayCells f (take taken cells) → to ≡ with_cells f (take taken cells) → Consumes (left old) (left new) (take (taken * 16) old.waiting) → new.at ≡ old.at + taken * 16 → new.at < 2 ^ 64 → Stands bytes (Body to) new
+some_taken bytes old new f to cells taken n size front st front_is spelled count few may to_is consumed at bounded =
+    let piece = take (taken * 16) old.waiting in
+    let turned : taken * 16 ≡ 16 * taken = omega arith in
+    let long : length (take (16 * n) front) ≡ 16 * n = ap length spelled ∙ bytes_count cells ∙ ap (λ (k : ℕ). 16 * k) count in
+    let fits : 16 * n ≤ length front = omega (arith, long, length-take (16 * n) front) in
+    let within : 16 * n ≤ size = omega (arith, fits, ap length front_is, length-take size old.waiting) in
+    let waits : 16 * n ≤ length old.waiting = omega (arith, fits, ap length front_is, length-take size old.waiting) in
+    let piece_is : piece ≡ cells_bytes (take taken cells) =
+    ap (λ (k : ℕ). take k old.waiting) turned
+    ∙ sym (take-take (16 * taken) size old.waiting (omega (arith, few, within)))
+    ∙ ap (take (16 * taken)) (sym front_is)
+    ∙ sym (take-take (16 * taken) (16 * n) front (omega (arith, few)))
+    ∙ first_bytes cells taken (take (16 * n) front) (omega (arith, few, count)) spelled in
+    let gives : Gives old piece new = record {
+      consumed = consumed;
+      advanced = omega (arith, at, length-take-le (taken * 16) old.waiting (omega (arith, few, waits)));
+      bounded = bounded;
+    } in
+    cells_taken bytes piece old new f to (take taken cells) st gives piece_is may to_is

@@ -8,12 +8,12 @@ use Rattle.rrd_spec.specs.Files.Rebuilding.{MayEntry, due, limits, outline_left,
 use Rattle.rrd_file.specs.declared.fault.FileFault.{FileFault}
 use Rattle.rrd_file.specs.declared.fault.FileFault.TheVariants.{BadEntry}
 use Rattle.rrd_file.specs.Faults.{Front, IsBad, IsFault, bad_in_body}
-use Rattle.rrd_file.specs.Decoding.Input.{Gives, Input, IsCut, left}
+use Rattle.rrd_file.specs.Reader.{Gives, Input, IsCut, left}
 use Rattle.rrd_file.specs.Layout.{entry_pieces}
 use Rattle.rrd_file.specs.Layout.Pieces.{ARemoval, AResize, ATune, AnAddition, AnUpdate, OfTag, Piece, Tag, spell, tag_byte}
-use Rattle.rrd_file.specs.Decoding.Journal.{IsShaped}
+use Rattle.rrd_file.specs.Journal.{IsShaped}
 use Rattle.rrd_file.specs.Stages.{BeforeDue, Body, CountDue, DueInEntry, NamedDue, NumberDue, OldRowsDue, RemovedHeadDue, RemovedNumberDue, RowCellDue, RowPrepDue, RowsDue, TimeDue, GoesOn, IsTagWithin, Keeps, MayTag, Stage, Takes, Within, behind, body_size, first_due, size, size_due}
-use Rattle.rrd_file.specs.Decoding.Progress.{Comes, Stands}
+use Rattle.rrd_file.specs.Progress.{Comes, Stands}
 use Rattle.rrd_file.proofs.OneShape.{shaped_one, undo_shaped}
 use Rattle.rrd_file.proofs.Reached.{cut, front_more, gives_rest, refused}
 use Rattle.rrd_file.proofs.Ways.{Step, ToSource, ToHead, ToPrep, ToCell, ToEntry, step_of}

@@ -7,11 +7,11 @@ use Rattle.rrd_spec.specs.History.{Rra, Content}
 use Rattle.rrd_spec.specs.Journal.Entries.{Entry, RemovedEntry, undone}
 use Rattle.rrd_spec.specs.Validity.{IsValid, IsValidArchive, IsValidJournal, IsValidDatabase, Fits, Rise}
 use Rattle.rrd_spec.specs.Limits.{newest, present}
-use Rattle.rrd_file.specs.Decoding.Values.{FitsArchive}
+use Rattle.rrd_file.specs.Layout.Fitting.{FitsArchive}
 use Rattle.rrd_file.proofs.OneSpelling.{archive_fits}
 use Rattle.rrd_file.proofs.Sound.{small_limits}
 use Rattle.rrd_file.proofs.Told.{some_is}
-use Rattle.rrd_file.specs.Encoding.Journal.{HasSmallNumber, IsEntryOfSome}
+use Rattle.rrd_file.specs.Journal.{HasSmallNumber, IsEntryOfSome}
 
 small_in : (olds : List SourceBefore) (i : ℕ) (x : SourceBefore) → AllByRecursion HasSmallNumber olds → i < length olds → (get_or olds i x).number < 2 ^ 16
 small_in [] i x all h = absurd (omega arith)

@@ -6,7 +6,7 @@ use Rattle.std.specs.List.{copy_within}
 use Rattle.std.specs.Io.KnownBytes.{Consumes, Keeps, prepend_known}
 use Rattle.std.proofs.lemmas.List.{take-append-le, drop-take, drop_at, length-take, length-take-le, take-append-drop, take_at}
 use borrow.Rule.Slice.PartMut.{put_mid, post_of}
-use Rattle.rrd_file.specs.Decoding.Waiting.{IsWaiting}
+use Rattle.rrd_file.specs.Reader.Waiting.{IsWaiting}
 use lib.Seq.{drop-drop, take-add, take-take}
 
 -- the waiting bytes at the front

@@ -11,55 +11,69 @@ use Rattle.std.proofs.lemmas.Option.{get_or_from_slice_get, slice_get_within, sl
 use Rattle.rrd_fixed.specs.Written.{AppendsFront, Writes}
 use Rattle.rrd_fixed.specs.declared.streams.WriteFault.{WriteFault}
 use Rattle.rrd_fixed.specs.Writing.{writes_stop, writes_then}
-use Rattle.rrd_file.specs.Encoding.Block.{Adds, Breaks, Gathers}
+use Rattle.rrd_file.specs.Writer.{Adds, Breaks, Gathers}
+use Rattle.rrd_file.specs.declared.writer.PieceWriter.{PieceWriter}
 
 -- ---- one run of bytes and then another
 
-pub adds_then : {a b c : Option (List ℕ)} {x y z xs ys : List ℕ} → Adds a x b y xs → Adds b y c z ys → Adds a x c z (xs ++ ys)
-adds_then {a} {b} {c} {x} {y} {z} {xs} {ys} p q = record {
-  written = p.written ++ q.written;
-  appends = Appends-trans a b c p.written q.written p.appends q.appends;
-  whole =
-      append_assoc p.written q.written z ∙ (ap (λ l. p.written ++ l) q.whole
-      ∙ (sym (append_assoc p.written y ys) ∙ (ap (λ l. l ++ ys) p.whole ∙ append_assoc x xs ys)));
-}
+module _ {W : Type 0} {contents : W → Option (List ℕ)} where
+  pub adds_then : {p q r : PieceWriter W} {xs ys : List ℕ} → Adds contents p q xs → Adds contents q r ys → Adds contents p r (xs ++ ys)
+  adds_then {p} {q} {r} {xs} {ys} f s = record {
+    same_reference = s.same_reference ∙ f.same_reference;
+    written = f.written ++ s.written;
+    appends = Appends-trans (contents p.out.now) (contents q.out.now) (contents r.out.now) f.written s.written f.appends s.appends;
+    whole =
+        append_assoc f.written s.written r.block ∙ (ap (λ l. f.written ++ l) s.whole
+        ∙ (sym (append_assoc f.written q.block ys) ∙ (ap (λ l. l ++ ys) f.whole ∙ append_assoc p.block xs ys)));
+  }
 
-pub breaks_then : {a b c : Option (List ℕ)} {x y xs ys : List ℕ} → Adds a x b y xs → Breaks b y c ys → Breaks a x c (xs ++ ys)
-breaks_then {a} {b} {c} {x} {y} {xs} {ys} p q =
-    let same : p.written ++ (y ++ ys) ≡ x ++ (xs ++ ys) =
-    sym (append_assoc p.written y ys) ∙ (ap (λ l. l ++ ys) p.whole ∙ append_assoc x xs ys) in
-    record { front = subst (AppendsFront a c) same (writes_then {T = Unit {0}} a b c p.written (y ++ ys) (Err record {}) p.appends q.front) }
+  pub breaks_then : {p q r : PieceWriter W} {xs ys : List ℕ} → Adds contents p q xs → Breaks contents q r ys → Breaks contents p r (xs ++ ys)
+  breaks_then {p} {q} {r} {xs} {ys} f s =
+      let same : f.written ++ (q.block ++ ys) ≡ p.block ++ (xs ++ ys) =
+      sym (append_assoc f.written q.block ys) ∙ (ap (λ l. l ++ ys) f.whole ∙ append_assoc p.block xs ys) in
+      record {
+        same_reference = s.same_reference ∙ f.same_reference;
+        front = subst (AppendsFront (contents p.out.now) (contents r.out.now)) same (writes_then {T = Unit {0}} (contents p.out.now) (contents q.out.now) (contents r.out.now) f.written (q.block ++ ys) (Err record {}) f.appends s.front);
+      }
 
-pub gathers_then : {T : Type 0} {a b : Option (List ℕ)} {x y xs : List ℕ} (c : Option (List ℕ)) (z ys : List ℕ) (r : Result T WriteFault) → Adds a x b y xs → Gathers b y c z ys r → Gathers a x c z (xs ++ ys) r
-gathers_then c z ys (Ok t) p q = adds_then p q
-gathers_then c z ys (Err e) p q = breaks_then p q
+  pub gathers_then : {T : Type 0} {p q : PieceWriter W} {xs : List ℕ} (r : PieceWriter W) (ys : List ℕ) (result : Result T WriteFault) → Adds contents p q xs → Gathers contents q r ys result → Gathers contents p r (xs ++ ys) result
+  gathers_then r ys (Ok t) f s = adds_then f s
+  gathers_then r ys (Err e) f s = breaks_then f s
 
--- a fault before the rest
-pub breaks_stop : {a c : Option (List ℕ)} {x xs : List ℕ} (ys : List ℕ) → Breaks a x c xs → Breaks a x c (xs ++ ys)
-breaks_stop {a} {c} {x} {xs} ys p = record { front = subst (AppendsFront a c) (append_assoc x xs ys) (writes_stop a c (x ++ xs) ys p.front) }
+  -- a fault before the rest
+  pub breaks_stop : {p r : PieceWriter W} {xs : List ℕ} (ys : List ℕ) → Breaks contents p r xs → Breaks contents p r (xs ++ ys)
+  breaks_stop {p} {r} {xs} ys f = record {
+    same_reference = f.same_reference;
+    front = subst (AppendsFront (contents p.out.now) (contents r.out.now)) (append_assoc p.block xs ys) (writes_stop (contents p.out.now) (contents r.out.now) (p.block ++ xs) ys f.front);
+  }
 
--- ---- a piece
+  -- ---- a piece
 
--- there was room, and the piece was added
-pub piece_added : {a b : Option (List ℕ)} {x y z : List ℕ} (bs : List ℕ) → Adds a x b y [] → z ≡ y ++ bs → Adds a x b z bs
-piece_added {a} {b} {x} {y} {z} bs p is = record {
-  written = p.written;
-  appends = p.appends;
-  whole =
-      ap (λ l. p.written ++ l) is ∙ (sym (append_assoc p.written y bs) ∙ (ap (λ l. l ++ bs) p.whole ∙ ap (λ l. l ++ bs) (append-nil x)));
-}
+  -- there was room, and the piece was added
+  pub piece_added : {p q : PieceWriter W} {waits : List ℕ} (bs : List ℕ) → Adds contents p q [] → waits ≡ q.block ++ bs → Adds contents p (record q { block = waits }) bs
+  piece_added {p} {q} {waits} bs f is = record {
+    same_reference = f.same_reference;
+    written = f.written;
+    appends = f.appends;
+    whole =
+        ap (λ l. f.written ++ l) is ∙ (sym (append_assoc f.written q.block bs) ∙ (ap (λ l. l ++ bs) f.whole ∙ ap (λ l. l ++ bs) (append-nil p.block)));
+  }
 
-pub no_room : {a c : Option (List ℕ)} {x : List ℕ} (bs : List ℕ) → Breaks a x c [] → Breaks a x c bs
-no_room bs p = breaks_stop {xs = []} bs p
+  pub no_room : {p r : PieceWriter W} (bs : List ℕ) → Breaks contents p r [] → Breaks contents p r bs
+  no_room bs f = breaks_stop {xs = []} bs f
 
--- ---- an empty block at the start
+  -- ---- nothing waited at the start
 
-pub all_written : {T : Type 0} {a b : Option (List ℕ)} {x y bs : List ℕ} (c : Option (List ℕ)) (r : Result T WriteFault) → x ≡ [] → Adds a x b y bs → Writes b c y r → Writes a c bs r
-all_written {T} {a} {b} {x} {y} {bs} c r none p q =
-    subst (λ l. Writes a c l r) (p.whole ∙ ap (λ l. l ++ bs) none) (writes_then a b c p.written y r p.appends q)
+  -- the writer that was lent ends as the piece writer left it
+  pub all_written : {T : Type 0} {p q : PieceWriter W} {bs : List ℕ} (start last end : W) (result : Result T WriteFault) → p.out.now ≡ start → p.block ≡ [] → end ≡ last
+      → Adds contents p q bs → Writes (contents q.out.now) (contents last) q.block result → Writes (contents start) (contents end) bs result
+  all_written {T} {p} {q} {bs} start last end result begun none ended f s =
+      rw (sym begun, ended) (subst (λ l. Writes (contents p.out.now) (contents last) l result) (f.whole ∙ ap (λ l. l ++ bs) none)
+      (writes_then (contents p.out.now) (contents q.out.now) (contents last) f.written q.block result f.appends s))
 
-pub front_written : {a c : Option (List ℕ)} {x bs : List ℕ} → x ≡ [] → Breaks a x c bs → AppendsFront a c bs
-front_written {a} {c} {x} {bs} none p = subst (AppendsFront a c) (ap (λ l. l ++ bs) none) p.front
+  pub front_written : {p r : PieceWriter W} {bs : List ℕ} (start end : W) → p.out.now ≡ start → p.block ≡ [] → end ≡ r.out.now → Breaks contents p r bs → AppendsFront (contents start) (contents end) bs
+  front_written {p} {r} {bs} start end begun none ended f =
+      rw (sym begun, ended) (subst (AppendsFront (contents p.out.now) (contents r.out.now)) (ap (λ l. l ++ bs) none) f.front)
 
 -- ---- items one after another
 
@@ -73,24 +87,25 @@ one_more f xs i x is =
     ap (flat_map f) (take_more xs i x inside ∙ ap (λ y. take i xs ++ y ∷ []) (get_or_from_slice_get xs i x x is))
     ∙ flat_map-append f (take i xs) (x ∷ []) ∙ ap (λ l. flat_map f (take i xs) ++ l) (flat_one f x)
 
-pub item_added : {A : Type 0} {a b c : Option (List ℕ)} {x y z : List ℕ} (f : A → List ℕ) (items : List A) (i : ℕ) (item : A) → slice_get items i ≡ Some item
-    → Adds a x b y (flat_map f (take i items)) → Adds b y c z (f item) → Adds a x c z (flat_map f (take (i + 1) items))
-item_added {A} {a} {b} {c} {x} {y} {z} f items i item is before here =
-    subst (Adds a x c z) (sym (one_more f items i item is)) (adds_then before here)
+module _ {W : Type 0} {contents : W → Option (List ℕ)} where
+  pub item_added : {A : Type 0} {p q r : PieceWriter W} (f : A → List ℕ) (items : List A) (i : ℕ) (item : A) → slice_get items i ≡ Some item
+      → Adds contents p q (flat_map f (take i items)) → Adds contents q r (f item) → Adds contents p r (flat_map f (take (i + 1) items))
+  item_added {A} {p} {q} {r} f items i item is before here =
+      subst (Adds contents p r) (sym (one_more f items i item is)) (adds_then before here)
 
--- a fault in one item, after those before it
-pub item_broken : {A : Type 0} {a b c : Option (List ℕ)} {x y : List ℕ} (f : A → List ℕ) (items : List A) (i : ℕ) (item : A) → slice_get items i ≡ Some item
-    → Adds a x b y (flat_map f (take i items)) → Breaks b y c (f item) → Breaks a x c (flat_map f items)
-item_broken {A} {a} {b} {c} {x} {y} f items i item is before broken =
-    let all = flat_map f items in
-    let rest = flat_map f (drop (i + 1) items) in
-    let whole : flat_map f (take (i + 1) items) ++ rest ≡ all =
-    sym (flat_map-append f (take (i + 1) items) (drop (i + 1) items)) ∙ ap (flat_map f) (take-append-drop (i + 1) items) in
-    subst (Breaks a x c) (ap (λ l. l ++ rest) (sym (one_more f items i item is)) ∙ whole) (breaks_stop rest (breaks_then before broken))
+  -- a fault in one item, after those before it
+  pub item_broken : {A : Type 0} {p q r : PieceWriter W} (f : A → List ℕ) (items : List A) (i : ℕ) (item : A) → slice_get items i ≡ Some item
+      → Adds contents p q (flat_map f (take i items)) → Breaks contents q r (f item) → Breaks contents p r (flat_map f items)
+  item_broken {A} {p} {q} {r} f items i item is before broken =
+      let all = flat_map f items in
+      let rest = flat_map f (drop (i + 1) items) in
+      let whole : flat_map f (take (i + 1) items) ++ rest ≡ all =
+      sym (flat_map-append f (take (i + 1) items) (drop (i + 1) items)) ∙ ap (flat_map f) (take-append-drop (i + 1) items) in
+      subst (Breaks contents p r) (ap (λ l. l ++ rest) (sym (one_more f items i item is)) ∙ whole) (breaks_stop rest (breaks_then before broken))
 
-pub all_added : {A : Type 0} {a b : Option (List ℕ)} {x y : List ℕ} (f : A → List ℕ) (items : List A) (i : ℕ) → length items ≤ i
-    → Adds a x b y (flat_map f (take i items)) → Adds a x b y (flat_map f items)
-all_added {A} {a} {b} {x} {y} f items i le h = subst (λ l. Adds a x b y (flat_map f l)) (take_all i items le) h
+  pub all_added : {A : Type 0} {p q : PieceWriter W} (f : A → List ℕ) (items : List A) (i : ℕ) → length items ≤ i
+      → Adds contents p q (flat_map f (take i items)) → Adds contents p q (flat_map f items)
+  all_added {A} {p} {q} f items i le h = subst (λ l. Adds contents p q (flat_map f l)) (take_all i items le) h
 
 -- ---- pieces of pieces
 

@@ -12,19 +12,23 @@ use Rattle.rrd_spec.specs.Files.Filed.{Filed, Header, Source}
 use Rattle.rrd_spec.specs.Files.Rebuilding.{IsHeader, MayCell, MayHead, MayPrep, MaySource, begun, due, limits, with_cell, with_head, with_prep, with_source}
 use Rattle.rrd_file.specs.declared.fault.FileFault.{FileFault}
 use Rattle.rrd_file.specs.declared.fault.FileFault.TheVariants.{NotOurs, Version as WrongVersion, BadBlock, BadEntry}
-use Rattle.std.specs.Prelude.{Some}
+use Rattle.std.specs.Prelude.{Bool, Some, false, not, true}
+use Rattle.std.specs.Cmp.Lexicographic.{pointwise}
+use Rattle.std.proofs.lemmas.Bool.Decides.{Decides-eqb}
+use Rattle.std.proofs.lemmas.Slice.Eq.{slice_eq-Decides}
+use lib.Dec.{eqb}
 use Rattle.rrd_file.specs.Faults.{Front, IsBad, IsFault, IsTrailing, IsWhole, bad_in_body}
-use Rattle.rrd_file.specs.Decoding.Input.{Gives, Input, IsCut, left}
+use Rattle.rrd_file.specs.Reader.{Gives, Input, IsCut, left}
 use Rattle.rrd_file.specs.Layout.Pieces.{Mark, OfArchive, OfCell, OfHeader, OfPrep, OfSource, OfVersion, Piece, spell, version_number}
-use Rattle.rrd_file.specs.Layout.Values.{four_bytes, two_bytes}
+use Rattle.rrd_file.specs.Layout.Values.{two_bytes}
 use Rattle.rrd_file.specs.Stages.{Body, Marked, Stage, Start, Takes, Versioned, body_size, header_size, size}
-use Rattle.rrd_file.specs.Decoding.Progress.{Stands}
-use Rattle.rrd_file.specs.Decoding.Faults.{fault_in_block, fault_in_entry}
-use Rattle.rrd_file.specs.Decoding.Values.{FitsArchive, FitsCell, FitsHeader, FitsPart, FitsSource}
+use Rattle.rrd_file.specs.Progress.{Stands}
+use Rattle.rrd_file.specs.Refusals.{fault_in_block, fault_in_entry}
+use Rattle.rrd_file.specs.Layout.Fitting.{FitsArchive, FitsCell, FitsHeader, FitsPart, FitsSource}
 use Rattle.rrd_file.proofs.OneSpelling.{archive_fits, cell_fits, header_fits, prep_fits, source_fits}
 use Rattle.rrd_file.proofs.Reached.{cut, refused, taken}
 use Rattle.rrd_file.proofs.Sound.{IsSound, reached_sound, small_limits}
-use Rattle.rrd_file.proofs.Spelled.{archive_one, cell_one, four_one, header_one, part_one, source_one, two_one}
+use Rattle.rrd_file.proofs.Spelled.{archive_one, cell_one, header_one, part_one, source_one, two_one}
 use Rattle.rrd_file.proofs.Ways.{Step, ToMark, ToVersion, ToHeader, ToSource, ToHead, ToPrep, ToCell, ToEntry, step_of}
 
 -- ---- refusals
@@ -39,26 +43,37 @@ entry_refusal_is bytes number refusal.OutOfMemory h = tt
 
 -- ---- the mark
 
+was_same : (b : Bool) → false ≡ not b → b ≡ true
+was_same true e = refl
+was_same false e = absurd cc
+
+was_other : (b : Bool) → true ≡ not b → b ≡ true → ⊥
+was_other true e h = absurd cc
+was_other false e h = absurd cc
+
+-- the bytes are compared by `!=`
+pub same_bytes : (xs ys : List ℕ) → false ≡ not (pointwise eqb xs ys) → xs ≡ ys
+same_bytes xs ys e = (slice_eq-Decides Decides-eqb xs ys _ refl).0 (was_same _ e)
+
+pub other_bytes : (xs ys : List ℕ) → true ≡ not (pointwise eqb xs ys) → xs ≢ ys
+other_bytes xs ys e same = was_other _ e ((slice_eq-Decides Decides-eqb xs ys _ refl).1 same)
+
 pub cut_mark : (bytes : List ℕ) (old : Input) (n : ℕ) (fault : FileFault) → n ≡ 4 → Stands bytes Start old → IsCut old n fault → IsFault bytes fault
 unfolding size
 cut_mark bytes old n fault len st c = cut bytes Start n old fault st (sym len) c
 
-mark_is : spell Mark ≡ four_bytes 1381123145
-unfolding spell
-mark_is = refl
-
-pub mark_taken : (bytes piece : List ℕ) (old new : Input) (letters : ℕ) → Stands bytes Start old → Gives old piece new → four_bytes letters ≡ piece → letters ≡ 1381123145 → Stands bytes Marked new
+pub mark_taken : (bytes piece : List ℕ) (old new : Input) → Stands bytes Start old → Gives old piece new → piece ≡ spell Mark → Stands bytes Marked new
 unfolding Takes
-mark_taken bytes piece old new letters st g is same = taken bytes Start Marked Mark piece old new st g (mark_is ∙ ap (λ n. four_bytes n) (sym same) ∙ is) refl
+mark_taken bytes piece old new st g is = taken bytes Start Marked Mark piece old new st g (sym is) refl
 
 mark_step : {q : Piece} {n : Stage} → Step Start q n → q ≡ Mark
 mark_step ToMark = refl
 
-pub mark_refused : (bytes piece : List ℕ) (old new : Input) (letters : ℕ) → Stands bytes Start old → Gives old piece new → length piece ≡ 4 → four_bytes letters ≡ piece → letters < 2 ^ 32 → letters ≢ 1381123145 → IsBad bytes NotOurs
+pub mark_refused : (bytes piece : List ℕ) (old new : Input) → Stands bytes Start old → Gives old piece new → length piece ≡ 4 → piece ≢ spell Mark → IsBad bytes NotOurs
 unfolding size
-mark_refused bytes piece old new letters st g len is small never =
+mark_refused bytes piece old new st g len never =
     refused bytes Start piece old new NotOurs st g (sym len) (omega (arith, len))
-    (λ q n t e. never (four_one letters 1381123145 small (omega arith) (is ∙ sym e ∙ ap spell (mark_step (step_of Start q n t)) ∙ mark_is))) refl
+    (λ q n t e. never (sym e ∙ ap spell (mark_step (step_of Start q n t)))) refl
 
 -- ---- the version
 
@@ -77,21 +92,16 @@ version_taken version bytes piece old new number st g is same = taken bytes Mark
 version_step : {q : Piece} {n : Stage} → Step Marked q n → (version : Version) × (q ≡ OfVersion version)
 version_step (ToVersion v) = (v, refl)
 
--- a number that is none of theirs
-pub no_version : (number : ℕ) → (number ≡ 1 → ⊥) → (number ≡ 2 → ⊥) → (version : Version) → number ≢ version_number version
-no_version number a b One e = a e
-no_version number a b Two e = b e
-
 small_number : (version : Version) → version_number version < 2 ^ 16
 small_number One = omega arith
 small_number Two = omega arith
 
-pub version_refused : (bytes piece : List ℕ) (old new : Input) (number : ℕ) → Stands bytes Marked old → Gives old piece new → length piece ≡ 2 → two_bytes number ≡ piece → number < 2 ^ 16 → ((version : Version) → number ≢ version_number version) → IsBad bytes WrongVersion
+pub version_refused : (bytes piece : List ℕ) (old new : Input) (number : ℕ) → Stands bytes Marked old → Gives old piece new → length piece ≡ 2 → two_bytes number ≡ piece → number < 2 ^ 16 → ((version : Version) → version_number version ≢ number) → IsBad bytes WrongVersion
 unfolding size
 version_refused bytes piece old new number st g len is small never =
     refused bytes Marked piece old new WrongVersion st g (sym len) (omega (arith, len))
     (λ q n t e. let v = version_step (step_of Marked q n t) in
-    never v.0 (two_one number (version_number v.0) small (small_number v.0) (is ∙ sym e ∙ ap spell v.1 ∙ version_is v.0))) refl
+    never v.0 (sym (two_one number (version_number v.0) small (small_number v.0) (is ∙ sym e ∙ ap spell v.1 ∙ version_is v.0)))) refl
 
 -- ---- the header
 

@@ -10,17 +10,18 @@ use Rattle.rrd_spec.specs.declared.outline.Outline.{Outline}
 use Rattle.rrd_spec.specs.declared.settings.DsDef.{DsDef}
 use Rattle.rrd_spec.specs.declared.settings.RraDef.{RraDef}
 use Rattle.rrd_spec.specs.Files.Filed.{Filed}
-use Rattle.rrd_spec.specs.Limits.{Limits}
+use Rattle.rrd_spec.specs.Limits.{Limits, limits_of}
 use Rattle.rrd_spec.specs.Journal.Fitting.{IsSourceBefore}
 use Rattle.rrd_spec.specs.Validity.{IsPart}
 use Rattle.rrd_spec.specs.Files.Rebuilding.{limits, outline_left}
+use Rattle.rrd_base.specs.Rebuild.Judges.{Judge, judge}
 use Rattle.rrd_file.specs.declared.fault.FileFault.TheVariants.{BadEntry}
 use Rattle.rrd_file.specs.Faults.{IsBad}
-use Rattle.rrd_file.specs.Decoding.Input.{Gives, Input}
+use Rattle.rrd_file.specs.Reader.{Gives, Input}
 use Rattle.rrd_file.specs.Layout.Pieces.{OfArchive, OfCell, OfCount, OfNumber, OfPrep, OfRawAndPart, OfRows, OfSourceBefore, OfTime, Piece, spell}
 use Rattle.rrd_file.specs.Stages.{BeforeDue, CountDue, DueInEntry, Keeps, NamedDue, NumberDue, OldRowsDue, RemovedHeadDue, RemovedNumberDue, RowCellDue, RowPrepDue, RowsDue, TimeDue, Within, behind, size_due}
-use Rattle.rrd_file.specs.Decoding.Progress.{Comes}
-use Rattle.rrd_file.specs.Decoding.Values.{FitsArchive, FitsCell, FitsPart, FitsRaw, FitsSourceBefore}
+use Rattle.rrd_file.specs.Progress.{Comes}
+use Rattle.rrd_file.specs.Layout.Fitting.{FitsArchive, FitsCell, FitsPart, FitsRaw, FitsSourceBefore}
 use Rattle.rrd_file.proofs.Coming.{came, inside, wrong}
 use Rattle.rrd_file.proofs.OneSpelling.{archive_fits, cell_fits, def_fits, part_fits, raw_fits}
 use Rattle.rrd_file.proofs.Sound.{AreSmall, AreSound, HasSomeSteps, IsSound, IsSoundDue, reached_sound, small_limits}
@@ -86,6 +87,13 @@ sound_within bytes f pieces d later input c =
     let front = (inside bytes f pieces d later input c).front in
     let sound = reached_sound front.pieces (Within f pieces (d ∷ later)) front.runs in
     record { here_is = here f sound.0; due_is = sound.1.0 }
+
+-- it keeps to its rule by what judges entries of the file
+pub judged : (f : Filed) (j : Judge) (d : DueInEntry) (p : Piece) → j ≡ judge f → Keeps (limits_of j.version) j.step j.outline d p → Keeps (limits f) f.header.step (outline_left f) d p
+judged f j d p e keeps = subst (λ (k : Judge). Keeps (limits_of k.version) k.step k.outline d p) e keeps
+
+pub judges : (f : Filed) (j : Judge) (d : DueInEntry) (p : Piece) → j ≡ judge f → Keeps (limits f) f.header.step (outline_left f) d p → Keeps (limits_of j.version) j.step j.outline d p
+judges f j d p e keeps = subst (λ (k : Judge). Keeps (limits_of k.version) k.step k.outline d p) (sym e) keeps
 
 -- it keeps to its rule
 pub kept : (bytes : List ℕ) (f : Filed) (pieces : List Piece) (d : DueInEntry) (later : List DueInEntry) (old new : Input) (p : Piece) (piece : List ℕ)

@@ -19,7 +19,7 @@ use Rattle.rrd_spec.specs.Files.Rebuilding.{MayEntry, limits, outline_left}
 use Rattle.rrd_spec.specs.Validity.{IsRow}
 use Rattle.rrd_file.specs.Layout.{entry_pieces, raws_and_parts, row_pieces, saved_pieces}
 use Rattle.rrd_file.specs.Layout.Pieces.{Piece, Mark, OfArchive, OfCell, OfCount, OfNumber, OfPrep, OfRawAndPart, OfRows, OfSourceBefore, OfTag, OfTime, AnUpdate, ATune, AResize, AnAddition, ARemoval}
-use Rattle.rrd_file.specs.Decoding.Journal.{AreSavedShaped, IsRemovedShaped, IsShaped, IsUpdateShaped}
+use Rattle.rrd_file.specs.Journal.{AreSavedShaped, IsRemovedShaped, IsShaped, IsUpdateShaped}
 use Rattle.rrd_file.proofs.Spelled.{append_same}
 use Rattle.rrd_file.proofs.Told.{accepted_length, length_before}
 

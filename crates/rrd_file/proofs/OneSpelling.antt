@@ -30,7 +30,7 @@ use Rattle.rrd_spec.specs.Commands.Verdict.{is_crossed, is_far}
 use Rattle.rrd_file.specs.Layout.Pieces.{Piece, OfVersion, OfHeader, OfSource, OfArchive, OfPrep, OfCell, Tag, OfTag, AnUpdate, ATune, AResize, AnAddition, ARemoval, OfTime, OfRawAndPart, OfRows, OfCount, OfSourceBefore, OfNumber, header_bytes, spell, tag_byte, version_number}
 use Rattle.rrd_file.specs.Layout.Values.{two_bytes}
 use Rattle.rrd_file.specs.Stages.{Stage, Start, DueInEntry, Runs, Takes}
-use Rattle.rrd_file.specs.Decoding.Values.{counts, FitsArchive, FitsBound, FitsCell, FitsDef, FitsHeader, FitsSourceBefore, FitsPart, FitsRaw, FitsSource}
+use Rattle.rrd_file.specs.Layout.Fitting.{counts, FitsArchive, FitsBound, FitsCell, FitsDef, FitsHeader, FitsSourceBefore, FitsPart, FitsRaw, FitsSource}
 use Rattle.rrd_file.proofs.Order.{prep_before}
 use Rattle.rrd_file.proofs.Ways.{Step, ToMark, ToVersion, ToHeader, ToSource, ToHead, ToPrep, ToCell, ToEntry, ToPiece, Way, ByTime, ByRawAndPart, ByRowPrep, ByRows, ByRowCell, ByCount, ByNamed, ByNumber, ByOldRows, ByRemovedNumber, ByRemovedHead, step_of}
 use Rattle.rrd_file.proofs.Sound.{AreSmall, AreSound, HasSomeSteps, IsSound, IsSoundDue, IsSoundStage, reached_sound, small_limits}

@@ -10,10 +10,10 @@ use Rattle.rrd_spec.specs.declared.due.Due.TheVariants.{CellDue}
 use Rattle.rrd_file.specs.declared.fault.FileFault.{FileFault}
 use Rattle.rrd_file.specs.declared.fault.FileFault.TheVariants.{NotOurs, Version, Truncated, BadBlock, BadEntry, Trailing, Read, OutOfMemory}
 use Rattle.rrd_file.specs.Faults.{Front, IsBad, IsFault, bad_at}
-use Rattle.rrd_file.specs.Decoding.Input.{Advances, Gives, Input, IsCut, left}
+use Rattle.rrd_file.specs.Reader.{Advances, Gives, Input, IsCut, left}
 use Rattle.rrd_file.specs.Layout.Pieces.{Piece, spell}
 use Rattle.rrd_file.specs.Stages.{Runs, Stage, Start, Takes, size}
-use Rattle.rrd_file.specs.Decoding.Progress.{Stands}
+use Rattle.rrd_file.specs.Progress.{Stands}
 
 -- ---- one piece more
 

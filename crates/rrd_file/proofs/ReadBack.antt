@@ -9,7 +9,7 @@ use Rattle.rrd_spec.specs.declared.settings.RraDef.{RraDef}
 use Rattle.rrd_spec.specs.declared.entry.SourceBefore.{SourceBefore}
 use Rattle.rrd_file.specs.Layout.Pieces.{OfSourceBefore, OfArchive, OfHeader, OfSource, OfRawAndPart, count_bytes, spell}
 use Rattle.rrd_file.specs.Stages.{header_size}
-use Rattle.rrd_file.specs.Decoding.Values.{FitsSourceBefore, FitsArchive, FitsDef, FitsNumber, FitsSource}
+use Rattle.rrd_file.specs.Layout.Fitting.{FitsSourceBefore, FitsArchive, FitsDef, FitsNumber, FitsSource}
 use Rattle.rrd_spec.specs.declared.version.Version.{Version}
 use Rattle.rrd_spec.specs.Files.Filed.{Source}
 use Rattle.rrd_file.proofs.Spelled.{append_same, header_parts, short_fit}

@@ -7,11 +7,11 @@ use Rattle.rrd_fixed.specs.declared.cell.Cell.TheVariants.{Unknown}
 use Rattle.rrd_ring.specs.Rows.{HasWidth, nth_row, unknown_rows, with_row}
 use Rattle.rrd_spec.specs.Files.Filed.{Filed}
 use Rattle.rrd_spec.specs.Files.Rebuilding.{outline_left}
-use Rattle.rrd_file.specs.Decoding.Input.{Input}
+use Rattle.rrd_file.specs.Reader.{Input}
 use Rattle.rrd_file.specs.Layout.{row_pieces}
 use Rattle.rrd_file.specs.Layout.Pieces.{OfCell, Piece}
 use Rattle.rrd_file.specs.Stages.{DueInEntry, RowCellDue, cells_due}
-use Rattle.rrd_file.specs.Decoding.Progress.{Comes}
+use Rattle.rrd_file.specs.Progress.{Comes}
 use Rattle.rrd_file.proofs.Turns.{more_row, no_cells, row_less, taken_all}
 
 unknown_many : (n width : ℕ) → length (unknown_rows n width) ≡ n

@@ -24,7 +24,7 @@ use Rattle.rrd_spec.specs.declared.version.Version.TheVariants.{One, Two}
 use Rattle.rrd_spec.specs.Files.Filed.{Header, Source}
 use Rattle.rrd_file.specs.Layout.Pieces.{count_bytes, header_bytes}
 use Rattle.rrd_file.specs.Layout.Values.{archive_bytes, bound_bytes, bound_number, cell_bytes, eight_bytes, four_bytes, function_byte, kind_byte, least, name_bytes, part_bytes, raw_bytes, raw_number, signed_bytes, source_bytes, two_bytes}
-use Rattle.rrd_file.specs.Decoding.Values.{counts, FitsArchive, FitsBound, FitsCell, FitsDef, FitsHeader, FitsSourceBefore, FitsNumber, FitsPart, FitsRaw, FitsSource}
+use Rattle.rrd_file.specs.Layout.Fitting.{counts, FitsArchive, FitsBound, FitsCell, FitsDef, FitsHeader, FitsSourceBefore, FitsNumber, FitsPart, FitsRaw, FitsSource}
 use Rattle.rrd_file.proofs.SignedBytes.{signed_length, signed_one}
 use Rattle.rrd_file.proofs.Lengths.{name_length, source_length}
 use Rattle.rrd_file.proofs.Tests.{and_left}

@@ -1,15 +1,14 @@
 -- An archive's rows in the order of its slots: those from the place of the first slot on, and then those before it.
-use Rattle.std.proofs.Common.{◌≡◌, ◌∙◌, ◌+◌, ◌-◌, ◌%◌, ◌/◌, ◌*◌, ◌<◌, ◌≤◌, ◌⊎◌, ◌++◌, ℕ, zero, suc, List, [], Some, sym, ap, arith, inl, inr, length, get_or, take, drop, map, min, replicate, length-append, length-drop, append-nil}
+use Rattle.std.proofs.Common.{◌≡◌, ◌∙◌, ◌+◌, ◌-◌, ◌%◌, ◌/◌, ◌*◌, ◌<◌, ◌≤◌, ◌⊎◌, ◌++◌, ℕ, zero, suc, List, [], Some, sym, ap, arith, inl, inr, length, get_or, take, drop, map, min, replicate, length-append, length-drop}
 use Rattle.std.specs.Prelude.{slice_get}
 use Rattle.std.specs.List.{flat_map, range_with_len, slice_range}
 use Rattle.std.proofs.Math.Seq.{drop-drop, take-add, take-take}
 use Rattle.std.proofs.lemmas.Bool.{cases_lt}
 use Rattle.std.proofs.lemmas.Grind.{flat_map-append}
-use Rattle.std.proofs.lemmas.List.{drop-replicate, drop-take, ext_get_or, get_or-append_right, get_or-drop, get_or-take, get_or_append_left, length-map, length-take, map-append, replicate-append-replicate, take-replicate, take_rest}
+use Rattle.std.proofs.lemmas.List.{drop-replicate, drop-take, ext_get_or, get_or-append_right, get_or-drop, get_or-take, get_or_append_left, length-map, length-take, map-append, replicate-append-replicate, take-replicate, take_all, take_rest}
 use Rattle.std.proofs.lemmas.List.Concat.{flat_map-cons}
 use Rattle.std.proofs.lemmas.List.Folds.{flat_map-map}
 use Rattle.std.proofs.lemmas.List.FromFn.{get_or-map-range_with_len, length-range_with_len}
-use Rattle.std.proofs.lemmas.Option.{slice_get-get_or}
 use native.Mathlib.Nat as nat
 use Rattle.rrd_fixed.specs.declared.cell.Cell.{Cell}
 use Rattle.rrd_fixed.specs.declared.cell.Cell.TheVariants.{Unknown}
@@ -22,6 +21,7 @@ use Rattle.rrd_spec.specs.Validity.{IsValid}
 use Rattle.rrd_file.specs.Layout.{row_pieces, spelled}
 use Rattle.rrd_file.specs.Layout.Pieces.{OfCell, spell}
 use Rattle.rrd_file.proofs.CellsFiled.{IsDefOf, cells_spelled, rows_are, same_def, small_def, some_size}
+use Rattle.rrd_file.proofs.CellRuns.{cells_bytes, spelled_so}
 use Rattle.rrd_file.proofs.Gathering.{flat_flat}
 
 -- ---- the place of a slot, from that of the first
@@ -91,7 +91,7 @@ rows_joined xs ys =
     ap spelled (flat_map-append (λ (row : List Cell). map OfCell row) xs ys)
     ∙ flat_map-append spell (row_pieces xs) (row_pieces ys)
 
-rows_spelled : (rows : List (List Cell)) → spelled (map OfCell (flat_map (λ (row : List Cell). row) rows)) ≡ spelled (row_pieces rows)
+pub rows_spelled : (rows : List (List Cell)) → spelled (map OfCell (flat_map (λ (row : List Cell). row) rows)) ≡ spelled (row_pieces rows)
 rows_spelled rows = cells_spelled (λ (row : List Cell). row) rows ∙ sym (flat_flat spell (λ (row : List Cell). map OfCell row) rows)
 
 -- an archive's cells, slot by slot, in two runs of rows
@@ -170,18 +170,17 @@ run_spelled rows unwritten from to sources is =
 
 -- ---- a run of rows, one after another
 
-pub in_run : (rows : List (List Cell)) (from to place : ℕ) → from ≤ place → place < to → to ≤ length rows → slice_get (slice_range rows from to) (place - from) ≡ Some (get_or rows place [])
-in_run rows from to place after before within =
-    let part = take (to - from) (drop from rows) in
-    let size : length part ≡ to - from = omega (arith, length-take (to - from) (drop from rows), length-drop from rows, within) in
-    let back : from + (place - from) ≡ place = omega (arith, after) in
-    slice_get-get_or part (place - from) [] (omega (arith, size, after, before))
-    ∙ ap (λ (row : List Cell). Some row) (get_or-take (to - from) (drop from rows) (place - from) [] (omega (arith, after, before)) ∙ get_or-drop from rows (place - from) [] ∙ ap (λ k. get_or rows k []) back)
+pub rows_on : (rows : List (List Cell)) (from place n : ℕ) → from ≤ place → spelled (row_pieces (take (place - from) (drop from rows))) ++ spelled (row_pieces (take n (drop place rows))) ≡ spelled (row_pieces (take (place + n - from) (drop from rows)))
+rows_on rows from place n after =
+    let m = place - from in
+    let back : from + m ≡ place = omega (arith, after) in
+    let all : m + n ≡ place + n - from = omega (arith, after) in
+    let parts : take (m + n) (drop from rows) ≡ take m (drop from rows) ++ take n (drop place rows) = take-add m n (drop from rows) ∙ ap (λ l. take m (drop from rows) ++ take n l) (drop-drop m from rows ∙ ap (λ k. drop k rows) back) in
+    sym (rows_joined (take m (drop from rows)) (take n (drop place rows))) ∙ ap (λ l. spelled (row_pieces l)) (sym parts) ∙ ap (λ k. spelled (row_pieces (take k (drop from rows)))) all
 
-pub run_length : (rows : List (List Cell)) (from to place : ℕ) → to ≤ place → length (slice_range rows from to) ≤ place - from
-run_length rows from to place past = omega (arith, length-take (to - from) (drop from rows), past)
+pub all_rows : (rows : List (List Cell)) (count : ℕ) → count ≡ length rows → spelled (row_pieces (slice_range rows 0 count)) ≡ spelled (row_pieces rows)
+all_rows rows count is = ap (λ l. spelled (row_pieces l)) (take_all (count - 0) rows (omega (arith, is)))
 
-pub unknown_next : (n : ℕ) → unknown n ++ spell (OfCell Unknown) ≡ unknown (n + 1)
-unknown_next n =
-    let one : unknown 1 ≡ spell (OfCell Unknown) = flat_map-cons spell (OfCell Unknown) [] ∙ append-nil (spell (OfCell Unknown)) in
-    ap (λ l. unknown n ++ l) (sym one) ∙ unknown_more n 1
+-- so many unknown cells more
+pub unknown_on : (done n : ℕ) → unknown done ++ cells_bytes (replicate n Unknown) ≡ unknown (done + n)
+unknown_on done n = ap (λ l. unknown done ++ l) (sym (spelled_so (replicate n Unknown))) ∙ unknown_more done n

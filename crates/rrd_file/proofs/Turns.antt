@@ -21,7 +21,7 @@ use Rattle.rrd_spec.specs.Files.Filed.{Filed}
 use Rattle.rrd_spec.specs.Files.Rebuilding.{due, rows_in_all, with_entry}
 use Rattle.rrd_file.specs.Layout.{raws_and_parts, row_pieces}
 use Rattle.rrd_file.specs.Layout.Pieces.{OfCell, OfPrep, OfRawAndPart, Piece}
-use Rattle.rrd_file.specs.Decoding.Journal.{AreSavedShaped, IsSavedShaped}
+use Rattle.rrd_file.specs.Journal.{AreSavedShaped, IsSavedShaped}
 use Rattle.rrd_file.specs.Stages.{DueInEntry, NamedDue, RowCellDue, cells_due, named_due}
 use Rattle.rrd_file.proofs.Order.{before_entry}
 

@@ -19,7 +19,7 @@ use Rattle.rrd_file.specs.declared.fault.FileFault.TheVariants.{NotOurs, Version
 use Rattle.rrd_file.specs.Faults.{IsAnswer, IsFile}
 use Rattle.rrd_file.specs.Layout.{entry_pieces, layout, layout_in}
 use Rattle.rrd_file.specs.Layout.Pieces.{Piece, OfSource, OfArchive, OfPrep, OfCell, OfRawAndPart, OfSourceBefore, spell}
-use Rattle.rrd_file.specs.Decoding.Values.{FitsArchive, FitsCell, FitsSourceBefore, FitsPart, FitsRaw, FitsSource}
+use Rattle.rrd_file.specs.Layout.Fitting.{FitsArchive, FitsCell, FitsSourceBefore, FitsPart, FitsRaw, FitsSource}
 use Rattle.rrd_file.specs.Stages.{Runs, Stage, Start, Takes, size}
 
 -- a piece that may come has as many bytes as are due

@@ -12,6 +12,7 @@ use Rattle.rrd_spec.specs.Limits.{newest}
 use Rattle.rrd_file.specs.Layout.Pieces.{Piece, Mark, OfVersion, OfHeader, OfSource, OfArchive, OfPrep, OfCell, OfTag, OfTime, OfRawAndPart, OfRows, OfCount, OfSourceBefore, OfNumber, AnUpdate, ATune, AResize, AnAddition, ARemoval, spell}
 pub mod Values
 pub mod Pieces
+pub mod Fitting
 
 -- ---- the body
 

@@ -3,5 +3,10 @@ pub mod Stages
 pub mod Faults
 pub mod Laws
 pub mod Examples
-pub mod Encoding
-pub mod Decoding
+pub mod Refusals
+pub mod Writer
+pub mod Reader
+pub mod Said
+pub mod Progress
+pub mod Journal
+pub mod Length

@@ -1,0 +1,41 @@
+use Rattle.std.proofs.Common.{◌≡◌, ◌∙◌, ◌+◌, ◌-◌, ◌<◌, ◌≤◌, ◌++◌, ◌∷◌, [], List, sym, ap, arith, length-append, length, map, replicate, subst, rules}
+use Rattle.std.proofs.lemmas.Result.{err_from_is_err_and}
+use Rattle.rrd_fold.specs.Bounds.{Consolidating}
+use Rattle.rrd_spec.specs.Preparations.{AllOf, parts_in}
+use Rattle.rrd_spec.specs.Files.Rebuilding.{outline_left}
+use Rattle.rrd_file.specs.Layout.Pieces.{OfPrep, Piece}
+use Rattle.rrd_file.specs.Stages.{DueInEntry, RowPrepDue}
+use Rattle.rrd_file.specs.Progress.{Comes}
+use Rattle.rrd_file.proofs.Turns.{all_more, more_preps, none_less, one_less}
+use Rattle.rrd_file.proofs.archive.read_row_preps.Goals as goal
+
+pub returns-in_err-prep-clause-brings : goal.returns-in_err-prep-clause-brings
+returns-in_err-prep-clause-brings g c = λ bytes pieces later st.
+    let p = err_from_is_err_and c.from_residual.result c.from_residual.ensures.1 in
+    let wide = length (outline_left c.args.build.now).sources in
+    let i = c.loop.counter in
+    let more : i < wide = search rules in
+    rw (p.1, p.2) (c.in_err-prep.ensures.brings bytes (pieces ++ map OfPrep (parts_in c.loop.preps.items)) (replicate (wide - (i + 1)) (RowPrepDue c.args.last c.args.def.now) ++ later)
+    (subst (λ (l : List DueInEntry). Comes bytes c.args.build.now (pieces ++ map OfPrep (parts_in c.loop.preps.items)) l c.loop.input) (one_less (RowPrepDue c.args.last c.args.def.now) wide i later more) (c.loop.invariant.2 bytes pieces later st)))
+
+pub loop-preserved : goal.loop-preserved
+loop-preserved g c =
+    let wide = length (outline_left c.args.build.now).sources in
+    let i = c.loop.counter in
+    let more : i < wide = search rules in
+    let preps = c.loop.preps.items in
+    let prep = c.in_ok-prep.prep in
+    let items : c.push.new.self.items ≡ preps ++ prep ∷ [] = search rules in (
+      omega (arith, ap length items, length-append preps (prep ∷ []), c.loop.invariant.0),
+      subst (AllOf c.args.def.now.function) (sym items) (all_more c.args.def.now.function preps prep c.loop.invariant.1 c.in_ok-prep.ensures.function),
+      λ bytes pieces later st.
+          subst (λ (l : List Piece). Comes bytes c.args.build.now l (replicate (wide - (i + 1)) (RowPrepDue c.args.last c.args.def.now) ++ later) c.read_row_prep.new.input) (more_preps pieces preps prep ∙ ap (λ (l : List Consolidating). pieces ++ map OfPrep (parts_in l)) (sym items))
+          (c.in_ok-prep.ensures.brings bytes (pieces ++ map OfPrep (parts_in preps)) (replicate (wide - (i + 1)) (RowPrepDue c.args.last c.args.def.now) ++ later)
+          (subst (λ (l : List DueInEntry). Comes bytes c.args.build.now (pieces ++ map OfPrep (parts_in preps)) l c.loop.input) (one_less (RowPrepDue c.args.last c.args.def.now) wide i later more) (c.loop.invariant.2 bytes pieces later st))),
+    )
+
+pub returns-clause-brings : goal.returns-clause-brings
+returns-clause-brings g c = λ bytes pieces later st.
+    let wide = length (outline_left c.args.build.now).sources in
+    let past : wide ≤ c.loop.counter = search rules in
+    subst (λ (l : List DueInEntry). Comes bytes c.args.build.now (pieces ++ map OfPrep (parts_in c.loop.preps.items)) l c.loop.input) (none_less (RowPrepDue c.args.last c.args.def.now) wide c.loop.counter later past) (c.loop.invariant.2 bytes pieces later st)

@@ -1,0 +1,15 @@
+use Rattle.std.proofs.Common.{◌≡◌, ◌++◌, ◌-◌, ℕ, List, length, map, replicate}
+use Rattle.rrd_spec.specs.Preparations.{AllOf, parts_in}
+use Rattle.rrd_spec.specs.Files.Rebuilding.{outline_left}
+use Rattle.rrd_file.specs.Layout.Pieces.{OfPrep, Piece}
+use Rattle.rrd_file.specs.Stages.{DueInEntry, RowPrepDue}
+use Rattle.rrd_file.specs.Progress.{Comes}
+use Rattle.rrd_file.proofs.archive.read_row_preps.Given as goal
+
+abbrev pub invariant-loop : goal.invariant-loop
+invariant-loop g l =
+    (length l.preps.items ≡ l.counter)
+    × AllOf l.def.function l.preps.items
+    × ((bytes : List ℕ) (pieces : List Piece) (later : List DueInEntry)
+    → Comes bytes l.build pieces (replicate (length (outline_left l.build).sources) (RowPrepDue l.last l.def) ++ later) l.fn.input
+    → Comes bytes l.build (pieces ++ map OfPrep (parts_in l.preps.items)) (replicate (length (outline_left l.build).sources - l.counter) (RowPrepDue l.last l.def) ++ later) l.input)

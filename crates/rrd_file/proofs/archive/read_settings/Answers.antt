@@ -1,0 +1,27 @@
+use Rattle.std.proofs.Common.{◌≡◌, ◌∙◌, sym, ap, length, rules}
+use Rattle.std.proofs.lemmas.Result.{err_from_is_err_and}
+use Rattle.rrd_file.specs.Stages.{body_size}
+use Rattle.rrd_file.proofs.Judged.{cut_body, head_refused, head_taken, head_unread, refusal_is}
+use Rattle.rrd_file.proofs.archive.read_settings.Goals as goal
+
+pub returns-in_err-piece-clause-steps : goal.returns-in_err-piece-clause-steps
+returns-in_err-piece-clause-steps g c = λ bytes st.
+    let p = err_from_is_err_and c.from_residual.result c.from_residual.ensures.1 in
+    let len : length c.piece.new.piece ≡ 13 = search rules in
+    rw (p.1, p.2) (cut_body bytes c.args.build.now c.args.input.now _ _ (ap body_size c.requires ∙ sym len) st c.in_err-piece.ensures.read)
+
+pub returns-in_default-clause-steps : goal.returns-in_default-clause-steps
+returns-in_default-clause-steps g c = λ bytes st.
+    let len : length c.piece.new.piece ≡ 13 = search rules in
+    rw c.at-at.ensures (head_unread bytes c.piece.new.piece c.args.input.now c.piece.new.self c.args.build.now c.requires st c.in_ok-piece.ensures.read len (c.archive_of.ensures.none (search rules)))
+
+pub returns-in-Ok-clause-steps : goal.returns-in-Ok-clause-steps
+returns-in-Ok-clause-steps g c = λ bytes st.
+    let len : length c.piece.new.piece ≡ 13 = search rules in
+    head_taken bytes c.piece.new.piece c.args.input.now c.piece.new.self c.args.build.now c.archive.new.self c.in-Some.def st c.in_ok-piece.ensures.read c.in-Some.ensures.some.1 c.in-Ok.ensures.ok
+
+pub returns-in-Err-clause-steps : goal.returns-in-Err-clause-steps
+returns-in-Err-clause-steps g c = λ bytes st.
+    let len : length c.piece.new.piece ≡ 13 = search rules in
+    rw (c.block_fault.ensures, c.at-at.ensures) (refusal_is bytes c.args.input.now.at c.in-Err.fault (λ e.
+    head_refused bytes c.piece.new.piece c.args.input.now c.piece.new.self c.args.build.now c.in-Some.def c.requires st c.in_ok-piece.ensures.read len c.in-Some.ensures.some.1 c.in-Some.ensures.some.0 (c.in-Err.ensures.bad e)))

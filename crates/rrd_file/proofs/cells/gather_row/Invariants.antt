@@ -1,0 +1,8 @@
+use Rattle.std.proofs.Common.{◌≡◌, ◌≤◌, length}
+use Rattle.std.specs.Io.KnownBytes.{Keeps}
+use Rattle.rrd_file.specs.Reader.{left}
+use Rattle.rrd_file.proofs.cells.gather_row.Given as goal
+
+abbrev pub invariant-loop-before : goal.invariant-loop-before
+invariant-loop-before g l =
+    Keeps (left l.initial.input) (left l.input) × (l.input.at ≡ l.initial.input.at) × (length l.initial.input.waiting ≤ length l.input.waiting)

@@ -1,0 +1,15 @@
+use Rattle.std.proofs.Common.{◌-◌, ◌^◌, ℕ, List}
+use Rattle.rrd_file.specs.Stages.{Body}
+use Rattle.rrd_file.specs.Progress.{Stands}
+use Rattle.rrd_file.proofs.Reached.{CellCame}
+use Rattle.rrd_file.proofs.cells.read_cells.Given as goal
+
+abbrev pub invariant-loop-input : goal.invariant-loop-input
+invariant-loop-input g l =
+    record {
+      steps : (bytes : List ℕ) → Stands bytes (Body l.fn.build) l.fn.input → Stands bytes (Body l.build) l.input;
+      came : CellCame l.build l.fn.input l.input;
+    }
+
+abbrev pub decreases-loop-input : goal.decreases-loop-input
+decreases-loop-input g l = 2 ^ 64 - l.input.at

@@ -1,0 +1,13 @@
+use Rattle.std.proofs.Common.{rules}
+use Rattle.std.proofs.lemmas.Result.{err_from_is_err_and}
+use Rattle.rrd_file.proofs.Gathering.{all_written, front_written}
+use Rattle.rrd_file.proofs.encode.Goals as goal
+
+pub returns-in_err-write_layout : goal.returns-in_err-write_layout
+returns-in_err-write_layout g c =
+    let p = err_from_is_err_and c.from_residual.result c.from_residual.ensures.1 in
+    rw p.1 (front_written {r = c.write_layout.new.out} _ _ c.new-pieces.ensures.same c.new-pieces.ensures.nothing_waits (search rules) c.in_err-write_layout.ensures)
+
+pub returns : goal.returns
+returns g c =
+    all_written _ c.write_rest.new.self.out.now _ c.write_rest.result c.new-pieces.ensures.same c.new-pieces.ensures.nothing_waits (search rules) c.in_ok-write_layout.ensures c.write_rest.ensures.written

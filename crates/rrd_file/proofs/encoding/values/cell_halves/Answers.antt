@@ -1,8 +1,0 @@
-use Rattle.std.proofs.Common.{ap, sym}
-use Rattle.rrd_fixed.specs.declared.cell.Cell.{Cell}
-use Rattle.rrd_file.specs.Layout.Values.{cell_bytes, signed_bytes}
-use Rattle.rrd_file.proofs.encoding.values.cell_halves.Goals as goal
-
-pub returns-in-Unknown : goal.returns-in-Unknown
-unfolding signed_bytes
-returns-in-Unknown c = ap (λ (cell : Cell). cell_bytes cell) (sym c.in-Unknown.is)

@@ -1,0 +1,28 @@
+use Rattle.std.proofs.Common.{◌≡◌, ◌∙◌, sym, length, rules}
+use Rattle.std.proofs.lemmas.Result.{err_from_is_err_and}
+use Rattle.rrd_file.specs.Layout.Pieces.{spell, OfNumber}
+use Rattle.std.specs.Prelude.{false, true}
+use Rattle.rrd_file.specs.Layout.Values.{two_bytes}
+use Rattle.rrd_file.proofs.Coming.{cut_within}
+use Rattle.rrd_file.proofs.Kept.{broken, kept, ReadNumber, judged, judges}
+use Rattle.rrd_file.proofs.Whole.{whole}
+use Rattle.rrd_file.specs.Stages.{NumberDue}
+use Rattle.rrd_file.proofs.journal.resize.read_number.Goals as goal
+
+pub returns-in_err-piece-clause-brings : goal.returns-in_err-piece-clause-brings
+returns-in_err-piece-clause-brings g c = λ bytes pieces later st.
+    let p = err_from_is_err_and c.from_residual.result c.from_residual.ensures.1 in
+    let len : length c.piece.new.piece ≡ 2 = search rules in
+    rw (p.1, p.2) (cut_within bytes c.args.build.now pieces NumberDue later c.args.input.now _ _ st (sym len) c.in_err-piece.ensures.read)
+
+pub returns-then-not-has_archive-clause-brings : goal.returns-then-not-has_archive-clause-brings
+unfolding spell
+returns-then-not-has_archive-clause-brings g c = λ bytes pieces later st.
+    let len : length c.piece.new.piece ≡ 2 = search rules in
+    rw c.bad_entry.ensures (broken bytes c.args.build.now pieces NumberDue later c.args.input.now c.piece.new.self (OfNumber c.two_of-archive.result.0) c.piece.new.piece st c.in_ok-piece.ensures.read (whole c.piece.new.piece (two_bytes c.two_of-archive.result.0) c.two_of-archive.result.1.now 2 c.two_of-archive.ensures.spelled c.two_of-archive.ensures.room len) (sym len) (ReadNumber c.two_of-archive.result.0 c.two_of-archive.ensures.small) (λ k. let bad : false ≡ true = sym c.if-not-has_archive.true ∙ c.has_archive.ensures.bad (judges c.args.build.now c.judge.result.now NumberDue (OfNumber c.two_of-archive.result.0) c.judge.ensures k) in absurd cc))
+
+pub returns-clause-brings : goal.returns-clause-brings
+unfolding spell
+returns-clause-brings g c = λ bytes pieces later st.
+    let len : length c.piece.new.piece ≡ 2 = search rules in
+    kept bytes c.args.build.now pieces NumberDue later c.args.input.now c.piece.new.self (OfNumber c.two_of-archive.result.0) c.piece.new.piece st c.in_ok-piece.ensures.read (whole c.piece.new.piece (two_bytes c.two_of-archive.result.0) c.two_of-archive.result.1.now 2 c.two_of-archive.ensures.spelled c.two_of-archive.ensures.room len) (sym len) (ReadNumber c.two_of-archive.result.0 c.two_of-archive.ensures.small) (judged c.args.build.now c.judge.result.now NumberDue (OfNumber c.two_of-archive.result.0) c.judge.ensures (c.has_archive.ensures.good c.if-not-has_archive.false))

@@ -1,0 +1,11 @@
+use Rattle.std.proofs.Common.{◌≡◌, ◌∷◌, ◌-◌, ◌≤◌, [], ℕ, List, length, map}
+use Rattle.rrd_file.specs.Layout.Pieces.{ATune, OfCount, OfSourceBefore, OfTag}
+use Rattle.rrd_file.specs.Stages.{first_due, named_due}
+use Rattle.rrd_file.specs.Progress.{Comes}
+use Rattle.rrd_file.proofs.journal.tune.read_tune.Given as goal
+
+abbrev pub invariant-loop : goal.invariant-loop
+invariant-loop g l =
+    (length l.olds.items ≡ l.counter) × (l.lowest ≤ 64)
+    × ((bytes : List ℕ) → Comes bytes l.build (OfTag ATune ∷ []) (first_due ATune) l.fn.input
+    → Comes bytes l.build (OfTag ATune ∷ OfCount l.count ∷ map OfSourceBefore l.olds.items) (named_due l.lowest (l.count - l.counter)) l.input)

@@ -1,0 +1,16 @@
+use Rattle.std.proofs.Common.{◌++◌, ℕ, List, drop, length, take}
+use Rattle.std.specs.List.{flat_map}
+use Rattle.rrd_spec.specs.Files.Rebuilding.{outline_left}
+use Rattle.rrd_file.specs.Layout.{saved_pieces}
+use Rattle.rrd_file.specs.Layout.Pieces.{Piece}
+use Rattle.rrd_file.specs.Journal.{AreSavedShaped}
+use Rattle.rrd_file.specs.Stages.{DueInEntry, archive_due}
+use Rattle.rrd_file.specs.Progress.{Comes}
+use Rattle.rrd_file.proofs.journal.update.read_all_saved.Given as goal
+
+abbrev pub invariant-loop-archive : goal.invariant-loop-archive
+invariant-loop-archive g l =
+    let now = outline_left l.build in
+    AreSavedShaped (length now.sources) (take l.archive now.archives) l.olds.items
+    × ((bytes : List ℕ) (pieces : List Piece) (later : List DueInEntry) → Comes bytes l.build pieces (flat_map (archive_due l.build.header.step now l.last) now.archives ++ later) l.fn.input
+    → Comes bytes l.build (pieces ++ flat_map saved_pieces l.olds.items) (flat_map (archive_due l.build.header.step now l.last) (drop l.archive now.archives) ++ later) l.input)

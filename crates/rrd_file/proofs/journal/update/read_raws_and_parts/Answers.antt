@@ -1,0 +1,47 @@
+use Rattle.std.proofs.Common.{◌≡◌, ◌∙◌, ◌+◌, ◌<◌, ◌≤◌, ◌++◌, ◌∷◌, [], List, sym, ap, arith, length-append, drop, length, map, subst, rules}
+use Rattle.std.proofs.lemmas.Result.{err_from_is_err_and}
+use Rattle.rrd_spec.specs.declared.settings.DsDef.{DsDef}
+use Rattle.rrd_spec.specs.Files.Rebuilding.{outline_left}
+use Rattle.rrd_file.specs.Layout.{raws_and_parts}
+use Rattle.rrd_file.specs.Layout.Pieces.{Piece}
+use Rattle.rrd_file.specs.Stages.{BeforeDue, DueInEntry}
+use Rattle.rrd_file.specs.Progress.{Comes}
+use Rattle.rrd_file.proofs.Told.{there}
+use Rattle.rrd_file.proofs.Turns.{dropped_all, more_raws, next_source}
+use Rattle.rrd_file.proofs.journal.update.read_raws_and_parts.Goals as goal
+
+pub returns-in_err-raw-clause-brings : goal.returns-in_err-raw-clause-brings
+returns-in_err-raw-clause-brings g c = λ bytes pieces later st.
+    let p = err_from_is_err_and c.from_residual.result c.from_residual.ensures.1 in
+    let now = outline_left c.args.build.now in
+    let i = c.loop-source.source in
+    let more : i < length now.sources = search rules in
+    let found = there now.sources i more in
+    rw (p.1, p.2) (c.in_err-raw.ensures bytes (pieces ++ raws_and_parts c.loop-source.raws.items c.loop-source.preps.items) (map (BeforeDue c.args.last) (drop (i + 1) now.sources) ++ later) found.0 found.1
+    (subst (λ (l : List DueInEntry). Comes bytes c.args.build.now (pieces ++ raws_and_parts c.loop-source.raws.items c.loop-source.preps.items) l c.loop-source.input) (next_source (BeforeDue c.args.last) now.sources i found.0 later found.1) (c.loop-source.invariant.2 bytes pieces later st)))
+
+pub loop-source-preserved : goal.loop-source-preserved
+loop-source-preserved g c =
+    let now = outline_left c.args.build.now in
+    let i = c.loop-source.source in
+    let more : i < length now.sources = search rules in
+    let found = there now.sources i more in
+    let raws = c.loop-source.raws.items in
+    let preps = c.loop-source.preps.items in
+    let raw = c.in_ok-raw.raw in
+    let prep = c.in_ok-raw.prep in
+    let first : c.push.new.self.items ≡ raws ++ raw ∷ [] = search rules in
+    let second : c.push-in-loop-source.new.self.items ≡ preps ++ prep ∷ [] = search rules in (
+      omega (arith, ap length first, length-append raws (raw ∷ []), c.loop-source.invariant.0),
+      omega (arith, ap length second, length-append preps (prep ∷ []), c.loop-source.invariant.1),
+      λ bytes pieces later st.
+          subst (λ (l : List Piece). Comes bytes c.args.build.now l (map (BeforeDue c.args.last) (drop (i + 1) now.sources) ++ later) c.read_raw_and_part.new.input) (more_raws pieces raws preps raw prep (c.loop-source.invariant.0 ∙ sym c.loop-source.invariant.1) ∙ (λ k. pieces ++ raws_and_parts (sym first k) (sym second k)))
+          (c.in_ok-raw.ensures bytes (pieces ++ raws_and_parts raws preps) (map (BeforeDue c.args.last) (drop (i + 1) now.sources) ++ later) found.0 found.1
+          (subst (λ (l : List DueInEntry). Comes bytes c.args.build.now (pieces ++ raws_and_parts raws preps) l c.loop-source.input) (next_source (BeforeDue c.args.last) now.sources i found.0 later found.1) (c.loop-source.invariant.2 bytes pieces later st))),
+    )
+
+pub returns-clause-brings : goal.returns-clause-brings
+returns-clause-brings g c = λ bytes pieces later st.
+    let now = outline_left c.args.build.now in
+    let past : length now.sources ≤ c.loop-source.source = search rules in
+    subst (λ (l : List DsDef). Comes bytes c.args.build.now (pieces ++ raws_and_parts c.loop-source.raws.items c.loop-source.preps.items) (map (BeforeDue c.args.last) l ++ later) c.loop-source.input) (dropped_all now.sources c.loop-source.source past) (c.loop-source.invariant.2 bytes pieces later st)

@@ -1,0 +1,13 @@
+use Rattle.std.proofs.Common.{◌≡◌, ◌++◌, ℕ, List, drop, length, map}
+use Rattle.rrd_spec.specs.Files.Rebuilding.{outline_left}
+use Rattle.rrd_file.specs.Layout.{raws_and_parts}
+use Rattle.rrd_file.specs.Layout.Pieces.{Piece}
+use Rattle.rrd_file.specs.Stages.{BeforeDue, DueInEntry}
+use Rattle.rrd_file.specs.Progress.{Comes}
+use Rattle.rrd_file.proofs.journal.update.read_raws_and_parts.Given as goal
+
+abbrev pub invariant-loop-source : goal.invariant-loop-source
+invariant-loop-source g l =
+    (length l.raws.items ≡ l.source) × (length l.preps.items ≡ l.source)
+    × ((bytes : List ℕ) (pieces : List Piece) (later : List DueInEntry) → Comes bytes l.build pieces (map (BeforeDue l.last) (outline_left l.build).sources ++ later) l.fn.input
+    → Comes bytes l.build (pieces ++ raws_and_parts l.raws.items l.preps.items) (map (BeforeDue l.last) (drop l.source (outline_left l.build).sources) ++ later) l.input)

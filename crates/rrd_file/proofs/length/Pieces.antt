@@ -1,0 +1,151 @@
+-- How many bytes runs of pieces have: so many each, as often as they come.
+use Rattle.std.proofs.Common.{◌≡◌, ◌∙◌, ◌+◌, ◌*◌, ◌≤◌, ◌++◌, ℕ, List, [], ◌∷◌, ap, refl, map, length, arith, length-append}
+use Rattle.std.proofs.Math.Nat.{suc-mul}
+use Rattle.std.specs.List.{AllByRecursion, flat_map, sum_by}
+use Rattle.std.proofs.lemmas.Grind.{flat_map-append}
+use Rattle.std.proofs.lemmas.List.Concat.{flat_map-cons, length-flat_map}
+use Rattle.rrd_fixed.specs.declared.cell.Cell.{Cell}
+use Rattle.rrd_fixed.specs.declared.raw.Raw.{Raw}
+use Rattle.rrd_fold.specs.Parts.{Part}
+use Rattle.rrd_ring.specs.Rows.{HasWidth}
+use Rattle.rrd_spec.specs.declared.settings.DsDef.{DsDef}
+use Rattle.rrd_spec.specs.declared.entry.SourceBefore.{SourceBefore}
+use Rattle.rrd_spec.specs.Files.Filed.{Source, filed, head_of, header_of, sources_of}
+use Rattle.rrd_spec.specs.History.{Rra}
+use Rattle.rrd_spec.specs.Journal.Entries.{BeforeUpdate, SavedArchive, UpdateEntry, TuneEntry, ResizeEntry, AddedEntry, RemovedEntry}
+use Rattle.rrd_spec.specs.Journal.Fitting.{IsSourceBefore}
+use Rattle.rrd_spec.specs.Journal.Survivors.{Stored}
+use Rattle.rrd_spec.specs.Limits.{newest, present}
+use Rattle.rrd_spec.specs.Validity.{AreAccepted, IsSource, IsValidArchive}
+use Rattle.rrd_file.specs.Layout.{body_pieces, entry_pieces, head_pieces, layout, raws_and_parts, row_pieces, saved_pieces, spelled}
+use Rattle.rrd_file.specs.Layout.Pieces.{Piece, Mark, OfVersion, OfHeader, OfSource, OfArchive, OfPrep, OfCell, OfTag, OfTime, OfRawAndPart, OfRows, OfCount, OfSourceBefore, OfNumber, AnUpdate, ATune, AResize, ARemoval, spell}
+use Rattle.rrd_file.specs.Layout.Values.{cell_number, part_bytes, raw_bytes, raw_number, source_bytes}
+use Rattle.rrd_file.specs.Length.{IsWide}
+use Rattle.rrd_file.proofs.Gathering.{flat_flat}
+use Rattle.rrd_file.proofs.Lengths.{length_source, part_length, short_name, source_length}
+use Rattle.rrd_file.proofs.SignedBytes.{signed_length}
+
+-- ---- single pieces
+
+prep_has : (part : Part) → length (spell (OfPrep part)) ≡ 20
+unfolding spell
+prep_has part = part_length part
+
+cell_has : (cell : Cell) → length (spell (OfCell cell)) ≡ 16
+unfolding spell
+cell_has cell = signed_length (cell_number cell)
+
+source_has : (s : Source) → length s.def.name ≤ 19 → length (spell (OfSource s)) ≡ 97
+unfolding spell
+source_has s short = omega (arith, length_source s.def (raw_bytes s.raw) (part_bytes s.part) short, signed_length (raw_number s.raw), part_length s.part)
+
+raw_and_part_has : (raw : Raw) (part : Part) → length (spell (OfRawAndPart raw part)) ≡ 36
+unfolding spell
+raw_and_part_has raw part = omega (arith, length-append (raw_bytes raw) (part_bytes part), signed_length (raw_number raw), part_length part)
+
+source_before_has : (old : SourceBefore) → length old.source.name ≤ 19 → length (spell (OfSourceBefore old)) ≡ 79
+unfolding spell
+source_before_has old short = omega (arith, length-append (source_bytes old.source) (raw_bytes old.raw), signed_length (raw_number old.raw), source_length old.source short)
+
+-- ---- runs of pieces
+
+first_and_rest : {A : Type 0} (f : A → List ℕ) (x : A) (xs : List A) → length (flat_map f (x ∷ xs)) ≡ length (f x) + length (flat_map f xs)
+first_and_rest f x xs = ap length (flat_map-cons f x xs) ∙ length-append (f x) (flat_map f xs)
+
+joined : (ps qs : List Piece) → length (spelled (ps ++ qs)) ≡ length (spelled ps) + length (spelled qs)
+joined ps qs = ap length (flat_map-append spell ps qs) ∙ length-append (spelled ps) (spelled qs)
+
+-- the sum of what each item's pieces have
+pub items_have : {A : Type 0} (g : A → List Piece) (xs : List A) → length (spelled (flat_map g xs)) ≡ sum_by (λ (x : A). length (spelled (g x))) xs
+items_have g xs = ap length (flat_flat spell g xs) ∙ length-flat_map (λ x. spelled (g x)) xs
+
+-- as many bytes each
+all_have : {A : Type 0} (g : A → Piece) (n : ℕ) (xs : List A) → ((x : A) → length (spell (g x)) ≡ n) → length (spelled (map g xs)) ≡ length xs * n
+all_have g n [] each = omega arith
+all_have g n (x ∷ xs) each = omega (arith, first_and_rest spell (g x) (map g xs), each x, all_have g n xs each, suc-mul (length xs) n)
+
+pub preps_have : (parts : List Part) → length (spelled (map OfPrep parts)) ≡ length parts * 20
+preps_have parts = all_have OfPrep 20 parts prep_has
+
+pub cells_have : (cells : List Cell) → length (spelled (map OfCell cells)) ≡ length cells * 16
+cells_have cells = all_have OfCell 16 cells cell_has
+
+pub rows_have : (sources : ℕ) (rows : List (List Cell)) → HasWidth sources rows → length (spelled (row_pieces rows)) ≡ length rows * sources * 16
+rows_have sources [] is = omega arith
+rows_have sources (row ∷ rows) is =
+    let first : row_pieces (row ∷ rows) ≡ map OfCell row ++ row_pieces rows = flat_map-cons (λ (r : List Cell). map OfCell r) row rows in
+    omega (arith, ap (λ l. length (spelled l)) first, joined (map OfCell row) (row_pieces rows), cells_have row, is.0, rows_have sources rows is.1, suc-mul (length rows) sources)
+
+raws_have : (raws : List Raw) (parts : List Part) → length raws ≡ length parts → length (spelled (raws_and_parts raws parts)) ≡ length raws * 36
+raws_have [] parts same = refl
+raws_have (raw ∷ raws) [] same = absurd (omega (arith, same))
+raws_have (raw ∷ raws) (part ∷ parts) same =
+    omega (arith, first_and_rest spell (OfRawAndPart raw part) (raws_and_parts raws parts), raw_and_part_has raw part, raws_have raws parts (omega (arith, same)))
+
+olds_have : (olds : List SourceBefore) → AllByRecursion (IsSourceBefore present) olds → length (spelled (map OfSourceBefore olds)) ≡ length olds * 79
+olds_have [] are = refl
+olds_have (old ∷ olds) are =
+    omega (arith, first_and_rest spell (OfSourceBefore old) (map OfSourceBefore olds), source_before_has old (short_name old.source.name are.0.0.good_name), olds_have olds are.1)
+
+-- ---- entries
+
+pub saved_has : (sources : ℕ) (old : SavedArchive) → IsWide sources old → length (spelled (saved_pieces old)) ≡ sources * 20 + 4 + length old.rows * sources * 16
+unfolding spell
+saved_has sources old is =
+    omega (arith, joined (map OfPrep old.parts) (OfRows (length old.rows) ∷ row_pieces old.rows), preps_have old.parts, is.one_part_each, first_and_rest spell (OfRows (length old.rows)) (row_pieces old.rows), rows_have sources old.rows is.one_cell_each)
+
+pub update_has : (old : BeforeUpdate) → length old.raws ≡ length old.parts → length (spelled (entry_pieces (UpdateEntry old))) ≡ 9 + length old.raws * 36 + length (spelled (flat_map saved_pieces old.archives))
+unfolding spell
+update_has old same =
+    omega (arith, joined (OfTag AnUpdate ∷ OfTime old.last ∷ []) (raws_and_parts old.raws old.parts ++ flat_map saved_pieces old.archives), joined (raws_and_parts old.raws old.parts) (flat_map saved_pieces old.archives), raws_have old.raws old.parts same)
+
+pub tune_has : (olds : List SourceBefore) → AllByRecursion (IsSourceBefore present) olds → length (spelled (entry_pieces (TuneEntry olds))) ≡ 3 + length olds * 79
+unfolding spell
+tune_has olds are = omega (arith, joined (OfTag ATune ∷ OfCount (length olds) ∷ []) (map OfSourceBefore olds), olds_have olds are)
+
+pub resize_has : (archive sources : ℕ) (rows : List (List Cell)) → HasWidth sources rows → length (spelled (entry_pieces (ResizeEntry archive rows))) ≡ 7 + length rows * sources * 16
+unfolding spell
+resize_has archive sources rows is = omega (arith, joined (OfTag AResize ∷ OfNumber archive ∷ OfRows (length rows) ∷ []) (row_pieces rows), rows_have sources rows is)
+
+pub added_has : length (spelled (entry_pieces AddedEntry)) ≡ 1
+unfolding spell
+added_has = refl
+
+pub removed_has : (number sources : ℕ) (archive : Rra) → HasWidth sources archive.rows → length (spelled (entry_pieces (RemovedEntry number archive))) ≡ 16 + length archive.parts * 20 + length archive.rows * sources * 16
+unfolding spell
+removed_has number sources archive is =
+    omega (arith, joined (OfTag ARemoval ∷ OfNumber number ∷ OfArchive archive.def ∷ []) (map OfPrep archive.parts ++ row_pieces archive.rows), joined (map OfPrep archive.parts) (row_pieces archive.rows), preps_have archive.parts, rows_have sources archive.rows is)
+
+-- ---- the body
+
+pub sources_have : (defs : List DsDef) (raws : List Raw) (parts : List Part) → AllByRecursion IsSource defs → AreAccepted defs raws → length parts ≡ length defs → length (spelled (map OfSource (sources_of defs raws parts))) ≡ length defs * 97
+sources_have [] raws parts are taken same = refl
+sources_have (def ∷ defs) [] parts are taken same = absurd taken
+sources_have (def ∷ defs) (raw ∷ raws) [] are taken same = absurd (omega (arith, same))
+sources_have (def ∷ defs) (raw ∷ raws) (part ∷ parts) are taken same =
+    let s : Source = record { def = def; raw = raw; part = part } in
+    omega (arith, first_and_rest spell (OfSource s) (map OfSource (sources_of defs raws parts)), source_has s (short_name def.name are.0.good_name), sources_have defs raws parts are.1 taken.1 (omega (arith, same)))
+
+head_has : (archive : Rra) → length (spelled (head_pieces (head_of archive))) ≡ 13 + length archive.parts * 20
+unfolding spell
+head_has archive = omega (arith, first_and_rest spell (OfArchive archive.def) (map OfPrep archive.parts), preps_have archive.parts)
+
+pub heads_have : (sources steps : ℕ) (archives : List Rra) → AllByRecursion (IsValidArchive sources steps) archives → length (spelled (flat_map head_pieces (map head_of archives))) ≡ length archives * (13 + 20 * sources)
+heads_have sources steps [] are = omega arith
+heads_have sources steps (archive ∷ archives) are =
+    let first : flat_map head_pieces (map head_of (archive ∷ archives)) ≡ head_pieces (head_of archive) ++ flat_map head_pieces (map head_of archives) = flat_map-cons head_pieces (head_of archive) (map head_of archives) in
+    omega (arith, ap (λ l. length (spelled l)) first, joined (head_pieces (head_of archive)) (flat_map head_pieces (map head_of archives)), head_has archive, are.0.parts_are.one_each, heads_have sources steps archives are.1, suc-mul (length archives) (13 + 20 * sources))
+
+pub body_has : (d : Stored) → let f = filed newest d in length (spelled (body_pieces f)) ≡ length (spelled (map OfSource f.sources)) + length (spelled (flat_map head_pieces f.heads)) + length f.cells * 16
+body_has d =
+    let f = filed newest d in
+    omega (arith, joined (map OfSource f.sources ++ flat_map head_pieces f.heads) (map OfCell f.cells), joined (map OfSource f.sources) (flat_map head_pieces f.heads), cells_have f.cells)
+
+-- ---- the whole
+
+pub layout_has : (d : Stored) → length (layout d) ≡ 30 + length (spelled (body_pieces (filed newest d))) + length (spelled (flat_map entry_pieces d.journal))
+unfolding spell
+layout_has d =
+    let body = body_pieces (filed newest d) in
+    let entries = flat_map entry_pieces d.journal in
+    omega (arith, joined (Mark ∷ OfVersion newest ∷ OfHeader (header_of newest d) ∷ []) (body ++ entries), joined body entries)

@@ -1,0 +1,24 @@
+use Rattle.std.proofs.Common.{ap, length, sym, arith}
+use Rattle.std.specs.List.{sum_by}
+use Rattle.std.proofs.lemmas.List.{take_all}
+use Rattle.rrd_spec.specs.Journal.Entries.{Entry}
+use Rattle.rrd_file.specs.Layout.{entry_pieces, spelled}
+use Rattle.rrd_file.proofs.Entering.{entry_of_some}
+use Rattle.rrd_file.proofs.length.Numbers.{sum_next}
+use Rattle.rrd_file.proofs.length.Pieces.{items_have}
+use Rattle.rrd_file.proofs.length.entries_length.Goals as goal
+
+pub entry_length-length-requires : goal.entry_length-length-requires
+entry_length-length-requires c = entry_of_some c.args.database.now.content c.args.database.now.journal c.loop-number.number _ c.is_valid.ensures (sym c.entry.ensures)
+
+pub loop-number-preserved : goal.loop-number-preserved
+loop-number-preserved c = record {
+  counted = omega (arith, sum_next (λ (entry : Entry). length (spelled (entry_pieces entry))) c.args.database.now.journal c.loop-number.number _ (sym c.entry.ensures), c.entry_length-length.ensures.count, c.loop-number.invariant.counted);
+  few = omega (arith, c.entry_length-length.ensures.few, c.loop-number.invariant.few);
+}
+
+pub returns-clause-count : goal.returns-clause-count
+returns-clause-count c =
+    let journal = c.args.database.now.journal in
+    let all = ap (sum_by (λ (entry : Entry). length (spelled (entry_pieces entry)))) (take_all c.loop-number.number journal (omega (arith, c.undoable-number-end.ensures.count, c.loop-number-test.false))) in
+    omega (arith, items_have entry_pieces journal, all, c.loop-number.invariant.counted)

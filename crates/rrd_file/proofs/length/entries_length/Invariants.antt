@@ -1,0 +1,12 @@
+use Rattle.std.proofs.Common.{◌≡◌, ◌*◌, ◌≤◌, length, take}
+use Rattle.std.specs.List.{sum_by}
+use Rattle.rrd_spec.specs.Journal.Entries.{Entry}
+use Rattle.rrd_file.specs.Layout.{entry_pieces, spelled}
+use Rattle.rrd_file.specs.Length.{most_of_entry}
+use Rattle.rrd_file.proofs.length.entries_length.Given as goal
+
+abbrev pub invariant-loop-number : goal.invariant-loop-number
+invariant-loop-number l = record {
+  counted : l.length ≡ sum_by (λ (entry : Entry). length (spelled (entry_pieces entry))) (take l.number l.database.journal);
+  few : l.length ≤ l.number * most_of_entry;
+}

@@ -1,0 +1,9 @@
+use Rattle.std.proofs.Common.{◌∙◌, ap, length, sym}
+use Rattle.rrd_base.specs.declared.journal.Entry.{Entry}
+use Rattle.rrd_base.specs.Journal.{entry_of}
+use Rattle.rrd_file.specs.Layout.{entry_pieces, spelled}
+use Rattle.rrd_file.proofs.length.Pieces.{added_has}
+use Rattle.rrd_file.proofs.length.entry_length.Goals as goal
+
+pub returns-in-Added-clause-count : goal.returns-in-Added-clause-count
+returns-in-Added-clause-count c = sym (ap (λ (entry : Entry). length (spelled (entry_pieces (entry_of entry)))) c.in-Added.is ∙ added_has)

@@ -1,0 +1,10 @@
+use Rattle.std.proofs.Common.{◌≡◌, ◌-◌, length}
+use Rattle.std.specs.Io.KnownBytes.{Keeps}
+use Rattle.rrd_file.specs.Reader.{left}
+use Rattle.rrd_file.proofs.reader.PieceReader.wait_for.Given as goal
+
+abbrev pub invariant-loop-self : goal.invariant-loop-self
+invariant-loop-self g l = Keeps (left l.initial.self) (left l.self) × (l.self.at ≡ l.initial.self.at)
+
+abbrev pub decreases-loop-self : goal.decreases-loop-self
+decreases-loop-self g l = l.size - length l.self.waiting

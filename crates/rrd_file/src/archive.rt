@@ -1,0 +1,250 @@
+//! The heads of archives, both ways: settings, and the preparations of unfinished rows.
+ghost use Rattle.std.specs.Prelude.{◌≡◌, ◌+◌, ◌^◌, ◌<◌, ◌≤◌, ℕ, [], ◌∷◌, ◌++◌, ◌≢◌, IfOk, IfSome, List, None, OnOk, Some, length, map, replicate, slice_get, unsigned_abs};
+ghost use Rattle.std.specs.List.{flat_map};
+ghost use Rattle.rrd_spec.specs.Files.Filed.{filed, head_of};
+ghost use Rattle.rrd_spec.specs.Limits.{newest, present};
+ghost use Rattle.rrd_spec.specs.History.{Rra};
+ghost use Rattle.rrd_spec.specs.Preparations.{AllOf, parts_in};
+ghost use Rattle.rrd_spec.specs.declared.settings.RraDef.{RraDef};
+ghost use Rattle.rrd_spec.specs.Files.Rebuilding.{due, outline_left};
+ghost use Rattle.rrd_spec.specs.declared.due.Due.TheVariants.{EntryDue, HeadDue, PrepDue};
+ghost use Rattle.rrd_file.specs.Layout.{head_pieces, spelled};
+ghost use Rattle.rrd_file.specs.Layout.Pieces.{OfArchive, OfPrep, Piece, spell};
+ghost use Rattle.rrd_file.specs.Writer.{Gathers};
+ghost use Rattle.rrd_file.specs.Stages.{Body, DueInEntry, RowPrepDue};
+ghost use Rattle.rrd_file.specs.Layout.Fitting.{FitsArchive};
+ghost use Rattle.rrd_file.specs.Reader.{Advances};
+ghost use Rattle.rrd_file.specs.Progress.{Brings, Comes, Reaches, Stands};
+ghost use Rattle.rrd_file.specs.Layout.Values as spelling;
+
+use crate::FileFault;
+use crate::fault::{bad_entry, block_fault};
+use crate::layout::{ARCHIVE_SIZE, PREP_SIZE};
+use crate::reader::PieceReader;
+use crate::values::{four_of, function_byte, function_of, part_of};
+use crate::writer::{Block, PieceWriter};
+use rrd_base::{Database, Rebuild, RraDef};
+use rrd_fixed::WriteFault;
+use rrd_fold::RowPrep;
+use std::alloc::Global;
+use std::io::{Read, Write};
+
+impl Block {
+    /// Adds an archive's settings.
+    pub(crate) fn archive(&mut self, archive: &RraDef)
+        requires room { length self.old + ARCHIVE_SIZE ≤ 32768 }
+        requires steps { archive.now.steps < 2 ^ 32 }
+        requires xff { unsigned_abs archive.now.xff < 2 ^ 32 }
+        requires rows { archive.now.rows < 2 ^ 32 }
+        ensures { self.new ≡ self.old ++ spelling.archive_bytes archive.now }
+    {
+        self.byte(function_byte(archive.function));
+        self.four(archive.steps);
+        self.four(archive.xff.unsigned_abs() as u64);
+        self.four(archive.rows);
+    }
+}
+
+// Writes the settings of an archive.
+#[tactic(auto, unfolding(crate::specs::Layout::Pieces::spell))]
+fn write_settings<W: Write>(
+    out: &mut PieceWriter<'_, W>,
+    database: &Database,
+    archive: u64,
+) -> Result<(), WriteFault>
+    requires { archive < length database.now.content.archives }
+    ensures { (a : Rra) → slice_get database.now.content.archives archive ≡ Some a
+        → Gathers W.contents out.old out.new (spell (OfArchive a.def)) result }
+{
+    // So the settings fit their bytes.
+    database.is_valid();
+    let def = database.archive(archive);
+    out.make_room()?;
+    out.block.archive(&def);
+    Ok(())
+}
+
+// Writes the preparation of a source's unfinished row.
+#[tactic(auto, unfolding(crate::specs::Layout::Pieces::spell))]
+fn write_prep<W: Write>(out: &mut PieceWriter<'_, W>, prep: RowPrep) -> Result<(), WriteFault>
+    ensures { Gathers W.contents out.old out.new (spell (OfPrep prep.part)) result }
+{
+    out.make_room()?;
+    out.block.part(prep.known(), prep.value());
+    Ok(())
+}
+
+/// Writes the preparations of an archive's unfinished row.
+pub(crate) fn write_preps<W: Write>(
+    out: &mut PieceWriter<'_, W>,
+    preps: &[RowPrep],
+) -> Result<(), WriteFault>
+    ensures { Gathers W.contents out.old out.new
+        (spelled (map OfPrep (parts_in preps.now))) result }
+{
+    for i in 0..preps.len() {
+        write_prep(out, preps[i])?;
+    }
+    Ok(())
+}
+
+// Writes the preparations of an archive's unfinished row.
+fn write_archive_preps<W: Write>(
+    out: &mut PieceWriter<'_, W>,
+    database: &Database,
+    archive: u64,
+) -> Result<(), WriteFault>
+    requires { archive < length database.now.content.archives }
+    ensures { (a : Rra) → slice_get database.now.content.archives archive ≡ Some a
+        → Gathers W.contents out.old out.new (spelled (map OfPrep a.parts)) result }
+{
+    // So each archive has a preparation for each source.
+    database.is_valid();
+    for source in 0..database.sources() {
+        write_prep(out, database.row_prep(archive, source))?;
+    }
+    Ok(())
+}
+
+// Writes the head of an archive.
+fn write_head<W: Write>(
+    out: &mut PieceWriter<'_, W>,
+    database: &Database,
+    archive: u64,
+) -> Result<(), WriteFault>
+    requires { archive < length database.now.content.archives }
+    ensures { (a : Rra) → slice_get database.now.content.archives archive ≡ Some a
+        → Gathers W.contents out.old out.new
+        (spelled (head_pieces (head_of a))) result }
+{
+    write_settings(out, database, archive)?;
+    write_archive_preps(out, database, archive)
+}
+
+/// Writes the heads of all archives.
+pub(crate) fn write_heads<W: Write>(
+    out: &mut PieceWriter<'_, W>,
+    database: &Database,
+) -> Result<(), WriteFault>
+    ensures { Gathers W.contents out.old out.new
+        (spelled (flat_map head_pieces (filed newest database.now).heads)) result }
+{
+    for archive in 0..database.archives() {
+        write_head(out, database, archive)?;
+    }
+    Ok(())
+}
+
+/// An archive's settings.
+pub(crate) fn archive_of(bytes: &[u8]) -> Option<RraDef>
+    requires { length bytes.now ≡ ARCHIVE_SIZE }
+    ensures some { IfSome result (λ def. FitsArchive def × (spell (OfArchive def) ≡ bytes.now)) }
+    ensures none { result ≡ None → (def : RraDef) → spell (OfArchive def) ≢ bytes.now }
+{
+    let (first, rest) = bytes.split_at(1);
+    let Some(function) = function_of(first[0]) else {
+        return None;
+    };
+    let (steps, rest) = four_of(rest);
+    let (xff, rest) = four_of(rest);
+    let (rows, _) = four_of(rest);
+    Some(RraDef {
+        function,
+        xff: xff as i128,
+        steps,
+        rows,
+    })
+}
+
+/// Reads the settings of an archive.
+pub(crate) fn read_settings<R: Read + Drop>(
+    input: &mut PieceReader<R>,
+    build: &mut Rebuild,
+) -> Result<(), FileFault>
+    requires { due build.old ≡ HeadDue }
+    ensures steps { (bytes : List ℕ) → Stands bytes (Body build.old) input.old
+        → Reaches bytes (λ x. Body build.new) input.new result }
+    ensures advanced { OnOk result (Advances input.old input.new) }
+{
+    let at = input.at();
+    let mut piece = [0u8; ARCHIVE_SIZE];
+    input.piece(&mut piece)?;
+    let Some(def) = archive_of(&piece) else {
+        return Err(FileFault::BadBlock { at });
+    };
+    match build.archive(def) {
+        Ok(()) => Ok(()),
+        Err(fault) => Err(block_fault(fault, at)),
+    }
+}
+
+/// Reads the preparation of a source's unfinished row.
+pub(crate) fn read_prep<R: Read + Drop>(
+    input: &mut PieceReader<R>,
+    build: &mut Rebuild,
+) -> Result<(), FileFault>
+    requires { (def : RraDef) × (due build.old ≡ PrepDue def) }
+    ensures steps { (bytes : List ℕ) → Stands bytes (Body build.old) input.old
+        → Reaches bytes (λ x. Body build.new) input.new result }
+    ensures advanced { OnOk result (Advances input.old input.new) }
+{
+    let at = input.at();
+    let mut piece = [0u8; PREP_SIZE];
+    input.piece(&mut piece)?;
+    let (known, value, _) = part_of(&piece);
+    match build.prep(known, value) {
+        Ok(()) => Ok(()),
+        Err(fault) => Err(block_fault(fault, at)),
+    }
+}
+
+// Reads the preparation of a source's unfinished row in an archive of these settings, at a time.
+fn read_row_prep<R: Read + Drop>(
+    input: &mut PieceReader<R>,
+    build: &Rebuild,
+    last: u64,
+    def: &RraDef,
+) -> Result<RowPrep, FileFault>
+    requires some_steps { 0 < def.now.steps }
+    requires few_steps { def.now.steps ≤ present.most_steps }
+    ensures brings { (bytes : List ℕ) (pieces : List Piece) (later : List DueInEntry)
+        → Comes bytes build.now pieces (RowPrepDue last def.now ∷ later) input.old
+        → Brings bytes build.now (λ prep. pieces ++ OfPrep prep.part ∷ []) (λ prep. later) input.new result }
+    ensures function { IfOk result (λ prep. prep.function ≡ def.now.function) }
+{
+    let mut piece = [0u8; PREP_SIZE];
+    input.piece(&mut piece)?;
+    let (known, value, _) = part_of(&piece);
+    match build.judge().row_part(last, def, known, value) {
+        Some(prep) => Ok(prep),
+        None => Err(bad_entry(build)),
+    }
+}
+
+/// Reads the preparations of the unfinished row of an archive of these settings, at a time.
+pub(crate) fn read_row_preps<R: Read + Drop>(
+    alloc: Global,
+    input: &mut PieceReader<R>,
+    build: &Rebuild,
+    last: u64,
+    def: &RraDef,
+) -> Result<Vec<RowPrep>, FileFault>
+    requires is_due { due build.now ≡ EntryDue }
+    requires some_steps { 0 < def.now.steps }
+    requires few_steps { def.now.steps ≤ present.most_steps }
+    ensures brings { (bytes : List ℕ) (pieces : List Piece) (later : List DueInEntry)
+        → Comes bytes build.now pieces
+        (replicate (length (outline_left build.now).sources) (RowPrepDue last def.now) ++ later)
+        input.old
+        → Brings bytes build.now (λ preps. pieces ++ map OfPrep (parts_in preps.items)) (λ preps. later)
+        input.new result }
+    ensures function { IfOk result (λ preps. AllOf def.now.function preps.items) }
+    ensures shaped { IfOk result (λ preps. length preps.items ≡ length (outline_left build.now).sources) }
+{
+    let mut preps = Vec::new(alloc);
+    for _ in 0..build.sources() {
+        let prep = read_row_prep(input, build, last, def)?;
+        preps.push(prep)?;
+    }
+    Ok(preps)
+}

@@ -1,0 +1,385 @@
+//! Cells, both ways: those of all archives, slot by slot, and the parts of it that entries share.
+ghost use Rattle.std.specs.Prelude.{◌*◌, ◌≡◌, ◌<◌, ◌≤◌, ℕ, ◌++◌, ◌+◌, IfErr, List, OnOk, Some, length, map, replicate, slice_get, slice_range, take, true};
+ghost use Rattle.std.specs.List.{AllByRecursion, flat_map};
+ghost use Rattle.rrd_fixed.specs.Rate.{IsBounded};
+ghost use Rattle.rrd_fixed.specs.declared.cell.Cell.TheVariants.{Unknown};
+ghost use Rattle.rrd_spec.specs.Files.Rebuilding.{due};
+ghost use Rattle.rrd_spec.specs.declared.due.Due.TheVariants.{CellDue};
+ghost use Rattle.rrd_spec.specs.Files.Slots.{all_cells, cells_by_slot};
+ghost use Rattle.rrd_spec.specs.History.{Rra};
+ghost use Rattle.rrd_file.specs.Writer.{Gathers};
+ghost use Rattle.rrd_file.specs.Layout.{row_pieces, spelled};
+ghost use Rattle.rrd_file.specs.Layout.Pieces.{OfCell};
+ghost use Rattle.std.specs.Io.KnownBytes.{Keeps};
+ghost use Rattle.rrd_file.specs.declared.fault.FileFault.TheVariants.{Read as ReadFault};
+ghost use Rattle.rrd_file.specs.Reader.{Advances, left};
+ghost use Rattle.rrd_file.specs.Stages.{Body};
+ghost use Rattle.rrd_file.specs.Progress.{Reaches, Stands};
+ghost use Rattle.rrd_file.specs.Layout.Fitting.{FitsCell};
+ghost use Rattle.rrd_file.specs.Layout.Values as spelling;
+
+use crate::FileFault;
+use crate::fault::block_fault;
+use crate::layout::{ABSENT, ABSENT_HIGH, ABSENT_LOW, CELL_SIZE, WIDEST, unknown_bytes};
+use crate::reader::PieceReader;
+use crate::values::{Halves, halves_of, signed_of};
+use crate::writer::{Block, PieceWriter};
+use rrd_base::{Database, Due, Rebuild, is_bounded};
+use rrd_fixed::{Cell, WriteFault};
+use rrd_ring::Table;
+use rrd_spec::first_place;
+use rrd_spec::laws::rows_stand_in_slots;
+use std::io::{Read, Write};
+
+/// The cells that are taken at once, at most: there is room for the widest row, and all are few enough to be
+/// copied while they are at hand.
+const AT_ONCE: usize = 127;
+
+// The halves of what is written of an unknown cell.
+const UNKNOWN: Halves = Halves {
+    high: ABSENT_HIGH,
+    low: ABSENT_LOW,
+};
+
+/// The halves of what is written of a cell. Each cell comes by here, so the two cases are told apart where
+/// the halves are at hand, and not by a number that is made first.
+pub(crate) fn cell_halves(cell: Cell) -> Halves
+    ensures { spelling.eight_bytes result.high ++ spelling.eight_bytes result.low ≡ spelling.cell_bytes cell }
+{
+    match cell {
+        Cell::Unknown => UNKNOWN,
+        Cell::Known(millionths) => halves_of(millionths),
+    }
+}
+
+impl Block {
+    /// Adds unknown cells, at most 64.
+    fn unknown(&mut self, count: usize)
+        requires few { count ≤ WIDEST }
+        requires room { length self.old + CELL_SIZE * count ≤ 32768 }
+        ensures { self.new ≡ self.old ++ flat_map spelling.cell_bytes (replicate count Unknown) }
+    {
+        self.add(unknown_bytes(count));
+    }
+}
+
+// Writes cells, one after another.
+fn write_each<W: Write>(out: &mut PieceWriter<'_, W>, cells: &[Cell]) -> Result<(), WriteFault>
+    ensures { Gathers W.contents out.old out.new
+        (spelled (map OfCell cells.now)) result }
+{
+    let mut done = 0;
+    while done < cells.len() {
+        let more = (cells.len() - done).min(WIDEST);
+        out.make_room()?;
+        out.block.cells(&cells[done..done + more]);
+        done += more;
+    }
+    Ok(())
+}
+
+// Writes rows from a place on and before another, the older first.
+fn write_rows_between<W: Write, T: Table>(
+    out: &mut PieceWriter<'_, W>,
+    rows: &T,
+    from: u64,
+    to: u64,
+) -> Result<(), WriteFault>
+    requires { to ≤ length (T.table rows.now) }
+    ensures { Gathers W.contents out.old out.new
+        (spelled (row_pieces (slice_range (T.table rows.now) from to))) result }
+{
+    let mut place = from;
+    while place < to {
+        let (count, cells) = rows.together(place, to - place);
+        write_each(out, cells)?;
+        place += count;
+    }
+    Ok(())
+}
+
+/// Writes rows, the oldest first.
+pub(crate) fn write_rows<W: Write, T: Table>(
+    out: &mut PieceWriter<'_, W>,
+    rows: &T,
+) -> Result<(), WriteFault>
+    ensures { Gathers W.contents out.old out.new
+        (spelled (row_pieces (T.table rows.now))) result }
+{
+    write_rows_between(out, rows, 0, rows.count())
+}
+
+// Writes so many unknown cells, as many at a time as a row has at most.
+fn write_unknown<W: Write>(out: &mut PieceWriter<'_, W>, count: u64) -> Result<(), WriteFault>
+    ensures { Gathers W.contents out.old out.new
+        (spelled (map OfCell (replicate count Unknown))) result }
+{
+    let mut done = 0;
+    while done < count {
+        let more = (count - done).min(WIDEST as u64);
+        out.make_room()?;
+        out.block.unknown(more as usize);
+        done += more;
+    }
+    Ok(())
+}
+
+// Writes an archive's rows from a place on and before another, the older first. Rows that were never written
+// need not be looked at: they are the oldest.
+fn write_run<W: Write>(
+    out: &mut PieceWriter<'_, W>,
+    database: &Database,
+    archive: u64,
+    from: u64,
+    to: u64,
+) -> Result<(), WriteFault>
+    requires archive_there { archive < length database.now.content.archives }
+    requires rows_there { (a : Rra) → slice_get database.now.content.archives archive ≡ Some a
+        → to ≤ length a.rows }
+    ensures { (a : Rra) → slice_get database.now.content.archives archive ≡ Some a
+        → Gathers W.contents out.old out.new
+        (spelled (row_pieces (slice_range a.rows from to))) result }
+{
+    // So the cells are few enough to be counted.
+    database.is_valid();
+    let unwritten = database
+        .unwritten_rows(archive)
+        .min(to)
+        .saturating_sub(from);
+    write_unknown(out, unwritten * database.sources())?;
+    write_rows_between(out, database.rows(archive), from + unwritten, to)
+}
+
+// Writes the cells of an archive: slot by slot, its rows from the place of the first slot on, and then
+// those before it.
+fn write_slots<W: Write>(
+    out: &mut PieceWriter<'_, W>,
+    database: &Database,
+    archive: u64,
+) -> Result<(), WriteFault>
+    requires { archive < length database.now.content.archives }
+    ensures { (a : Rra) → slice_get database.now.content.archives archive ≡ Some a
+        → Gathers W.contents out.old out.new
+        (spelled (map OfCell (cells_by_slot database.now.content.step database.now.content.last a))) result }
+{
+    rows_stand_in_slots();
+    // So times and numbers of rows are small.
+    database.is_valid();
+    let def = database.archive(archive);
+    let first = first_place(def.resolution(database.step()), database.last(), def.rows);
+    write_run(out, database, archive, first, def.rows)?;
+    write_run(out, database, archive, 0, first)
+}
+
+/// Writes the cells of all archives.
+pub(crate) fn write_cells<W: Write>(
+    out: &mut PieceWriter<'_, W>,
+    database: &Database,
+) -> Result<(), WriteFault>
+    ensures { Gathers W.contents out.old out.new
+        (spelled (map OfCell (all_cells database.now.content))) result }
+{
+    for archive in 0..database.archives() {
+        write_slots(out, database, archive)?;
+    }
+    Ok(())
+}
+
+/// A cell, and the bytes behind it.
+pub(crate) fn cell_of(bytes: &[u8]) -> (Cell, &[u8])
+    requires { CELL_SIZE ≤ length bytes.now }
+    ensures spelled { bytes.now ≡ spelling.cell_bytes result.0 ++ result.1.now }
+    ensures fits { FitsCell result.0 }
+    ensures room { length result.1.now + CELL_SIZE ≡ length bytes.now }
+{
+    let (number, rest) = signed_of(bytes);
+    if number == ABSENT {
+        return (Cell::Unknown, rest);
+    }
+    (Cell::Known(number), rest)
+}
+
+// Writes the cell of a number, unless it is past the greatest rate: whether it did. It writes in both branches,
+// since a cell that is chosen first and written then takes longer.
+fn put_number(place: &mut Cell, number: i128) -> bool
+    ensures spelled { result ≡ true → spelling.signed_bytes number ≡ spelling.cell_bytes place.new }
+    ensures bounded { result ≡ true → IsBounded place.new }
+{
+    if is_bounded(Cell::Known(number)) {
+        *place = Cell::Known(number);
+        return true;
+    }
+    if number == ABSENT {
+        *place = Cell::Unknown;
+        return true;
+    }
+    false
+}
+
+// Cells, as many as there is room for, up to the first that is past the greatest rate: answers how many.
+fn cells_of(bytes: &[u8], cells: &mut [Cell]) -> usize
+    requires { length bytes.now ≡ CELL_SIZE * length cells.old }
+    ensures few { result ≤ length cells.new }
+    ensures spelled { take (CELL_SIZE * result) bytes.now ≡ flat_map spelling.cell_bytes (take result cells.new) }
+    ensures bounded { AllByRecursion IsBounded (take result cells.new) }
+    ensures as_many { length cells.new ≡ length cells.old }
+{
+    let mut rest = bytes;
+    for i in 0..cells.len() {
+        let (number, more) = signed_of(rest);
+        if !put_number(&mut cells[i], number) {
+            return i;
+        }
+        rest = more;
+    }
+    cells.len()
+}
+
+// How many of the cells in front are unknown, counted by as many as a row has at most.
+fn unknown_front(bytes: &[u8]) -> usize
+    ensures few { CELL_SIZE * result ≤ length bytes.now }
+    ensures spelled { take (CELL_SIZE * result) bytes.now ≡ flat_map spelling.cell_bytes (replicate result Unknown) }
+{
+    let mut count = 0;
+    let mut rest = bytes;
+    while rest.len() >= CELL_SIZE {
+        let some = (rest.len() / CELL_SIZE).min(WIDEST);
+        let (front, more) = rest.split_at(some * CELL_SIZE);
+        if front != unknown_bytes(some) {
+            return count;
+        }
+        count += some;
+        rest = more;
+    }
+    count
+}
+
+// Reads a cell that waits. It is looked at where it waits, and left once the database took it.
+fn read_cell<R: Read + Drop>(
+    input: &mut PieceReader<R>,
+    build: &mut Rebuild,
+) -> Result<(), FileFault>
+    requires is_due { due build.old ≡ CellDue }
+    requires waits { CELL_SIZE ≤ length input.old.waiting }
+    ensures steps { (bytes : List ℕ) → Stands bytes (Body build.old) input.old
+        → Reaches bytes (λ x. Body build.new) input.new result }
+    ensures advanced { OnOk result (Advances input.old input.new) }
+{
+    let (cell, _) = cell_of(input.front(CELL_SIZE));
+    let came = build.cell(cell);
+    input.skip(CELL_SIZE);
+    match came {
+        Ok(()) => Ok(()),
+        Err(fault) => Err(block_fault(fault, input.at() - CELL_SIZE as u64)),
+    }
+}
+
+// Takes unknown cells that wait and make whole rows: answers how many.
+fn take_unknown<R: Read + Drop>(input: &mut PieceReader<R>, build: &mut Rebuild) -> usize
+    ensures steps { (bytes : List ℕ) → 0 < result → Stands bytes (Body build.old) input.old
+        → Stands bytes (Body build.new) input.new }
+    ensures advanced { 0 < result → Advances input.old input.new }
+    ensures none { result ≡ 0 → (input.new ≡ input.old) × (build.new ≡ build.old) }
+{
+    let taken = build.unknown_rows(unknown_front(input.front(input.waiting())));
+    if taken > 0 {
+        input.skip(taken * CELL_SIZE);
+    }
+    taken
+}
+
+// Takes cells that wait and make whole rows, up to the first that is past the greatest rate, as far as there is
+// room for them: answers how many.
+fn take_rows<R: Read + Drop>(
+    input: &mut PieceReader<R>,
+    build: &mut Rebuild,
+    room: &mut [Cell],
+) -> usize
+    ensures steps { (bytes : List ℕ) → 0 < result → Stands bytes (Body build.old) input.old
+        → Stands bytes (Body build.new) input.new }
+    ensures advanced { 0 < result → Advances input.old input.new }
+    ensures none { result ≡ 0 → (input.new ≡ input.old) × (build.new ≡ build.old) }
+{
+    let most = (input.waiting() / CELL_SIZE).min(room.len());
+    let count = most - most % build.cells_in_row();
+    let cells = &mut room[..count];
+    let good = cells_of(input.front(count * CELL_SIZE), cells);
+    let taken = build.rows(&cells[..good]);
+    if taken > 0 {
+        input.skip(taken * CELL_SIZE);
+    }
+    taken
+}
+
+// Waits until the cells of a row came, or there are no more. Each is looked at before the next one is waited for:
+// one that is past the greatest rate is told before a read behind it fails, so nothing is waited for behind it.
+fn gather_row<R: Read + Drop>(
+    input: &mut PieceReader<R>,
+    cells_in_row: usize,
+) -> Result<(), FileFault>
+    requires { cells_in_row ≤ WIDEST }
+    ensures keeps { OnOk result (Keeps (left input.old) (left input.new)) }
+    ensures at { OnOk result (input.new.at ≡ input.old.at) }
+    ensures more { OnOk result (length input.old.waiting ≤ length input.new.waiting) }
+    ensures err { IfErr result (λ fault. fault ≡ ReadFault) }
+{
+    if input.waiting() >= cells_in_row * CELL_SIZE {
+        return Ok(());
+    }
+    for before in 0..cells_in_row {
+        let end = (before + 1) * CELL_SIZE;
+        input.gather(end)?;
+        if input.waiting() < end {
+            return Ok(());
+        }
+        let (cell, _) = cell_of(&input.front(end)[before * CELL_SIZE..]);
+        if !is_bounded(cell) {
+            return Ok(());
+        }
+    }
+    Ok(())
+}
+
+// Reads cells that wait: as many as make whole rows. Where there are none, the next one is read alone, which
+// tells why.
+fn read_some_cells<R: Read + Drop>(
+    input: &mut PieceReader<R>,
+    build: &mut Rebuild,
+    room: &mut [Cell],
+) -> Result<(), FileFault>
+    requires is_due { due build.old ≡ CellDue }
+    requires waits { CELL_SIZE ≤ length input.old.waiting }
+    ensures steps { (bytes : List ℕ) → Stands bytes (Body build.old) input.old
+        → Reaches bytes (λ x. Body build.new) input.new result }
+    ensures advanced { OnOk result (Advances input.old input.new) }
+{
+    if take_unknown(input, build) > 0 {
+        return Ok(());
+    }
+    if take_rows(input, build, room) > 0 {
+        return Ok(());
+    }
+    read_cell(input, build)
+}
+
+/// Reads a cell, and those behind it that came with it: by whole rows, but where the input ends within one.
+pub(crate) fn read_cells<R: Read + Drop>(
+    input: &mut PieceReader<R>,
+    build: &mut Rebuild,
+) -> Result<(), FileFault>
+    requires { due build.old ≡ CellDue }
+    ensures steps { (bytes : List ℕ) → Stands bytes (Body build.old) input.old
+        → Reaches bytes (λ x. Body build.new) input.new result }
+    ensures advanced { OnOk result (Advances input.old input.new) }
+{
+    input.wait_for(CELL_SIZE)?;
+    let mut room = [Cell::Unknown; AT_ONCE];
+    while let Due::CellDue = build.due() {
+        gather_row(input, build.cells_in_row())?;
+        if input.waiting() < CELL_SIZE {
+            return Ok(());
+        }
+        read_some_cells(input, build, &mut room)?;
+    }
+    Ok(())
+}

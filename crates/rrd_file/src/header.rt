@@ -1,0 +1,180 @@
+//! The front of a file, both ways: the mark, the version and the header.
+ghost use Rattle.std.specs.Prelude.{◌≡◌, ◌<◌, ◌≤◌, ◌∷◌, [], ◌+◌, ℕ, ◌++◌, List, length};
+ghost use Rattle.rrd_spec.specs.Files.Filed.{header_of};
+ghost use Rattle.rrd_spec.specs.Limits.{newest};
+ghost use Rattle.rrd_spec.specs.declared.version.Version.TheVariants.{One, Two};
+ghost use Rattle.rrd_file.specs.Writer.{Gathers};
+ghost use Rattle.rrd_file.specs.Layout.{spelled};
+ghost use Rattle.rrd_file.specs.Layout.Pieces.{Mark, OfHeader, OfVersion, count_bytes, spell};
+ghost use Rattle.rrd_file.specs.Stages.{Body, Marked, Start, Versioned, count_size, header_size};
+ghost use Rattle.rrd_file.specs.Progress.{Reaches, ReadsHeader, Stands};
+ghost use Rattle.rrd_file.specs.Said.{header_said};
+ghost use Rattle.rrd_file.specs.Layout.Fitting.{FitsHeader, counts};
+
+use crate::FileFault;
+use crate::fault::block_fault;
+use crate::layout::{
+    FIRST_HEADER_SIZE, MARK, MARK_SIZE, SECOND_HEADER_SIZE, VERSION_SIZE, version_number,
+    version_of,
+};
+use crate::reader::PieceReader;
+use crate::values::{eight_of, four_of, two_of};
+use crate::writer::PieceWriter;
+use rrd_base::{Database, Rebuild, Version};
+use rrd_fixed::WriteFault;
+use std::alloc::Global;
+use std::io::{Read, Write};
+
+/// Writes the mark, the version and the header.
+#[tactic(auto, unfolding(crate::specs::Layout::Pieces::spell))]
+pub(crate) fn write_header<W: Write>(
+    out: &mut PieceWriter<'_, W>,
+    database: &Database,
+) -> Result<(), WriteFault>
+    ensures { Gathers W.contents out.old out.new
+        (spelled (Mark ∷ OfVersion newest ∷ OfHeader (header_of newest database.now) ∷ [])) result }
+{
+    database.is_valid();
+    out.make_room()?;
+    out.block.add(&MARK);
+    out.block.two(version_number(Version::Two));
+    out.block.four(database.step());
+    out.block.eight(database.last());
+    out.block.four(database.depth());
+    out.block.two(database.sources());
+    out.block.two(database.archives());
+    out.block.four(database.undoable());
+    Ok(())
+}
+
+/// Reads the mark.
+pub(crate) fn read_mark<R: Read + Drop>(input: &mut PieceReader<R>) -> Result<(), FileFault>
+    ensures { (bytes : List ℕ) → Stands bytes Start input.old → Reaches bytes (λ x. Marked) input.new result }
+{
+    let mut piece = [0u8; MARK_SIZE];
+    input.piece(&mut piece)?;
+    if piece != MARK {
+        return Err(FileFault::NotOurs);
+    }
+    Ok(())
+}
+
+/// Reads the version.
+pub(crate) fn read_version<R: Read + Drop>(input: &mut PieceReader<R>) -> Result<Version, FileFault>
+    ensures { (bytes : List ℕ) → Stands bytes Marked input.old → Reaches bytes Versioned input.new result }
+{
+    let mut piece = [0u8; VERSION_SIZE];
+    input.piece(&mut piece)?;
+    let (number, _) = two_of(&piece);
+    match version_of(number) {
+        Some(version) => Ok(version),
+        None => Err(FileFault::Version),
+    }
+}
+
+/// What a header says.
+#[derive(Clone, Copy)]
+struct HeaderRead {
+    step: u64,
+    last: u64,
+    depth: u64,
+    sources: u64,
+    archives: u64,
+    entries: u64,
+}
+
+// A count of a header in a version, and the bytes behind it.
+fn count_of(version: Version, bytes: &[u8]) -> (u64, &[u8])
+    requires { count_size version ≤ length bytes.now }
+    ensures spelled { bytes.now ≡ count_bytes version result.0 ++ result.1.now }
+    ensures small { result.0 < counts version }
+    ensures room { length result.1.now + count_size version ≡ length bytes.now }
+{
+    match version {
+        Version::One => two_of(bytes),
+        Version::Two => four_of(bytes),
+    }
+}
+
+// The header of a version.
+fn header_of(version: Version, bytes: &[u8]) -> HeaderRead
+    requires { length bytes.now ≡ header_size version }
+    ensures spelled { spell (OfHeader (header_said version result)) ≡ bytes.now }
+    ensures fits { FitsHeader (header_said version result) }
+{
+    let (step, rest) = four_of(bytes);
+    let (last, rest) = eight_of(rest);
+    let (depth, rest) = count_of(version, rest);
+    let (sources, rest) = two_of(rest);
+    let (archives, rest) = two_of(rest);
+    let (entries, _) = count_of(version, rest);
+    HeaderRead {
+        step,
+        last,
+        depth,
+        sources,
+        archives,
+        entries,
+    }
+}
+
+// Reads a header of the first version.
+fn read_first_header<R: Read + Drop>(input: &mut PieceReader<R>) -> Result<HeaderRead, FileFault>
+    ensures { (bytes : List ℕ) → Stands bytes (Versioned One) input.old
+        → ReadsHeader bytes One input.old input.new result }
+{
+    let mut piece = [0u8; FIRST_HEADER_SIZE];
+    input.piece(&mut piece)?;
+    Ok(header_of(Version::One, &piece))
+}
+
+// Reads a header of the second version.
+fn read_second_header<R: Read + Drop>(input: &mut PieceReader<R>) -> Result<HeaderRead, FileFault>
+    ensures { (bytes : List ℕ) → Stands bytes (Versioned Two) input.old
+        → ReadsHeader bytes Two input.old input.new result }
+{
+    let mut piece = [0u8; SECOND_HEADER_SIZE];
+    input.piece(&mut piece)?;
+    Ok(header_of(Version::Two, &piece))
+}
+
+// Reads a header.
+fn read_said_header<R: Read + Drop>(
+    input: &mut PieceReader<R>,
+    version: Version,
+) -> Result<HeaderRead, FileFault>
+    ensures { (bytes : List ℕ) → Stands bytes (Versioned version) input.old
+        → ReadsHeader bytes version input.old input.new result }
+{
+    match version {
+        Version::One => read_first_header(input),
+        Version::Two => read_second_header(input),
+    }
+}
+
+/// Reads the header, and begins the database.
+pub(crate) fn read_header<R: Read + Drop>(
+    alloc: Global,
+    input: &mut PieceReader<R>,
+    version: Version,
+) -> Result<Rebuild, FileFault>
+    ensures { (bytes : List ℕ) → Stands bytes (Versioned version) input.old
+        → Reaches bytes Body input.new result }
+{
+    let at = input.at();
+    let said = read_said_header(input, version)?;
+    let begun = Rebuild::begin(
+        alloc,
+        version,
+        said.step,
+        said.last,
+        said.depth,
+        said.sources,
+        said.archives,
+        said.entries,
+    );
+    match begun {
+        Ok(build) => Ok(build),
+        Err(fault) => Err(block_fault(fault, at)),
+    }
+}

@@ -1,0 +1,103 @@
+//! The rows of an entry, as they are read: `cells` writes them.
+ghost use Rattle.std.specs.Prelude.{◌<◌, ◌≤◌, ◌∷◌, [], ◌≡◌, ◌++◌, ℕ, IfOk, List, length, map, replicate};
+ghost use Rattle.rrd_spec.specs.Limits.{present};
+ghost use Rattle.rrd_spec.specs.Files.Rebuilding.{due, outline_left};
+ghost use Rattle.rrd_spec.specs.declared.due.Due.TheVariants.{EntryDue};
+ghost use Rattle.rrd_file.specs.Layout.{row_pieces};
+ghost use Rattle.rrd_file.specs.Layout.Pieces.{OfCell, Piece};
+ghost use Rattle.rrd_file.specs.Journal.{AreRows};
+ghost use Rattle.rrd_file.specs.Stages.{DueInEntry, RowCellDue, cells_due};
+ghost use Rattle.rrd_file.specs.Progress.{Brings, Comes};
+
+use crate::FileFault;
+use crate::cells::cell_of;
+use crate::fault::bad_entry;
+use crate::layout::CELL_SIZE;
+use crate::reader::PieceReader;
+use rrd_base::{Rebuild, is_bounded};
+use rrd_fixed::Cell;
+use rrd_ring::{Archive, Dropped};
+use std::alloc::Global;
+use std::io::Read;
+
+// Reads a cell.
+fn read_row_cell<R: Read + Drop>(
+    input: &mut PieceReader<R>,
+    build: &Rebuild,
+) -> Result<Cell, FileFault>
+    ensures { (bytes : List ℕ) (pieces : List Piece) (later : List DueInEntry)
+        → Comes bytes build.now pieces (RowCellDue ∷ later) input.old
+        → Brings bytes build.now (λ cell. pieces ++ OfCell cell ∷ []) (λ cell. later) input.new result }
+{
+    let mut piece = [0u8; CELL_SIZE];
+    input.piece(&mut piece)?;
+    let (cell, _) = cell_of(&piece);
+    if !is_bounded(cell) {
+        return Err(bad_entry(build));
+    }
+    Ok(cell)
+}
+
+// Reads the cells of a row.
+fn read_row<R: Read + Drop>(
+    input: &mut PieceReader<R>,
+    build: &Rebuild,
+    row: &mut [Cell],
+) -> Result<(), FileFault>
+    ensures brings { (bytes : List ℕ) (pieces : List Piece) (later : List DueInEntry)
+        → Comes bytes build.now pieces (replicate (length row.old) RowCellDue ++ later) input.old
+        → Brings bytes build.now (λ x. pieces ++ map OfCell row.new) (λ x. later) input.new result }
+    ensures same_width { length row.new ≡ length row.old }
+{
+    for i in 0..row.len() {
+        row[i] = read_row_cell(input, build)?;
+    }
+    Ok(())
+}
+
+/// Reads so many rows, at most 1,000,000, that an update replaced.
+pub(super) fn read_saved_rows<R: Read + Drop>(
+    alloc: Global,
+    input: &mut PieceReader<R>,
+    build: &Rebuild,
+    count: u64,
+) -> Result<Dropped, FileFault>
+    requires is_due { due build.now ≡ EntryDue }
+    requires few { count ≤ present.most_rows }
+    ensures brings { (bytes : List ℕ) (pieces : List Piece) (later : List DueInEntry)
+        → Comes bytes build.now pieces (cells_due count (outline_left build.now) ++ later) input.old
+        → Brings bytes build.now (λ rows. pieces ++ row_pieces rows) (λ rows. later) input.new result }
+    ensures shaped { IfOk result (λ rows. AreRows count (length (outline_left build.now).sources) rows) }
+{
+    let Ok(mut rows) = Dropped::new(alloc, count, build.sources()) else {
+        return Err(FileFault::OutOfMemory);
+    };
+    for i in 0..count {
+        read_row(input, build, rows.row_mut(i))?;
+    }
+    Ok(rows)
+}
+
+/// Reads the rows, 1 to 1,000,000, of an archive before it was resized.
+pub(super) fn read_old_rows<R: Read + Drop>(
+    alloc: Global,
+    input: &mut PieceReader<R>,
+    build: &Rebuild,
+    count: u64,
+) -> Result<Archive, FileFault>
+    requires is_due { due build.now ≡ EntryDue }
+    requires some { 0 < count }
+    requires few { count ≤ present.most_rows }
+    ensures brings { (bytes : List ℕ) (pieces : List Piece) (later : List DueInEntry)
+        → Comes bytes build.now pieces (cells_due count (outline_left build.now) ++ later) input.old
+        → Brings bytes build.now (λ rows. pieces ++ row_pieces rows) (λ rows. later) input.new result }
+    ensures shaped { IfOk result (λ rows. AreRows count (length (outline_left build.now).sources) rows) }
+{
+    let Ok(mut rows) = Archive::new(alloc, count, build.sources()) else {
+        return Err(FileFault::OutOfMemory);
+    };
+    for i in 0..count {
+        read_row(input, build, rows.row_mut(i))?;
+    }
+    Ok(rows)
+}

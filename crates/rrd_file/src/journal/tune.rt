@@ -1,0 +1,166 @@
+//! What a tune replaced, both ways.
+ghost use Rattle.std.specs.Prelude.{◌≡◌, ◌<◌, ◌≤◌, ◌^◌, ◌∷◌, [], ◌≢◌, ◌+◌, ◌++◌, ℕ, IfOk, IfSome, List, None, length, map};
+ghost use Rattle.std.specs.List.{AllByRecursion};
+ghost use Rattle.rrd_spec.specs.Journal.Entries.{TuneEntry};
+ghost use Rattle.rrd_spec.specs.Limits.{most_tuned, present};
+ghost use Rattle.rrd_spec.specs.declared.entry.SourceBefore.{SourceBefore};
+ghost use Rattle.rrd_spec.specs.Files.Rebuilding.{outline_left};
+ghost use Rattle.rrd_base.specs.Journal.{entry_of};
+ghost use Rattle.rrd_file.specs.Writer.{Gathers};
+ghost use Rattle.rrd_file.specs.Journal.{HasSmallNumber, IsShaped};
+ghost use Rattle.rrd_file.specs.Layout.{entry_pieces, spelled};
+ghost use Rattle.rrd_file.specs.Layout.Pieces.{ATune, OfCount, OfSourceBefore, OfTag, Piece, spell};
+ghost use Rattle.rrd_file.specs.Stages.{CountDue, DueInEntry, NamedDue, first_due, named_due};
+ghost use Rattle.rrd_file.specs.Layout.Fitting.{FitsSourceBefore};
+ghost use Rattle.rrd_file.specs.Progress.{Brings, Closes, Comes};
+
+use crate::FileFault;
+use crate::fault::bad_entry;
+use crate::layout::{BEFORE_TUNE_SIZE, COUNT_SIZE, SETTINGS_SIZE, Tag, tag_byte};
+use crate::reader::PieceReader;
+use crate::source::def_of;
+use crate::values::{raw_of, two_of};
+use crate::writer::PieceWriter;
+use arrayvec::ArrayVec;
+use rrd_base::{Entry, Judge, Rebuild, SourceBefore};
+use rrd_fixed::WriteFault;
+use std::io::{Read, Write};
+
+// Writes the tag of a tune, and how many sources it named.
+#[tactic(auto, unfolding(crate::specs::Layout::Pieces::spell))]
+fn write_tuned<W: Write>(out: &mut PieceWriter<'_, W>, count: usize) -> Result<(), WriteFault>
+    requires { count ≤ most_tuned }
+    ensures { Gathers W.contents out.old out.new
+        (spelled (OfTag ATune ∷ OfCount count ∷ [])) result }
+{
+    out.make_room()?;
+    out.block.byte(tag_byte(Tag::ATune));
+    out.block.two(count as u64);
+    Ok(())
+}
+
+// Writes a data source before a tune.
+#[tactic(auto, unfolding(crate::specs::Layout::Pieces::spell))]
+fn write_source_before<W: Write>(
+    out: &mut PieceWriter<'_, W>,
+    old: &SourceBefore,
+) -> Result<(), WriteFault>
+    requires { old.now.number < 2 ^ 16 }
+    ensures { Gathers W.contents out.old out.new
+        (spell (OfSourceBefore old.now)) result }
+{
+    out.make_room()?;
+    out.block.two(old.number);
+    out.block.source(&old.source);
+    out.block.raw(old.raw);
+    Ok(())
+}
+
+// Writes the data sources before a tune.
+fn write_sources_before<W: Write>(
+    out: &mut PieceWriter<'_, W>,
+    olds: &[SourceBefore],
+) -> Result<(), WriteFault>
+    requires { AllByRecursion HasSmallNumber olds.now }
+    ensures { Gathers W.contents out.old out.new
+        (spelled (map OfSourceBefore olds.now)) result }
+{
+    for i in 0..olds.len() {
+        write_source_before(out, &olds[i])?;
+    }
+    Ok(())
+}
+
+/// Writes the entry of a tune.
+pub(super) fn write_tune<W: Write>(
+    out: &mut PieceWriter<'_, W>,
+    olds: &[SourceBefore],
+) -> Result<(), WriteFault>
+    requires few { length olds.now ≤ most_tuned }
+    requires numbers { AllByRecursion HasSmallNumber olds.now }
+    ensures { Gathers W.contents out.old out.new
+        (spelled (entry_pieces (TuneEntry olds.now))) result }
+{
+    write_tuned(out, olds.len())?;
+    write_sources_before(out, olds)
+}
+
+// A source before a tune.
+fn source_before_of(bytes: &[u8]) -> Option<SourceBefore>
+    requires { length bytes.now ≡ BEFORE_TUNE_SIZE }
+    ensures some { IfSome result (λ old. FitsSourceBefore old × (spell (OfSourceBefore old) ≡ bytes.now)) }
+    ensures none { result ≡ None → (old : SourceBefore) → FitsSourceBefore old
+        → spell (OfSourceBefore old) ≢ bytes.now }
+{
+    let (number, rest) = two_of(bytes);
+    let (front, rest) = rest.split_at(SETTINGS_SIZE);
+    let Some(source) = def_of(front) else {
+        return None;
+    };
+    let (raw, _) = raw_of(rest);
+    Some(SourceBefore {
+        number,
+        source,
+        raw,
+    })
+}
+
+// Reads how many sources a tune named, 1 to 5.
+fn read_count<R: Read + Drop>(input: &mut PieceReader<R>, build: &Rebuild) -> Result<u64, FileFault>
+    ensures brings { (bytes : List ℕ) (pieces : List Piece) (later : List DueInEntry)
+        → Comes bytes build.now pieces (CountDue ∷ later) input.old
+        → Brings bytes build.now (λ count. pieces ++ OfCount count ∷ []) (λ count. named_due 0 count ++ later)
+        input.new result }
+    ensures few { IfOk result (λ count. count ≤ most_tuned) }
+{
+    let mut piece = [0u8; COUNT_SIZE];
+    input.piece(&mut piece)?;
+    let (count, _) = two_of(&piece);
+    if !Judge::can_name(count) {
+        return Err(bad_entry(build));
+    }
+    Ok(count)
+}
+
+// Reads a source that a tune named, from the lowest number that it may have.
+fn read_named_source<R: Read + Drop>(
+    input: &mut PieceReader<R>,
+    build: &Rebuild,
+    lowest: u64,
+) -> Result<SourceBefore, FileFault>
+    ensures brings { (bytes : List ℕ) (pieces : List Piece) (more : ℕ)
+        → Comes bytes build.now pieces (NamedDue lowest more ∷ []) input.old
+        → Brings bytes build.now (λ old. pieces ++ OfSourceBefore old ∷ []) (λ old. named_due (old.number + 1) more)
+        input.new result }
+    ensures few { IfOk result (λ old. old.number < present.most_sources) }
+{
+    let mut piece = [0u8; BEFORE_TUNE_SIZE];
+    input.piece(&mut piece)?;
+    let Some(old) = source_before_of(&piece) else {
+        return Err(bad_entry(build));
+    };
+    if !build.judge().is_named(lowest, &old) {
+        return Err(bad_entry(build));
+    }
+    Ok(old)
+}
+
+/// Reads what follows the tag of a tune.
+pub(super) fn read_tune<R: Read + Drop>(
+    input: &mut PieceReader<R>,
+    build: &Rebuild,
+) -> Result<Entry, FileFault>
+    ensures closes { (bytes : List ℕ) → Comes bytes build.now (OfTag ATune ∷ []) (first_due ATune) input.old
+        → Closes bytes build.now input.new result }
+    ensures shaped { IfOk result (λ entry. IsShaped (outline_left build.now) (entry_of entry)) }
+{
+    let count = read_count(input, build)?;
+    let mut olds = ArrayVec::new();
+    let mut lowest = 0;
+    for _ in 0..count {
+        let old = read_named_source(input, build, lowest)?;
+        lowest = old.number + 1;
+        olds.push(old);
+    }
+    Ok(Entry::Tune(olds))
+}

@@ -1,0 +1,54 @@
+//! The pieces of an output, one after another.
+ghost use Rattle.std.specs.Prelude.{◌≡◌, ◌+◌, ◌≤◌, [], OnOk, length};
+ghost use Rattle.rrd_fixed.specs.Written.{Writes};
+ghost use Rattle.rrd_file.specs.Writer.{Gathers};
+
+use rrd_fixed::{WriteFault, write_bytes};
+use std::io::Write;
+
+mod block;
+
+pub(crate) use block::Block;
+
+/// A writer behind a block of 32,768 bytes, in which pieces wait until many go out in one write. It takes
+/// no memory. What waits is lost where `write_rest` is not called.
+#[derive(Drop)]
+pub(crate) struct PieceWriter<'a, W: Write> {
+    out: &'a mut W,
+    /// What waits: each piece is added here, once there is room.
+    pub(crate) block: Block,
+}
+
+impl<'a, W: Write> PieceWriter<'a, W> {
+    /// Writes behind what the writer has. Nothing waits yet.
+    pub(crate) fn new(out: &'a mut W) -> PieceWriter<'a, W>
+        ensures same_reference { result.out.ghost_name ≡ out.entry.ghost_name }
+        ensures same { result.out.now ≡ out.old }
+        ensures nothing_waits { result.block ≡ [] }
+    {
+        PieceWriter {
+            out,
+            block: Block::new(),
+        }
+    }
+
+    /// Makes room for a piece, or for a row: where it could lack, all that waits is written.
+    pub(crate) fn make_room(&mut self) -> Result<(), WriteFault>
+        ensures added { Gathers W.contents self.old self.new [] result }
+        ensures room { OnOk result (length self.new.block + 1024 ≤ 32768) }
+    {
+        if !self.block.has_room() {
+            write_bytes(self.out, self.block.as_slice())?;
+            self.block.clear();
+        }
+        Ok(())
+    }
+
+    /// Writes all that waits.
+    pub(crate) fn write_rest(&mut self) -> Result<(), WriteFault>
+        ensures same_reference { self.new.out.ghost_name ≡ self.old.out.ghost_name }
+        ensures written { Writes (W.contents self.old.out.now) (W.contents self.new.out.now) self.old.block result }
+    {
+        write_bytes(self.out, self.block.as_slice())
+    }
+}

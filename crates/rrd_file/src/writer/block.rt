@@ -1,0 +1,109 @@
+//! Bytes that wait to be written, and how many cells are put among them at once.
+ghost use Rattle.std.specs.Prelude.{◌≡◌, ◌+◌, ◌*◌, ◌≤◌, ℕ, [], ◌++◌, List, length, true};
+ghost use Rattle.std.specs.List.{flat_map};
+ghost use Rattle.rrd_file.specs.Layout.Values as spelling;
+
+use crate::cells::cell_halves;
+use crate::layout::CELL_SIZE;
+use rrd_fixed::Cell;
+use std::marker::Model;
+
+/// The bytes that fit.
+const ROOM: usize = 32_768;
+
+/// The bytes of the longest row, 64 cells: no piece has more.
+const LONGEST: usize = 1_024;
+
+/// Bytes that wait to be written, at most 32,768. Contracts see their list.
+#[derive(Drop)]
+pub(crate) struct Block {
+    // Of these the first `len`.
+    bytes: [u8; ROOM],
+    len: usize,
+}
+
+impl Model for Block {
+    ghost use Rattle.std.specs.Prelude.{List, ℕ, ◌≤◌, take};
+
+    ghost Value = { List ℕ };
+
+    ghost view = { λ b. take b.len b.bytes };
+
+    ghost invariant = { λ b. b.len ≤ 32768 };
+}
+
+impl Block {
+    /// No bytes yet.
+    pub(crate) fn new() -> Block
+        ensures { result ≡ [] }
+    {
+        Block {
+            bytes: [0; ROOM],
+            len: 0,
+        }
+    }
+
+    /// The bytes.
+    pub(crate) fn as_slice(&self) -> &[u8]
+        ensures { result.now ≡ self.now }
+    {
+        &self.bytes[..self.len]
+    }
+
+    /// Whether there is room for a piece, or for a row.
+    pub(crate) fn has_room(&self) -> bool
+        ensures { result ≡ true → length self.now + 1024 ≤ 32768 }
+    {
+        ROOM - self.len >= LONGEST
+    }
+
+    /// Forgets the bytes, which were written.
+    pub(crate) fn clear(&mut self)
+        ensures { self.new ≡ [] }
+    {
+        self.len = 0;
+    }
+
+    /// Adds bytes.
+    pub(crate) fn add(&mut self, bytes: &[u8])
+        requires { length self.old + length bytes.now ≤ 32768 }
+        ensures { self.new ≡ self.old ++ bytes.now }
+    {
+        let end = self.len + bytes.len();
+        self.bytes[self.len..end].copy_from_slice(bytes);
+        self.len = end;
+    }
+
+    /// Adds cells.
+    pub(crate) fn cells(&mut self, cells: &[Cell])
+        requires { length self.old + CELL_SIZE * length cells.now ≤ 32768 }
+        ensures { self.new ≡ self.old ++ flat_map spelling.cell_bytes cells.now }
+    {
+        let end = self.len + CELL_SIZE * cells.len();
+        put_cells(&mut self.bytes[self.len..end], cells);
+        self.len = end;
+    }
+}
+
+// Writes a cell over sixteen bytes.
+fn put_cell(place: &mut [u8], cell: Cell)
+    requires { length place.old ≡ CELL_SIZE }
+    ensures { place.new ≡ spelling.cell_bytes cell }
+{
+    let halves = cell_halves(cell);
+    place[..8].copy_from_slice(&halves.high.to_be_bytes());
+    place[8..].copy_from_slice(&halves.low.to_be_bytes());
+}
+
+// Writes cells over bytes, sixteen for each.
+fn put_cells(place: &mut [u8], cells: &[Cell])
+    requires { length place.old ≡ CELL_SIZE * length cells.now }
+    ensures { place.new ≡ flat_map spelling.cell_bytes cells.now }
+{
+    for i in 0..cells.len() {
+        put_cell(
+            &mut place[CELL_SIZE * i..CELL_SIZE * i + CELL_SIZE],
+            cells[i],
+        );
+    }
+}
