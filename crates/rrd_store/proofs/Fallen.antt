@@ -1,10 +1,10 @@
 -- What a place has after a change, whole or not.
-use Rattle.std.proofs.Common.{◌≡◌, ◌∙◌, ◌++◌, ◌∷◌, [], ℕ, List, Option, Some, None, Result, Ok, Err, true, false, ap, refl, inl, inr, append_assoc, append-nil, option_map}
+use Rattle.std.proofs.Common.{◌≡◌, ◌∙◌, ◌++◌, ◌∷◌, [], ℕ, List, Option, Some, None, Result, Ok, Err, true, false, length, ap, sym, refl, inl, inr, append_assoc, append-nil, option_map}
 use Rattle.std.specs.Io.KnownBytes.{Appends}
 use Rattle.std.specs.Result.{is_err}
 use Rattle.rrd_fixed.specs.Written.{AppendsFront, Writes}
 use Rattle.rrd_fixed.specs.declared.streams.WriteFault.{WriteFault}
-use Rattle.rrd_store.specs.Places.{Becomes, Bytes, Cuts, FallsBack, Held, IsBegun, IsCutFrom, IsReady, Missing, Stays, TakesOver}
+use Rattle.rrd_store.specs.Places.{AreAll, Becomes, Bytes, Cuts, FallsBack, Held, IsBegun, IsCutFrom, IsFor, IsReady, Missing, Stays, TakesOver}
 
 -- a front of what stands before a byte has one more behind it
 front_cut : (old new : Option Held) (bytes written front more : List ℕ) (next : ℕ) (rest : List ℕ)
@@ -66,6 +66,13 @@ cut_from old mid new bytes some (Made none e) k = elim (rw e at k) [
 begun_written : (begun written : Option (List ℕ)) (bytes : List ℕ) → begun ≡ Some [] → Appends begun written bytes → written ≡ Some bytes
 begun_written begun None bytes b a = absurd (rw b at a)
 begun_written begun (Some written) bytes b a = ap (λ (x : List ℕ). Some x) (rw b at a)
+
+-- all was written, as many bytes as were announced
+pub all_announced : (count : ℕ) (announced : Option ℕ) (begun written : Option (List ℕ)) (bytes : List ℕ) → count ≡ length bytes → IsFor count announced begun
+    → Appends begun written bytes → AreAll announced written
+all_announced count None begun written bytes many b a = tt
+all_announced count (Some announced) begun written bytes many b a =
+    ap (option_map (λ (x : List ℕ). length x)) (begun_written begun written bytes b.1 a) ∙ ap (λ (n : ℕ). Some n) (sym (b.0 ∙ many))
 
 -- all was written, and the place took it over
 pub taken : (old mid new : Option Held) (begun written : Option (List ℕ)) (bytes : List ℕ) → IsReady old mid → IsBegun old begun

@@ -1,5 +1,5 @@
 -- Definition: what a place keeps, what is found there, and what is left there.
-use Rattle.std.specs.Prelude.{◌≡◌, ◌⊎◌, ◌++◌, ◌∷◌, [], ℕ, List, Option, Some, None, Result, Ok, Err, ⊤, option_map}
+use Rattle.std.specs.Prelude.{◌≡◌, ◌⊎◌, ◌++◌, ◌∷◌, [], ℕ, List, Option, Some, None, Result, Ok, Err, ⊤, length, option_map}
 use Rattle.rrd_file.specs.Faults.{IsAnswer}
 use Rattle.rrd_file.specs.Laws.{IsValidStored}
 use Rattle.rrd_file.specs.Layout.{layout}
@@ -44,6 +44,16 @@ IsReady (Some (Bytes bytes)) new = Stays (Some (Bytes bytes)) new
 abbrev pub IsBegun : Option Held → Option (List ℕ) → Type 0
 IsBegun None written = ⊤
 IsBegun (Some old) written = written ≡ Some []
+
+-- a change for so many bytes, none of which is written yet
+abbrev pub IsFor : ℕ → Option ℕ → Option (List ℕ) → Type 0
+IsFor count None written = ⊤
+IsFor count (Some announced) written = (announced ≡ count) × (written ≡ Some [])
+
+-- as many bytes were written as the change is for
+abbrev pub AreAll : Option ℕ → Option (List ℕ) → Type 0
+AreAll None written = ⊤
+AreAll (Some announced) written = option_map (λ (bytes : List ℕ). length bytes) written ≡ Some announced
 
 -- it has what was written
 abbrev pub TakesOver : Option Held → Option Held → Option (List ℕ) → Type 0

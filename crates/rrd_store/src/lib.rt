@@ -5,7 +5,6 @@ mod batch;
 mod ending;
 mod faults;
 pub mod laws;
-mod length;
 mod place;
 mod single;
 mod stored;

@@ -1,6 +1,6 @@
 //! A place that keeps a database as bytes.
-ghost use Rattle.std.specs.Prelude.{◌≡◌, IfOk, None, OnErr, OnOk, Option};
-ghost use Rattle.rrd_store.specs.Places.{Cuts, FallsBack, Held, IsBegun, IsReady, Opens, TakesOver};
+ghost use Rattle.std.specs.Prelude.{◌≡◌, ℕ, IfOk, None, OnErr, OnOk, Option};
+ghost use Rattle.rrd_store.specs.Places.{AreAll, Cuts, FallsBack, Held, IsBegun, IsFor, IsReady, Opens, TakesOver};
 
 use std::io;
 use std::io::{Read, Write};
@@ -19,6 +19,9 @@ pub enum Access {
 pub trait Place {
     // What it has, where that is known.
     ghost contents: { Self → Option Held } = { λ _. None };
+
+    // How many bytes the last change that began is for, where that is known.
+    ghost announced: { Self → Option ℕ } = { λ _. None };
 
     /// What reads its bytes.
     type Reader: Read + Drop;
@@ -41,12 +44,14 @@ pub trait Place {
     /// Errors: they can't be written, or there is no room for them.
     fn begin(&mut self, length: u64) -> io::Result<Self::Writer>
         ensures ready { IsReady (contents self.old) (contents self.new) }
-        ensures begun { IfOk result (λ writer. IsBegun (contents self.old) (Self.Writer.contents writer)) };
+        ensures begun { IfOk result (λ writer. IsBegun (contents self.old) (Self.Writer.contents writer)) }
+        ensures announced { IfOk result (λ writer. IsFor length (announced self.new) (Self.Writer.contents writer)) };
 
-    /// Has the bytes that were written in place of its own.
+    /// Has the bytes that were written in place of its own: as many as the change that began is for.
     ///
     /// Errors: its bytes stay, or a front of the others is there, and not all.
     fn end(&mut self, writer: Self::Writer) -> io::Result<()>
+        requires { AreAll (announced self.old) (Self.Writer.contents writer) }
         ensures ok { OnOk result (TakesOver (contents self.old) (contents self.new) (Self.Writer.contents writer)) }
         ensures err { OnErr result (Cuts (contents self.old) (contents self.new) (Self.Writer.contents writer)) };
 

@@ -3,10 +3,9 @@ ghost use Rattle.std.specs.Prelude.{◌≡◌, option_map};
 ghost use Rattle.rrd_store.specs.Places.{Finds, Leaves, Replaces};
 ghost use Rattle.rrd_file.specs.Layout.{layout};
 
-use crate::length::length_of;
 use crate::{Access, Place, TaskFault};
 use rrd_base::Database;
-use rrd_file::{decode, encode};
+use rrd_file::{decode, encode, encoded_length};
 use std::alloc::Global;
 
 /// The database in a place; none where nothing is there.
@@ -38,7 +37,7 @@ pub(crate) fn load<P: Place>(
 fn replace<P: Place>(place: &mut P, database: &Database) -> Result<(), TaskFault>
     ensures { Replaces (P.contents place.old) (P.contents place.new) (layout database.now) result }
 {
-    let Ok(mut writer) = place.begin(length_of(database)) else {
+    let Ok(mut writer) = place.begin(encoded_length(database)) else {
         return Err(TaskFault::CannotWrite);
     };
     if encode(database, &mut writer).is_err() {

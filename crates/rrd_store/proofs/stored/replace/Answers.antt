@@ -1,6 +1,6 @@
 use Rattle.rrd_file.specs.Layout.{layout}
 use Rattle.rrd_spec.specs.Limits.{newest}
-use Rattle.rrd_store.proofs.Fallen.{fallen, ready_cut, untaken, writes_all, writes_front}
+use Rattle.rrd_store.proofs.Fallen.{all_announced, fallen, ready_cut, untaken, writes_all, writes_front}
 use Rattle.rrd_store.proofs.Found.{some_layout}
 use Rattle.rrd_store.proofs.stored.replace.Goals as goal
 
@@ -18,6 +18,13 @@ returns-then-is_err g c =
     let written = g.P.Writer.Write.contents c.encode.new.out in
     let front = writes_front begun written (layout c.args.database.now) c.encode.result (cc) c.encode.ensures in
     fallen old mid new begun written (layout c.args.database.now) c.begin.ensures.ready c.in-Ok.ensures.begun front c.give_up.ensures
+
+pub end-requires : goal.end-requires
+end-requires g c =
+    let begun = g.P.Writer.Write.contents c.in-Ok.writer in
+    let written = g.P.Writer.Write.contents c.encode.new.out in
+    let all = writes_all begun written (layout c.args.database.now) c.encode.result (cc) c.encode.ensures in
+    all_announced c.encoded_length.result (g.P.Place.announced c.begin.new.self) begun written (layout c.args.database.now) c.encoded_length.ensures c.in-Ok.ensures.announced all
 
 pub returns-in-Err : goal.returns-in-Err
 returns-in-Err g c =
