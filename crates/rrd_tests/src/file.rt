@@ -3,3 +3,4 @@
 pub(crate) mod bytes;
 pub(crate) mod decoding;
 mod each_call;
+mod lengths;

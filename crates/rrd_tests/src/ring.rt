@@ -4,7 +4,7 @@ ghost use Rattle.std.specs.Prelude.{◌≡◌, length, IfOk};
 ghost use Rattle.rrd_ring.specs.Rows.{width, HasWidth};
 
 use rrd_fixed::{Cell, Meter};
-use rrd_ring::{Archive, Dropped};
+use rrd_ring::{Archive, Dropped, Table};
 use std::alloc::{AllocError, Global};
 use std::process::Abort;
 use std::test::Fail;
@@ -163,6 +163,111 @@ fn rows_come_back_round_the_end(rt: HostRuntime) -> Result<(), Fail> {
     assert_rows(&rt, &archive, &[EIGHT, NINE, TEN]);
     archive.row_mut(2).copy_from_slice(&[THREE]);
     assert_rows(&rt, &archive, &[EIGHT, NINE, THREE]);
+    Ok(())
+}
+
+// A row of three, the cells that are put from it on, and the three rows then.
+const PUT: &[(u64, &[Cell], &[Cell])] = &[
+    (0, &[], &[EIGHT, NINE, TEN]),
+    (0, &[ONE], &[ONE, NINE, TEN]),
+    (1, &[ONE, TWO], &[EIGHT, ONE, TWO]),
+    (2, &[ONE, TWO], &[TWO, NINE, ONE]),
+    (2, &[ONE, TWO, THREE], &[TWO, THREE, ONE]),
+];
+
+#[test]
+fn rows_are_put_round_the_end(rt: HostRuntime) -> Result<(), Fail> {
+    let alloc = rt.alloc();
+    for (first, cells, rows) in PUT {
+        let mut archive = pushed_to_ten(&rt, alloc)?;
+        let count = cells.len() as u64;
+        assert!(&rt; *first < archive.rows() && count <= archive.rows());
+        archive.put_rows(*first, count, cells);
+        assert_rows(&rt, &archive, rows);
+    }
+    Ok(())
+}
+
+// The same of rows that become unknown, so many.
+const FORGOTTEN: &[(u64, u64, &[Cell])] = &[
+    (0, 0, &[EIGHT, NINE, TEN]),
+    (0, 1, &[UNKNOWN, NINE, TEN]),
+    (1, 2, &[EIGHT, UNKNOWN, UNKNOWN]),
+    (2, 2, &[UNKNOWN, NINE, UNKNOWN]),
+    (1, 3, &[UNKNOWN, UNKNOWN, UNKNOWN]),
+];
+
+#[test]
+fn rows_become_unknown_round_the_end(rt: HostRuntime) -> Result<(), Fail> {
+    let alloc = rt.alloc();
+    for (first, count, rows) in FORGOTTEN {
+        let mut archive = pushed_to_ten(&rt, alloc)?;
+        assert!(&rt; *first < archive.rows() && *count <= archive.rows());
+        archive.put_unknown(*first, *count);
+        assert_rows(&rt, &archive, rows);
+    }
+    Ok(())
+}
+
+// Four rows that are written from the third on: what isn't written stays unknown.
+#[test]
+fn rows_are_written_from_one_on(rt: HostRuntime) -> Result<(), Fail> {
+    let alloc = rt.alloc();
+    let mut archive = Archive::new_from(alloc, 4, 1, 2)?;
+    assert_rows(&rt, &archive, &[UNKNOWN, UNKNOWN, UNKNOWN, UNKNOWN]);
+    archive.put_rows(2, 1, &[ONE]);
+    archive.put_unknown(3, 2);
+    assert_rows(&rt, &archive, &[UNKNOWN, UNKNOWN, ONE, UNKNOWN]);
+    archive.put_rows(1, 1, &[TWO]);
+    assert_rows(&rt, &archive, &[UNKNOWN, TWO, ONE, UNKNOWN]);
+    Ok(())
+}
+
+// The rows are lent from the oldest on in these runs, of rows of one cell.
+fn assert_runs<T: Table>(rt: &impl Abort, rows: &T, runs: &[&[Cell]]) {
+    let mut first = 0;
+    for cells in runs {
+        assert!(rt; first < rows.count());
+        let (count, lent) = rows.together(first, rows.count() - first);
+        assert_eq!(rt; lent, *cells);
+        assert_eq!(rt; count, cells.len() as u64);
+        first += count;
+    }
+    assert_eq!(rt; first, rows.count());
+}
+
+#[test]
+fn rows_are_lent_together(rt: HostRuntime) -> Result<(), Fail> {
+    let alloc = rt.alloc();
+    let archive = pushed_to_ten(&rt, alloc)?;
+    assert_runs(&rt, &archive, &[&[EIGHT, NINE], &[TEN]]);
+    let dropped = archive.oldest(alloc, 3)?;
+    assert_runs(&rt, &dropped, &[&[EIGHT, NINE, TEN]]);
+    let mut archive = Archive::new(alloc, 3, 1)?;
+    assert_runs(&rt, &archive, &[&[UNKNOWN], &[UNKNOWN], &[UNKNOWN]]);
+    push(&rt, &mut archive, ONE);
+    push(&rt, &mut archive, TWO);
+    assert_runs(&rt, &archive, &[&[UNKNOWN], &[ONE, TWO]]);
+    assert_runs(&rt, &Dropped::new(alloc, 0, 1)?, &[]);
+    Ok(())
+}
+
+// Two cells in a row: no more rows are lent than are asked for.
+#[test]
+fn wider_rows_are_lent_as_asked(rt: HostRuntime) -> Result<(), Fail> {
+    let alloc = rt.alloc();
+    let mut archive = Archive::new(alloc, 3, 2)?;
+    archive.put_rows(0, 3, &[ONE, TWO, THREE, FOUR, FIVE, SIX]);
+    for (first, most, cells) in [
+        (0, 1, [ONE, TWO].as_slice()),
+        (0, 3, &[ONE, TWO, THREE, FOUR, FIVE, SIX]),
+        (1, 2, &[THREE, FOUR, FIVE, SIX]),
+        (2, 1, &[FIVE, SIX]),
+    ] {
+        let (count, lent) = archive.run(first, most);
+        assert_eq!(&rt; count, most);
+        assert_eq!(&rt; lent, cells);
+    }
     Ok(())
 }
 

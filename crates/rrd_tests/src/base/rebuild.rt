@@ -154,6 +154,81 @@ fn bad_preparations_and_cells(rt: HostRuntime) -> Result<(), Fail> {
     Ok(())
 }
 
+// Two sources and an archive of three rows: what a file says of it before its cells.
+fn with_two_sources(alloc: Global) -> Result<Rebuild, Fail> {
+    let mut pieces = begun(alloc, 2, 0)?;
+    taken(pieces.source(gauge(b"a", 100)?, Raw::Unknown, 0, 0))?;
+    taken(pieces.source(gauge(b"b", 100)?, Raw::Unknown, 0, 0))?;
+    taken(pieces.archive(archive(1, 3)))?;
+    taken(pieces.prep(0, 0))?;
+    taken(pieces.prep(0, 0))?;
+    Ok(pieces)
+}
+
+const PAST: Cell = Cell::Known(18_446_744_073_709_551_615_000_001);
+
+// Cells that come at once, and how many are taken: up to one past the greatest rate, and no more than are due.
+const CELLS: &[(&[Cell], usize)] = &[
+    (&[], 0),
+    (&[PAST, ONE], 0),
+    (&[ONE], 1),
+    (&[ONE, PAST], 1),
+    (&[ONE, NONE, PAST, ONE], 2),
+    (&[ONE, NONE, ONE, PAST], 3),
+    (&[ONE, ONE, ONE, ONE, NONE, PAST], 5),
+    (&[NONE, NONE, NONE, NONE, NONE, NONE, NONE], 6),
+    (&[ONE, NONE, NONE, ONE, ONE, ONE, ONE, ONE], 6),
+];
+
+#[test]
+fn cells_that_come_at_once(rt: HostRuntime) -> Result<(), Fail> {
+    let alloc = rt.alloc();
+    for (cells, count) in CELLS {
+        let mut pieces = with_two_sources(alloc)?;
+        assert_eq!(&rt; pieces.cells(cells), *count);
+        // One by one they come to the same.
+        let mut again = with_two_sources(alloc)?;
+        for cell in cells.get(..*count).ok_or("short")? {
+            taken(again.cell(*cell))?;
+        }
+        for _ in *count..6 {
+            taken(pieces.cell(ONE))?;
+            taken(again.cell(ONE))?;
+        }
+        let (one, other) = (finished(&rt, pieces), finished(&rt, again));
+        assert_eq!(&rt;
+            file_of(alloc, &one)?.as_slice(),
+            file_of(alloc, &other)?.as_slice()
+        );
+    }
+    Ok(())
+}
+
+// Whole rows alone are taken, and none where the next cell isn't the first of a row.
+#[test]
+fn rows_that_come_at_once(rt: HostRuntime) -> Result<(), Fail> {
+    let alloc = rt.alloc();
+    let mut pieces = with_two_sources(alloc)?;
+    assert_eq!(&rt; pieces.cells_in_row(), 2);
+    assert_eq!(&rt; pieces.rows(&[ONE]), 0);
+    assert_eq!(&rt; pieces.unknown_rows(1), 0);
+    assert_eq!(&rt; pieces.rows(&[ONE, NONE, ONE]), 2);
+    taken(pieces.cell(NONE))?;
+    assert_eq!(&rt; pieces.rows(&[ONE, ONE]), 0);
+    assert_eq!(&rt; pieces.unknown_rows(2), 0);
+    taken(pieces.cell(ONE))?;
+    assert_eq!(&rt; pieces.unknown_rows(64), 2);
+    assert_eq!(&rt; pieces.unknown_rows(64), 0);
+    let database = finished(&rt, pieces);
+    // The last time is 10, in slot 1: the newest row stands there.
+    let rows = database.rows(0);
+    for (number, row) in [[NONE, NONE], [ONE, NONE], [NONE, ONE]].iter().enumerate() {
+        assert!(&rt; (number as u64) < rows.rows());
+        assert_eq!(&rt; rows.row(number as u64), row.as_slice());
+    }
+    Ok(())
+}
+
 // An update that took no time, and a tune of a source that isn't there: the right one fits after them.
 #[test]
 fn bad_entries(rt: HostRuntime) -> Result<(), Fail> {

@@ -382,7 +382,8 @@ pub(crate) const NEW: &str = "create --step 10 --start 0 DS:g:GAUGE:100:U:U RRA:
 pub(crate) const SAMPLED: &str = "create --step 10 --start 0 DS:g:GAUGE:100:U:U RRA:LAST:0.5:1:4\n\
 update 10:1\n";
 
-const TAKEN_BACK: &str = "create --step 10 --start 0 DS:g:GAUGE:100:U:U RRA:LAST:0.5:1:4\n\
+pub(crate) const TAKEN_BACK: &str =
+    "create --step 10 --start 0 DS:g:GAUGE:100:U:U RRA:LAST:0.5:1:4\n\
 update 10:1\n\
 revert\n";
 
@@ -394,12 +395,12 @@ tune --heartbeat g:200 --minimum g:-2\n\
 resize 0 GROW 2\n";
 
 // Two archives and two sources: a gauge, and one that counts up and down and has bounds.
-const TWO_SOURCES: &str = "create --step 10 --start 0 --journal 2 \
+pub(crate) const TWO_SOURCES: &str = "create --step 10 --start 0 --journal 2 \
 DS:a:GAUGE:100:U:U DS:b:DERIVE:100:-10:4.5 RRA:LAST:0.5:1:6 RRA:MAX:0.5:2:3\n";
 
 // Samples at 10 (a 1, b 100) and at 35 (a 2, b 50). So b falls by 2 a second from 10 on. The rows at
 // -20 and -10 of the first archive stand in the slots 4 and 5, the row at -20 of the second in slot 2.
-const TWO_SOURCES_SAMPLED: &str = "create --step 10 --start 0 --journal 2 \
+pub(crate) const TWO_SOURCES_SAMPLED: &str = "create --step 10 --start 0 --journal 2 \
 DS:a:GAUGE:100:U:U DS:b:DERIVE:100:-10:4.5 RRA:LAST:0.5:1:6 RRA:MAX:0.5:2:3\n\
 update 10:1:100 35:2:50\n";
 
@@ -412,14 +413,15 @@ update 144:9:4\n\
 resize 0 SHRINK 2\n";
 
 // A row of four steps, two of which have come.
-const HALF_A_ROW: &str = "create --step 10 --start 0 DS:g:GAUGE:100:U:U RRA:AVERAGE:0.5:4:3\n\
+pub(crate) const HALF_A_ROW: &str =
+    "create --step 10 --start 0 DS:g:GAUGE:100:U:U RRA:AVERAGE:0.5:4:3\n\
 update 20:1\n";
 
 // The lines of several databases.
 pub(crate) const DATABASES: &[&str] = &[NEW, SAMPLED, TWO_SOURCES, THREE_CHANGES, HALF_A_ROW];
 
 // A second archive is added, and then the first one is removed.
-const ADDED: &str = "create --step 10 --start 0 DS:g:GAUGE:100:U:U RRA:LAST:0.5:1:4\n\
+pub(crate) const ADDED: &str = "create --step 10 --start 0 DS:g:GAUGE:100:U:U RRA:LAST:0.5:1:4\n\
 tune RRA:LAST:0.5:1:4\n";
 
 pub(crate) const REMOVED: &str = "create --step 10 --start 0 DS:g:GAUGE:100:U:U RRA:LAST:0.5:1:4\n\

@@ -467,6 +467,64 @@ fn a_long_file(rt: HostRuntime) -> Result<(), Fail> {
     Ok(())
 }
 
+// Three sources and rows across the end of what comes at once: the cells begin at 394, so the cell 4,071 lies
+// across it, and the row of 4,071 to 4,073.
+const ACROSS: &str =
+    "create --step 10 --start 0 DS:a:GAUGE:100:U:U DS:b:GAUGE:100:U:U DS:c:GAUGE:100:U:U RRA:LAST:0.5:1:2000\n";
+
+// The file with all cells unknown, or known and zero.
+fn file_across(alloc: Global, known: bool) -> Result<Vec<u8>, Fail> {
+    let mut bytes = file_of(alloc, &database_of(alloc, ACROSS)?)?;
+    if known {
+        for cell in 0..6_000 {
+            *bytes.get_mut(394 + 16 * cell).ok_or("short")? = 0;
+        }
+    }
+    Ok(bytes)
+}
+
+#[test]
+fn rows_across_the_end_of_a_block(rt: HostRuntime) -> Result<(), Fail> {
+    let alloc = rt.alloc();
+    for known in [false, true] {
+        let bytes = file_across(alloc, known)?;
+        assert_eq!(&rt; bytes.len(), 394 + 16 * 6_000);
+        assert_eq!(&rt; again(alloc, &bytes)?.as_slice(), bytes.as_slice());
+        // A cell past the greatest rate, at each place of the row across the end and of those beside it.
+        for cell in 4_068..4_077 {
+            let at = 394 + 16 * cell;
+            let wrong = changed(alloc, &bytes, at, 127)?;
+            let fault = FileFault::BadBlock { at: at as u64 };
+            assert_eq!(&rt; fault_of(alloc, &wrong), Some(fault), "{cell}");
+            // Other cells have the other kind.
+            let other = changed(alloc, &bytes, at, if known { 128 } else { 0 })?;
+            assert_eq!(&rt; again(alloc, &other)?.as_slice(), other.as_slice());
+        }
+    }
+    Ok(())
+}
+
+// The input ends within that row, and before it within one there is a cell past the greatest rate.
+#[test]
+fn a_cut_row_across_the_end_of_a_block(rt: HostRuntime) -> Result<(), Fail> {
+    let alloc = rt.alloc();
+    let bytes = file_across(alloc, true)?;
+    for length in 65_530..65_580usize {
+        let front = bytes.get(..length).ok_or("short")?;
+        let at = length as u64;
+        assert_eq!(&rt; fault_of(alloc, front), Some(FileFault::Truncated { at }));
+    }
+    let wrong = changed(alloc, &bytes, 65_530, 127)?;
+    for (length, fault) in [
+        (65_545, FileFault::Truncated { at: 65_545 }),
+        (65_546, FileFault::BadBlock { at: 65_530 }),
+    ] {
+        let front = wrong.get(..length).ok_or("short")?;
+        assert_eq!(&rt; fault_of(alloc, front), Some(fault));
+    }
+    Ok(())
+}
+
 // ---- the texts of faults
 
 pub(crate) const FILE_FAULTS: &[(FileFault, &str)] = &[

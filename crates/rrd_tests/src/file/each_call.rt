@@ -46,6 +46,9 @@ fn each_read_of_a_file_fails(rt: HostRuntime) -> Result<(), Fail> {
     Ok(())
 }
 
+const THREE_SOURCES: &str =
+    "create --step 10 --start 0 DS:a:GAUGE:100:U:U DS:b:GAUGE:100:U:U DS:c:GAUGE:100:U:U RRA:LAST:0.5:1:2\n";
+
 // What these lines leave has, taken together, an entry of each kind in its journal.
 const JOURNALS: [&str; 2] = [FOUR_CHANGES, ARCHIVES_CHANGED];
 
@@ -59,22 +62,37 @@ fn each_read_of_entries_fails(rt: HostRuntime) -> Result<(), Fail> {
     Ok(())
 }
 
-// What is wrong with a piece is told once it is whole, though a later read fails. The source has the bytes
-// from 30 up to 127.
+// What is wrong with a piece that begins at a byte is told once it is whole, though a later read fails.
+fn assert_told_once_whole(rt: &impl Abort, alloc: Global, bytes: &[u8], at: u64, whole: usize) {
+    for calls in 0..bytes.len() {
+        let wanted = if calls < whole {
+            FileFault::Read
+        } else {
+            FileFault::BadBlock { at }
+        };
+        let fault = fault_after(alloc, bytes, calls, ErrorKind::Other);
+        assert_eq!(rt; fault, Some(wanted), "{calls}");
+    }
+}
+
+// The source has the bytes from 30 up to 127.
 #[test]
-fn an_earlier_piece_is_told_first(rt: HostRuntime) -> Result<(), Fail> {
+fn an_earlier_source_is_told_first(rt: HostRuntime) -> Result<(), Fail> {
     let alloc = rt.alloc();
     let mut bytes = sampled_file(alloc)?;
     *bytes.get_mut(50).ok_or("short")? = 4;
-    for calls in 0..bytes.len() {
-        let wanted = if calls < 127 {
-            FileFault::Read
-        } else {
-            FileFault::BadBlock { at: 30 }
-        };
-        let fault = fault_after(alloc, &bytes, calls, ErrorKind::Other);
-        assert_eq!(&rt; fault, Some(wanted), "{calls}");
-    }
+    assert_told_once_whole(&rt, alloc, &bytes, 30, 127);
+    Ok(())
+}
+
+// A row has three cells, and the first row the bytes from 394 up to 442. Its second cell is past the greatest rate.
+#[test]
+fn an_earlier_cell_of_a_row_is_told_first(rt: HostRuntime) -> Result<(), Fail> {
+    let alloc = rt.alloc();
+    let mut bytes = file_of(alloc, &database_of(alloc, THREE_SOURCES)?)?;
+    assert_eq!(&rt; bytes.len(), 490);
+    *bytes.get_mut(410).ok_or("short")? = 127;
+    assert_told_once_whole(&rt, alloc, &bytes, 410, 426);
     Ok(())
 }
 

@@ -75,6 +75,8 @@ impl Write for Waiting {
 impl Place for InMemory {
     ghost contents = { λ s. Some (if s.is_missing then Missing else Bytes s.bytes.items) };
 
+    ghost announced = { λ s. s.expected };
+
     type Reader = Cursor<Vec<u8>>;
 
     type Writer = Waiting;
