@@ -33,8 +33,8 @@ install: $(PROGRAM)
 	sed 's|^\.Pa docs/|.Pa $(PREFIX)/share/rrdi/docs/|' docs/rrdi.1 > "$(MANUALS)/rrdi.1"
 	chmod 644 "$(MANUALS)/rrdi.1"
 	install -m 644 examples/rrdi.bash "$(COMPLETIONS)/rrdi"
-	install -m 644 README.md CHANGELOG.md VERSION "$(SHARED)"
-	install -m 644 docs/*.md docs/*.png docs/first-session.txt "$(SHARED)/docs"
+	install -m 644 README.md CHANGELOG.md CONTRIBUTING.md LICENSE* VERSION "$(SHARED)"
+	install -m 644 docs/*.md docs/*.png docs/rrdi.1 docs/first-session.txt "$(SHARED)/docs"
 	@for file in examples/*; do \
 		if [ -d "$$file" ]; then continue; fi; \
 		if [ -x "$$file" ]; then mode=755; else mode=644; fi; \
@@ -45,11 +45,13 @@ uninstall:
 	rm -f "$(BINARIES)/rrdi" "$(MANUALS)/rrdi.1" "$(COMPLETIONS)/rrdi"
 	rm -rf "$(SHARED)"
 
-# The folder of the package is that of an installation below /usr, with what Debian wants beside it.
+# The folder of the package is that of an installation below /usr, with what Debian wants beside it: the licenses are in
+# its copyright.
 deb: $(PROGRAM)
 	rm -rf $(PACKAGE)
 	$(MAKE) --no-print-directory install PREFIX=/usr DESTDIR=$(PACKAGE) PROGRAM="$(PROGRAM)"
 	strip --remove-section=.comment $(PACKAGE)/usr/bin/rrdi
+	rm $(PACKAGE)/usr/share/rrdi/LICENSE*
 	gzip -9n $(PACKAGE)/usr/share/man/man1/rrdi.1
 	install -d $(PACKAGE)/DEBIAN $(PACKAGE)/usr/share/doc/rrdi
 	install -m 644 docs/debian-copyright $(PACKAGE)/usr/share/doc/rrdi/copyright
