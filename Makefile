@@ -1,19 +1,35 @@
-# Builds, installs and packages rrdi. docs/install.md tells more.
+# Builds, installs and packages rrdi. docs/install.md has more.
 #
-#     make                                   proves and builds the program, with rt on the PATH
+#     make                                   proves and builds the program and the library, with rt on the PATH
+#     make library                           links the library in out/: librrdi.a, librrdi.so.0 and rrdi.pc
 #     make install [PREFIX=/usr/local] [DESTDIR=folder]
 #     make uninstall [PREFIX=/usr/local] [DESTDIR=folder]
 #     make deb                               a package of Debian, out/rrdi_VERSION_ARCHITECTURE.deb
 #
-# PROGRAM=file names another program than the one that `make` builds.
+# PROGRAM=file names another program than the one that `make` builds, and ARCHIVE=file another archive of the library.
 
 PREFIX = /usr/local
 DESTDIR =
 PROGRAM = crates/rrdi/out/rrdi
+ARCHIVE = out/librrdi_c.a
+# Where the library is linked, and what of C the kit's code calls: malloc, realloc, free and errno.
+BUILD = out
+KIT = $(dir $(realpath $(shell command -v rt)))..
+OF_KIT = $(KIT)/c/libos_c.a $(KIT)/c/liblibc_c.a
+EXPORTS = rrdi_run rrdi_batch rrdi_run_file rrdi_batch_file
+# Where below PREFIX the library goes; Debian has lib/x86_64-linux-gnu.
+LIBDIR = lib
+LIBRARIES = $(DESTDIR)$(PREFIX)/$(LIBDIR)
+HEADERS = $(DESTDIR)$(PREFIX)/include
+MANUALS_OF_C = $(DESTDIR)$(PREFIX)/share/man/man3
 BINARIES = $(DESTDIR)$(PREFIX)/bin
 MANUALS = $(DESTDIR)$(PREFIX)/share/man/man1
 COMPLETIONS = $(DESTDIR)$(PREFIX)/share/bash-completion/completions
 SHARED = $(DESTDIR)$(PREFIX)/share/rrdi
+PYTHON = $(SHARED)/python
+# Where below PREFIX the link to the Python package goes: Debian's python3 looks there if PREFIX is /usr.
+PYTHONDIR = lib/python3/dist-packages
+MODULES = $(DESTDIR)$(PREFIX)/$(PYTHONDIR)
 
 VERSION := $(shell cat VERSION)
 PACKAGE := out/rrdi_$(VERSION)
@@ -21,20 +37,62 @@ MAINTAINER := Bengcodla maintainers <maintainers@users.noreply.bengcodla.example
 
 all:
 	cd crates/rrdi && rt run -- batch < ../../docs/first-session.txt
+	library/build
+	$(MAKE) --no-print-directory library
+
+# Other names than those of rrdi.h can't be seen of either library, so they can't clash with those of another one.
+library: $(BUILD)/librrdi.so.0 $(BUILD)/librrdi.a
+
+$(BUILD)/librrdi.so.0: $(ARCHIVE) include/librrdi.map
+	mkdir -p $(BUILD)
+	$(CC) -shared -o $@ -Wl,-soname,librrdi.so.0 -Wl,--version-script=include/librrdi.map -Wl,--no-undefined \
+		-Wl,-z,relro,-z,now -Wl,--gc-sections -Wl,--as-needed \
+		-Wl,--whole-archive $(ARCHIVE) -Wl,--no-whole-archive $(OF_KIT)
+	ln -sf librrdi.so.0 $(BUILD)/librrdi.so
+
+$(BUILD)/librrdi.a: $(ARCHIVE)
+	mkdir -p $(BUILD)
+	$(LD) -r -o $(BUILD)/librrdi.o --whole-archive $(ARCHIVE) --no-whole-archive $(OF_KIT)
+	objcopy $(EXPORTS:%=--keep-global-symbol=%) $(BUILD)/librrdi.o
+	rm -f $@
+	$(AR) rcs $@ $(BUILD)/librrdi.o
+	rm $(BUILD)/librrdi.o
+
+$(ARCHIVE):
+	@echo "make: $@ not found; run make first, or pass ARCHIVE=path" >&2
+	@false
 
 # What is installed is the program that is there: it isn't built by install, which may run as another user.
 $(PROGRAM):
-	@echo "make: there is no $@; type make, or name a built one by PROGRAM=" >&2
+	@echo "make: $@ not found; run make first, or pass PROGRAM=path" >&2
 	@false
 
-install: $(PROGRAM)
+install: $(PROGRAM) library
 	install -d "$(BINARIES)" "$(MANUALS)" "$(COMPLETIONS)" "$(SHARED)/docs" "$(SHARED)/examples"
+	install -d "$(HEADERS)" "$(LIBRARIES)/pkgconfig" "$(MANUALS_OF_C)"
+	install -m 644 $(BUILD)/librrdi.so.0 $(BUILD)/librrdi.a "$(LIBRARIES)"
+	ln -sf librrdi.so.0 "$(LIBRARIES)/librrdi.so"
+	install -m 644 include/rrdi.h "$(HEADERS)"
+	sed -e 's|@PREFIX@|$(PREFIX)|' -e 's|@LIBDIR@|$(LIBDIR)|' -e 's|@VERSION@|$(VERSION)|' include/rrdi.pc.in \
+		> "$(LIBRARIES)/pkgconfig/rrdi.pc"
+	chmod 644 "$(LIBRARIES)/pkgconfig/rrdi.pc"
+	sed -e 's|^\.Pa docs/|.Pa $(PREFIX)/share/rrdi/docs/|' -e 's|^\.Pa examples/|.Pa $(PREFIX)/share/rrdi/examples/|' \
+		docs/rrdi.3 > "$(MANUALS_OF_C)/rrdi.3"
+	chmod 644 "$(MANUALS_OF_C)/rrdi.3"
+	for name in $(EXPORTS); do ln -sf rrdi.3 "$(MANUALS_OF_C)/$$name.3"; done
 	install -m 755 "$(PROGRAM)" "$(BINARIES)/rrdi"
-	sed 's|^\.Pa docs/|.Pa $(PREFIX)/share/rrdi/docs/|' docs/rrdi.1 > "$(MANUALS)/rrdi.1"
+	sed -e 's|^\.Pa docs/|.Pa $(PREFIX)/share/rrdi/docs/|' -e 's|^\.Pa examples/|.Pa $(PREFIX)/share/rrdi/examples/|' \
+		-e 's|< docs/|< $(PREFIX)/share/rrdi/docs/|' docs/rrdi.1 > "$(MANUALS)/rrdi.1"
 	chmod 644 "$(MANUALS)/rrdi.1"
 	install -m 644 examples/rrdi.bash "$(COMPLETIONS)/rrdi"
 	install -m 644 README.md CHANGELOG.md CONTRIBUTING.md LICENSE* VERSION "$(SHARED)"
-	install -m 644 docs/*.md docs/*.png docs/rrdi.1 docs/first-session.txt "$(SHARED)/docs"
+	install -m 644 docs/*.md docs/*.png docs/rrdi.1 docs/rrdi.3 docs/first-session.txt "$(SHARED)/docs"
+	@for folder in compat rrdi rrdi/compat rrdi/feeding rrdi/importing rrdi/reader; do \
+		install -d "$(PYTHON)/$$folder" && install -m 644 python/$$folder/*.py "$(PYTHON)/$$folder" || exit 1; \
+	done
+	install -m 644 python/rrdi/py.typed "$(PYTHON)/rrdi"
+	install -d "$(MODULES)"
+	ln -sfnr "$(PYTHON)/rrdi" "$(MODULES)/rrdi"
 	@for file in examples/*; do \
 		if [ -d "$$file" ]; then continue; fi; \
 		if [ -x "$$file" ]; then mode=755; else mode=644; fi; \
@@ -42,36 +100,87 @@ install: $(PROGRAM)
 	done
 
 uninstall:
-	rm -f "$(BINARIES)/rrdi" "$(MANUALS)/rrdi.1" "$(COMPLETIONS)/rrdi"
+	rm -f "$(BINARIES)/rrdi" "$(MANUALS)/rrdi.1" "$(COMPLETIONS)/rrdi" "$(MODULES)/rrdi"
+	rm -f "$(HEADERS)/rrdi.h" "$(LIBRARIES)/pkgconfig/rrdi.pc" "$(LIBRARIES)/librrdi.a" "$(LIBRARIES)/librrdi.so" \
+		"$(LIBRARIES)/librrdi.so.0" "$(MANUALS_OF_C)/rrdi.3" $(EXPORTS:%="$(MANUALS_OF_C)/%.3")
 	rm -rf "$(SHARED)"
 
-# The folder of the package is that of an installation below /usr, with what Debian wants beside it: the licenses are in
-# its copyright.
-deb: $(PROGRAM)
-	rm -rf $(PACKAGE)
-	$(MAKE) --no-print-directory install PREFIX=/usr DESTDIR=$(PACKAGE) PROGRAM="$(PROGRAM)"
-	strip --remove-section=.comment $(PACKAGE)/usr/bin/rrdi
-	rm $(PACKAGE)/usr/share/rrdi/LICENSE*
-	gzip -9n $(PACKAGE)/usr/share/man/man1/rrdi.1
-	install -d $(PACKAGE)/DEBIAN $(PACKAGE)/usr/share/doc/rrdi
-	install -m 644 docs/debian-copyright $(PACKAGE)/usr/share/doc/rrdi/copyright
-	printf '%s\n' 'rrdi ($(VERSION)) unstable; urgency=medium' '' '  * /usr/share/rrdi/CHANGELOG.md has what changed.' '' \
-		" -- $(MAINTAINER)  $$(LC_ALL=C date -R -r CHANGELOG.md)" | gzip -9n > $(PACKAGE)/usr/share/doc/rrdi/changelog.gz
-	@glibc=$$(grep -ao 'GLIBC_[0-9.]*' "$(PROGRAM)" | sed 's/GLIBC_//' | sort -V | tail -n 1); \
-	size=$$(du -sk --apparent-size $(PACKAGE)/usr | cut -f 1); \
-	architecture=$$(dpkg --print-architecture); \
-	printf '%s\n' 'Package: rrdi' 'Version: $(VERSION)' "Architecture: $$architecture" \
-		'Maintainer: $(MAINTAINER)' \
-		"Installed-Size: $$size" "Depends: libc6 (>= $$glibc)" 'Suggests: gnuplot-nox, python3, rrdtool' \
-		'Section: utils' 'Priority: optional' \
-		'Description: keep measurements in a round-robin database' \
-		' Samples become rates, rates become steps of equal length, and steps are' \
-		' consolidated into archives of a fixed number of rows. The commands have the' \
-		' names and the main words of RRDtool; revert takes back the newest change.' \
-		' Scripts that move files from RRDtool and back, record, plot and feed are in' \
-		' /usr/share/rrdi/examples.' > $(PACKAGE)/DEBIAN/control && \
-	(cd $(PACKAGE) && find usr -type f | LC_ALL=C sort | xargs -d '\n' md5sum > DEBIAN/md5sums) && \
-	dpkg-deb --root-owner-group --build $(PACKAGE) $(PACKAGE)_$$architecture.deb
-	rm -rf $(PACKAGE)
+# Four packages, as Debian wants them: the program with its documents and scripts, the shared library, what is needed to build
+# with it, and the link by which Python finds the package, whose code is with the scripts that need it.
+# Each folder is a part of an installation below /usr, with a copyright, which has the licenses, and a changelog.
+RUNTIME := out/librrdi0_$(VERSION)
+DEVELOPMENT := out/librrdi-dev_$(VERSION)
+OF_PYTHON := out/python3-rrdi_$(VERSION)
+MULTIARCH = $(shell $(CC) -print-multiarch)
+TRIPLET = usr/lib/$(MULTIARCH)
 
-.PHONY: all install uninstall deb
+# $(call finish,FOLDER,PACKAGE,SECTION,DEPENDS,MORE FIELDS AND DESCRIPTION): the control file, and the package.
+define finish
+	install -d $(1)/DEBIAN $(1)/usr/share/doc/$(2)
+	install -m 644 docs/debian-copyright $(1)/usr/share/doc/$(2)/copyright
+	printf '%s\n' 'rrdi ($(VERSION)) unstable; urgency=medium' '' '  * CHANGELOG.md of the package rrdi has what changed.' '' \
+		" -- $(MAINTAINER)  $$(LC_ALL=C date -R -r CHANGELOG.md)" | gzip -9n > $(1)/usr/share/doc/$(2)/changelog.gz
+	printf '%s\n' 'Package: $(2)' 'Source: rrdi' 'Version: $(VERSION)' "Architecture: $$(dpkg --print-architecture)" \
+		'Maintainer: $(MAINTAINER)' "Installed-Size: $$(du -sk --apparent-size $(1)/usr | cut -f 1)" "Depends: $(4)" \
+		'Section: $(3)' 'Priority: optional' $(5) > $(1)/DEBIAN/control
+	cd $(1) && find usr -type f | LC_ALL=C sort | xargs -d '\n' md5sum > DEBIAN/md5sums
+	dpkg-deb --root-owner-group --build $(1) $(1)_$$(dpkg --print-architecture).deb
+	rm -rf $(1)
+endef
+
+ABOUT_RUNTIME = 'Multi-Arch: same' \
+	'Description: round-robin time-series database with exact undo (library)' \
+	' The library runs the commands of rrdi in a process, on files or on the bytes' \
+	' of a file in memory. Every function is proved to meet its contract.'
+ABOUT_DEVELOPMENT = 'Multi-Arch: same' \
+	'Description: round-robin time-series database with exact undo (development)' \
+	' The header, the static library and the manual page of librrdi, which runs the' \
+	' commands of rrdi in a process. The example /usr/share/rrdi/examples/embed.c is' \
+	' in the package rrdi.'
+ABOUT_PYTHON = 'Description: round-robin time-series database with exact undo (Python 3)' \
+	' The package rrdi runs the commands of rrdi in a process of Python, by librrdi.' \
+	' Its functions are those of the module rrdtool, and a module of that name can' \
+	' be put in its place.'
+ABOUT_PACKAGE = 'Suggests: gnuplot-nox, python3, rrdtool' \
+	'Description: round-robin time-series database with exact undo' \
+	' A file has a fixed number of rows: new rows replace the oldest rows, and' \
+	' coarser archives keep averages, minimums and maximums. The commands have the' \
+	' names and main options of RRDtool; revert undoes the newest change. Every' \
+	' function is proved to meet its contract. Scripts that move files from RRDtool' \
+	' and back, record, plot and feed are in /usr/share/rrdi/examples.'
+
+COMMA := ,
+# The version of the C library that a file needs.
+GLIBC = $$(grep -ao 'GLIBC_[0-9.]*' $(1) | sed 's/GLIBC_//' | sort -V | tail -n 1)
+
+deb: $(PROGRAM) library
+	rm -rf $(PACKAGE) $(RUNTIME) $(DEVELOPMENT) $(OF_PYTHON)
+	$(MAKE) --no-print-directory install PREFIX=/usr LIBDIR=lib/$(MULTIARCH) DESTDIR=$(PACKAGE) PROGRAM="$(PROGRAM)"
+	strip --remove-section=.comment $(PACKAGE)/usr/bin/rrdi
+	strip --remove-section=.comment --strip-unneeded $(PACKAGE)/$(TRIPLET)/librrdi.so.0
+	strip --strip-unneeded $(PACKAGE)/$(TRIPLET)/librrdi.a
+	rm $(PACKAGE)/usr/share/rrdi/LICENSE*
+	gzip -9n $(PACKAGE)/usr/share/man/man1/rrdi.1 $(PACKAGE)/usr/share/man/man3/rrdi.3
+	for name in $(EXPORTS); do rm $(PACKAGE)/usr/share/man/man3/$$name.3; \
+		ln -s rrdi.3.gz $(PACKAGE)/usr/share/man/man3/$$name.3.gz; done
+	install -d $(RUNTIME)/$(TRIPLET) $(RUNTIME)/DEBIAN $(DEVELOPMENT)/usr/share/man $(DEVELOPMENT)/usr/lib
+	mv $(PACKAGE)/$(TRIPLET)/librrdi.so.0 $(RUNTIME)/$(TRIPLET)
+	printf '%s\n' 'librrdi 0 librrdi0 (>= $(VERSION))' > $(RUNTIME)/DEBIAN/shlibs
+	printf '%s\n' 'activate-noawait ldconfig' > $(RUNTIME)/DEBIAN/triggers
+	mv $(PACKAGE)/usr/lib/$(MULTIARCH) $(DEVELOPMENT)/usr/lib
+	install -d $(OF_PYTHON)/usr/lib $(PACKAGE)/DEBIAN
+	mv $(PACKAGE)/usr/lib/python3 $(OF_PYTHON)/usr/lib
+	rmdir --ignore-fail-on-non-empty $(PACKAGE)/usr/lib
+	printf '%s\n' '#!/bin/sh' 'set -e' 'find /usr/share/rrdi/python -name __pycache__ -exec rm -rf {} +' > $(PACKAGE)/DEBIAN/prerm
+	chmod 755 $(PACKAGE)/DEBIAN/prerm
+	mv $(PACKAGE)/usr/include $(DEVELOPMENT)/usr
+	mv $(PACKAGE)/usr/share/man/man3 $(DEVELOPMENT)/usr/share/man
+	$(call finish,$(RUNTIME),librrdi0,libs,libc6 (>= $(call GLIBC,$(RUNTIME)/$(TRIPLET)/librrdi.so.0)),$(ABOUT_RUNTIME))
+	$(call finish,$(DEVELOPMENT),librrdi-dev,libdevel,librrdi0 (= $(VERSION)),$(ABOUT_DEVELOPMENT))
+	$(call finish,$(OF_PYTHON),python3-rrdi,python,python3 (>= 3.8)$(COMMA) rrdi (= $(VERSION))$(COMMA) librrdi0 (>= $(VERSION)),$(ABOUT_PYTHON))
+	$(call finish,$(PACKAGE),rrdi,utils,libc6 (>= $(call GLIBC,"$(PROGRAM)")),$(ABOUT_PACKAGE))
+
+.PHONY: all library install uninstall deb
+
+# The tools, and what Perl and C programs of RRDtool's users record by.
+include tools/tools.mk

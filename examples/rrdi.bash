@@ -28,6 +28,12 @@ _rrdi() {
     file=${words[2]-}
     COMPREPLY=()
 
+    # After < and > comes a file.
+    if [[ $line =~ [\<\>][\&|]?[[:space:]]*([^[:space:]\<\>]*)$ ]]; then
+        compopt -o filenames 2>/dev/null
+        mapfile -t COMPREPLY < <(compgen -f -- "${BASH_REMATCH[1]}")
+        return
+    fi
     if ((${#words[@]} == 2)); then
         choices='batch create fetch first info last lastupdate resize revert tune update'
     elif ((${#words[@]} == 3)); then

@@ -9,9 +9,9 @@ use Rattle.rrd_spec.specs.declared.requests.update.Sample.{Sample}
 use Rattle.rrd_spec.specs.History.{Content, Reading, Sampled, IsBase, rates, definitions}
 use Rattle.rrd_spec.specs.Laws.ListedContent.{content_listed}
 use Rattle.rrd_spec.specs.Laws.Passing.{passed, PassesInPieces, SampledPasses}
-use Rattle.rrd_spec.specs.Commands.Turns.{rows_shown, in_all, least_of_sample, most_of_sample, most_of_steps}
+use Rattle.rrd_spec.specs.Commands.Turns.{rows_shown, in_all, least_of_sample, most_of_sample}
 use Rattle.rrd_spec.specs.Validity.{AreAccepted, IsRow, IsValid}
-use Rattle.rrd_base.specs.Walk.Turns.{least_of_ends, least_to, most_of_ends, most_to}
+use Rattle.rrd_base.specs.Walk.Turns.{least_of_ends, least_to, most_of_ends, most_to, most_of_steps}
 use Rattle.rrd_base.proofs.PushedRows.{next_ahead}
 use Rattle.rrd_base.proofs.Passing.{ended_div, within_div}
 use Rattle.rrd_spec.specs.Lemmas.Validity.{base_of_valid}

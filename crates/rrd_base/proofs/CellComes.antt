@@ -21,7 +21,8 @@ use Rattle.rrd_spec.specs.Journal.Outlines.{outline_undone}
 use Rattle.rrd_spec.specs.Laws.Slots.{PutsCell, SlotHasPlace}
 use Rattle.rrd_spec.specs.Files.Rebuilding.{IsArchiveDef, IsRowPart, after_heads, due, prep_or, unprepared}
 use Rattle.rrd_spec.specs.Settings.{resolution}
-use Rattle.rrd_spec.specs.Files.Slots.{by_slot, cells_by_slot, place_in}
+use Rattle.rrd_spec.specs.Files.Slots.{by_slot, cells_by_slot}
+use Rattle.rrd_spec.specs.Files.Places.{place_in}
 use Rattle.rrd_spec.specs.Validity.{IsRow, IsValidJournalWithin}
 use Rattle.rrd_base.specs.declared.journal.Entry.{Entry}
 use Rattle.rrd_base.specs.declared.rebuild.cursor.Cursor.{Cursor}

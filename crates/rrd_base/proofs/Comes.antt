@@ -3,6 +3,7 @@ use Rattle.rrd_base.specs.declared.rebuild.cursor.Cursor.{Cursor}
 use Rattle.rrd_spec.specs.Limits.{limits_of, newest, present}
 use Rattle.rrd_base.proofs.Versions.{archive_def_in, few_cells}
 use Rattle.rrd_spec.specs.Journal.Outlines.{outline_undone, rows_of}
+use Rattle.rrd_spec.specs.Journal.Fitting.{AreRemovedSettings}
 use Rattle.rrd_spec.specs.Files.Rebuilding.{IsArchiveDef, IsRowPart, MayHead, heads_with_part, MaySource, after_heads, due, prep_or, rows_in_all, unprepared, with_head, with_prep, with_source}
 use Rattle.rrd_spec.specs.Settings.{names, has_source, is_double}
 use Rattle.rrd_spec.specs.declared.due.Due.{Due}
@@ -396,6 +397,31 @@ not_past limit n e = elim (cases_lt limit n) [
 
 pub past_not : (limit n : ℕ) → n ≤ limit → not (nat_lt limit n) ≡ true
 past_not limit n le = rw (le-ltb limit n le) refl
+
+-- ---- an archive, by what judges entries
+
+judge_at_head : (d : Coming) → IsRebuilding d → due (filed_in d) ≡ HeadDue → d.judge ≡ plain d d.sources (map head_of d.archives)
+judge_at_head d is e = plain_judge d is (none_later d is (at_head d is e).few).journal
+
+cells_at_head : (d : Coming) (def : RraDef) → IsRebuilding d → due (filed_in d) ≡ HeadDue
+    → length d.sources * (sum (rows_of (map (λ (head : Head). head.def) (map head_of d.archives))) + def.rows) ≡ d.sources_due * (rows_in_all (map head_of d.archives) + def.rows)
+cells_at_head d def is e =
+    let sources : length d.sources ≡ d.sources_due = omega (arith, is.few_sources, (at_head d is e).sources) in
+    let rows : sum (rows_of (map (λ (head : Head). head.def) (map head_of d.archives))) ≡ rows_in_all (map head_of d.archives) = ap sum (rows_by_head d.archives) ∙ sym (rows_all d.archives) in
+    (λ i. sources i * (rows i + def.rows))
+
+-- as no entry has come, what judges entries knows the sources and archives that came
+pub fits_at_head : (d : Coming) (def : RraDef) → IsRebuilding d → due (filed_in d) ≡ HeadDue → AreRemovedSettings (limits_of d.judge.version) d.judge.outline def → MayHead (filed_in d) def
+fits_at_head d def is e fits =
+    let here = subst (λ (j : Judge). AreRemovedSettings (limits_of j.version) j.outline def) (judge_at_head d is e) fits in
+    record { is_due = e; def_is = here.def_is; few_cells = subst (λ n. n ≤ (limits_of d.version).most_cells) (cells_at_head d def is e) here.few_cells }
+
+pub head_fits : (d : Coming) (def : RraDef) → IsRebuilding d → MayHead (filed_in d) def → AreRemovedSettings (limits_of d.judge.version) d.judge.outline def
+head_fits d def is may =
+    let j = plain d d.sources (map head_of d.archives) in
+    let here : AreRemovedSettings (limits_of j.version) j.outline def =
+    record { def_is = may.def_is; few_cells = subst (λ n. n ≤ (limits_of d.version).most_cells) (sym (cells_at_head d def is may.is_due)) may.few_cells } in
+    subst (λ (j : Judge). AreRemovedSettings (limits_of j.version) j.outline def) (sym (judge_at_head d is may.is_due)) here
 
 -- ---- a preparation
 

@@ -18,6 +18,7 @@ use Rattle.rrd_spec.specs.Journal.Fitting.{MaySave, MaySaveEach}
 use Rattle.rrd_spec.specs.Settings.{names}
 use Rattle.rrd_spec.specs.Validity.{Rise}
 use Rattle.rrd_base.specs.Rebuild.EntryChecks.{with_names}
+use Rattle.rrd_base.specs.Tune.{with_kept}
 use Rattle.rrd_base.proofs.Rebuilt.{fold_sum}
 
 -- ---- of each item
@@ -119,14 +120,14 @@ pub map_same : {A : Type 0} (xs : List A) → map (λ (x : A). x) xs ≡ xs
 map_same [] = refl
 map_same (x ∷ xs) = ap (λ ys. x ∷ ys) (map_same xs)
 
-put_length : (names : List Name) (olds : List SourceBefore) → length (with_names names olds) ≡ length names
-put_length names [] = refl
-put_length names (old ∷ olds) = put_length (slice_set names old.number old.source.name) olds ∙ length-set names old.number old.source.name
+kept_length : {A : Type 0} (kept : SourceBefore → A) (items : List A) (olds : List SourceBefore) → length (with_kept kept items olds) ≡ length items
+kept_length kept items [] = refl
+kept_length kept items (old ∷ olds) = kept_length kept (slice_set items old.number (kept old)) olds ∙ length-set items old.number (kept old)
 
-pub put_refills : (names : List Name) (olds : List SourceBefore) → refill (length names) names (with_names names olds) ≡ with_names names olds
-put_refills names olds =
-    let all = with_names names olds in
-    rw (drop_all (length all) names (omega (arith, put_length names olds)), append-nil) (take_all (length names) all (omega (arith, put_length names olds)))
+pub kept_refills : {A : Type 0} (kept : SourceBefore → A) (items : List A) (olds : List SourceBefore) → refill (length items) items (with_kept kept items olds) ≡ with_kept kept items olds
+kept_refills kept items olds =
+    let all = with_kept kept items olds in
+    rw (drop_all (length all) items (omega (arith, kept_length kept items olds)), append-nil) (take_all (length items) all (omega (arith, kept_length kept items olds)))
 
 -- ---- numbers of rows
 

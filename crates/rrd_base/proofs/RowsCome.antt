@@ -17,7 +17,8 @@ use Rattle.rrd_spec.specs.Lemmas.Lists.{All-drop, All-take, drop_here}
 use Rattle.rrd_spec.specs.Laws.Slots.{PutsBlock}
 use Rattle.rrd_spec.specs.Files.Rebuilding.{due, rows_in_all, unprepared, with_cell}
 use Rattle.rrd_spec.specs.Settings.{resolution}
-use Rattle.rrd_spec.specs.Files.Slots.{by_slot, cells_by_slot, place_in}
+use Rattle.rrd_spec.specs.Files.Slots.{by_slot, cells_by_slot}
+use Rattle.rrd_spec.specs.Files.Places.{place_in}
 use Rattle.rrd_spec.specs.Validity.{IsRow}
 use Rattle.rrd_base.specs.declared.rebuild.cursor.Cursor.{Cursor}
 use Rattle.rrd_base.specs.Rebuild.Cursors.{Passes, filled_by}
@@ -74,14 +75,6 @@ may_come as_many d a cells is at e all few =
 pub with_cells_is : (f : Filed) (cells : List Cell) → with_cells f cells ≡ with_more f cells
 with_cells_is f [] = ap (λ (cs : List Cell). let g : Filed = record f { cells = cs } in g) (sym (append-nil f.cells))
 with_cells_is f (cell ∷ cells) = with_cells_is (with_cell f cell) cells ∙ ap (λ (cs : List Cell). let g : Filed = record f { cells = cs } in g) (append_assoc f.cells (cell ∷ []) cells)
-
-pub more_may : (f : Filed) (xs ys : List Cell) → MayCells f xs → MayCells (with_cells f xs) ys → MayCells f (xs ++ ys)
-more_may f [] ys a b = b
-more_may f (x ∷ xs) ys a b = (a.0, more_may (with_cell f x) xs ys a.1 b)
-
-pub with_both : (f : Filed) (xs ys : List Cell) → with_cells (with_cells f xs) ys ≡ with_cells f (xs ++ ys)
-with_both f [] ys = refl
-with_both f (x ∷ xs) ys = with_both (with_cell f x) xs ys
 
 -- ---- rows in their slots
 
@@ -247,21 +240,3 @@ within sources slot source count rows cells none long fits =
     let top : (slot + count) * sources ≤ rows * sources = mul-le (slot + count) sources rows sources fits (omega arith) in
     let turned : rows * sources ≡ sources * rows = nat.mul_comm rows sources in
     omega (arith, none, long, sum, top, turned)
-
--- ---- some cells, and then others
-
-pub then_may : (old now : Filed) (cells : List Cell) (taken more : ℕ) → MayCells old (take taken cells) → now ≡ with_cells old (take taken cells) → MayCells now (take more (drop taken cells)) → MayCells old (take (taken + more) cells)
-then_may old now cells taken more before is later =
-    subst (MayCells old) (sym (take-add taken more cells)) (more_may old (take taken cells) (take more (drop taken cells)) before (subst (λ (f : Filed). MayCells f (take more (drop taken cells))) is later))
-
-pub then_with : (old now : Filed) (cells : List Cell) (taken more : ℕ) → now ≡ with_cells old (take taken cells) → with_cells now (take more (drop taken cells)) ≡ with_cells old (take (taken + more) cells)
-then_with old now cells taken more is =
-    ap (λ (f : Filed). with_cells f (take more (drop taken cells))) is
-    ∙ with_both old (take taken cells) (take more (drop taken cells))
-    ∙ ap (with_cells old) (sym (take-add taken more cells))
-
--- a cell alone
-pub one_taken : (cells : List Cell) (taken : ℕ) (d : Cell) → taken < length cells → take 1 (drop taken cells) ≡ get_or cells taken d ∷ []
-one_taken [] taken d h = absurd (omega arith)
-one_taken (cell ∷ cells) zero d h = refl
-one_taken (cell ∷ cells) (suc taken) d h = one_taken cells taken d (omega arith)

@@ -10,7 +10,8 @@ use Rattle.rrd_spec.specs.History.{Rra, Content, definitions}
 use Rattle.rrd_spec.specs.Commands.{rows_of_archives}
 use Rattle.rrd_spec.specs.Validity.{IsValid}
 use Rattle.rrd_spec.specs.Laws.Passing.{archive_passed, passed}
-use Rattle.rrd_spec.specs.Commands.Turns.{rows_shown, rows_ended, rows_pushed, least_of_steps, most_of_sample, most_of_steps}
+use Rattle.rrd_spec.specs.Commands.Turns.{rows_shown, most_of_sample}
+use Rattle.rrd_base.specs.Walk.Turns.{rows_ended, rows_pushed, least_of_steps, most_of_steps}
 
 -- ---- archive by archive
 

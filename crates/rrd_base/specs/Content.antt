@@ -1,4 +1,4 @@
--- Glue: the content that a database's fields hold.
+-- Glue: the content that the fields of a database have.
 use Rattle.rrd_spec.specs.History.{Content}
 use Rattle.rrd_spec.specs.Validity.{IsValid}
 use Rattle.rrd_base.specs.declared.content.Content.TheInside.{Inside}

@@ -6,7 +6,7 @@ use Rattle.rrd_spec.specs.declared.settings.RraDef.{RraDef}
 use Rattle.rrd_spec.specs.Choice.{candidates, covers, is_farther, is_nearer, taken}
 use Rattle.rrd_spec.specs.Limits.{present}
 
--- what is asked for, and the one that is taken of the archives so far
+-- the request, and the best archive so far
 pub record Searched : Type 0 where
   pub step : ℕ
   pub last : ℕ
@@ -21,7 +21,7 @@ searched step last request defs = record {
   best = taken request.asked request.start (candidates step last request.function defs);
 }
 
--- what keeps its sums within 64 bits
+-- the limits that keep all sums within 64 bits
 pub record IsSearch (step last : ℕ) (request : FetchRequest) (best : Option Candidate) : Type 0 where
   pub some_step : 0 < step
   pub small_step : step ≤ present.longest_step
@@ -30,7 +30,7 @@ pub record IsSearch (step last : ℕ) (request : FetchRequest) (best : Option Ca
   pub good_end : request.end ≤ present.latest_time
   pub usable : IfSome best (λ (one : Candidate). (0 < one.resolution) × (one.resolution ≤ 10 ^ 12))
 
--- whether an archive is taken rather than one with a lower number
+-- whether an archive is preferred to one with a lower number
 abbrev pub is_preferred : ℕ → ℕ → Candidate → Candidate → Bool
 is_preferred asked start one other =
     if covers start one then (if covers start other then is_nearer asked one other else true)

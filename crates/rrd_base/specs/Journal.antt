@@ -1,4 +1,4 @@
--- Definition: an entry as the definitions have it; and, as glue, the journal that a database's fields hold.
+-- Definition: the entry that an entry of the program represents; and, as glue, the journal that the fields have.
 use Rattle.std.specs.Prelude.{◌<◌, ◌≤◌, List, length, map, reverse}
 use Rattle.rrd_spec.specs.History.{Rra}
 use Rattle.rrd_spec.specs.Journal.Entries as entries
@@ -19,7 +19,7 @@ entry_of (entry.Resize number old) = entries.ResizeEntry number old
 entry_of entry.Added = entries.AddedEntry
 entry_of (entry.Removed number old) = entries.RemovedEntry number old
 
--- the entry can be put back
+-- the entry can be undone
 abbrev pub CanUndo : List Rra → Entry → Type 0
 CanUndo archives (entry.Update b) = CanPutBackEach archives b.archives.items
 CanUndo archives (entry.Tune olds) = Unit {0}
@@ -27,6 +27,6 @@ CanUndo archives (entry.Resize number old) = number < length archives
 CanUndo archives entry.Added = Unit {0}
 CanUndo archives (entry.Removed number old) = number ≤ length archives
 
--- the journal, newest first
+-- the journal, newest entry first
 abbrev pub journal_of : List Entry → List entries.Entry
 journal_of items = reverse (map entry_of items)

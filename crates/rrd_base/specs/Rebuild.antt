@@ -1,4 +1,4 @@
--- Glue: what the fields of a database that comes piece by piece hold.
+-- Glue: the values of the fields while a database is read record by record.
 use Rattle.std.specs.Prelude.{◌≡◌, ℕ, ◌+◌, ◌*◌, ◌%◌, ◌<◌, ◌≤◌, List, [], ◌∷◌, ◌++◌, length, map, take, drop, sum, false, None}
 use Rattle.std.specs.List.{AllByRecursion, flat_map}
 use Rattle.rrd_fixed.specs.declared.cell.Cell.{Cell}
@@ -28,13 +28,14 @@ pub mod Runs
 pub mod CellRun
 pub mod EntryChecks
 
--- the cells of the archives before one, and so many of its own, in the order of a file
+-- the cells of the archives before `archive`, and the first `filled` cells of this archive, in the order of a file
 abbrev pub cells_before : ℕ → ℕ → List Rra → ℕ → ℕ → List Cell
 cells_before step last archives archive filled =
     flat_map (cells_by_slot step last) (take archive archives)
     ++ take filled (flat_map (cells_by_slot step last) (drop archive archives))
 
--- what has come, as the fields hold it: so many cells of the archive of this number, and those before it
+-- the records that were read, as the fields have them: the cells of the archives before `archive`, and `filled` cells
+-- of it
 pub record Coming : Type 0 where
   pub version : Version
   pub step : ℕ
@@ -55,25 +56,25 @@ pub record Coming : Type 0 where
 
 abbrev pub coming : Inside → Coming
 coming d = record {
-  version = d.version;
-  step = d.step;
-  last = d.last;
-  depth = d.depth;
-  sources_due = d.sources_due;
-  archives_due = d.archives_due;
-  entries_due = d.entries_due;
+  version = d.header.version;
+  step = d.header.step;
+  last = d.header.last;
+  depth = d.header.depth;
+  sources_due = d.header.sources;
+  archives_due = d.header.archives;
+  entries_due = d.header.entries;
   sources = d.sources.items;
   raws = d.raws.items;
   preps = d.preps.items;
   archives = d.archives;
   archive = d.cursor.archive;
-  filled = filled_by d.sources_due d.cursor;
+  filled = filled_by d.header.sources d.cursor;
   places = d.journal.capacity;
   journal = d.journal.items;
   judge = d.judge;
 }
 
--- what has come
+-- the records that were read
 abbrev pub filed_in : Coming → Filed
 filed_in d = record {
   header =
@@ -92,7 +93,7 @@ filed_in d = record {
   entries = journal_of d.journal;
 }
 
--- the content that the pieces make, rows that haven't come being unknown
+-- the content that these records make; rows that were not read are unknown
 abbrev pub content_so_far : Coming → Content
 content_so_far d = record {
   step = d.step;
@@ -104,7 +105,7 @@ content_so_far d = record {
   archives = d.archives;
 }
 
--- an archive whose preparations may still come; what is asked of its settings is the same in each version
+-- an archive whose partial rows may still come; the rule of its settings is the same in each version
 pub record IsArchiveSoFar (sources step last : ℕ) (archive : Rra) : Type 0 where
   pub def_is : IsArchiveDef present archive.def
   pub few_parts : length archive.parts ≤ sources
@@ -112,19 +113,19 @@ pub record IsArchiveSoFar (sources step last : ℕ) (archive : Rra) : Type 0 whe
   pub rows_are : length archive.rows ≡ archive.def.rows
   pub each_row : AllByRecursion (IsRow sources) archive.rows
 
--- all archives but the last have a preparation for each source
+-- all archives except the last have a partial row for each data source
 abbrev pub ArePrepared : ℕ → List Rra → Type 0
 ArePrepared sources [] = Unit {0}
 ArePrepared sources (archive ∷ []) = Unit {0}
 ArePrepared sources (archive ∷ next ∷ archives) =
     (length archive.parts ≡ sources) × ArePrepared sources (next ∷ archives)
 
--- all heads came, with all preparations
+-- all archive headers were read, with all partial rows
 pub record HeadsCame (d : Coming) : Type 0 where
   pub all : length d.archives ≡ d.archives_due
   pub prepared : unprepared d.sources_due (map head_of d.archives) ≡ None
 
--- the archive whose cells come is the one after all
+-- all cells were read: the archive of the next cell is the one after the last
 pub record CellsCame (d : Coming) : Type 0 where
   pub some : 0 < d.archive
   pub all : d.archive ≡ length d.archives

@@ -1,4 +1,4 @@
--- Glue: an archive's number of rows, and those of all.
+-- Glue: the number of rows of an archive, and of all archives.
 use Rattle.std.specs.Prelude.{◌≤◌, List}
 use Rattle.rrd_spec.specs.declared.settings.DsDef.{DsDef}
 use Rattle.rrd_spec.specs.History.{Rra}
@@ -6,7 +6,7 @@ use Rattle.rrd_spec.specs.Limits.{present}
 use Rattle.rrd_spec.specs.Settings.{Settings}
 use Rattle.rrd_spec.specs.Commands.{rows_of_archives}
 
--- the settings that these sources and archives have
+-- the settings of these data sources and archives
 abbrev pub settings : List DsDef → List Rra → Settings
 settings sources archives = record { sources = sources; rows = rows_of_archives archives }
 

@@ -1,17 +1,17 @@
--- Glue: an archive of a database, and what can be put back into one.
+-- Glue: an archive of a database, and the values that can be put back into one.
 use Rattle.std.specs.Prelude.{◌≡◌, ◌<◌, ◌≤◌, List, [], ◌∷◌, length}
 use Rattle.rrd_ring.specs.Rows.{HasWidth, width}
 use Rattle.rrd_spec.specs.Limits.{present}
 use Rattle.rrd_spec.specs.History.{Rra}
 use Rattle.rrd_spec.specs.Journal.Entries.{SavedArchive}
 
--- the resolution of an archive is a number above 0, and a small one
+-- the steps in a row, and so the resolution, are within the limits
 pub record IsStepped (archive : Rra) : Type 0 where
   pub some_steps : 0 < archive.def.steps
   pub few_steps : archive.def.steps ≤ present.most_steps
 
--- what can be put back: it is of the archive's function, and there is a place for each of its rows and for each of
--- their cells
+-- saved values that can be put back: they have the archive's function, at most as many rows as the archive, and as many
+-- cells in each row
 pub record CanPutBack (archive : Rra) (old : SavedArchive) : Type 0 where
   pub same_function : old.function ≡ archive.def.function
   pub few : length old.rows ≤ length archive.rows

@@ -1,4 +1,4 @@
--- Glue: the raw values that a tune's entry puts back, and the archives that a tune leaves.
+-- Glue: what a tune's entry restores of data sources, and the archives that a tune leaves.
 use Rattle.std.specs.Prelude.{◌<◌, List, [], ◌∷◌, ◌++◌, length, slice_set}
 use Rattle.std.specs.List.{fold, remove}
 use Rattle.rrd_fixed.specs.declared.raw.Raw.{Raw}
@@ -8,16 +8,20 @@ use Rattle.rrd_spec.specs.declared.requests.tune.ArchiveTune.TheVariants.{Add, R
 use Rattle.rrd_spec.specs.History.{Content}
 use Rattle.rrd_spec.specs.History.Lives.{new_archive}
 
--- the raw values with those of the entry
-abbrev pub with_raws : List Raw → List SourceBefore → List Raw
-with_raws raws olds = fold (λ rs (old : SourceBefore). slice_set rs old.number old.raw) raws olds
+-- what is kept of each data source, after that of the entry is restored
+abbrev pub with_kept : {A : Type 0} → (SourceBefore → A) → List A → List SourceBefore → List A
+with_kept kept items olds = fold (λ xs (old : SourceBefore). slice_set xs old.number (kept old)) items olds
 
--- the archive that goes is there
+-- the raw values after those of the entry are restored
+abbrev pub with_raws : List Raw → List SourceBefore → List Raw
+with_raws raws olds = with_kept (λ (old : SourceBefore). old.raw) raws olds
+
+-- the archive to remove exists
 abbrev pub IsThere : Content → ArchiveTune → Type 0
 IsThere now (Add def) = Unit {0}
 IsThere now (Remove number) = number < length now.archives
 
--- the content once an archive came or went
+-- the content after an archive was added or removed
 abbrev pub with_archive_tuned : Content → ArchiveTune → Content
 with_archive_tuned now (Add def) =
     record now { archives = now.archives ++ new_archive (length now.sources) def ∷ [] }

@@ -17,14 +17,14 @@ last_time (sample ∷ next ∷ samples) = last_time (next ∷ samples)
 abbrev pub end_time : Update → ℕ
 end_time update = last_time update.samples
 
--- ---- places of values
+-- ---- indexes of values
 
--- the value in a place, if there is one
+-- the value at an index, if there is one
 abbrev pub value_in : List Given → Option ℕ → Given
 value_in values None = Given.Unknown
 value_in values (Some place) = slice_index_or values place Given.Unknown
 
--- a place for each source, that of its value by the template
+-- an index for each data source: that of its value by the template
 pub record AreColumns (sources : List DsDef) (columns : Columns) : Type 0 where
   pub one_each : length columns.places.items ≡ length sources
   pub places :

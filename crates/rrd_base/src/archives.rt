@@ -1,5 +1,4 @@
-//! The archives of a content: what an addition or a removal makes, and how it is undone; and what each
-//! archive does, one after another.
+//! The archives of a content: adding and removing one, undoing this, and the functions on all archives.
 ghost use Rattle.std.specs.Prelude.{◌≡◌, ◌+◌, ◌^◌, ◌<◌, ◌≤◌, ◌++◌, ◌∷◌, [], length, map, remove, IfOk, OnErr, OnOk};
 ghost use Rattle.std.specs.List.{AllByRecursion};
 ghost use Rattle.rrd_base.specs.Rra.{CanPutBackEach, IsStepped};
@@ -19,7 +18,7 @@ use rrd_fixed::{Cell, Meter};
 use std::alloc::{AllocError, Global};
 
 impl Content {
-    /// Adds an archive of these settings behind the others. Nothing is known in it.
+    /// Adds an archive with these settings after the others. No row of it is known.
     pub(crate) fn add_archive(&mut self, alloc: Global, def: RraDef) -> Result<(), AllocError>
         requires { IsValid (record self.old {
           archives = self.old.archives ++ new_archive (length self.old.sources) def ∷ [];
@@ -33,7 +32,7 @@ impl Content {
         Ok(())
     }
 
-    /// Takes out the archive of this number: the higher numbers fall by one. It takes no memory.
+    /// Removes archive `number`. The higher numbers are then one lower. Does not allocate.
     pub(crate) fn remove_archive(&mut self, number: usize) -> Rra
         requires there { number < length self.old.archives }
         requires valid { IsValid (record self.old { archives = remove self.old.archives number }) }
@@ -43,7 +42,7 @@ impl Content {
         self.archives.remove(number)
     }
 
-    /// Drops the archive that was added, the last one.
+    /// Removes the last archive, which was added.
     pub(crate) fn undo_added(&mut self)
         requires { IsValid (undone self.old AddedEntry) }
         ensures { self.new ≡ undone self.old AddedEntry }
@@ -51,7 +50,7 @@ impl Content {
         self.archives.pop();
     }
 
-    /// Puts back an archive that was removed, where it was. It takes no memory.
+    /// Puts a removed archive back at its old number. Does not allocate.
     pub(crate) fn undo_removed(&mut self, number: usize, old: Rra)
         requires there { number ≤ length self.old.archives }
         requires valid { IsValid (undone self.old (RemovedEntry number old)) }
@@ -61,9 +60,9 @@ impl Content {
     }
 }
 
-// ---- each of them
+// ---- functions on all archives
 
-/// New archives of these settings, so many sources having been defined.
+/// Creates new archives with these settings, for `sources` data sources.
 pub(crate) fn new_all(
     alloc: Global,
     defs: &[RraDef],
@@ -82,7 +81,7 @@ pub(crate) fn new_all(
     Ok(archives)
 }
 
-/// Each archive takes steps. `row` has a place for each cell of a row.
+/// Adds steps to each archive. `row` has room for the cells of a row.
 pub(crate) fn take_all(archives: &mut [Rra], steps: &Steps, row: &mut [Cell], meter: &mut Meter)
     requires valid { AllByRecursion (IsValidArchive (sources_of steps.now) steps.now.before) archives.old }
     requires steps_are { AreSteps steps.now }
@@ -100,8 +99,7 @@ pub(crate) fn take_all(archives: &mut [Rra], steps: &Steps, row: &mut [Cell], me
     }
 }
 
-/// A copy of what an update from one time to another takes from each archive, steps of so many
-/// seconds being taken.
+/// Copies the values of each archive that an update from `from` to `to` replaces. A step has `step` seconds.
 pub(crate) fn save_all(
     alloc: Global,
     archives: &[Rra],
@@ -122,7 +120,7 @@ pub(crate) fn save_all(
     Ok(all)
 }
 
-/// Puts back what was kept of each archive. It takes no memory.
+/// Puts back the saved values of each archive. Does not allocate.
 pub(crate) fn put_back_all(archives: &mut [Rra], mut saved: Vec<SavedArchive>)
     requires fits { CanPutBackEach archives.old saved.items }
     ensures { archives.new ≡ put_back_each archives.old saved.items }

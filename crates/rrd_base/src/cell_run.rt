@@ -1,20 +1,20 @@
-//! Cells that come at once.
+//! Runs of consecutive cells.
 ghost use Rattle.std.specs.Prelude.{◌≡◌, ◌≤◌, length, take};
 ghost use Rattle.rrd_base.specs.Rebuild.CellRun.{run_cells};
 
 use rrd_fixed::Cell;
 
-/// Cells that come one after another.
+/// A run of consecutive cells.
 #[derive(Clone, Copy)]
 pub(crate) enum CellRun<'a> {
-    /// These.
+    /// The cells of this slice.
     Given(&'a [Cell]),
-    /// So many unknown ones.
+    /// This many unknown cells.
     Unknown(usize),
 }
 
 impl<'a> CellRun<'a> {
-    /// How many.
+    /// Returns the number of cells.
     pub(crate) fn len(self) -> usize
         ensures { result ≡ length (run_cells self.entry) }
     {
@@ -24,7 +24,7 @@ impl<'a> CellRun<'a> {
         }
     }
 
-    /// The first of them, so many.
+    /// Returns the first `count` cells.
     pub(crate) fn front(self, count: usize) -> CellRun<'a>
         requires { count ≤ length (run_cells self) }
         ensures { run_cells result ≡ take count (run_cells self.entry) }

@@ -1,4 +1,4 @@
-//! Which value of a sample is which source's.
+//! The index in a sample of each data source's value.
 ghost use Rattle.std.specs.Prelude.{◌≡◌, List, ◌<◌, ◌≤◌, false, length, slice_index_or, None as NoPlace};
 ghost use Rattle.rrd_spec.specs.declared.requests.update.Given.{Given};
 ghost use Rattle.rrd_spec.specs.declared.settings.DsDef.{DsDef};
@@ -12,17 +12,18 @@ use arrayvec::ArrayVec;
 use rrd_fixed::Name;
 use rrd_spec::limits::MOST_SOURCES;
 
-/// Where in an update's samples each source's value stands. It is looked up once an update: by the
-/// template, or without one in the sources' order.
+/// The index in an update's samples of each data source's value.
+///
+/// The indexes are found once for each update: from the template, or without one from the order of the data sources.
 #[derive(Drop)]
 pub(crate) struct Columns<'a> {
     /// The template.
     pub(crate) template: &'a Option<List<Name>>,
-    /// For each source the place of its value; none if the template doesn't name it.
+    /// The index of each data source's value; `None` if the template does not name the data source.
     pub(crate) places: ArrayVec<Option<usize>, MOST_SOURCES>,
 }
 
-// The place of a source's name; none if it isn't there.
+// Returns the index of a data source's name; `None` if there is no such name.
 fn place_named(names: &[Name], source: &DsDef) -> Option<usize>
     ensures { (values : List Given) → value_in values result ≡ value_for names.now values source.now }
 {
@@ -34,8 +35,8 @@ fn place_named(names: &[Name], source: &DsDef) -> Option<usize>
     None
 }
 
-// The place of the value for a source. As the sources' names differ, without a template that is the
-// source's own place.
+// Returns the index of a data source's value. Without a template this is the data source's own number, since the names
+// of data sources differ.
 fn place_of(template: &Option<List<Name>>, sources: &[DsDef], source: usize) -> Option<usize>
     requires there { source < length sources.now }
     requires names_differ { is_double (names sources.now) ≡ false }
@@ -49,7 +50,7 @@ fn place_of(template: &Option<List<Name>>, sources: &[DsDef], source: usize) -> 
 }
 
 impl<'a> Columns<'a> {
-    /// The places of these sources' values.
+    /// Finds the indexes of the values of these data sources.
     pub(crate) fn new(template: &'a Option<List<Name>>, sources: &[DsDef]) -> Columns<'a>
         requires names_differ { is_double (names sources.now) ≡ false }
         requires few { length sources.now ≤ present.most_sources }
@@ -63,7 +64,7 @@ impl<'a> Columns<'a> {
         Columns { template, places }
     }
 
-    /// What is given for the source of this number; unknown if there is no value for it.
+    /// Returns the given value for a data source; `Unknown` if there is none.
     pub(crate) fn value(&self, values: &[Given], source: usize) -> Given
         requires { source < length self.now.places.items }
         ensures { result ≡ value_in values.now (slice_index_or self.now.places.items source NoPlace) }

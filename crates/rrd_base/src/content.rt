@@ -1,4 +1,4 @@
-//! What a database holds, but for its journal.
+//! The content of a database: everything except its journal.
 ghost use Rattle.std.specs.Prelude.{◌≡◌, IfOk, None};
 ghost use Rattle.rrd_spec.specs.Commands.Creating.{create_verdict, created};
 
@@ -11,7 +11,7 @@ use rrd_spec::laws;
 use std::alloc::{AllocError, Global};
 use std::marker::Model;
 
-/// The settings, the last time, and for each source and archive what has come so far.
+/// The settings, the last time, and the values of each data source and archive.
 #[derive(Drop)]
 pub(crate) struct Content {
     pub(crate) step: u64,
@@ -36,7 +36,7 @@ impl Model for Content {
 }
 
 impl Content {
-    /// A new database's content: nothing is known yet.
+    /// Creates the content of a new database, in which nothing is known.
     pub(crate) fn new(alloc: Global, spec: CreateSpec) -> Result<Content, AllocError>
         requires { create_verdict spec ≡ None }
         ensures { IfOk result (λ content. content ≡ created spec) }

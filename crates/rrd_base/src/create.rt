@@ -1,4 +1,4 @@
-//! Making a database.
+//! The checks of a new database.
 ghost use Rattle.std.specs.Prelude.{◌≡◌, ◌*◌, ◌≤◌, nat_lt, not};
 ghost use Rattle.std.specs.List.{list_any};
 ghost use Rattle.std.specs.Result.{result_err};
@@ -15,8 +15,11 @@ use rrd_spec::limits::{
     MOST_ARCHIVES, MOST_CELLS, MOST_ROWS, MOST_SOURCES, MOST_STEPS,
 };
 
-/// Whether a database can be made, or the first refusal: each number is judged over all sources or
-/// archives before the next one.
+/// Checks whether a database can be created.
+///
+/// # Errors
+/// The first check that fails, each over all data sources or archives before the next, in the order of
+/// `Database::create`; memory is not checked.
 pub fn check_create(spec: &CreateSpec) -> Result<(), Refusal>
     ensures { result_err result ≡ creating.create_verdict spec.now }
 {
@@ -62,7 +65,12 @@ fn check_sources(sources: &[DsDef]) -> Result<(), Refusal>
     Ok(())
 }
 
-fn check_archives(archives: &[RraDef]) -> Result<(), Refusal>
+/// Checks the settings of archives, each number over all archives before the next one.
+///
+/// # Errors
+///
+/// The first of these, in this order: `BadXff`, `BadSteps`, `BadRows`.
+pub(crate) fn check_archives(archives: &[RraDef]) -> Result<(), Refusal>
     ensures { result_err result ≡ verdict.first_refusal (creating.archive_checks present archives.now) }
 {
     if any_bad_xff(archives) {
@@ -89,21 +97,21 @@ fn check_size(spec: &CreateSpec) -> Result<(), Refusal>
     Ok(())
 }
 
-/// Whether a step is not 1 to 1,000,000 seconds.
+/// Returns whether a step is not 1 to 1,000,000 seconds.
 pub(crate) fn is_bad_step(seconds: u64) -> bool
     ensures { result ≡ creating.is_bad_step present seconds }
 {
     seconds == 0 || seconds > LONGEST_STEP
 }
 
-/// Whether a journal's depth is not 1 to 100,000.
+/// Returns whether the depth of a journal is not 1 to 100,000.
 fn is_bad_depth(depth: u64) -> bool
     ensures { result ≡ creating.is_bad_depth present depth }
 {
     depth == 0 || depth > DEEPEST_JOURNAL
 }
 
-// ---- the sources
+// ---- checks of data sources
 
 fn any_bad_name(sources: &[DsDef]) -> bool
     ensures { result ≡ list_any (λ source. not (is_good source.name)) sources.now }
@@ -125,14 +133,14 @@ fn any_bad_bounds(sources: &[DsDef]) -> bool
     sources.iter().any(|source| has_bad_bounds(source))
 }
 
-/// Whether a heartbeat is not 1 to 9,999,999,999 seconds.
+/// Returns whether a heartbeat is not 1 to 9,999,999,999 seconds.
 pub(crate) fn is_bad_heartbeat(seconds: u64) -> bool
     ensures { result ≡ verdict.is_bad_heartbeat present seconds }
 {
     seconds == 0 || seconds > LONGEST_HEARTBEAT
 }
 
-/// Whether a bound is past the greatest rate, or the least is above the greatest.
+/// Returns whether a bound is larger in size than the maximum rate, or the minimum is above the maximum.
 pub(crate) fn has_bad_bounds(source: &DsDef) -> bool
     ensures { result ≡ verdict.has_bad_bounds present source.now }
 {
@@ -157,7 +165,7 @@ fn is_crossed(min: Option<i128>, max: Option<i128>) -> bool
     }
 }
 
-// ---- the archives
+// ---- checks of archives
 
 fn any_bad_xff(archives: &[RraDef]) -> bool
     ensures { result ≡ list_any (λ archive. creating.is_bad_xff present archive.xff) archives.now }
@@ -177,30 +185,30 @@ fn any_bad_rows(archives: &[RraDef]) -> bool
     archives.iter().any(|archive| is_bad_rows(archive.rows))
 }
 
-/// Whether a share, in millionths, is not from 0 to below 1.
+/// Returns whether an xff, in millionths, is not from 0 to below 1.
 pub(crate) fn is_bad_xff(xff: i128) -> bool
     ensures { result ≡ creating.is_bad_xff present xff }
 {
     xff < 0 || xff > GREATEST_SHARE
 }
 
-/// Whether a number of steps in a row is not 1 to 1,000,000.
+/// Returns whether the number of steps in a row is not 1 to 1,000,000.
 pub(crate) fn is_bad_steps(steps: u64) -> bool
     ensures { result ≡ creating.is_bad_steps present steps }
 {
     steps == 0 || steps > MOST_STEPS
 }
 
-/// Whether a number of rows is not 1 to 1,000,000.
+/// Returns whether a number of rows is not 1 to 1,000,000.
 pub(crate) fn is_bad_rows(rows: u64) -> bool
     ensures { result ≡ verdict.is_bad_rows present rows }
 {
     rows == 0 || rows > MOST_ROWS
 }
 
-// ---- the size
+// ---- checks of the size
 
-// Whether there are too many sources, archives or cells.
+// Returns whether there are too many data sources, archives or cells.
 fn is_too_large(spec: &CreateSpec) -> bool
     ensures { result ≡ creating.is_too_large present spec.now }
 {
@@ -211,7 +219,7 @@ fn is_too_large(spec: &CreateSpec) -> bool
         || has_too_many_cells(MOST_CELLS, sources, all_rows(spec.archives.as_slice()))
 }
 
-/// Whether so many sources with so many rows have more cells than that.
+/// Returns whether `sources` data sources with `rows` rows have more than `most` cells.
 pub(crate) fn has_too_many_cells(most: u64, sources: usize, rows: u64) -> bool
     requires { most ≤ present.most_cells }
     ensures { result ≡ nat_lt most (sources * rows) }

@@ -1,5 +1,5 @@
-//! Which archive a fetch reads, which span of it, and the cells there (rrdfetch; the order of the archives is this
-//! project's).
+//! The selection of the archive and the rows that a fetch reads, and the cells of rows (rrdfetch; the order of the
+//! archives is this project's rule).
 ghost use Rattle.std.specs.Prelude.{◌≡◌, ◌-◌, ◌-ℤ◌, ◌/◌, ◌^◌, ◌<◌, ◌≤◌, ℕ, List, [], ◌∷◌, ◌++◌, length, pos, slice_index_or, IfNone, IfSome, MatchResult, Err};
 ghost use Rattle.std.specs.Int.{int_div_euclid};
 ghost use Rattle.std.specs.Result.{result_err};
@@ -23,9 +23,10 @@ use rrd_spec::{Candidate, FetchRequest};
 use std::marker::Model;
 
 /// The search for the archive that a fetch reads. All archives are offered to it, in order.
-/// Contracts see what is asked for, and the one that is taken of those so far.
+///
+/// Contracts see the request, and the best archive so far.
 #[derive(Drop)]
-pub struct Search {
+pub(crate) struct Search {
     step: u64,
     last: u64,
     request: FetchRequest,
@@ -43,8 +44,8 @@ impl Model for Search {
 }
 
 impl Search {
-    /// Begins with no archive, or refuses what can't be fetched of any database.
-    pub(crate) fn begin(step: u64, last: u64, request: FetchRequest) -> Result<Search, Refusal>
+    /// Starts without an archive, and checks the request without the database.
+    pub(crate) fn new(step: u64, last: u64, request: FetchRequest) -> Result<Search, Refusal>
         requires some_step { 0 < step }
         requires small_step { step ≤ present.longest_step }
         requires good_last { last ≤ present.latest_time }
@@ -84,7 +85,7 @@ impl Search {
         }
     }
 
-    /// What the fetch reads, all archives having been offered.
+    /// Returns the archive and the rows that the fetch reads, after all archives have been offered.
     pub(crate) fn finish(&self) -> Result<Chosen, Refusal>
         ensures { (step last : ℕ) (request : FetchRequest) (defs : List RraDef) →
             self.now ≡ searched step last request defs →
@@ -101,7 +102,7 @@ impl Search {
     }
 }
 
-// Whether a span can't be fetched of any database.
+// Checks the times of a request.
 fn check_span(request: FetchRequest) -> Result<(), Refusal>
     ensures { result_err result ≡ first_refusal (choice.span_checks present request) }
 {
@@ -123,7 +124,7 @@ fn is_same_function(one: Function, other: Function) -> bool
     one == other
 }
 
-// What is judged of an archive.
+// Returns the number, the resolution and the reach of an archive.
 fn candidate(step: u64, last: u64, number: u64, def: &RraDef) -> Candidate
     requires some_step { 0 < step }
     requires small_step { step ≤ present.longest_step }
@@ -145,7 +146,7 @@ fn candidate(step: u64, last: u64, number: u64, def: &RraDef) -> Candidate
     }
 }
 
-// Whether an archive is taken rather than one with a lower number.
+// Returns whether an archive is preferred to one with a lower number.
 fn is_preferred(request: FetchRequest, one: &Candidate, other: &Candidate) -> bool
     ensures { result ≡ is_preferred request.asked request.start one.now other.now }
 {
@@ -157,7 +158,7 @@ fn is_preferred(request: FetchRequest, one: &Candidate, other: &Candidate) -> bo
     }
 }
 
-// Whether all rows from the start on are there.
+// Returns whether an archive has all rows from the start on.
 fn covers(start: u64, one: &Candidate) -> bool
     ensures { result ≡ choice.covers start one.now }
 {
@@ -170,14 +171,14 @@ fn is_nearer(asked: u64, one: &Candidate, other: &Candidate) -> bool
     one.resolution.abs_diff(asked) < other.resolution.abs_diff(asked)
 }
 
-// Whether an archive reaches back farther, or as far and is nearer.
+// Returns whether an archive reaches back farther than another one, or as far with a nearer resolution.
 fn is_farther(asked: u64, one: &Candidate, other: &Candidate) -> bool
     ensures { result ≡ choice.is_farther asked one.now other.now }
 {
     one.reach < other.reach || (one.reach <= other.reach && is_nearer(asked, one, other))
 }
 
-// The span of an archive.
+// Returns the rows that a fetch reads of an archive.
 fn span(request: FetchRequest, one: &Candidate) -> Chosen
     requires some_resolution { 0 < one.now.resolution }
     requires small_resolution { one.now.resolution ≤ 10 ^ 12 }
@@ -197,19 +198,19 @@ fn span(request: FetchRequest, one: &Candidate) -> Chosen
 }
 
 impl Content {
-    /// Which archive a fetch reads, and which of its rows.
+    /// Selects the archive that a fetch reads, and the rows of it.
     pub(crate) fn choose(&self, request: FetchRequest) -> Result<Chosen, Refusal>
         ensures { result
             ≡ choice.choice_of present self.now.step self.now.last (definitions self.now.archives) request }
     {
-        let mut search = Search::begin(self.step, self.last, request)?;
+        let mut search = Search::new(self.step, self.last, request)?;
         for (number, rra) in self.archives.as_slice().iter().enumerate() {
             search.offer(number as u64, &rra.def());
         }
         search.finish()
     }
 
-    /// The time of an archive's oldest row.
+    /// Returns the time of an archive's oldest row, in seconds since 1970.
     pub(crate) fn first(&self, archive: u64) -> Result<i64, Refusal>
         ensures { result ≡ oldest_time self.now archive }
     {
@@ -220,8 +221,8 @@ impl Content {
         Ok(oldest(self.step, self.last, &rra.def()))
     }
 
-    /// The cells of an archive's row at a time, a multiple of the seconds in a row; none where the
-    /// archive has no such row.
+    /// Returns the cells of an archive's row at a time, a multiple of the resolution; `None` if the archive has no such
+    /// row.
     pub(crate) fn row(&self, archive: usize, time: i64) -> Option<&[Cell]>
         requires { archive < length self.now.archives }
         ensures wide { IfSome result (λ row. length row.now ≡ length self.now.sources) }
@@ -236,8 +237,7 @@ impl Content {
     }
 }
 
-/// How many rows of so many seconds end after one that ends at `time` up to the last time; negative
-/// if it ends later.
+/// Returns how many rows end after the one that ends at `time`, up to `last`; negative if that row ends after `last`.
 fn age(last: u64, resolution: u64, time: i64) -> i128
     requires some { 0 < resolution }
     requires small { resolution ≤ 10 ^ 12 }
@@ -246,7 +246,7 @@ fn age(last: u64, resolution: u64, time: i64) -> i128
     i128::from(last / resolution) - i128::from(time.div_euclid(resolution as i64))
 }
 
-/// The time of an archive's oldest row.
+/// Returns the time of an archive's oldest row.
 fn oldest(step: u64, last: u64, def: &RraDef) -> i64
     requires some_step { 0 < step }
     requires small_step { step ≤ present.longest_step }

@@ -1,4 +1,4 @@
-//! The journal: what it holds of a change, and how that is put back.
+//! The journal: the entry of each change, and how it undoes the change.
 ghost use Rattle.std.specs.Prelude.{◌≡◌, ◌≤◌, length};
 ghost use Rattle.std.specs.List.{AllByRecursion};
 ghost use Rattle.rrd_base.specs.Journal.{CanUndo, entry_of};
@@ -16,39 +16,43 @@ use rrd_fold::StepPrep;
 use rrd_ring::Archive;
 use rrd_spec::limits::MOST_TUNED;
 
+mod put_back;
 mod saved_archive;
 
+pub(crate) use put_back::put_back;
 pub use saved_archive::SavedArchive;
 
 /// A database as it was before an update.
 #[derive(Drop)]
 pub struct BeforeUpdate {
-    /// The time of the last sample before, or the start, in seconds.
+    /// The time of the last sample before, or the start, in seconds since 1970.
     pub last: u64,
-    /// Each data source's last raw value.
+    /// The last raw value of each data source.
     pub raws: Vec<Raw>,
-    /// For each data source the preparation of its unfinished step.
+    /// The partial step of each data source.
     pub preps: Vec<StepPrep>,
-    /// Of each archive what the update replaced.
+    /// The values of each archive that the update replaced.
     pub archives: Vec<SavedArchive>,
 }
 
-/// A journal entry: what an update, a tune or a resize replaced, or which archive came or went.
+/// A journal entry, which undoes one change.
+///
+/// An entry has the values that a change replaced, or says which archive a change added or removed.
 #[derive(Drop)]
 pub enum Entry {
-    /// What was before an update.
+    /// The database before an update.
     Update(BeforeUpdate),
     /// The data sources that a tune named, at most 5, by rising number.
     Tune(ArrayVec<SourceBefore, MOST_TUNED>),
-    /// The number of an archive that was resized, and its rows before.
+    /// The number of a resized archive, and its rows before the resize.
     Resize { archive: u64, old: Archive },
     /// An archive was added, as the last one.
     Added,
-    /// The number of an archive that was removed, and the archive as it was.
+    /// The number of a removed archive, and the archive as it was.
     Removed { archive: u64, old: Rra },
 }
 
-/// How many cells are kept of all archives, so many sources having been defined.
+/// Returns the number of cells that are saved of all archives, in a database with `sources` data sources.
 pub(crate) fn count_cells(archives: &[SavedArchive], sources: u64) -> u64
     requires few_archives { length archives.now ≤ present.most_archives }
     requires few_sources { sources ≤ present.most_sources }
@@ -63,7 +67,7 @@ pub(crate) fn count_cells(archives: &[SavedArchive], sources: u64) -> u64
 }
 
 impl Content {
-    /// Puts back what was before a change. It takes no memory.
+    /// Undoes a change. Does not allocate.
     pub(crate) fn undo(&mut self, entry: Entry)
         requires fits { CanUndo self.old.archives entry }
         requires valid { IsValid (undone self.old (entry_of entry)) }

@@ -1,5 +1,6 @@
-//! A round-robin database of many data sources and archives, with a journal of what its changes replaced.
-//! `rrd_tests/src/examples.rt` has a caller of it, from the first call to the last.
+//! A round-robin database of many data sources and archives, with a journal that can undo its changes.
+//!
+//! `rrd_tests/src/examples.rt` has a complete caller.
 #![tactic(auto)]
 
 mod archives;
@@ -20,9 +21,9 @@ mod update;
 mod walk;
 
 pub use create::check_create;
-pub use database::Database;
+pub use database::{Database, database_is_valid};
 pub use journal::{BeforeUpdate, Entry, SavedArchive};
-pub use rebuild::{Judge, PieceFault, Rebuild, is_bounded};
+pub use rebuild::{Header, Judge, PieceFault, Rebuild, is_bounded};
 pub use rra::Rra;
 pub use rrd_spec::{
     ArchiveList, ArchiveTune, Change, Chosen, CreateSpec, DsDef, Due, Given, List, Outline,

@@ -1,4 +1,4 @@
-//! What has a name, and names among others.
+//! Names, and the types that have one.
 ghost use Rattle.std.specs.Prelude.{◌≡◌, map};
 ghost use Rattle.std.specs.List.{list_any};
 ghost use Rattle.rrd_fixed.specs.declared.name.Name.{Name};
@@ -8,12 +8,12 @@ ghost use Rattle.rrd_spec.specs.Settings.{has_source, is_double};
 use crate::DsDef;
 use rrd_fixed::Name;
 
-/// A name by itself, or a source, which has one.
+/// A type with a name: a name itself, or a data source.
 pub(crate) trait Named {
-    /// The name, as contracts see it.
+    /// The name that contracts see.
     ghost called: { Self → Name };
 
-    /// The name.
+    /// Returns the name.
     fn name(&self) -> &Name
         ensures { result.now ≡ called self.now };
 }
@@ -34,21 +34,21 @@ impl Named for DsDef {
     }
 }
 
-/// Whether a name stands among others.
+/// Returns whether a name is among others.
 pub(crate) fn is_among<T: Named>(name: &Name, others: &[T]) -> bool
     ensures { result ≡ list_any (λ other. same_name name.now (T.called other)) others.now }
 {
     others.iter().any(|other| name.same(other.name()))
 }
 
-/// Whether a source has that name.
+/// Returns whether a data source has the name.
 pub(crate) fn has_source(sources: &[DsDef], name: &Name) -> bool
     ensures { result ≡ has_source sources.now name.now }
 {
     is_among(name, sources)
 }
 
-/// Whether a name stands twice.
+/// Returns whether a name occurs twice.
 pub(crate) fn has_double_name<T: Named>(named: &[T]) -> bool
     ensures { result ≡ is_double (map T.called named.now) }
 {

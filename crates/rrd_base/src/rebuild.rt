@@ -1,23 +1,27 @@
-//! A database from the pieces of a file, in the order of its layout.
+//! A database that is read from the records of a file, in the order of the layout.
 //!
-//! To whoever works on it next. Contracts see what came so far as lists (`Filed`), and a database only where
-//! `finish` has one; each rule of the layout is asked at the piece that can break it first, so the first piece
-//! that is refused is the file's first fault, and `decode` has to ask nothing again. A new rule goes into the
-//! definition of the piece that it is about (`MaySource`, `MayHead`, ..) and into the check of that name, and
-//! what `finish` promises says whether one is lacking. A rule of an entry goes into `Judge`, which a reader asks of
-//! each piece, and this module once all of them make an entry.
+//! How it works: contracts see the records that were read as lists (`Filed`), and a database only in the result of
+//! `finish`. Each rule of the layout is checked at the first record that can break it, so the first record that is
+//! refused is the file's first error, and `decode` need not check again. A new rule belongs in the definition of its
+//! record (`MaySource`, `MayHead`, ..) and in the check of that name; the contract of `finish` shows if a rule is
+//! missing. A rule of an entry belongs in `Judge`: a reader checks each record of an entry by it, and this module
+//! checks the complete entry.
 //!
-//! What goes wrong easily. Entries come newest first, and each is judged by the outline that is left once all
-//! that came before it are undone, not by the present settings: names, numbers and types of archives and sources
-//! were others then. The limits are those of the version that `begin` took, in entries too. A piece is judged
-//! before it is given memory, so that want of memory hides no fault, and changes nothing until it has all. Rows
-//! come by slot, not by time: `Cursor` alone knows which is next, and where it goes. `whole_rows` takes whole rows
-//! at once and has to come to what `cell` does one after another.
-ghost use Rattle.std.specs.Prelude.{◌≡◌, ◌++◌, ◌∷◌, [], ◌<◌, ◌≤◌, Some, length, replicate, slice_get, take, true, IfErr, OnOk, OnErr};
+//! Pitfalls:
+//!
+//! - Entries come newest first. Each entry is checked against the outline that is left after all entries before it are
+//!   undone, not against the present settings: names, numbers and types of archives and data sources were different
+//!   then.
+//! - The limits are those of the header's version, in entries too.
+//! - A record is checked before memory is allocated for it, so that running out of memory hides no error; and a record
+//!   changes nothing before all its memory is there.
+//! - Rows come by slot, not by time: only `Cursor` knows which row is next, and where it goes.
+//! - `whole_rows` takes whole rows at once, and must have the same effect as `cell` for one cell after another.
+ghost use Rattle.std.specs.Prelude.{◌≡◌, ◌++◌, ◌∷◌, [], ◌<◌, ◌≤◌, length, replicate, take, true, IfErr, OnOk, OnErr};
 ghost use Rattle.std.specs.List.{AllByRecursion};
 ghost use Rattle.rrd_fixed.specs.Rate.{IsBounded};
 ghost use Rattle.rrd_fixed.specs.declared.cell.Cell.TheVariants.{Unknown as CellUnknown};
-ghost use Rattle.rrd_base.specs.Rebuild.Begins.{Begins};
+ghost use Rattle.rrd_base.specs.Rebuild.Begins.{Begins, header_said};
 ghost use Rattle.rrd_base.specs.Rebuild.CellRun.{run_cells};
 ghost use Rattle.rrd_base.specs.Rebuild.Runs.{MayCells, with_cells};
 ghost use Rattle.rrd_base.specs.Journal.{entry_of};
@@ -25,44 +29,43 @@ ghost use Rattle.rrd_fold.specs.Parts.{Part};
 ghost use Rattle.rrd_base.specs.declared.rebuild.PieceFault.TheVariants.{Bad, OutOfMemory};
 ghost use Rattle.rrd_spec.specs.declared.due.Due.TheVariants.{EntryDue, NothingDue};
 ghost use Rattle.rrd_base.specs.Rebuild.Judges.{judge};
-ghost use Rattle.rrd_spec.specs.Files.Filed.{Header, Source, filed};
+ghost use Rattle.rrd_spec.specs.Files.Filed.{Header as FiledHeader, Source, filed};
 ghost use Rattle.rrd_spec.specs.Files.Rebuilding.{MayCell, MayEntry, MayHead, MayPrep, MaySource, due, limits, outline_left, unprepared, with_cell, with_entry, with_head, with_prep, with_source};
 ghost use Rattle.rrd_spec.specs.Limits.{present};
 ghost use Rattle.rrd_spec.specs.Validity.{IsValidDatabaseWithin};
 
 use crate::cell_run::CellRun;
 use crate::content::Content;
-use crate::create::{has_too_many_cells, is_bad_step};
 use crate::journal::Entry;
 use crate::named::has_source;
-use crate::rows::all_rows;
 use crate::rra::Rra;
 use crate::{ArchiveList, Database, DsDef, Due, Outline, RraDef};
 use circular_buffer::HeapCircularBuffer;
 use cursor::Cursor;
-use piece_checks::{bounded_front, is_archive, is_part, is_source};
+use piece_checks::{is_part, is_source};
 use rrd_fixed::{Cell, Raw};
 use rrd_fold::{Function, RowPrep, StepPrep};
-use rrd_spec::limits::{LATEST_TIME, MOST_SOURCES};
 use rrd_spec::{Version, first_place, laws};
 use std::alloc::{AllocError, Global};
 use std::marker::Model;
 
 mod cursor;
 mod entry_checks;
+mod header;
 mod judge;
 mod outline;
 mod piece_checks;
 
+pub use header::Header;
 pub use judge::Judge;
 pub use piece_checks::is_bounded;
 
-/// Why a piece is not taken.
+/// The reason for which a record is not taken.
 #[derive(Clone, Copy, Debug, PartialEq, Eq)]
 pub enum PieceFault {
-    /// It breaks a rule, or another piece is due.
+    /// The record breaks a rule, or another record is due.
     Bad,
-    /// There is no memory for it.
+    /// Memory for the record runs out.
     OutOfMemory,
 }
 
@@ -74,25 +77,18 @@ impl From<AllocError> for PieceFault {
     }
 }
 
-/// A database of which a file's pieces came so far. Contracts see the lists of those pieces.
+/// A database of which some of a file's records were read. Contracts see the lists of these records.
 #[derive(Drop)]
 pub struct Rebuild {
     alloc: Global,
-    version: Version,
-    step: u64,
-    last: u64,
-    depth: u64,
-    // How many were announced.
-    sources_due: u64,
-    archives_due: u64,
-    entries_due: u64,
+    header: Header,
     sources: Vec<DsDef>,
     raws: Vec<Raw>,
     preps: Vec<StepPrep>,
     archives: ArchiveList<Rra>,
     cursor: Cursor,
     journal: HeapCircularBuffer<Entry>,
-    // By the outline that is left once the entries that came have been undone.
+    // The judge has the outline that is left after the entries that were read are undone.
     judge: Judge,
 }
 
@@ -108,11 +104,11 @@ impl Model for Rebuild {
 }
 
 impl Rebuild {
-    /// Begins with a header: the version, to whose limits all pieces are held, seconds in a step (1 to
-    /// 1,000,000), the last time (seconds since 1970, up to 9,999,999,999), the journal's depth (1 to
-    /// 100,000, in the first version 1,000), and how many sources (1 to 64), archives (1 to 128, in the
-    /// first version 64) and entries (at most the depth) will come. Bad exactly where a number is none of
-    /// these.
+    /// Starts a database with the values of a header, as `with_header` does.
+    ///
+    /// # Errors
+    /// - `Bad`: a value is outside its range, which `Header` says.
+    /// - `OutOfMemory`: memory runs out.
     pub fn begin(
         alloc: Global,
         version: Version,
@@ -123,7 +119,7 @@ impl Rebuild {
         archives: u64,
         entries: u64,
     ) -> Result<Rebuild, PieceFault>
-        ensures { let header : Header = record {
+        ensures { let header : FiledHeader = record {
           version = version;
           step = step;
           last = last;
@@ -133,41 +129,49 @@ impl Rebuild {
           entries = entries;
         } in Begins header result }
     {
-        if is_bad_step(step) || last > LATEST_TIME {
-            return Err(PieceFault::Bad);
-        }
-        if depth == 0 || depth > version.deepest_journal() || entries > depth {
-            return Err(PieceFault::Bad);
-        }
-        if sources == 0 || sources > MOST_SOURCES as u64 {
-            return Err(PieceFault::Bad);
-        }
-        if archives == 0 || archives > version.most_archives() as u64 {
-            return Err(PieceFault::Bad);
-        }
-        let journal = HeapCircularBuffer::with_capacity(alloc, depth as usize)?;
-        let rras = ArchiveList::new(alloc)?;
-        let judge = Judge::new(alloc, version, step, last)?;
-        Ok(Rebuild {
-            alloc,
+        let header = Header {
             version,
             step,
             last,
             depth,
-            sources_due: sources,
-            archives_due: archives,
-            entries_due: entries,
+            sources,
+            archives,
+            entries,
+        };
+        Rebuild::with_header(alloc, header)
+    }
+
+    /// Starts a database with a header.
+    ///
+    /// Allocates the journal's places, which are not touched before they are used, and the lists of archives.
+    ///
+    /// # Errors
+    ///
+    /// - `Bad`: a number of the header is outside its range.
+    /// - `OutOfMemory`: memory ran out.
+    pub fn with_header(alloc: Global, header: Header) -> Result<Rebuild, PieceFault>
+        ensures { Begins (header_said header) result }
+    {
+        if !header.is_good() {
+            return Err(PieceFault::Bad);
+        }
+        let journal = HeapCircularBuffer::with_capacity(alloc, header.depth as usize)?;
+        let archives = ArchiveList::new(alloc)?;
+        let judge = Judge::new(alloc, header.version, header.step, header.last)?;
+        Ok(Rebuild {
+            alloc,
+            header,
             sources: Vec::new(alloc),
             raws: Vec::new(alloc),
             preps: Vec::new(alloc),
-            archives: rras,
+            archives,
             cursor: Cursor::new(),
             journal,
             judge,
         })
     }
 
-    // The settings of the archive that hasn't all preparations.
+    // Returns the settings of the archive that does not have all its partial rows.
     fn unprepared_archive(&self) -> Option<RraDef>
         ensures { result ≡ unprepared self.now.header.sources self.now.heads }
     {
@@ -176,52 +180,53 @@ impl Rebuild {
             return None;
         }
         let rra = self.archives.get(archives - 1);
-        if (rra.prep_count() as u64) < self.sources_due {
+        if (rra.prep_count() as u64) < self.header.sources {
             return Some(rra.def());
         }
         None
     }
 
-    /// Which piece is due.
+    /// Returns which record is due.
     pub fn due(&self) -> Due
         ensures { result ≡ due self.now }
     {
         laws::cells_stand_in_slots();
-        if (self.sources.len() as u64) < self.sources_due {
+        if (self.sources.len() as u64) < self.header.sources {
             return Due::SourceDue;
         }
         if let Some(def) = self.unprepared_archive() {
             return Due::PrepDue(def);
         }
         let archives = self.archives.len();
-        if (archives as u64) < self.archives_due {
+        if (archives as u64) < self.header.archives {
             return Due::HeadDue;
         }
         if self.cursor.archive < archives {
             return Due::CellDue;
         }
-        if (self.journal.len() as u64) < self.entries_due {
+        if (self.journal.len() as u64) < self.header.entries {
             return Due::EntryDue;
         }
         Due::NothingDue
     }
 
-    /// The outline of the database once all entries that came have been undone: it decides which
-    /// entry fits next. It takes no memory.
+    /// Returns the outline after all entries that were read are undone.
+    ///
+    /// The outline decides which entry fits next. Does not allocate.
     pub fn undone(&self) -> &Outline
         ensures { result.now ≡ outline_left self.now }
     {
         self.judge.outline()
     }
 
-    /// What judges the next entry, by that outline.
+    /// Returns the judge of the next entry, which has that outline.
     pub fn judge(&self) -> &Judge
         ensures { result.now ≡ judge self.now }
     {
         &self.judge
     }
 
-    // Whether a data source may come.
+    // Returns whether a data source may come.
     fn may_source(&self, def: &DsDef, raw: Raw, known: u64, sum: i128) -> bool
         ensures good { let source : Source =
             record { def = def.now; raw = raw; part = record { known = known; value = sum } } in
@@ -236,15 +241,25 @@ impl Rebuild {
         if !is_source(def) || !def.kind.accepts(raw) {
             return false;
         }
-        if !is_part(Function::Average, self.last % self.step, known, sum) {
+        if !is_part(
+            Function::Average,
+            self.header.last % self.header.step,
+            known,
+            sum,
+        ) {
             return false;
         }
         !has_source(&self.sources, &def.name)
     }
 
-    /// Takes the next data source, with its last raw value, and how many seconds of its unfinished
-    /// step are known and their sum in millionths. Bad exactly where another piece is due or a rule is
-    /// broken; refused, it changes nothing.
+    /// Adds the next data source, with its last raw value and its partial step.
+    ///
+    /// `known` is the number of known seconds, and `sum` the sum of their rates in millionths.
+    ///
+    /// # Errors
+    /// The database is then unchanged:
+    /// - `Bad`: another record is due, or a rule is broken.
+    /// - `OutOfMemory`: memory runs out.
     pub fn source(&mut self, def: DsDef, raw: Raw, known: u64, sum: i128) -> Result<(), PieceFault>
         ensures ok { let source : Source =
             record { def = def; raw = raw; part = record { known = known; value = sum } } in
@@ -273,7 +288,7 @@ impl Rebuild {
         Ok(())
     }
 
-    // Whether an archive's settings may come.
+    // Returns whether the settings of an archive may come.
     fn may_head(&self, def: &RraDef) -> bool
         ensures good { result ≡ true → MayHead self.now def.now }
         ensures bad { MayHead self.now def.now → result ≡ true }
@@ -281,17 +296,18 @@ impl Rebuild {
         let Due::HeadDue = self.due() else {
             return false;
         };
-        if !is_archive(def) {
-            return false;
-        }
-        let rows = all_rows(self.archives.as_slice()) + def.rows;
-        !has_too_many_cells(self.version.most_cells(), self.sources_due as usize, rows)
+        self.judge.may_have(def)
     }
 
-    /// Takes the next archive's settings. Bad exactly where another piece is due or a rule is broken;
-    /// refused, it changes nothing. It takes memory for the archive's rows once its settings are good
-    /// and all cells are at most 8,000,000, in the first version 4,000,000; each cell touches its part
-    /// of that memory as it comes.
+    /// Adds the next archive, with its settings.
+    ///
+    /// Allocates the memory for the archive's rows; reading a cell touches only that cell's part of the memory.
+    ///
+    /// # Errors
+    /// The database is then unchanged:
+    /// - `Bad`: another record is due, or a rule is broken; there may be at most 8,000,000 cells (in version 1,
+    ///   4,000,000).
+    /// - `OutOfMemory`: memory runs out.
     pub fn archive(&mut self, def: RraDef) -> Result<(), PieceFault>
         ensures ok { OnOk result (MayHead self.old def × (self.new ≡ with_head self.old def)) }
         ensures bad { IfErr result (λ e. e ≡ Bad → MayHead self.old def → ⊥) }
@@ -301,14 +317,14 @@ impl Rebuild {
         if !self.may_head(&def) {
             return Err(PieceFault::Bad);
         }
-        let first = first_place(def.resolution(self.step), self.last, def.rows);
-        let rra = Rra::begin(self.alloc, def, self.sources_due, first)?;
+        let first = first_place(def.resolution(self.header.step), self.header.last, def.rows);
+        let rra = Rra::unprepared(self.alloc, def, self.header.sources, first)?;
         self.archives.push(rra);
         self.judge.push_archive(def);
         Ok(())
     }
 
-    // Whether a preparation may come.
+    // Returns whether a partial row may come.
     fn may_prep(&self, known: u64, value: i128) -> bool
         ensures good { result ≡ true → MayPrep self.now (record { known = known; value = value }) }
         ensures bad { MayPrep self.now (record { known = known; value = value }) → result ≡ true }
@@ -316,13 +332,18 @@ impl Rebuild {
         let Due::PrepDue(def) = self.due() else {
             return false;
         };
-        let passed = self.last / self.step % def.steps;
+        let passed = self.header.last / self.header.step % def.steps;
         is_part(def.function, passed, known, value)
     }
 
-    /// Takes the next source's preparation in the archive that came last: how many steps are known,
-    /// and what they come to in millionths. Bad exactly where another piece is due or a rule is broken;
-    /// refused, it changes nothing.
+    /// Adds the next partial row of the archive that came last.
+    ///
+    /// `known` is the number of known steps, and `value` their sum, minimum, maximum or last value in millionths.
+    ///
+    /// # Errors
+    /// The database is then unchanged:
+    /// - `Bad`: another record is due, or a rule is broken.
+    /// - `OutOfMemory`: memory runs out.
     pub fn prep(&mut self, known: u64, value: i128) -> Result<(), PieceFault>
         ensures ok { let part : Part = record { known = known; value = value } in
             OnOk result (MayPrep self.old part × (self.new ≡ with_prep self.old part)) }
@@ -341,16 +362,16 @@ impl Rebuild {
         Ok(())
     }
 
-    /// How many cells each row has: 1 to 64.
+    /// Returns the number of cells in each row: 1 to 64.
     pub fn cells_in_row(&self) -> usize
         ensures count { result ≡ self.now.header.sources }
         ensures some { 0 < result }
         ensures few { result ≤ present.most_sources }
     {
-        self.sources_due as usize
+        self.header.sources as usize
     }
 
-    // Whether a cell may come.
+    // Returns whether a cell may come.
     fn may_cell(&self, cell: Cell) -> bool
         ensures good { result ≡ true → MayCell self.now cell }
         ensures bad { MayCell self.now cell → result ≡ true }
@@ -361,9 +382,12 @@ impl Rebuild {
         is_bounded(cell)
     }
 
-    /// Takes the next cell, in millionths: archive by archive, slot by slot, source by source. Bad
-    /// where another piece is due or it is past the greatest rate; refused, it changes nothing. It
-    /// takes no memory.
+    /// Adds the next cell, in millionths.
+    ///
+    /// Cells come by archive, then by slot, then by data source. Does not allocate.
+    ///
+    /// # Errors
+    /// - `Bad`: another record is due, or the cell is larger in size than the maximum rate. The database is unchanged.
     pub fn cell(&mut self, cell: Cell) -> Result<(), PieceFault>
         ensures ok { OnOk result (MayCell self.old cell × (self.new ≡ with_cell self.old cell)) }
         ensures bad { IfErr result (λ e. e ≡ Bad → MayCell self.old cell → ⊥) }
@@ -377,15 +401,15 @@ impl Rebuild {
         }
         let rra = self.archives.get_mut(self.cursor.archive);
         let def = rra.def();
-        let place = self.cursor.place(&def, self.step, self.last);
-        rra.put(place, self.cursor.source, cell);
+        let place = self.cursor.place(&def, self.header.step, self.header.last);
+        rra.set_cell(place, self.cursor.source, cell);
         self.cursor
-            .advance(place, self.sources_due as usize, def.rows);
+            .advance(place, self.header.sources as usize, def.rows);
         Ok(())
     }
 
-    // Takes the first of these cells that make whole rows of an archive, if its next cell begins a row:
-    // answers how many. What is due and where it goes is found once for all of them.
+    // Adds the first of these cells that make whole rows of an archive, if the next cell begins a row, and returns how
+    // many. The due record and the index are found once for all of them.
     fn whole_rows(&mut self, cells: CellRun) -> usize
         requires { AllByRecursion IsBounded (run_cells cells) }
         ensures few { result ≤ length (run_cells cells.entry) }
@@ -400,21 +424,23 @@ impl Rebuild {
         if self.cursor.source > 0 {
             return 0;
         }
-        let sources = self.sources_due as usize;
+        let sources = self.header.sources as usize;
         let def = self.archives.get(self.cursor.archive).def();
         let left = (def.rows - self.cursor.slot) as usize;
         let count = (cells.len() / sources).min(left);
         let taken = count * sources;
-        let place = self.cursor.place(&def, self.step, self.last);
+        let place = self.cursor.place(&def, self.header.step, self.header.last);
         let rra = self.archives.get_mut(self.cursor.archive);
         rra.put_rows(place, count as u64, cells.front(taken));
         self.cursor.pass(place, count as u64, def.rows);
         taken
     }
 
-    /// Takes the first of these cells, none of which may be past the greatest rate, that make whole rows of
-    /// an archive, as `cell` does one after another, and answers how many: 0 where the next cell to come
-    /// isn't the first of a row. It takes no memory.
+    /// Adds cells that make whole rows of an archive, and returns how many.
+    ///
+    /// The effect is that of `cell` for one cell after another, up to the last whole row that `cells` has, or to the
+    /// end of the archive. No cell may be larger in size than the maximum rate. Returns 0 if the next cell is not the
+    /// first of a row. Does not allocate.
     pub fn rows(&mut self, cells: &[Cell]) -> usize
         requires { AllByRecursion IsBounded cells.now }
         ensures few { result ≤ length cells.now }
@@ -424,8 +450,9 @@ impl Rebuild {
         self.whole_rows(CellRun::Given(cells))
     }
 
-    /// Takes unknown cells as `rows` does, at most so many, and answers how many. What was never written
-    /// stays so: they touch no memory.
+    /// Adds at most `most` unknown cells as in `rows`, and returns how many.
+    ///
+    /// Unwritten rows stay unwritten, so these cells touch no memory.
     pub fn unknown_rows(&mut self, most: usize) -> usize
         ensures few { result ≤ most }
         ensures may { MayCells self.old (replicate result CellUnknown) }
@@ -434,33 +461,9 @@ impl Rebuild {
         self.whole_rows(CellRun::Unknown(most))
     }
 
-    /// Takes cells one after another, as `cell` does, up to the first that may not come, and answers how
-    /// many. It takes no memory.
-    pub fn cells(&mut self, cells: &[Cell]) -> usize
-        ensures few { result ≤ length cells.now }
-        ensures may { MayCells self.old (take result cells.now) }
-        ensures came { self.new ≡ with_cells self.old (take result cells.now) }
-        ensures stops { (next : Cell) → slice_get cells.now result ≡ Some next → MayCell self.new next → ⊥ }
-    {
-        let mut taken = 0;
-        while taken < cells.len() {
-            let rest = &cells[taken..];
-            let whole = self.rows(&rest[..bounded_front(rest)]);
-            if whole == 0 {
-                let Ok(()) = self.cell(cells[taken]) else {
-                    return taken;
-                };
-                taken += 1;
-            } else {
-                taken += whole;
-            }
-        }
-        taken
-    }
-
     // ---- entries
 
-    /// How many entries came, at most 100,000.
+    /// Returns how many entries were read, at most 100,000.
     pub fn entries(&self) -> u64
         ensures count { result ≡ length self.now.entries }
         ensures few { result ≤ present.deepest_journal }
@@ -468,7 +471,7 @@ impl Rebuild {
         self.journal.len() as u64
     }
 
-    /// How many data sources there are: 1 to 64, where an entry is due.
+    /// Returns the number of data sources, 1 to 64, if an entry is due.
     pub fn sources(&self) -> u64
         requires { due self.now ≡ EntryDue }
         ensures count { result ≡ length (outline_left self.now).sources }
@@ -481,7 +484,7 @@ impl Rebuild {
         self.judge.outline().sources.len() as u64
     }
 
-    // Whether an entry may come.
+    // Returns whether an entry may come.
     fn may_entry(&self, entry: &Entry) -> bool
         ensures good { result ≡ true → MayEntry self.now (entry_of entry.now) }
         ensures bad { MayEntry self.now (entry_of entry.now) → result ≡ true }
@@ -492,9 +495,13 @@ impl Rebuild {
         self.judge().may_undo(entry)
     }
 
-    /// Takes the next entry, newest first. Bad where another piece is due or it doesn't fit the
-    /// outline that the entries before it leave; refused, it changes nothing. It takes no memory: the
-    /// journal has its places from the beginning.
+    /// Adds the next entry, newest first.
+    ///
+    /// Does not allocate: the journal has room for all its entries from the start.
+    ///
+    /// # Errors
+    /// - `Bad`: another record is due, or the entry does not fit the outline that the entries before it leave. The
+    ///   database is unchanged.
     pub fn entry(&mut self, entry: Entry) -> Result<(), PieceFault>
         ensures ok { OnOk result (MayEntry self.old (entry_of entry)
             × (self.new ≡ with_entry self.old (entry_of entry))) }
@@ -514,7 +521,7 @@ impl Rebuild {
         Ok(())
     }
 
-    /// The database, once all announced pieces came. It takes no memory.
+    /// Returns the database, after all records were read. Does not allocate.
     pub fn finish(self) -> Database
         requires { due self ≡ NothingDue }
         ensures filed { filed self.header.version result ≡ self }
@@ -522,9 +529,7 @@ impl Rebuild {
     {
         laws::versions_stay_within();
         let Rebuild {
-            step,
-            last,
-            depth,
+            header,
             sources,
             raws,
             preps,
@@ -533,9 +538,9 @@ impl Rebuild {
             ..
         } = self;
         let content = Content {
-            step,
-            depth,
-            last,
+            step: header.step,
+            depth: header.depth,
+            last: header.last,
             sources,
             raws,
             preps,
@@ -545,7 +550,7 @@ impl Rebuild {
     }
 }
 
-// Takes a source's settings, twice, its raw value and its preparation; all or none.
+// Adds the settings of a data source in two lists, its raw value and its partial step; all or none.
 fn push_source(
     sources: &mut Vec<DsDef>,
     raws: &mut Vec<Raw>,

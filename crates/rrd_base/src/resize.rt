@@ -1,4 +1,4 @@
-//! Changes of an archive's number of rows: which are accepted, what they make, and how they are undone.
+//! The resize of an archive: the checks, the new rows, and how a resize is undone.
 ghost use Rattle.std.specs.Prelude.{◌≡◌, ◌<◌, ◌≤◌, IfOk, None, length, slice_index_or, sum};
 ghost use Rattle.std.specs.List.{AllByRecursion};
 ghost use Rattle.std.specs.Result.{result_err};
@@ -21,7 +21,7 @@ use rrd_spec::laws;
 use rrd_spec::limits::{MOST_CELLS, MOST_ROWS};
 use std::alloc::{AllocError, Global};
 
-// Whether the archive would have too many rows.
+// Returns whether the archive would have too many rows.
 fn grows_too_far(change: Change, old: u64, rows: u64) -> bool
     requires small { old ≤ present.most_rows }
     requires few { rows ≤ present.most_rows }
@@ -33,7 +33,7 @@ fn grows_too_far(change: Change, old: u64, rows: u64) -> bool
     }
 }
 
-// Whether no row would be left.
+// Returns whether no row would be left.
 fn shrinks_too_far(change: Change, old: u64, rows: u64) -> bool
     ensures { result ≡ verdict.shrinks_too_far change old rows }
 {
@@ -43,7 +43,7 @@ fn shrinks_too_far(change: Change, old: u64, rows: u64) -> bool
     }
 }
 
-// How many rows the archive would have.
+// Returns the number of rows that the archive would have.
 fn rows_changed(change: Change, old: u64, rows: u64) -> u64
     requires small { old ≤ present.most_rows }
     requires few { rows ≤ present.most_rows }
@@ -55,27 +55,27 @@ fn rows_changed(change: Change, old: u64, rows: u64) -> u64
     }
 }
 
-// The rows of all archives, after a change of one's.
-fn all_rows_then(archives: &[Rra], index: usize, change: Change, rows: u64) -> u64
-    requires there { index < length archives.now }
+// Returns the number of rows in all archives after the resize of one.
+fn all_rows_then(archives: &[Rra], archive: usize, change: Change, rows: u64) -> u64
+    requires there { archive < length archives.now }
     requires few_rows { AllByRecursion HasFewRows archives.now }
     requires few_archives { length archives.now ≤ present.most_archives }
     requires few { rows ≤ present.most_rows }
     ensures rows { result ≡ sum
-        (all_rows_after (Resized index (rows_changed change (slice_index_or
-        (rows_of_archives archives.now) index 0) rows))
+        (all_rows_after (Resized archive (rows_changed change (slice_index_or
+        (rows_of_archives archives.now) archive 0) rows))
         (rows_of_archives archives.now)) }
     ensures few { result ≤ 130000000 }
 {
-    let old = archives[index].def().rows;
+    let old = archives[archive].def().rows;
     all_rows(archives) - old + rows_changed(change, old, rows)
 }
 
-// Whether a resize is accepted, or the first refusal (rrdresize).
+// Checks a resize (rrdresize).
 fn check_resize(
     sources: &[DsDef],
     archives: &[Rra],
-    index: u64,
+    archive: u64,
     change: Change,
     rows: u64,
 ) -> Result<(), Refusal>
@@ -83,19 +83,19 @@ fn check_resize(
     requires few_rows { AllByRecursion HasFewRows archives.now }
     requires few { length archives.now ≤ present.most_archives }
     ensures { result_err result ≡ verdict.first_refusal
-        (verdict.resize_checks present (settings sources.now archives.now) index change rows) }
+        (verdict.resize_checks present (settings sources.now archives.now) archive change rows) }
 {
-    if index >= archives.len() as u64 {
+    if archive >= archives.len() as u64 {
         return Err(Refusal::NoSuchArchive);
     }
-    let old = archives[index as usize].def().rows;
+    let old = archives[archive as usize].def().rows;
     if is_bad_rows(rows) || grows_too_far(change, old, rows) {
         return Err(Refusal::BadRows);
     }
     if shrinks_too_far(change, old, rows) {
         return Err(Refusal::ShrinkTooFar);
     }
-    let all = all_rows_then(archives, index as usize, change, rows);
+    let all = all_rows_then(archives, archive as usize, change, rows);
     if has_too_many_cells(MOST_CELLS, sources.len(), all) {
         return Err(Refusal::TooLarge);
     }
@@ -103,7 +103,7 @@ fn check_resize(
 }
 
 impl Content {
-    /// Whether a resize is accepted, or the first refusal.
+    /// Checks a resize.
     pub(crate) fn check_resize(
         &self,
         archive: u64,
@@ -121,7 +121,7 @@ impl Content {
         )
     }
 
-    /// The rows that an archive has after an accepted resize.
+    /// Creates the rows that an archive has after an accepted resize.
     pub(crate) fn resized(
         &self,
         alloc: Global,
@@ -139,7 +139,7 @@ impl Content {
         rra.resized(alloc, rows_changed(change, rra.def().rows, rows))
     }
 
-    /// Gives an archive its resized rows, and gives the ones that it had. It takes no memory.
+    /// Replaces the rows of an archive, and returns the old ones. Does not allocate.
     pub(crate) fn resize(&mut self, archive: usize, mut rows: Archive) -> Archive
         requires there { archive < length self.old.archives }
         requires valid { IsValid (record self.old { archives = with_rows_at self.old.archives archive rows }) }

@@ -5,12 +5,12 @@ ghost use Rattle.rrd_spec.specs.Limits.{present};
 
 use crate::RraDef;
 
-/// What has a number of rows: an archive, or its settings by themselves.
+/// A type with a number of rows: an archive, or the settings of one.
 pub(crate) trait HasRows {
-    /// That number, as contracts see it.
+    /// The number of rows that contracts see.
     ghost rows_of: { Self → ℕ };
 
-    /// How many rows.
+    /// Returns the number of rows.
     fn row_count(&self) -> u64
         ensures { result ≡ rows_of self.now };
 }
@@ -23,7 +23,7 @@ impl HasRows for RraDef {
     }
 }
 
-/// The rows of all archives, or the greatest number if they are more.
+/// Returns the number of rows in all archives, at most 2^64 - 1.
 pub(crate) fn all_rows<T: HasRows>(archives: &[T]) -> u64
     ensures { result ≡ min (sum (map T.rows_of archives.now)) (2 ^ 64 - 1) }
 {
@@ -34,7 +34,7 @@ pub(crate) fn all_rows<T: HasRows>(archives: &[T]) -> u64
     rows
 }
 
-/// How many rows of an archive end after one time and up to another, in steps of so many seconds.
+/// Returns how many rows of an archive end after `from`, up to `to`, in steps of `step` seconds.
 pub(crate) fn rows_between(def: &RraDef, step: u64, from: u64, to: u64) -> u64
     requires some_step { 0 < step }
     requires small_step { step ≤ present.longest_step }

@@ -1,4 +1,4 @@
-//! Archives: for each source the preparation of its unfinished row, and the rows.
+//! The archives of a database: the settings, the partial row of each data source, and the rows.
 ghost use Rattle.std.specs.Prelude.{◌≡◌, List, ◌+◌, ◌*◌, ◌^◌, ◌<◌, ◌≤◌, ◌∷◌, ◌++◌, [], length, map, min, replicate, slice_index_or, slice_set, take as first, IfNone, IfOk, IfSome, OnErr, OnOk, pos, ◌≤ℤ◌};
 ghost use Rattle.std.specs.List.{AllByRecursion, fold};
 ghost use Rattle.rrd_fixed.specs.declared.cell.Cell.{Cell};
@@ -30,8 +30,10 @@ use rrd_spec::laws;
 use std::alloc::{AllocError, Global};
 use std::marker::Model;
 
-/// An archive: its settings, for each source the preparation of its unfinished row, and its rows,
-/// oldest first. The journal keeps one as a whole once it is removed.
+/// An archive: its settings, its partial rows and its rows.
+///
+/// There is one partial row for each data source, and the oldest row is the first. The journal keeps a removed archive
+/// as a whole.
 #[derive(Drop)]
 pub struct Rra {
     def: RraDef,
@@ -59,8 +61,9 @@ impl HasRows for Rra {
 }
 
 impl Rra {
-    /// The archive of these settings, these preparations, one for each source and each of its function, and
-    /// these rows.
+    /// Creates an archive with these settings, partial rows and rows.
+    ///
+    /// There is one partial row for each data source, and each has the function of the settings.
     pub fn from_parts(def: RraDef, preps: Vec<RowPrep>, rows: Archive) -> Rra
         requires { AllOf def.function preps.items }
         ensures { result ≡ record { def = def; parts = parts_in preps.items; rows = rows } }
@@ -68,7 +71,7 @@ impl Rra {
         Rra { def, preps, rows }
     }
 
-    /// An archive without steps, so many sources having been defined: all its rows are unknown.
+    /// Creates an archive for `sources` data sources, in which all rows are unknown.
     pub(crate) fn new(alloc: Global, def: RraDef, sources: u64) -> Result<Rra, AllocError>
         requires some_rows { 0 < def.rows }
         requires few_rows { def.rows ≤ present.most_rows }
@@ -86,10 +89,9 @@ impl Rra {
         Ok(Rra { def, preps, rows })
     }
 
-    /// An archive whose preparations haven't come, so many sources having been defined: all its rows
-    /// are unknown. They are going to be written from row `first` on, counted from the oldest, to the
-    /// newest and then from the oldest on.
-    pub(crate) fn begin(
+    /// Creates an archive without partial rows for `sources` data sources, in which all rows are unknown. Its rows will
+    /// be written from row `first` on, wrapping from the newest row to the oldest; row 0 is the oldest.
+    pub(crate) fn unprepared(
         alloc: Global,
         def: RraDef,
         sources: u64,
@@ -110,14 +112,14 @@ impl Rra {
         })
     }
 
-    /// How many preparations there are.
+    /// Returns the number of partial rows.
     pub(crate) fn prep_count(&self) -> usize
         ensures { result ≡ length self.now.parts }
     {
         self.preps.len()
     }
 
-    /// Takes the next source's preparation.
+    /// Adds the partial row of the next data source.
     pub(crate) fn push_prep(&mut self, prep: RowPrep) -> Result<(), AllocError>
         requires { prep.function ≡ self.old.def.function }
         ensures ok { OnOk result (self.new ≡ record self.old { parts = self.old.parts ++ prep.part ∷ [] }) }
@@ -127,8 +129,8 @@ impl Rra {
         Ok(())
     }
 
-    /// Writes the cell of a source in a row, counted from the oldest.
-    pub(crate) fn put(&mut self, row: u64, source: usize, cell: Cell)
+    /// Writes the cell of a data source in a row. Row 0 is the oldest.
+    pub(crate) fn set_cell(&mut self, row: u64, source: usize, cell: Cell)
         requires there { row < length self.old.rows }
         requires within { source < length (nth_row self.old.rows row) }
         ensures { let cells = slice_set (nth_row self.old.rows row) source cell in
@@ -137,8 +139,9 @@ impl Rra {
         self.rows.row_mut(row)[source] = cell;
     }
 
-    /// Writes so many rows, at most all, from one on, counted from the oldest, to the newest and then from
-    /// the oldest on: `cells` has theirs, one row after another.
+    /// Writes `count` rows, starting at `row` (0 is the oldest) and wrapping from the newest row to the oldest.
+    ///
+    /// `cells` holds the rows one after another. `count` is at most the number of rows in the archive.
     pub(crate) fn put_rows(&mut self, row: u64, count: u64, cells: CellRun)
         requires there { row < length self.old.rows }
         requires few { count ≤ length self.old.rows }
@@ -152,21 +155,21 @@ impl Rra {
         }
     }
 
-    /// The settings.
+    /// Returns the settings.
     pub fn def(&self) -> RraDef
         ensures { result ≡ self.now.def }
     {
         self.def
     }
 
-    /// How many rows there are.
+    /// Returns the number of rows.
     pub(crate) fn rows(&self) -> u64
         ensures { result ≡ length self.now.rows }
     {
         self.rows.rows()
     }
 
-    /// The cells of a row, counted from the oldest.
+    /// Returns the cells of the row at index `place`. Row 0 is the oldest.
     pub(crate) fn row(&self, place: u64) -> &[Cell]
         requires { place < length self.now.rows }
         ensures { result.now ≡ nth_row self.now.rows place }
@@ -174,7 +177,7 @@ impl Rra {
         self.rows.row(place)
     }
 
-    /// So many of the oldest rows were never written, so that all their cells are unknown.
+    /// Returns how many of the oldest rows were certainly never written, so that all their cells are unknown.
     pub(crate) fn unwritten_rows(&self) -> u64
         ensures few { result ≤ length self.now.rows }
         ensures unknown { first result self.now.rows ≡ unknown_rows result (width self.now.rows) }
@@ -182,7 +185,7 @@ impl Rra {
         self.rows.unwritten()
     }
 
-    /// The cells of the row of an age, 0 for the newest; none where there is no such row.
+    /// Returns the cells of the row with an age, 0 for the newest; `None` if there is no such row.
     pub(crate) fn row_of_age(&self, age: i128) -> Option<&[Cell]>
         ensures some { IfSome result (λ row. (unknown : List Cell) → row_of_age self.now.rows unknown age ≡ row.now) }
         ensures none { IfNone result ((unknown : List Cell) → row_of_age self.now.rows unknown age ≡ unknown) }
@@ -194,7 +197,7 @@ impl Rra {
         Some(self.row(rows - 1 - age as u64))
     }
 
-    /// For each data source the preparation of its unfinished row.
+    /// Returns the partial row of each data source.
     pub fn preps(&self) -> &[RowPrep]
         ensures parts { parts_in result.now ≡ self.now.parts }
         ensures function { AllOf self.now.def.function result.now }
@@ -202,14 +205,14 @@ impl Rra {
         self.preps.as_slice()
     }
 
-    /// The rows with their cells.
+    /// Returns the rows with their cells.
     pub fn archive(&self) -> &Archive
         ensures { result.now ≡ self.now.rows }
     {
         &self.rows
     }
 
-    /// The preparation of a source's unfinished row.
+    /// Returns the partial row of a data source.
     pub(crate) fn prep(&self, source: usize) -> RowPrep
         requires { source < length self.now.parts }
         ensures { result
@@ -218,7 +221,7 @@ impl Rra {
         self.preps[source]
     }
 
-    // Adds to each preparation its source's step, so many times. It is a turn for each.
+    // Adds a step `count` times to the partial rows. The meter counts one unit of work for each data source.
     fn go_on(&mut self, step: &[Cell], count: u64, meter: &mut Meter)
         requires row { IsRow (length self.old.parts) step.now }
         requires fits { AllByRecursion (λ (p : Part). p.known + count ≤ most_known) self.old.parts }
@@ -231,8 +234,8 @@ impl Rra {
         add_steps(&mut self.preps, step, count, meter);
     }
 
-    // Writes the cells of the row that has all its steps, and starts each preparation anew. It is a
-    // turn for each.
+    // Writes the cells of the row that has all its steps, and empties the partial rows. The meter counts one unit of
+    // work for each data source.
     fn close_row(&mut self, row: &mut [Cell], meter: &mut Meter)
         requires places { length row.old ≡ length self.old.parts }
         requires some_steps { 0 < self.old.def.steps }
@@ -249,8 +252,8 @@ impl Rra {
         close_rows(&mut self.preps, &self.def, row, meter);
     }
 
-    // Takes a row and then so many of another, those only that are still there in the end. It is a
-    // turn for each cell of these.
+    // Adds `row`, and then `other` `times` times, but only rows that the archive still has at the end. The meter counts
+    // one unit of work for each cell of these rows.
     fn push(&mut self, row: &[Cell], other: &[Cell], times: u64, meter: &mut Meter)
         requires wide { HasWidth (length row.now) self.old.rows }
         requires same_width { length other.now ≡ length row.now }
@@ -265,9 +268,8 @@ impl Rra {
         push_times(&mut self.rows, other, times, meter);
     }
 
-    /// Takes steps. All whole rows of the ones that are alike are taken at once: their cells are
-    /// those steps', and only rows that are still there in the end are written. `row` has a place for
-    /// each cell of a row.
+    /// Adds steps to the archive. Whole rows of equal steps are added at once: their cells are those of the steps, and
+    /// only rows that the archive still has at the end are written. `row` has room for the cells of a row.
     pub(crate) fn take(&mut self, steps: &Steps, row: &mut [Cell], meter: &mut Meter)
         requires valid { IsValidArchive (sources_of steps.now) steps.now.before self.old }
         requires steps_are { AreSteps steps.now }
@@ -297,7 +299,7 @@ impl Rra {
         }
     }
 
-    /// A copy of the preparations and of the `n` oldest rows.
+    /// Copies the partial rows and the `n` oldest rows.
     pub(crate) fn save(&self, alloc: Global, n: u64) -> Result<SavedArchive, AllocError>
         requires { n ≤ length self.now.rows }
         ensures { IfOk result (λ s. s
@@ -308,8 +310,7 @@ impl Rra {
         Ok(SavedArchive::new(self.def.function, preps, rows))
     }
 
-    /// A copy of what an update from one time to another takes from the archive, steps of so many
-    /// seconds being taken.
+    /// Copies the values that an update from `from` to `to` replaces in the archive. A step has `step` seconds.
     pub(crate) fn save_between(
         &self,
         alloc: Global,
@@ -326,7 +327,7 @@ impl Rra {
         self.save(alloc, ended.min(self.rows.rows()))
     }
 
-    /// Puts preparations and rows back. As many of the newest rows fall out. It takes no memory.
+    /// Puts partial rows and rows back. As many of the newest rows are dropped. Does not allocate.
     pub(crate) fn put_back(&mut self, saved: SavedArchive)
         requires { CanPutBack self.old saved }
         ensures { self.new ≡ after_put_back self.old saved }
@@ -336,8 +337,7 @@ impl Rra {
         self.rows.put_back(rows);
     }
 
-    /// The rows, so many of them (1 to 1,000,000): the newest, or all after unknown ones
-    /// (rrdresize).
+    /// Copies the newest `rows` rows (1 to 1,000,000), or all rows after unknown ones (rrdresize).
     pub(crate) fn resized(&self, alloc: Global, rows: u64) -> Result<Archive, AllocError>
         requires some_rows { 0 < rows }
         requires few_rows { rows ≤ present.most_rows }
@@ -346,7 +346,7 @@ impl Rra {
         self.rows.resized(alloc, rows)
     }
 
-    /// Takes these rows for its own, and gives its own for them. It takes no memory.
+    /// Exchanges the rows of the archive with `rows`. Does not allocate.
     pub(crate) fn swap_rows(&mut self, rows: &mut Archive)
         ensures mine { self.new
             ≡ record self.old { def = record self.old.def { rows = length rows.old }; rows = rows.old } }
@@ -357,7 +357,7 @@ impl Rra {
     }
 }
 
-// Pushes a row so many times, those only that are still there in the end.
+// Adds a row `times` times, but only rows that the archive still has at the end.
 fn push_times(rows: &mut Archive, row: &[Cell], times: u64, meter: &mut Meter)
     requires wide { HasWidth (length row.now) rows.old }
     requires turns { meter.old + length row.now * min times (length rows.old) < 2 ^ 64 }

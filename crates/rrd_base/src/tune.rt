@@ -1,5 +1,5 @@
-//! Tunes: which are accepted, what they make of the sources' settings and of the archives, what the journal keeps of one,
-//! and how sources are put back.
+//! The tune of data sources or archives: the checks, the new settings, the journal entry, and how data sources are
+//! restored.
 ghost use Rattle.std.specs.Prelude.{◌≡◌, ◌≤◌, ◌*◌, ◌++◌, ◌∷◌, [], ◌||◌, List, None, Some, IfOk, OnErr, OnOk, length, map, nat_lt, sum, true};
 ghost use Rattle.std.specs.List.{AllByRecursion, list_any};
 ghost use Rattle.std.specs.Result.{result_err};
@@ -12,17 +12,14 @@ ghost use Rattle.rrd_base.specs.Journal.{entry_of};
 ghost use Rattle.rrd_base.specs.Resize.{HasFewRows, settings};
 ghost use Rattle.rrd_spec.specs.Journal.Entries as entries;
 ghost use Rattle.rrd_spec.specs.History.{raws_under};
-ghost use Rattle.rrd_base.specs.Tune.{IsThere, with_archive_tuned, with_raws};
-ghost use Rattle.rrd_spec.specs.Journal.Outlines.{with_sources};
+ghost use Rattle.rrd_base.specs.Tune.{IsThere, with_archive_tuned};
 ghost use Rattle.rrd_spec.specs.Limits.{most_tuned, present};
 ghost use Rattle.rrd_spec.specs.Commands.Verdict as verdict;
 ghost use Rattle.rrd_spec.specs.Validity.{IsValid};
 
 use crate::content::Content;
-use crate::create::{
-    has_bad_bounds, has_too_many_cells, is_bad_heartbeat, is_bad_rows, is_bad_steps, is_bad_xff,
-};
-use crate::journal::Entry;
+use crate::create::{check_archives, has_bad_bounds, has_too_many_cells, is_bad_heartbeat};
+use crate::journal::{Entry, put_back};
 use crate::named::has_source;
 use crate::rows::all_rows;
 use crate::rra::Rra;
@@ -33,9 +30,9 @@ use rrd_spec::laws;
 use rrd_spec::limits::{MOST_ARCHIVES, MOST_CELLS, MOST_TUNED};
 use std::alloc::{AllocError, Global};
 
-// ---- which tunes are accepted
+// ---- the checks
 
-// Whether no option is given.
+// Returns whether there is no option.
 fn has_no_option(tuning: &Tuning) -> bool
     ensures { result ≡ verdict.has_no_option tuning.now }
 {
@@ -46,21 +43,21 @@ fn has_no_option(tuning: &Tuning) -> bool
         && tuning.rename.is_none()
 }
 
-// Whether nothing is asked.
+// Returns whether there is neither an option nor an archive.
 fn asks_nothing(tuning: &Tuning) -> bool
     ensures { result ≡ verdict.asks_nothing tuning.now }
 {
     has_no_option(tuning) && tuning.archive.is_none()
 }
 
-// Whether an archive is asked for beside an option.
+// Returns whether there are both an option and an archive.
 fn is_mixed(tuning: &Tuning) -> bool
     ensures { result ≡ verdict.is_mixed tuning.now }
 {
     !has_no_option(tuning) && tuning.archive.is_some()
 }
 
-// Whether an option names no source.
+// Returns whether an option has a name that no data source has.
 fn names_no_source<T>(sources: &[DsDef], option: &Option<(Name, T)>) -> bool
     ensures { result ≡ verdict.names_no_source sources.now option.now }
 {
@@ -70,7 +67,7 @@ fn names_no_source<T>(sources: &[DsDef], option: &Option<(Name, T)>) -> bool
     }
 }
 
-// Whether one of the options names no source.
+// Returns whether one of the options has a name that no data source has.
 fn any_names_no_source(sources: &[DsDef], tuning: &Tuning) -> bool
     ensures { result ≡ verdict.any_names_no_source sources.now tuning.now }
 {
@@ -81,7 +78,7 @@ fn any_names_no_source(sources: &[DsDef], tuning: &Tuning) -> bool
         || names_no_source(sources, &tuning.rename)
 }
 
-// Whether the new name is no good one.
+// Returns whether the new name is not valid.
 fn has_bad_name(tuning: &Tuning) -> bool
     ensures { result ≡ verdict.asks_bad_name tuning.now }
 {
@@ -91,7 +88,7 @@ fn has_bad_name(tuning: &Tuning) -> bool
     }
 }
 
-// Whether the new name is another source's.
+// Returns whether another data source has the new name.
 fn doubles_name(sources: &[DsDef], tuning: &Tuning) -> bool
     ensures { result ≡ verdict.asks_double_name sources.now tuning.now }
 {
@@ -101,7 +98,7 @@ fn doubles_name(sources: &[DsDef], tuning: &Tuning) -> bool
     }
 }
 
-// Whether a source would have bad bounds.
+// Returns whether a data source would have bad bounds.
 fn any_bad_bounds(sources: &[DsDef], tuning: &Tuning) -> bool
     ensures { result
         ≡ list_any (λ source. verdict.has_bad_bounds present (commands.tuned tuning.now source)) sources.now }
@@ -111,7 +108,7 @@ fn any_bad_bounds(sources: &[DsDef], tuning: &Tuning) -> bool
         .any(|source| has_bad_bounds(&settings_after(tuning, source)))
 }
 
-// Whether the new heartbeat is a bad one.
+// Returns whether the new heartbeat is a bad one.
 fn has_bad_heartbeat(tuning: &Tuning) -> bool
     ensures { result ≡ verdict.asks_bad_heartbeat present tuning.now }
 {
@@ -121,7 +118,7 @@ fn has_bad_heartbeat(tuning: &Tuning) -> bool
     }
 }
 
-// Whether what a tune asks of sources is accepted, or the first refusal (rrdtune).
+// Checks the options of a tune (rrdtune).
 fn check_options(sources: &[DsDef], tuning: &Tuning) -> Result<(), Refusal>
     ensures { result_err result ≡ verdict.first_refusal (verdict.option_checks present sources.now tuning.now) }
 {
@@ -149,7 +146,7 @@ fn check_options(sources: &[DsDef], tuning: &Tuning) -> Result<(), Refusal>
     Ok(())
 }
 
-// Whether the database would be too large with an archive of so many rows more, at most 1,000,000.
+// Returns whether the database would be too large with one more archive of `rows` rows, at most 1,000,000.
 fn is_too_large(sources: usize, archives: &[Rra], rows: u64) -> bool
     requires few_rows { AllByRecursion HasFewRows archives.now }
     requires few_archives { length archives.now ≤ present.most_archives }
@@ -161,29 +158,21 @@ fn is_too_large(sources: usize, archives: &[Rra], rows: u64) -> bool
         || has_too_many_cells(MOST_CELLS, sources, all_rows(archives) + rows)
 }
 
-// Whether an archive of these settings can be added, or the first refusal.
+// Checks whether an archive with these settings can be added.
 fn check_added(sources: usize, archives: &[Rra], def: &RraDef) -> Result<(), Refusal>
     requires few_rows { AllByRecursion HasFewRows archives.now }
     requires few { length archives.now ≤ present.most_archives }
     ensures { (all : List DsDef) → length all ≡ sources → result_err result
         ≡ verdict.first_refusal (verdict.archive_tune_checks present (settings all archives.now) (Some (Add def.now))) }
 {
-    if is_bad_xff(def.xff) {
-        return Err(Refusal::BadXff);
-    }
-    if is_bad_steps(def.steps) {
-        return Err(Refusal::BadSteps);
-    }
-    if is_bad_rows(def.rows) {
-        return Err(Refusal::BadRows);
-    }
+    check_archives(&[*def])?;
     if is_too_large(sources, archives, def.rows) {
         return Err(Refusal::TooLarge);
     }
     Ok(())
 }
 
-// Whether the archive of this number can be removed, one of so many, or the first refusal.
+// Checks whether archive `number` of `archives` archives can be removed.
 fn check_removed(archives: usize, number: u64) -> Result<(), Refusal>
     ensures { (all : Settings) → length all.rows ≡ archives → result_err result
         ≡ verdict.first_refusal (verdict.archive_tune_checks present all (Some (Remove number))) }
@@ -197,7 +186,7 @@ fn check_removed(archives: usize, number: u64) -> Result<(), Refusal>
     Ok(())
 }
 
-// Whether an archive can come or go as is asked, or the first refusal.
+// Checks whether an archive can be added or removed as requested.
 fn check_archive(sources: &[DsDef], archives: &[Rra], asked: &ArchiveTune) -> Result<(), Refusal>
     requires few_rows { AllByRecursion HasFewRows archives.now }
     requires few { length archives.now ≤ present.most_archives }
@@ -210,7 +199,7 @@ fn check_archive(sources: &[DsDef], archives: &[Rra], asked: &ArchiveTune) -> Re
     }
 }
 
-// Whether a tune is accepted, or the first refusal (rrdtune).
+// Checks a tune (rrdtune).
 fn check_tune(sources: &[DsDef], archives: &[Rra], tuning: &Tuning) -> Result<(), Refusal>
     requires few_rows { AllByRecursion HasFewRows archives.now }
     requires few { length archives.now ≤ present.most_archives }
@@ -224,9 +213,9 @@ fn check_tune(sources: &[DsDef], archives: &[Rra], tuning: &Tuning) -> Result<()
     }
 }
 
-// ---- what a tune makes
+// ---- the new settings
 
-// What is asked of the source of a name, or else the old value.
+// Returns the value that an option sets for the data source of a name, or else the old value.
 fn setting_after<T: Copy>(option: &Option<(Name, T)>, name: &Name, old: T) -> T
     ensures { result ≡ commands.asked option.now name.now old }
 {
@@ -236,7 +225,7 @@ fn setting_after<T: Copy>(option: &Option<(Name, T)>, name: &Name, old: T) -> T
     }
 }
 
-// The name of a source after the tune.
+// Returns the name of a data source after the tune.
 fn name_after(option: &Option<(Name, Name)>, name: &Name) -> Name
     ensures { result ≡ commands.asked option.now name.now name.now }
 {
@@ -252,7 +241,7 @@ fn name_after(option: &Option<(Name, Name)>, name: &Name) -> Name
     }
 }
 
-// A source's settings after the tune.
+// Returns the settings of a data source after the tune.
 fn settings_after(tuning: &Tuning, source: &DsDef) -> DsDef
     ensures { result ≡ commands.tuned tuning.now source.now }
 {
@@ -266,14 +255,14 @@ fn settings_after(tuning: &Tuning, source: &DsDef) -> DsDef
     }
 }
 
-// A source's raw value under its new settings: another type makes it unknown.
+// Returns the raw value of a data source under its new settings: unknown if the type changes.
 fn raw_under(old: Kind, new: Kind, raw: Raw) -> Raw
     ensures { result ≡ commands.raw_under old new raw }
 {
     if old == new { raw } else { Raw::Unknown }
 }
 
-// Gives each source its new settings.
+// Gives each data source its new settings.
 fn tune_all(sources: &mut [DsDef], raws: &mut [Raw], tuning: &Tuning)
     requires { length raws.old ≡ length sources.old }
     ensures sources { sources.new ≡ map (commands.tuned tuning.now) sources.old }
@@ -286,9 +275,9 @@ fn tune_all(sources: &mut [DsDef], raws: &mut [Raw], tuning: &Tuning)
     }
 }
 
-// ---- what is kept of it
+// ---- the journal entry
 
-// Whether an option is for a source.
+// Returns whether an option is for a data source.
 fn is_asked<T>(option: &Option<(Name, T)>, source: &DsDef) -> bool
     ensures { result ≡ entries.is_asked option.now source.now }
 {
@@ -298,7 +287,7 @@ fn is_asked<T>(option: &Option<(Name, T)>, source: &DsDef) -> bool
     }
 }
 
-// Whether a tune names a source.
+// Returns whether a tune names a data source.
 fn is_named(tuning: &Tuning, source: &DsDef) -> bool
     ensures { result ≡ entries.is_named tuning.now source.now }
 {
@@ -309,7 +298,7 @@ fn is_named(tuning: &Tuning, source: &DsDef) -> bool
         || is_asked(&tuning.rename, source)
 }
 
-// The sources that a tune names, as they are, by rising number. It takes no memory.
+// Copies the data sources that a tune names, by rising number. Does not allocate.
 fn keep_sources(
     sources: &[DsDef],
     raws: &[Raw],
@@ -333,34 +322,17 @@ fn keep_sources(
     kept
 }
 
-// Puts back the sources as they were.
-fn put_sources_back(sources: &mut [DsDef], raws: &mut [Raw], kept: &[SourceBefore])
-    ensures sources { sources.new ≡ with_sources sources.old kept.now }
-    ensures raws { raws.new ≡ with_raws raws.old kept.now }
-{
-    for old in kept {
-        let number = old.number as usize;
-        if number < sources.len() {
-            sources[number] = old.source.duplicate();
-        }
-        if number < raws.len() {
-            raws[number] = old.raw;
-        }
-    }
-}
-
-// ---- of a content
+// ---- methods of a content
 
 impl Content {
-    /// Whether a tune is accepted, or the first refusal.
+    /// Checks a tune.
     pub(crate) fn check_tune(&self, tuning: &Tuning) -> Result<(), Refusal>
         ensures { result_err result ≡ verdict.verdict self.now (commands.TuningBy tuning.now) }
     {
         check_tune(&self.sources, self.archives.as_slice(), tuning)
     }
 
-    /// Makes what an accepted tune asks, and gives what the journal keeps of it. Only an archive that is
-    /// added takes memory.
+    /// Makes the changes of an accepted tune, and returns its journal entry. Allocates only to add an archive.
     pub(crate) fn tune(&mut self, alloc: Global, tuning: &Tuning) -> Result<Entry, AllocError>
         requires valid { IsValid self.old }
         requires accepted { verdict.verdict self.old (commands.TuningBy tuning.now) ≡ None }
@@ -382,7 +354,7 @@ impl Content {
         }
     }
 
-    // Lets an archive come or go, and gives what the journal keeps of that.
+    // Adds or removes an archive, and returns the journal entry.
     fn tune_archive(&mut self, alloc: Global, asked: &ArchiveTune) -> Result<Entry, AllocError>
         requires there { IsThere self.old asked.now }
         requires valid { IsValid (with_archive_tuned self.old asked.now) }
@@ -404,7 +376,7 @@ impl Content {
         }
     }
 
-    // Gives the sources the settings that a tune asks.
+    // Gives the data sources the settings of a tune.
     fn tune_sources(&mut self, tuning: &Tuning)
         requires accepted { verdict.verdict self.old (commands.TuningBy tuning.now) ≡ None }
         requires alone { tuning.now.archive ≡ None }
@@ -415,7 +387,7 @@ impl Content {
         tune_all(&mut self.sources, &mut self.raws, tuning);
     }
 
-    // The sources that an accepted tune names, as they are.
+    // Copies the data sources that an accepted tune names.
     fn keep_sources(&self, tuning: &Tuning) -> ArrayVec<SourceBefore, MOST_TUNED>
         requires accepted { verdict.verdict self.now (commands.TuningBy tuning.now) ≡ None }
         requires alone { tuning.now.archive ≡ None }
@@ -425,11 +397,12 @@ impl Content {
         keep_sources(&self.sources, &self.raws, tuning)
     }
 
-    /// Puts back the sources that a tune named.
+    /// Restores the data sources that a tune named.
     pub(crate) fn undo_tune(&mut self, kept: &ArrayVec<SourceBefore, MOST_TUNED>)
         requires { IsValid (entries.undone self.old (entries.TuneEntry kept.now.items)) }
         ensures { self.new ≡ entries.undone self.old (entries.TuneEntry kept.now.items) }
     {
-        put_sources_back(&mut self.sources, &mut self.raws, kept.as_slice());
+        put_back(&mut self.sources, kept.as_slice());
+        put_back(&mut self.raws, kept.as_slice());
     }
 }

@@ -1,4 +1,4 @@
-//! Samples for a database: which updates are accepted, what the journal keeps of one, and how that is put back.
+//! The samples of an update: the checks, the journal entry, and how it is undone.
 ghost use Rattle.std.specs.Prelude.{◌≡◌, ◌<◌, ◌≤◌, ◌∷◌, [], IfOk, false, length, map, not};
 ghost use Rattle.rrd_spec.specs.declared.settings.DsDef.{DsDef};
 ghost use Rattle.std.specs.List.{list_any, list_all};
@@ -23,7 +23,7 @@ use rrd_fixed::{Name, Raw, admit};
 use rrd_spec::limits::LATEST_TIME;
 use std::alloc::{AllocError, Global};
 
-// How many values a sample has to have.
+// Returns the number of values that each sample must have.
 fn width(template: &Option<List<Name>>, sources: &[DsDef]) -> usize
     ensures { result ≡ length (template_of sources.now template.now) }
 {
@@ -33,7 +33,7 @@ fn width(template: &Option<List<Name>>, sources: &[DsDef]) -> usize
     }
 }
 
-// Whether a source accepts what is given.
+// Returns whether a data source accepts a given value.
 fn is_admitted(source: &DsDef, given: Given) -> bool
     ensures { result ≡ is_admitted source.now given }
 {
@@ -43,7 +43,7 @@ fn is_admitted(source: &DsDef, given: Given) -> bool
     }
 }
 
-// Whether each source accepts its value.
+// Returns whether each data source accepts its value.
 fn are_admitted(columns: &Columns, sources: &[DsDef], values: &[Given]) -> bool
     requires { AreColumns sources.now columns.now }
     ensures { let template = template_of sources.now columns.now.template.now in
@@ -57,7 +57,7 @@ fn are_admitted(columns: &Columns, sources: &[DsDef], values: &[Given]) -> bool
     true
 }
 
-// Whether a sample after one at `last` is accepted, or the first refusal.
+// Checks a sample after one at `last`.
 fn check_sample(
     columns: &Columns,
     sources: &[DsDef],
@@ -83,7 +83,7 @@ fn check_sample(
     Ok(())
 }
 
-// Whether the samples are accepted, or the first refusal.
+// Checks the samples in order.
 fn check_samples(
     columns: &Columns,
     sources: &[DsDef],
@@ -102,14 +102,14 @@ fn check_samples(
     Ok(())
 }
 
-// Whether one of the names is no source's.
+// Returns whether one of the names is not that of a data source.
 fn any_names_no_source(sources: &[DsDef], names: &[Name]) -> bool
     ensures { result ≡ list_any (λ name. not (has_source sources.now name)) names.now }
 {
     names.iter().any(|name| !has_source(sources, name))
 }
 
-// Whether the template is accepted, or the first refusal.
+// Checks the template.
 fn check_template(template: &Option<List<Name>>, sources: &[DsDef]) -> Result<(), Refusal>
     ensures { result_err result ≡ first_refusal (template_checks sources.now template.now) }
 {
@@ -125,7 +125,7 @@ fn check_template(template: &Option<List<Name>>, sources: &[DsDef]) -> Result<()
     Ok(())
 }
 
-// Where an update's values stand, if it is accepted, or the first refusal (rrdupdate).
+// Checks an update, and returns the indexes of its values (rrdupdate).
 fn check_update<'a>(
     sources: &[DsDef],
     last: u64,
@@ -147,7 +147,7 @@ fn check_update<'a>(
     Ok(columns)
 }
 
-// What a source keeps of what is given.
+// Returns the raw value that a data source keeps of a given value.
 fn raw_of(source: &DsDef, given: Given) -> Raw
     ensures value { result ≡ raw_of source.now.kind given }
     ensures accepted { IsAccepted source.now.kind result }
@@ -161,7 +161,7 @@ fn raw_of(source: &DsDef, given: Given) -> Raw
     }
 }
 
-/// The raw values of a sample, one for each source.
+/// Writes the raw values of a sample, one for each data source.
 pub(crate) fn raws_into(columns: &Columns, sources: &[DsDef], values: &[Given], raws: &mut [Raw])
     requires room { length raws.old ≡ length sources.now }
     requires columns { AreColumns sources.now columns.now }
@@ -173,7 +173,7 @@ pub(crate) fn raws_into(columns: &Columns, sources: &[DsDef], values: &[Given], 
     }
 }
 
-/// The time of an update's last sample.
+/// Returns the time of an update's last sample.
 pub(crate) fn end_time(update: &Update) -> u64
     requires { 0 < length update.now.samples }
     ensures { result ≡ end_time update.now }
@@ -183,7 +183,7 @@ pub(crate) fn end_time(update: &Update) -> u64
 }
 
 impl Content {
-    /// Where an update's values stand, if it is accepted, or the first refusal.
+    /// Checks an update, and returns the indexes of its values.
     pub(crate) fn check_update<'a>(&self, update: &'a Update) -> Result<Columns<'a>, Refusal>
         ensures refusal { result_err result ≡ verdict self.now (Updating update.now) }
         ensures columns { IfOk result (λ columns. AreColumns self.now.sources columns
@@ -192,7 +192,7 @@ impl Content {
         check_update(&self.sources, self.last, update)
     }
 
-    /// What the journal keeps of an update that ends at a time.
+    /// Copies the values that an update up to `end` replaces.
     pub(crate) fn before(&self, alloc: Global, end: u64) -> Result<BeforeUpdate, AllocError>
         ensures { IfOk result (λ b. update_of b ≡ before self.now end) }
     {
@@ -204,7 +204,7 @@ impl Content {
         })
     }
 
-    /// Puts back what was before an update. It takes no memory.
+    /// Undoes an update. Does not allocate.
     pub(crate) fn undo_update(&mut self, before: BeforeUpdate)
         requires fits { CanPutBackEach self.old.archives before.archives.items }
         requires valid { IsValid (undone self.old (UpdateEntry (update_of before))) }

@@ -1,16 +1,21 @@
-//! A walk over a content: how the time up to a sample passes over it.
+//! The passing of time up to a sample, over a content.
 //!
-//! To whoever works on it next. The definitions look at every second; nothing here does. Time passes in pieces in which
-//! every second has the same rate: `begin` lets seconds pass that leave the step unfinished, `end_steps` the rest of the
-//! step in progress with all whole steps behind it, whatever their number, and `catch_up` cuts an interval into these.
-//! Each piece says in its contract that it is `passed` so many seconds, and the law `seconds_pass_in_pieces` puts them
-//! together: so a new way to pass time needs that one clause, and nothing above it changes.
+//! How it works: the definitions look at every second; no function here does. Time passes in parts in which every
+//! second has the same rates. `pass_within_step` passes seconds that do not finish the step, `end_steps` passes the rest
+//! of the step in progress with all whole steps after it, whatever their number, and `catch_up` divides an interval into
+//! these parts. The contract of each part says that it is `passed` for its seconds, and the theorem
+//! `seconds_pass_in_pieces` joins them: so a new way to pass time needs only that clause, and nothing above it changes.
 //!
-//! What goes wrong easily. The first step that ends has other cells than those behind it, since its first seconds came
-//! before (`Steps::first` and `others`). An archive takes steps by the number that ended before, so `before` is worked out
-//! before `last` moves. The rates are of the interval, and raw values move on only behind it. An update takes all memory
-//! before the walk (`Walk::new`), so nothing here can fail. Each loop over sources or cells ticks the meter once a turn:
-//! the bounds `least_` and `most_` are of those ticks, and a loop without them would be one that no contract bounds.
+//! Pitfalls:
+//!
+//! - The first step that ends has other cells than the steps after it, since its first seconds came before
+//!   (`Steps::first` and `others`).
+//! - An archive adds steps by the number of steps that ended before, so `before` must be computed before `last`
+//!   changes.
+//! - The rates are those of the interval, and the raw values change only after it.
+//! - An update allocates all memory before the walk (`Walk::new`), so nothing here can fail.
+//! - Each loop over data sources or cells counts one unit of work in the meter for each turn of the loop. The bounds
+//!   `least_` and `most_` are bounds of these units; no contract would bound a loop without them.
 ghost use Rattle.std.specs.Prelude.{◌≡◌, ◌+◌, ◌-◌, ◌*◌, ◌/◌, ◌^◌, ◌<◌, ◌≤◌, [], ◌∷◌, length, replicate, IfOk, None};
 ghost use Rattle.rrd_spec.specs.Commands.{Updating};
 ghost use Rattle.rrd_spec.specs.Laws.ListedContent.{moved_listed, content_listed};
@@ -34,31 +39,29 @@ use rrd_fixed::{Cell, Meter, Raw};
 use rrd_spec::laws;
 use std::alloc::{AllocError, Global};
 
-/// Steps that end one after another, the first of its own and all others alike, with a cell for each
-/// source.
+/// Consecutive steps: the first has its own cells, and all others are equal.
 #[derive(Drop)]
 pub(crate) struct Steps<'a> {
-    /// How many steps ended before.
+    /// The number of steps that ended before these.
     pub(crate) before: u64,
-    /// The cells of the first.
+    /// The cells of the first step, one for each data source.
     pub(crate) first: &'a [Cell],
-    /// The cells of each other.
+    /// The cells of each other step, one for each data source.
     pub(crate) others: &'a [Cell],
-    /// How many others there are.
+    /// The number of the other steps.
     pub(crate) count: u64,
 }
 
-/// What the samples of an update need beside the content: places for each source, taken before the
-/// content changes, and a count of the turns.
+/// The buffers of an update for values of each data source, and a meter. They are allocated before the content changes.
 #[derive(Drop)]
 pub(crate) struct Walk {
-    // a sample's raw values
+    // The raw values of a sample.
     raws: Vec<Raw>,
-    // the rates in its interval
+    // The rates in the interval before the sample.
     rates: Vec<Cell>,
-    // the cells of the step in which the interval begins, if it ends
+    // The cells of the step in which the interval begins, if the step ends.
     step: Vec<Cell>,
-    // the cells of a row in progress, if it ends
+    // The cells of the row in progress, if the row ends.
     row: Vec<Cell>,
     meter: Meter,
 }
@@ -66,7 +69,7 @@ pub(crate) struct Walk {
 impl Walk {
     ghost use Rattle.rrd_base.specs.Walk.{HasPlaces};
 
-    /// A walk over the content of so many sources: no turn yet.
+    /// Creates a walk over a content with `sources` data sources, with its meter at 0.
     pub(crate) fn new(alloc: Global, sources: usize) -> Result<Walk, AllocError>
         ensures places { IfOk result (λ walk. HasPlaces walk sources) }
         ensures turns { IfOk result (λ walk. walk.meter ≡ 0) }
@@ -80,14 +83,14 @@ impl Walk {
         })
     }
 
-    /// How many turns there were.
+    /// Returns the number of units of work.
     pub(crate) fn turns(&self) -> u64
         ensures { result ≡ self.now.meter }
     {
         self.meter.turns()
     }
 
-    // Finds each source's rate, in millionths, from its old raw value to the walk's, so many seconds
+    // Computes the rate of each data source, in millionths, from its old raw value to the walk's, `interval` seconds
     // later.
     fn find_rates(&mut self, sources: &[DsDef], old: &[Raw], interval: u64)
         requires places { HasPlaces self.old (length sources.now) }
@@ -110,8 +113,8 @@ impl Content {
     ghost use Rattle.rrd_base.specs.Walk.{HasPlaces, KeepsSample};
     ghost use Rattle.rrd_base.specs.Walk.Turns.{least_of_ends, least_to, most_of_ends, most_to};
 
-    // Lets so many seconds pass that leave the step unfinished. It is a turn for each source.
-    fn begin(&mut self, seconds: u64, walk: &mut Walk)
+    // Passes `seconds` seconds that do not finish the step. The meter counts one unit of work for each data source.
+    fn pass_within_step(&mut self, seconds: u64, walk: &mut Walk)
         requires within { self.old.last + seconds < (self.old.last / self.old.step + 1) * self.old.step }
         requires in_time { self.old.last + seconds ≤ present.latest_time }
         requires rates_are { IsRow (length self.old.sources) walk.old.rates.items }
@@ -125,8 +128,8 @@ impl Content {
         self.last += seconds;
     }
 
-    // Lets the seconds pass that are left of the step in progress, and then `count` whole steps, all
-    // at once: their cells are the rates.
+    // Passes the `seconds` seconds left of the step in progress, and then `count` whole steps, all at once: the cells
+    // of these steps are the rates.
     fn end_steps(&mut self, seconds: u64, count: u64, walk: &mut Walk)
         requires fills { self.old.last + seconds ≡ (self.old.last / self.old.step + 1) * self.old.step }
         requires in_time { self.old.last + (seconds + count * self.old.step) ≤ present.latest_time }
@@ -156,8 +159,8 @@ impl Content {
         take_all(archives, &steps, &mut walk.row, &mut walk.meter);
     }
 
-    // Lets all seconds up to a time pass: the rest of the step in progress with all whole steps after
-    // it, and the begin of the next.
+    // Passes all seconds up to `time`: the rest of the step in progress with all whole steps after it, and the start of
+    // the next step.
     fn catch_up(&mut self, time: u64, walk: &mut Walk)
         requires later { self.old.last < time }
         requires in_time { time ≤ present.latest_time }
@@ -174,15 +177,15 @@ impl Content {
         let last = self.last;
         let end = (last / step + 1) * step;
         if time < end {
-            self.begin(time - last, walk);
+            self.pass_within_step(time - last, walk);
         } else {
             let more = time - end;
             self.end_steps(end - last, more / step, walk);
-            self.begin(more % step, walk);
+            self.pass_within_step(more % step, walk);
         }
     }
 
-    // Takes the sample at a time after the last one, whose raw values the walk holds.
+    // Adds the sample at a time after the last one. The walk holds its raw values.
     fn take_sample(&mut self, time: u64, walk: &mut Walk)
         requires later { self.old.last < time }
         requires in_time { time ≤ present.latest_time }
@@ -202,7 +205,7 @@ impl Content {
         self.raws.copy_from_slice(&walk.raws);
     }
 
-    /// Takes the samples of an update that is accepted.
+    /// Adds the samples of an accepted update.
     pub(crate) fn take_samples(&mut self, update: &Update, columns: &Columns, walk: &mut Walk)
         requires valid { IsValid self.old }
         requires accepted { verdict self.old (Updating update.now) ≡ None }

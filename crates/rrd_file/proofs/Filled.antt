@@ -1,5 +1,5 @@
 -- Bytes that came behind those that wait in a buffer.
-use Rattle.std.proofs.Common.{◌≡◌, ◌∙◌, ◌++◌, ◌+◌, ◌-◌, ◌≤◌, ℕ, List, sym, ap, refl, length, take, drop, slice_range, arith, append_assoc, length-append, length-drop}
+use Rattle.std.proofs.Common.{◌≡◌, ◌∙◌, ◌++◌, ◌+◌, ◌-◌, ◌≤◌, ℕ, List, sym, ap, refl, length, take, drop, slice_range, arith, append-nil, append_assoc, length-append, length-drop}
 use Rattle.std.specs.Prelude.{Option, Some, None}
 use Rattle.std.proofs.lemmas.List.Edits.{take-paste}
 use Rattle.std.specs.List.{copy_within}
@@ -47,6 +47,30 @@ waited_still None new before after k e = tt
 waited_still (Some xs) None before after k e = absurd k
 waited_still (Some xs) (Some ys) before after k e = λ i. e i ++ k i
 
+-- those that wait are the same in a buffer that is longer
+pub lengthened : (old new : List ℕ) (from end : ℕ) → from ≤ end → take end new ≡ take end old → slice_range new from end ≡ slice_range old from end
+lengthened old new from end ordered same =
+    let all : end ≡ from + (end - from) = omega arith in
+    let cut : (xs : List ℕ) → take (end - from) (drop from xs) ≡ drop from (take end xs) = λ xs. sym (drop-take from (end - from) xs) ∙ ap (λ k. drop from (take k xs)) (sym all) in
+    cut new ∙ ap (drop from) same ∙ sym (cut old)
+
+-- what waits once the buffer was made longer, and so many bytes came behind it
+pub refill : (old longer all buffer waiting : List ℕ) (from end n : ℕ) → from ≤ end → end ≤ length longer → length all ≡ length longer
+    → all ≡ copy_within longer from end 0 → n ≤ length buffer → take end longer ≡ take end old → slice_range old from end ≡ waiting
+    → slice_range (put_mid (end - from) (length all - (end - from)) all buffer) 0 (end - from + n) ≡ waiting ++ take n buffer
+refill old longer all buffer waiting from end n ordered within long moved few front is =
+    filled longer all buffer from end (length all - (end - from)) n ordered within long moved few
+    ∙ ap (λ (l : List ℕ). l ++ take n buffer) (lengthened old longer from end ordered front ∙ is)
+
+-- and where none came
+pub refill_none : (old longer all buffer waiting : List ℕ) (from end : ℕ) → from ≤ end → end ≤ length longer → length all ≡ length longer
+    → all ≡ copy_within longer from end 0 → take end longer ≡ take end old → slice_range old from end ≡ waiting
+    → slice_range (put_mid (end - from) (length all - (end - from)) all buffer) 0 (end - from) ≡ waiting
+refill_none old longer all buffer waiting from end ordered within long moved front is =
+    ap (slice_range (put_mid (end - from) (length all - (end - from)) all buffer) 0) {x = end - from} {y = end - from + 0} (omega arith)
+    ∙ refill old longer all buffer waiting from end 0 ordered within long moved (omega arith) front is
+    ∙ append-nil waiting
+
 -- a part of a buffer that was filled keeps the buffer's length
 pub refilled : (all buffer : List ℕ) (m : ℕ) → m ≤ length all → length buffer ≡ length all - m → length (put_mid m (length all - m) all buffer) ≡ length all
 refilled all buffer m short size =
@@ -57,7 +81,7 @@ refilled all buffer m short size =
 
 pub within_range : (bytes waiting : List ℕ) (from end size : ℕ) → IsWaiting bytes from end → slice_range bytes from end ≡ waiting → size ≤ length waiting → from + size ≤ end
 within_range bytes waiting from end size is same few =
-    omega (arith, is.ordered, is.within, is.room, few, ap length same, length-take (end - from) (drop from bytes), length-drop from bytes)
+    omega (arith, is.ordered, is.within, few, ap length same, length-take (end - from) (drop from bytes), length-drop from bytes)
 
 pub front_of : (bytes : List ℕ) (from end size : ℕ) → from + size ≤ end → slice_range bytes from (from + size) ≡ take size (slice_range bytes from end)
 front_of bytes from end size within =

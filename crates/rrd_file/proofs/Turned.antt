@@ -16,7 +16,8 @@ use Rattle.rrd_spec.specs.Laws.Slots.{StandsInPlace}
 use Rattle.rrd_spec.specs.declared.settings.RraDef.{RraDef}
 use Rattle.rrd_spec.specs.History.{Rra, Content}
 use Rattle.rrd_spec.specs.Settings.{resolution}
-use Rattle.rrd_spec.specs.Files.Slots.{by_slot, cells_by_slot, place_in, row_in}
+use Rattle.rrd_spec.specs.Files.Slots.{by_slot, cells_by_slot, row_in}
+use Rattle.rrd_spec.specs.Files.Places.{place_in}
 use Rattle.rrd_spec.specs.Validity.{IsValid}
 use Rattle.rrd_file.specs.Layout.{row_pieces, spelled}
 use Rattle.rrd_file.specs.Layout.Pieces.{OfCell, spell}

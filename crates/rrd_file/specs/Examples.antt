@@ -1,5 +1,5 @@
--- Example: two files, byte by byte: a new database of a gauge and an archive of four rows, and the same after a sample
--- of 1 at 10.
+-- Example: two files, byte by byte: a new database of one gauge and one archive of four rows, and the same database
+-- after a sample of 1 at 10.
 use Rattle.std.specs.Prelude.{◌≡◌, ℕ, Bool, pos, None, List, [], ◌∷◌, ◌++◌, length, replicate}
 use Rattle.rrd_fixed.specs.declared.kind.Kind.TheVariants.{Gauge}
 use Rattle.rrd_fold.specs.declared.function.Function.TheVariants.{Last}
@@ -15,11 +15,11 @@ use Rattle.rrd_spec.specs.declared.version.Version.TheVariants.{One, Two}
 
 -- ---- the databases
 
--- named g
+-- the gauge g
 abbrev gauge : DsDef
 gauge = record { name = 103 ∷ []; kind = Gauge; heartbeat = 100; min = None; max = None }
 
--- steps of 10 seconds from 0 on; one row a step, four rows; depth 16
+-- steps of 10 seconds from 0 on; four rows of one step each; depth 16
 abbrev pub new_database : Stored
 new_database = record { content = created 10 0 gauge (archive Last 1 4 ∷ []); journal = [] }
 
@@ -31,11 +31,11 @@ one_sample = record { template = None; samples = record { time = 10; values = on
 
 -- ---- runs of bytes
 
--- so many zeros
+-- n zeros
 abbrev zeros : ℕ → List ℕ
 zeros n = replicate n 0
 
--- 80 and fifteen times 00
+-- the byte 80 and fifteen bytes 00
 abbrev absent : List ℕ
 absent = 128 ∷ zeros 15
 
@@ -43,13 +43,14 @@ absent = 128 ∷ zeros 15
 abbrev million : List ℕ
 million = zeros 13 ++ 15 ∷ 66 ∷ 64 ∷ []
 
--- an empty preparation: no known cell, and nothing that it comes to
+-- an empty partial step or row: no known cell, and the value 0
 abbrev nothing : List ℕ
 nothing = zeros 4 ++ zeros 16
 
 -- ---- the files
 
--- the mark, the version, step 10, the last time, depth 16, a source, an archive, and so many entries
+-- the mark, the version, the step 10, the last time, the depth 16, one data source, one archive, and the number of
+-- entries
 abbrev head_of_file : Version → ℕ → ℕ → List ℕ
 head_of_file One last entries =
     82 ∷ 82 ∷ 68 ∷ 73 ∷ 0 ∷ 1 ∷
@@ -58,27 +59,28 @@ head_of_file Two last entries =
     82 ∷ 82 ∷ 68 ∷ 73 ∷ 0 ∷ 2 ∷
     0 ∷ 0 ∷ 0 ∷ 10 ∷ zeros 7 ++ last ∷ 0 ∷ 0 ∷ 0 ∷ 16 ∷ 0 ∷ 1 ∷ 0 ∷ 1 ∷ 0 ∷ 0 ∷ 0 ∷ entries ∷ []
 
--- the source: its name, type, heartbeat and bounds, a last raw value, and an empty preparation
+-- the data source: its name, type, heartbeat and bounds, its last raw value, and an empty partial step
 abbrev source_with : List ℕ → List ℕ
 source_with raw = 1 ∷ 103 ∷ zeros 18 ++ 0 ∷ zeros 7 ++ 100 ∷ absent ++ absent ++ raw ++ nothing
 
--- the archive's head: its function, steps, xff and rows, and an empty preparation
+-- the archive's header: its function, steps, xff and rows, and an empty partial row
 abbrev head : List ℕ
 head = 3 ∷ 0 ∷ 0 ∷ 0 ∷ 1 ∷ 0 ∷ 7 ∷ 161 ∷ 32 ∷ 0 ∷ 0 ∷ 0 ∷ 4 ∷ nothing
 
--- the update's entry: the last time, raw value and preparations before it, and the one row that fell out
+-- the update's entry: the last time, the raw value, the partial step and the partial row before the update, and the one
+-- row that was dropped
 abbrev entry : List ℕ
 entry = 1 ∷ zeros 8 ++ absent ++ nothing ++ nothing ++ 0 ∷ 0 ∷ 0 ∷ 1 ∷ absent
 
 abbrev pub new_bytes : Version → List ℕ
 new_bytes version = head_of_file version 0 0 ++ source_with absent ++ head ++ absent ++ absent ++ absent ++ absent
 
--- the row at 10 stands in slot 1
+-- the row at 10 is in slot 1
 abbrev pub sampled_bytes : Version → List ℕ
 sampled_bytes version =
     head_of_file version 10 1 ++ source_with million ++ head ++ absent ++ million ++ absent ++ absent ++ entry
 
--- ---- what the definitions give
+-- ---- the results of the definitions
 
 abbrev pub NewFile : Type 0
 NewFile =

@@ -1,4 +1,4 @@
--- Glue: what an entry keeps to that is written, and one that was read piece by piece.
+-- Glue: the properties of an entry that is written, and of one that was read record by record.
 use Rattle.std.specs.Prelude.{◌≡◌, ◌<◌, ℕ, List, [], ◌∷◌, length, ◌^◌}
 use Rattle.rrd_fixed.specs.declared.cell.Cell.{Cell}
 use Rattle.rrd_ring.specs.Rows.{HasWidth}
@@ -14,27 +14,27 @@ use Rattle.rrd_file.specs.declared.layout.Tag.{Tag as TagRead}
 use Rattle.rrd_file.specs.declared.layout.Tag.TheVariants as read
 use Rattle.rrd_spec.specs.Validity.{Fits, IsValid}
 
--- ---- written
+-- ---- entries that are written
 
--- the entry of some valid content, and undoing it leaves a valid one
+-- the entry fits some valid content, and undoing it leaves a valid content
 pub record IsEntryOfSome (entry : Entry) : Type 0 where
   pub now : Content
   pub valid : IsValid now
   pub fits : Fits now entry
   pub before : IsValid (undone now entry)
 
--- a source's number that two bytes hold
+-- the number of a data source fits two bytes
 abbrev pub HasSmallNumber : SourceBefore → Type 0
 HasSmallNumber old = old.number < 2 ^ 16
 
--- ---- read
+-- ---- entries that were read
 
--- so many rows, each of so many cells
+-- `count` rows of `sources` cells each
 pub record AreRows (count sources : ℕ) (rows : List (List Cell)) : Type 0 where
   pub as_many : length rows ≡ count
   pub one_width : HasWidth sources rows
 
--- what an update saved of an archive
+-- the values that an update saved of an archive
 pub record IsSavedShaped (sources : ℕ) (def : RraDef) (old : SavedArchive) : Type 0 where
   pub same_function : old.function ≡ def.function
   pub one_part_each : length old.parts ≡ sources
@@ -64,7 +64,7 @@ IsShaped now (ResizeEntry archive rows) = HasWidth (length now.sources) rows
 IsShaped now AddedEntry = Unit {0}
 IsShaped now (RemovedEntry number archive) = IsRemovedShaped now archive
 
--- an entry came
+-- one more entry was read
 pub record HasOneMore (old new : Filed) : Type 0 where
   pub entry : Entry
   pub more : new ≡ with_entry old entry

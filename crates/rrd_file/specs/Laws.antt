@@ -1,5 +1,5 @@
--- Law: laws of the layout, for any file.
-use Rattle.std.specs.Prelude.{◌≡◌, ℕ, ◌-◌, ◌<◌, List, [], ◌++◌, length, take, None, Result, Ok, Err}
+-- Law: theorems on the layout, for any file.
+use Rattle.std.specs.Prelude.{◌≡◌, ℕ, ◌-◌, ◌<◌, List, [], ◌++◌, length, take, None, Result, Ok}
 use Rattle.rrd_fixed.specs.declared.cell.Cell.{Cell}
 use Rattle.rrd_fixed.specs.declared.raw.Raw.{Raw}
 use Rattle.rrd_fold.specs.Parts.{Part}
@@ -10,30 +10,27 @@ use Rattle.rrd_spec.specs.Journal.Entries.{Entry}
 use Rattle.rrd_spec.specs.Files.Filed.{Filed, Source}
 use Rattle.rrd_spec.specs.Files.Rebuilding.{MayEntry}
 use Rattle.rrd_spec.specs.Journal.Survivors.{Stored, changed, reverted}
-use Rattle.rrd_spec.specs.Limits.{limits_of}
 use Rattle.rrd_spec.specs.declared.version.Version.{Version}
-use Rattle.rrd_spec.specs.Validity.{IsValidDatabase, IsValidDatabaseWithin}
 use Rattle.rrd_spec.specs.Commands.Verdict.{verdict}
 use Rattle.rrd_file.specs.declared.fault.FileFault.{FileFault}
-use Rattle.rrd_file.specs.declared.fault.FileFault.TheVariants.{NotOurs, Version as WrongVersion, Truncated, BadBlock, BadEntry, Trailing, Read, OutOfMemory}
-use Rattle.rrd_file.specs.Faults.{IsAnswer, IsFile}
+pub use Rattle.rrd_file.specs.Faults.{IsAnswer, IsFile, IsOfFile, IsValidIn, IsValidStored}
 use Rattle.rrd_file.specs.Layout.{entry_pieces, layout, layout_in}
 use Rattle.rrd_file.specs.Layout.Pieces.{Piece, OfSource, OfArchive, OfPrep, OfCell, OfRawAndPart, OfSourceBefore, spell}
 use Rattle.rrd_file.specs.Layout.Fitting.{FitsArchive, FitsCell, FitsSourceBefore, FitsPart, FitsRaw, FitsSource}
 use Rattle.rrd_file.specs.Stages.{Runs, Stage, Start, Takes, size}
 
--- a piece that may come has as many bytes as are due
+-- a record that may come has as many bytes as are due
 abbrev pub PiecesHaveTheirSize : Type 0
 PiecesHaveTheirSize =
     (stage : Stage) (piece : Piece) (next : Stage) → Takes stage piece next → length (spell piece) ≡ size stage
 
--- of the pieces that may come at a stage that a file reaches, no two are spelled alike
+-- no two records that may come at a stage of a file have the same bytes
 abbrev pub PiecesHaveOneSpelling : Type 0
 PiecesHaveOneSpelling =
     (before : List Piece) (stage : Stage) (p q : Piece) (n m : Stage) → Runs Start before stage
     → Takes stage p n → Takes stage q m → spell p ≡ spell q → p ≡ q
 
--- values that fit their bytes and have the same bytes are one
+-- values that fit their bytes, and have the same bytes, are equal
 pub record ValuesHaveOneSpelling : Type 0 where
   pub source : (a b : Source) → FitsSource a → FitsSource b → spell (OfSource a) ≡ spell (OfSource b) → a ≡ b
   pub archive : (a b : RraDef) → FitsArchive a → FitsArchive b → spell (OfArchive a) ≡ spell (OfArchive b) → a ≡ b
@@ -46,38 +43,19 @@ pub record ValuesHaveOneSpelling : Type 0 where
       (a b : SourceBefore) → FitsSourceBefore a → FitsSourceBefore b
       → spell (OfSourceBefore a) ≡ spell (OfSourceBefore b) → a ≡ b
 
--- of the entries that may come behind a front of a body, no two have the same pieces
+-- no two entries that may come after the same records have the same records
 abbrev pub EntriesHaveOneSpelling : Type 0
 EntriesHaveOneSpelling =
     (f : Filed) (x y : Entry) → MayEntry f x → MayEntry f y → entry_pieces x ≡ entry_pieces y → x ≡ y
 
 -- ---- databases
 
-abbrev pub IsValidStored : Stored → Type 0
-IsValidStored d = IsValidDatabase d.content d.journal
-
--- an answer that says what the input is: a database or a fault, and not that the reader failed or a growth was refused
-abbrev pub IsOfFile : Result Stored FileFault → Type 0
-IsOfFile (Ok d) = Unit {0}
-IsOfFile (Err NotOurs) = Unit {0}
-IsOfFile (Err WrongVersion) = Unit {0}
-IsOfFile (Err (Truncated at)) = Unit {0}
-IsOfFile (Err (BadBlock at)) = Unit {0}
-IsOfFile (Err (BadEntry number)) = Unit {0}
-IsOfFile (Err (Trailing at)) = Unit {0}
-IsOfFile (Err Read) = ⊥
-IsOfFile (Err OutOfMemory) = ⊥
-
--- an input has one such answer
+-- an input has one result that depends on the input alone
 abbrev pub HasOneAnswer : List ℕ → Type 0
 HasOneAnswer bytes =
     (x y : Result Stored FileFault) → IsAnswer bytes x → IsAnswer bytes y → IsOfFile x → IsOfFile y → x ≡ y
 
--- a database that a version of the layout can have
-abbrev pub IsValidIn : Version → Stored → Type 0
-IsValidIn version d = IsValidDatabaseWithin (limits_of version) d.content d.journal
-
--- the layout of a valid database in a version is the file of it, and of nothing else
+-- the layout of a valid database in a version is the file of this database, and of no other
 abbrev pub LayoutIsItsFile : Version → Stored → Type 0
 LayoutIsItsFile version d = IsValidIn version d → IsAnswer (layout_in version d) (Ok d)
 
@@ -85,16 +63,17 @@ abbrev pub LayoutIsNoOther : Version → Stored → Type 0
 LayoutIsNoOther version d =
     IsValidIn version d → (x : Result Stored FileFault) → IsAnswer (layout_in version d) x → IsOfFile x → x ≡ Ok d
 
--- a database's file is its layout, in the file's version
+-- the file of a database is its layout, in the file's version
 abbrev pub FileIsLayout : List ℕ → Stored → Type 0
 FileIsLayout bytes d = (file : IsFile bytes d) → bytes ≡ layout_in file.version d
 
--- different valid databases have different layouts, in one version and in two, and none is the front of another
+-- different valid databases have different layouts, within a version and between versions, and no layout is a prefix of
+-- another
 abbrev pub NoFrontOfAnother : Version → Version → Stored → Stored → List ℕ → Type 0
 NoFrontOfAnother v w d e more =
     IsValidIn v d → IsValidIn w e → layout_in v d ++ more ≡ layout_in w e → (v ≡ w) × (d ≡ e) × (more ≡ [])
 
--- a revert of an accepted command gives the file back, byte by byte, but for the oldest entry of a full journal
+-- a revert of an accepted command restores the file, byte by byte, except the oldest entry of a full journal
 abbrev pub BytesComeBack : Stored → DatabaseChange → Type 0
 BytesComeBack d command =
     let after = changed d command in

@@ -1,4 +1,4 @@
--- Definition: the layout of a database with its journal: its pieces, one after another.
+-- Definition: the layout of a database with its journal: its records, one after another.
 use Rattle.std.specs.Prelude.{ℕ, List, [], ◌∷◌, ◌++◌, length, map}
 use Rattle.std.specs.List.{flat_map}
 use Rattle.rrd_fixed.specs.declared.cell.Cell.{Cell}
@@ -16,17 +16,17 @@ pub mod Fitting
 
 -- ---- the body
 
--- an archive's head: its settings, and a preparation for each source
+-- an archive's header: its settings, and a partial row for each data source
 abbrev pub head_pieces : Head → List Piece
 head_pieces head = OfArchive head.def ∷ map OfPrep head.parts
 
--- all heads come before the first cell
+-- all archive headers come before the first cell
 abbrev pub body_pieces : Filed → List Piece
 body_pieces f = map OfSource f.sources ++ flat_map head_pieces f.heads ++ map OfCell f.cells
 
 -- ---- entries
 
--- rows, oldest first, source by source
+-- rows, oldest first, each with its cells by data source
 abbrev pub row_pieces : List (List Cell) → List Piece
 row_pieces rows = flat_map (λ (row : List Cell). map OfCell row) rows
 
@@ -34,7 +34,7 @@ abbrev pub raws_and_parts : List Raw → List Part → List Piece
 raws_and_parts (raw ∷ raws) (part ∷ parts) = OfRawAndPart raw part ∷ raws_and_parts raws parts
 raws_and_parts _ _ = []
 
--- what an update replaced of an archive: preparations, the number of rows, and those rows
+-- the values that an update replaced in an archive: partial rows, the number of rows, and those rows
 abbrev pub saved_pieces : SavedArchive → List Piece
 saved_pieces old = map OfPrep old.parts ++ OfRows (length old.rows) ∷ row_pieces old.rows
 
@@ -44,13 +44,13 @@ entry_pieces (UpdateEntry old) =
 entry_pieces (TuneEntry olds) = OfTag ATune ∷ OfCount (length olds) ∷ map OfSourceBefore olds
 entry_pieces (ResizeEntry archive rows) = OfTag AResize ∷ OfNumber archive ∷ OfRows (length rows) ∷ row_pieces rows
 entry_pieces AddedEntry = OfTag AnAddition ∷ []
--- its settings say how many rows it has
+-- the settings of the archive have its number of rows
 entry_pieces (RemovedEntry number archive) =
     OfTag ARemoval ∷ OfNumber number ∷ OfArchive archive.def ∷ (map OfPrep archive.parts ++ row_pieces archive.rows)
 
--- ---- the whole
+-- ---- the whole file
 
--- the bytes of pieces
+-- the bytes of records
 abbrev pub spelled : List Piece → List ℕ
 spelled pieces = flat_map spell pieces
 

@@ -1,10 +1,10 @@
--- Glue: what the functions that count a database's bytes keep to.
+-- Glue: the values and limits for counting the bytes of a database.
 use Rattle.std.specs.Prelude.{◌≡◌, ℕ, length}
 use Rattle.rrd_ring.specs.Rows.{HasWidth}
 use Rattle.rrd_spec.specs.History.{Rra}
 use Rattle.rrd_spec.specs.Journal.Entries.{SavedArchive}
 
--- a preparation for each of so many sources, and rows with a cell for each
+-- a partial row for each of `sources` data sources, and rows with a cell for each
 pub record IsWide (sources : ℕ) (old : SavedArchive) : Type 0 where
   pub one_part_each : length old.parts ≡ sources
   pub one_cell_each : HasWidth sources old.rows
@@ -12,13 +12,13 @@ pub record IsWide (sources : ℕ) (old : SavedArchive) : Type 0 where
 abbrev pub rows_of : Rra → ℕ
 rows_of archive = archive.def.rows
 
--- ---- numbers that none exceeds, so that no sum passes 64 bits
+-- ---- limits of sums, so that no sum exceeds 64 bits
 
 -- bytes of an archive's rows
 abbrev pub most_of_rows : ℕ
 most_of_rows = 1024000000
 
--- bytes of what an update replaced of an archive, and of all archives
+-- bytes of the values that an update replaced in an archive, and in all archives
 abbrev pub most_of_saved : ℕ
 most_of_saved = 1025000000
 
@@ -32,7 +32,7 @@ most_of_entry = 132000000000
 abbrev pub most_of_entries : ℕ
 most_of_entries = 13200000000000000
 
--- rows of all archives, and bytes of what comes before the entries
+-- rows of all archives, and bytes of the records between the header and the entries
 abbrev pub most_rows_in_all : ℕ
 most_rows_in_all = 128000000
 

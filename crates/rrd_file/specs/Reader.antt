@@ -1,11 +1,12 @@
--- Glue: what is known of an input, some of whose bytes wait in a buffer.
+-- Glue: the facts about an input, some of whose bytes wait in a buffer.
 use Rattle.std.specs.Prelude.{◌≡◌, ◌+◌, ◌^◌, ◌<◌, ℕ, List, length, Option, Result, Ok, Err, ⊤, IfSome}
 use Rattle.std.specs.Io.KnownBytes.{Consumes, IsAtEnd, prepend_known}
 use Rattle.rrd_file.specs.declared.fault.FileFault.{FileFault}
 use Rattle.rrd_file.specs.declared.fault.FileFault.TheVariants.{NotOurs, Version, Truncated, BadBlock, BadEntry, Trailing, Read, OutOfMemory}
 pub mod Waiting
 
--- the bytes that came and were not taken, those that the reader has left, if it says, and the next piece's offset
+-- the bytes that were read and not taken, the bytes that the reader has left, if they are known, and the offset of the
+-- next record
 pub record Input : Type 0 where
   pub waiting : List ℕ
   pub behind : Option (List ℕ)
@@ -15,11 +16,11 @@ pub record Input : Type 0 where
 abbrev pub left : Input → Option (List ℕ)
 left input = prepend_known input.waiting input.behind
 
--- a read that gave nothing found the end
+-- a read that gave no byte found the end
 abbrev pub FindsEnd : ℕ → Input → Type 0
 FindsEnd count input = count ≡ 0 → IsAtEnd input.behind
 
--- why a piece of so many bytes did not come: the input ends before that, or the reader failed
+-- the errors for a record of `size` bytes: the input ends before its end, or the reader failed
 abbrev pub IsCut : Input → ℕ → FileFault → Type 0
 IsCut old size (Truncated at) = IfSome (left old) (λ rest. (length rest < size) × (at ≡ old.at + length rest))
 IsCut old size Read = ⊤
@@ -36,11 +37,11 @@ pub record Gives (old : Input) (piece : List ℕ) (new : Input) : Type 0 where
   pub advanced : new.at ≡ old.at + length piece
   pub bounded : new.at < 2 ^ 64
 
--- a whole piece came, or the input was cut
+-- a whole record was read, or the input was cut
 abbrev pub ReadsPiece : Input → List ℕ → Input → Result (Unit {0}) FileFault → Type 0
 ReadsPiece old piece new (Ok x) = Gives old piece new
 ReadsPiece old piece new (Err fault) = IsCut old (length piece) fault
 
--- the next piece has a later offset
+-- the next record has a later offset
 abbrev pub Advances : Input → Input → Type 0
 Advances old new = (old.at < new.at) × (new.at < 2 ^ 64)

@@ -1,11 +1,11 @@
--- Glue: the fault that is told of a piece that may not come.
+-- Glue: the error for a record that may not come.
 use Rattle.std.specs.Prelude.{ℕ}
 use Rattle.rrd_file.specs.declared.fault.FileFault.{FileFault}
 use Rattle.rrd_file.specs.declared.fault.FileFault.TheVariants.{BadBlock, BadEntry, OutOfMemory}
 use Rattle.rrd_base.specs.declared.rebuild.PieceFault.{PieceFault}
 use Rattle.rrd_base.specs.declared.rebuild.PieceFault.TheVariants as refusal
 
--- the fault of a piece that was refused
+-- the error for a record that was refused
 abbrev pub fault_in_block : ℕ → PieceFault → FileFault
 fault_in_block at refusal.Bad = BadBlock at
 fault_in_block at refusal.OutOfMemory = OutOfMemory

@@ -1,5 +1,5 @@
--- Definition: how far a file has come: which piece is due there, how many bytes it has, which piece may come, and what
--- stage it leads to.
+-- Definition: the stages of reading a file: which record is due at a stage, how many bytes it has, which record may
+-- come, and the stage that it leads to.
 use Rattle.std.specs.Prelude.{◌≡◌, ℕ, zero, suc, ◌+◌, ◌*◌, ◌%◌, ◌<◌, ◌≤◌, min, true, List, [], ◌∷◌, ◌++◌, length, map, replicate}
 use Rattle.std.specs.List.{flat_map}
 use Rattle.rrd_fixed.specs.Rate.{IsAccepted, IsBounded}
@@ -20,29 +20,29 @@ use Rattle.rrd_spec.specs.Validity.{IsPart}
 use Rattle.rrd_file.specs.Layout.Pieces.{Piece, Mark, OfVersion, OfHeader, OfSource, OfArchive, OfPrep, OfCell, Tag, OfTag, OfTime, OfRawAndPart, OfRows, OfCount, OfSourceBefore, OfNumber, AnUpdate, ATune, AResize, AnAddition, ARemoval}
 use Rattle.rrd_file.specs.Layout.{entry_pieces}
 
--- ---- within an entry
+-- ---- stages within an entry
 
--- a piece of an entry that is due, with what its rule speaks of
+-- a record of an entry that is due, with the values that its rule needs
 pub data DueInEntry : Type 0 where
-  -- an update's last time; then for each source, under that time
+  -- an update's last time; then the values of each data source at that time
   TimeDue : DueInEntry
   BeforeDue : ℕ → DsDef → DueInEntry
-  -- for each archive a preparation for each source, under that time, and this number of rows; so for a removed archive,
-  -- under the present last time
+  -- for each archive a partial row for each data source, at that time, and this number of rows; the same for a removed
+  -- archive, at the present last time
   RowPrepDue : ℕ → RraDef → DueInEntry
   RowsDue : ℕ → DueInEntry
   RowCellDue : DueInEntry
-  -- how many sources a tune named; then each, from the lowest number that it may have
+  -- the number of data sources that a tune named; then each of them, from the lowest number that it may have
   CountDue : DueInEntry
   NamedDue : ℕ → ℕ → DueInEntry
-  -- a resized archive's number; then its old number of rows
+  -- the number of a resized archive; then its old number of rows
   NumberDue : DueInEntry
   OldRowsDue : ℕ → DueInEntry
-  -- a removed archive's number; then its settings
+  -- the number of a removed archive; then its settings
   RemovedNumberDue : DueInEntry
   RemovedHeadDue : DueInEntry
 
--- its bytes
+-- the bytes of a record
 abbrev pub size_due : DueInEntry → ℕ
 size_due TimeDue = 8
 size_due (BeforeDue last def) = 36
@@ -56,17 +56,17 @@ size_due (OldRowsDue archive) = 4
 size_due RemovedNumberDue = 2
 size_due RemovedHeadDue = 13
 
--- the cells of so many rows
+-- the cells of `rows` rows
 abbrev pub cells_due : ℕ → Outline → List DueInEntry
 cells_due rows now = replicate (rows * length now.sources) RowCellDue
 
--- what an update to the present last time keeps of an archive
+-- the records that an update to the present last time keeps of an archive
 abbrev pub archive_due : ℕ → Outline → ℕ → RraDef → List DueInEntry
 archive_due step now last def =
     let rows = min (rows_between step def last now.last) def.rows in
     replicate (length now.sources) (RowPrepDue last def) ++ RowsDue rows ∷ cells_due rows now
 
--- what is due first in an entry, by its tag
+-- the records that are due first in an entry, by its tag
 abbrev pub first_due : Tag → List DueInEntry
 first_due AnUpdate = TimeDue ∷ []
 first_due ATune = CountDue ∷ []
@@ -74,7 +74,7 @@ first_due AResize = NumberDue ∷ []
 first_due AnAddition = []
 first_due ARemoval = RemovedNumberDue ∷ []
 
--- what a piece makes due right behind itself
+-- the records that a record makes due directly after itself
 abbrev pub named_due : ℕ → ℕ → List DueInEntry
 named_due lowest zero = []
 named_due lowest (suc more) = NamedDue lowest more ∷ []
@@ -91,7 +91,7 @@ behind step now RemovedHeadDue (OfArchive def) =
     replicate (length now.sources) (RowPrepDue now.last def) ++ cells_due def.rows now
 behind step now due piece = []
 
--- which piece may come where one is due, by itself
+-- which record may come if one is due, checked by itself
 abbrev pub Keeps : Limits → ℕ → Outline → DueInEntry → Piece → Type 0
 Keeps limits step now TimeDue (OfTime last) = last < now.last
 Keeps limits step now (BeforeDue last def) (OfRawAndPart raw part) =
@@ -108,16 +108,16 @@ Keeps limits step now RemovedNumberDue (OfNumber number) = IsRemovedNumber limit
 Keeps limits step now RemovedHeadDue (OfArchive def) = AreRemovedSettings limits now def
 Keeps limits step now due piece = ⊥
 
--- ---- the whole file
+-- ---- stages of the whole file
 
 pub data Stage : Type 0 where
-  -- nothing has come; the mark; the version
+  -- nothing was read; the mark was read; the version was read
   Start : Stage
   Marked : Stage
   Versioned : Version → Stage
-  -- the header, and so much of the body, entries that are whole among it
+  -- the header and a part of the body were read, with its complete entries
   Body : Filed → Stage
-  -- and an entry that is begun, with its pieces so far and what is still due of it
+  -- and a part of an entry was read: its records so far, and those that are still due
   Within : Filed → List Piece → List DueInEntry → Stage
 
 -- the bytes of a count in a header, and of a header
@@ -140,7 +140,7 @@ abbrev pub within_size : List DueInEntry → ℕ
 within_size [] = 0
 within_size (due ∷ later) = size_due due
 
--- how many bytes the piece has that is due; none where no piece is
+-- the number of bytes of the record that is due; 0 if no record is
 unfoldable pub size : Stage → ℕ
 size Start = 4
 size Marked = 2
@@ -148,14 +148,14 @@ size (Versioned version) = header_size version
 size (Body f) = body_size (due f)
 size (Within f pieces due) = within_size due
 
--- where an entry goes on once these pieces of it have come: what is due, or, after its last piece, the body with it.
--- That last piece must make an entry that may come: so a tune's names differ once it is undone
+-- the stage after these records of an entry: the records that are due, or, after the last record, the body with the
+-- entry. The last record must complete an entry that may come: so the names are different after a tune is undone
 abbrev pub GoesOn : Filed → List Piece → List DueInEntry → Stage → Type 0
 GoesOn f pieces (due ∷ later) next = next ≡ Within f pieces (due ∷ later)
 GoesOn f pieces [] next =
     (entry : Entry) × (entry_pieces entry ≡ pieces) × MayEntry f entry × (next ≡ Body (with_entry f entry))
 
--- archives come and go where the version lets them
+-- entries for added and removed archives are allowed if the version allows them
 abbrev pub IsTagWithin : Limits → Tag → Type 0
 IsTagWithin limits AnUpdate = Unit {0}
 IsTagWithin limits ATune = Unit {0}
@@ -167,7 +167,7 @@ pub record MayTag (f : Filed) (tag : Tag) : Type 0 where
   pub is_due : due f ≡ EntryDue
   pub within : IsTagWithin (limits f) tag
 
--- that a piece may come at a stage, and the stage that it leads to
+-- a record may come at a stage, and leads to the next stage
 unfoldable pub Takes : Stage → Piece → Stage → Type 0
 Takes Start Mark next = next ≡ Marked
 Takes Marked (OfVersion version) next = next ≡ Versioned version
@@ -183,7 +183,7 @@ Takes (Within f pieces (due ∷ later)) piece next =
     × GoesOn f (pieces ++ piece ∷ []) (behind f.header.step now due piece ++ later) next
 Takes stage piece next = ⊥
 
--- pieces that may come one after another, from a stage to a stage
+-- records that may come one after another lead from a stage to a stage
 abbrev pub Runs : Stage → List Piece → Stage → Type 0
 Runs from [] to = from ≡ to
 Runs from (piece ∷ pieces) to = (next : Stage) × Takes from piece next × Runs next pieces to

@@ -1,4 +1,4 @@
-//! The heads of archives, both ways: settings, and the preparations of unfinished rows.
+//! The archive headers of a file: writing and reading. Each has the settings and the partial rows.
 ghost use Rattle.std.specs.Prelude.{◌≡◌, ◌+◌, ◌^◌, ◌<◌, ◌≤◌, ℕ, [], ◌∷◌, ◌++◌, ◌≢◌, IfOk, IfSome, List, None, OnOk, Some, length, map, replicate, slice_get, unsigned_abs};
 ghost use Rattle.std.specs.List.{flat_map};
 ghost use Rattle.rrd_spec.specs.Files.Filed.{filed, head_of};
@@ -22,17 +22,17 @@ use crate::fault::{bad_entry, block_fault};
 use crate::layout::{ARCHIVE_SIZE, PREP_SIZE};
 use crate::reader::PieceReader;
 use crate::values::{four_of, function_byte, function_of, part_of};
-use crate::writer::{Block, PieceWriter};
-use rrd_base::{Database, Rebuild, RraDef};
+use crate::writer::{BLOCK_SIZE, Block, PieceWriter};
+use rrd_base::{Database, Rebuild, RraDef, database_is_valid};
 use rrd_fixed::WriteFault;
 use rrd_fold::RowPrep;
 use std::alloc::Global;
 use std::io::{Read, Write};
 
 impl Block {
-    /// Adds an archive's settings.
+    /// Adds the settings of an archive.
     pub(crate) fn archive(&mut self, archive: &RraDef)
-        requires room { length self.old + ARCHIVE_SIZE ≤ 32768 }
+        requires room { length self.old + ARCHIVE_SIZE ≤ BLOCK_SIZE }
         requires steps { archive.now.steps < 2 ^ 32 }
         requires xff { unsigned_abs archive.now.xff < 2 ^ 32 }
         requires rows { archive.now.rows < 2 ^ 32 }
@@ -56,15 +56,15 @@ fn write_settings<W: Write>(
     ensures { (a : Rra) → slice_get database.now.content.archives archive ≡ Some a
         → Gathers W.contents out.old out.new (spell (OfArchive a.def)) result }
 {
-    // So the settings fit their bytes.
-    database.is_valid();
+    // The prover needs that the settings fit their bytes.
+    database_is_valid(database);
     let def = database.archive(archive);
     out.make_room()?;
     out.block.archive(&def);
     Ok(())
 }
 
-// Writes the preparation of a source's unfinished row.
+// Writes the partial row of one data source.
 #[tactic(auto, unfolding(crate::specs::Layout::Pieces::spell))]
 fn write_prep<W: Write>(out: &mut PieceWriter<'_, W>, prep: RowPrep) -> Result<(), WriteFault>
     ensures { Gathers W.contents out.old out.new (spell (OfPrep prep.part)) result }
@@ -74,7 +74,7 @@ fn write_prep<W: Write>(out: &mut PieceWriter<'_, W>, prep: RowPrep) -> Result<(
     Ok(())
 }
 
-/// Writes the preparations of an archive's unfinished row.
+/// Writes the partial rows of an archive.
 pub(crate) fn write_preps<W: Write>(
     out: &mut PieceWriter<'_, W>,
     preps: &[RowPrep],
@@ -88,7 +88,7 @@ pub(crate) fn write_preps<W: Write>(
     Ok(())
 }
 
-// Writes the preparations of an archive's unfinished row.
+// Writes the partial rows of an archive in the database.
 fn write_archive_preps<W: Write>(
     out: &mut PieceWriter<'_, W>,
     database: &Database,
@@ -98,15 +98,15 @@ fn write_archive_preps<W: Write>(
     ensures { (a : Rra) → slice_get database.now.content.archives archive ≡ Some a
         → Gathers W.contents out.old out.new (spelled (map OfPrep a.parts)) result }
 {
-    // So each archive has a preparation for each source.
-    database.is_valid();
+    // The prover needs that each archive has a partial row for each data source.
+    database_is_valid(database);
     for source in 0..database.sources() {
         write_prep(out, database.row_prep(archive, source))?;
     }
     Ok(())
 }
 
-// Writes the head of an archive.
+// Writes the header of an archive.
 fn write_head<W: Write>(
     out: &mut PieceWriter<'_, W>,
     database: &Database,
@@ -121,7 +121,7 @@ fn write_head<W: Write>(
     write_archive_preps(out, database, archive)
 }
 
-/// Writes the heads of all archives.
+/// Writes the headers of all archives.
 pub(crate) fn write_heads<W: Write>(
     out: &mut PieceWriter<'_, W>,
     database: &Database,
@@ -135,7 +135,7 @@ pub(crate) fn write_heads<W: Write>(
     Ok(())
 }
 
-/// An archive's settings.
+/// Returns the settings of an archive.
 pub(crate) fn archive_of(bytes: &[u8]) -> Option<RraDef>
     requires { length bytes.now ≡ ARCHIVE_SIZE }
     ensures some { IfSome result (λ def. FitsArchive def × (spell (OfArchive def) ≡ bytes.now)) }
@@ -178,7 +178,7 @@ pub(crate) fn read_settings<R: Read + Drop>(
     }
 }
 
-/// Reads the preparation of a source's unfinished row.
+/// Reads the partial row of one data source.
 pub(crate) fn read_prep<R: Read + Drop>(
     input: &mut PieceReader<R>,
     build: &mut Rebuild,
@@ -198,7 +198,7 @@ pub(crate) fn read_prep<R: Read + Drop>(
     }
 }
 
-// Reads the preparation of a source's unfinished row in an archive of these settings, at a time.
+// Reads the partial row of one data source, of an archive with these settings whose last time is `last`.
 fn read_row_prep<R: Read + Drop>(
     input: &mut PieceReader<R>,
     build: &Rebuild,
@@ -221,7 +221,7 @@ fn read_row_prep<R: Read + Drop>(
     }
 }
 
-/// Reads the preparations of the unfinished row of an archive of these settings, at a time.
+/// Reads the partial rows of an archive with these settings whose last time is `last`.
 pub(crate) fn read_row_preps<R: Read + Drop>(
     alloc: Global,
     input: &mut PieceReader<R>,

@@ -1,4 +1,4 @@
-//! Cells, both ways: those of all archives, slot by slot, and the parts of it that entries share.
+//! Cells: writing and reading those of all archives, slot by slot; and the functions that entries share.
 ghost use Rattle.std.specs.Prelude.{◌*◌, ◌≡◌, ◌<◌, ◌≤◌, ℕ, ◌++◌, ◌+◌, IfErr, List, OnOk, Some, length, map, replicate, slice_get, slice_range, take, true};
 ghost use Rattle.std.specs.List.{AllByRecursion, flat_map};
 ghost use Rattle.rrd_fixed.specs.Rate.{IsBounded};
@@ -23,26 +23,27 @@ use crate::fault::block_fault;
 use crate::layout::{ABSENT, ABSENT_HIGH, ABSENT_LOW, CELL_SIZE, WIDEST, unknown_bytes};
 use crate::reader::PieceReader;
 use crate::values::{Halves, halves_of, signed_of};
-use crate::writer::{Block, PieceWriter};
-use rrd_base::{Database, Due, Rebuild, is_bounded};
+use crate::writer::{BLOCK_SIZE, Block, PieceWriter};
+use rrd_base::{Database, Due, Rebuild, database_is_valid, is_bounded};
 use rrd_fixed::{Cell, WriteFault};
 use rrd_ring::Table;
 use rrd_spec::first_place;
 use rrd_spec::laws::rows_stand_in_slots;
 use std::io::{Read, Write};
 
-/// The cells that are taken at once, at most: there is room for the widest row, and all are few enough to be
-/// copied while they are at hand.
+/// The maximum number of cells that are read at once: enough for the widest row, and few enough to be copied while the
+/// processor still has them at hand.
 const AT_ONCE: usize = 127;
 
-// The halves of what is written of an unknown cell.
+// The halves of the number that is written for an unknown cell.
 const UNKNOWN: Halves = Halves {
     high: ABSENT_HIGH,
     low: ABSENT_LOW,
 };
 
-/// The halves of what is written of a cell. Each cell comes by here, so the two cases are told apart where
-/// the halves are at hand, and not by a number that is made first.
+/// Returns the halves of the number that is written for a cell.
+///
+/// Every cell passes here, so the two cases are separated while the halves are computed, without a number in between.
 pub(crate) fn cell_halves(cell: Cell) -> Halves
     ensures { spelling.eight_bytes result.high ++ spelling.eight_bytes result.low ≡ spelling.cell_bytes cell }
 {
@@ -56,7 +57,7 @@ impl Block {
     /// Adds unknown cells, at most 64.
     fn unknown(&mut self, count: usize)
         requires few { count ≤ WIDEST }
-        requires room { length self.old + CELL_SIZE * count ≤ 32768 }
+        requires room { length self.old + CELL_SIZE * count ≤ BLOCK_SIZE }
         ensures { self.new ≡ self.old ++ flat_map spelling.cell_bytes (replicate count Unknown) }
     {
         self.add(unknown_bytes(count));
@@ -78,7 +79,7 @@ fn write_each<W: Write>(out: &mut PieceWriter<'_, W>, cells: &[Cell]) -> Result<
     Ok(())
 }
 
-// Writes rows from a place on and before another, the older first.
+// Writes rows from index `from` to before `to`. Row 0 is the oldest.
 fn write_rows_between<W: Write, T: Table>(
     out: &mut PieceWriter<'_, W>,
     rows: &T,
@@ -109,7 +110,7 @@ pub(crate) fn write_rows<W: Write, T: Table>(
     write_rows_between(out, rows, 0, rows.count())
 }
 
-// Writes so many unknown cells, as many at a time as a row has at most.
+// Writes `count` unknown cells, at most a row of them at a time.
 fn write_unknown<W: Write>(out: &mut PieceWriter<'_, W>, count: u64) -> Result<(), WriteFault>
     ensures { Gathers W.contents out.old out.new
         (spelled (map OfCell (replicate count Unknown))) result }
@@ -124,8 +125,8 @@ fn write_unknown<W: Write>(out: &mut PieceWriter<'_, W>, count: u64) -> Result<(
     Ok(())
 }
 
-// Writes an archive's rows from a place on and before another, the older first. Rows that were never written
-// need not be looked at: they are the oldest.
+// Writes an archive's rows from index `from` to before `to`. Row 0 is the oldest. The unwritten rows are the oldest, so
+// they need not be read.
 fn write_run<W: Write>(
     out: &mut PieceWriter<'_, W>,
     database: &Database,
@@ -140,8 +141,8 @@ fn write_run<W: Write>(
         → Gathers W.contents out.old out.new
         (spelled (row_pieces (slice_range a.rows from to))) result }
 {
-    // So the cells are few enough to be counted.
-    database.is_valid();
+    // The prover needs that the number of cells is small.
+    database_is_valid(database);
     let unwritten = database
         .unwritten_rows(archive)
         .min(to)
@@ -150,8 +151,7 @@ fn write_run<W: Write>(
     write_rows_between(out, database.rows(archive), from + unwritten, to)
 }
 
-// Writes the cells of an archive: slot by slot, its rows from the place of the first slot on, and then
-// those before it.
+// Writes the cells of an archive, slot by slot: its rows from the index of slot 0 on, and then the rows before it.
 fn write_slots<W: Write>(
     out: &mut PieceWriter<'_, W>,
     database: &Database,
@@ -163,8 +163,8 @@ fn write_slots<W: Write>(
         (spelled (map OfCell (cells_by_slot database.now.content.step database.now.content.last a))) result }
 {
     rows_stand_in_slots();
-    // So times and numbers of rows are small.
-    database.is_valid();
+    // The prover needs that times and numbers of rows are small.
+    database_is_valid(database);
     let def = database.archive(archive);
     let first = first_place(def.resolution(database.step()), database.last(), def.rows);
     write_run(out, database, archive, first, def.rows)?;
@@ -185,7 +185,7 @@ pub(crate) fn write_cells<W: Write>(
     Ok(())
 }
 
-/// A cell, and the bytes behind it.
+/// Returns a cell, and the bytes after it.
 pub(crate) fn cell_of(bytes: &[u8]) -> (Cell, &[u8])
     requires { CELL_SIZE ≤ length bytes.now }
     ensures spelled { bytes.now ≡ spelling.cell_bytes result.0 ++ result.1.now }
@@ -199,8 +199,8 @@ pub(crate) fn cell_of(bytes: &[u8]) -> (Cell, &[u8])
     (Cell::Known(number), rest)
 }
 
-// Writes the cell of a number, unless it is past the greatest rate: whether it did. It writes in both branches,
-// since a cell that is chosen first and written then takes longer.
+// Writes the cell of a number, and returns true, unless the number is larger in size than the maximum rate. Both
+// branches write: choosing a cell first and writing it after would take longer.
 fn put_number(place: &mut Cell, number: i128) -> bool
     ensures spelled { result ≡ true → spelling.signed_bytes number ≡ spelling.cell_bytes place.new }
     ensures bounded { result ≡ true → IsBounded place.new }
@@ -216,7 +216,7 @@ fn put_number(place: &mut Cell, number: i128) -> bool
     false
 }
 
-// Cells, as many as there is room for, up to the first that is past the greatest rate: answers how many.
+// Writes cells up to the first that is larger in size than the maximum rate, and returns how many.
 fn cells_of(bytes: &[u8], cells: &mut [Cell]) -> usize
     requires { length bytes.now ≡ CELL_SIZE * length cells.old }
     ensures few { result ≤ length cells.new }
@@ -235,7 +235,7 @@ fn cells_of(bytes: &[u8], cells: &mut [Cell]) -> usize
     cells.len()
 }
 
-// How many of the cells in front are unknown, counted by as many as a row has at most.
+// Returns how many of the first cells are unknown. Counts at most a row of them at a time.
 fn unknown_front(bytes: &[u8]) -> usize
     ensures few { CELL_SIZE * result ≤ length bytes.now }
     ensures spelled { take (CELL_SIZE * result) bytes.now ≡ flat_map spelling.cell_bytes (replicate result Unknown) }
@@ -254,7 +254,7 @@ fn unknown_front(bytes: &[u8]) -> usize
     count
 }
 
-// Reads a cell that waits. It is looked at where it waits, and left once the database took it.
+// Reads one waiting cell. The cell is checked in the buffer, and skipped after the database took it.
 fn read_cell<R: Read + Drop>(
     input: &mut PieceReader<R>,
     build: &mut Rebuild,
@@ -274,7 +274,7 @@ fn read_cell<R: Read + Drop>(
     }
 }
 
-// Takes unknown cells that wait and make whole rows: answers how many.
+// Takes the unknown cells that wait and make whole rows, and returns how many.
 fn take_unknown<R: Read + Drop>(input: &mut PieceReader<R>, build: &mut Rebuild) -> usize
     ensures steps { (bytes : List ℕ) → 0 < result → Stands bytes (Body build.old) input.old
         → Stands bytes (Body build.new) input.new }
@@ -288,8 +288,8 @@ fn take_unknown<R: Read + Drop>(input: &mut PieceReader<R>, build: &mut Rebuild)
     taken
 }
 
-// Takes cells that wait and make whole rows, up to the first that is past the greatest rate, as far as there is
-// room for them: answers how many.
+// Takes the cells that wait and make whole rows, at most those that fit into `room`, up to the first that is larger in
+// size than the maximum rate. Returns how many.
 fn take_rows<R: Read + Drop>(
     input: &mut PieceReader<R>,
     build: &mut Rebuild,
@@ -311,8 +311,9 @@ fn take_rows<R: Read + Drop>(
     taken
 }
 
-// Waits until the cells of a row came, or there are no more. Each is looked at before the next one is waited for:
-// one that is past the greatest rate is told before a read behind it fails, so nothing is waited for behind it.
+// Waits until the cells of a row are there, or the input ends. Each cell is checked before the next one is awaited: a
+// cell that is larger in size than the maximum rate must be reported before a later read can fail, so nothing after it
+// is awaited.
 fn gather_row<R: Read + Drop>(
     input: &mut PieceReader<R>,
     cells_in_row: usize,
@@ -340,8 +341,7 @@ fn gather_row<R: Read + Drop>(
     Ok(())
 }
 
-// Reads cells that wait: as many as make whole rows. Where there are none, the next one is read alone, which
-// tells why.
+// Reads the waiting cells that make whole rows. If there are none, reads the next cell alone, which finds its error.
 fn read_some_cells<R: Read + Drop>(
     input: &mut PieceReader<R>,
     build: &mut Rebuild,
@@ -362,7 +362,7 @@ fn read_some_cells<R: Read + Drop>(
     read_cell(input, build)
 }
 
-/// Reads a cell, and those behind it that came with it: by whole rows, but where the input ends within one.
+/// Reads a cell and the cells after it that are there, by whole rows except at the end of the input.
 pub(crate) fn read_cells<R: Read + Drop>(
     input: &mut PieceReader<R>,
     build: &mut Rebuild,

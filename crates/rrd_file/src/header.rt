@@ -1,14 +1,13 @@
-//! The front of a file, both ways: the mark, the version and the header.
+//! The mark, the version and the header of a file: writing and reading.
 ghost use Rattle.std.specs.Prelude.{◌≡◌, ◌<◌, ◌≤◌, ◌∷◌, [], ◌+◌, ℕ, ◌++◌, List, length};
 ghost use Rattle.rrd_spec.specs.Files.Filed.{header_of};
 ghost use Rattle.rrd_spec.specs.Limits.{newest};
-ghost use Rattle.rrd_spec.specs.declared.version.Version.TheVariants.{One, Two};
 ghost use Rattle.rrd_file.specs.Writer.{Gathers};
 ghost use Rattle.rrd_file.specs.Layout.{spelled};
 ghost use Rattle.rrd_file.specs.Layout.Pieces.{Mark, OfHeader, OfVersion, count_bytes, spell};
 ghost use Rattle.rrd_file.specs.Stages.{Body, Marked, Start, Versioned, count_size, header_size};
-ghost use Rattle.rrd_file.specs.Progress.{Reaches, ReadsHeader, Stands};
-ghost use Rattle.rrd_file.specs.Said.{header_said};
+ghost use Rattle.rrd_file.specs.Progress.{Reaches, Stands};
+ghost use Rattle.rrd_base.specs.Rebuild.Begins.{header_said};
 ghost use Rattle.rrd_file.specs.Layout.Fitting.{FitsHeader, counts};
 
 use crate::FileFault;
@@ -20,7 +19,7 @@ use crate::layout::{
 use crate::reader::PieceReader;
 use crate::values::{eight_of, four_of, two_of};
 use crate::writer::PieceWriter;
-use rrd_base::{Database, Rebuild, Version};
+use rrd_base::{Database, Header, Rebuild, Version, database_is_valid};
 use rrd_fixed::WriteFault;
 use std::alloc::Global;
 use std::io::{Read, Write};
@@ -34,7 +33,7 @@ pub(crate) fn write_header<W: Write>(
     ensures { Gathers W.contents out.old out.new
         (spelled (Mark ∷ OfVersion newest ∷ OfHeader (header_of newest database.now) ∷ [])) result }
 {
-    database.is_valid();
+    database_is_valid(database);
     out.make_room()?;
     out.block.add(&MARK);
     out.block.two(version_number(Version::Two));
@@ -72,18 +71,7 @@ pub(crate) fn read_version<R: Read + Drop>(input: &mut PieceReader<R>) -> Result
     }
 }
 
-/// What a header says.
-#[derive(Clone, Copy)]
-struct HeaderRead {
-    step: u64,
-    last: u64,
-    depth: u64,
-    sources: u64,
-    archives: u64,
-    entries: u64,
-}
-
-// A count of a header in a version, and the bytes behind it.
+// Returns a count in the header of a version, and the bytes after it.
 fn count_of(version: Version, bytes: &[u8]) -> (u64, &[u8])
     requires { count_size version ≤ length bytes.now }
     ensures spelled { bytes.now ≡ count_bytes version result.0 ++ result.1.now }
@@ -96,11 +84,22 @@ fn count_of(version: Version, bytes: &[u8]) -> (u64, &[u8])
     }
 }
 
-// The header of a version.
-fn header_of(version: Version, bytes: &[u8]) -> HeaderRead
+// Returns the number of bytes in a header of a version.
+fn header_length(version: Version) -> usize
+    ensures { result ≡ header_size version }
+{
+    match version {
+        Version::One => FIRST_HEADER_SIZE,
+        Version::Two => SECOND_HEADER_SIZE,
+    }
+}
+
+// Returns the header of a version.
+fn header_of(version: Version, bytes: &[u8]) -> Header
     requires { length bytes.now ≡ header_size version }
-    ensures spelled { spell (OfHeader (header_said version result)) ≡ bytes.now }
-    ensures fits { FitsHeader (header_said version result) }
+    ensures version { result.version ≡ version }
+    ensures spelled { spell (OfHeader (header_said result)) ≡ bytes.now }
+    ensures fits { FitsHeader (header_said result) }
 {
     let (step, rest) = four_of(bytes);
     let (last, rest) = eight_of(rest);
@@ -108,7 +107,8 @@ fn header_of(version: Version, bytes: &[u8]) -> HeaderRead
     let (sources, rest) = two_of(rest);
     let (archives, rest) = two_of(rest);
     let (entries, _) = count_of(version, rest);
-    HeaderRead {
+    Header {
+        version,
         step,
         last,
         depth,
@@ -118,41 +118,7 @@ fn header_of(version: Version, bytes: &[u8]) -> HeaderRead
     }
 }
 
-// Reads a header of the first version.
-fn read_first_header<R: Read + Drop>(input: &mut PieceReader<R>) -> Result<HeaderRead, FileFault>
-    ensures { (bytes : List ℕ) → Stands bytes (Versioned One) input.old
-        → ReadsHeader bytes One input.old input.new result }
-{
-    let mut piece = [0u8; FIRST_HEADER_SIZE];
-    input.piece(&mut piece)?;
-    Ok(header_of(Version::One, &piece))
-}
-
-// Reads a header of the second version.
-fn read_second_header<R: Read + Drop>(input: &mut PieceReader<R>) -> Result<HeaderRead, FileFault>
-    ensures { (bytes : List ℕ) → Stands bytes (Versioned Two) input.old
-        → ReadsHeader bytes Two input.old input.new result }
-{
-    let mut piece = [0u8; SECOND_HEADER_SIZE];
-    input.piece(&mut piece)?;
-    Ok(header_of(Version::Two, &piece))
-}
-
-// Reads a header.
-fn read_said_header<R: Read + Drop>(
-    input: &mut PieceReader<R>,
-    version: Version,
-) -> Result<HeaderRead, FileFault>
-    ensures { (bytes : List ℕ) → Stands bytes (Versioned version) input.old
-        → ReadsHeader bytes version input.old input.new result }
-{
-    match version {
-        Version::One => read_first_header(input),
-        Version::Two => read_second_header(input),
-    }
-}
-
-/// Reads the header, and begins the database.
+/// Reads the header, and starts the database.
 pub(crate) fn read_header<R: Read + Drop>(
     alloc: Global,
     input: &mut PieceReader<R>,
@@ -162,18 +128,10 @@ pub(crate) fn read_header<R: Read + Drop>(
         → Reaches bytes Body input.new result }
 {
     let at = input.at();
-    let said = read_said_header(input, version)?;
-    let begun = Rebuild::begin(
-        alloc,
-        version,
-        said.step,
-        said.last,
-        said.depth,
-        said.sources,
-        said.archives,
-        said.entries,
-    );
-    match begun {
+    let mut room = [0u8; SECOND_HEADER_SIZE];
+    let piece = &mut room[..header_length(version)];
+    input.piece(piece)?;
+    match Rebuild::with_header(alloc, header_of(version, piece)) {
         Ok(build) => Ok(build),
         Err(fault) => Err(block_fault(fault, at)),
     }

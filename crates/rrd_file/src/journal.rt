@@ -1,4 +1,4 @@
-//! The journal's entries, newest first, both ways.
+//! The entries of the journal, newest first: writing and reading.
 ghost use Rattle.std.specs.List.{flat_map};
 ghost use Rattle.std.specs.Prelude.{◌≡◌, ◌∷◌, [], ℕ, IfOk, List, OnOk, true};
 ghost use Rattle.rrd_spec.specs.Files.Rebuilding.{due, limits, outline_left};
@@ -18,7 +18,7 @@ use crate::reader::PieceReader;
 use crate::writer::PieceWriter;
 use added_removed::{read_removed, write_added, write_removed};
 use resize::{read_resize, write_resize};
-use rrd_base::{Database, Entry, Rebuild};
+use rrd_base::{Database, Entry, Rebuild, database_is_valid};
 use rrd_fixed::WriteFault;
 use std::alloc::Global;
 use std::io::{Read, Write};
@@ -54,15 +54,15 @@ pub(crate) fn write_entries<W: Write>(
     ensures { Gathers W.contents out.old out.new
         (spelled (flat_map entry_pieces database.now.journal)) result }
 {
-    // So each entry is one of a valid content, and its numbers fit their bytes.
-    database.is_valid();
+    // The prover needs that each entry is one of a valid content, so that its numbers fit their bytes.
+    database_is_valid(database);
     for number in 0..database.undoable() {
         write_entry(out, database.entry(number))?;
     }
     Ok(())
 }
 
-// Whether the file's version has this tag: archives come and go in the newest alone.
+// Returns whether the file's version has this tag: only the newest version has entries for added and removed archives.
 fn is_within(tag: Tag, build: &Rebuild) -> bool
     ensures good { result ≡ true → IsTagWithin (limits build.now) (tag_said tag) }
     ensures bad { IsTagWithin (limits build.now) (tag_said tag) → result ≡ true }
@@ -73,7 +73,7 @@ fn is_within(tag: Tag, build: &Rebuild) -> bool
     }
 }
 
-// Reads an entry's tag.
+// Reads the tag of an entry.
 fn read_tag<R: Read + Drop>(input: &mut PieceReader<R>, build: &Rebuild) -> Result<Tag, FileFault>
     requires { due build.now ≡ EntryDue }
     ensures { (bytes : List ℕ) → Stands bytes (Body build.now) input.old
@@ -90,8 +90,8 @@ fn read_tag<R: Read + Drop>(input: &mut PieceReader<R>, build: &Rebuild) -> Resu
     Ok(tag)
 }
 
-// Reads all pieces of an entry.
-fn read_pieces<R: Read + Drop>(
+// Reads all records of an entry.
+fn read_untaken<R: Read + Drop>(
     alloc: Global,
     input: &mut PieceReader<R>,
     build: &Rebuild,
@@ -122,7 +122,7 @@ pub(crate) fn read_entry<R: Read + Drop>(
     ensures one_more { OnOk result (HasOneMore build.old build.new) }
 {
     let number = build.entries() + 1;
-    let entry = read_pieces(alloc, input, build)?;
+    let entry = read_untaken(alloc, input, build)?;
     match build.entry(entry) {
         Ok(()) => Ok(()),
         Err(fault) => Err(entry_fault(fault, number)),

@@ -1,4 +1,4 @@
-//! Laws of the layout alone. Each is the contract of a function that does nothing.
+//! Theorems on the layout alone. Each is the contract of a function that does nothing at run time.
 ghost use Rattle.std.specs.Prelude.{ℕ, List};
 ghost use Rattle.rrd_spec.specs.Commands.{DatabaseChange};
 ghost use Rattle.rrd_spec.specs.Journal.Survivors.{Stored};
@@ -11,45 +11,45 @@ use rrd_spec::laws::{
     revert_takes_back, versions_stay_within,
 };
 
-/// The definition gives two files that are known byte by byte.
+/// Theorem: the definition gives two known files, byte by byte.
 pub fn examples()
     ensures new { worked.NewFile }
     ensures sampled { worked.SampledFile }
 {}
 
-/// A piece that may come has as many bytes as are due.
+/// Theorem: a record that may come has as many bytes as are due.
 pub fn sizes()
     ensures { laws.PiecesHaveTheirSize }
 {}
 
-/// Of the pieces that may come at a stage that a file reaches, no two are spelled alike.
+/// Theorem: no two records that may come at a stage of a file have the same bytes.
 pub fn one_spelling()
     ensures { laws.PiecesHaveOneSpelling }
 {}
 
-/// Of the entries that may come behind a front of a body, no two have the same pieces.
+/// Theorem: no two entries that may come after the same records have the same records.
 pub fn one_entry()
     ensures { laws.EntriesHaveOneSpelling }
 {}
 
-/// Values that fit their bytes and have the same bytes are one.
+/// Theorem: values that fit their bytes, and have the same bytes, are equal.
 pub fn one_value()
     ensures { laws.ValuesHaveOneSpelling }
 {}
 
-/// A database's file is its layout.
+/// Theorem: the file of a database is its layout.
 pub fn file_is_layout()
     ensures { (bytes : List ℕ) (d : Stored) → laws.FileIsLayout bytes d }
 {}
 
-/// An input has one answer, but for failures of the reader and of memory.
+/// Theorem: an input has one result, except for failures of the reader and of memory.
 pub fn one_answer()
     ensures { (bytes : List ℕ) → laws.HasOneAnswer bytes }
 {
     databases_are_filed_once();
 }
 
-/// The layout of a valid database, in each version, is the file of that database, and of no other.
+/// Theorem: the layout of a valid database, in each version, is the file of that database, and of no other.
 pub fn layout_is_file()
     ensures read { (version : Version) (d : Stored) → laws.LayoutIsItsFile version d }
     ensures no_other { (version : Version) (d : Stored) → laws.LayoutIsNoOther version d }
@@ -61,8 +61,9 @@ pub fn layout_is_file()
     versions_stay_within();
 }
 
-/// Different valid databases have different layouts, in one version and in two, and none is the front
-/// of another.
+/// Theorem: different valid databases have different layouts, and no layout is a prefix of another.
+///
+/// The theorem holds within one version and between two.
 pub fn layouts_differ()
     ensures { (v w : Version) (d e : Stored) (more : List ℕ) → laws.NoFrontOfAnother v w d e more }
 {
@@ -73,8 +74,9 @@ pub fn layouts_differ()
     versions_stay_within();
 }
 
-/// A revert of an accepted command gives the file back, byte by byte, but for the oldest entry of a
-/// full journal.
+/// Theorem: a revert of an accepted command restores the file, byte by byte.
+///
+/// The oldest entry of a full journal is lost.
 pub fn bytes_come_back()
     ensures whole { (d : Stored) (command : DatabaseChange) → laws.BytesComeBack d command }
     ensures full { (d : Stored) (command : DatabaseChange) → laws.BytesComeBackButOldest d command }

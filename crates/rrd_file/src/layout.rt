@@ -1,5 +1,5 @@
-//! What the two ways of a file share: its mark, the numbers of its versions, the bytes of its pieces, the
-//! tags of its entries, and the number that stands for what is absent.
+//! The constants that the writer and the reader of a file share: the mark, the versions, the sizes of records, the tags
+//! of entries, and the number that represents an absent value.
 ghost use Rattle.std.specs.Prelude.{◌≡◌, ◌≢◌, ◌*◌, ◌≤◌, IfSome, None, length, replicate};
 ghost use Rattle.std.specs.List.{flat_map};
 ghost use Rattle.rrd_fixed.specs.declared.cell.Cell.TheVariants.{Unknown};
@@ -10,85 +10,86 @@ ghost use Rattle.rrd_file.specs.Layout.Pieces as pieces;
 ghost use Rattle.rrd_file.specs.Layout.Values as spelling;
 
 use rrd_base::Version;
+use rrd_spec::limits::MOST_SOURCES;
 
-/// The letters that a file begins with.
+/// The letters at the start of a file.
 pub(crate) const MARK: [u8; MARK_SIZE] = *b"RRDI";
 
-/// The bytes of the mark.
+/// The size of the mark, in bytes.
 pub(crate) const MARK_SIZE: usize = 4;
 
-/// The bytes of the version.
+/// The size of the version, in bytes.
 pub(crate) const VERSION_SIZE: usize = 2;
 
-/// The bytes of a header of the first version.
+/// The size of a header of version 1, in bytes.
 pub(crate) const FIRST_HEADER_SIZE: usize = 20;
 
-/// The bytes of a header of the second version.
+/// The size of a header of version 2, in bytes.
 pub(crate) const SECOND_HEADER_SIZE: usize = 24;
 
-/// The bytes of a name: its length, its characters, and zeros.
+/// The size of a name, in bytes: its length, its characters, and zeros.
 pub(crate) const NAME_SIZE: usize = 20;
 
-/// The bytes of a cell, and of any number that may be absent or negative.
+/// The size of a cell, and of any number that may be absent or negative, in bytes.
 pub(crate) const CELL_SIZE: usize = 16;
 
-/// The bytes of a preparation: how many are known, and what they come to.
+/// The size of a partial step or row, in bytes: the count of known seconds or steps, and their value.
 pub(crate) const PREP_SIZE: usize = 4 + CELL_SIZE;
 
-/// The bytes of a data source's settings: its name, type, heartbeat and bounds.
+/// The size of a data source's settings, in bytes: its name, type, heartbeat and bounds.
 pub(crate) const SETTINGS_SIZE: usize = NAME_SIZE + 1 + 8 + 2 * CELL_SIZE;
 
-/// The bytes of a data source: its settings, and what an update replaces of it. No piece has more.
+/// The size of a data source, in bytes: its settings, and the values that an update replaces. No record is larger.
 pub(crate) const SOURCE_SIZE: usize = SETTINGS_SIZE + BEFORE_UPDATE_SIZE;
 
-/// The bytes of an archive's settings: its function, steps, share of unknown steps, and rows.
+/// The size of an archive's settings, in bytes: its function, steps, share of unknown steps, and rows.
 pub(crate) const ARCHIVE_SIZE: usize = 1 + 4 + 4 + ROWS_SIZE;
 
-/// The bytes of an entry's tag.
+/// The size of an entry's tag, in bytes.
 pub(crate) const TAG_SIZE: usize = 1;
 
-/// The bytes of the last time before an update.
+/// The size of the last time before an update, in bytes.
 pub(crate) const TIME_SIZE: usize = 8;
 
-/// The bytes of a data source before an update: its last raw value and its preparation.
+/// The size of a data source before an update, in bytes: its last raw value and its partial step.
 pub(crate) const BEFORE_UPDATE_SIZE: usize = CELL_SIZE + PREP_SIZE;
 
-/// The bytes of a number of rows.
+/// The size of a number of rows, in bytes.
 pub(crate) const ROWS_SIZE: usize = 4;
 
-/// The bytes of how many sources a tune named.
+/// The size of the number of data sources that a tune named, in bytes.
 pub(crate) const COUNT_SIZE: usize = 2;
 
-/// The bytes of the number of a source or an archive.
+/// The size of the number of a data source or an archive, in bytes.
 pub(crate) const NUMBER_SIZE: usize = 2;
 
-/// The bytes of a data source before a tune: its number, its settings, and its last raw value.
+/// The size of a data source before a tune, in bytes: its number, its settings, and its last raw value.
 pub(crate) const BEFORE_TUNE_SIZE: usize = NUMBER_SIZE + SETTINGS_SIZE + CELL_SIZE;
 
-/// The number that stands for what is absent, which no value is: the least.
+/// The number that represents an absent value: the minimum, which no value is.
 pub(crate) const ABSENT: i128 = i128::MIN;
 
-/// Its higher eight bytes.
+/// The higher eight bytes of `ABSENT`.
 pub(crate) const ABSENT_HIGH: u64 = ((ABSENT >> 64) & 0xffff_ffff_ffff_ffff) as u64;
 
-/// Its lower eight bytes.
+/// The lower eight bytes of `ABSENT`.
 pub(crate) const ABSENT_LOW: u64 = (ABSENT & 0xffff_ffff_ffff_ffff) as u64;
 
-/// Its first byte. All others are zero.
+/// The first byte of `ABSENT`. All other bytes are zero.
 const TOP: u8 = (ABSENT_HIGH >> 56) as u8;
 
-/// Its bytes: `unknown_bytes` is proved to give those of unknown cells by them.
+/// The bytes of `ABSENT`. The proof of `unknown_bytes` shows that they are those of unknown cells.
 const ABSENT_BYTES: [u8; CELL_SIZE] = [
     TOP, 0, 0, 0, 0, 0, 0, 0, 0, 0, 0, 0, 0, 0, 0, 0, //
 ];
 
-/// The cells of the widest row.
-pub(crate) const WIDEST: usize = 64;
+/// The maximum number of cells in a row.
+pub(crate) const WIDEST: usize = MOST_SOURCES;
 
-/// As many unknown cells, each by its bytes.
+/// The bytes of a row of unknown cells.
 static UNKNOWN: [[u8; CELL_SIZE]; WIDEST] = [ABSENT_BYTES; WIDEST];
 
-/// The bytes of so many unknown cells, at most 64.
+/// Returns the bytes of `count` unknown cells, at most 64.
 pub(crate) fn unknown_bytes(count: usize) -> &'static [u8]
     requires { count ≤ WIDEST }
     ensures bytes { result.now ≡ flat_map spelling.cell_bytes (replicate count Unknown) }
@@ -97,7 +98,7 @@ pub(crate) fn unknown_bytes(count: usize) -> &'static [u8]
     UNKNOWN[..count].as_flattened()
 }
 
-/// The number of a version.
+/// Returns the number of a version.
 pub(crate) fn version_number(version: Version) -> u64
     ensures { result ≡ pieces.version_number version }
 {
@@ -107,7 +108,7 @@ pub(crate) fn version_number(version: Version) -> u64
     }
 }
 
-/// The version of a number.
+/// Returns the version with a number.
 pub(crate) fn version_of(number: u64) -> Option<Version>
     ensures some { IfSome result (λ version. pieces.version_number version ≡ number) }
     ensures none { result ≡ None → (version : SomeVersion) → pieces.version_number version ≢ number }
@@ -119,7 +120,7 @@ pub(crate) fn version_of(number: u64) -> Option<Version>
     }
 }
 
-/// What an entry undoes.
+/// The kind of change that an entry undoes.
 #[derive(Clone, Copy)]
 pub(crate) enum Tag {
     AnUpdate,
@@ -129,7 +130,7 @@ pub(crate) enum Tag {
     ARemoval,
 }
 
-/// The byte of a tag.
+/// Returns the byte of a tag.
 pub(crate) fn tag_byte(tag: Tag) -> u8
     ensures { result ≡ pieces.tag_byte (tag_said tag) }
 {
@@ -142,7 +143,7 @@ pub(crate) fn tag_byte(tag: Tag) -> u8
     }
 }
 
-/// The tag that a byte stands for.
+/// Returns the tag with a byte.
 pub(crate) fn tag_of(byte: u8) -> Option<Tag>
     ensures some { IfSome result (λ tag. pieces.tag_byte (tag_said tag) ≡ byte) }
     ensures none { result ≡ None → (tag : pieces.Tag) → pieces.tag_byte tag ≢ byte }
@@ -157,7 +158,7 @@ pub(crate) fn tag_of(byte: u8) -> Option<Tag>
     }
 }
 
-/// The number that is written of a value, if there is one.
+/// Returns the number that is written for a value, which may be absent.
 pub(crate) fn number_of(value: Option<i128>) -> i128
     ensures { result ≡ spelling.bound_number value }
 {
@@ -167,7 +168,7 @@ pub(crate) fn number_of(value: Option<i128>) -> i128
     }
 }
 
-/// The value that a number was written of, if there was one.
+/// Returns the value for which a number was written, `None` if it was absent.
 pub(crate) fn value_of(number: i128) -> Option<i128>
     ensures spelled { spelling.bound_number result ≡ number }
     ensures fits { FitsBound result }

@@ -1,5 +1,5 @@
-//! How many bytes a database has in a file. They are computed from how many sources, archives, rows and
-//! entries it has, so that no cell is looked at.
+//! The size of a database's file. It follows from the numbers of data sources, archives, rows and entries, so that no
+//! cell is read.
 ghost use Rattle.std.specs.Prelude.{ℕ, ◌≡◌, ◌≤◌, ◌*◌, length};
 ghost use Rattle.std.specs.List.{AllByRecursion, flat_map, sum_by};
 ghost use Rattle.rrd_base.specs.Journal.{entry_of, update_of};
@@ -16,47 +16,47 @@ use crate::layout::{
     NUMBER_SIZE, PREP_SIZE, ROWS_SIZE, SECOND_HEADER_SIZE, SOURCE_SIZE, TAG_SIZE, TIME_SIZE,
     VERSION_SIZE,
 };
-use rrd_base::{BeforeUpdate, Database, Entry, Rra, SavedArchive, SourceBefore};
+use rrd_base::{BeforeUpdate, Database, Entry, Rra, SavedArchive, SourceBefore, database_is_valid};
 use rrd_ring::Archive;
 use rrd_spec::laws::{cells_stand_in_slots, outlines_judge_entries};
 
-// Bytes of the mark, the version and the header.
+// The size of the mark, the version and the header, in bytes.
 const HEADER: u64 = (MARK_SIZE + VERSION_SIZE + SECOND_HEADER_SIZE) as u64;
 
-// Bytes of a data source.
+// The size of a data source, in bytes.
 const SOURCE: u64 = SOURCE_SIZE as u64;
 
-// Bytes of an archive's settings.
+// The size of an archive's settings, in bytes.
 const ARCHIVE: u64 = ARCHIVE_SIZE as u64;
 
-// Bytes of a source's preparation in an archive.
+// The size of the partial row of one data source, in bytes.
 const PREP: u64 = PREP_SIZE as u64;
 
-// Bytes of a cell.
+// The size of a cell, in bytes.
 const CELL: u64 = CELL_SIZE as u64;
 
-// Bytes of a number of rows.
+// The size of a number of rows, in bytes.
 const ROWS: u64 = ROWS_SIZE as u64;
 
-// Bytes of an update's tag and the last time before it.
+// The size of an update's tag and the last time before the update, in bytes.
 const UPDATE: u64 = (TAG_SIZE + TIME_SIZE) as u64;
 
-// Bytes of a source before an update.
+// The size of a data source before an update, in bytes.
 const BEFORE_UPDATE: u64 = BEFORE_UPDATE_SIZE as u64;
 
-// Bytes of a tune's tag and how many sources it named.
+// The size of a tune's tag and the number of data sources that the tune named, in bytes.
 const TUNE: u64 = (TAG_SIZE + COUNT_SIZE) as u64;
 
-// Bytes of a source before a tune.
+// The size of a data source before a tune, in bytes.
 const BEFORE_TUNE: u64 = BEFORE_TUNE_SIZE as u64;
 
-// Bytes of the tag and the archive's number, of a resize or a removal.
+// The size of the tag and the archive's number, in an entry of a resize or a removal, in bytes.
 const NUMBERED: u64 = (TAG_SIZE + NUMBER_SIZE) as u64;
 
-// Bytes of an addition: its tag says all.
+// The size of an entry of an addition, in bytes: it has only a tag.
 const ADDITION: u64 = TAG_SIZE as u64;
 
-// Bytes of so many rows, with a cell for each of so many sources.
+// Returns the size of `rows` rows with a cell for each of `sources` data sources.
 fn rows_length(rows: u64, sources: u64) -> u64
     requires few_rows { rows ≤ most_rows }
     requires few_sources { sources ≤ most_sources }
@@ -66,7 +66,7 @@ fn rows_length(rows: u64, sources: u64) -> u64
     rows * sources * CELL
 }
 
-// Bytes of what an update replaced of an archive: preparations, a number of rows, and those rows.
+// Returns the size of the values that an update replaced in an archive: partial rows, a number of rows, and those rows.
 fn saved_length(saved: &SavedArchive, sources: u64) -> u64
     requires few_sources { sources ≤ most_sources }
     requires wide { IsWide sources saved.now }
@@ -76,7 +76,7 @@ fn saved_length(saved: &SavedArchive, sources: u64) -> u64
     PREP * sources + ROWS + rows_length(saved.rows().len(), sources)
 }
 
-// Bytes of what an update replaced of all archives.
+// Returns the size of the values that an update replaced in all archives.
 fn all_saved_length(saved: &[SavedArchive], sources: u64) -> u64
     requires few_archives { length saved.now ≤ present.most_archives }
     requires few_sources { sources ≤ most_sources }
@@ -91,7 +91,7 @@ fn all_saved_length(saved: &[SavedArchive], sources: u64) -> u64
     length
 }
 
-// Bytes of an update's entry: its tag and the last time, then source by source, then archive by archive.
+// Returns the size of an update's entry: the tag and the last time, then the data sources, then the archives.
 fn update_length(before: &BeforeUpdate) -> u64
     requires { IsEntryOfSome (UpdateEntry (update_of before.now)) }
     ensures count { result ≡ length (spelled (entry_pieces (UpdateEntry (update_of before.now)))) }
@@ -101,18 +101,18 @@ fn update_length(before: &BeforeUpdate) -> u64
     UPDATE + BEFORE_UPDATE * sources + all_saved_length(&before.archives, sources)
 }
 
-// Bytes of a tune's entry: its tag and a number of sources, then those.
+// Returns the size of a tune's entry: the tag and a number of data sources, then those data sources.
 fn tune_length(olds: &[SourceBefore]) -> u64
     requires { IsEntryOfSome (TuneEntry olds.now) }
     ensures count { result ≡ length (spelled (entry_pieces (TuneEntry olds.now))) }
     ensures few { result ≤ most_of_entry }
 {
-    // So each source has a good name, which fits its twenty bytes.
+    // The prover needs that each name is valid, and so fits its twenty bytes.
     outlines_judge_entries();
     TUNE + BEFORE_TUNE * olds.len() as u64
 }
 
-// Bytes of a resize's entry: its tag, the archive's number and the number of rows, then those.
+// Returns the size of a resize's entry: the tag, the archive's number and the number of rows, then those rows.
 fn resize_length(old: &Archive) -> u64
     ensures count { (archive : ℕ) → result ≡ length (spelled (entry_pieces (ResizeEntry archive old.now))) }
     ensures few { result ≤ most_of_entry }
@@ -120,8 +120,8 @@ fn resize_length(old: &Archive) -> u64
     NUMBERED + ROWS + rows_length(old.rows(), old.sources())
 }
 
-// Bytes of the entry of an archive that was removed: its tag, the archive's number and settings, then
-// preparations and rows.
+// Returns the size of the entry of a removed archive: the tag, the archive's number and settings, then the partial rows
+// and the rows.
 fn removed_length(old: &Rra) -> u64
     requires { length old.now.parts ≤ most_sources }
     ensures count { (number : ℕ) → result ≡ length (spelled (entry_pieces (RemovedEntry number old.now))) }
@@ -132,7 +132,7 @@ fn removed_length(old: &Rra) -> u64
     NUMBERED + ARCHIVE + preparations + rows_length(rows.rows(), rows.sources())
 }
 
-// Bytes of an entry.
+// Returns the size of an entry.
 fn entry_length(entry: &Entry) -> u64
     requires { IsEntryOfSome (entry_of entry.now) }
     ensures count { result ≡ length (spelled (entry_pieces (entry_of entry.now))) }
@@ -147,13 +147,13 @@ fn entry_length(entry: &Entry) -> u64
     }
 }
 
-// Bytes of all entries.
+// Returns the size of all entries.
 fn entries_length(database: &Database) -> u64
     ensures count { result ≡ length (spelled (flat_map entry_pieces database.now.journal)) }
     ensures few { result ≤ most_of_entries }
 {
-    // So each entry is one of a valid content, and its numbers are small.
-    database.is_valid();
+    // The prover needs that each entry is one of a valid content, so that its numbers are small.
+    database_is_valid(database);
     let mut length = 0;
     for number in 0..database.undoable() {
         length += entry_length(database.entry(number));
@@ -161,13 +161,13 @@ fn entries_length(database: &Database) -> u64
     length
 }
 
-// The rows of all archives.
+// Returns the number of rows in all archives.
 fn rows_in_all(database: &Database) -> u64
     ensures count { result ≡ sum_by rows_of database.now.content.archives }
     ensures few { result ≤ most_rows_in_all }
 {
-    // So each archive has few rows.
-    database.is_valid();
+    // The prover needs that each archive has at most 1,000,000 rows.
+    database_is_valid(database);
     let mut rows = 0;
     for number in 0..database.archives() {
         rows += database.archive(number).rows;
@@ -175,21 +175,22 @@ fn rows_in_all(database: &Database) -> u64
     rows
 }
 
-// Bytes of what comes between the header and the entries: sources, heads, cells.
+// Returns the size of the records between the header and the entries: data sources, archive headers, cells.
 fn body_length(database: &Database) -> u64
     ensures count { result ≡ length (spelled (body_pieces (filed newest database.now))) }
     ensures few { result ≤ most_of_body }
 {
     cells_stand_in_slots();
-    database.is_valid();
+    database_is_valid(database);
     let sources = database.sources();
     let heads = database.archives() * (ARCHIVE + PREP * sources);
     SOURCE * sources + heads + rows_in_all(database) * sources * CELL
 }
 
-/// How many bytes `encode` writes of a database: those of its layout, its journal with it, at least 176. It is
-/// computed from how many sources, archives, rows and entries there are, without a look at their cells, so
-/// that room for the bytes can be made before the first is written.
+/// Returns the number of bytes that `encode` writes for a database.
+///
+/// The number is at least 176. It follows from the numbers of data sources, archives, rows and entries; no cell is
+/// read. So a caller can reserve memory for the bytes before the first is written.
 pub fn encoded_length(database: &Database) -> u64
     ensures { result ≡ length (layout database.now) }
 {

@@ -1,5 +1,6 @@
-//! The bytes of a database in a file: their definition, how they are written, and how they are read.
-//! `rrd_tests/src/examples.rt` has a caller of it, from the first call to the last.
+//! The file of a database: its definition, its writer and its reader.
+//!
+//! A file is a sequence of records, which the code names pieces. `rrd_tests/src/examples.rt` has a complete caller.
 #![tactic(auto)]
 
 ghost use Rattle.std.specs.Prelude.{◌≡◌, ◌⊎◌, ℕ, List, OnOk, Some};
@@ -42,7 +43,7 @@ mod writer;
 pub use fault::FileFault;
 pub use length::encoded_length;
 
-// Writes what comes between the header and the entries.
+// Writes the records between the header and the entries.
 fn write_body<W: Write>(out: &mut PieceWriter<'_, W>, database: &Database) -> Result<(), WriteFault>
     ensures { Gathers W.contents out.old out.new
         (spelled (body_pieces (filed newest database.now))) result }
@@ -52,7 +53,7 @@ fn write_body<W: Write>(out: &mut PieceWriter<'_, W>, database: &Database) -> Re
     write_cells(out, database)
 }
 
-// Writes the layout, of which the end waits.
+// Writes the layout. The last bytes wait in the writer.
 fn write_layout<W: Write>(
     out: &mut PieceWriter<'_, W>,
     database: &Database,
@@ -64,10 +65,15 @@ fn write_layout<W: Write>(
     write_entries(out, database)
 }
 
-/// Writes the layout of a database, its journal with it, behind what the writer has. Where a write
-/// fails, takes nothing or stays interrupted, a front of the layout is there, and not all of it; a
-/// write that is interrupted is tried again, at most 1,000 times in a row. It takes no memory, and
-/// writes up to 32,768 bytes at a time. It does not flush the writer.
+/// Writes the layout of a database, with its journal, after what the writer has.
+///
+/// Writes up to 4,096 bytes at a time. Tries an interrupted write again, at most 1,000 times in a row. Does not flush the
+/// writer. Does not allocate.
+///
+/// # Errors
+///
+/// A write failed, took nothing, or stayed interrupted. The writer then has the first part of the layout, and not all of
+/// it.
 pub fn encode<W: Write>(database: &Database, out: &mut W) -> Result<(), WriteFault>
     ensures { Writes (W.contents out.old) (W.contents out.new) (layout database.now) result }
 {
@@ -76,7 +82,7 @@ pub fn encode<W: Write>(database: &Database, out: &mut W) -> Result<(), WriteFau
     pieces.write_rest()
 }
 
-// Reads what comes between the header and the entries.
+// Reads the records between the header and the entries.
 fn read_body<R: Read + Drop>(
     input: &mut PieceReader<R>,
     build: &mut Rebuild,
@@ -113,7 +119,7 @@ fn read_entries<R: Read + Drop>(
     Ok(())
 }
 
-// Wants the end of the input.
+// Checks that the input has ended.
 fn read_end<R: Read + Drop>(input: &mut PieceReader<R>) -> Result<(), FileFault>
     ensures { (bytes : List ℕ) (f : Filed) → due f ≡ NothingDue → Stands bytes (Body f) input.old
         → Ends bytes f result }
@@ -125,8 +131,22 @@ fn read_end<R: Read + Drop>(input: &mut PieceReader<R>) -> Result<(), FileFault>
     Ok(())
 }
 
-/// The database whose layout the input is, or the first fault in file order. It reads 65,536 bytes at
-/// a time; a read that is interrupted is tried again, at most 1,000 times in a row.
+/// Reads the database whose layout the input is.
+///
+/// Reads at most 4,096 bytes at first, and later up to 65,536 bytes at a time.
+///
+/// # Errors
+/// The first fault in the order of the file's bytes:
+/// - `NotOurs`: the first four bytes are not the mark.
+/// - `Version`: the version is neither 1 nor 2.
+/// - `BadBlock`: a record of the header, the data sources, the archives or the cells breaks its rule.
+/// - `BadEntry`: a record of a journal entry breaks its rule.
+/// - `Trailing`: a byte follows the last entry.
+/// - `Truncated`: the input ends before a record is complete.
+///
+/// Before that fault, at any time:
+/// - `Read`: a read fails, or is interrupted 1,001 times in a row.
+/// - `OutOfMemory`: memory runs out.
 pub fn decode<R: Read + Drop>(alloc: Global, reader: R) -> Result<Database, FileFault>
     ensures { (bytes : List ℕ) → R.remaining reader ≡ Some bytes → IsAnswer bytes result }
 {

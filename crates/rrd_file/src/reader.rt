@@ -1,4 +1,4 @@
-//! The pieces of an input, one after another.
+//! A reader of the records of an input.
 ghost use Rattle.std.specs.Prelude.{◌≡◌, ◌+◌, ◌^◌, ◌<◌, ◌≤◌, [], IfErr, IfOk, IfSome, OnOk, false, length, take, true};
 ghost use Rattle.std.specs.Io.KnownBytes.{Consumes, Keeps};
 ghost use Rattle.rrd_file.specs.declared.fault.FileFault.TheVariants.{Read as ReadFault};
@@ -6,23 +6,23 @@ ghost use Rattle.rrd_file.specs.Reader.{FindsEnd, IsCut, ReadsPiece, left};
 
 use crate::FileFault;
 use crate::layout::SOURCE_SIZE;
+use crate::writer::LONGEST;
 use std::alloc::{AllocError, Global};
 use std::io::Read;
 use std::marker::Model;
-use waiting::Waiting;
+use waiting::{ROOM, Waiting};
 
 mod waiting;
 
-/// The bytes that come at once, at most.
-const ROOM: u64 = 65_536;
-
-/// A reader behind a buffer of 65,536 bytes. Contracts see the bytes that came and were not taken,
-/// those that the reader has left, and the offset of the next piece.
+/// A reader with a buffer of at most 65,536 bytes.
+///
+/// Contracts see the bytes that were read and not taken, the bytes that the reader has left, and the offset of the next
+/// record.
 #[derive(Drop)]
 pub(crate) struct PieceReader<R: Read + Drop> {
     reader: R,
     waiting: Waiting,
-    // How many bytes came in all.
+    // The number of bytes that were read in all.
     came: u64,
 }
 
@@ -38,7 +38,10 @@ impl<R: Read + Drop> Model for PieceReader<R> {
 }
 
 impl<R: Read + Drop> PieceReader<R> {
-    /// All that the reader has. Answers `AllocError` where there is no memory for the buffer.
+    /// Creates a reader of all bytes of `reader`.
+    ///
+    /// # Errors
+    /// - `AllocError`: memory for the buffer runs out.
     pub(crate) fn new(alloc: Global, reader: R) -> Result<PieceReader<R>, AllocError>
         ensures { IfOk result (λ input. input ≡ record { waiting = []; behind = R.remaining reader; at = 0 }) }
     {
@@ -49,23 +52,24 @@ impl<R: Read + Drop> PieceReader<R> {
         })
     }
 
-    /// The offset of the next piece.
+    /// Returns the offset of the next record.
     pub(crate) fn at(&self) -> u64
         ensures { result ≡ self.now.at }
     {
         self.came - self.waiting.len() as u64
     }
 
-    // Reads more behind what waits, and says how many bytes came: none only at the end.
+    // Reads more bytes after the waiting ones, and returns how many: 0 only at the end. Fails before the offset could
+    // pass 2^64.
     fn more(&mut self) -> Result<usize, FileFault>
-        requires { length self.old.waiting < 65536 }
+        requires { length self.old.waiting < ROOM }
         ensures keeps { OnOk result (Keeps (left self.old) (left self.new)) }
         ensures at { OnOk result (self.new.at ≡ self.old.at) }
         ensures count { IfOk result (λ n. length self.new.waiting ≡ length self.old.waiting + n) }
         ensures more { IfOk result (λ n. FindsEnd n self.new) }
         ensures err { IfErr result (λ fault. fault ≡ ReadFault) }
     {
-        if self.came > u64::MAX - ROOM {
+        if self.came > u64::MAX - ROOM as u64 {
             return Err(FileFault::Read);
         }
         let Ok(count) = self.waiting.fill(&mut self.reader) else {
@@ -75,14 +79,14 @@ impl<R: Read + Drop> PieceReader<R> {
         Ok(count)
     }
 
-    /// How many bytes came and wait to be taken.
+    /// Returns how many bytes were read and wait to be taken.
     pub(crate) fn waiting(&self) -> usize
         ensures { result ≡ length self.now.waiting }
     {
         self.waiting.len()
     }
 
-    /// Waits until so many bytes came, no more than the longest piece has.
+    /// Waits until `size` bytes are there, at most those of the largest record.
     pub(crate) fn wait_for(&mut self, size: usize) -> Result<(), FileFault>
         requires { size ≤ SOURCE_SIZE }
         ensures keeps { OnOk result (Keeps (left self.old) (left self.new)) }
@@ -98,9 +102,9 @@ impl<R: Read + Drop> PieceReader<R> {
         Ok(())
     }
 
-    /// Waits until so many bytes came, at most 1,024, or there are no more.
+    /// Waits until `size` bytes are there, at most 1,024, or the input ends.
     pub(crate) fn gather(&mut self, size: usize) -> Result<(), FileFault>
-        requires { size ≤ 1024 }
+        requires { size ≤ LONGEST }
         ensures keeps { OnOk result (Keeps (left self.old) (left self.new)) }
         ensures at { OnOk result (self.new.at ≡ self.old.at) }
         ensures more { OnOk result (length self.old.waiting ≤ length self.new.waiting) }
@@ -114,7 +118,7 @@ impl<R: Read + Drop> PieceReader<R> {
         Ok(())
     }
 
-    /// The first bytes that came, so many.
+    /// Returns the first `size` waiting bytes.
     pub(crate) fn front(&self, size: usize) -> &[u8]
         requires { size ≤ length self.now.waiting }
         ensures front { result.now ≡ take size self.now.waiting }
@@ -123,7 +127,7 @@ impl<R: Read + Drop> PieceReader<R> {
         self.waiting.front(size)
     }
 
-    /// Goes on behind the first bytes that came, so many.
+    /// Skips the first `size` waiting bytes.
     pub(crate) fn skip(&mut self, size: usize)
         requires { size ≤ length self.old.waiting }
         ensures consumed { Consumes (left self.old) (left self.new) (take size self.old.waiting) }
@@ -133,7 +137,7 @@ impl<R: Read + Drop> PieceReader<R> {
         self.waiting.skip(size);
     }
 
-    /// Fills the piece, no longer than the longest.
+    /// Fills `piece` with the next bytes, at most those of the largest record.
     pub(crate) fn piece(&mut self, piece: &mut [u8]) -> Result<(), FileFault>
         requires { length piece.old ≤ SOURCE_SIZE }
         ensures read { ReadsPiece self.old piece.new self.new result }
@@ -144,7 +148,7 @@ impl<R: Read + Drop> PieceReader<R> {
         Ok(())
     }
 
-    /// Whether nothing is left.
+    /// Returns whether the input has ended.
     pub(crate) fn is_at_end(&mut self) -> Result<bool, FileFault>
         ensures ended { IfOk result (λ ended. ended ≡ true → IfSome (left self.old) (λ rest. rest ≡ [])) }
         ensures more { IfOk result (λ ended. ended ≡ false → IfSome (left self.old) (λ rest. 0 < length rest)) }

@@ -1,4 +1,4 @@
-//! The data sources of a file, both ways: settings, last raw values, and preparations.
+//! The data sources of a file: writing and reading. Each has its settings, its last raw value and its partial step.
 ghost use Rattle.std.specs.Prelude.{◌≡◌, ◌+◌, ◌<◌, ◌≤◌, ℕ, ◌++◌, ◌≢◌, IfSome, List, None, OnOk, Some, length, map, slice_get};
 ghost use Rattle.rrd_spec.specs.Files.Filed.{Source, filed};
 ghost use Rattle.rrd_spec.specs.Limits.{newest};
@@ -20,15 +20,15 @@ use crate::fault::block_fault;
 use crate::layout::{BEFORE_UPDATE_SIZE, NAME_SIZE, SETTINGS_SIZE, SOURCE_SIZE};
 use crate::reader::PieceReader;
 use crate::values::{bound_of, eight_of, kind_byte, kind_of, name_of, part_of, raw_of};
-use crate::writer::{Block, PieceWriter};
-use rrd_base::{Database, DsDef, Rebuild};
+use crate::writer::{BLOCK_SIZE, Block, PieceWriter};
+use rrd_base::{Database, DsDef, Rebuild, database_is_valid};
 use rrd_fixed::{Raw, WriteFault};
 use std::io::{Read, Write};
 
 impl Block {
-    /// Adds a data source's settings.
+    /// Adds the settings of a data source.
     pub(crate) fn source(&mut self, source: &DsDef)
-        requires { length self.old + SETTINGS_SIZE ≤ 32768 }
+        requires { length self.old + SETTINGS_SIZE ≤ BLOCK_SIZE }
         ensures bytes { self.new ≡ self.old ++ spelling.source_bytes source.now }
         ensures room { length self.new ≡ length self.old + SETTINGS_SIZE }
     {
@@ -40,7 +40,7 @@ impl Block {
     }
 }
 
-// Writes a data source, with its last raw value and its preparation.
+// Writes a data source, with its last raw value and its partial step.
 #[tactic(auto, unfolding(crate::specs::Layout::Pieces::spell))]
 fn write_source<W: Write>(
     out: &mut PieceWriter<'_, W>,
@@ -67,15 +67,15 @@ pub(crate) fn write_sources<W: Write>(
     ensures { Gathers W.contents out.old out.new
         (spelled (map OfSource (filed newest database.now).sources)) result }
 {
-    // So each source has a raw value and a preparation.
-    database.is_valid();
+    // The prover needs that each data source has a raw value and a partial step.
+    database_is_valid(database);
     for number in 0..database.sources() {
         write_source(out, database, number)?;
     }
     Ok(())
 }
 
-/// A data source's settings.
+/// Returns the settings of a data source.
 pub(crate) fn def_of(bytes: &[u8]) -> Option<DsDef>
     requires { length bytes.now ≡ SETTINGS_SIZE }
     ensures some { IfSome result (λ def. FitsDef def × (spelling.source_bytes def ≡ bytes.now)) }
@@ -101,7 +101,7 @@ pub(crate) fn def_of(bytes: &[u8]) -> Option<DsDef>
     })
 }
 
-/// A source before an update: its raw value, and its part.
+/// Returns a data source before an update: its raw value, and the count and sum of its partial step.
 pub(crate) fn before_of(bytes: &[u8]) -> (Raw, u64, i128)
     requires { length bytes.now ≡ BEFORE_UPDATE_SIZE }
     ensures spelled { spell (OfRawAndPart result.0 (record { known = result.1; value = result.2 })) ≡ bytes.now }
@@ -113,7 +113,7 @@ pub(crate) fn before_of(bytes: &[u8]) -> (Raw, u64, i128)
     (raw, known, value)
 }
 
-/// A source with its last raw value and the part of its unfinished step.
+/// A data source with its last raw value, and the count and sum of its partial step.
 #[derive(Drop)]
 struct SourceRead {
     def: DsDef,
@@ -122,7 +122,7 @@ struct SourceRead {
     sum: i128,
 }
 
-// A source.
+// Returns a data source.
 fn source_of(bytes: &[u8]) -> Option<SourceRead>
     requires { length bytes.now ≡ SOURCE_SIZE }
     ensures some { IfSome result
@@ -142,7 +142,7 @@ fn source_of(bytes: &[u8]) -> Option<SourceRead>
     })
 }
 
-/// Reads a data source, with its last raw value and its preparation.
+/// Reads a data source, with its last raw value and its partial step.
 pub(crate) fn read_source<R: Read + Drop>(
     input: &mut PieceReader<R>,
     build: &mut Rebuild,

@@ -1,5 +1,5 @@
-//! Single values, both ways: numbers, raw values, bounds, preparations, names, types and functions. Whole
-//! numbers have the highest byte first.
+//! Single values: writing and reading numbers, raw values, bounds, partial steps and rows, names, types and functions.
+//! Whole numbers have the highest byte first.
 ghost use Rattle.std.specs.Prelude.{◌≡◌, ◌++◌, ◌+◌, ◌^◌, ◌<◌, ◌≤◌, ℕ, [], ◌∷◌, ◌≢◌, ◌==◌, IfSome, None, length, replicate, true};
 ghost use Rattle.std.specs.List.{list_all};
 ghost use Rattle.rrd_fixed.specs.declared.kind.Kind.{Kind};
@@ -10,22 +10,23 @@ ghost use Rattle.rrd_file.specs.Layout.Fitting.{FitsBound, FitsRaw};
 ghost use Rattle.rrd_file.specs.Layout.Values as spelling;
 
 use crate::layout::{CELL_SIZE, NAME_SIZE, PREP_SIZE, number_of, value_of};
-use crate::writer::Block;
+use crate::writer::{BLOCK_SIZE, Block};
 use rrd_fixed::{Kind, Name, Raw};
 use rrd_fold::Function;
 
-// How many numbers eight bytes can say.
+// The number of different values of eight bytes.
 const HALF: u128 = 0x1_0000_0000_0000_0000;
 
-/// A number of sixteen bytes, two's complement, as its higher and its lower eight. Written so, each
-/// eight bytes are one instruction of the processor's, which sixteen at once are not.
+/// A number of sixteen bytes, two's complement, as its higher and its lower eight bytes.
+///
+/// The processor writes eight bytes in one instruction, but not sixteen.
 #[derive(Clone, Copy)]
 pub(crate) struct Halves {
     pub(crate) high: u64,
     pub(crate) low: u64,
 }
 
-/// The halves of a number.
+/// Returns the halves of a number.
 pub(crate) fn halves_of(number: i128) -> Halves
     ensures { spelling.eight_bytes result.high ++ spelling.eight_bytes result.low ≡ spelling.signed_bytes number }
 {
@@ -39,7 +40,7 @@ pub(crate) fn halves_of(number: i128) -> Halves
 impl Block {
     /// Adds a byte.
     pub(crate) fn byte(&mut self, byte: u8)
-        requires { length self.old + 1 ≤ 32768 }
+        requires { length self.old + 1 ≤ BLOCK_SIZE }
         ensures { self.new ≡ self.old ++ byte ∷ [] }
     {
         self.add(&[byte]);
@@ -47,7 +48,7 @@ impl Block {
 
     /// Adds a number of two bytes.
     pub(crate) fn two(&mut self, number: u64)
-        requires room { length self.old + 2 ≤ 32768 }
+        requires room { length self.old + 2 ≤ BLOCK_SIZE }
         requires small { number < 2 ^ 16 }
         ensures { self.new ≡ self.old ++ spelling.two_bytes number }
     {
@@ -56,7 +57,7 @@ impl Block {
 
     /// Adds a number of four bytes.
     pub(crate) fn four(&mut self, number: u64)
-        requires room { length self.old + 4 ≤ 32768 }
+        requires room { length self.old + 4 ≤ BLOCK_SIZE }
         requires small { number < 2 ^ 32 }
         ensures { self.new ≡ self.old ++ spelling.four_bytes number }
     {
@@ -65,7 +66,7 @@ impl Block {
 
     /// Adds a number of eight bytes.
     pub(crate) fn eight(&mut self, number: u64)
-        requires room { length self.old + 8 ≤ 32768 }
+        requires room { length self.old + 8 ≤ BLOCK_SIZE }
         ensures { self.new ≡ self.old ++ spelling.eight_bytes number }
     {
         self.add(&number.to_be_bytes());
@@ -73,7 +74,7 @@ impl Block {
 
     /// Adds the halves of a number of sixteen bytes.
     pub(crate) fn halves(&mut self, halves: Halves)
-        requires { length self.old + CELL_SIZE ≤ 32768 }
+        requires { length self.old + CELL_SIZE ≤ BLOCK_SIZE }
         ensures bytes { self.new ≡ self.old ++ spelling.eight_bytes halves.high ++ spelling.eight_bytes halves.low }
         ensures room { length self.new ≡ length self.old + CELL_SIZE }
     {
@@ -83,7 +84,7 @@ impl Block {
 
     /// Adds a number of sixteen bytes.
     pub(crate) fn signed(&mut self, number: i128)
-        requires { length self.old + CELL_SIZE ≤ 32768 }
+        requires { length self.old + CELL_SIZE ≤ BLOCK_SIZE }
         ensures bytes { self.new ≡ self.old ++ spelling.signed_bytes number }
         ensures room { length self.new ≡ length self.old + CELL_SIZE }
     {
@@ -92,7 +93,7 @@ impl Block {
 
     /// Adds a raw value.
     pub(crate) fn raw(&mut self, raw: Raw)
-        requires { length self.old + CELL_SIZE ≤ 32768 }
+        requires { length self.old + CELL_SIZE ≤ BLOCK_SIZE }
         ensures bytes { self.new ≡ self.old ++ spelling.raw_bytes raw }
         ensures room { length self.new ≡ length self.old + CELL_SIZE }
     {
@@ -101,16 +102,16 @@ impl Block {
 
     /// Adds a bound.
     pub(crate) fn bound(&mut self, bound: Option<i128>)
-        requires { length self.old + CELL_SIZE ≤ 32768 }
+        requires { length self.old + CELL_SIZE ≤ BLOCK_SIZE }
         ensures bytes { self.new ≡ self.old ++ spelling.bound_bytes bound }
         ensures room { length self.new ≡ length self.old + CELL_SIZE }
     {
         self.signed(number_of(bound));
     }
 
-    /// Adds how many cells of a preparation are known, and what they come to.
+    /// Adds the known count and the value of a partial step or row.
     pub(crate) fn part(&mut self, known: u64, value: i128)
-        requires room { length self.old + PREP_SIZE ≤ 32768 }
+        requires room { length self.old + PREP_SIZE ≤ BLOCK_SIZE }
         requires few { known < 2 ^ 32 }
         ensures bytes { self.new ≡ self.old ++ spelling.part_bytes (record { known = known; value = value }) }
         ensures room { length self.new ≡ length self.old + PREP_SIZE }
@@ -119,9 +120,9 @@ impl Block {
         self.signed(value);
     }
 
-    // Adds so many zeros.
+    // Adds `count` zeros.
     fn zeros(&mut self, count: usize)
-        requires { length self.old + count ≤ 32768 }
+        requires { length self.old + count ≤ BLOCK_SIZE }
         ensures { self.new ≡ self.old ++ replicate count 0 }
     {
         for _ in 0..count {
@@ -131,7 +132,7 @@ impl Block {
 
     /// Adds a name.
     pub(crate) fn name(&mut self, name: &Name)
-        requires { length self.old + NAME_SIZE ≤ 32768 }
+        requires { length self.old + NAME_SIZE ≤ BLOCK_SIZE }
         ensures bytes { self.new ≡ self.old ++ spelling.name_bytes name.now }
         ensures room { length self.new ≡ length self.old + NAME_SIZE }
     {
@@ -142,7 +143,7 @@ impl Block {
     }
 }
 
-/// A number of two bytes, and the bytes behind it.
+/// Returns a number of two bytes, and the bytes after it.
 pub(crate) fn two_of(bytes: &[u8]) -> (u64, &[u8])
     requires { 2 ≤ length bytes.now }
     ensures spelled { bytes.now ≡ spelling.two_bytes result.0 ++ result.1.now }
@@ -155,7 +156,7 @@ pub(crate) fn two_of(bytes: &[u8]) -> (u64, &[u8])
     (u16::from_be_bytes(piece) as u64, rest)
 }
 
-/// A number of four bytes, and the bytes behind it.
+/// Returns a number of four bytes, and the bytes after it.
 pub(crate) fn four_of(bytes: &[u8]) -> (u64, &[u8])
     requires { 4 ≤ length bytes.now }
     ensures spelled { bytes.now ≡ spelling.four_bytes result.0 ++ result.1.now }
@@ -168,7 +169,7 @@ pub(crate) fn four_of(bytes: &[u8]) -> (u64, &[u8])
     (u32::from_be_bytes(piece) as u64, rest)
 }
 
-/// A number of eight bytes, and the bytes behind it.
+/// Returns a number of eight bytes, and the bytes after it.
 pub(crate) fn eight_of(bytes: &[u8]) -> (u64, &[u8])
     requires { 8 ≤ length bytes.now }
     ensures spelled { bytes.now ≡ spelling.eight_bytes result.0 ++ result.1.now }
@@ -181,8 +182,9 @@ pub(crate) fn eight_of(bytes: &[u8]) -> (u64, &[u8])
     (u64::from_be_bytes(piece), rest)
 }
 
-/// A number of sixteen bytes, and the bytes behind it. Each half is one instruction of the processor's to
-/// read, which sixteen bytes at once are not.
+/// Returns a number of sixteen bytes, and the bytes after it.
+///
+/// The processor reads eight bytes in one instruction, but not sixteen.
 pub(crate) fn signed_of(bytes: &[u8]) -> (i128, &[u8])
     requires { CELL_SIZE ≤ length bytes.now }
     ensures spelled { bytes.now ≡ spelling.signed_bytes result.0 ++ result.1.now }
@@ -194,7 +196,7 @@ pub(crate) fn signed_of(bytes: &[u8]) -> (i128, &[u8])
     (bits.cast_signed(), rest)
 }
 
-// What is written of a raw value.
+// Returns the number that is written for a raw value.
 fn raw_number(raw: Raw) -> i128
     ensures { result ≡ spelling.raw_number raw }
 {
@@ -204,7 +206,7 @@ fn raw_number(raw: Raw) -> i128
     }
 }
 
-/// A raw value, and the bytes behind it.
+/// Returns a raw value, and the bytes after it.
 pub(crate) fn raw_of(bytes: &[u8]) -> (Raw, &[u8])
     requires { CELL_SIZE ≤ length bytes.now }
     ensures spelled { bytes.now ≡ spelling.raw_bytes result.0 ++ result.1.now }
@@ -218,7 +220,7 @@ pub(crate) fn raw_of(bytes: &[u8]) -> (Raw, &[u8])
     }
 }
 
-/// A bound, and the bytes behind it.
+/// Returns a bound, and the bytes after it.
 pub(crate) fn bound_of(bytes: &[u8]) -> (Option<i128>, &[u8])
     requires { CELL_SIZE ≤ length bytes.now }
     ensures spelled { bytes.now ≡ spelling.bound_bytes result.0 ++ result.1.now }
@@ -229,7 +231,7 @@ pub(crate) fn bound_of(bytes: &[u8]) -> (Option<i128>, &[u8])
     (value_of(number), rest)
 }
 
-/// How many are known and what they come to, and the bytes behind it.
+/// Returns the known count and the value of a partial step or row, and the bytes after it.
 pub(crate) fn part_of(bytes: &[u8]) -> (u64, i128, &[u8])
     requires { PREP_SIZE ≤ length bytes.now }
     ensures spelled { bytes.now ≡ spelling.part_bytes (record { known = result.0; value = result.1 }) ++ result.2.now }
@@ -241,14 +243,14 @@ pub(crate) fn part_of(bytes: &[u8]) -> (u64, i128, &[u8])
     (known, value, rest)
 }
 
-// Whether all bytes are zero.
+// Returns whether all bytes are zero.
 fn all_zero(bytes: &[u8]) -> bool
     ensures { result ≡ list_all (λ (byte : ℕ). byte == 0) bytes.now }
 {
     bytes.iter().all(|byte| *byte == 0)
 }
 
-/// A name.
+/// Returns the name with these bytes.
 pub(crate) fn name_of(bytes: &[u8]) -> Option<Name>
     requires { length bytes.now ≡ NAME_SIZE }
     ensures some { IfSome result (λ name. (fits name ≡ true) × (spelling.name_bytes name ≡ bytes.now)) }
@@ -266,7 +268,7 @@ pub(crate) fn name_of(bytes: &[u8]) -> Option<Name>
     Name::fit(text)
 }
 
-/// What is written of a type.
+/// Returns the byte of a type.
 pub(crate) fn kind_byte(kind: Kind) -> u8
     ensures { result ≡ spelling.kind_byte kind }
 {
@@ -278,7 +280,7 @@ pub(crate) fn kind_byte(kind: Kind) -> u8
     }
 }
 
-/// The type of a data source that a byte stands for.
+/// Returns the type with a byte.
 pub(crate) fn kind_of(byte: u8) -> Option<Kind>
     ensures some { IfSome result (λ kind. spelling.kind_byte kind ≡ byte) }
     ensures none { result ≡ None → (kind : Kind) → spelling.kind_byte kind ≢ byte }
@@ -292,7 +294,7 @@ pub(crate) fn kind_of(byte: u8) -> Option<Kind>
     }
 }
 
-/// What is written of a function.
+/// Returns the byte of a consolidation function.
 pub(crate) fn function_byte(function: Function) -> u8
     ensures { result ≡ spelling.function_byte function }
 {
@@ -304,7 +306,7 @@ pub(crate) fn function_byte(function: Function) -> u8
     }
 }
 
-/// The function of an archive that a byte stands for.
+/// Returns the consolidation function with a byte.
 pub(crate) fn function_of(byte: u8) -> Option<Function>
     ensures some { IfSome result (λ function. spelling.function_byte function ≡ byte) }
     ensures none { result ≡ None → (function : Function) → spelling.function_byte function ≢ byte }

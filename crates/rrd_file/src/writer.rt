@@ -1,4 +1,4 @@
-//! The pieces of an output, one after another.
+//! A writer of the records of an output.
 ghost use Rattle.std.specs.Prelude.{◌≡◌, ◌+◌, ◌≤◌, [], OnOk, length};
 ghost use Rattle.rrd_fixed.specs.Written.{Writes};
 ghost use Rattle.rrd_file.specs.Writer.{Gathers};
@@ -8,19 +8,19 @@ use std::io::Write;
 
 mod block;
 
-pub(crate) use block::Block;
+pub(crate) use block::{BLOCK_SIZE, Block, LONGEST};
 
-/// A writer behind a block of 32,768 bytes, in which pieces wait until many go out in one write. It takes
-/// no memory. What waits is lost where `write_rest` is not called.
+/// A writer behind a block of 4,096 bytes, in which records wait until many go out in one write. Does not allocate. What
+/// waits is lost if `write_rest` is not called.
 #[derive(Drop)]
 pub(crate) struct PieceWriter<'a, W: Write> {
     out: &'a mut W,
-    /// What waits: each piece is added here, once there is room.
+    /// The bytes that wait. A record is added here after `make_room`.
     pub(crate) block: Block,
 }
 
 impl<'a, W: Write> PieceWriter<'a, W> {
-    /// Writes behind what the writer has. Nothing waits yet.
+    /// Creates a writer after what `out` has. No byte waits yet.
     pub(crate) fn new(out: &'a mut W) -> PieceWriter<'a, W>
         ensures same_reference { result.out.ghost_name ≡ out.entry.ghost_name }
         ensures same { result.out.now ≡ out.old }
@@ -32,10 +32,10 @@ impl<'a, W: Write> PieceWriter<'a, W> {
         }
     }
 
-    /// Makes room for a piece, or for a row: where it could lack, all that waits is written.
+    /// Makes room for a record or a row. If there may be too little room, writes all waiting bytes.
     pub(crate) fn make_room(&mut self) -> Result<(), WriteFault>
         ensures added { Gathers W.contents self.old self.new [] result }
-        ensures room { OnOk result (length self.new.block + 1024 ≤ 32768) }
+        ensures room { OnOk result (length self.new.block + LONGEST ≤ BLOCK_SIZE) }
     {
         if !self.block.has_room() {
             write_bytes(self.out, self.block.as_slice())?;
@@ -44,7 +44,7 @@ impl<'a, W: Write> PieceWriter<'a, W> {
         Ok(())
     }
 
-    /// Writes all that waits.
+    /// Writes all waiting bytes.
     pub(crate) fn write_rest(&mut self) -> Result<(), WriteFault>
         ensures same_reference { self.new.out.ghost_name ≡ self.old.out.ghost_name }
         ensures written { Writes (W.contents self.old.out.now) (W.contents self.new.out.now) self.old.block result }

@@ -39,9 +39,9 @@ below_power n m value le h =
     omega arith
 
 -- the digits up to the one at i
-pub value_before : (xs : List ℕ) (i : ℕ) → list_all is_ascii_digit (take i xs) ≡ true → i < length xs → length xs ≤ 20 → value_of (take i xs) < 10 ^ 20
-value_before xs i digits inside short =
-    below_power (length (take i xs)) 20 (value_of (take i xs)) (grind (arith, common_steps)) (value_below (take i xs) digits)
+pub value_before : (xs : List ℕ) (i m : ℕ) → list_all is_ascii_digit (take i xs) ≡ true → i < length xs → length xs ≤ m + 1 → value_of (take i xs) < 10 ^ m
+value_before xs i m digits inside short =
+    below_power (length (take i xs)) m (value_of (take i xs)) (grind (arith, common_steps)) (value_below (take i xs) digits)
 
 pub value_more : (xs : List ℕ) (i : ℕ) → i < length xs → value_of (take (i + 1) xs) ≡ 10 * value_of (take i xs) + (get_or xs i 0 - 48)
 value_more xs i inside = rw (take_more xs i 0 inside) (value-push (take i xs) (get_or xs i 0))

@@ -40,7 +40,7 @@ pub decimal_digits : (n : ℕ) → n < 10 ^ 64 → Digits n (decimal n)
 decimal_digits n small = decimal_by_steps_wide Digits one_digit more_digits n small
 
 -- so many digits at most
-fit_digits : (most : ℕ) (ds : List ℕ) → 0 < length ds → length ds ≤ most → list_all is_ascii_digit ds ≡ true → are_digits most ds ≡ true
+pub fit_digits : (most : ℕ) (ds : List ℕ) → 0 < length ds → length ds ≤ most → list_all is_ascii_digit ds ≡ true → are_digits most ds ≡ true
 fit_digits most ds some short digits =
     let low : nat_lt 0 (length ds) ≡ true = lt-ltb 0 (length ds) some in
     let high : nat_le (length ds) most ≡ true = grind (arith, common_steps) in
@@ -67,16 +67,16 @@ cut_place (d ∷ ds) rest h =
     let others : list_all is_ascii_digit ds ≡ true = grind (arith, common_steps) in
     rw (other, cut_place ds rest others) (omega arith)
 
-cut_before : (ds rest : List ℕ) → list_all is_ascii_digit ds ≡ true → before_first is_point (ds ++ 46 ∷ rest) ≡ ds
+pub cut_before : (ds rest : List ℕ) → list_all is_ascii_digit ds ≡ true → before_first is_point (ds ++ 46 ∷ rest) ≡ ds
 cut_before ds rest h = rw (cut_place ds rest h) (take-append_seam ds (46 ∷ rest))
 
-cut_behind : (ds rest : List ℕ) → list_all is_ascii_digit ds ≡ true → after_first is_point (ds ++ 46 ∷ rest) ≡ rest
+pub cut_behind : (ds rest : List ℕ) → list_all is_ascii_digit ds ≡ true → after_first is_point (ds ++ 46 ∷ rest) ≡ rest
 cut_behind ds rest h = rw (cut_place ds rest h) (drop-append-add ds (46 ∷ rest) 1)
 
-has_point : (ds rest : List ℕ) → list_any is_point (ds ++ 46 ∷ rest) ≡ true
+pub has_point : (ds rest : List ℕ) → list_any is_point (ds ++ 46 ∷ rest) ≡ true
 has_point ds rest = rw (list_any-append is_point ds (46 ∷ rest)) (or-true (list_any is_point ds))
 
-no_point : (ds : List ℕ) → list_all is_ascii_digit ds ≡ true → list_any is_point ds ≡ false
+pub no_point : (ds : List ℕ) → list_all is_ascii_digit ds ≡ true → list_any is_point ds ≡ false
 no_point [] h = refl
 no_point (d ∷ ds) h =
     let other : is_point d ≡ false = grind (arith, common_steps) in

@@ -7,3 +7,4 @@ pub mod Written
 pub mod Writing
 pub mod Text
 pub mod Reading
+pub mod Puts

@@ -15,11 +15,11 @@ some_twice b some = lt_of_le_of_lt zero-le (below_twice b some)
 doubled : (n b t : ℕ) → n ≤ b * t → 2 * n ≤ t * (2 * b)
 doubled n b t h = subst (λ x. 2 * n ≤ x) (sym (mul_assoc 2 b t) ∙ mul_comm (2 * b) t) (mul-le-mul_left 2 h)
 
--- what is less than the divisor has the quotient 0
+-- a number less than the divisor has the quotient 0
 small_quotient : (n d t : ℕ) → n < d → unsigned_abs (int_div_euclid (pos n) (pos d)) ≤ t
 small_quotient n d t h = subst (λ q. q ≤ t) (sym (div-eq_of_lt h)) zero-le
 
--- a number that is not positive, by whether the half makes it positive
+-- a number that is not positive: two cases, by whether adding the half makes it positive
 minus_limit : (m b t : ℕ) → 0 < b → m ≤ t * (2 * b)
     → unsigned_abs (int_div_euclid (neg_ℤ (pos m) +ℤ pos b) (pos (2 * b))) ≤ t
 minus_limit zero b t some h =

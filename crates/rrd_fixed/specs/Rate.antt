@@ -1,4 +1,4 @@
--- Definition: the rate of an interval, in whole millionths (rrdcreate, "DS"; ties are own).
+-- Definition: the rate of an interval, in whole millionths (rrdcreate, "DS"; ties are this project's rule).
 use Rattle.std.specs.Prelude.{ℕ, ◌-◌, ◌*◌, ◌^◌, ◌<◌, ◌≤◌, ℤ, pos, ◌+ℤ◌, ◌-ℤ◌, ◌*ℤ◌, ◌≤ℤ◌, ◌<ℤ◌, neg_ℤ, int_lt, unsigned_abs, nat_lt, Bool, if◌then◌else◌, Option, Some, None}
 use Rattle.rrd_fixed.specs.Rounding.{near}
 use Rattle.rrd_fixed.specs.declared.cell.Cell.{Cell}
@@ -6,19 +6,20 @@ use Rattle.rrd_fixed.specs.declared.raw.Raw.{Raw}
 use Rattle.rrd_fixed.specs.declared.kind.Kind.{Kind}
 use Rattle.rrd_fixed.specs.declared.kind.Kind.TheVariants.{Gauge, Counter, Derive, Absolute}
 
--- the greatest absolute value of a rate, a cell or a bound
+-- the maximum size of a rate, a cell or a bound
 abbrev pub top : ℕ
 top = (2 ^ 64 - 1) * 10 ^ 6
 
--- the number, raised by `by` if it is negative
+-- the number, with `by` added if it is negative
 abbrev pub raised_if_negative : ℤ → ℤ → ℤ
 raised_if_negative by z = if int_lt z (pos 0) then z +ℤ by else z
 
--- how far a counter has come: one that fell has wrapped, at 2 ^ 32 if that is enough, else at 2 ^ 64
+-- the increase of a counter: one that fell has wrapped, at 2 ^ 32 if that makes the increase positive or 0, else at 2 ^
+-- 64
 abbrev pub rise : ℤ → ℤ → ℤ
 rise old new = raised_if_negative (pos (2 ^ 64) -ℤ pos (2 ^ 32)) (raised_if_negative (pos (2 ^ 32)) (new -ℤ old))
 
--- the rate before the heartbeat and the bounds are asked
+-- the rate before the heartbeat and the bounds are checked
 abbrev pub plain_rate : Kind → Raw → Raw → ℕ → Cell
 plain_rate kind old Raw.Unknown interval = Cell.Unknown
 plain_rate Gauge old (Raw.Known new) interval = Cell.Known new
@@ -30,7 +31,7 @@ plain_rate Derive (Raw.Known old) (Raw.Known new) interval =
 plain_rate Counter Raw.Unknown (Raw.Known new) interval = Cell.Unknown
 plain_rate Derive Raw.Unknown (Raw.Known new) interval = Cell.Unknown
 
--- whether a rate is under a lower bound, or over an upper one
+-- whether a rate is below a lower bound, or above an upper bound
 abbrev pub is_under : ℤ → Option ℤ → Bool
 is_under rate None = Bool.false
 is_under rate (Some low) = int_lt rate low
@@ -55,7 +56,7 @@ rate kind old new interval heartbeat min max =
     if nat_lt heartbeat interval then Cell.Unknown
     else cell_within min max (plain_rate kind old new interval)
 
--- a raw value that a source of this kind accepts
+-- a raw value that a data source of this type accepts
 abbrev pub IsAccepted : Kind → Raw → Type 0
 IsAccepted kind Raw.Unknown = Unit {0}
 IsAccepted Counter (Raw.Known value) = (pos 0 ≤ℤ value) × (value <ℤ pos (2 ^ 64))

@@ -1,4 +1,4 @@
--- Definition: rounding to whole millionths (own).
+-- Definition: rounding to whole millionths (this project's rule).
 use Rattle.std.specs.Prelude.{ℤ, pos, ◌+ℤ◌, ◌*ℤ◌}
 use Rattle.std.specs.Int.{int_div_euclid}
 

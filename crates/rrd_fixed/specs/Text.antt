@@ -1,4 +1,4 @@
--- Definition: times, cells and raw values as text (own).
+-- Definition: times, cells and raw values as text (this project's rule).
 use Rattle.std.specs.Prelude.{◌++◌, ℕ, ℤ, List, ◌/◌, ◌%◌, ◌-◌, ◌+◌, decimal, codes, pos, negsuc, length}
 use Rattle.std.specs.List.{repeat}
 use Rattle.rrd_fixed.specs.declared.cell.Cell.{Cell}
@@ -14,12 +14,12 @@ six_digits n = repeat (6 - length (decimal n)) (codes "0") ++ decimal n
 abbrev pub millionths_text : ℕ → List ℕ
 millionths_text n = decimal (n / 1000000) ++ codes "." ++ six_digits (n % 1000000)
 
--- millionths, with a minus if they are below 0
+-- millionths, with a minus below 0
 abbrev pub signed_text : ℤ → List ℕ
 signed_text (pos n) = millionths_text n
 signed_text (negsuc n) = codes "-" ++ millionths_text (n + 1)
 
--- a whole number without leading zeros, with a minus if it is below 0
+-- a whole number without leading zeros, with a minus below 0
 abbrev pub whole_text : ℤ → List ℕ
 whole_text (pos n) = decimal n
 whole_text (negsuc n) = codes "-" ++ decimal (n + 1)

@@ -1,11 +1,12 @@
-//! Consolidated values.
+//! Rates and consolidated values.
 
-/// A rate or a consolidated value, in millionths: known, or unknown. A known one lies within
-/// `-TOP` to `TOP`, `TOP` being (2^64 - 1) * 10^6.
+/// A rate or a consolidated value, in millionths: known, or unknown.
+///
+/// A known value is from `-TOP` to `TOP`; `TOP` is (2^64 - 1) * 10^6.
 #[derive(Clone, Copy, Debug, PartialEq, Eq)]
 pub enum Cell {
-    /// Nothing is known, or not enough: `nan`.
+    /// The value is unknown, or too little of it is known: `nan`.
     Unknown,
-    /// Millionths.
+    /// The value in millionths.
     Known(i128),
 }

@@ -1,11 +1,15 @@
-//! What holds of texts. A law is a function without a body: a call of it makes the law known where
-//! it stands.
+//! Theorems on texts.
+//!
+//! A theorem is a function without a body: a call gives the prover the theorem at the call site, and does nothing at
+//! run time.
 ghost use Rattle.std.specs.Prelude.{◌≡◌, ◌^◌, ◌<◌, ℕ, ℤ, pos, ◌*ℤ◌, unsigned_abs, true, false, decimal};
 ghost use Rattle.rrd_fixed.specs.Reading.{number_of, whole_of};
 ghost use Rattle.rrd_fixed.specs.Text.{signed_text, whole_text};
 
-/// What is written is read back: a whole number, units as a number without a point, and millionths
-/// as one with a point, as far as 20 digits before the point go.
+/// Theorem: the text of a number, read again, gives the number.
+///
+/// The theorem holds for whole numbers below 2^64, for units below 10^20 in size as numbers without a point, and for
+/// millionths below 10^26 in size, which are 20 digits before the point, as numbers with a point.
 pub fn texts_are_read_back()
     ensures whole { (n : ℕ) → n < 2 ^ 64 → whole_of (decimal n) ≡ Some n }
     ensures units { (z : ℤ) → unsigned_abs z < 10 ^ 20

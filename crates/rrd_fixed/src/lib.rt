@@ -1,5 +1,6 @@
-//! Cells, rates, names and numbers, their texts, and streams of bytes. Values are whole millionths
-//! unless a unit is said, times are seconds since 1970.
+//! Cells, rates, names and numbers, their texts, and streams of bytes.
+//!
+//! Values are whole millionths if no other unit is named; times are in seconds since 1970.
 #![tactic(auto)]
 
 mod cell;
@@ -8,6 +9,7 @@ mod laws;
 mod meter;
 mod name;
 mod number;
+mod puts;
 mod rates;
 mod raw;
 mod rounding;
@@ -20,10 +22,11 @@ pub use laws::texts_are_read_back;
 pub use meter::Meter;
 pub use name::Name;
 pub use number::{Number, admit, read_number, read_whole};
+pub use puts::{put_cell, put_time};
 pub use rates::{rate, rise};
 pub use raw::Raw;
 pub use rounding::near;
-pub use streams::{ReadFault, WriteFault, flush, read_some, write_bytes};
+pub use streams::{ReadFault, TRIES, WriteFault, flush, read_some, write_bytes};
 pub use text::{
     MILLIONTHS, cell_string, numbered_text, raw_string, short_text, time_string, write_cell,
     write_raw, write_time,

@@ -1,10 +1,11 @@
-//! A counter of turns.
+//! A counter of units of work.
 ghost use Rattle.std.specs.Prelude.{◌≡◌, ℕ, ◌+◌, ◌^◌, ◌<◌};
 
 use std::marker::Model;
 
-/// Counts turns: one for each addition to a preparation, for each closing of one, and for each cell
-/// that is written into an archive.
+/// A counter of units of work.
+///
+/// One unit is an addition to a partial step or row, the end of one, or a cell that is written into an archive.
 #[derive(Clone, Copy, Debug, PartialEq, Eq)]
 pub struct Meter {
     turns: u64,
@@ -19,14 +20,14 @@ impl Model for Meter {
 }
 
 impl Meter {
-    /// No turn yet.
+    /// Creates a counter at 0.
     pub fn new() -> Meter
         ensures { result ≡ 0 }
     {
         Meter { turns: 0 }
     }
 
-    /// Adds a turn.
+    /// Adds one unit of work.
     pub fn tick(&mut self)
         requires { self.old + 1 < 2 ^ 64 }
         ensures { self.new ≡ self.old + 1 }
@@ -34,7 +35,7 @@ impl Meter {
         self.turns += 1;
     }
 
-    /// How many turns there were.
+    /// Returns the number of units of work.
     pub fn turns(&self) -> u64
         ensures { result ≡ self.now }
     {

@@ -1,4 +1,4 @@
-//! Names of data sources.
+//! The names of data sources.
 ghost use Rattle.std.specs.Prelude.{◌≡◌, ◌≤◌, [], length, Some, None, if◌then◌else◌};
 ghost use Rattle.std.specs.List.{list_all};
 ghost use Rattle.rrd_fixed.specs.Names.{fits, is_good, is_letter, same_name};
@@ -6,8 +6,9 @@ ghost use Rattle.rrd_fixed.specs.Names.{fits, is_good, is_letter, same_name};
 use arrayvec::ArrayString;
 use std::marker::Model;
 
-/// The name of a data source: at most 19 ASCII characters. Contracts see it as the list of its
-/// bytes.
+/// The name of a data source: at most 19 ASCII characters.
+///
+/// Contracts see the list of its bytes.
 #[derive(Debug, Drop)]
 pub struct Name {
     text: ArrayString<19>,
@@ -22,7 +23,9 @@ impl Model for Name {
 }
 
 impl Name {
-    /// The name of these bytes; none if they are more than 19 or not all ASCII.
+    /// Returns the name with these bytes.
+    ///
+    /// Returns `None` if there are more than 19 bytes, or a byte is not ASCII.
     pub fn fit(bytes: &[u8]) -> Option<Name>
         ensures { result ≡ (if fits bytes.now then Some bytes.now else None) }
     {
@@ -38,8 +41,9 @@ impl Name {
         Some(Name { text })
     }
 
-    /// Whether the name is one that a data source may have: 1 to 19 characters out of
-    /// `a-z A-Z 0-9 _` (rrdcreate, "DS").
+    /// Returns whether a data source may have the name.
+    ///
+    /// A data source's name has 1 to 19 characters out of `a-z A-Z 0-9 _` (rrdcreate, "DS").
     pub fn good(&self) -> bool
         ensures { result ≡ is_good self.now }
     {
@@ -47,7 +51,7 @@ impl Name {
         !bytes.is_empty() && all_letters(bytes)
     }
 
-    /// The characters.
+    /// Returns the characters, at most 19.
     pub fn as_str(&self) -> &str
         ensures value { result.now ≡ self.now }
         ensures short { length result.now ≤ 19 }
@@ -55,14 +59,14 @@ impl Name {
         self.text.as_str()
     }
 
-    /// The same name again. It takes no memory.
+    /// Copies the name. Does not allocate.
     pub fn duplicate(&self) -> Name
         ensures { result ≡ self.now }
     {
         Name { text: self.text }
     }
 
-    /// Whether both are the same name.
+    /// Returns whether both names have the same characters.
     pub fn same(&self, other: &Name) -> bool
         ensures { result ≡ same_name self.now other.now }
     {
@@ -70,14 +74,14 @@ impl Name {
     }
 }
 
-// Whether each character may stand in a source's name.
+// Returns whether a data source's name may have these characters.
 fn all_letters(bytes: &[u8]) -> bool
     ensures { result ≡ list_all is_letter bytes.now }
 {
     bytes.iter().all(|byte| is_letter(*byte))
 }
 
-// Whether a character may stand in a source's name.
+// Returns whether a data source's name may have this character.
 fn is_letter(byte: u8) -> bool
     ensures { result ≡ is_letter byte }
 {
@@ -85,7 +89,7 @@ fn is_letter(byte: u8) -> bool
 }
 
 impl Default for Name {
-    /// The name of no character, which no data source may have.
+    /// Returns the empty name, which no data source may have.
     fn default() -> Self
         ensures { result ≡ [] }
     {

@@ -1,9 +1,12 @@
 //! Numbers as they are written.
-ghost use Rattle.std.specs.Prelude.{◌≡◌, ◌^◌, ◌<◌, ◌≤◌, length, IfSome, unsigned_abs, if◌then◌else◌, position};
+ghost use Rattle.std.specs.Prelude.{◌≡◌, ◌^◌, ◌<◌, ◌≤◌, ◌-◌, length, take, slice_index, true, false, IfSome, unsigned_abs, if◌then◌else◌, position};
+ghost use Rattle.std.specs.Char.{is_ascii_digit};
+ghost use Rattle.std.specs.List.{list_all};
 ghost use Rattle.rrd_fixed.specs.Admitted as spec;
 ghost use Rattle.rrd_fixed.specs.Rate.{IsAccepted};
 ghost use Rattle.rrd_fixed.specs.Reading.{are_digits, fraction_of, is_point, number_of, plain_of, pointed_of, unsigned_of, value_of, whole_of};
 
+use crate::rounding::floor;
 use crate::{Kind, MILLIONTHS, Raw};
 
 /// A number as it was written.
@@ -11,40 +14,101 @@ use crate::{Kind, MILLIONTHS, Raw};
 pub struct Number {
     /// The value in millionths.
     pub millionths: i128,
-    /// Whether a decimal point was written.
+    /// Whether the number was written with a decimal point.
     pub point: bool,
+}
+
+// Returns how many digits the bytes begin with, and the number that these digits are. Any 19 digits fit 64 bits.
+fn read_front(bytes: &[u8]) -> (usize, u64)
+    requires { length bytes.now ≤ 19 }
+    ensures inside { result.0 ≤ length bytes.now }
+    ensures digits { list_all is_ascii_digit (take result.0 bytes.now) ≡ true }
+    ensures value { result.1 ≡ value_of (take result.0 bytes.now) }
+    ensures stops { result.0 < length bytes.now → is_ascii_digit (slice_index bytes.now result.0) ≡ false }
+    ensures small { result.1 < 10 ^ 19 }
+{
+    let mut value = 0;
+    let mut at = 0;
+    while at < bytes.len() {
+        let byte = bytes[at];
+        if !byte.is_ascii_digit() {
+            return (at, value);
+        }
+        value = 10 * value + (byte - b'0') as u64;
+        at += 1;
+    }
+    (at, value)
+}
+
+// Parses up to 19 digits. Returns `None` if a byte is no digit.
+fn read_short(bytes: &[u8]) -> Option<u64>
+    requires { length bytes.now ≤ 19 }
+    ensures value { result ≡ (if list_all is_ascii_digit bytes.now then Some (value_of bytes.now) else None) }
+    ensures small { IfSome result (λ value. value < 10 ^ length bytes.now) }
+{
+    let (at, value) = read_front(bytes);
+    if at < bytes.len() {
+        return None;
+    }
+    Some(value)
+}
+
+// The number that 20 digits stand for; none if a byte is no digit.
+fn read_long(bytes: &[u8]) -> Option<u128>
+    requires { length bytes.now ≡ 20 }
+    ensures value { result ≡ (if list_all is_ascii_digit bytes.now then Some (value_of bytes.now) else None) }
+    ensures small { IfSome result (λ value. value < 10 ^ 20) }
+{
+    let front = read_short(&bytes[..19])?;
+    let last = read_short(&bytes[19..])?;
+    Some(10 * front as u128 + last as u128)
 }
 
 // The number that 1 to `most` digits stand for; none if the bytes are something else.
 fn read_digits(bytes: &[u8], most: usize) -> Option<u128>
     requires { most ≤ 20 }
     ensures value { result ≡ (if are_digits most bytes.now then Some (value_of bytes.now) else None) }
-    ensures small { IfSome result (λ value. value < 10 ^ length bytes.now) }
     ensures limit { IfSome result (λ value. value < 10 ^ 20) }
 {
     if bytes.is_empty() || most < bytes.len() {
         return None;
     }
-    let mut value = 0u128;
-    for byte in bytes {
-        if !byte.is_ascii_digit() {
-            return None;
-        }
-        value = 10 * value + (*byte - b'0') as u128;
+    if bytes.len() == 20 {
+        return read_long(bytes);
     }
-    Some(value)
+    let value = read_short(bytes)?;
+    Some(value as u128)
+}
+
+// What the last of so many digits behind a point counts, in millionths.
+fn last_counts(digits: usize) -> u64
+    requires { digits ≤ 6 }
+    ensures { result ≡ 10 ^ (6 - digits) }
+{
+    match digits {
+        0 => 1_000_000,
+        1 => 100_000,
+        2 => 10_000,
+        3 => 1_000,
+        4 => 100,
+        5 => 10,
+        _ => 1,
+    }
 }
 
 // The millionths that 1 to 6 digits behind a point stand for.
-fn read_fraction(digits: &[u8]) -> Option<u128>
+fn read_fraction(digits: &[u8]) -> Option<u64>
     ensures value { result ≡ (if are_digits 6 digits.now then Some (fraction_of digits.now) else None) }
     ensures small { IfSome result (λ millionths. millionths < 10 ^ 6) }
 {
-    let value = read_digits(digits, 6)?;
-    Some(value * 10u128.pow(6 - digits.len() as u32))
+    if digits.is_empty() || 6 < digits.len() {
+        return None;
+    }
+    let value = read_short(digits)?;
+    Some(value * last_counts(digits.len()))
 }
 
-// A number without a sign and a point.
+// Parses a number without a sign and a point.
 fn read_plain(digits: &[u8]) -> Option<Number>
     ensures value { result ≡ plain_of digits.now }
     ensures small { IfSome result (λ number. unsigned_abs number.millionths < 10 ^ 27) }
@@ -56,7 +120,7 @@ fn read_plain(digits: &[u8]) -> Option<Number>
     })
 }
 
-// A number without a sign, by what stands before and behind its point.
+// Parses a number without a sign, cut at its point.
 fn read_pointed(whole: &[u8], fraction: &[u8]) -> Option<Number>
     ensures value { result ≡ pointed_of whole.now fraction.now }
     ensures small { IfSome result (λ number. unsigned_abs number.millionths < 10 ^ 27) }
@@ -64,31 +128,62 @@ fn read_pointed(whole: &[u8], fraction: &[u8]) -> Option<Number>
     let whole = read_digits(whole, 20)?;
     let fraction = read_fraction(fraction)?;
     Some(Number {
-        millionths: (whole * MILLIONTHS as u128 + fraction) as i128,
+        millionths: (whole * MILLIONTHS as u128 + fraction as u128) as i128,
         point: true,
     })
 }
 
-// Where the first point is.
+// Returns the index of the first point.
 fn find_point(bytes: &[u8]) -> Option<usize>
     ensures { result ≡ position is_point bytes.now }
 {
     bytes.iter().position(|byte| *byte == b'.')
 }
 
-// A number without a sign.
+// Parses a number without a sign, of at most 19 bytes: each byte is looked at once.
+fn read_few(bytes: &[u8]) -> Option<Number>
+    requires { length bytes.now ≤ 19 }
+    ensures value { result ≡ unsigned_of bytes.now }
+    ensures small { IfSome result (λ number. unsigned_abs number.millionths < 10 ^ 27) }
+{
+    let (at, whole) = read_front(bytes);
+    if at == 0 {
+        return None;
+    }
+    let millionths = whole as u128 * MILLIONTHS as u128;
+    if at == bytes.len() {
+        return Some(Number {
+            millionths: millionths as i128,
+            point: false,
+        });
+    }
+    if bytes[at] != b'.' {
+        return None;
+    }
+    let fraction = read_fraction(&bytes[at + 1..])?;
+    Some(Number {
+        millionths: (millionths + fraction as u128) as i128,
+        point: true,
+    })
+}
+
+// Parses a number without a sign.
 fn read_unsigned(bytes: &[u8]) -> Option<Number>
     ensures value { result ≡ unsigned_of bytes.now }
     ensures small { IfSome result (λ number. unsigned_abs number.millionths < 10 ^ 27) }
 {
+    if bytes.len() < 20 {
+        return read_few(bytes);
+    }
     match find_point(bytes) {
         None => read_plain(bytes),
         Some(at) => read_pointed(&bytes[..at], &bytes[at + 1..]),
     }
 }
 
-/// The whole number that 1 to 20 digits stand for; none if the bytes are something else, or if it
-/// is above 2^64 - 1.
+/// Parses a whole number of 1 to 20 digits.
+///
+/// Returns `None` for other bytes, and for a number above 2^64 - 1.
 #[tactic(auto, unfolding(crate::specs::Reading::whole_of))]
 pub fn read_whole(bytes: &[u8]) -> Option<u64>
     ensures { result ≡ whole_of bytes.now }
@@ -97,8 +192,10 @@ pub fn read_whole(bytes: &[u8]) -> Option<u64>
     u64::try_from(value).ok()
 }
 
-/// The number that an optional `-` and 1 to 20 digits stand for, with a point and 1 to 6 digits
-/// behind them or without; none if the bytes are something else.
+/// Parses a number with an optional sign and point.
+///
+/// A number has an optional `-`, 1 to 20 digits, and optionally a point and 1 to 6 digits. Returns `None` for other
+/// bytes.
 #[tactic(auto, unfolding(crate::specs::Reading::number_of))]
 pub fn read_number(bytes: &[u8]) -> Option<Number>
     ensures { result ≡ number_of bytes.now }
@@ -113,19 +210,33 @@ pub fn read_number(bytes: &[u8]) -> Option<Number>
     })
 }
 
+// Whether millionths are a whole number of units. Divides 64 bits if they fit.
+fn is_whole(millionths: i128) -> bool
+    ensures { result ≡ spec.is_whole millionths }
+{
+    match i64::try_from(millionths) {
+        Ok(millionths) => millionths.rem_euclid(MILLIONTHS as i64) == 0,
+        Err(_) => millionths.rem_euclid(MILLIONTHS as i128) == 0,
+    }
+}
+
 // A number without a point that is a whole number of units, in units. One that was read without a
 // point is always whole; a caller may make others.
 fn whole_units(number: Number) -> Option<i128>
     ensures { result ≡ spec.units_of number }
 {
-    let whole = number.millionths.rem_euclid(MILLIONTHS as i128) == 0;
-    (!number.point && whole).then_some(number.millionths.div_euclid(MILLIONTHS as i128))
+    let whole = is_whole(number.millionths);
+    (!number.point && whole).then_some(floor(number.millionths, MILLIONTHS as i128))
 }
 
-/// What a source of this kind keeps of a number, in units for COUNTER and DERIVE and in millionths
-/// for GAUGE and ABSOLUTE; none if it doesn't accept it. COUNTER accepts a number without a point
-/// that is a whole number of units from 0 to 2^64 - 1, DERIVE such a one from -2^63 to 2^63 - 1,
-/// GAUGE and ABSOLUTE a number below 10^18 in size.
+/// Returns the raw value of a number for a data source of type `kind`.
+///
+/// The raw value is in units for COUNTER and DERIVE, and in millionths for GAUGE and ABSOLUTE. Returns `None` if the
+/// data source does not accept the number:
+///
+/// - COUNTER accepts a number without a point that is a whole number of units from 0 to 2^64 - 1;
+/// - DERIVE accepts a number without a point that is a whole number of units from -2^63 to 2^63 - 1;
+/// - GAUGE and ABSOLUTE accept a number below 10^18 in size.
 pub fn admit(kind: Kind, number: Number) -> Option<i128>
     ensures value { result ≡ spec.admit kind number }
     ensures accepted { IfSome result (λ raw. IsAccepted kind (Raw.Known raw)) }

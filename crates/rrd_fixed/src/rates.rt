@@ -1,12 +1,13 @@
-//! The rate of an interval (rrdcreate, "DS"; rounding and ties are this project's).
+//! The rate of an interval (rrdcreate, "DS"; rounding and ties are this project's rules).
 ghost use Rattle.std.specs.Prelude.{◌≡◌, ◌^◌, ◌≤◌, pos, ◌*ℤ◌, ◌≤ℤ◌, unsigned_abs};
 ghost use Rattle.rrd_fixed.specs.Rate as spec;
 ghost use Rattle.rrd_fixed.specs.Rounding.{near as nearest};
 
 use crate::{Cell, Kind, MILLIONTHS, Raw, near};
 
-/// How far a counter has come from `old` to `new`, in units: one that fell has wrapped, at 2^32 if
-/// that is enough, else at 2^64.
+/// Returns the increase of a counter from `old` to `new`, in units.
+///
+/// A counter that fell has wrapped: at 2^32 if that makes the increase positive or 0, else at 2^64.
 pub fn rise(old: u64, new: u64) -> u64
     ensures { pos result ≡ spec.rise (pos old) (pos new) }
 {
@@ -19,7 +20,7 @@ pub fn rise(old: u64, new: u64) -> u64
     }
 }
 
-// A rate outside its bounds is unknown, never clamped.
+// Returns the rate, or `Unknown` if the rate is outside its bounds: a rate is never clamped.
 fn within(rate: i128, min: Option<i128>, max: Option<i128>) -> Cell
     ensures { result ≡ spec.within rate min max }
 {
@@ -36,7 +37,7 @@ fn within(rate: i128, min: Option<i128>, max: Option<i128>) -> Cell
     Cell::Known(rate)
 }
 
-// What a change of so many units makes in a second, in millionths.
+// Returns the rate of a change, in millionths per second.
 fn per_second(change: i128, seconds: i128) -> i128
     requires positive { pos 1 ≤ℤ seconds }
     requires small { seconds ≤ℤ pos (10 ^ 10) }
@@ -46,7 +47,7 @@ fn per_second(change: i128, seconds: i128) -> i128
     near(change * MILLIONTHS as i128, seconds)
 }
 
-// The rate before the heartbeat and the bounds are asked.
+// Returns the rate before the heartbeat and the bounds are checked.
 fn plain_rate(kind: Kind, old: Raw, new: Raw, interval: u64) -> Cell
     requires some_time { 1 ≤ interval }
     requires not_long { interval ≤ 10 ^ 10 }
@@ -70,10 +71,14 @@ fn plain_rate(kind: Kind, old: Raw, new: Raw, interval: u64) -> Cell
     }
 }
 
-/// The rate of an interval of 1 to 10^10 seconds, in millionths, between two raw values that the kind
-/// accepts, by a heartbeat in seconds and bounds in millionths. It is unknown if the interval is
-/// longer than the heartbeat, if the value is unknown, for COUNTER and DERIVE if the value before
-/// it is unknown, and if it lies outside its bounds (rrdcreate, "DS").
+/// Returns the rate of an interval, in millionths per second (rrdcreate, "DS").
+///
+/// `old` and `new` are raw values that `kind` accepts; `interval` is from 1 to 10^10 seconds; `heartbeat` is in
+/// seconds, `min` and `max` are in millionths. The rate is unknown
+///
+/// - if the interval is longer than the heartbeat;
+/// - if the new value is unknown, or for COUNTER and DERIVE the old one;
+/// - if the rate is outside its bounds.
 pub fn rate(
     kind: Kind,
     old: Raw,

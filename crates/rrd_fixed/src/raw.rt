@@ -1,11 +1,10 @@
-//! Values as they were given.
+//! Raw values, as data sources report them.
 
-/// What a source last reported: in units for COUNTER and DERIVE, in millionths for GAUGE and
-/// ABSOLUTE.
+/// The last value that a data source reported.
 #[derive(Clone, Copy, Debug, PartialEq, Eq)]
 pub enum Raw {
     /// No value: `U`.
     Unknown,
-    /// Units or millionths, by the type of the source.
+    /// The value, in units for COUNTER and DERIVE, and in millionths for GAUGE and ABSOLUTE.
     Known(i128),
 }

@@ -1,5 +1,5 @@
-//! Reads, writes and flushes of streams. A call that is interrupted (`ErrorKind::Interrupted`) is made
-//! again, in all `TRIES` times in a row; no other error is tried again.
+//! Reads, writes and flushes of streams. A call that a signal interrupts (`ErrorKind::Interrupted`) is made again, at
+//! most [`TRIES`] times in a row; after any other error the call is not made again.
 ghost use Rattle.std.specs.Prelude.{◌≡◌, ◌<◌, ◌≤◌, length, take, IfOk, OnErr};
 ghost use Rattle.std.specs.Io.{ReadsAtMost};
 ghost use Rattle.std.specs.Io.KnownBytes.{Appends, Consumes, IsAtEnd, Keeps};
@@ -7,21 +7,24 @@ ghost use Rattle.rrd_fixed.specs.Written.{Writes};
 
 use std::io::{ErrorKind, Read, Write};
 
-// How often a call is made that is interrupted each time: once, and 1,000 times more.
-const TRIES: u32 = 1_001;
+/// How often a call is made that a signal interrupts each time: once, and 1,000 times more.
+pub const TRIES: u32 = 1_001;
 
-/// A read failed, or was interrupted in all its tries. Nothing was read.
+/// A read failed, or was interrupted [`TRIES`] times. Nothing was read.
 #[derive(Debug, Drop)]
 pub struct ReadFault {}
 
-/// A write failed, took nothing or was interrupted in all its tries: a front of what was to be written
-/// is there, and not all of it. Or a flush failed or was interrupted in all its tries.
+/// A write failed, wrote nothing, or was interrupted [`TRIES`] times: a first part of the bytes is written, and not all.
+/// Or a flush failed, or was interrupted [`TRIES`] times.
 #[derive(Debug, Drop)]
 pub struct WriteFault {}
 
-/// Reads into the buffer and says how many bytes came: none only at the end, or where the buffer is
-/// empty. A read that is interrupted is tried again, at most 1,000 times in a row; one that fails
-/// otherwise, or is still interrupted then, is a fault.
+/// Reads into the buffer, and returns the number of bytes that were read: 0 only at the end of the stream, or if the
+/// buffer is empty.
+///
+/// # Errors
+///
+/// `ReadFault` if the read failed, or was interrupted [`TRIES`] times. Nothing was read.
 pub fn read_some<R: Read>(reader: &mut R, buffer: &mut [u8]) -> Result<usize, ReadFault>
     ensures bound { ReadsAtMost result buffer.new }
     ensures ok { IfOk result (λ n. Consumes (R.remaining reader.old) (R.remaining reader.new) (take n buffer.new)) }
@@ -61,8 +64,11 @@ fn write_some<W: Write>(out: &mut W, bytes: &[u8]) -> Result<usize, WriteFault>
     Err(WriteFault {})
 }
 
-/// Writes the bytes. A write that is interrupted is tried again, at most 1,000 times in a row; one that
-/// fails otherwise, takes nothing, or is still interrupted then, is a fault.
+/// Writes all of the bytes.
+///
+/// # Errors
+///
+/// `WriteFault` if a write failed, wrote nothing, or was interrupted [`TRIES`] times. A first part of the bytes is written.
 pub fn write_bytes<W: Write>(out: &mut W, bytes: &[u8]) -> Result<(), WriteFault>
     ensures { Writes (W.contents out.old) (W.contents out.new) bytes.now result }
 {
@@ -73,8 +79,11 @@ pub fn write_bytes<W: Write>(out: &mut W, bytes: &[u8]) -> Result<(), WriteFault
     Ok(())
 }
 
-/// Hands on what was written. A flush that is interrupted is tried again, at most 1,000 times in a row;
-/// one that fails otherwise, or is still interrupted then, is a fault.
+/// Flushes what was written.
+///
+/// # Errors
+///
+/// `WriteFault` if the flush failed, or was interrupted [`TRIES`] times.
 pub fn flush<W: Write>(out: &mut W) -> Result<(), WriteFault>
     ensures { Keeps (W.contents out.old) (W.contents out.new) }
 {

@@ -1,60 +1,30 @@
 //! Times, cells and raw values as text.
-ghost use Rattle.std.specs.List.{repeat};
 ghost use Rattle.std.specs.Prelude.{◌≡◌, ◌+◌, ◌-◌, ◌++◌, ◌∷◌, [], ◌≤◌, decimal, length};
 ghost use Rattle.rrd_fixed.specs.Text.{cell_text, millionths_text, raw_text, signed_text, time_text, whole_text};
 ghost use Rattle.rrd_fixed.specs.Written.{Writes};
 
+use crate::puts::put_signed;
 use crate::{Cell, Kind, Raw, WriteFault, write_bytes};
 use arrayvec::ArrayString;
 use itoa::Buffer;
 use std::io::Write;
 
-/// The millionths in a unit.
+/// The number of millionths in a unit.
 pub const MILLIONTHS: u64 = 1_000_000;
-
-// The zeros before a number of that many digits, so that it has six.
-fn zeros_before(digits: usize) -> &'static str
-    requires { digits ≤ 6 }
-    ensures zeros { result.now ≡ repeat (6 - digits) (48 ∷ []) }
-    ensures len { length result.now + digits ≡ 6 }
-{
-    match digits {
-        0 => "000000",
-        1 => "00000",
-        2 => "0000",
-        3 => "000",
-        4 => "00",
-        5 => "0",
-        _ => "",
-    }
-}
-
-// Millionths as the whole part, a point and six digits.
-fn push_millionths(text: &mut ArrayString<48>, millionths: u128)
-    requires { length text.old.bytes ≤ 1 }
-    ensures { text.new.bytes ≡ text.old.bytes ++ millionths_text millionths }
-{
-    let mut buffer = Buffer::new();
-    text.push_str(buffer.format(millionths / MILLIONTHS as u128));
-    text.push_str(".");
-    let digits = buffer.format((millionths % MILLIONTHS as u128) as u32);
-    text.push_str(zeros_before(digits.len()));
-    text.push_str(digits);
-}
 
 // Millionths, with a minus if they are below 0.
 fn signed_string(millionths: i128) -> ArrayString<48>
     ensures { result.bytes ≡ signed_text millionths }
 {
-    let mut text = ArrayString::new();
-    if millionths < 0 {
-        text.push_str("-");
-    }
-    push_millionths(&mut text, millionths.unsigned_abs());
-    text
+    let mut buffer = [0; 48];
+    let start = put_signed(millionths, &mut buffer, 48);
+    let Ok(digits) = str::from_utf8(&buffer[start..]) else {
+        unreachable!()
+    };
+    short_string(digits)
 }
 
-// A whole number.
+// Returns the text of a whole number.
 fn whole_string(number: i128) -> ArrayString<48>
     ensures { result.bytes ≡ whole_text number }
 {
@@ -64,7 +34,7 @@ fn whole_string(number: i128) -> ArrayString<48>
     text
 }
 
-// A text of few letters.
+// Returns the letters, at most 48, as a string.
 fn short_string(letters: &str) -> ArrayString<48>
     requires { length letters.now ≤ 48 }
     ensures { result.bytes ≡ letters.now }
@@ -74,8 +44,10 @@ fn short_string(letters: &str) -> ArrayString<48>
     text
 }
 
-/// The text of a cell: `nan`, or an optional `-`, the whole part without leading zeros, a point and
-/// six digits.
+/// Returns the text of a cell.
+///
+/// The text is `nan`, or an optional `-`, the whole part without leading zeros, a point and six digits. Does not
+/// allocate.
 pub fn cell_string(cell: Cell) -> ArrayString<48>
     ensures text { result.bytes ≡ cell_text cell }
     ensures short { length result.bytes ≤ 48 }
@@ -86,7 +58,10 @@ pub fn cell_string(cell: Cell) -> ArrayString<48>
     }
 }
 
-/// The text of a raw value: `U`, or a whole number for COUNTER and DERIVE, or as a known cell.
+/// Returns the text of a raw value.
+///
+/// The text is `U`, a whole number for COUNTER and DERIVE, or that of a known cell for GAUGE and ABSOLUTE. Does not
+/// allocate.
 pub fn raw_string(kind: Kind, raw: Raw) -> ArrayString<48>
     ensures text { result.bytes ≡ raw_text kind raw }
     ensures short { length result.bytes ≤ 48 }
@@ -98,7 +73,9 @@ pub fn raw_string(kind: Kind, raw: Raw) -> ArrayString<48>
     }
 }
 
-/// The text of a time in seconds since 1970: a whole number, with a `-` if it is below 0.
+/// Returns the text of a time in seconds since 1970.
+///
+/// The text is a whole number, with a `-` below 0. Does not allocate.
 pub fn time_string(seconds: i64) -> ArrayString<20>
     ensures text { result.bytes ≡ time_text seconds }
     ensures short { length result.bytes ≤ 20 }
@@ -109,28 +86,37 @@ pub fn time_string(seconds: i64) -> ArrayString<20>
     text
 }
 
-/// Writes the text of a cell, as `cell_string` has it.
+/// Writes the text of a cell, as in `cell_string`.
+///
+/// # Errors
+/// - `WriteFault`: as in `write_bytes`.
 pub fn write_cell<W: Write>(out: &mut W, cell: Cell) -> Result<(), WriteFault>
     ensures { Writes (W.contents out.old) (W.contents out.new) (cell_text cell) result }
 {
     write_bytes(out, cell_string(cell).as_str().as_bytes())
 }
 
-/// Writes the text of a raw value, as `raw_string` has it.
+/// Writes the text of a raw value, as in `raw_string`.
+///
+/// # Errors
+/// - `WriteFault`: as in `write_bytes`.
 pub fn write_raw<W: Write>(out: &mut W, kind: Kind, raw: Raw) -> Result<(), WriteFault>
     ensures { Writes (W.contents out.old) (W.contents out.new) (raw_text kind raw) result }
 {
     write_bytes(out, raw_string(kind, raw).as_str().as_bytes())
 }
 
-/// Writes the text of a time, as `time_string` has it.
+/// Writes the text of a time, as in `time_string`.
+///
+/// # Errors
+/// - `WriteFault`: as in `write_bytes`.
 pub fn write_time<W: Write>(out: &mut W, seconds: i64) -> Result<(), WriteFault>
     ensures { Writes (W.contents out.old) (W.contents out.new) (time_text seconds) result }
 {
     write_bytes(out, time_string(seconds).as_str().as_bytes())
 }
 
-/// A text of at most 40 bytes, in a string without memory.
+/// Returns a text of at most 40 bytes as a string. Does not allocate.
 pub fn short_text(letters: &str) -> ArrayString<96>
     requires { length letters.now ≤ 40 }
     ensures text { result.bytes ≡ letters.now }
@@ -141,7 +127,9 @@ pub fn short_text(letters: &str) -> ArrayString<96>
     string
 }
 
-/// A text of at most 40 bytes and a number behind it, in a string without memory.
+/// Returns a text of at most 40 bytes with a number after it.
+///
+/// Does not allocate.
 pub fn numbered_text(letters: &str, number: u64) -> ArrayString<96>
     requires { length letters.now ≤ 40 }
     ensures text { result.bytes ≡ letters.now ++ decimal number }

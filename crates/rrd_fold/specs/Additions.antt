@@ -1,4 +1,5 @@
--- Law: any valid count and value, made by at most two additions: so many of one cell, and the rest of a lower one.
+-- Law: at most two additions of equal cells make any valid count and value: some of the higher cell, the rest of the
+-- lower.
 use Rattle.std.specs.Prelude.{◌≡◌, ℕ, ◌-◌, ◌<◌, ◌==◌, if◌then◌else◌, ℤ, pos, ◌+ℤ◌, unsigned_abs, replicate}
 use Rattle.std.specs.Int.{int_rem_euclid}
 use Rattle.std.specs.List.{fold}
@@ -9,28 +10,28 @@ use Rattle.rrd_fold.specs.declared.function.Function.TheVariants.{Average, Min, 
 use Rattle.rrd_fold.specs.Parts.{with_cell, nothing}
 use Rattle.rrd_fold.specs.Bounds.{IsBounded}
 
--- the lower value: for AVERAGE and a step's sum the share of each of the known cells, rounded down
+-- the lower cell: for AVERAGE and for the sum of a step, the value shared out among the known cells, rounded down
 abbrev pub lower : Function → ℕ → ℤ → ℤ
 lower Average known sum = floor_of sum (pos known)
 lower Min known value = value
 lower Max known value = value
 lower Last known value = value
 
--- how many cells are one more than that, so that the sum comes out
+-- the number of cells that are one millionth higher, so that the sum is exact
 abbrev pub left_over : Function → ℕ → ℤ → ℕ
 left_over Average known sum = unsigned_abs (int_rem_euclid sum (pos known))
 left_over Min known value = 0
 left_over Max known value = 0
 left_over Last known value = 0
 
--- the higher value; the lower one again where none is needed
+-- the higher cell; equal to the lower one if none is higher
 abbrev pub higher : Function → ℕ → ℤ → ℤ
 higher function known value =
     if left_over function known value == 0
     then lower function known value
     else lower function known value +ℤ pos 1
 
--- both cells may be added, and together they make the count and the value
+-- both cells may be added, and the two additions make the count and the value
 pub record MadeByTwo (function : Function) (known : ℕ) (value : ℤ) : Type 0 where
   pub few : left_over function known value < known
   pub lower_bounded : IsBounded (Known (lower function known value))

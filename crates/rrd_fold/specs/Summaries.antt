@@ -1,4 +1,4 @@
--- Definition: what the least and the greatest of a list are.
+-- Definition: the minimum and the maximum of a list.
 use Rattle.std.specs.Prelude.{ℤ, ◌≤ℤ◌, List, All, Contains}
 
 pub record IsLeast (value : ℤ) (values : List ℤ) : Type 0 where

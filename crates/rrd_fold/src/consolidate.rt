@@ -1,4 +1,4 @@
-//! Ways to consolidate cells: each keeps how many of them were known, and what those come to.
+//! The four consolidation functions as types, for a caller that fixes the function at compile time.
 ghost use Rattle.std.specs.Prelude.{◌≡◌, ◌+◌, ◌≤◌, replicate};
 ghost use Rattle.std.specs.List.{fold};
 ghost use Rattle.rrd_fold.specs.Parts.{Part, with_cell, nothing};
@@ -11,34 +11,40 @@ use crate::summary::Summary;
 use rrd_fixed::Cell;
 use std::marker::Model;
 
-/// A way to consolidate cells. A value of it stands for the cells that were added to `empty()`, as
-/// many as 1,000,000 known ones: only how many of them are known and what those come to is kept.
+/// A way to consolidate cells.
+///
+/// A value keeps only the number of known cells that were added since `empty()`, at most 1,000,000, and their sum,
+/// minimum, maximum or last value. Cells are in millionths, known ones from `-TOP` to `TOP`.
 pub trait Consolidate {
-    /// How many known cells were added, and what they come to.
+    /// The number of known cells that were added, and their sum, minimum, maximum or last value.
     ghost part: { Self → Part };
 
-    /// Which of the four it is.
+    /// The consolidation function that the type implements.
     ghost function: { Function };
 
-    /// Stands for no cell.
+    /// Creates the value for no cells.
     fn empty() -> Self
         ensures { part result ≡ nothing };
 
-    /// Adds a cell, in millionths, known ones from `-TOP` to `TOP`. An unknown cell changes nothing.
+    /// Adds a cell. An unknown cell changes nothing.
     fn add(&mut self, cell: Cell)
         requires fits { (part self.old).known + counted 1 cell ≤ most_known }
         requires bounded { IsBounded cell }
         ensures added { part self.new ≡ with_cell function (part self.old) cell }
         ensures grows { (part self.new).known ≤ (part self.old).known + counted 1 cell };
 
-    /// Adds a cell `n` times, which comes to the same as `n` calls of `add`.
+    /// Adds a cell `n` times.
+    ///
+    /// The result is that of `n` calls of `add`.
     fn add_many(&mut self, cell: Cell, n: u64)
         requires fits { (part self.old).known + counted n cell ≤ most_known }
         requires bounded { IsBounded cell }
         ensures added { part self.new ≡ fold (with_cell function) (part self.old) (replicate n cell) }
         ensures grows { (part self.new).known ≤ (part self.old).known + counted n cell };
 
-    /// What the known cells come to, in millionths; unknown if none is known.
+    /// Returns the consolidated value of the known cells, in millionths.
+    ///
+    /// Returns `Unknown` if no cell is known.
     fn finish(&self) -> Cell
         ensures value { result ≡ finished_cell function (part self.now) }
         ensures bounded { IsBounded result };
@@ -88,7 +94,7 @@ impl Consolidate for Average {
     }
 }
 
-/// The least known cell.
+/// The minimum of the known cells.
 #[derive(Clone, Copy, Debug, PartialEq, Eq)]
 pub struct Least {
     summary: Summary,
@@ -132,7 +138,7 @@ impl Consolidate for Least {
     }
 }
 
-/// The greatest known cell.
+/// The maximum of the known cells.
 #[derive(Clone, Copy, Debug, PartialEq, Eq)]
 pub struct Greatest {
     summary: Summary,

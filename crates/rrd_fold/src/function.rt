@@ -1,13 +1,13 @@
-//! Consolidation functions.
+//! The consolidation functions of an archive.
 
-/// How an archive consolidates steps into a row (rrdcreate, "RRA").
+/// The function that consolidates steps into a row of an archive (rrdcreate, "RRA").
 #[derive(Clone, Copy, Debug, PartialEq, Eq)]
 pub enum Function {
     /// The average of the known steps.
     Average,
-    /// The least known step.
+    /// The minimum of the known steps.
     Min,
-    /// The greatest known step.
+    /// The maximum of the known steps.
     Max,
     /// The last known step.
     Last,

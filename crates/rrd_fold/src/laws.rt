@@ -1,5 +1,7 @@
-//! What holds of all preparations. Each law is a function without a body: a call of it makes the
-//! law known where it stands.
+//! Theorems on all partial steps and rows.
+//!
+//! Each theorem is a function without a body: a call gives the prover the theorem at the call site, and does nothing at
+//! run time.
 ghost use Rattle.std.specs.Prelude.{◌≡◌, ◌++◌, ◌+◌, ◌-◌, ◌*◌, ◌^◌, ◌<◌, ◌≤◌, ℕ, ℤ, pos, ◌+ℤ◌, ◌*ℤ◌, ◌≤ℤ◌, int_lt, unsigned_abs, List, [], ◌∷◌, replicate, if◌then◌else◌};
 ghost use Rattle.std.specs.List.{fold};
 ghost use Rattle.rrd_fixed.specs.declared.cell.Cell.{Cell};
@@ -12,8 +14,10 @@ ghost use Rattle.rrd_fold.specs.Bounds.{finished_cell, weight};
 ghost use Rattle.rrd_fold.specs.Parts.{Part, with_cell, nothing, part_of, row_cell, step_cell, summary};
 ghost use Rattle.rrd_fold.specs.Summaries.{IsLeast, IsGreatest};
 
-/// A part that cells are added to one by one stands for the list of them: it counts those that are
-/// known, and its value is their sum, least, greatest or last one, 0 where there is none.
+/// Theorem: adding cells one by one gives the part of the list of those cells.
+///
+/// The part of a list has the number of its known cells and their sum, minimum, maximum or last value, 0 if none is
+/// known.
 pub fn parts_stand()
     ensures from_nothing { (function : Function) (cells : List Cell) →
         fold (with_cell function) nothing cells ≡ part_of function cells }
@@ -26,7 +30,7 @@ pub fn parts_stand()
         ≡ part_of function (cells ++ replicate n cell) }
 {}
 
-/// What the value of a list of known cells is, for each function.
+/// Theorem: the value of a list of known cells is their sum, minimum, maximum or last value.
 pub fn values_are_meant()
     ensures sum { (value : ℤ) (more : List ℤ) →
         summary Average (value ∷ more) ≡ value +ℤ summary Average more }
@@ -35,8 +39,9 @@ pub fn values_are_meant()
     ensures last { (before : List ℤ) (value : ℤ) → summary Last (before ++ value ∷ []) ≡ value }
 {}
 
-/// A row is what its known steps come to, as `finish` tells it, but for the rule of how many may be
-/// unknown: one without a known step is unknown under every xff.
+/// Theorem: a row is unknown if too many of its steps are, and otherwise is the result of `finish`.
+///
+/// A row without a known step is unknown under every xff.
 pub fn rows_finish()
     ensures { (function : Function) (xff steps : ℕ) (part : Part) → 1 ≤ steps → xff < 1000000 →
         row_cell function (pos xff) steps part
@@ -45,16 +50,17 @@ pub fn rows_finish()
         else finished_cell function part) }
 {}
 
-/// Any count from 1 on and any value that so many cells can have are made by at most two
-/// additions: an average's or a step's sum by cells that differ by one millionth, the others by
-/// one cell as many times.
+/// Theorem: at most two additions of equal cells make any valid count from 1 on, with any valid value.
+///
+/// For an average, and for the sum of a step, the two cells differ by one millionth. For the other functions one cell
+/// is added `known` times.
 pub fn made_by_two_additions()
     ensures { (function : Function) (known : ℕ) (value : ℤ) →
         1 ≤ known → unsigned_abs value ≤ weight function known * top →
         MadeByTwo function known value }
 {}
 
-/// Cells that are all the same come to that cell: the seconds of a step, and the steps of a row.
+/// Theorem: a step of equal seconds, and a row of equal steps, has that one cell.
 pub fn one_cell_alone()
     ensures step { (step : ℕ) (cell : Cell) → 0 < step →
         step_cell step (fold (with_cell Average) nothing (replicate step cell)) ≡ cell }

@@ -1,5 +1,7 @@
-//! Preparations: what the seconds of an unfinished step and the steps of an unfinished row come to
-//! so far.
+//! Partial steps and rows: the consolidation of the seconds of an unfinished step, and of the steps of an unfinished
+//! row.
+//!
+//! RRDtool names them `pdp_prep` and `cdp_prep`.
 #![tactic(auto)]
 
 mod consolidate;

@@ -1,4 +1,4 @@
-//! Rows that are unfinished.
+//! The partial row of a data source in an archive.
 ghost use Rattle.std.specs.Prelude.{◌≡◌, ◌+◌, ◌*◌, ◌^◌, ◌<◌, ◌≤◌, pos, unsigned_abs, replicate};
 ghost use Rattle.std.specs.List.{fold};
 ghost use Rattle.rrd_fixed.specs.Rate.{top};
@@ -10,9 +10,10 @@ use crate::summary::Summary;
 use rrd_fixed::{Cell, MILLIONTHS, Meter};
 use std::marker::Model;
 
-/// The unfinished row of one source in an archive: how many known steps there were, at most
-/// 1,000,000, and what they come to in millionths. It stands for the cells of the steps that were
-/// added.
+/// The unfinished row of one data source in an archive.
+///
+/// A value keeps the number of known steps, at most 1,000,000, and their sum, minimum, maximum or last value in
+/// millionths; it represents the cells of all steps that were added.
 #[derive(Clone, Copy, Debug, PartialEq, Eq)]
 pub struct RowPrep {
     summary: Summary,
@@ -29,7 +30,7 @@ impl Model for RowPrep {
 }
 
 impl RowPrep {
-    /// No step yet, in an archive of this function.
+    /// Creates a row without a step, in an archive of this function.
     pub fn new(function: Function) -> RowPrep
         ensures { result ≡ record { function = function; part = nothing } }
     {
@@ -38,8 +39,10 @@ impl RowPrep {
         }
     }
 
-    /// So many known steps, at most 1,000,000, that come to this value in millionths by this function:
-    /// a sum of cells from `-TOP` to `TOP`, or one such cell, or 0 if no step is known.
+    /// Creates a row from the number of its known steps and their value in millionths.
+    ///
+    /// `known` is at most 1,000,000. `value` is a sum of `known` cells from `-TOP` to `TOP` if `function` is the
+    /// average, one such cell for the other functions, and 0 if `known` is 0.
     pub fn from_part(function: Function, known: u64, value: i128) -> RowPrep
         requires few { known ≤ most_known }
         requires bounded { unsigned_abs value ≤ weight function known * top }
@@ -55,8 +58,9 @@ impl RowPrep {
         }
     }
 
-    /// Adds the cell of a step, in millionths, a known one from `-TOP` to `TOP`. An unknown one
-    /// changes nothing. It is one turn.
+    /// Adds the cell of one step, in millionths, a known one from `-TOP` to `TOP`.
+    ///
+    /// An unknown cell changes nothing. The meter counts one unit of work.
     pub fn add(&mut self, cell: Cell, meter: &mut Meter)
         requires fits { self.old.part.known + counted 1 cell ≤ most_known }
         requires bounded { IsBounded cell }
@@ -70,7 +74,9 @@ impl RowPrep {
         self.summary.add(cell);
     }
 
-    /// Adds a step's cell `n` times, which comes to the same as `n` calls of `add` and is one turn.
+    /// Adds the cell of a step `n` times.
+    ///
+    /// The row is then that of `n` calls of `add`. The meter counts one unit of work in all.
     pub fn add_many(&mut self, cell: Cell, n: u64, meter: &mut Meter)
         requires fits { self.old.part.known + counted n cell ≤ most_known }
         requires bounded { IsBounded cell }
@@ -86,10 +92,12 @@ impl RowPrep {
         self.summary.add_many(cell, n);
     }
 
-    /// The cell of a row of so many steps, 1 to 1,000,000: unknown if a larger share of them is than
-    /// `xff` allows, given in millionths from 0 to 999,999 (rrdcreate, "xff"), else the average of
-    /// the known ones, rounded to the nearest millionth, halves upwards, or the least, the greatest
-    /// or the last of them. The preparation starts anew. It is one turn.
+    /// Returns the cell of a row of `steps` steps, and empties the partial row.
+    ///
+    /// `steps` is from 1 to 1,000,000; `xff` is in millionths, from 0 to 999,999. The cell is unknown if the share of
+    /// unknown steps is larger than `xff` (rrdcreate, "xff"), or if no step is known. Otherwise it is the average of
+    /// the known steps, rounded to the nearest millionth, halves upwards, or their minimum, maximum or last one. The
+    /// meter counts one unit of work.
     pub fn close(&mut self, steps: u64, xff: u64, meter: &mut Meter) -> Cell
         requires some { 1 ≤ steps }
         requires few { steps ≤ most_known }
@@ -110,7 +118,7 @@ impl RowPrep {
         row.finish()
     }
 
-    /// How many known steps there were.
+    /// Returns the number of known steps, at most 1,000,000.
     pub fn known(&self) -> u64
         ensures value { result ≡ self.now.part.known }
         ensures limit { result ≤ most_known }
@@ -118,8 +126,9 @@ impl RowPrep {
         self.summary.known
     }
 
-    /// What the known steps come to, in millionths: their sum, least, greatest or last one; 0 if
-    /// there is none.
+    /// Returns the sum, minimum, maximum or last value of the known steps, in millionths.
+    ///
+    /// Returns 0 if no step is known.
     pub fn value(&self) -> i128
         ensures value { result ≡ self.now.part.value }
         ensures limit { unsigned_abs result ≤ weight self.now.function self.now.part.known * top }
@@ -127,7 +136,7 @@ impl RowPrep {
         self.summary.value
     }
 
-    /// Which function `new` took.
+    /// Returns the consolidation function of the archive.
     pub fn function(&self) -> Function
         ensures { result ≡ self.now.function }
     {

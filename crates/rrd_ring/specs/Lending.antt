@@ -1,4 +1,4 @@
--- Definition: what a list of rows ends as, once a `&mut` to one of its rows has ended.
+-- Definition: the value of a list of rows after a `&mut` to one of its rows has ended.
 use Rattle.std.specs.Prelude.{ℕ, List}
 use Rattle.std.specs.Borrow.{Fml, MutBor, Array, Lends}
 use Rattle.rrd_fixed.specs.declared.cell.Cell.{Cell}
@@ -7,10 +7,10 @@ use Rattle.rrd_ring.specs.Rows.{with_row}
 use Rattle.rrd_ring.specs.contracts.archive.Archive.{the_row as archive_row}
 use Rattle.rrd_ring.specs.contracts.dropped.Dropped.{the_row as dropped_row}
 
--- the archive ends with what was last written through the loan as its row i
+-- row i of the archive ends as the cells that were last written through the loan
 abbrev pub LendsRow : MutBor (List (List Cell)) → ℕ → MutBor (List Cell) → Fml
 LendsRow archive i row = Lends archive_row (Array cell_row 0) archive row (with_row archive.now i)
 
--- the same of dropped rows
+-- row i of dropped rows ends as the cells that were last written through the loan
 abbrev pub LendsDropped : MutBor (List (List Cell)) → ℕ → MutBor (List Cell) → Fml
 LendsDropped dropped i row = Lends dropped_row (Array cell_row 0) dropped row (with_row dropped.now i)

@@ -4,15 +4,15 @@ use Rattle.std.specs.List.{AllByRecursion, flat_map, refill}
 use Rattle.rrd_fixed.specs.declared.cell.Cell.{Cell}
 use Rattle.rrd_fixed.specs.declared.cell.Cell.TheVariants.{Unknown}
 
--- the row with a number, counted from the oldest
+-- row i; row 0 is the oldest
 abbrev pub nth_row : List (List Cell) → ℕ → List Cell
 nth_row rows i = slice_index_or rows i []
 
--- the rows with other cells in place of one row, which keeps its number of cells
+-- the rows with other cells in row i, which keeps its number of cells
 abbrev pub with_row : List (List Cell) → ℕ → List Cell → List (List Cell)
 with_row rows i cells = slice_set rows i (refill (length (nth_row rows i)) (nth_row rows i) cells)
 
--- so many rows that come as one list of cells, in place of those from one on, and on from the oldest
+-- the rows with `n` new rows from row i on, wrapping from the newest row to the oldest; one list has the cells of all
 abbrev pub with_rows : ℕ → ℕ → List (List Cell) → ℕ → List Cell → List (List Cell)
 with_rows zero sources rows i cells = rows
 with_rows (suc n) sources rows i cells =
@@ -22,31 +22,31 @@ with_rows (suc n) sources rows i cells =
 abbrev pub row_cells : List (List Cell) → List Cell
 row_cells rows = flat_map (λ (row : List Cell). row) rows
 
--- how many cells the oldest row has
+-- the number of cells in the oldest row
 abbrev pub width : List (List Cell) → ℕ
 width [] = 0
 width (row ∷ rows) = length row
 
--- each row has so many cells
+-- each row has `sources` cells
 abbrev pub HasWidth : ℕ → List (List Cell) → Type 0
 HasWidth sources rows = AllByRecursion (λ (row : List Cell). length row ≡ sources) rows
 
--- so many rows of so many cells each, all unknown
+-- `rows` rows of `sources` cells each, all unknown
 abbrev pub unknown_rows : ℕ → ℕ → List (List Cell)
 unknown_rows rows sources = replicate rows (replicate sources Unknown)
 
--- the newest rows, so many of them, with unknown ones before the oldest where there are fewer
+-- the `n` newest rows; if there are fewer, unknown rows precede the oldest
 abbrev pub newest_rows : ℕ → List (List Cell) → List (List Cell)
 newest_rows n rows = unknown_rows (n - length rows) (width rows) ++ drop (length rows - n) rows
 
--- the most rows of an archive, and cells of a row
+-- the maximum number of rows in an archive, and of cells in a row
 abbrev pub most_rows : ℕ
 most_rows = 1000000
 
 abbrev pub most_sources : ℕ
 most_sources = 64
 
--- what an archive holds: rows of as many cells each
+-- the rows of an archive, which all have the same number of cells
 pub record IsArchive (rows : List (List Cell)) : Type 0 where
   pub some_rows : 0 < length rows
   pub few_rows : length rows ≤ most_rows
@@ -54,7 +54,7 @@ pub record IsArchive (rows : List (List Cell)) : Type 0 where
   pub few_sources : width rows ≤ most_sources
   pub one_width : HasWidth (width rows) rows
 
--- rows that an archive dropped, all as wide
+-- rows that an archive dropped, which all have the same number of cells
 pub record AreDropped (rows : List (List Cell)) : Type 0 where
   pub few_rows : length rows ≤ most_rows
   pub one_width : HasWidth (width rows) rows

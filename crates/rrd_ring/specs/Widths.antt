@@ -1,4 +1,4 @@
--- Law: the width of rows that are put together or cut.
+-- Law: the width of rows that are joined or cut.
 use Rattle.std.specs.Prelude.{◌≡◌, ◌++◌, ◌∷◌, ◌<◌, [], ℕ, zero, suc, List, drop, length}
 use Rattle.std.proofs.Math.Nat.{lt_irrefl}
 use Rattle.rrd_fixed.specs.declared.cell.Cell.{Cell}
@@ -13,7 +13,7 @@ HasWidth-drop w zero xs h = h
 HasWidth-drop w (suc n) [] h = tt
 HasWidth-drop w (suc n) (x ∷ xs) h = HasWidth-drop w n xs h.1
 
--- there is a row, and all are as wide
+-- if there is a row, and all rows have w cells, the width is w
 pub width_is : (w : ℕ) (xs : List (List Cell)) → HasWidth w xs → 0 < length xs → width xs ≡ w
 width_is w [] h k = absurd (lt_irrefl 0 k)
 width_is w (x ∷ xs) h k = h.0

@@ -1,4 +1,4 @@
-//! Archives of consolidated rows.
+//! The rows of an archive.
 ghost use Rattle.std.specs.Prelude.{◌≡◌, ◌+◌, ◌-◌, ◌<◌, ◌≤◌, ◌^◌, ◌*◌, List, [], ◌∷◌, ◌++◌, length, replicate, take, drop, slice_set, IfOk};
 ghost use Rattle.std.specs.Borrow.{sem};
 ghost use Rattle.rrd_fixed.specs.declared.cell.Cell.{Cell};
@@ -15,17 +15,19 @@ use std::alloc::{AllocError, Global};
 use std::marker::Model;
 use std::mem;
 
-/// The consolidated rows of an archive: 1 to 1,000,000 of them, each of 1 to 64 cells (millionths, or
-/// unknown), one for each data source. Contracts see the list of the rows, oldest first.
+/// The consolidated rows of an archive, with one cell for each data source.
+///
+/// An archive has 1 to 1,000,000 rows of 1 to 64 cells; a cell is in millionths, or unknown. Contracts see the list of
+/// the rows, oldest first.
 #[derive(Debug, Drop)]
 pub struct Archive {
-    // The cells of the rows, one row after another, as far as they were written: the others are unknown.
-    // There is room for all of them from the start on, so that no row takes memory later, and what isn't
-    // written costs no time and touches no memory.
+    // The cells of the rows, one row after another, up to the last written row of the vector: the others are unknown.
+    // The capacity is that of all rows from the start, so that no row allocates later. Unwritten rows cost no time and
+    // touch no memory.
     cells: Vec<Cell>,
     rows: usize,
     sources: usize,
-    // The place of the oldest row among the vector's rows, which go on from the last to the first.
+    // The index of the oldest row among the vector's rows. The row after the vector's last one is its first.
     oldest: usize,
 }
 
@@ -45,8 +47,13 @@ impl Model for Archive {
 impl Archive {
     ghost use Rattle.rrd_ring.specs.Lending.{LendsRow};
 
-    /// An archive of `rows` rows (1 to 1,000,000) of `sources` cells each (1 to 64), all unknown.
-    /// Answers `AllocError` only for want of memory.
+    /// Creates an archive in which all rows are unknown.
+    ///
+    /// The archive has `rows` rows (1 to 1,000,000) of `sources` cells each (1 to 64). Allocates the memory for all
+    /// rows, and touches none of it.
+    ///
+    /// # Errors
+    /// - `AllocError`: memory runs out.
     pub fn new(alloc: Global, rows: u64, sources: u64) -> Result<Archive, AllocError>
         requires some_rows { 0 < rows }
         requires few_rows { rows ≤ most_rows }
@@ -57,8 +64,13 @@ impl Archive {
         Archive::new_from(alloc, rows, sources, 0)
     }
 
-    /// The same, for rows that are going to be written from row `first` on, counted from the oldest, to
-    /// the newest and then from the oldest on: each touches no more memory than its own.
+    /// Creates an archive whose rows will be written from row `first` on.
+    ///
+    /// The archive is that of `new`. If the rows are written from `first` to the newest row, and then from the oldest
+    /// row on, each touches only its own memory. Row 0 is the oldest.
+    ///
+    /// # Errors
+    /// - `AllocError`: memory runs out.
     pub fn new_from(
         alloc: Global,
         rows: u64,
@@ -81,7 +93,7 @@ impl Archive {
         })
     }
 
-    /// The number of rows, 1 to 1,000,000.
+    /// Returns the number of rows, 1 to 1,000,000.
     pub fn rows(&self) -> u64
         ensures count { result ≡ length self.now }
         ensures some { 0 < result }
@@ -90,7 +102,9 @@ impl Archive {
         self.rows as u64
     }
 
-    /// The number of cells in each row, one for each data source: 1 to 64.
+    /// Returns the number of data sources, 1 to 64.
+    ///
+    /// Each row has one cell for each data source.
     pub fn sources(&self) -> u64
         ensures count { result ≡ width self.now }
         ensures each_row { HasWidth result self.now }
@@ -100,7 +114,9 @@ impl Archive {
         self.sources as u64
     }
 
-    /// So many of the oldest rows were never written, so that all their cells are unknown.
+    /// Returns how many of the oldest rows were certainly never written.
+    ///
+    /// All cells of these rows are unknown. More rows may be unwritten.
     pub fn unwritten(&self) -> u64
         ensures few { result ≤ length self.now }
         ensures unknown { take result self.now ≡ unknown_rows result (width self.now) }
@@ -109,7 +125,7 @@ impl Archive {
         (self.rows - written) as u64
     }
 
-    /// The cells of row `i`, counted from the oldest.
+    /// Returns the cells of row `i`. Row 0 is the oldest.
     pub fn row(&self, i: u64) -> &[Cell]
         requires { i < length self.now }
         ensures { result.now ≡ nth_row self.now i }
@@ -119,9 +135,10 @@ impl Archive {
         row_from(&self.cells, start, self.sources)
     }
 
-    /// Rows from row `first` on, counted from the oldest, as many of the next `most` as lie together: how
-    /// many they are, at least one, and their cells, one row after another. Rows that were never written
-    /// may come one by one.
+    /// Returns the first of `most` rows from row `first` on that are consecutive in memory.
+    ///
+    /// The result is their number, from 1 to `most`, and their cells, one row after another. Row 0 is the oldest. Rows
+    /// that were never written may be returned one at a time.
     pub fn run(&self, first: u64, most: u64) -> (u64, &[Cell])
         requires some { 0 < most }
         requires there { first + most ≤ length self.now }
@@ -136,8 +153,9 @@ impl Archive {
         (count as u64, cells)
     }
 
-    /// The cells of row `i`, counted from the oldest, to be written. The archive ends with what was
-    /// written in their place.
+    /// Lends the cells of row `i` for writing. Row 0 is the oldest.
+    ///
+    /// Does not allocate.
     pub fn row_mut(&mut self, i: u64) -> &mut [Cell]
         requires { i < length self.old }
         ensures* writes_back { sem 𝓛 (LendsRow self.entry i result) }
@@ -151,8 +169,10 @@ impl Archive {
         row_mut(&mut self.cells, start, start + self.sources)
     }
 
-    /// Writes `count` rows, at most as many as there are, from row `i` on, counted from the oldest, to the
-    /// newest and then from the oldest on: `cells` has theirs, one row after another. It takes no memory.
+    /// Writes `count` rows from row `i` on, wrapping from the newest row to the oldest.
+    ///
+    /// Row 0 is the oldest, and `count` is at most the number of rows. `cells` holds the rows one after another. Does
+    /// not allocate.
     pub fn put_rows(&mut self, i: u64, count: u64, cells: &[Cell])
         requires there { i < length self.old }
         requires few { count ≤ length self.old }
@@ -166,8 +186,10 @@ impl Archive {
         put_cells(&mut self.cells, 0, rest);
     }
 
-    /// Makes `count` rows unknown, at most as many as there are, from row `i` on, counted from the oldest, to
-    /// the newest and then from the oldest on. It takes no memory, and touches that of written rows alone.
+    /// Makes `count` rows unknown, from row `i` on.
+    ///
+    /// The rows wrap from the newest row to the oldest. Row 0 is the oldest, and `count` is at most the number of rows.
+    /// Does not allocate, and touches only the memory of written rows.
     pub fn put_unknown(&mut self, i: u64, count: u64)
         requires there { i < length self.old }
         requires few { count ≤ length self.old }
@@ -185,8 +207,9 @@ impl Archive {
         forget(&mut self.cells, 0, cells_of(rest, self.sources));
     }
 
-    /// Drops the oldest row, and takes `cells`, one for each data source, as the newest. Adds a turn
-    /// for each cell to the meter, and takes no memory.
+    /// Drops the oldest row, and adds `cells` as the newest, one for each data source.
+    ///
+    /// The meter counts one unit of work for each cell. Does not allocate.
     pub fn push_row(&mut self, cells: &[Cell], meter: &mut Meter)
         requires one_each { length cells.now ≡ width self.old }
         requires turns { meter.old + length cells.now < 2 ^ 64 }
@@ -194,14 +217,17 @@ impl Archive {
         ensures turns { meter.new ≡ meter.old + length cells.now }
     {
         let start = cells_of(self.oldest, self.sources);
-        // What comes before it is written, but in an archive whose rows came from another one on.
+        // The rows before `start` are written, except in an archive of `new_from` that was not filled up to the newest
+        // row.
         fill_up(&mut self.cells, start);
         put_row(&mut self.cells, start, cells, meter);
         self.oldest = wrap(self.oldest + 1, self.rows);
     }
 
-    /// A copy of the `n` oldest rows, at most all of them. Answers `AllocError` only for want of
-    /// memory.
+    /// Copies the `n` oldest rows; `n` is at most the number of rows.
+    ///
+    /// # Errors
+    /// - `AllocError`: memory runs out.
     pub fn oldest(&self, alloc: Global, n: u64) -> Result<Dropped, AllocError>
         requires { n ≤ length self.now }
         ensures { IfOk result (λ dropped. dropped ≡ take n self.now) }
@@ -219,8 +245,9 @@ impl Archive {
         })
     }
 
-    /// Puts rows back that were the oldest, before those that are still there; as many of the newest
-    /// fall out. They are at most as many as the archive has, with as many cells. It takes no memory.
+    /// Puts rows back before the oldest row; as many of the newest rows are dropped.
+    ///
+    /// The rows have as many cells as those of the archive, and are at most as many. Does not allocate.
     pub fn put_back(&mut self, dropped: Dropped)
         requires fits { length dropped ≤ length self.old }
         requires one_width { HasWidth (width self.old) dropped }
@@ -238,8 +265,12 @@ impl Archive {
         write_from(&mut self.cells, start, &old);
     }
 
-    /// The same archive with `rows` rows (1 to 1,000,000): the newest of them, or all of them after
-    /// unknown ones (rrdresize). Answers `AllocError` only for want of memory.
+    /// Copies the archive with `rows` rows (1 to 1,000,000): the newest ones (rrdresize).
+    ///
+    /// If `rows` is larger than the number of rows, unknown rows precede the oldest.
+    ///
+    /// # Errors
+    /// - `AllocError`: memory runs out.
     pub fn resized(&self, alloc: Global, rows: u64) -> Result<Archive, AllocError>
         requires some_rows { 0 < rows }
         requires few_rows { rows ≤ most_rows }
@@ -263,7 +294,7 @@ impl Archive {
         })
     }
 
-    /// Puts each in the other's place. It takes no memory.
+    /// Exchanges the rows of two archives. Does not allocate.
     pub fn swap(&mut self, other: &mut Archive)
         ensures mine { self.new ≡ other.old }
         ensures others { other.new ≡ self.old }

@@ -9,12 +9,14 @@ use rrd_fixed::Cell;
 use std::alloc::{AllocError, Global};
 use std::marker::Model;
 
-/// Rows that were the oldest of an archive: at most 1,000,000, all with as many cells (millionths, or
-/// unknown). Contracts see the list of the rows, oldest first.
+/// Rows that were the oldest of an archive, all with the same number of cells.
+///
+/// There are at most 1,000,000 rows; a cell is in millionths, or unknown. Contracts see the list of the rows, oldest
+/// first.
 #[derive(Debug, Drop)]
 pub struct Dropped {
-    // The cells of the rows, one row after another, as far as they were written: the others are unknown.
-    // There is room for all of them from the start on.
+    // The cells of the rows, one row after another, up to the last written row: the others are unknown. The capacity is
+    // that of all rows from the start.
     pub(crate) cells: Vec<Cell>,
     pub(crate) rows: usize,
     pub(crate) sources: usize,
@@ -36,8 +38,10 @@ impl Model for Dropped {
 impl Dropped {
     ghost use Rattle.rrd_ring.specs.Lending.{LendsDropped};
 
-    /// `rows` rows (at most 1,000,000) of `sources` cells each (1 to 64), all unknown. Answers
-    /// `AllocError` only for want of memory.
+    /// Creates `rows` rows (at most 1,000,000) of `sources` cells each (1 to 64), all unknown.
+    ///
+    /// # Errors
+    /// - `AllocError`: memory runs out.
     pub fn new(alloc: Global, rows: u64, sources: u64) -> Result<Dropped, AllocError>
         requires few_rows { rows ≤ most_rows }
         requires some_sources { 0 < sources }
@@ -53,7 +57,7 @@ impl Dropped {
         })
     }
 
-    /// The number of rows, at most 1,000,000.
+    /// Returns the number of rows, at most 1,000,000.
     pub fn len(&self) -> u64
         ensures count { result ≡ length self.now }
         ensures each_row { HasWidth (width self.now) self.now }
@@ -62,7 +66,7 @@ impl Dropped {
         self.rows as u64
     }
 
-    /// The cells of row `i`, counted from the oldest.
+    /// Returns the cells of row `i`. Row 0 is the oldest.
     pub fn row(&self, i: u64) -> &[Cell]
         requires { i < length self.now }
         ensures { result.now ≡ nth_row self.now i }
@@ -71,9 +75,10 @@ impl Dropped {
         row_from(&self.cells, start, self.sources)
     }
 
-    /// Rows from row `first` on, counted from the oldest, as many of the next `most` as lie together: how
-    /// many they are, at least one, and their cells, one row after another. Rows that were never written
-    /// may come one by one.
+    /// Returns the first of `most` rows from row `first` on that are consecutive in memory.
+    ///
+    /// The result is their number, from 1 to `most`, and their cells, one row after another. Row 0 is the oldest. Rows
+    /// that were never written may be returned one at a time.
     pub fn run(&self, first: u64, most: u64) -> (u64, &[Cell])
         requires some { 0 < most }
         requires there { first + most ≤ length self.now }
@@ -88,8 +93,9 @@ impl Dropped {
         (count as u64, cells)
     }
 
-    /// The cells of row `i`, counted from the oldest, to be written. The list ends with what was
-    /// written in their place.
+    /// Lends the cells of row `i` for writing. Row 0 is the oldest.
+    ///
+    /// Does not allocate.
     pub fn row_mut(&mut self, i: u64) -> &mut [Cell]
         requires { i < length self.old }
         ensures* writes_back { sem 𝓛 (LendsDropped self.entry i result) }

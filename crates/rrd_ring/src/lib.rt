@@ -1,5 +1,7 @@
-//! Archives: the consolidated rows of a round-robin database, and rows that fell out of them.
-//! Contracts see both as a list of rows, oldest first, each row a list of cells.
+//! Archives, and the rows that archives dropped.
+//!
+//! An archive has the consolidated rows of a round-robin database: each new row replaces the oldest. Contracts see a
+//! list of rows, oldest first; each row is a list of cells.
 #![tactic(auto)]
 
 mod archive;

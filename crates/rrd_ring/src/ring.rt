@@ -1,4 +1,4 @@
-//! Rows of cells in one vector, and rings of them.
+//! Functions on rows of cells in one vector. A ring is such a vector whose oldest row may be any row in it.
 ghost use Rattle.std.specs.Prelude.{ℕ, ◌≡◌, ◌+◌, ◌*◌, ◌%◌, ◌-◌, ◌<◌, ◌≤◌, ◌^◌, ◌++◌, length, take, drop, replicate, slice_range, vec_len, vec_capacity, IfOk, OnOk};
 ghost use Rattle.std.specs.Borrow.{sem};
 ghost use Rattle.rrd_fixed.specs.declared.cell.Cell.TheVariants.{Unknown};
@@ -9,11 +9,10 @@ ghost use Rattle.rrd_ring.specs.Rows.{most_rows, most_sources};
 use rrd_fixed::{Cell, Meter};
 use std::alloc::{AllocError, Global};
 
-// The cells of the widest row where none was written.
+// The cells of an unwritten row. An archive has at most 64 data sources.
 static UNWRITTEN: [Cell; 64] = [Cell::Unknown; 64];
 
-// The row of a ring's vector at `place`, which goes on from the last row to the first: a comparison
-// takes the place of a division.
+// Returns `place` modulo `rows`: the row after a ring's last one is its first. A comparison is faster than a division.
 pub(crate) fn wrap(place: usize, rows: usize) -> usize
     requires some { 0 < rows }
     requires once { place < 2 * rows }
@@ -22,7 +21,7 @@ pub(crate) fn wrap(place: usize, rows: usize) -> usize
     if place < rows { place } else { place - rows }
 }
 
-// The cells of so many rows of `sources` cells each.
+// Returns the number of cells in `rows` rows of `sources` cells each.
 pub(crate) fn cells_of(rows: usize, sources: usize) -> usize
     requires few_rows { rows ≤ most_rows }
     requires few_sources { sources ≤ most_sources }
@@ -32,7 +31,7 @@ pub(crate) fn cells_of(rows: usize, sources: usize) -> usize
     rows * sources
 }
 
-// `count` unknown cells, in a vector with room for `room` of them.
+// Creates a vector of `count` unknown cells, with capacity for at least `room` cells.
 pub(crate) fn unknown_cells(
     alloc: Global,
     room: usize,
@@ -45,8 +44,9 @@ pub(crate) fn unknown_cells(
     Ok(cells)
 }
 
-// How many of the newest rows can be written of a ring of so many, where so many cells are: none where no cell is,
-// those before the oldest one's place where what is written ends there or before it, and else all of them.
+// Returns how many of the newest rows of a ring may be written, if its vector has `cells` written cells: no row if
+// there is no such cell, the `oldest` rows before the oldest row's index if the written cells end there or before, and
+// else all `rows` rows.
 pub(crate) fn rows_written(cells: usize, rows: usize, sources: usize, oldest: usize) -> usize
     requires few_rows { rows ≤ most_rows }
     requires few_sources { sources ≤ most_sources }
@@ -64,8 +64,8 @@ pub(crate) fn rows_written(cells: usize, rows: usize, sources: usize, oldest: us
     rows
 }
 
-// How many of `most` rows from `place` on lie together, of a vector that has so many written rows: as far as
-// these go, or the first one alone where it isn't written.
+// Returns how many of `most` rows from row `place` of the vector on are consecutive: as far as the `written` rows of
+// the vector go, or the first row alone if it isn't written.
 pub(crate) fn rows_together(written: usize, place: usize, most: usize) -> usize
     requires { 0 < most }
     ensures some { 0 < result }
@@ -79,8 +79,8 @@ pub(crate) fn rows_together(written: usize, place: usize, most: usize) -> usize
     1
 }
 
-// The `count` cells from `start` on of a ring's vector, those of whole rows that are written, or of one that
-// isn't.
+// Returns `count` cells of a ring's vector from cell `start` on. The cells are those of whole rows that are written, or
+// of one row that isn't.
 pub(crate) fn row_from(cells: &[Cell], start: usize, count: usize) -> &[Cell]
     requires few { length cells.now ≤ start → count ≤ most_sources }
     requires whole { start < length cells.now → start + count ≤ length cells.now }
@@ -93,8 +93,7 @@ pub(crate) fn row_from(cells: &[Cell], start: usize, count: usize) -> &[Cell]
     &UNWRITTEN[..count]
 }
 
-// Adds copies of `count` cells of a ring's vector from the one at `start` on: those that are written, and
-// unknown ones for the others.
+// Appends copies of `count` cells of a ring's vector from cell `start` on. Cells that are not written are unknown.
 fn push_part(
     copies: &mut Vec<Cell>,
     ring: &[Cell],
@@ -113,8 +112,8 @@ fn push_part(
     Ok(())
 }
 
-// Adds copies of `count` cells of a ring of `all` cells, of which the first are written, from the one
-// at `start` on: at most two pieces of its vector.
+// Appends copies of `count` cells of a ring of `all` cells from cell `start` on, wrapping from the last cell to the
+// first. The first cells of the ring's vector are written. The vector needs at most two slices.
 pub(crate) fn push_from(
     copies: &mut Vec<Cell>,
     ring: &[Cell],
@@ -136,8 +135,7 @@ pub(crate) fn push_from(
     Ok(())
 }
 
-// Writes unknown cells behind those that are written, so that there are at least `end`. It takes no
-// memory.
+// Appends unknown cells to the written ones until there are at least `end` cells. Does not allocate.
 pub(crate) fn fill_up(cells: &mut Vec<Cell>, end: usize)
     requires { end ≤ vec_capacity cells.old }
     ensures items { cells.new.items ≡ with_unwritten end cells.old.items }
@@ -148,7 +146,7 @@ pub(crate) fn fill_up(cells: &mut Vec<Cell>, end: usize)
     }
 }
 
-// Writes `part` into a ring's vector from the one at `start` on. It takes no memory.
+// Writes `part` into a ring's vector from cell `start` on. Does not allocate.
 pub(crate) fn put_cells(cells: &mut Vec<Cell>, start: usize, part: &[Cell])
     requires { start + length part.now ≤ vec_capacity cells.old }
     ensures items { let filled = with_unwritten (start + length part.now) cells.old.items in
@@ -156,7 +154,7 @@ pub(crate) fn put_cells(cells: &mut Vec<Cell>, start: usize, part: &[Cell])
     ensures capacity { vec_capacity cells.old ≤ vec_capacity cells.new }
 {
     if start == cells.len() {
-        // Cells that come one after another are written once.
+        // Cells that arrive one after another are written only once.
         let _has_room = cells.extend_from_slice(part);
         return;
     }
@@ -165,7 +163,7 @@ pub(crate) fn put_cells(cells: &mut Vec<Cell>, start: usize, part: &[Cell])
     cells[start..end].copy_from_slice(part);
 }
 
-// Makes cells that are written unknown: those from `start` on and before `end`.
+// Makes written cells unknown, from `start` to before `end`.
 fn overwrite(cells: &mut Vec<Cell>, start: usize, end: usize)
     requires start_le_end { start ≤ end }
     requires in_bounds { end ≤ vec_len cells.old }
@@ -176,8 +174,8 @@ fn overwrite(cells: &mut Vec<Cell>, start: usize, end: usize)
     cells[start..end].fill(Cell::Unknown);
 }
 
-// Makes the `count` cells of a ring's vector from `start` on unknown: those that were never written are. It
-// takes no memory.
+// Makes `count` cells of a ring's vector unknown from cell `start` on. Cells that were never written are unknown
+// already. Does not allocate.
 pub(crate) fn forget(cells: &mut Vec<Cell>, start: usize, count: usize)
     requires { start + count < 2 ^ 64 }
     ensures cells { (all : ℕ) → length cells.old.items ≤ all → start + count ≤ all
@@ -192,7 +190,8 @@ pub(crate) fn forget(cells: &mut Vec<Cell>, start: usize, count: usize)
     }
 }
 
-// Writes `cells` into a ring from the one at `start` on: at most two pieces of its vector.
+// Writes `cells` into a ring from cell `start` on, wrapping from the last cell to the first. The vector needs at most
+// two slices.
 pub(crate) fn write_from(ring: &mut [Cell], start: usize, cells: &[Cell])
     requires within { start ≤ length ring.old }
     requires few { length cells.now ≤ length ring.old }
@@ -203,8 +202,8 @@ pub(crate) fn write_from(ring: &mut [Cell], start: usize, cells: &[Cell])
     ring[..cells.len() - first].copy_from_slice(&cells[first..]);
 }
 
-// Writes a row's cells. The meter counts the cells that are written into an archive: it ticks where
-// each of them is written.
+// Writes the cells of a row. The meter counts the cells that are written into an archive, at the statement that writes
+// each.
 pub(crate) fn write_row(row: &mut [Cell], cells: &[Cell], meter: &mut Meter)
     requires one_each { length cells.now ≡ length row.old }
     requires turns { meter.old + length cells.now < 2 ^ 64 }
@@ -217,7 +216,7 @@ pub(crate) fn write_row(row: &mut [Cell], cells: &[Cell], meter: &mut Meter)
     }
 }
 
-// Writes a row's cells behind those that are written. The meter counts them as `write_row` does.
+// Appends the cells of a row to the written ones. The meter counts the cells as in `write_row`.
 fn push_each(cells: &mut Vec<Cell>, row: &[Cell], meter: &mut Meter)
     requires room { vec_len cells.old + length row.now ≤ vec_capacity cells.old }
     requires turns { meter.old + length row.now < 2 ^ 64 }
@@ -231,8 +230,8 @@ fn push_each(cells: &mut Vec<Cell>, row: &[Cell], meter: &mut Meter)
     }
 }
 
-// Writes a row's cells from `start` on: over a row that is written, or behind the last one. The meter
-// counts them as `write_row` does.
+// Writes the cells of a row from cell `start` on: over a written row, or after the last one. The meter counts the cells
+// as in `write_row`.
 pub(crate) fn put_row(cells: &mut Vec<Cell>, start: usize, row: &[Cell], meter: &mut Meter)
     requires within { start ≤ vec_len cells.old }
     requires whole { start < vec_len cells.old → start + length row.now ≤ vec_len cells.old }
@@ -250,7 +249,7 @@ pub(crate) fn put_row(cells: &mut Vec<Cell>, start: usize, row: &[Cell], meter: 
     }
 }
 
-// The cells of a vector's row, to be written: those from `start` on and before `end`.
+// Lends the cells from `start` to before `end` for writing.
 fn part_mut(cells: &mut Vec<Cell>, start: usize, end: usize) -> &mut [Cell]
     requires start_le_end { start ≤ end }
     requires in_bounds { end ≤ vec_len cells.old }
@@ -260,7 +259,8 @@ fn part_mut(cells: &mut Vec<Cell>, start: usize, end: usize) -> &mut [Cell]
     cells.slice_mut(start..end)
 }
 
-// The same, where as many cells come back as were lent: a caller may then rely on the other rows.
+// Lends the cells from `start` to before `end`, and gets as many back: so a caller knows that other rows stay
+// unchanged.
 pub(crate) fn row_mut(cells: &mut Vec<Cell>, start: usize, end: usize) -> &mut [Cell]
     requires start_le_end { start ≤ end }
     requires in_bounds { end ≤ vec_len cells.old }

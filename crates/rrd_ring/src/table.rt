@@ -1,30 +1,32 @@
-//! What the rows of an archive and those that it dropped have in common.
+//! The trait of archives and of the rows that they dropped.
 use crate::archive::Archive;
 use crate::dropped::Dropped;
 use rrd_fixed::Cell;
 
-/// Rows of cells (millionths, or unknown), oldest first, at most 1,000,000: those of an archive, or those that
-/// it dropped.
+/// Rows of cells, oldest first: those of an archive, or those that an archive dropped.
+///
+/// There are at most 1,000,000 rows; a cell is in millionths, or unknown.
 pub trait Table {
     ghost use Rattle.std.specs.Prelude.{◌≡◌, ◌+◌, ◌<◌, ◌≤◌, List, length, take, drop};
     ghost use Rattle.rrd_fixed.specs.declared.cell.Cell.{Cell};
     ghost use Rattle.rrd_ring.specs.Rows.{nth_row, row_cells, most_rows};
 
-    // The rows, as contracts see them.
+    // The rows that contracts see.
     ghost table: { Self → List (List Cell) };
 
-    /// How many rows there are.
+    /// Returns the number of rows, at most 1,000,000.
     fn count(&self) -> u64
         ensures count { result ≡ length (table self.now) }
         ensures few { result ≤ most_rows };
 
-    /// The cells of a row, counted from the oldest.
+    /// Returns the cells of row `number`. Row 0 is the oldest.
     fn at(&self, number: u64) -> &[Cell]
         requires { number < length (table self.now) }
         ensures { result.now ≡ nth_row (table self.now) number };
 
-    /// Rows from row `first` on, as many of the next `most` as lie together: how many they are, at least one,
-    /// and their cells, one row after another.
+    /// Returns the first of `most` rows from row `first` on that are consecutive in memory.
+    ///
+    /// The result is their number, from 1 to `most`, and their cells, one row after another.
     fn together(&self, first: u64, most: u64) -> (u64, &[Cell])
         requires some { 0 < most }
         requires there { first + most ≤ length (table self.now) }

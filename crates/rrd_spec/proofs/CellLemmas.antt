@@ -15,14 +15,13 @@ use Rattle.rrd_spec.specs.History.Rows.{steps_to_rows, steps_before, steps_for, 
 use Rattle.rrd_spec.specs.History.{Rra, Content, Event, Sampled, Tuned, Resized, Added, Removed, Moment, moment_after, moment_of, moment_at_end, seconds_of, rows_after, IsHistory, IsBase}
 use Rattle.rrd_spec.specs.Laws.ListedContent.{rows_never_lost, keep_last, filled_up}
 use Rattle.rrd_spec.specs.Laws.ListedLives.{archive_for, content_lived, kept_for, rows_for}
-use Rattle.rrd_spec.specs.Laws.Archives.{IsLived}
 use Rattle.rrd_spec.specs.History.Lives.{Life, lives}
 use Rattle.rrd_spec.proofs.Lives.{LifeAt, length-kept_for, length-rows_for, lives_are}
 use Rattle.rrd_spec.specs.History.Groups.{Rule, group_part, finished}
 use Rattle.rrd_spec.proofs.GroupLemmas.{reached_before}
 use Rattle.rrd_spec.specs.History.Cells.{row_of_age, row_at, row_then, newest, reach, prefixes, greatest, reach_after, horizon, row_by_time, time_of, rows_by_time, archive_by_time, content}
 use Rattle.rrd_spec.specs.Settings.{resolution}
-use Rattle.rrd_spec.specs.Laws.Cells.{IsMultiple, ShowsByTime, ListsByNumber}
+use Rattle.rrd_spec.specs.Laws.Cells.{IsListed, IsMultiple, ShowsByTime, ListsByNumber}
 use Rattle.rrd_spec.proofs.HistoryLemmas.{last_rises, length-sources}
 use Rattle.rrd_spec.proofs.RowLemmas.{length-filled_up, room_first, room_last, row_by_age}
 use Rattle.rrd_spec.specs.Lemmas.Lists.{length-keep_last}
@@ -358,7 +357,7 @@ each_by_time base es (life ∷ all) some h is =
     ap (λ rows. let a : Rra = record (archive_for base es life) { rows = rows } in a ∷ map (archive_for base es) all) (rows_are_by_time base es life some h is.0)
     ∙ ap (λ rest. archive_by_time base es life ∷ rest) (each_by_time base es all some h is.1)
 
-pub is_lived : (base : Content) (es : List Event) → IsLived base es
+pub is_lived : (base : Content) (es : List Event) → IsListed base es
 unfolding content_lived
 is_lived base es is h = ap (λ archives. let x : Content = record (content base es) { archives = archives } in x) (each_by_time base es (lives base es) is.some_step h (lives_are base es is h))
 

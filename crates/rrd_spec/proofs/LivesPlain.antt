@@ -12,7 +12,7 @@ use Rattle.rrd_spec.specs.History.Cells.{row_of_age}
 use Rattle.rrd_spec.specs.History.Groups.{finished, unfinished}
 use Rattle.rrd_spec.specs.History.Lives.{Life, life_of, life_added, new_archive, with_event, change_at, lives_from}
 use Rattle.rrd_spec.specs.History.Rows.{row_parts, row_parts_of, rows_of, steps_for, steps_to_rows}
-use Rattle.rrd_spec.specs.Laws.Cells.{IsListed}
+use Rattle.rrd_spec.specs.Laws.Cells.{IsListedByNumber}
 use Rattle.rrd_spec.specs.Laws.ListedContent.{KeepsArchives, archive_of, content_listed, filled_up, keep_last, kept_rows, rows_never_lost}
 use Rattle.rrd_spec.specs.Laws.ListedLives.{archive_for, content_lived, kept_for, rows_for}
 use Rattle.rrd_spec.specs.Laws.Archives.{AddChanges, BlankAtFirst, RemoveChanges}
@@ -136,7 +136,7 @@ archives_plain base es i (archive ∷ archives) =
     ap (λ a. a ∷ map (archive_for base es) (with_own (i + 1) es (map (life_of base) archives))) (archive_plain base es i archive)
     ∙ ap (λ rest. archive_of base es (i, archive) ∷ rest) (archives_plain base es (i + 1) archives)
 
-pub is_listed : (base : Content) (es : List Event) → IsListed base es
+pub is_listed : (base : Content) (es : List Event) → IsListedByNumber base es
 unfolding content_listed content_lived
 is_listed base es is h keeps =
     ap (λ archives. let x : Content = record (content_lived base es) { archives = archives } in x)

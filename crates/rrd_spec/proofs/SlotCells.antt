@@ -3,7 +3,8 @@ use Rattle.std.proofs.Common.{◌≡◌, ◌∙◌, ◌+◌, ◌-◌, ◌*◌, �
 use Rattle.std.specs.List.{AllByRecursion, flat_map, range_with_len}
 use Rattle.std.proofs.lemmas.List.{append_assoc, drop_at, get_or_append_left, get_or-append_right, length-append, length-set, set-append_left, set-append_right, take_at}
 use Rattle.rrd_fixed.specs.declared.cell.Cell.{Cell}
-use Rattle.rrd_spec.specs.Files.Slots.{by_slot, place_in, row_in}
+use Rattle.rrd_spec.specs.Files.Slots.{by_slot, row_in}
+use Rattle.rrd_spec.specs.Files.Places.{place_in}
 use Rattle.rrd_spec.specs.Laws.Slots.{AsManyCells, CellStandsInSlot, HasOneEach, PutsBlock, PutsCell, with_row_in}
 use Rattle.rrd_spec.proofs.Slotted.{keeps_row, puts_row, slot_has_place, stands_in_place}
 use native.Mathlib.Nat as nat

@@ -11,7 +11,8 @@ use Rattle.rrd_fixed.specs.declared.cell.Cell.{Cell}
 use Rattle.rrd_spec.specs.Settings.{resolution}
 use Rattle.rrd_spec.specs.History.Cells.{row_of_age, time_of}
 use Rattle.rrd_spec.specs.History.{Rra, Content}
-use Rattle.rrd_spec.specs.Files.Slots.{slot_of, stands_in, row_in, place_in}
+use Rattle.rrd_spec.specs.Files.Slots.{slot_of, stands_in, row_in}
+use Rattle.rrd_spec.specs.Files.Places.{place_in}
 use Rattle.rrd_spec.specs.Laws.Slots.{KeepsRow, PlaceHasSlot, PlacesDiffer, PutsRow, ShowsInPlace, SlotHasPlace, StandsInPlace, with_row_in}
 use Rattle.std.proofs.Math.Nat.{add-mul-mod_self_right, mod-add-div'}
 use native.Mathlib.Nat as nat

@@ -1,5 +1,5 @@
--- Definition: which archive a fetch reads, and which span of it (rrdfetch; the order of the archives is this
--- project's).
+-- Definition: which archive a fetch reads, and which rows of it (rrdfetch; the order of the archives is this project's
+-- rule).
 use Rattle.std.specs.Prelude.{ℕ, ◌+◌, ◌-◌, ◌*◌, ◌/◌, pos, int_lt, int_le, nat_lt, Bool, true, false, not, ◌&&◌, ◌||◌, if◌then◌else◌, Option, Some, None, Result, Ok, Err, List, [], ◌∷◌, map}
 use Rattle.std.specs.Int.{abs_diff}
 use Rattle.std.specs.List.{find, filter, list_any, enumerate_from}
@@ -19,7 +19,7 @@ use Rattle.rrd_spec.specs.History.Cells.{reach}
 use Rattle.rrd_spec.specs.Commands.Verdict.{Check, ◌refuses◌, first_refusal}
 use Rattle.rrd_spec.specs.History.Steps.{step}
 
--- ---- the archives that can be read
+-- ---- the archives that a fetch may read
 
 abbrev pub same_function : Function → Function → Bool
 same_function Average Average = true
@@ -28,44 +28,44 @@ same_function Max Max = true
 same_function Last Last = true
 same_function _ _ = false
 
--- an archive with its number, the seconds in a row, and the time after which its rows reach
+-- an archive with its number, its resolution, and the time after which all its rows end
 abbrev pub candidate : ℕ → ℕ → ℕ × RraDef → Candidate
 candidate step last (number, def) =
     record { number = number; resolution = resolution step def; reach = reach (resolution step def) def.rows last }
 
--- those with this function, by their numbers
+-- the archives with this consolidation function, in the order of their numbers
 abbrev pub candidates : ℕ → ℕ → Function → List RraDef → List Candidate
 candidates step last function defs =
     map (candidate step last)
     (filter (λ ((number, def) : ℕ × RraDef). same_function def.function function) (enumerate_from 0 defs))
 
--- ---- which of them is taken
+-- ---- the archive that a fetch reads
 
--- the first one than which none is better
+-- the first item such that no other item is better
 abbrev pub best : {A : Type 0} → (A → A → Bool) → List A → Option A
 best is_better items = find (λ one. not (list_any (λ other. is_better other one) items)) items
 
--- all rows from the start on are there
+-- the archive has all rows from the start on
 abbrev pub covers : ℕ → Candidate → Bool
 covers start one = int_le one.reach (pos start)
 
--- nearer to the resolution that is asked for
+-- the resolution is nearer to the requested one
 abbrev pub is_nearer : ℕ → Candidate → Candidate → Bool
 is_nearer asked one other = nat_lt (abs_diff one.resolution asked) (abs_diff other.resolution asked)
 
--- reaches back farther; as far, and nearer
+-- the archive reaches back farther; or as far, with a nearer resolution
 abbrev pub is_farther : ℕ → Candidate → Candidate → Bool
 is_farther asked one other =
     int_lt one.reach other.reach || (int_le one.reach other.reach && is_nearer asked one other)
 
--- of those that cover the start the nearest; if none does, the one that reaches back farthest. Of equal ones the one
--- with the lower number
+-- of the archives that cover the start, the one with the nearest resolution; if no archive covers the start, the one
+-- that reaches back farthest. Of equal archives the one with the lower number is read
 abbrev pub taken : ℕ → ℕ → List Candidate → Option Candidate
 taken asked start list = option_or (best (is_nearer asked) (filter (covers start) list)) (best (is_farther asked) list)
 
--- ---- the span
+-- ---- the rows that a fetch reads
 
--- what can't be fetched of any database
+-- the checks of a fetch that do not depend on the database
 abbrev pub span_checks : Limits → FetchRequest → List Check
 span_checks limits request =
     ◌refuses◌ (nat_lt limits.latest_time request.start) BadTime
@@ -73,8 +73,8 @@ span_checks limits request =
     ∷ ◌refuses◌ (nat_lt request.end request.start) BadSpan
     ∷ []
 
--- the rows at the multiples of the resolution from after `lo` up to `hi`: `lo` is the start rounded down, `hi` the
--- first one after the end
+-- the rows at the multiples of the resolution after `lo`, up to `hi`: `lo` is the start rounded down, and `hi` is the
+-- first multiple after the end
 abbrev pub span : FetchRequest → Candidate → Chosen
 span request one = record {
   archive = one.number;
@@ -83,7 +83,7 @@ span request one = record {
   hi = (request.end / one.resolution + 1) * one.resolution;
 }
 
--- how many rows that is
+-- the number of these rows
 abbrev pub span_rows : Chosen → ℕ
 span_rows chosen = (chosen.hi - chosen.lo) / chosen.res
 
@@ -101,7 +101,7 @@ choice_of limits step last defs request =
     unless_refused (first_refusal (span_checks limits request))
     (span_of limits request (taken request.asked request.start (candidates step last request.function defs)))
 
--- what a fetch reads, or its refusal
+-- the rows that a fetch reads, or its refusal
 unfoldable pub choice_within : Limits → Content → Function → ℕ → ℕ → ℕ → Result Chosen Refusal
 choice_within limits content function asked start end =
     choice_of limits content.step content.last (definitions content.archives)

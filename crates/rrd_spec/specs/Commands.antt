@@ -1,4 +1,4 @@
--- Definition: the commands that change a database, and what happens to it by them (rrdupdate, rrdtune, rrdresize).
+-- Definition: the commands that change a database, and the events that they cause (rrdupdate, rrdtune, rrdresize).
 use Rattle.std.specs.Prelude.{ℕ, ◌+◌, ◌-◌, if◌then◌else◌, Bool, true, false, Option, Some, None, List, [], ◌∷◌, ◌++◌, map, slice_index_or, slice_set}
 use Rattle.std.specs.List.{fold, remove}
 use Rattle.std.specs.Option.{option_map_or, unwrap_or}
@@ -26,9 +26,9 @@ pub mod RefusalTexts
 pub mod Answers
 pub mod Turns
 
--- ---- what is asked
+-- ---- the requests
 
--- a new value for the source of a name
+-- a new value for the data source of a name
 abbrev pub Asked : Type 0 → Type 0
 Asked A = Name × A
 
@@ -40,21 +40,22 @@ pub data DatabaseChange : Type 0 where
 
 -- ---- raw values
 
--- the raw value of what is given (rrdupdate; which numbers a source accepts is this project's)
+-- the raw value of a given value (rrdupdate; which numbers a data source accepts is this project's rule)
 abbrev pub raw_of : Kind → Given → Raw
 raw_of kind Given.Unknown = Raw.Unknown
 raw_of kind (Given.Number number) = option_map_or Raw.Known (admit kind number) Raw.Unknown
 
 -- ---- names
 
--- the value for a source: the one in the place of its name; unknown if it isn't named (rrdupdate, "--template")
+-- the value for a data source: the one at the index of its name; unknown if the template does not name the data source
+-- (rrdupdate, "--template")
 abbrev pub value_for : List Name → List Given → DsDef → Given
 value_for [] values source = Given.Unknown
 value_for (name ∷ names) [] source = Given.Unknown
 value_for (name ∷ names) (value ∷ values) source =
     if same_name name source.name then value else value_for names values source
 
--- ---- what happens
+-- ---- the events of a command
 
 abbrev pub rows_of_archives : List Rra → List ℕ
 rows_of_archives archives = map (λ (archive : Rra). archive.def.rows) archives
@@ -91,12 +92,12 @@ sample_of sources template sample =
 abbrev pub samples_of : List DsDef → Update → List Reading
 samples_of sources update = map (sample_of sources (unwrap_or update.template (names sources))) update.samples
 
--- what is asked of the source of this name, or else the old value
+-- the value that an option sets for the data source of this name, or else the old value
 abbrev pub asked : {A : Type 0} → Option (Asked A) → Name → A → A
 asked None name old = old
 asked (Some option) name old = if same_name option.0 name then option.1 else old
 
--- a source's new settings (rrdtune). All names are those before the command (own)
+-- the new settings of a data source (rrdtune). All names are those before the command (this project's rule)
 abbrev pub tuned : Tuning → DsDef → DsDef
 tuned tuning source = record {
   name = asked tuning.rename source.name source.name;
@@ -110,12 +111,12 @@ abbrev pub rows_changed : Change → ℕ → ℕ → ℕ
 rows_changed Grow old rows = old + rows
 rows_changed Shrink old rows = old - rows
 
--- an archive that comes or goes (rrdtune)
+-- the event of an archive that is added or removed (rrdtune)
 abbrev pub archive_event : ArchiveTune → Event
 archive_event (Add def) = Added def
 archive_event (Remove archive) = Removed archive
 
--- an archive is asked for, one more
+-- a tune adds an archive
 abbrev pub is_addition : Option ArchiveTune → Bool
 is_addition None = false
 is_addition (Some (Add def)) = true
@@ -129,14 +130,14 @@ events settings (TuningBy tuning) =
 events settings (Resizing archive change rows) =
     Resized archive (rows_changed change (slice_index_or settings.rows archive 0) rows) ∷ []
 
--- the events of a history, each command under the settings that the earlier ones left
+-- the events of a history, each command under the settings that the earlier commands left
 abbrev pub events_of : Settings → List DatabaseChange → List Event
 events_of settings [] = []
 events_of settings (command ∷ commands) =
     events settings command
     ++ events_of (fold settings_after settings (events settings command)) commands
 
--- ---- the content of a history of commands, and a content moved by one
+-- ---- the content after a history of commands, and after one command
 
 -- each row is that of its time
 abbrev pub content_of : Content → List DatabaseChange → Content

@@ -1,4 +1,4 @@
--- Example: what the definitions compute for worked histories, commands and times; and what these are made of.
+-- Example: the results of the definitions for worked histories, commands and times; and the values that these use.
 use Rattle.std.specs.Prelude.{ℕ, ◌^◌, ◌*◌, pos, None, List, [], ◌∷◌, map, replicate, false}
 use Rattle.rrd_fixed.specs.declared.cell.Cell.{Cell}
 use Rattle.rrd_fixed.specs.declared.raw.Raw.{Raw}
@@ -45,14 +45,14 @@ counter heartbeat = record { name = 97 ∷ []; kind = Counter; heartbeat = heart
 abbrev pub archive : Function → ℕ → ℕ → RraDef
 archive function steps rows = record { function = function; xff = pos 500000; steps = steps; rows = rows }
 
--- a gauge's sample, in whole units
+-- a sample of a gauge, in whole units
 abbrev pub at : ℕ → ℕ → Event
 at time value = Sampled (record { time = time; raws = Raw.Known (pos (value * 10 ^ 6)) ∷ [] })
 
 abbrev pub count_at : ℕ → ℕ → Event
 count_at time value = Sampled (record { time = time; raws = Raw.Known (pos value) ∷ [] })
 
--- the first archive's rows
+-- the rows of each archive
 abbrev pub rows : Content → List (List (List Cell))
 rows content = map (λ (a : Rra). a.rows) content.archives
 
@@ -78,7 +78,7 @@ abbrev pub no_tuning : Tuning
 no_tuning =
     record { heartbeat = None; minimum = None; maximum = None; kind = None; rename = None; archive = None }
 
--- a gauge `g` and its archive of so many last values, a step each
+-- a database with one gauge `g` and one archive of `rows` last values, one step in each row
 abbrev pub small : ℕ → Content
 small rows = created 10 0 (record (gauge 100) { name = letter 103 }) (archive Last 1 rows ∷ [])
 

@@ -1,5 +1,5 @@
--- Definition: what a history of commands makes of a database, second by second. Where no manual page is named, the
--- rule is this project's.
+-- Definition: the content that a history of commands leaves in a database, second by second. A rule without the name of
+-- a manual page is this project's.
 use Rattle.std.specs.Prelude.{◌≡◌, ℕ, ◌+◌, ◌-◌, ◌<◌, nat_le, ◌==◌, if◌then◌else◌, Bool, List, [], ◌∷◌, map, length}
 use Rattle.std.specs.List.{fold, find, range_with_len, AllByRecursion}
 use Rattle.std.specs.Option.{option_map_or}
@@ -17,16 +17,17 @@ pub mod Lives
 pub mod Rows
 pub mod Cells
 
--- ---- what a database holds
+-- ---- the content of a database
 
--- an archive: per source the part of its unfinished row, and its rows, oldest first, each a cell per source
+-- an archive: its settings, the part of the unfinished row for each data source, and the rows, oldest first, with one
+-- cell for each data source
 pub record Rra : Type 0 where
   pub def : RraDef
   pub parts : List Part
   pub rows : List (List Cell)
 
--- a database: its settings, the last time, per source the raw value and the part of the unfinished step, and the
--- archives
+-- a database: its settings, the last time, the last raw value and the part of the unfinished step for each data source,
+-- and the archives
 pub record Content : Type 0 where
   pub step : ℕ
   pub depth : ℕ
@@ -36,15 +37,15 @@ pub record Content : Type 0 where
   pub parts : List Part
   pub archives : List Rra
 
--- ---- what happens to it
+-- ---- the events of a history
 
--- a sample: its time, and a raw value per source
+-- a sample: its time, and a raw value for each data source
 pub record Reading : Type 0 where
   pub time : ℕ
   pub raws : List Raw
 
--- a sample comes; the sources get other settings; an archive gets another number of rows, is added behind the others,
--- or is removed
+-- a sample; new settings of the data sources; a new number of rows of an archive; an archive added after the others; an
+-- archive removed
 pub data Event : Type 0 where
   Sampled : Reading → Event
   Tuned : List DsDef → Event
@@ -52,9 +53,9 @@ pub data Event : Type 0 where
   Added : RraDef → Event
   Removed : ℕ → Event
 
--- ---- the sources: their settings, last time and raw values
+-- ---- the data sources: their settings, last time and raw values
 
--- what the rate of the next sample depends on
+-- the values on which the rates of the next sample depend
 pub record Moment : Type 0 where
   pub sources : List DsDef
   pub last : ℕ
@@ -67,7 +68,7 @@ same_kind Derive Derive = Bool.true
 same_kind Absolute Absolute = Bool.true
 same_kind _ _ = Bool.false
 
--- a raw value under new settings: another kind makes it unknown (own; rrdtune gives the new type alone)
+-- a raw value under new settings: unknown if the type changes (this project's rule; rrdtune changes only the type)
 abbrev pub raw_under : Kind → Kind → Raw → Raw
 raw_under old new raw = if same_kind old new then raw else Raw.Unknown
 
@@ -83,8 +84,8 @@ moment_after now (Resized archive rows) = now
 moment_after now (Added def) = now
 moment_after now (Removed archive) = now
 
--- the rates of a sample's interval, by the settings in force and the raw values of the sample before (rrdcreate, "DS";
--- that the settings in force hold for the whole interval is this project's)
+-- the rates of the interval before a sample, from the settings in force and the raw values of the sample before
+-- (rrdcreate, "DS"; that the settings in force hold for the whole interval is this project's rule)
 abbrev pub rates : List DsDef → ℕ → List Raw → List Raw → List Cell
 rates (source ∷ sources) interval (old ∷ olds) (new ∷ news) =
     rate source.kind old new interval source.heartbeat source.min source.max
@@ -107,20 +108,20 @@ samples now (Resized archive rows ∷ events) = samples now events
 samples now (Added def ∷ events) = samples now events
 samples now (Removed archive ∷ events) = samples now events
 
--- the rates in a second: those of the first sample at or after it (rrdcreate, "The HEARTBEAT and the STEP")
+-- the rates in a second: those of the first sample at or after the second (rrdcreate, "The HEARTBEAT and the STEP")
 abbrev pub second : List Taken → ℕ → List Cell
 second taken at = option_map_or (λ sample. sample.rates) (find (λ sample. nat_le at sample.time) taken) []
 
--- each second from one time (without its own) to another
+-- the rates of each second after `from`, up to `to`
 abbrev pub seconds : List Taken → ℕ → ℕ → List (List Cell)
 seconds taken from to = map (second taken) (range_with_len (from + 1) (to - from))
 
--- ---- what it comes to
+-- ---- the result of a history
 
 abbrev pub moment_of : Content → Moment
 moment_of content = record { sources = content.sources; last = content.last; raws = content.raws }
 
--- how the sources stand after the events
+-- the data sources after the events
 abbrev pub moment_at_end : Content → List Event → Moment
 moment_at_end base events = fold moment_after (moment_of base) events
 
@@ -128,7 +129,7 @@ moment_at_end base events = fold moment_after (moment_of base) events
 unfoldable pub seconds_of : Content → List Event → List (List Cell)
 seconds_of base events = seconds (samples (moment_of base) events) base.last (moment_at_end base events).last
 
--- how many rows an archive of this number has after an event, and after all of them (rrdresize)
+-- the number of rows that archive `index` has after an event, and after all events (rrdresize)
 abbrev pub rows_after : ℕ → ℕ → Event → ℕ
 rows_after index rows (Sampled sample) = rows
 rows_after index rows (Tuned sources) = rows
@@ -139,9 +140,9 @@ rows_after index rows (Removed archive) = rows
 abbrev pub rows_at_end : ℕ → ℕ → List Event → ℕ
 rows_at_end index rows events = fold (rows_after index) rows events
 
--- ---- what is accepted
+-- ---- the histories that are defined
 
--- times rise, a tune keeps the number of sources, and an archive has a row, and a step in each
+-- times rise, a tune keeps the number of data sources, and each archive has at least one row, and one step in each row
 abbrev pub IsHistory : Moment → List Event → Type 0
 IsHistory now [] = Unit {0}
 IsHistory now (Sampled sample ∷ events) =

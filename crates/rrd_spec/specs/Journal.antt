@@ -1,4 +1,5 @@
--- Definition: the journal: its entries, what is left after reverts, and which entries may stand in it (own).
+-- Definition: the journal: its entries, the commands that survive reverts, and the entries that it may contain (this
+-- project's rules).
 pub mod Entries
 pub mod Survivors
 pub mod Outlines

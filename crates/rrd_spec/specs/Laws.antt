@@ -1,4 +1,4 @@
--- Law: what holds of the definitions, each the contract of a function in src/laws.rt; by what they speak of.
+-- Law: the theorems on the definitions, by subject. Each is the contract of a function in src/laws.rt.
 pub mod History
 pub mod Cells
 pub mod ListedContent

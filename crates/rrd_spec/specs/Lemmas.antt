@@ -1,4 +1,4 @@
--- Law: lemmas that proofs of several crates go by; by what they speak of.
+-- Law: lemmas for the proofs of several crates, by subject.
 pub mod Lists
 pub mod Validity
 pub mod Commands

@@ -1,4 +1,5 @@
 pub mod Limits
+pub mod Lists
 pub mod ArchiveLists
 pub mod Settings
 pub mod History

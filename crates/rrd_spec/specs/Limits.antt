@@ -1,37 +1,37 @@
--- Definition: What a database may have at most. The limits are this project's.
+-- Definition: the maximum of each setting of a database. The values are this project's.
 use Rattle.std.specs.Prelude.{ℕ, Bool, true, false}
 use Rattle.rrd_fixed.specs.Rate.{top}
 use Rattle.rrd_spec.specs.declared.version.Version.{Version}
 use Rattle.rrd_spec.specs.declared.version.Version.TheVariants.{One, Two}
 
--- the limits of one version of the file's layout
+-- the limits of one version of the file layout
 pub record Limits : Type 0 where
-  -- the seconds in a step (rrdcreate, "--step")
+  -- the step, in seconds (rrdcreate, "--step")
   pub longest_step : ℕ
   -- the time of a start, a sample and a fetch, in seconds since 1970 (rrdcreate, "--start"; rrdupdate; rrdfetch)
   pub latest_time : ℕ
-  -- the changes that can be reverted
+  -- the number of changes that can be reverted
   pub deepest_journal : ℕ
-  -- the data sources, and the archives, of a database (rrdcreate, "DS", "RRA")
+  -- the number of data sources, and of archives, of a database (rrdcreate, "DS", "RRA")
   pub most_sources : ℕ
   pub most_archives : ℕ
-  -- the cells of a database: a source's are the rows of all archives
+  -- the number of cells of a database: the data sources times the rows of all archives
   pub most_cells : ℕ
-  -- a source's heartbeat, in seconds (rrdcreate, "DS")
+  -- the heartbeat of a data source, in seconds (rrdcreate, "DS")
   pub longest_heartbeat : ℕ
-  -- a source's minimum and maximum, in millionths, without their sign (rrdcreate, "DS")
+  -- the minimum and maximum of a data source, in millionths, without their sign (rrdcreate, "DS")
   pub greatest_bound : ℕ
   -- the share of a row's steps that may be unknown, in millionths: below 1 (rrdcreate, "RRA")
   pub greatest_share : ℕ
-  -- the steps in a row, and the rows of an archive (rrdcreate, "RRA"; rrdresize)
+  -- the number of steps in a row, and of rows in an archive (rrdcreate, "RRA"; rrdresize)
   pub most_steps : ℕ
   pub most_rows : ℕ
-  -- the rows that one fetch reads (rrdfetch)
+  -- the number of rows that one fetch reads (rrdfetch)
   pub longest_span : ℕ
-  -- whether archives come and go, and a journal tells of it (rrdtune, "RRA", "DELRRA")
+  -- whether archives may be added and removed, with journal entries for both (rrdtune, "RRA", "DELRRA")
   pub archives_come_and_go : Bool
 
--- ---- what differs from version to version
+-- ---- the limits in which versions differ
 
 abbrev pub deepest_journal_of : Version → ℕ
 deepest_journal_of One = 1000
@@ -51,7 +51,7 @@ archives_come_and_go_of Two = true
 
 -- ---- the limits
 
--- those of a version
+-- the limits of a version
 abbrev pub limits_of : Version → Limits
 limits_of version = record {
   longest_step = 1000000;
@@ -69,13 +69,13 @@ limits_of version = record {
   archives_come_and_go = archives_come_and_go_of version;
 }
 
--- the version that is written, and those of every database
+-- the version that is written, and the limits of every database
 abbrev pub newest : Version
 newest = Two
 
 abbrev pub present : Limits
 present = limits_of newest
 
--- the data sources that one tune names: one for each of its options (rrdtune)
+-- the number of data sources that one tune names: one for each option (rrdtune)
 abbrev pub most_tuned : ℕ
 most_tuned = 5

@@ -1,4 +1,4 @@
--- Definition: the settings of a database, and what follows from them alone (rrdcreate).
+-- Definition: the settings of a database, and the values that follow from the settings alone (rrdcreate).
 use Rattle.std.specs.Prelude.{ℕ, ◌*◌, List, map, [], ◌∷◌, Bool, false, ◌||◌, length, sum}
 use Rattle.rrd_spec.specs.declared.settings.RraDef.{RraDef}
 use Rattle.rrd_fixed.specs.declared.name.Name.{Name}
@@ -6,14 +6,14 @@ use Rattle.rrd_fixed.specs.Names.{same_name}
 use Rattle.rrd_spec.specs.declared.settings.DsDef.{DsDef}
 use Rattle.std.specs.List.{list_any}
 
--- the seconds in a row, steps of so many seconds making it
+-- the resolution, in seconds per row, of an archive whose steps have `step` seconds
 abbrev pub resolution : ℕ → RraDef → ℕ
 resolution step def = step * def.steps
 
 abbrev pub names : List DsDef → List Name
 names sources = map (λ (source : DsDef). source.name) sources
 
--- what the settings that a command can change are: those of the sources, and each archive's number of rows
+-- the settings that a command can change: those of the data sources, and each archive's number of rows
 pub record Settings : Type 0 where
   pub sources : List DsDef
   pub rows : List ℕ
@@ -24,7 +24,7 @@ cells settings = length settings.sources * sum settings.rows
 abbrev pub has_source : List DsDef → Name → Bool
 has_source sources name = list_any (λ (source : DsDef). same_name source.name name) sources
 
--- a name stands twice
+-- a name occurs twice
 abbrev pub is_double : List Name → Bool
 is_double [] = false
 is_double (name ∷ names) = list_any (same_name name) names || is_double names

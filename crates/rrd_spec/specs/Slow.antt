@@ -1,4 +1,4 @@
--- Definition: the plain slow program: what it takes, and what it gives; and, as glue, how it groups cells.
+-- Definition: the input and the result of the slow program; and, as glue, how it groups cells.
 use Rattle.std.specs.Prelude.{◌≡◌, ℕ, ◌-◌, ◌<◌, ◌≤◌, pos, ◌≤ℤ◌, Some, List, [], ◌∷◌, ◌++◌, drop, length, map, replicate, slice_get}
 use Rattle.rrd_fixed.specs.declared.cell.Cell.{Cell}
 use Rattle.rrd_fold.specs.declared.function.Function.{Function}
@@ -19,7 +19,7 @@ use Rattle.rrd_spec.specs.Validity.{AreAccepted}
 
 -- ---- samples
 
--- a sample that is given, and that it came
+-- a given sample, and the event that it is
 abbrev pub reading_of : given.Reading → Reading
 reading_of reading = record { time = reading.time; raws = reading.raws }
 
@@ -30,7 +30,7 @@ event_of reading = Sampled (reading_of reading)
 abbrev pub taken_of : slow.Taken → Taken
 taken_of sample = record { time = sample.time; rates = sample.rates }
 
--- times that rise, up to the latest one there may be, and raw values that the sources accept
+-- times that rise, up to the maximum time, and raw values that the data sources accept
 abbrev pub AreInOrder : List DsDef → ℕ → List given.Reading → Type 0
 AreInOrder sources last [] = Unit {0}
 AreInOrder sources last (reading ∷ readings) =
@@ -52,12 +52,12 @@ abbrev pub function_of : Group → Function
 function_of (Step seconds) = Average
 function_of (Row def) = def.function
 
--- what a source's part of a full group gives
+-- the cell of a full group in which a data source has this part
 abbrev pub cell_of : Group → Part → Cell
 cell_of (Step seconds) part = step_cell seconds part
 cell_of (Row def) part = row_cell def.function def.xff def.steps part
 
--- `seconds_to_steps` of a step, `steps_to_rows` of a row
+-- `seconds_to_steps` for a step, `steps_to_rows` for a row
 abbrev pub rule_of : Group → ℕ → Rule (List Cell) (List Part) (List Cell)
 rule_of group sources =
     record {
@@ -74,10 +74,10 @@ IsGroup (Row def) =
     (0 < def.steps) × (def.steps ≤ present.most_steps) × (pos 0 ≤ℤ def.xff)
     × (def.xff ≤ℤ pos present.greatest_share)
 
--- ---- what an archive then shows
+-- ---- the rows that an archive then shows
 
--- the archive of this number has the newest of these rows in the content of the history, after unknown ones where
--- they are too few
+-- in the content of the history, archive `number` has the newest of these rows; if there are too few, unknown rows
+-- precede them
 abbrev pub AreNewest : CreateSpec → List Event → ℕ → List (List Cell) → Type 0
 AreNewest spec events number rows =
     (shown : Rra) → slice_get (content (created spec) events).archives number ≡ Some shown

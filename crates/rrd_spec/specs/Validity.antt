@@ -1,4 +1,4 @@
--- Definition: which databases are valid (own).
+-- Definition: which databases are valid (this project's rule).
 use Rattle.std.specs.Prelude.{◌≡◌, ℕ, ◌+◌, ◌*◌, ◌/◌, ◌%◌, ◌<◌, ◌≤◌, ◌≢◌, min, pos, ◌≤ℤ◌, unsigned_abs, true, false, List, [], ◌∷◌, length}
 use Rattle.std.specs.List.{AllByRecursion}
 use Rattle.rrd_fixed.specs.declared.cell.Cell.{Cell}
@@ -25,30 +25,30 @@ pub record IsSourceWithin (limits : Limits) (source : DsDef) : Type 0 where
   pub good_heartbeat : is_bad_heartbeat limits source.heartbeat ≡ false
   pub good_bounds : has_bad_bounds limits source ≡ false
 
--- a raw value for each source, which it accepts
+-- one raw value for each data source, which the data source accepts
 abbrev pub AreAccepted : List DsDef → List Raw → Type 0
 AreAccepted [] [] = Unit {0}
 AreAccepted [] (raw ∷ raws) = ⊥
 AreAccepted (source ∷ sources) [] = ⊥
 AreAccepted (source ∷ sources) (raw ∷ raws) = IsAccepted source.kind raw × AreAccepted sources raws
 
--- a part of at most so many cells, each from -TOP to TOP
+-- a part of at most `passed` cells, each from -TOP to TOP
 pub record IsPart (function : Function) (passed : ℕ) (part : Part) : Type 0 where
   pub few : part.known ≤ passed
   pub bounded : unsigned_abs part.value ≤ weight function part.known * top
   pub empty : part.known ≡ 0 → part.value ≡ pos 0
 
--- a part for each source
+-- one part for each data source
 pub record AreParts (function : Function) (sources passed : ℕ) (parts : List Part) : Type 0 where
   pub one_each : length parts ≡ sources
   pub each : AllByRecursion (IsPart function passed) parts
 
--- a row or step: a cell for each source
+-- a row or step: one cell for each data source
 pub record IsRow (sources : ℕ) (row : List Cell) : Type 0 where
   pub one_each : length row ≡ sources
   pub each : AllByRecursion IsBounded row
 
--- an archive, so many steps having ended
+-- an archive after `steps` steps have ended
 pub record IsValidArchiveWithin (limits : Limits) (sources steps : ℕ) (archive : Rra) : Type 0 where
   pub some_steps : 0 < archive.def.steps
   pub few_steps : archive.def.steps ≤ limits.most_steps
@@ -79,7 +79,7 @@ pub record IsValidWithin (limits : Limits) (content : Content) : Type 0 where
       AllByRecursion (IsValidArchiveWithin limits (length content.sources) (content.last / content.step))
       content.archives
 
--- by the limits of every database
+-- validity by the limits of every database
 abbrev pub IsSource : DsDef → Type 0
 IsSource = IsSourceWithin present
 
@@ -89,9 +89,9 @@ IsValidArchive = IsValidArchiveWithin present
 abbrev pub IsValid : Content → Type 0
 IsValid = IsValidWithin present
 
--- ---- its journal
+-- ---- a journal
 
--- what an update between two times saved of an archive
+-- the rows and parts that an update between two times saved of an archive
 pub record FitsArchive (step sources from to : ℕ) (archive : Rra) (old : SavedArchive) : Type 0 where
   pub same_function : old.function ≡ archive.def.function
   pub one_part_each : length old.parts ≡ sources
@@ -112,7 +112,7 @@ pub record FitsUpdate (now : Content) (old : BeforeUpdate) : Type 0 where
   pub one_part_each : length old.parts ≡ length now.sources
   pub archives_fit : FitEach now.step (length now.sources) old.last now.last now.archives old.archives
 
--- numbers that rise, from the lowest that may come, below a limit
+-- numbers that rise, from `lowest` on, below `limit`
 abbrev pub Rise : ℕ → ℕ → List SourceBefore → Type 0
 Rise lowest limit [] = Unit {0}
 Rise lowest limit (old ∷ olds) = (lowest ≤ old.number) × (old.number < limit) × Rise (old.number + 1) limit olds
@@ -127,14 +127,15 @@ pub record FitsResize (now : Content) (archive : ℕ) (rows : List (List Cell)) 
   pub one_cell_each : AllByRecursion (λ (row : List Cell). length row ≡ length now.sources) rows
   pub another : length rows ≢ length (rows_at now.archives archive)
 
--- a removed archive has its place, a preparation for each source, its rows, and a cell for each source in each
+-- a removed archive has a number that it can have again, a part for each data source, its rows, and one cell for each
+-- data source in each row
 pub record FitsRemoved (now : Content) (number : ℕ) (archive : Rra) : Type 0 where
   pub there : number ≤ length now.archives
   pub one_part_each : length archive.parts ≡ length now.sources
   pub rows_are : length archive.rows ≡ archive.def.rows
   pub one_cell_each : AllByRecursion (λ (row : List Cell). length row ≡ length now.sources) archive.rows
 
--- an archive comes or goes within limits that let it
+-- entries for archives that were added or removed fit only if the limits allow such changes
 abbrev pub FitsWithin : Limits → Content → Entry → Type 0
 FitsWithin limits now (UpdateEntry old) = FitsUpdate now old
 FitsWithin limits now (TuneEntry olds) = FitsTune now olds
@@ -146,7 +147,7 @@ FitsWithin limits now (RemovedEntry number archive) =
 abbrev pub Fits : Content → Entry → Type 0
 Fits = FitsWithin present
 
--- each entry fits, and undoing it gives a valid content, on which the older ones are valid
+-- each entry fits, and undoing it gives a valid content, of which the older entries are a valid journal
 abbrev pub IsValidJournalWithin : Limits → Content → List Entry → Type 0
 IsValidJournalWithin limits now [] = Unit {0}
 IsValidJournalWithin limits now (entry ∷ journal) =
@@ -157,7 +158,7 @@ pub record IsValidDatabaseWithin (limits : Limits) (now : Content) (journal : Li
   pub journal_is : IsValidJournalWithin limits now journal
   pub few : length journal ≤ now.depth
 
--- by the limits of every database
+-- validity by the limits of every database
 abbrev pub IsValidJournal : Content → List Entry → Type 0
 IsValidJournal = IsValidJournalWithin present
 

@@ -1,4 +1,4 @@
-//! Lists with room for each archive of a database.
+//! A list with capacity for one item of each archive.
 ghost use Rattle.std.specs.Prelude.{◌≡◌, ◌<◌, ◌≤◌, ◌++◌, ◌∷◌, ◌-◌, [], length, take, IfOk, insert, remove, slice_index_or};
 ghost use Rattle.std.specs.Borrow.{sem};
 ghost use Rattle.rrd_spec.specs.Limits.{present};
@@ -7,8 +7,10 @@ use crate::limits::MOST_ARCHIVES;
 use std::alloc::{AllocError, Global};
 use std::marker::Model;
 
-/// Something of each archive, by the archives' numbers: at most 128 items. There is room for all of them
-/// from the start on, so that an item that comes later takes no memory.
+/// A list with one item for each archive, by the archives' numbers.
+///
+/// A list has at most 128 items, and the capacity for all of them from the start, so that adding an item does not
+/// allocate.
 #[derive(Drop)]
 pub struct ArchiveList<T> {
     items: Vec<T>,
@@ -28,7 +30,10 @@ impl<T> Model for ArchiveList<T> {
 impl<T> ArchiveList<T> {
     ghost use Rattle.rrd_spec.specs.ArchiveLists.{LendsItem, LendsItems};
 
-    /// No items, with room for 128. Answers `AllocError` only for want of memory.
+    /// Creates an empty list with capacity for 128 items.
+    ///
+    /// # Errors
+    /// - `AllocError`: memory runs out.
     pub fn new(alloc: Global) -> Result<ArchiveList<T>, AllocError>
         ensures { IfOk result (λ list. list ≡ []) }
     {
@@ -37,14 +42,14 @@ impl<T> ArchiveList<T> {
         })
     }
 
-    /// How many items there are.
+    /// Returns the number of items.
     pub fn len(&self) -> usize
         ensures { result ≡ length self.now }
     {
         self.items.len()
     }
 
-    /// The item of the archive with this number.
+    /// Returns the item of archive `number`.
     pub fn get(&self, number: usize) -> &T
         requires { number < length self.now }
         ensures { result.now ≡ slice_index_or self.now number result.now }
@@ -52,7 +57,7 @@ impl<T> ArchiveList<T> {
         &self.items[number]
     }
 
-    /// The same, to be written.
+    /// Lends the item of archive `number` for writing.
     pub fn get_mut(&mut self, number: usize) -> &mut T
         requires { number < length self.old }
         ensures* writes_back { sem 𝓛 (LendsItem T.row self.entry number result) }
@@ -61,14 +66,14 @@ impl<T> ArchiveList<T> {
         &mut self.items[number]
     }
 
-    /// The items in order.
+    /// Returns the items in order.
     pub fn as_slice(&self) -> &[T]
         ensures { result.now ≡ self.now }
     {
         self.items.as_slice()
     }
 
-    /// The items in order, to be written.
+    /// Lends the items in order for writing.
     pub fn as_mut_slice(&mut self) -> &mut [T]
         ensures* writes_back { sem 𝓛 (LendsItems T.row self.entry result) }
         ensures value { result.now ≡ self.old }
@@ -78,8 +83,7 @@ impl<T> ArchiveList<T> {
 }
 
 impl<T: Drop> ArchiveList<T> {
-    /// Adds the item of one archive more, behind the others, of which there are fewer than 128. It takes
-    /// no memory.
+    /// Adds an item at the end, of a list with fewer than 128 items. Does not allocate.
     pub fn push(&mut self, item: T)
         requires { length self.old < present.most_archives }
         ensures { self.new ≡ self.old ++ item ∷ [] }
@@ -87,8 +91,9 @@ impl<T: Drop> ArchiveList<T> {
         self.items.push_reserved(item);
     }
 
-    /// Puts an item where the archive with this number has its own, or behind the last one. It and those
-    /// behind it move up; they are fewer than 128. It takes no memory.
+    /// Inserts an item as that of archive `number`, or at the end.
+    ///
+    /// The items after it move up by one number. The list has fewer than 128 items before. Does not allocate.
     pub fn insert(&mut self, number: usize, item: T)
         requires there { number ≤ length self.old }
         requires room { length self.old < present.most_archives }
@@ -97,7 +102,7 @@ impl<T: Drop> ArchiveList<T> {
         let _has_room = self.items.insert(number, item);
     }
 
-    /// Takes out the item of the archive with this number. Those behind it move down.
+    /// Removes and returns the item of archive `number`. The items after it move down by one number.
     pub fn remove(&mut self, number: usize) -> T
         requires { number < length self.old }
         ensures item { result ≡ slice_index_or self.old number result }

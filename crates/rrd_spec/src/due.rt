@@ -1,20 +1,20 @@
-//! The order of a file's pieces.
+//! The order of the records in a file.
 
 use crate::RraDef;
 
-/// Which piece of a database has to come next, as a file has them.
+/// The kind of record that a file must have next.
 #[derive(Clone, Copy, Debug)]
 pub enum Due {
-    /// A data source, with its last raw value and its preparation.
+    /// A data source, with its last raw value and its partial step.
     SourceDue,
-    /// An archive's settings.
+    /// The settings of an archive.
     HeadDue,
-    /// A preparation of the archive of these settings.
+    /// A partial row of the archive with these settings.
     PrepDue(RraDef),
     /// A cell of an archive.
     CellDue,
     /// A journal entry.
     EntryDue,
-    /// Nothing more: the database is whole.
+    /// No further record: the database is complete.
     NothingDue,
 }

@@ -1,4 +1,4 @@
-//! What the journal holds of a data source.
+//! The part of a journal entry that restores a data source.
 ghost use Rattle.std.specs.Prelude.{◌≡◌, [], None};
 ghost use Rattle.rrd_fixed.specs.declared.kind.Kind.TheVariants.{Gauge};
 ghost use Rattle.rrd_fixed.specs.declared.raw.Raw.TheVariants.{Unknown};
@@ -9,16 +9,16 @@ use rrd_fixed::{Kind, Name, Raw};
 /// A data source as it was before a tune.
 #[derive(Drop)]
 pub struct SourceBefore {
-    /// The source's number, from 0 on.
+    /// The number of the data source, from 0 on.
     pub number: u64,
-    /// Its settings.
+    /// The settings of the data source.
     pub source: DsDef,
-    /// Its last raw value.
+    /// The last raw value of the data source.
     pub raw: Raw,
 }
 
 impl Default for SourceBefore {
-    // What stands in an unused place.
+    // Fixed arrays hold this value in items that are not in use.
     fn default() -> Self
         ensures { result
             ≡ record {

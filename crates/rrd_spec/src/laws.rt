@@ -1,23 +1,25 @@
-//! Laws of the definitions alone. Each is the contract of a function that does nothing: a call of it
-//! makes the law known where it stands.
+//! Theorems on the definitions alone.
+//!
+//! Each theorem is the contract of a function that does nothing at run time: a call gives the prover the theorem at the
+//! call site.
 ghost use Rattle.std.specs.Prelude.{ℕ, ◌<◌, ℤ, List, replicate};
 ghost use Rattle.rrd_fixed.specs.declared.cell.Cell.{Cell};
 ghost use Rattle.rrd_fold.specs.declared.function.Function.{Function};
 ghost use Rattle.rrd_fold.specs.Parts.{Part, nothing};
 ghost use Rattle.rrd_spec.specs.Laws.Validity.{ArchiveStaysValid, PartsGrow, StaysValidFor, StaysValid, CreatedIsValid};
-ghost use Rattle.rrd_spec.specs.Laws.Commands.{AreKept, MovesListed, ResizeChanges, ResizeFits, TuneAdds, TuneChanges, TuneRemoves, CommandsGoOn, Moves, PassesAll};
+ghost use Rattle.rrd_spec.specs.Laws.Commands.{AreKept, MovesListed, MovesListedByNumber, ResizeChanges, ResizeFits, TuneAdds, TuneChanges, TuneRemoves, CommandsGoOn, Moves, PassesAll};
 ghost use Rattle.rrd_spec.specs.Laws.Journal.{EntryFits, JournalLeavesValid, JournalParts, JournalsJoin, ComesBack, RunsAgree, ActsOn, Begins, DatabaseStays, RevertStays, RevertTakesBack, RunsStay};
 ghost use Rattle.rrd_spec.specs.Laws.History.{GoesOnListed, StaysAsItIs, GoesOn, GoesOnFromContent, StaysBase};
 ghost use Rattle.rrd_spec.specs.Laws.Passing.{PassesWithin, PassesInPieces, SampledPasses};
 ghost use Rattle.rrd_spec.specs.History.Groups.{Rule};
 ghost use Rattle.rrd_spec.specs.History.{Rra, Content, Event, Reading};
-ghost use Rattle.rrd_spec.specs.Laws.Cells.{RowsComeBack, ShowsByAge, IsListed, ListsByNumber, ShowsByTime, ShowsCells};
+ghost use Rattle.rrd_spec.specs.Laws.Cells.{RowsComeBack, ShowsByAge, IsListed, IsListedByNumber, ListsByNumber, ShowsByTime, ShowsCells};
 ghost use Rattle.rrd_spec.specs.Commands.{DatabaseChange};
 ghost use Rattle.rrd_spec.specs.Journal.Entries.{Entry};
 ghost use Rattle.rrd_spec.specs.Files.Filed.{Filed};
 ghost use Rattle.rrd_spec.specs.Laws.FiledOnce.{FiledOnce, RowsFiledOnce};
 ghost use Rattle.rrd_spec.specs.Laws.Outlines.{FiledOutline, JournalTakes, JournalTook, OutlineFollows, OutlineIsNeeded, OutlineSuffices, OutlinesAreNeeded, OutlinesSuffice};
-ghost use Rattle.rrd_spec.specs.Laws.Archives.{AddChanges, BlankAtFirst, CutsLives, IsLived, RemoveChanges};
+ghost use Rattle.rrd_spec.specs.Laws.Archives.{AddChanges, BlankAtFirst, CutsLives, RemoveChanges};
 ghost use Rattle.rrd_spec.specs.Limits.{Limits};
 ghost use Rattle.rrd_spec.specs.Laws.Slots.{AsManyCells, CellStandsInSlot, KeepsRow, PlaceHasSlot, PlacesDiffer, PutsBlock, PutsCell, PutsRow, ShowsInPlace, SlotHasPlace, StandsInPlace};
 ghost use Rattle.rrd_spec.specs.Laws.EqualSteps.{SecondsOver, StepsInPieces, StepsOver, StepsWithin};
@@ -40,55 +42,60 @@ ghost use Rattle.rrd_spec.specs.Examples.Archives as archives;
 
 use rrd_fold::laws::one_cell_alone;
 
-/// A list in two pieces makes the same groups, the second piece going on where the first one
-/// stopped.
+/// Theorem: a list cut in two makes the same groups as the whole list.
+///
+/// The second part of the list continues the group that the first part left unfinished.
 pub fn groups_in_pieces<A, P, B>()
     ensures { (rule : Rule A P B) (before : ℕ) (begun : P) (xs ys : List A) →
         0 < rule.size → GoesOn rule before begun xs ys }
 {}
 
-/// Without an event a content stays as it is.
+/// Theorem: a content without an event stays unchanged.
 pub fn content_stays_without_events()
     ensures { (base : Content) → StaysAsItIs base }
 {}
 
-/// A history may be cut anywhere: the content at the cut is a base for what comes after. So it is
-/// where the rows are said by list.
+/// Theorem: a history may be cut anywhere, and the content at the cut is the base of the rest.
+///
+/// The theorem is stated for rows by their times, and for rows as lists.
 pub fn content_goes_on()
     ensures by_time { (base : Content) (first second : List Event) → GoesOnFromContent base first second }
     ensures by_list { (base : Content) (first second : List Event) → GoesOnListed base first second }
 {}
 
-/// A history makes a base of a base.
+/// Theorem: the content of a history on a base is a base again.
 pub fn stays_base()
     ensures { (base : Content) (events : List Event) → StaysBase base events }
 {}
 
-/// A sample is its rates, in each second of its interval.
+/// Theorem: a sample has the effect of its rates in each second of its interval.
 pub fn sample_passes()
     ensures { (base : Content) (reading : Reading) → SampledPasses base reading }
 {}
 
-/// Seconds may pass in two pieces.
+/// Theorem: seconds may pass in two parts.
 pub fn seconds_pass_in_pieces()
     ensures { (base : Content) (xs ys : List (List Cell)) → PassesInPieces base xs ys }
 {}
 
-/// Seconds that leave their step unfinished change nothing but its preparations and the last time.
+/// Theorem: seconds that do not finish their step change only the partial steps and the last time.
 pub fn seconds_pass_within_a_step()
     ensures { (base : Content) (seconds : List (List Cell)) → PassesWithin base seconds }
 {}
 
-/// Many seconds of one rate for each source pass at once: those that are left of the step in
-/// progress, and any number of whole steps.
+/// Theorem: many seconds with the same rates may pass at once.
+///
+/// The seconds are those left of the step in progress, and any number of whole steps.
 pub fn seconds_pass_at_once()
     ensures { (base : Content) (left count : ℕ) (rates : List Cell) → SecondsOver base left count rates }
 {
     one_cell_alone();
 }
 
-/// Steps pass an archive in two pieces. Those that leave its row unfinished pass at once, and so do a
-/// step and any number of another one, over the ends of rows.
+/// Theorem: steps may pass in two parts, and many equal steps may pass at once.
+///
+/// Steps that do not finish the row of an archive pass at once; so do one step and any number of equal steps after it,
+/// across the ends of rows.
 pub fn steps_pass_at_once()
     ensures pieces { (sources before : ℕ) (archive : Rra) (xs ys : List (List Cell)) →
         StepsInPieces sources before archive xs ys }
@@ -100,44 +107,47 @@ pub fn steps_pass_at_once()
     one_cell_alone();
 }
 
-/// What seconds leave of a valid content is valid, and what steps leave of a valid archive.
+/// Theorem: seconds leave a valid content valid, and steps leave a valid archive valid.
 pub fn seconds_stay_valid()
     ensures content { (base : Content) (seconds : List (List Cell)) → StaysValidFor base seconds }
     ensures archive { (sources before : ℕ) (steps : List (List Cell)) (archive : Rra) →
         ArchiveStaysValid sources before steps archive }
 {}
 
-/// Parts of no cell are within their bounds, and parts with one more cell each.
+/// Theorem: parts of no cell are within their bounds, and stay so with one more cell each.
 pub fn parts_stay_bounded()
     ensures none { (function : Function) (sources : ℕ) → AreParts function sources 0 (replicate sources nothing) }
     ensures one_more { (function : Function) (sources n : ℕ) (parts : List Part) (row : List Cell) →
         PartsGrow function sources n parts row }
 {}
 
-/// Each source accepts the raw value that it keeps of what is given.
+/// Theorem: each data source accepts the raw value that it keeps of a given value.
 pub fn raw_values_are_accepted()
     ensures { (given : DsDef → Given) (sources : List DsDef) → AreKept given sources }
 {}
 
-/// The rows that an update drops give back those from before it.
+/// Theorem: the rows that an update drops, followed by the rows that it leaves, are the earlier rows.
 pub fn rows_come_back()
     ensures { (base : Content) (index : ℕ) (archive : Rra) (readings : List Reading) →
         RowsComeBack base index archive readings }
 {}
 
-/// An archive's rows, each by its age.
+/// Theorem: an archive shows each row by its age, 0 for the newest.
+///
+/// The archive shows the rows that have had an index in it at every moment; the others are unknown.
 pub fn rows_by_age()
     ensures { (rows lasting : ℕ) (all : List (List Cell)) (unknown : List Cell) → ShowsByAge rows lasting all unknown }
 {}
 
-/// Each archive's rows, each by its time, and what a database shows in each of their cells.
+/// Theorem: each archive shows at each time the row of that time, and a content each cell of it.
 pub fn cells_by_time()
     ensures rows { (base : Content) (events : List Event) → ShowsByTime base events }
     ensures cells { (base : Content) (events : List Event) → ShowsCells base events }
 {}
 
-/// Each slot has one place and each place one slot, so that a row put into its place is in its slot and
-/// leaves the others as they are. By its time a content shows the row of each place.
+/// Theorem: slots and row indexes correspond one to one, and a content shows each row at its time.
+///
+/// A row that is put at the index of a slot is in that slot, and the other slots keep their rows.
 pub fn rows_stand_in_slots()
     ensures place { (resolution last rows slot : ℕ) → SlotHasPlace resolution last rows slot }
     ensures slot { (resolution last rows place : ℕ) → PlaceHasSlot resolution last rows place }
@@ -151,8 +161,10 @@ pub fn rows_stand_in_slots()
         KeepsRow resolution last rows slot row other }
 {}
 
-/// The cells of an archive, slot by slot, are as many as its rows and sources, each that of its row. A
-/// row put into its place changes one block of them, and a cell that cell alone.
+/// Theorem: the cells of an archive in slot order are those of its rows, one for each data source.
+///
+/// There are as many cells as rows times data sources. Putting a row at the index of a slot changes one block of the
+/// cells; putting a cell changes only that cell.
 pub fn cells_stand_in_slots()
     ensures as_many { (resolution last sources : ℕ) (rows : List (List Cell)) →
         AsManyCells resolution last sources rows }
@@ -164,7 +176,9 @@ pub fn cells_stand_in_slots()
         PutsCell resolution last sources rows slot source cell }
 {}
 
-/// Rows are told by their cells, slot by slot, and so is a database by the lists that a file has of it.
+/// Theorem: equal lists in a file mean equal rows, and equal databases.
+///
+/// Rows are equal if their cells in slot order are, and valid databases if their lists in a file are.
 pub fn databases_are_filed_once()
     ensures rows { (resolution last sources : ℕ) (rows others : List (List Cell)) →
         RowsFiledOnce resolution last sources rows others }
@@ -172,45 +186,51 @@ pub fn databases_are_filed_once()
         FiledOnce limits version d other }
 {}
 
-/// A content's rows, by list and by time, are the same; so they are after an accepted command.
+/// Theorem: the rows of a content as lists are its rows by their times.
+///
+/// The theorem holds whatever archives are added and removed, and after an accepted command. If no archive is added or
+/// removed, the lists may be those of the base's archives, number by number.
 pub fn content_is_listed()
     ensures events { (base : Content) (events : List Event) → IsListed base events }
     ensures command { (base : Content) (command : DatabaseChange) → MovesListed base command }
+    ensures events_by_number { (base : Content) (events : List Event) → IsListedByNumber base events }
+    ensures command_by_number { (base : Content) (command : DatabaseChange) → MovesListedByNumber base command }
 {}
 
-/// The steps and rows of a history, each by itself.
+/// Theorem: the steps and the rows of a history, as lists, are the steps and rows of their numbers.
 pub fn steps_and_rows_by_number()
     ensures { (base : Content) (archive : Rra) (events : List Event) → ListsByNumber base archive events }
 {}
 
-/// One command more is one move more.
+/// Theorem: one more accepted command moves the content once more.
 pub fn one_more_moves()
     ensures { (base : Content) (commands : List DatabaseChange) (command : DatabaseChange) → Moves base commands command }
 {}
 
-/// A history of commands may be cut anywhere too.
+/// Theorem: a history of accepted commands may be cut anywhere.
 pub fn commands_go_on()
     ensures { (base : Content) (first second : List DatabaseChange) → CommandsGoOn base first second }
 {}
 
-/// An accepted command passes each check.
+/// Theorem: an accepted command passes each check.
 pub fn accepted_passes()
     ensures { (base : Content) (command : DatabaseChange) → PassesAll base command }
 {}
 
-/// A tune changes the sources' settings and their raw values, and nothing else.
+/// Theorem: a tune without an archive changes only the settings and the raw values of data sources.
 pub fn tune_changes_sources()
     ensures { (base : Content) (tuning : Tuning) → TuneChanges base tuning }
 {}
 
-/// An accepted tune of an archive adds a new one, or removes one that is there, and changes nothing else.
+/// Theorem: an accepted tune of an archive adds a new one, or removes an existing one, and changes nothing else.
 pub fn tune_changes_archives()
     ensures added { (base : Content) (tuning : Tuning) (def : RraDef) → TuneAdds base tuning def }
     ensures removed { (base : Content) (tuning : Tuning) (number : ℕ) → TuneRemoves base tuning number }
 {}
 
-/// An accepted resize is of an archive that is there. It leaves that archive its newest rows, after
-/// unknown ones where they are too few, and changes nothing else.
+/// Theorem: an accepted resize leaves an existing archive its newest rows, and changes nothing else.
+///
+/// If the archive has fewer rows than it shall have, unknown rows precede the oldest.
 pub fn resize_changes_rows()
     ensures fits { (base : Content) (archive : ℕ) (change : Change) (rows : ℕ) →
         ResizeFits base archive change rows }
@@ -218,39 +238,39 @@ pub fn resize_changes_rows()
         ResizeChanges base archive change rows }
 {}
 
-/// The entry of an accepted command fits the content after it.
+/// Theorem: the entry of an accepted command fits the content after the command.
 pub fn entry_fits()
     ensures { (base : Content) (command : DatabaseChange) → EntryFits base command }
 {}
 
-/// An accepted command is undone by its entry.
+/// Theorem: the entry of an accepted command undoes the command.
 pub fn commands_come_back()
     ensures { (base : Content) (command : DatabaseChange) → ComesBack base command }
 {}
 
-/// After any list of actions the database is what the survivors make, and its journal their entries.
+/// Theorem: after any actions the content is that of the survivors, and the journal has their entries.
 pub fn runs_agree()
     ensures { (base : Content) (brought : List Entry) (actions : List Action) → RunsAgree base brought actions }
 {}
 
-/// A new database is valid.
+/// Theorem: a new database is valid.
 pub fn created_is_valid()
     ensures { (spec : CreateSpec) → CreatedIsValid spec }
 {}
 
-/// A command that is accepted moves a valid content to a valid one.
+/// Theorem: an accepted command leaves a valid content valid.
 pub fn stays_valid()
     ensures { (base : Content) (command : DatabaseChange) → StaysValid base command }
 {}
 
-/// So does it with the journal, and so does a revert.
+/// Theorem: an accepted command, and a revert, leave a valid database with its journal valid.
 pub fn database_stays()
     ensures changed { (now : Content) (journal : List Entry) (command : DatabaseChange) →
         DatabaseStays now journal command }
     ensures reverted { (now : Content) (journal : List Entry) → RevertStays now journal }
 {}
 
-/// What is within the limits of a version is within those of every database.
+/// Theorem: the limits of each version are within the limits of every database.
 pub fn versions_stay_within()
     ensures content { (version : Version) (content : Content) → ContentIsWithin version content }
     ensures entry { (version : Version) (now : Content) (entry : Entry) → EntryIsWithin version now entry }
@@ -260,49 +280,52 @@ pub fn versions_stay_within()
         DatabaseIsWithin version now journal }
 {}
 
-/// In a file of the first version no entry tells of an archive that was added or removed.
+/// Theorem: a file of version 1 has no entry for an archive that was added or removed.
 pub fn first_version_tells_no_archive()
     ensures { (f : Filed) → FirstTellsNoArchive f }
 {}
 
-/// A revert takes an accepted command back, content and journal, but for the oldest entry of a full
-/// journal.
+/// Theorem: a revert restores the content and the journal from before an accepted command.
+///
+/// The oldest entry of a full journal is lost.
 pub fn revert_takes_back()
     ensures { (now : Content) (journal : List Entry) (command : DatabaseChange) → RevertTakesBack now journal command }
 {}
 
-/// A valid database stands for the state that begins with it, its journal being brought along.
+/// Theorem: a valid database represents the state that starts with it, and brings its journal along.
 pub fn database_begins()
     ensures { (base : Content) (brought : List Entry) → Begins base brought }
 {}
 
-/// One action leads from a database that stands for a state to one that stands for the state after
-/// it.
+/// Theorem: if a database represents a state, it does so after one more action too.
 pub fn action_goes_on()
     ensures { (state : State) (kept : Stored) (action : Action) → ActsOn state kept action }
 {}
 
-/// Undoing entries changes a content's outline by the entries alone; a database's lists say that outline.
+/// Theorem: undoing entries changes the outline of a content by the entries alone.
+///
+/// The lists of a database in a file have the outline of its content.
 pub fn outlines_follow()
     ensures undone { (now : Content) (journal : List Entry) → OutlineFollows now journal }
     ensures filed { (version : Version) (d : Stored) → FiledOutline version d }
 {}
 
-/// The outline of a valid content alone decides which entry fits it and leaves a valid content.
+/// Theorem: the outline of a valid content alone decides which entry fits and leaves a valid content.
 pub fn outlines_judge_entries()
     ensures suffices { (limits : Limits) (now : Content) (entry : Entry) → OutlineSuffices limits now entry }
     ensures needed { (limits : Limits) (now : Content) (entry : Entry) → OutlineIsNeeded limits now entry }
 {}
 
-/// Older entries are a journal of the content that the newer ones leave, which is valid.
+/// Theorem: older entries are a journal of the content that the newer entries leave, which is valid.
 pub fn journals_in_pieces()
     ensures leaves { (limits : Limits) (now : Content) (journal : List Entry) → JournalLeavesValid limits now journal }
     ensures join { (limits : Limits) (now : Content) (newer older : List Entry) → JournalsJoin limits now newer older }
     ensures parts { (limits : Limits) (now : Content) (newer older : List Entry) → JournalParts limits now newer older }
 {}
 
-/// So outlines alone decide which entry a valid content's journal takes behind all others, and which
-/// lists are such a journal.
+/// Theorem: outlines alone decide which lists of entries are a journal of a valid content.
+///
+/// Outlines also decide which entry a journal takes after all others.
 pub fn outlines_judge_journals()
     ensures takes { (limits : Limits) (now : Content) (journal : List Entry) (entry : Entry) →
         JournalTakes limits now journal entry }
@@ -313,12 +336,12 @@ pub fn outlines_judge_journals()
         OutlinesAreNeeded limits now journal }
 {}
 
-/// A run from a valid database is what its survivors make, and stays valid.
+/// Theorem: a run of actions on a valid database is that of its survivors, and leaves a valid database.
 pub fn runs_stay()
     ensures { (base : Content) (brought : List Entry) (actions : List Action) → RunsStay base brought actions }
 {}
 
-/// The definitions compute worked examples.
+/// Theorem: the definitions compute the worked examples of histories and commands.
 pub fn examples()
     ensures two { worked.TwoSamples }
     ensures heartbeat { worked.Heartbeat }
@@ -333,7 +356,7 @@ pub fn examples()
     ensures bounded { commands.Bounded }
 {}
 
-/// So they do for new databases, rows by their times, fetches, and the oldest rows' times.
+/// Theorem: the definitions compute the worked examples of new databases, row times, fetches and oldest rows.
 pub fn examples_by_time()
     ensures created { creates.Created }
     ensures resizing { resizes.Resizing }
@@ -341,7 +364,7 @@ pub fn examples_by_time()
     ensures oldest { fetches.Oldest }
 {}
 
-/// So they do for archives that are added and removed.
+/// Theorem: the definitions compute the worked examples of archives that are added and removed.
 pub fn examples_of_archives()
     ensures added { archives.TwoAdded }
     ensures removed { archives.OneRemoved }
@@ -349,12 +372,12 @@ pub fn examples_of_archives()
     ensures versions { archives.InVersions }
 {}
 
-/// A history in which archives come and go may be cut anywhere, and its rows, by list and by time, are the same. An
-/// archive that is added is a new one behind the others, which shows nothing of the time before it; one that is removed
-/// takes nothing else along.
+/// Theorem: a history in which archives are added and removed may be cut anywhere, its rows as lists.
+///
+/// An archive that is added comes after the others, and shows nothing of the time before it. An archive that is removed
+/// changes nothing else.
 pub fn archives_come_and_go()
     ensures cut { (base : Content) (es : List Event) → CutsLives base es }
-    ensures by_time { (base : Content) (es : List Event) → IsLived base es }
     ensures add { (base : Content) (def : RraDef) → AddChanges base def }
     ensures remove { (base : Content) (number : ℕ) → RemoveChanges base number }
     ensures blank { (sources step last : ℕ) (def : RraDef) (time : ℤ) → BlankAtFirst sources step last def time }

@@ -1,5 +1,7 @@
-//! What a round-robin database means: the types of what is asked of one, the definitions, which look
-//! at every second and every row by themselves, their laws, and a slow program that works them out.
+//! The definition of a round-robin database.
+//!
+//! The crate has the types of requests and refusals, the definitions, which look at every second and every row by
+//! themselves, the theorems on the definitions, and a slow program that computes the definitions.
 #![tactic(auto)]
 
 mod archive_list;

@@ -1,10 +1,11 @@
-//! Lists of any length.
-ghost use Rattle.std.specs.Prelude.{◌≡◌, ◌<◌, ◌++◌, ◌∷◌, [], length, is_ok, if◌then◌else◌, slice_index_or, slice_set};
+//! A list of any length.
+ghost use Rattle.std.specs.Prelude.{◌≡◌, ◌<◌, ◌++◌, ◌∷◌, [], length, is_ok, if◌then◌else◌, slice_index_or};
+ghost use Rattle.std.specs.Borrow.{sem};
 
 use std::alloc::{AllocError, Global};
 use std::marker::Model;
 
-/// Items in the order in which they were pushed.
+/// Items in the order in which they were added.
 #[derive(Drop)]
 pub struct List<T> {
     items: Vec<T>,
@@ -19,7 +20,9 @@ impl<T> Model for List<T> {
 }
 
 impl<T> List<T> {
-    /// No items. Takes no memory.
+    ghost use Rattle.rrd_spec.specs.Lists.{LendsItems};
+
+    /// Creates an empty list. Does not allocate.
     pub fn new(alloc: Global) -> List<T>
         ensures { result ≡ [] }
     {
@@ -28,14 +31,14 @@ impl<T> List<T> {
         }
     }
 
-    /// How many items there are.
+    /// Returns the number of items.
     pub fn len(&self) -> usize
         ensures { result ≡ length self.now }
     {
         self.items.len()
     }
 
-    /// The item at a place, counted from 0, below the number of items.
+    /// Returns the item at index `at`, counted from 0.
     pub fn get(&self, at: usize) -> &T
         requires { at < length self.now }
         ensures { result.now ≡ slice_index_or self.now at result.now }
@@ -43,7 +46,7 @@ impl<T> List<T> {
         &self.items[at]
     }
 
-    /// The items in order, without the list.
+    /// Returns the items in order, as a vector.
     pub fn into_vec(self) -> Vec<T>
         ensures { result.items ≡ self }
     {
@@ -51,29 +54,31 @@ impl<T> List<T> {
         items
     }
 
-    /// The items in order.
+    /// Returns the items in order.
     pub fn as_slice(&self) -> &[T]
         ensures { result.now ≡ self.now }
     {
         self.items.as_slice()
     }
+
+    /// Returns the items in order, to be written. Does not allocate.
+    pub fn as_mut_slice(&mut self) -> &mut [T]
+        ensures* writes_back { sem 𝓛 (LendsItems T.row self.entry result) }
+        ensures value { result.now ≡ self.old }
+    {
+        self.items.as_mut_slice()
+    }
 }
 
 impl<T: Drop> List<T> {
-    /// Adds an item at the end, or leaves the list as it is where there is no memory.
+    /// Adds an item at the end.
+    ///
+    /// # Errors
+    /// - `AllocError`: memory runs out. The list is unchanged.
     pub fn push(&mut self, item: T) -> Result<(), AllocError>
         ensures { self.new ≡ (if is_ok result then self.old ++ item ∷ [] else self.old) }
     {
         self.items.push(item)?;
         Ok(())
-    }
-
-    /// Puts an item at a place, counted from 0, below the number of items; the one there goes. It takes
-    /// no memory.
-    pub fn set(&mut self, at: usize, item: T)
-        requires { at < length self.old }
-        ensures { self.new ≡ slice_set self.old at item }
-    {
-        self.items[at] = item;
     }
 }

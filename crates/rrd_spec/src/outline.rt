@@ -1,11 +1,13 @@
-//! Outlines of databases.
+//! The outline of a database.
 
 use crate::{ArchiveList, DsDef, List, RraDef};
 
-/// What of a database decides which journal entry fits it: its last time and its settings.
+/// The last time and the settings of a database.
+///
+/// They decide which journal entry fits the database.
 #[derive(Drop)]
 pub struct Outline {
-    /// The time of the last sample, or the start, in seconds.
+    /// The time of the last sample, or the start, in seconds since 1970.
     pub last: u64,
     /// The settings of the data sources.
     pub sources: List<DsDef>,

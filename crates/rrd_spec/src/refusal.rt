@@ -1,4 +1,4 @@
-//! Why a command is refused.
+//! The reasons for which a command is refused.
 ghost use Rattle.std.specs.Prelude.{◌≡◌, ◌≤◌, length};
 ghost use Rattle.rrd_spec.specs.declared.refusal.Refusal.TheVariants.{OutOfMemory};
 
@@ -7,7 +7,7 @@ use rrd_fixed::{numbered_text, short_text};
 use std::alloc::AllocError;
 use thiserror::Error;
 
-/// Why a command is refused. The database is then unchanged.
+/// The reason for which a command is refused. The database is then unchanged.
 #[derive(Clone, Copy, Debug, PartialEq, Eq, Error)]
 #[error("{}", self.text().as_str())]
 pub enum Refusal {
@@ -17,62 +17,62 @@ pub enum Refusal {
     BadStart,
     /// There is no data source.
     NoSource,
-    /// There is no archive.
+    /// There is no archive, or a tune would remove the last one.
     NoArchive,
     /// A name is not 1 to 19 characters out of `a-z A-Z 0-9 _`.
     BadName,
-    /// A name stands twice.
+    /// Two data sources would have the same name, or a template has a name twice.
     DoubleName,
     /// A heartbeat is not 1 to 9,999,999,999 seconds.
     BadHeartbeat,
-    /// A bound is past the greatest rate, or the least is above the greatest.
+    /// A bound is larger in size than the maximum rate, or the minimum is above the maximum.
     BadBounds,
-    /// A share is not from 0 to below 1.
+    /// An xff is not from 0 to below 1.
     BadXff,
-    /// The steps of a row are not 1 to 1,000,000.
+    /// The number of steps in a row is not 1 to 1,000,000.
     BadSteps,
-    /// The rows are not 1 to 1,000,000.
+    /// The number of rows is not 1 to 1,000,000.
     BadRows,
-    /// There are more than 64 sources, 128 archives or 8,000,000 cells.
+    /// There are more than 64 data sources, 128 archives or 8,000,000 cells.
     TooLarge,
-    /// The journal's depth is not 1 to 100,000.
+    /// The depth of the journal is not 1 to 100,000.
     BadDepth,
-    /// No source has that name.
+    /// No data source has the name.
     NoSuchSource,
-    /// A sample has another number of values than there are sources or names in the template.
+    /// The number of values in a sample differs from the number of data sources, or of names in the template.
     WrongCount,
-    /// A source of that type doesn't accept the value.
+    /// A data source of the given type does not accept the value.
     BadValue,
-    /// A sample is not later than the one before it, which came at `last`.
+    /// A sample is not later than the sample before, whose time is `last`.
     NotLater { last: u64 },
     /// An update has no sample.
     NoSample,
     /// A tune has no option.
     NothingToTune,
-    /// No archive has that number.
+    /// No archive has the number.
     NoSuchArchive,
-    /// No row would be left.
+    /// A resize would leave no row.
     ShrinkTooFar,
     /// The journal is empty.
     NothingToRevert,
-    /// No archive has that function.
+    /// No archive has the consolidation function.
     NoArchiveForFunction,
-    /// More than 1,000,000 rows would be fetched.
+    /// A fetch would read more than 1,000,000 rows.
     SpanTooLong,
-    /// The start is after the end.
+    /// The start of a fetch is after its end.
     BadSpan,
-    /// There is no memory for the change.
+    /// Memory for the change runs out.
     OutOfMemory,
     /// A time is after 9,999,999,999.
     BadTime,
-    /// A tune asks for an archive and for something else.
+    /// A tune has an archive and another option.
     MixedTune,
 }
 
 impl Refusal {
     ghost use Rattle.rrd_spec.specs.Commands.RefusalTexts.{refusal_text};
 
-    /// The text that says why, as faults print it: at most 60 bytes.
+    /// Returns the text of the refusal, as errors print it: at most 60 bytes.
     pub fn text(self) -> ArrayString<96>
         ensures text { result.bytes ≡ refusal_text self }
         ensures short { length result.bytes ≤ 60 }

@@ -1,4 +1,4 @@
-//! What commands ask of a database, and what some of them answer.
+//! The requests that commands make of a database, and the results of some of them.
 
 mod create;
 mod fetch;

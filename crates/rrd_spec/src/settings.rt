@@ -1,4 +1,4 @@
-//! Settings of data sources and archives.
+//! The settings of data sources and archives.
 ghost use Rattle.std.specs.Prelude.{◌≡◌, ◌^◌, ◌<◌, ◌↔◌, ◌≤◌, ◌≤ℤ◌, IsTrue, pos};
 ghost use Rattle.rrd_fixed.specs.Rate.{IsAccepted, IsBounded, rate as rate_of};
 ghost use Rattle.rrd_spec.specs.Limits.{present};
@@ -8,25 +8,27 @@ ghost use Rattle.rrd_spec.specs.Validity.{AreAccepted};
 use rrd_fixed::{Cell, Kind, Name, Raw, rate};
 use rrd_fold::Function;
 
-/// A data source's settings (rrdcreate, "DS").
+/// The settings of a data source (rrdcreate, "DS").
 #[derive(Debug, Drop)]
 pub struct DsDef {
-    /// 1 to 19 letters, digits or `_`, another for each source.
+    /// The name: 1 to 19 letters, digits or `_`, different for each data source.
     pub name: Name,
-    /// How its values become rates.
+    /// The type, which decides how values become rates.
     pub kind: Kind,
-    /// The longest interval, in seconds, after which a sample's rate is known: 1 to 9,999,999,999.
+    /// The heartbeat: the maximum interval of a known rate, in seconds, 1 to 9,999,999,999.
     pub heartbeat: u64,
-    /// The least rate that is taken, in millionths, at most (2^64 - 1) * 10^6 in size; `None` is no
-    /// bound.
+    /// The minimum rate, in millionths; `None` is no bound.
+    ///
+    /// The minimum is at most (2^64 - 1) * 10^6 in size.
     pub min: Option<i128>,
-    /// The greatest rate that is taken, in millionths, at most (2^64 - 1) * 10^6 in size and not below
-    /// the least; `None` is no bound.
+    /// The maximum rate, in millionths; `None` is no bound.
+    ///
+    /// The maximum is at most (2^64 - 1) * 10^6 in size, and not below the minimum.
     pub max: Option<i128>,
 }
 
 impl DsDef {
-    /// The same settings again. It takes no memory.
+    /// Copies the settings. Does not allocate.
     pub fn duplicate(&self) -> DsDef
         ensures { result ≡ self.now }
     {
@@ -39,8 +41,10 @@ impl DsDef {
         }
     }
 
-    /// The rate, in millionths, between two of its raw values that came so many seconds apart, 1 to
-    /// 10,000,000,000; unknown where the heartbeat or the bounds don't allow it.
+    /// Returns the rate, in millionths, between two raw values of the data source.
+    ///
+    /// `interval` is the number of seconds from the old value to the new one, 1 to 10,000,000,000. The rate is unknown
+    /// if the heartbeat or the bounds do not allow it.
     pub fn rate(&self, interval: u64, old: Raw, new: Raw) -> Cell
         requires some_time { 1 ≤ interval }
         requires not_long { interval ≤ 10 ^ 10 }
@@ -54,21 +58,21 @@ impl DsDef {
     }
 }
 
-/// An archive's settings (rrdcreate, "RRA").
+/// The settings of an archive (rrdcreate, "RRA").
 #[derive(Clone, Copy, Debug)]
 pub struct RraDef {
-    /// How a row's cells come from those of its steps.
+    /// The function that consolidates the steps of a row.
     pub function: Function,
     /// The share of a row's steps that may be unknown, in millionths: 0 to 999,999.
     pub xff: i128,
-    /// How many steps make a row: 1 to 1,000,000.
+    /// The number of steps in a row: 1 to 1,000,000.
     pub steps: u64,
-    /// How many rows the archive has: 1 to 1,000,000.
+    /// The number of rows: 1 to 1,000,000.
     pub rows: u64,
 }
 
 impl RraDef {
-    /// The share of a row's steps that may be unknown, as an unsigned number of millionths.
+    /// Returns `xff` as an unsigned number of millionths.
     pub fn share(&self) -> u64
         requires low { pos 0 ≤ℤ self.now.xff }
         requires high { self.now.xff ≤ℤ pos present.greatest_share }
@@ -77,8 +81,9 @@ impl RraDef {
         self.xff as u64
     }
 
-    /// The seconds in a row, up to 10^12, steps of so many seconds making it (rrdcreate, "RRA"). They
-    /// are 1 to 1,000,000, and so are the steps of a row.
+    /// Returns the resolution: the seconds per row, at most 10^12 (rrdcreate, "RRA").
+    ///
+    /// `step` is the number of seconds in a step, 1 to 1,000,000; the steps of a row are 1 to 1,000,000 too.
     pub fn resolution(&self, step: u64) -> u64
         requires some_step { 0 < step }
         requires small_step { step ≤ present.longest_step }
@@ -92,7 +97,7 @@ impl RraDef {
     }
 }
 
-/// Whether there is a raw value for each source, which it accepts.
+/// Returns whether there is one raw value for each data source, and each is accepted.
 pub fn are_accepted(sources: &[DsDef], raws: &[Raw]) -> bool
     ensures { IsTrue result ↔ AreAccepted sources.now raws.now }
 {

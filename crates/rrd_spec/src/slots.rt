@@ -1,11 +1,13 @@
-//! In which order a file has the rows of an archive.
+//! The order of an archive's rows in a file.
 ghost use Rattle.std.specs.Prelude.{◌≡◌, ◌<◌, ◌≤◌};
-ghost use Rattle.rrd_spec.specs.Files.Slots.{place_in};
+ghost use Rattle.rrd_spec.specs.Files.Places.{place_in};
 ghost use Rattle.rrd_spec.specs.Limits.{present};
 
-/// The place, 0 the oldest, of the row in a file's first slot, so many rows (1 to 1,000,000) of so many
-/// seconds (1 or more) ending by a time (0 to 9,999,999,999). With the slots the places go up from there
-/// to the newest, and on from the oldest.
+/// Returns the index of the row that a file stores in slot 0 of an archive.
+///
+/// Index 0 is the oldest row. The archive has `rows` rows (1 to 1,000,000) of `resolution` seconds each (1 or more);
+/// `last` is the database's last time (0 to 9,999,999,999, in seconds since 1970). The slots after slot 0 have the rows
+/// after it, up to the newest; the oldest row and the rows after it follow.
 pub fn first_place(resolution: u64, last: u64, rows: u64) -> u64
     requires some_seconds { 0 < resolution }
     requires in_time { last ≤ present.latest_time }

@@ -1,6 +1,7 @@
-//! The plain slow program: the rows that the definitions give for the samples of a new database,
-//! worked out second by second, as a reader of the definitions would by hand. Nothing is carried
-//! along from group to group, no gap is jumped over, and there is no ring. Tests compare it with the
+//! A slow program that computes the definitions, second by second.
+//!
+//! The program computes the rows of a new database for given samples as a reader of the definitions would by hand: no
+//! state passes from one group to the next, no gap is skipped, and there is no ring. Tests compare the program with the
 //! real database.
 ghost use Rattle.std.specs.Prelude.{◌≡◌, ◌^◌, ◌<◌, ◌≤◌, length, map, replicate, IfOk, IsTrue, ◌↔◌, None, Some, slice_get};
 ghost use Rattle.std.specs.List.{AllByRecursion, fold};
@@ -25,31 +26,30 @@ use rrd_fold::Function;
 use std::alloc::{AllocError, Global};
 use std::marker::Model;
 
-/// A sample: its time, and a raw value for each source.
+/// A sample: its time, and a raw value for each data source.
 #[derive(Drop)]
 pub struct Reading {
-    /// Seconds since 1970: 0 to 9,999,999,999.
+    /// The time, in seconds since 1970: 0 to 9,999,999,999.
     pub time: u64,
     /// A raw value for each data source.
     pub raws: List<Raw>,
 }
 
-// A sample as the archives see it: its time, and a rate for each source.
+// A sample as the archives see it: its time, and a rate for each data source.
 #[derive(Drop)]
 struct Taken {
     time: u64,
     rates: List<Cell>,
 }
 
-// What cells come together to: the seconds of a step to a step, so many of them, or the steps of a
-// row of an archive to a row.
+// A group of items that make one cell for each data source: the seconds of a step, or the steps of an archive's row.
 #[derive(Clone, Copy)]
 enum Group {
     Step(u64),
     Row(RraDef),
 }
 
-// How many known cells there were, and what they come to: their sum, least, greatest or last one.
+// The number of known cells, and their sum, minimum, maximum or last value.
 #[derive(Clone, Copy)]
 struct Part {
     known: u64,
@@ -67,14 +67,14 @@ impl Model for Part {
 }
 
 impl Part {
-    // No cell yet.
+    // Returns the part of no cell.
     fn nothing() -> Part
         ensures { result ≡ nothing }
     {
         Part { known: 0, value: 0 }
     }
 
-    // The part with one more cell.
+    // Returns the part with one more cell.
     fn with_cell(self, function: Function, cell: Cell) -> Part
         requires few { IsPart function 999999 self }
         requires bounded { IsBounded cell }
@@ -95,7 +95,7 @@ impl Part {
         }
     }
 
-    // The step of so many seconds that it stands for.
+    // Returns the cell of a step of `step` seconds with this part.
     fn step_cell(self, step: u64) -> Cell
         requires some { 0 < step }
         requires few { step ≤ present.longest_step }
@@ -109,7 +109,7 @@ impl Part {
         }
     }
 
-    // The row of an archive that it stands for.
+    // Returns the cell of an archive's row with this part.
     fn row_cell(self, def: RraDef) -> Cell
         requires group { IsGroup (Group.Row def) }
         requires part { IsPart def.function def.steps self }
@@ -126,7 +126,7 @@ impl Part {
 }
 
 impl Group {
-    // How many cells a group has.
+    // Returns the number of items in a full group.
     fn size(self) -> u64
         ensures { result ≡ size_of self }
     {
@@ -136,7 +136,7 @@ impl Group {
         }
     }
 
-    // How they are consolidated.
+    // Returns the function that consolidates the items.
     fn function(self) -> Function
         ensures { result ≡ function_of self }
     {
@@ -146,7 +146,7 @@ impl Group {
         }
     }
 
-    // What a source's part of a full group gives.
+    // Returns the cell of a full group in which a data source has this part.
     fn cell(self, part: Part) -> Cell
         requires group { IsGroup self }
         requires part { IsPart (function_of self) (size_of self) part }
@@ -161,7 +161,7 @@ impl Group {
 
 // ---- samples
 
-// The rates of a sample's interval, by the raw values of the sample before.
+// Returns the rates of the interval before a sample, from the raw values of the sample before and of the sample.
 fn rates(
     alloc: Global,
     sources: &[DsDef],
@@ -182,7 +182,7 @@ fn rates(
     Ok(rates)
 }
 
-// All samples, in order, after the start, when no raw value is known.
+// Returns all samples in order with their rates. No raw value is known at the start.
 fn samples(
     alloc: Global,
     sources: &[DsDef],
@@ -213,7 +213,7 @@ fn samples(
 
 // ---- seconds
 
-// The rates in a second: those of the first sample at or after it.
+// Returns the rates in a second: those of the first sample at or after it.
 fn second(taken: &[Taken], at: u64) -> &[Cell]
     ensures { result.now ≡ history.second (map taken_of taken.now) at }
 {
@@ -225,7 +225,7 @@ fn second(taken: &[Taken], at: u64) -> &[Cell]
     &[]
 }
 
-// A copy.
+// Copies cells.
 fn copy(alloc: Global, cells: &[Cell]) -> Result<List<Cell>, AllocError>
     ensures { IfOk result (λ copy. copy ≡ cells.now) }
 {
@@ -236,7 +236,7 @@ fn copy(alloc: Global, cells: &[Cell]) -> Result<List<Cell>, AllocError>
     Ok(copy)
 }
 
-// Each second from one time (without its own) to another, with its rates.
+// Returns the rates of each second after `from`, up to `to`.
 fn seconds(
     alloc: Global,
     taken: &[Taken],
@@ -255,7 +255,7 @@ fn seconds(
 
 // ---- steps and rows
 
-// Each source's part with one more cell.
+// Adds one cell to the part of each data source.
 fn add_each(function: Function, parts: &mut [Part], cells: &[Cell])
     requires parts { AreParts function (length cells.now) 999999 parts.old }
     requires cells { IsRow (length cells.now) cells.now }
@@ -266,7 +266,7 @@ fn add_each(function: Function, parts: &mut [Part], cells: &[Cell])
     }
 }
 
-// Each source's part of a group, which has these items.
+// Returns the part of each data source in a group with these items.
 fn parts_of(
     alloc: Global,
     function: Function,
@@ -286,7 +286,7 @@ fn parts_of(
     Ok(parts)
 }
 
-// What a full group gives: a cell for each source.
+// Returns the cells of a full group, one for each data source.
 fn close(
     alloc: Global,
     group: Group,
@@ -307,7 +307,7 @@ fn close(
     Ok(cells)
 }
 
-// What the groups give that the items finish, so many having come before them.
+// Returns the cells of the groups that the items finish, if `before` items came earlier.
 fn finish(
     alloc: Global,
     group: Group,
@@ -333,7 +333,7 @@ fn finish(
     Ok(given)
 }
 
-// The time of the last sample, or the start.
+// Returns the time of the last sample, or the start.
 fn last_time(start: u64, readings: &[Reading]) -> u64
     ensures { result ≡ latest start readings.now }
 {
@@ -344,9 +344,14 @@ fn last_time(start: u64, readings: &[Reading]) -> u64
     last
 }
 
-/// The rows of an archive of a new database that its samples finish, oldest first, each with a cell
-/// for each source. The archive keeps the newest of them, as many as it has rows. Archives are
-/// counted from 0.
+/// Returns the rows of an archive that the samples of a new database finish.
+///
+/// The oldest row is the first, and each row has one cell for each data source. The archive keeps the newest rows, as
+/// many as it has; archives are numbered from 0. Time and memory grow with the seconds from the start to the last
+/// sample.
+///
+/// # Errors
+/// - `AllocError`: memory runs out.
 pub fn rows(
     alloc: Global,
     spec: &CreateSpec,
@@ -371,10 +376,12 @@ pub fn rows(
     finish(alloc, row, sources.len(), before, steps.as_slice())
 }
 
-// ---- what can be worked out
+// ---- the check of the input
 
-/// Whether the rows of a new database that is accepted can be worked out: the times rise, after the
-/// start and up to 9,999,999,999, and each sample has a raw value for each source, which it accepts.
+/// Returns whether the samples of a new database are valid input for `rows`.
+///
+/// The times must rise, after the start and up to 9,999,999,999, and each sample must have an accepted raw value for
+/// each data source.
 pub fn are_in_order(sources: &[DsDef], start: u64, readings: &[Reading]) -> bool
     ensures { IsTrue result ↔ AreInOrder sources.now start readings.now }
 {

@@ -1,21 +1,23 @@
-//! Versions of the file's layout, and the limits that differ from one to the other.
+//! The versions of the file layout, and the limits in which they differ.
 ghost use Rattle.std.specs.Prelude.{◌≡◌, ◌≤◌};
 ghost use Rattle.rrd_spec.specs.Limits.{deepest_journal_of, most_archives_of, most_cells_of, present, archives_come_and_go_of};
 
 use crate::limits::{DEEPEST_JOURNAL, MOST_ARCHIVES, MOST_CELLS};
 
-/// A version of the layout of files. A file is held to the limits of its version; a database, and what
-/// is written, to those of the newest.
+/// A version of the file layout.
+///
+/// A file must be within the limits of its version. A database, and each file that is written, is within the limits of
+/// the newest version.
 #[derive(Clone, Copy, Debug, PartialEq, Eq)]
 pub enum Version {
-    /// The first one, which is only read.
+    /// The first version, which is only read.
     One,
-    /// The newest one.
+    /// The newest version.
     Two,
 }
 
 impl Version {
-    /// The greatest depth of a journal.
+    /// Returns the maximum depth of a journal.
     pub fn deepest_journal(self) -> u64
         ensures value { result ≡ deepest_journal_of self }
         ensures few { result ≤ present.deepest_journal }
@@ -26,7 +28,7 @@ impl Version {
         }
     }
 
-    /// The most archives.
+    /// Returns the maximum number of archives.
     pub fn most_archives(self) -> usize
         ensures value { result ≡ most_archives_of self }
         ensures few { result ≤ present.most_archives }
@@ -37,7 +39,7 @@ impl Version {
         }
     }
 
-    /// The most cells: the data sources times the rows of all archives.
+    /// Returns the maximum number of cells: the data sources times the rows of all archives.
     pub fn most_cells(self) -> u64
         ensures value { result ≡ most_cells_of self }
         ensures few { result ≤ present.most_cells }
@@ -48,7 +50,7 @@ impl Version {
         }
     }
 
-    /// Whether archives come and go, and a journal tells of it.
+    /// Returns whether archives may be added and removed, with journal entries for both.
     pub fn archives_come_and_go(self) -> bool
         ensures { result ≡ archives_come_and_go_of self }
     {

@@ -5,19 +5,20 @@ use Rattle.std.specs.Result.{result_err}
 use Rattle.rrd_spec.specs.Journal.Survivors.{Stored}
 use Rattle.rrd_tool.specs.Commands.{effect}
 use Rattle.rrd_tool.specs.Effects.{Changes, Effect, Makes, Reverts, Shows, is_change, stored_next, next, text_on, verdict_on, StandsFor}
-use Rattle.rrd_tool.specs.Execution.{Comes}
+use Rattle.rrd_spec.specs.declared.requests.create.CreateSpec.{CreateSpec}
+use Rattle.rrd_tool.specs.Execution.{Comes, database_left, fault_left, has_changed}
 use Rattle.rrd_tool.specs.Lines.{is_empty}
 use Rattle.rrd_tool.specs.declared.commands.Command.{Command}
 use Rattle.rrd_tool.specs.declared.faults.Fault.{Fault}
 use Rattle.rrd_tool.specs.declared.faults.Fault.TheVariants.{Line, NoDatabase, Output, Refused}
 use Rattle.rrd_tool.specs.declared.faults.LineFault.{LineFault}
 use Rattle.rrd_store.specs.Places.{Held, Leaves, Stays}
-use Rattle.rrd_store.specs.Runs.{Answers, AnswersRead, Filing, Holds, IsDone, IsLeftIn, MayStop, ReadsFile, as_written, database_in, kept_next, state_in}
+use Rattle.rrd_store.specs.Runs.{Answers, AnswersRead, Filing, Holds, IsDone, MayStop, ReadsFile, as_written, database_in, kept_next, state_in}
 use Rattle.rrd_store.specs.Single.{EndsBy, FindsOne, RunsAs, RunsFrom, StartsBy}
 use Rattle.rrd_store.specs.declared.faults.TaskFault.{TaskFault}
 use Rattle.rrd_store.specs.declared.faults.TaskFault.TheVariants as task
-use Rattle.rrd_store.proofs.Found.{HoldsIn, NoneIs, Reading, found_is, left_after, may_stop, stays_left, unleft, valid_held}
-use Rattle.rrd_store.proofs.ValidStates.{Staying, next_stands, next_valid}
+use Rattle.rrd_store.proofs.Found.{HoldsIn, IsLeftIn, NoneIs, Reading, found_is, left_after, may_stop, same_left, stays_left, unleft, valid_held}
+use Rattle.rrd_store.proofs.ValidStates.{Staying, Valid, next_stands, next_valid}
 
 -- ---- what a command's effect says of the next state
 
@@ -35,23 +36,12 @@ next_written (Changes command) s h = refl
 next_written Reverts s h = refl
 next_written (Shows show) s h = absurd cc
 
-some_text : (front : List ℕ) (b : ℕ) (rest : List ℕ) → [] ≡ front ++ b ∷ rest → ⊥
-some_text [] b rest h = absurd cc
-some_text (a ∷ front) b rest h = absurd cc
-
 some_behind : (front : List ℕ) (b : ℕ) (rest : List ℕ) → is_empty (front ++ b ∷ rest) ≡ false
 some_behind [] b rest = refl
 some_behind (a ∷ front) b rest = refl
 
 unwritten_some : (text front : List ℕ) (b : ℕ) (rest : List ℕ) → text ≡ front ++ b ∷ rest → is_empty text ≡ false
 unwritten_some text front b rest h = ap is_empty h ∙ some_behind front b rest
-
--- so does what prints
-same_printed : (e : Effect) (s : Option Filing) (kept : Option Stored) (front : List ℕ) (b : ℕ) (rest : List ℕ) → text_on kept e ≡ front ++ b ∷ rest → kept_next s e ≡ s
-same_printed (Makes spec) s kept front b rest h = absurd (some_text front b rest h)
-same_printed (Changes command) s kept front b rest h = absurd (some_text front b rest h)
-same_printed Reverts s kept front b rest h = absurd (some_text front b rest h)
-same_printed (Shows show) s kept front b rest h = refl
 
 -- ---- what it came to
 
@@ -95,7 +85,32 @@ text_in (Shows show) s found f = ap (λ (k : Option Stored). text_on k (Shows sh
 
 -- ---- what is left of it
 
-module _ (stays : Staying) (laws : Reading) (old new : Option Held) (s : Option Filing) (held : HoldsIn old s) (e : Effect) (c0 c1 : Option (List ℕ)) where
+-- what is known before a command: where it is accepted it leads to a valid state, and if it changes nothing the place
+-- that stays has what is kept
+pub record Before (old new : Option Held) (s : Option Filing) (e : Effect) : Type 0 where
+  pub stands : verdict_on (database_in s) e ≡ None → StandsFor (stored_next (database_in s) e) (next (state_in s) e)
+  pub valid : verdict_on (database_in s) e ≡ None → Valid (NoneIs old) (next (state_in s) e)
+  pub same : false ≡ is_change e → Stays old new → IsLeftIn old new (kept_next s e) None
+
+-- over the file of a state
+pub before_kept : Staying → Reading → (old new : Option Held) (s : Option Filing) → HoldsIn old s → (e : Effect) → Before old new s e
+before_kept stays laws old new s held e =
+    let valid = valid_held laws old s held in
+    record {
+      stands = next_stands stays (NoneIs old) e (state_in s) valid;
+      valid = next_valid stays (NoneIs old) e (state_in s) valid;
+      same = λ shown k. same_left old new s (kept_next s e) held (same_shown e s shown) k;
+    }
+
+-- a create over bytes that are no database
+pub before_made : Staying → (old new : Option Held) (spec : CreateSpec) → Before old new None (Makes spec)
+before_made stays old new spec = record {
+  stands = next_stands stays (Unit {0}) (Makes spec) None tt;
+  valid = next_valid stays (Unit {0}) (Makes spec) None tt;
+  same = λ shown k. absurd cc;
+}
+
+module _ (old new : Option Held) (s : Option Filing) (e : Effect) (c0 c1 : Option (List ℕ)) where
   abbrev pub Answered : Result (Unit {0}) TaskFault → Type 0
   Answered end = (s1 : Option Filing) × Answers s e s1 c0 c1 end × IsLeftIn old new s1 (result_err end)
 
@@ -110,40 +125,39 @@ module _ (stays : Staying) (laws : Reading) (old new : Option Held) (s : Option 
   changed_answers db (Err (task.Stream fault)) k h = absurd (let e = unleft old new db (task.Stream fault) k in cc)
 
   -- it ended by this fault
-  by_fault : (fault : Fault) (s1 : Option Filing) (end : Result (Unit {0}) TaskFault) → s1 ≡ s → Answers s e s1 c0 c1 (Err (task.Command fault))
+  by_fault : (fault : Fault) (s1 : Option Filing) (end : Result (Unit {0}) TaskFault) → Answers s e s1 c0 c1 (Err (task.Command fault))
       → (end ≡ Err (task.Command fault)) × Stays old new → Answered end
-  by_fault fault s1 end same a k =
-      subst (λ (r : Result (Unit {0}) TaskFault). Answered r) (sym k.0) (s1, a, stays_left old new s s1 (Some (task.Command fault)) held same k.1 tt)
+  by_fault fault s1 end a k =
+      subst (λ (r : Result (Unit {0}) TaskFault). Answered r) (sym k.0) (s1, a, stays_left old new s1 (task.Command fault) k.1 tt)
 
   -- it was done
-  done : (db : Option Stored) (changed : Bool) (end : Result (Unit {0}) TaskFault) → ComesOver c0 c1 db changed None (database_in s) e
+  done : Before old new s e → (db : Option Stored) (changed : Bool) (end : Result (Unit {0}) TaskFault) → ComesOver c0 c1 db changed None (database_in s) e
       → EndsBy None changed db (text_on (database_in s) e) old new end → Answered end
-  done db true end h k =
-      let valid = valid_held laws old s held in
+  done before db true end h k =
       let state = state_in s in
-      let moved : StandsFor db (next state e) = subst (λ (d : Option Stored). StandsFor d (next state e)) (sym h.1) (next_stands stays (NoneIs old) e state valid h.0) in
-      let left = left_after old new db (next state e) end moved (next_valid stays (NoneIs old) e state valid h.0) k in
+      let moved : StandsFor db (next state e) = subst (λ (d : Option Stored). StandsFor d (next state e)) (sym h.1) (before.stands h.0) in
+      let left = left_after old new db (next state e) end moved (before.valid h.0) k in
       (kept_next s e, changed_answers db end k ((h.0, refl), h.3), subst (λ (x : Option Filing). IsLeftIn old new x (result_err end)) (next_written e s h.2) left)
-  done db false (Ok x) h k = (kept_next s e, ((h.0, refl), h.3), stays_left old new s (kept_next s e) None held (same_shown e s h.2) k tt)
-  done db false (Err fault) h k =
+  done before db false (Ok x) h k = (kept_next s e, ((h.0, refl), h.3), before.same h.2 k)
+  done before db false (Err fault) h k =
       let text = text_on (database_in s) e in
-      by_fault Output (kept_next s e) (Err fault) (same_shown e s h.2) ((h.0, refl), (text, [], sym (append-nil text), h.3), k.1) (ap (λ (f : TaskFault). Err f) k.0, k.2)
+      by_fault Output (kept_next s e) (Err fault) ((h.0, refl), (text, [], sym (append-nil text), h.3), k.1) (ap (λ (f : TaskFault). Err f) k.0, k.2)
 
-  pub ended : (db : Option Stored) (changed : Bool) (fault : Option Fault) (end : Result (Unit {0}) TaskFault) → ComesOver c0 c1 db changed fault (database_in s) e
+  pub ended : Before old new s e → (db : Option Stored) (changed : Bool) (fault : Option Fault) (end : Result (Unit {0}) TaskFault) → ComesOver c0 c1 db changed fault (database_in s) e
       → EndsBy fault changed db (text_on (database_in s) e) old new end → Answered end
-  ended db changed None end h k = done db changed end h k
-  ended db changed (Some Output) end h k =
+  ended before db changed None end h k = done before db changed end h k
+  ended before db changed (Some Output) end h k =
       let print = h.3 in
-      by_fault Output (kept_next s e) end (same_printed e s (database_in s) print.0 print.1 print.2 print.3) ((h.0, refl), (print.0, print.1 ∷ print.2, print.3, print.4), unwritten_some (text_on (database_in s) e) print.0 print.1 print.2 print.3) k
-  ended db changed (Some (Line fault)) end h k = by_fault (Line fault) s end refl (h.0, (refl, h.3)) k
-  ended db changed (Some (Refused fault)) end h k = by_fault (Refused fault) s end refl (h.0, (refl, h.3)) k
-  ended db changed (Some NoDatabase) end h k = by_fault NoDatabase s end refl (h.0, (refl, h.3)) k
+      by_fault Output (kept_next s e) end ((h.0, refl), (print.0, print.1 ∷ print.2, print.3, print.4), unwritten_some (text_on (database_in s) e) print.0 print.1 print.2 print.3) k
+  ended before db changed (Some (Line fault)) end h k = by_fault (Line fault) s end (h.0, (refl, h.3)) k
+  ended before db changed (Some (Refused fault)) end h k = by_fault (Refused fault) s end (h.0, (refl, h.3)) k
+  ended before db changed (Some NoDatabase) end h k = by_fault NoDatabase s end (h.0, (refl, h.3)) k
 
   -- ---- the file could not be read
 
   stopped_by : (fault : TaskFault) → ReadsFile e → MayStop s fault → Keeps c0 c1 → Stays old new → Answered (Err fault)
-  stopped_by (task.File fault) r m k n = (s, (r, m, (refl, k)), stays_left old new s s (Some (task.File fault)) held refl n tt)
-  stopped_by task.CannotOpen r m k n = (s, (r, m, (refl, k)), stays_left old new s s (Some task.CannotOpen) held refl n tt)
+  stopped_by (task.File fault) r m k n = (s, (r, m, (refl, k)), stays_left old new s (task.File fault) n tt)
+  stopped_by task.CannotOpen r m k n = (s, (r, m, (refl, k)), stays_left old new s task.CannotOpen n tt)
   stopped_by task.CannotWrite r m k n = absurd m
   stopped_by (task.Command fault) r m k n = absurd m
   stopped_by (task.Stream fault) r m k n = absurd m
@@ -158,20 +172,20 @@ abbrev pub StartsIn : Effect → Option Filing → Result (Option Stored) TaskFa
 StartsIn e s (Ok found) = SameFor e s found
 StartsIn e s (Err fault) = ReadsFile e × MayStop s fault
 
-module _ (stays : Staying) (laws : Reading) (old new : Option Held) (s : Option Filing) (held : HoldsIn old s) (c0 c1 : Option (List ℕ)) (end : Result (Unit {0}) TaskFault) where
-  pub started : (command : Command) (start : Result (Option Stored) TaskFault) → StartsIn (effect command) s start → RunsFrom command start old new c0 c1 end
-      → Answered stays laws old new s held (effect command) c0 c1 end
-  started command (Err fault) f h = stopped stays laws old new s held (effect command) c0 c1 fault end f.0 f.1 h
-  started command (Ok found) f h =
-      let came = comes_in c0 c1 h.0.database h.0.changed h.0.fault (effect command) s found f h.1 in
-      let ends = subst (λ (t : List ℕ). EndsBy h.0.fault h.0.changed h.0.database t old new end) (text_in (effect command) s found f) h.2 in
-      ended stays laws old new s held (effect command) c0 c1 h.0.database h.0.changed h.0.fault end came ends
+module _ (old new : Option Held) (s : Option Filing) (c0 c1 : Option (List ℕ)) (end : Result (Unit {0}) TaskFault) where
+  pub started : (command : Command) (start : Result (Option Stored) TaskFault) → Before old new s (effect command) → StartsIn (effect command) s start
+      → RunsFrom command start old new c0 c1 end → Answered old new s (effect command) c0 c1 end
+  started command (Err fault) before f h = stopped old new s (effect command) c0 c1 fault end f.0 f.1 h
+  started command (Ok found) before f h =
+      let came = comes_in c0 c1 (database_left h.0) (has_changed h.0) (fault_left h.0) (effect command) s found f h.1 in
+      let ends = subst (λ (t : List ℕ). EndsBy (fault_left h.0) (has_changed h.0) (database_left h.0) t old new end) (text_in (effect command) s found f) h.2 in
+      ended old new s (effect command) c0 c1 before (database_left h.0) (has_changed h.0) (fault_left h.0) end came ends
 
   -- words that are no command
   pub unread_words : (fault : LineFault) → (end ≡ Err (task.Command (Line fault))) × Stays old new × Keeps c0 c1
       → (s1 : Option Filing) × AnswersRead s (Err fault) s1 c0 c1 end × IsLeftIn old new s1 (result_err end)
   unread_words fault h =
-      let left = stays_left old new s s (Some (task.Command (Line fault))) held refl h.1 tt in
+      let left = stays_left old new s (task.Command (Line fault)) h.1 tt in
       (s, (h.0, (refl, h.2)), subst (λ (x : Result (Unit {0}) TaskFault). IsLeftIn old new s (result_err x)) (sym h.0) left)
 
 -- ---- over the file of a state
@@ -193,5 +207,6 @@ module _ (stays : Staying) (laws : Reading) (old : Held) (s : Option Filing) (he
 
   pub command_computed : (new : Option Held) (read : Result Command LineFault) (c0 c1 : Option (List ℕ)) (end : Result (Unit {0}) TaskFault) → RunsAs read (Some old) new c0 c1 end
       → (s1 : Option Filing) × AnswersRead s read s1 c0 c1 end × IsLeftIn (Some old) new s1 (result_err end)
-  command_computed new (Err fault) c0 c1 end h = unread_words stays laws (Some old) new s held c0 c1 end fault h
-  command_computed new (Ok command) c0 c1 end h = started stays laws (Some old) new s held c0 c1 end command h.0 (starts_in (effect command) h.0 h.1) h.2
+  command_computed new (Err fault) c0 c1 end h = unread_words (Some old) new s c0 c1 end fault h
+  command_computed new (Ok command) c0 c1 end h =
+      started (Some old) new s c0 c1 end command h.0 (before_kept stays laws (Some old) new s held (effect command)) (starts_in (effect command) h.0 h.1) h.2

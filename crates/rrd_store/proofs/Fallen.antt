@@ -4,16 +4,16 @@ use Rattle.std.specs.Io.KnownBytes.{Appends}
 use Rattle.std.specs.Result.{is_err}
 use Rattle.rrd_fixed.specs.Written.{AppendsFront, Writes}
 use Rattle.rrd_fixed.specs.declared.streams.WriteFault.{WriteFault}
-use Rattle.rrd_store.specs.Places.{AreAll, Becomes, Bytes, Cuts, FallsBack, Held, IsBegun, IsCutFrom, IsFor, IsReady, Missing, Stays, TakesOver}
+use Rattle.rrd_store.specs.Places.{AreAll, Becomes, Bytes, Cuts, FallsBack, Held, IsAfterFailure, IsBegun, IsFor, IsReady, Missing, Stays, TakesOver}
 
 -- a front of what stands before a byte has one more behind it
 front_cut : (old new : Option Held) (bytes written front more : List ℕ) (next : ℕ) (rest : List ℕ)
     → bytes ≡ written ++ next ∷ rest → written ≡ front ++ more → Becomes old new front
-    → IsCutFrom old new bytes
+    → IsAfterFailure old new bytes
 front_cut old new bytes written front [] next rest b w n =
-    inr (front, next, rest, b ∙ ap (λ (x : List ℕ). x ++ next ∷ rest) (w ∙ append-nil front), n)
+    inr (inr (front, next, rest, b ∙ ap (λ (x : List ℕ). x ++ next ∷ rest) (w ∙ append-nil front), n))
 front_cut old new bytes written front (m ∷ more) next rest b w n =
-    inr (front, m, more ++ next ∷ rest, b ∙ ap (λ (x : List ℕ). x ++ next ∷ rest) w ∙ append_assoc front (m ∷ more) (next ∷ rest), n)
+    inr (inr (front, m, more ++ next ∷ rest, b ∙ ap (λ (x : List ℕ). x ++ next ∷ rest) w ∙ append_assoc front (m ∷ more) (next ∷ rest), n))
 
 -- a write that failed put a front
 pub writes_front : {T : Type 0} (old new : Option (List ℕ)) (bytes : List ℕ) (end : Result T WriteFault)
@@ -28,12 +28,12 @@ writes_all old new bytes (Ok x) e w = w
 writes_all old new bytes (Err fault) e w = absurd cc
 
 -- what was made without a byte has a front of the bytes
-made_cut : (old new : Option Held) (bytes : List ℕ) → (bytes ≡ [] → ⊥) → Becomes old new [] → IsCutFrom old new bytes
+made_cut : (old new : Option Held) (bytes : List ℕ) → (bytes ≡ [] → ⊥) → Becomes old new [] → IsAfterFailure old new bytes
 made_cut old new [] some n = absurd (some refl)
-made_cut old new (b ∷ bytes) some n = inr ([], b, bytes, refl, n)
+made_cut old new (b ∷ bytes) some n = inr (inr ([], b, bytes, refl, n))
 
 -- a place that was readied, and is then as it was or has a front
-pub ready_cut : (old new : Option Held) (bytes : List ℕ) → (bytes ≡ [] → ⊥) → IsReady old new → IsCutFrom old new bytes
+pub ready_cut : (old new : Option Held) (bytes : List ℕ) → (bytes ≡ [] → ⊥) → IsReady old new → IsAfterFailure old new bytes
 ready_cut None new bytes some r = inl tt
 ready_cut (Some Missing) new bytes some r = elim r [ inl same ↦ inl same | inr made ↦ made_cut (Some Missing) new bytes some made ]
 ready_cut (Some (Bytes held)) new bytes some r = inl r
@@ -56,7 +56,7 @@ ready_from Missing mid r = elim r [ inl same ↦ Same (stays_known Missing mid s
 ready_from (Bytes held) mid r = Same (stays_known (Bytes held) mid r)
 
 -- one that was cut after it was readied
-cut_from : (old : Held) (mid new : Option Held) (bytes : List ℕ) → (bytes ≡ [] → ⊥) → IsFrom old mid → IsCutFrom mid new bytes → IsCutFrom (Some old) new bytes
+cut_from : (old : Held) (mid new : Option Held) (bytes : List ℕ) → (bytes ≡ [] → ⊥) → IsFrom old mid → IsAfterFailure mid new bytes → IsAfterFailure (Some old) new bytes
 cut_from old mid new bytes some (Same e) k = rw e at k
 cut_from old mid new bytes some (Made none e) k = elim (rw e at k) [
   | inl same ↦ made_cut (Some old) new bytes some (stays_known (Bytes []) new same)
@@ -85,13 +85,13 @@ taken (Some old) mid new begun written bytes r b a t = elim (ready_from old mid 
 
 -- all was written, and the place did not take it over
 pub untaken : (old mid new : Option Held) (begun written : Option (List ℕ)) (bytes : List ℕ) → (bytes ≡ [] → ⊥) → IsReady old mid → IsBegun old begun
-    → Appends begun written bytes → Cuts mid new written → IsCutFrom old new bytes
+    → Appends begun written bytes → Cuts mid new written → IsAfterFailure old new bytes
 untaken None mid new begun written bytes some r b a c = inl tt
 untaken (Some old) mid new begun written bytes some r b a c =
     cut_from old mid new bytes some (ready_from old mid r) (rw (begun_written begun written bytes b a) at c)
 
 -- a front was written, of which the place has a front if it isn't as it was
-fallen_from : (old new : Option Held) (bytes written : List ℕ) (next : ℕ) (rest : List ℕ) → bytes ≡ written ++ next ∷ rest → FallsBack old new (Some written) → IsCutFrom old new bytes
+fallen_from : (old new : Option Held) (bytes written : List ℕ) (next : ℕ) (rest : List ℕ) → bytes ≡ written ++ next ∷ rest → FallsBack old new (Some written) → IsAfterFailure old new bytes
 fallen_from old new bytes written next rest b f = elim f [
   | inl same ↦ inl same
   | inr cut ↦ front_cut old new bytes written cut.0 cut.1 next rest b cut.2 cut.3
@@ -102,7 +102,7 @@ front_some bytes [] next rest b e = absurd cc
 front_some bytes (w ∷ written) next rest b e = absurd cc
 
 pub fallen : (old mid new : Option Held) (begun written : Option (List ℕ)) (bytes : List ℕ) → IsReady old mid → IsBegun old begun
-    → AppendsFront begun written bytes → FallsBack mid new written → IsCutFrom old new bytes
+    → AppendsFront begun written bytes → FallsBack mid new written → IsAfterFailure old new bytes
 fallen None mid new begun written bytes r b a f = inl tt
 fallen (Some old) mid new begun None bytes r b a f = absurd (rw b at a.4)
 fallen (Some old) mid new begun (Some written) bytes r b a f =

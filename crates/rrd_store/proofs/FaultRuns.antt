@@ -4,7 +4,7 @@ use Rattle.std.specs.Io.KnownBytes.{Keeps}
 use Rattle.std.specs.Result.{result_err}
 use Rattle.rrd_spec.specs.Journal.Survivors.{Stored}
 use Rattle.rrd_tool.specs.Effects.{Effect}
-use Rattle.rrd_tool.specs.Execution.{Comes}
+use Rattle.rrd_tool.specs.Execution.{Comes, database_left, fault_left, has_changed}
 use Rattle.rrd_tool.specs.Commands.{effect}
 use Rattle.rrd_tool.specs.declared.commands.Command.{Command}
 use Rattle.rrd_tool.specs.declared.faults.Fault.{Fault}
@@ -49,7 +49,7 @@ module _ (old new : Held) (c0 c1 : Option (List ℕ)) where
 
     from_stays : (command : Command) (start : Result (Option Stored) TaskFault) → RunsFrom command start (Some old) (Some new) c0 c1 (Err f) → Stayed f
     from_stays command (Err fault) h = (h.1, λ other. h.2)
-    from_stays command (Ok found) h = ended_stays _ _ (effect command) _ _ h.0.database h.0.changed h.0.fault h.1 h.2
+    from_stays command (Ok found) h = ended_stays _ _ (effect command) _ _ (database_left h.0) (has_changed h.0) (fault_left h.0) h.1 h.2
 
     command_stays : (read : Result Command LineFault) → RunsAs read (Some old) (Some new) c0 c1 (Err f) → Stayed f
     command_stays (Err fault) h = (h.1, λ other. h.2)
@@ -61,9 +61,9 @@ module _ (old new : Held) (c0 c1 : Option (List ℕ)) where
     unstored_stays last None e k = absurd cc
     unstored_stays last (Some fault) e k = absurd (n (sym (ap (some_or f) e) ∙ unleft (Some old) (Some new) last fault k))
 
-    batch_stays : (now : ℕ) (r0 r1 : Option (List ℕ)) (end : Result FileBatchEnd TaskFault) → IsFileBatch now (Some old) (Some new) r0 r1 c0 c1 end → fault_of_batch end ≡ Some f → Stayed f
-    batch_stays now r0 r1 (Err fault) h e = (h.1, λ other. h.3)
-    batch_stays now r0 r1 (Ok end) h e = unstored_stays h.2.last end.unstored e h.2.left
+    batch_stays : (now numbered : ℕ) (r0 r1 : Option (List ℕ)) (end : Result FileBatchEnd TaskFault) → IsFileBatch now numbered (Some old) (Some new) r0 r1 c0 c1 end → fault_of_batch end ≡ Some f → Stayed f
+    batch_stays now numbered r0 r1 (Err fault) h e = (h.1, λ other. h.3)
+    batch_stays now numbered r0 r1 (Ok end) h e = unstored_stays h.2.last end.unstored e h.2.left
 
   command_ends : (read : Result Command LineFault) (end : Result (Unit {0}) TaskFault) (fault : TaskFault) → RunsAs read (Some old) (Some new) c0 c1 end → result_err end ≡ Some fault → fault ≢ task.CannotWrite → Stayed fault
   command_ends read (Ok x) fault h e n = absurd cc
@@ -73,4 +73,4 @@ module _ (old new : Held) (c0 c1 : Option (List ℕ)) where
 
 pub fault_changes_nothing : (old : Held) (run : Run) (fault : TaskFault) (new : Held) → FaultChangesNothing old run fault new
 fault_changes_nothing old (ByCommand r) fault new h e n = command_ends old new r.out_before r.out_after h.0 r.end fault h.2 e n
-fault_changes_nothing old (ByBatch r) fault new h e n = batch_stays old new r.out_before r.out_after fault n r.now r.in_before r.in_after r.end h e
+fault_changes_nothing old (ByBatch r) fault new h e n = batch_stays old new r.out_before r.out_after fault n r.now r.numbered r.in_before r.in_after r.end h e

@@ -1,5 +1,5 @@
 -- What is found in the file of a state, and what is left in it.
-use Rattle.std.proofs.Common.{◌≡◌, ◌∙◌, ◌++◌, ◌∷◌, [], ℕ, List, Option, Some, None, Result, Ok, Err, sym, ap, refl, subst, arith, inl, inr, length, length-append}
+use Rattle.std.proofs.Common.{◌≡◌, ◌⊎◌, ◌∙◌, ◌++◌, ◌∷◌, [], ℕ, List, Option, Some, None, Result, Ok, Err, sym, ap, refl, subst, arith, inl, inr, length, length-append}
 use Rattle.std.proofs.lemmas.List.Concat.{flat_map-cons}
 use Rattle.rrd_spec.specs.Files.Filed.{filed}
 use Rattle.rrd_spec.specs.History.{Content}
@@ -16,7 +16,7 @@ use Rattle.std.specs.List.{flat_map}
 use Rattle.std.specs.Result.{result_err}
 use Rattle.rrd_tool.specs.Effects.{StandsFor, stored_of}
 use Rattle.rrd_store.specs.Places.{Bytes, Finds, Held, Leaves, Missing, Reads, Stays}
-use Rattle.rrd_store.specs.Runs.{Filing, Holds, IsCut, IsLeft, IsLeftIn, IsUnread, IsValidFiling, MayStop, as_written, database_in, state_in}
+use Rattle.rrd_store.specs.Runs.{Filing, Holds, IsFrontOf, IsUnread, IsValidFiling, IsValidState, MayStop, as_written, database_in, state_in}
 use Rattle.rrd_store.specs.declared.faults.TaskFault.{TaskFault}
 use Rattle.rrd_store.specs.declared.faults.TaskFault.TheVariants.{Command, Stream, File, CannotOpen, CannotWrite}
 use Rattle.rrd_store.proofs.ValidStates.{Valid, is_kept}
@@ -92,6 +92,28 @@ module _ (laws : Reading) where
 
 -- ---- what is left
 
+-- the file after a write that failed: it is as it was, or has the new bytes, or a front of them and not all
+abbrev pub IsCut : Held → Held → Option Filing → Type 0
+IsCut old new None = ⊥
+IsCut old new (Some k) =
+    (new ≡ old)
+    ⊎ (Holds new (Some k) ⊎ ((front : List ℕ) × IsFrontOf front k × IsValidState k.version k.state × (new ≡ Bytes front)))
+
+-- the file after a run that led to this, by the fault that it ended with
+abbrev pub IsLeft : Held → Held → Option Filing → Option TaskFault → Type 0
+IsLeft old new s None = Holds new s
+IsLeft old new s (Some CannotWrite) = IsCut old new s
+IsLeft old new s (Some CannotOpen) = new ≡ old
+IsLeft old new s (Some (File fault)) = new ≡ old
+IsLeft old new s (Some (Command fault)) = new ≡ old
+IsLeft old new s (Some (Stream fault)) = new ≡ old
+
+-- so it is of a place, as far as it is known what it has; what was known stays known
+abbrev pub IsLeftIn : Option Held → Option Held → Option Filing → Option TaskFault → Type 0
+IsLeftIn None new s fault = Unit {0}
+IsLeftIn (Some old) None s fault = ⊥
+IsLeftIn (Some old) (Some new) s fault = IsLeft old new s fault
+
 -- nothing is there, where that is known
 abbrev pub NoneIs : Option Held → Type 0
 NoneIs None = Unit {0}
@@ -125,19 +147,22 @@ module _ (old new : Held) where
   left_held (Some d) None x h v k = absurd h
   left_held (Some d) (Some s) x h v k = (ap (held_or Missing) k ∙ ap (λ (e : Stored). Bytes (layout e)) (is_kept s d h), v)
 
-  -- where a write failed a front of it is
-  left_cut : (last : Option Stored) (s : Option State) → StandsFor last s → Leaves {T = Unit {0}} last (Some old) (Some new) (Err CannotWrite) → IsCut old new (as_written s)
-  left_cut None s h k = absurd k
-  left_cut (Some d) None h k = absurd h
-  left_cut (Some d) (Some s) h k = elim k [
+  -- where a write failed it may be, or a front of it
+  left_cut : (last : Option Stored) (s : Option State) → StandsFor last s → Valid (old ≡ Missing) s → Leaves {T = Unit {0}} last (Some old) (Some new) (Err CannotWrite) → IsCut old new (as_written s)
+  left_cut None s h v k = absurd k
+  left_cut (Some d) None h v k = absurd h
+  left_cut (Some d) (Some s) h v k = elim k [
     | inl same ↦ inl same
-    | inr cut ↦ inr (cut.0, (cut.1, cut.2, ap layout (sym (is_kept s d h)) ∙ cut.3), ap (held_or Missing) cut.4)
+    | inr other ↦ inr (elim other [
+      | inl all ↦ inl (left_held (Some d) (Some s) (tt {0}) h v all)
+      | inr cut ↦ inr (cut.0, (cut.1, cut.2, ap layout (sym (is_kept s d h)) ∙ cut.3), v, ap (held_or Missing) cut.4)
+    ])
   ]
 
   -- the file after a write of the database, by its end
   left_known : (last : Option Stored) (s : Option State) (end : Result (Unit {0}) TaskFault) → StandsFor last s → Valid (old ≡ Missing) s → Leaves last (Some old) (Some new) end → IsLeft old new (as_written s) (result_err end)
   left_known last s (Ok x) h v k = left_held last s x h v k
-  left_known last s (Err CannotWrite) h v k = left_cut last s h k
+  left_known last s (Err CannotWrite) h v k = left_cut last s h v k
   left_known last s (Err CannotOpen) h v k = absurd (let e = unleft (Some old) (Some new) last CannotOpen k in cc)
   left_known last s (Err (File fault)) h v k = absurd (let e = unleft (Some old) (Some new) last (File fault) k in cc)
   left_known last s (Err (Command fault)) h v k = absurd (let e = unleft (Some old) (Some new) last (Command fault) k in cc)
@@ -148,7 +173,10 @@ known : (old : Held) (last : Option Stored) (end : Result (Unit {0}) TaskFault) 
 known old None (Ok x) k = k
 known old None (Err fault) k = k
 known old (Some d) (Ok x) k = absurd cc
-known old (Some d) (Err CannotWrite) k = elim k [ inl same ↦ same | inr cut ↦ absurd (let bad = cut.4 in cc) ]
+known old (Some d) (Err CannotWrite) k = elim k [
+  | inl same ↦ same
+  | inr other ↦ elim other [ inl all ↦ absurd (let bad = all in cc) | inr cut ↦ absurd (let bad = cut.4 in cc) ]
+]
 known old (Some d) (Err CannotOpen) k = k
 known old (Some d) (Err (File fault)) k = k
 known old (Some d) (Err (Command fault)) k = k
@@ -160,25 +188,28 @@ left_after (Some old) None last s end h v k = absurd (known old last end k)
 left_after (Some old) (Some new) last s end h v k = left_known old new last s end h v k
 
 -- not because of a failed write
-abbrev pub IsUnwritten : Option TaskFault → Type 0
-IsUnwritten None = Unit {0}
-IsUnwritten (Some CannotWrite) = ⊥
-IsUnwritten (Some CannotOpen) = Unit {0}
-IsUnwritten (Some (File fault)) = Unit {0}
-IsUnwritten (Some (Command fault)) = Unit {0}
-IsUnwritten (Some (Stream fault)) = Unit {0}
+abbrev pub IsUnwritten : TaskFault → Type 0
+IsUnwritten CannotWrite = ⊥
+IsUnwritten CannotOpen = Unit {0}
+IsUnwritten (File fault) = Unit {0}
+IsUnwritten (Command fault) = Unit {0}
+IsUnwritten (Stream fault) = Unit {0}
 
-holds_left : (old new : Held) (s : Option Filing) (fault : Option TaskFault) → IsUnwritten fault → Holds new s → IsLeft old new s fault
-holds_left old new s None u h = h
-holds_left old new s (Some CannotWrite) u h = absurd u
-holds_left old new s (Some CannotOpen) u h = h
-holds_left old new s (Some (File fault)) u h = h
-holds_left old new s (Some (Command fault)) u h = h
-holds_left old new s (Some (Stream fault)) u h = h
+stays_held : (old new : Held) (s : Option Filing) (fault : TaskFault) → IsUnwritten fault → new ≡ old → IsLeft old new s (Some fault)
+stays_held old new s CannotWrite u h = absurd u
+stays_held old new s CannotOpen u h = h
+stays_held old new s (File fault) u h = h
+stays_held old new s (Command fault) u h = h
+stays_held old new s (Stream fault) u h = h
 
--- the place stays, and so does what is kept
-pub stays_left : (old new : Option Held) (s s1 : Option Filing) (fault : Option TaskFault) → HoldsIn old s → s1 ≡ s → Stays old new → IsUnwritten fault → IsLeftIn old new s1 fault
-stays_left None new s s1 fault h same k u = tt
-stays_left (Some old) None s s1 fault h same k u = absurd k
-stays_left (Some old) (Some new) s s1 fault h same k u =
-    holds_left old new s1 fault u (subst (λ (x : Option Filing). Holds new x) (sym same) (subst (λ (b : Held). Holds b s) (sym k) h))
+-- the place stays
+pub stays_left : (old new : Option Held) (s : Option Filing) (fault : TaskFault) → Stays old new → IsUnwritten fault → IsLeftIn old new s (Some fault)
+stays_left None new s fault k u = tt
+stays_left (Some old) None s fault k u = absurd k
+stays_left (Some old) (Some new) s fault k u = stays_held old new s fault u k
+
+-- so does what is kept
+pub same_left : (old new : Option Held) (s s1 : Option Filing) → HoldsIn old s → s1 ≡ s → Stays old new → IsLeftIn old new s1 None
+same_left None new s s1 h same k = tt
+same_left (Some old) None s s1 h same k = absurd k
+same_left (Some old) (Some new) s s1 h same k = subst (λ (x : Option Filing). Holds new x) (sym same) (subst (λ (b : Held). Holds b s) (sym k) h)

@@ -6,7 +6,7 @@ use Rattle.rrd_fixed.specs.Writing.{Appends-kept}
 use Rattle.rrd_spec.specs.Journal.Survivors.{Stored}
 use Rattle.rrd_tool.specs.Commands.{effect}
 use Rattle.rrd_tool.specs.Effects.{Effect}
-use Rattle.rrd_tool.specs.Execution.{Comes, Executes}
+use Rattle.rrd_tool.specs.Execution.{Comes, Executes, fault_left, has_changed}
 use Rattle.rrd_tool.specs.declared.commands.Command.{Command}
 use Rattle.rrd_tool.specs.declared.execution.Outcome.{Outcome}
 use Rattle.rrd_store.specs.Places.{Held, Stays}
@@ -46,4 +46,4 @@ comes_kept verdict text effect Moved Same a b c changed (Some NoDatabase) p q = 
 
 pub executes_kept : (kept : Option Stored) (command : Command) (a b c : Option (List ℕ)) (outcome : Outcome)
     → Executes kept command a b outcome → Keeps b c → Executes kept command a c outcome
-executes_kept kept command a b c outcome p q = comes_kept _ _ (effect command) _ _ a b c outcome.changed outcome.fault p q
+executes_kept kept command a b c outcome p q = comes_kept _ _ (effect command) _ _ a b c (has_changed outcome) (fault_left outcome) p q

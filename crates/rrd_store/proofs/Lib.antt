@@ -5,7 +5,9 @@ pub mod Found
 pub mod CommandRuns
 pub mod FileRuns
 pub mod UnknownRuns
-pub mod PlaceRuns
+pub mod NoDatabase
 pub mod Damaged
+pub mod Standings
+pub mod PlaceRuns
 pub mod FaultRuns
 pub mod Fallen

@@ -11,14 +11,14 @@ use Rattle.rrd_tool.specs.declared.commands.Command.{Command}
 use Rattle.rrd_tool.specs.declared.faults.LineFault.{LineFault}
 use Rattle.rrd_store.specs.Batch.{IsFileBatch, RunsLines}
 use Rattle.rrd_store.specs.Places.{Finds, Held}
-use Rattle.rrd_store.specs.Runs.{AnswersLines, AnswersRead, Filing, IsOfPlace, IsValidFiling, IsLeftIn, begun, database_in, fault_of_batch}
+use Rattle.rrd_store.specs.Runs.{AnswersLines, AnswersRead, Filing, IsOfPlace, IsValidFiling, begun, database_in, fault_of_batch}
 use Rattle.rrd_store.specs.Single.{RunsAs, RunsFrom, StartsBy}
 use Rattle.rrd_store.specs.declared.batch.FileBatchEnd.{FileBatchEnd}
 use Rattle.rrd_store.specs.declared.faults.TaskFault.{TaskFault}
 use Rattle.rrd_store.specs.declared.faults.TaskFault.TheVariants as task
-use Rattle.rrd_store.proofs.CommandRuns.{SameFor, started, unread_words}
+use Rattle.rrd_store.proofs.CommandRuns.{SameFor, before_kept, started, unread_words}
 use Rattle.rrd_store.proofs.FileRuns.{lines_computed}
-use Rattle.rrd_store.proofs.Found.{Reading}
+use Rattle.rrd_store.proofs.Found.{IsLeftIn, Reading}
 use Rattle.rrd_store.proofs.ValidStates.{Staying, first_valid, is_kept}
 
 -- a database that begins a run
@@ -60,12 +60,12 @@ module _ (stays : Staying) (laws : Reading) where
       over_one : (d : Stored) → IsValidStored d → RunsFrom command (Ok (Some d)) None new c0 c1 end → OverSome (Ok command) end
       over_one d v h =
           let valid = begun_valid d v in
-          let came = started stays laws None new (begun_filing d) valid c0 c1 end command (Ok (Some d)) (same_for (effect command) d v) h in
+          let came = started None new (begun_filing d) c0 c1 end command (Ok (Some d)) (before_kept stays laws None new (begun_filing d) valid (effect command)) (same_for (effect command) d v) h in
           inl (begun_filing d, valid, came.0, came.1, came.2)
 
       over_none : SameFor (effect command) None None → RunsFrom command (Ok None) None new c0 c1 end → OverSome (Ok command) end
       over_none same h =
-          let came = started stays laws None new None tt c0 c1 end command (Ok None) same h in
+          let came = started None new None c0 c1 end command (Ok None) (before_kept stays laws None new None tt (effect command)) same h in
           inl (None, tt, came.0, came.1, came.2)
 
       over_start : (e : Effect) → effect command ≡ e → (start : Result (Option Stored) TaskFault) → StartsBy e None start → RunsFrom command start None new c0 c1 end → OverSome (Ok command) end
@@ -84,27 +84,27 @@ module _ (stays : Staying) (laws : Reading) where
 
     pub command_over : (read : Result Command LineFault) (end : Result (Unit {0}) TaskFault) → RunsAs read None new c0 c1 end → OverSome read end
     command_over (Err fault) end h =
-        let came = unread_words stays laws None new None tt c0 c1 end fault h in
+        let came = unread_words None new None c0 c1 end fault h in
         inl (None, tt, came.0, came.1, came.2)
     command_over (Ok command) end h = over_start command end (effect command) refl h.0 h.1 h.2
 
     -- ---- a batch
 
-    module _ (now : ℕ) (r0 r1 : Option (List ℕ)) where
+    module _ (now numbered : ℕ) (r0 r1 : Option (List ℕ)) where
       abbrev pub LinesOverSome : Result FileBatchEnd TaskFault → Type 0
       LinesOverSome end =
-          ((s : Option Filing) × IsValidFiling s × (s1 : Option Filing) × AnswersLines now s s1 r0 r1 c0 c1 end × IsLeftIn None new s1 (fault_of_batch end))
+          ((s : Option Filing) × IsValidFiling s × (s1 : Option Filing) × AnswersLines now numbered s s1 r0 r1 c0 c1 end × IsLeftIn None new s1 (fault_of_batch end))
           ⊎ ((fault : TaskFault) × IsOfPlace fault × (fault_of_batch end ≡ Some fault) × Keeps c0 c1)
 
-      lines_from : (found : Option Stored) (end : FileBatchEnd) → Finds None (Ok found) → RunsLines now found None new r0 r1 c0 c1 end → LinesOverSome (Ok end)
+      lines_from : (found : Option Stored) (end : FileBatchEnd) → Finds None (Ok found) → RunsLines now numbered found None new r0 r1 c0 c1 end → LinesOverSome (Ok end)
       lines_from None end f h =
-          let came = lines_computed stays laws None new None tt now r0 r1 c0 c1 None end refl h in
+          let came = lines_computed stays laws None new None tt now numbered r0 r1 c0 c1 None end refl h in
           inl (None, tt, came.0, came.1, came.2)
       lines_from (Some d) end f h =
           let valid = begun_valid d f in
-          let came = lines_computed stays laws None new (begun_filing d) valid now r0 r1 c0 c1 (Some d) end (begun_same d f) h in
+          let came = lines_computed stays laws None new (begun_filing d) valid now numbered r0 r1 c0 c1 (Some d) end (begun_same d f) h in
           inl (begun_filing d, valid, came.0, came.1, came.2)
 
-      pub batch_over : (end : Result FileBatchEnd TaskFault) → IsFileBatch now None new r0 r1 c0 c1 end → LinesOverSome end
+      pub batch_over : (end : Result FileBatchEnd TaskFault) → IsFileBatch now numbered None new r0 r1 c0 c1 end → LinesOverSome end
       batch_over (Err fault) h = inr (fault, of_place fault h.0, refl, h.3)
       batch_over (Ok end) h = lines_from h.0 end h.1 h.2

@@ -13,7 +13,7 @@ use Rattle.rrd_spec.specs.Limits.{newest}
 use Rattle.rrd_spec.specs.Validity.{IsValidDatabase}
 use Rattle.rrd_spec.specs.Commands.Verdict.{verdict}
 use Rattle.rrd_file.specs.Laws.{IsValidStored}
-use Rattle.rrd_tool.specs.Batch.{Ran, Stopped, Told, state_after}
+use Rattle.rrd_tool.specs.Batch.{Ran, Stopped, Tally, Told, no_lines, state_after}
 use Rattle.rrd_tool.specs.Batch.Run.{RunOver, command_of, reading_turn, text_turn, turn, verdict_turn, words_turn}
 use Rattle.rrd_tool.specs.Commands.{effect}
 use Rattle.rrd_tool.specs.Effects.{Changes, Effect, Makes, Reverts, Shows, StandsFor, stored_next, stored_of, next, verdict_on}
@@ -143,19 +143,19 @@ module _ (laws : Staying) where
     lines_valid now s [] v = v
     lines_valid now s (p ∷ ps) v = lines_valid now (turn now s p).state ps (turn_valid now s p v)
 
-    module _ (now : ℕ) (s0 s1 : Option State) (n0 n1 : ℕ) (c0 c1 : Option (List ℕ)) (v : Valid N s0) where
-      ran_valid : (lines : List (List ℕ)) → Ran (turn now) s0 s1 n0 n1 c0 c1 lines → Valid N s1
+    module _ (now : ℕ) (s0 s1 : Option State) (t0 t1 : Tally) (c0 c1 : Option (List ℕ)) (v : Valid N s0) where
+      ran_valid : (lines : List (List ℕ)) → Ran (turn now) s0 s1 t0 t1 c0 c1 lines → Valid N s1
       ran_valid lines h = subst (Valid N) (sym h.state) (lines_valid now s0 h.told v)
 
-      stopped_valid : (lines : List (List ℕ)) → Stopped (turn now) s0 s1 n0 n1 c0 c1 lines → Valid N s1
+      stopped_valid : (lines : List (List ℕ)) → Stopped (turn now) s0 s1 t0 t1 c0 c1 lines → Valid N s1
       stopped_valid lines h = subst (Valid N) (sym h.state) (turn_valid now (state_after (turn now) s0 h.told) h.last (lines_valid now s0 h.told v))
 
-    pub run_valid : (now : ℕ) (seen : List ℕ) (r1 : Option (List ℕ)) (s0 s1 : Option State) (n : ℕ) (c0 c1 : Option (List ℕ)) (fault : Option StreamFault)
-        → RunOver now seen r1 s0 s1 n c0 c1 fault → Valid N s0 → Valid N s1
-    run_valid now seen r1 s0 s1 n c0 c1 None h v = ran_valid now s0 s1 0 n c0 c1 v _ h.1
-    run_valid now seen r1 s0 s1 n c0 c1 (Some stream.Read) h v = ran_valid now s0 s1 0 n c0 c1 v _ h
-    run_valid now seen r1 s0 s1 n c0 c1 (Some stream.Write) h v = elim h [
-      | inl stopped ↦ stopped_valid now s0 s1 0 n c0 c1 v _ stopped
-      | inr last ↦ stopped_valid now s0 s1 0 n c0 c1 v _ last.1
+    pub run_valid : (now : ℕ) (seen : List ℕ) (r1 : Option (List ℕ)) (s0 s1 : Option State) (t : Tally) (c0 c1 : Option (List ℕ)) (fault : Option StreamFault)
+        → RunOver now seen r1 s0 s1 t c0 c1 fault → Valid N s0 → Valid N s1
+    run_valid now seen r1 s0 s1 t c0 c1 None h v = ran_valid now s0 s1 no_lines t c0 c1 v _ h.1
+    run_valid now seen r1 s0 s1 t c0 c1 (Some stream.Read) h v = ran_valid now s0 s1 no_lines t c0 c1 v _ h
+    run_valid now seen r1 s0 s1 t c0 c1 (Some stream.Write) h v = elim h [
+      | inl stopped ↦ stopped_valid now s0 s1 no_lines t c0 c1 v _ stopped
+      | inr last ↦ stopped_valid now s0 s1 no_lines t c0 c1 v _ last.1
     ]
-    run_valid now seen r1 s0 s1 n c0 c1 (Some stream.OutOfMemory) h v = subst (Valid N) (sym h.1) v
+    run_valid now seen r1 s0 s1 t c0 c1 (Some stream.OutOfMemory) h v = subst (Valid N) (sym h.1) v

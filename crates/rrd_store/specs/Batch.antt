@@ -1,8 +1,9 @@
--- Definition: what a batch over the database in a place comes to (own).
+-- Definition: the results of a batch on a stored database (own).
 use Rattle.std.specs.Prelude.{ℕ, List, Option, Some, None, Result, Ok, Err}
 use Rattle.std.specs.Io.KnownBytes.{Consumes, Keeps}
 use Rattle.rrd_spec.specs.Journal.Survivors.{State, Stored}
 use Rattle.rrd_tool.specs.Effects.{StandsFor}
+use Rattle.rrd_tool.specs.Batch.{Counts, Tally}
 use Rattle.rrd_tool.specs.Batch.Run.{RunOver}
 use Rattle.rrd_store.specs.Places.{Finds, Held, Leaves, Stays}
 use Rattle.rrd_store.specs.declared.batch.FileBatchEnd.{FileBatchEnd}
@@ -14,21 +15,22 @@ written None = Ok (tt {0})
 written (Some fault) = Err fault
 
 -- the lines were run from the database that was found: whatever state it stands for, the run leads to one that the
--- database in the end stands for. That one is left in the place
-pub record RunsLines (now : ℕ) (found : Option Stored) (old new : Option Held) (r0 r1 c0 c1 : Option (List ℕ))
+-- database in the end stands for. That one is left in the place. At most so many numbers of refused lines are kept
+pub record RunsLines (now numbered : ℕ) (found : Option Stored) (old new : Option Held) (r0 r1 c0 c1 : Option (List ℕ))
     (end : FileBatchEnd) : Type 0 where
   pub last : Option Stored
   pub runs : (s0 : Option State) → StandsFor found s0
       → (seen : List ℕ) × Consumes r0 r1 seen
       × (s1 : Option State) × StandsFor last s1
-      × RunOver now seen r1 s0 s1 end.refused c0 c1 end.stream
+      × (tally : Tally) × Counts numbered tally end.refused end.lines.items
+      × RunOver now seen r1 s0 s1 tally c0 c1 end.stream
   pub left : Leaves last old new (written end.unstored)
 
 -- `old` and `new` are what the place has before and after, `r0` and `r1` what is left of the input, `c0` and `c1` the
 -- output
-abbrev pub IsFileBatch : ℕ → Option Held → Option Held → Option (List ℕ) → Option (List ℕ)
+abbrev pub IsFileBatch : ℕ → ℕ → Option Held → Option Held → Option (List ℕ) → Option (List ℕ)
     → Option (List ℕ) → Option (List ℕ) → Result FileBatchEnd TaskFault → Type 0
-IsFileBatch now old new r0 r1 c0 c1 (Err fault) =
+IsFileBatch now numbered old new r0 r1 c0 c1 (Err fault) =
     Finds old (Err fault) × Stays old new × Keeps r0 r1 × Keeps c0 c1
-IsFileBatch now old new r0 r1 c0 c1 (Ok end) =
-    (found : Option Stored) × Finds old (Ok found) × RunsLines now found old new r0 r1 c0 c1 end
+IsFileBatch now numbered old new r0 r1 c0 c1 (Ok end) =
+    (found : Option Stored) × Finds old (Ok found) × RunsLines now numbered found old new r0 r1 c0 c1 end

@@ -1,4 +1,4 @@
--- Definition: what the program tells on standard error, and its status (own).
+-- Definition: the text that the program prints on standard error, and the status of the program (own).
 use Rattle.std.specs.Prelude.{◌==◌, ◌++◌, [], ℕ, List, Option, Some, None, Result, Ok, Err, if◌then◌else◌}
 use Rattle.rrd_fixed.specs.Written.{Writes}
 use Rattle.rrd_fixed.specs.declared.streams.WriteFault.{WriteFault}

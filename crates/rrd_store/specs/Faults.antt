@@ -1,4 +1,4 @@
--- Definition: the texts of the faults of tasks, and what is written for them (own).
+-- Definition: the messages of the faults of tasks, and the report that is written for a fault (own).
 use Rattle.std.specs.Prelude.{◌++◌, [], ℕ, Bool, List, codes, false, true, if◌then◌else◌}
 use Rattle.rrd_file.specs.Faults.Texts.{file_fault_text}
 use Rattle.rrd_tool.specs.Faults.{error_line, fault_text}

@@ -1,4 +1,4 @@
--- Definition: what a place keeps, what is found there, and what is left there.
+-- Definition: the bytes that a storage keeps, the result of reading the storage, and the bytes that a change leaves.
 use Rattle.std.specs.Prelude.{◌≡◌, ◌⊎◌, ◌++◌, ◌∷◌, [], ℕ, List, Option, Some, None, Result, Ok, Err, ⊤, length, option_map}
 use Rattle.rrd_file.specs.Faults.{IsAnswer}
 use Rattle.rrd_file.specs.Laws.{IsValidStored}
@@ -8,7 +8,8 @@ use Rattle.rrd_spec.specs.Journal.Survivors.{Stored}
 use Rattle.rrd_store.specs.declared.faults.TaskFault.{TaskFault}
 use Rattle.rrd_store.specs.declared.faults.TaskFault.TheVariants.{Command, Stream, File, CannotOpen, CannotWrite}
 
--- what a place has: nothing is there, or something with these bytes, which may be none
+-- what a place stands for, which is what the next open reads: nothing is there, or something with these bytes, which may
+-- be none
 pub data Held : Type 0 where
   Missing : Held
   Bytes : List ℕ → Held
@@ -60,16 +61,19 @@ abbrev pub TakesOver : Option Held → Option Held → Option (List ℕ) → Typ
 TakesOver None new written = ⊤
 TakesOver (Some old) new written = new ≡ option_map Bytes written
 
--- it has what it had, or a front of these bytes, and not all
+-- it has a front of these bytes, and not all
 abbrev pub IsCutFrom : Option Held → Option Held → List ℕ → Type 0
 IsCutFrom old new bytes =
-    Stays old new
-    ⊎ ((front : List ℕ) × (next : ℕ) × (rest : List ℕ) × (bytes ≡ front ++ next ∷ rest) × Becomes old new front)
+    (front : List ℕ) × (next : ℕ) × (rest : List ℕ) × (bytes ≡ front ++ next ∷ rest) × Becomes old new front
+
+-- a write of these bytes failed: it has what it had; or the bytes; or a front of them, and not all
+abbrev pub IsAfterFailure : Option Held → Option Held → List ℕ → Type 0
+IsAfterFailure old new bytes = Stays old new ⊎ (Becomes old new bytes ⊎ IsCutFrom old new bytes)
 
 -- so it is of those that were written
 abbrev pub Cuts : Option Held → Option Held → Option (List ℕ) → Type 0
 Cuts old new None = ⊤
-Cuts old new (Some written) = IsCutFrom old new written
+Cuts old new (Some written) = IsAfterFailure old new written
 
 -- it has what it had, or a front of what was written, or all of that
 abbrev pub FallsBack : Option Held → Option Held → Option (List ℕ) → Type 0
@@ -104,10 +108,11 @@ Finds held (Err (Stream fault)) = ⊥
 
 -- ---- what is left
 
--- the bytes take the place of what was there; or that stays; or a front of the new ones is there, and not all
+-- the bytes take the place of what was there; or, after a write that failed, that stays, or the bytes are there, or a
+-- front of them and not all
 abbrev pub Replaces : {T : Type 0} → Option Held → Option Held → List ℕ → Result T TaskFault → Type 0
 Replaces old new bytes (Ok x) = Becomes old new bytes
-Replaces old new bytes (Err CannotWrite) = IsCutFrom old new bytes
+Replaces old new bytes (Err CannotWrite) = IsAfterFailure old new bytes
 Replaces old new bytes (Err CannotOpen) = ⊥
 Replaces old new bytes (Err (File fault)) = ⊥
 Replaces old new bytes (Err (Command fault)) = ⊥

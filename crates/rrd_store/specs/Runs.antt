@@ -1,18 +1,19 @@
--- Definition: what the definitions compute of one run over a place. Law: after any list of runs over one file, its bytes
--- and all that was printed are that; and a file that a failed write cut stays so.
-use Rattle.std.specs.Prelude.{◌≡◌, ◌≢◌, ◌⊎◌, ◌++◌, ◌∷◌, [], ℕ, List, Option, Some, None, Result, Ok, Err, ⊤, false, length, if◌then◌else◌, option_map}
-use Rattle.std.specs.List.{AllByRecursion}
+-- Definition: the bytes and the text that the definitions compute of one run on a storage, and the bytes that a failed
+-- write or a kill leaves. Law: after any list of runs on one file, the bytes of the file and all printed text are what
+-- the definitions compute; and a file that a failed write cut short stays as it is.
+use Rattle.std.specs.Prelude.{◌≡◌, ◌≢◌, ◌⊎◌, ◌++◌, ◌∷◌, [], ℕ, List, Option, Some, None, Result, Ok, Err, false, length, if◌then◌else◌, option_map}
 use Rattle.std.specs.Result.{result_err}
 use Rattle.std.specs.Io.KnownBytes.{Appends, Consumes, Keeps}
 use Rattle.rrd_file.specs.declared.fault.FileFault.{FileFault}
 use Rattle.rrd_file.specs.declared.fault.FileFault.TheVariants.{Truncated}
-use Rattle.rrd_file.specs.Faults.{IsFile}
+use Rattle.rrd_file.specs.Faults.{IsAnswer, IsFile}
 use Rattle.rrd_file.specs.Laws.{IsOfFile, IsValidIn}
 use Rattle.rrd_file.specs.Layout.{layout_in}
 use Rattle.rrd_spec.specs.Journal.Survivors.{State, Stored, Stands}
 use Rattle.rrd_spec.specs.Limits.{newest}
 use Rattle.rrd_spec.specs.declared.requests.create.CreateSpec.{CreateSpec}
 use Rattle.rrd_spec.specs.declared.version.Version.{Version}
+use Rattle.rrd_tool.specs.Batch.{Counts, Tally}
 use Rattle.rrd_tool.specs.Batch.Run.{RunOver}
 use Rattle.rrd_tool.specs.Commands.{effect}
 use Rattle.rrd_tool.specs.Commands.Reading.{IsReading, reading}
@@ -41,9 +42,10 @@ pub record CommandRun : Type 0 where
   pub out_after : Option (List ℕ)
   pub end : Result (Unit {0}) TaskFault
 
--- a batch: the present time, what was left of the input before and after it, the same of the output, and how it ended
+-- a batch: the present time, how many numbers of refused lines were asked for, what was left of the input before and after it, the same of the output, and how it ended
 pub record BatchRun : Type 0 where
   pub now : ℕ
+  pub numbered : ℕ
   pub in_before : Option (List ℕ)
   pub in_after : Option (List ℕ)
   pub out_before : Option (List ℕ)
@@ -57,16 +59,11 @@ pub data Run : Type 0 where
 -- the run took the place from what it had to what it has: just what `run_single`, or `run_file_batch`, ensures
 abbrev pub DidIn : Option Held → Run → Option Held → Type 0
 DidIn old (ByCommand r) new = IsSingle r.words r.now old new r.out_before r.out_after r.end
-DidIn old (ByBatch r) new = IsFileBatch r.now old new r.in_before r.in_after r.out_before r.out_after r.end
+DidIn old (ByBatch r) new = IsFileBatch r.now r.numbered old new r.in_before r.in_after r.out_before r.out_after r.end
 
 -- so it took a file, of which it is known what it was
 abbrev pub Did : Held → Run → Held → Type 0
 Did old run new = DidIn (Some old) run (Some new)
-
--- one after another, and nobody else wrote the file in between
-abbrev pub DidAll : Held → List Run → Held → Type 0
-DidAll old [] new = new ≡ old
-DidAll old (run ∷ runs) new = (between : Held) × Did old run between × DidAll between runs new
 
 -- the fault that a run ended with before it touched the file, or at its write
 abbrev pub fault_of_batch : Result FileBatchEnd TaskFault → Option TaskFault
@@ -76,10 +73,6 @@ fault_of_batch (Err fault) = Some fault
 abbrev pub fault_of : Run → Option TaskFault
 fault_of (ByCommand r) = result_err r.end
 fault_of (ByBatch r) = fault_of_batch r.end
-
--- no write of the file failed
-abbrev pub IsWritten : Run → Type 0
-IsWritten run = fault_of run ≢ Some task.CannotWrite
 
 -- ---- the file of a state
 
@@ -116,25 +109,25 @@ abbrev pub IsFrontOf : List ℕ → Filing → Type 0
 IsFrontOf front k =
     (next : ℕ) × (rest : List ℕ) × (layout_in k.version (stored_of k.state) ≡ front ++ next ∷ rest)
 
--- the file after a write that failed: it is as it was, or has a front of the new bytes and not all
-abbrev pub IsCut : Held → Held → Option Filing → Type 0
-IsCut old new None = ⊥
-IsCut old new (Some k) = (new ≡ old) ⊎ ((front : List ℕ) × IsFrontOf front k × (new ≡ Bytes front))
+-- ---- what a file stands for
 
--- the file after a run that led to this, by the fault that it ended with
-abbrev pub IsLeft : Held → Held → Option Filing → Option TaskFault → Type 0
-IsLeft old new s None = Holds new s
-IsLeft old new s (Some task.CannotWrite) = IsCut old new s
-IsLeft old new s (Some task.CannotOpen) = Holds new s
-IsLeft old new s (Some (task.File fault)) = Holds new s
-IsLeft old new s (Some (task.Command fault)) = Holds new s
-IsLeft old new s (Some (task.Stream fault)) = Holds new s
+-- these bytes are the file of no database
+abbrev pub IsNoFile : List ℕ → Type 0
+IsNoFile bytes = (d : Stored) → ¬ IsFile bytes d
 
--- so it is of a place, as far as it is known what it has; what was known stays known
-abbrev pub IsLeftIn : Option Held → Option Held → Option Filing → Option TaskFault → Type 0
-IsLeftIn None new s fault = ⊤
-IsLeftIn (Some old) None s fault = ⊥
-IsLeftIn (Some old) (Some new) s fault = IsLeft old new s fault
+-- what it keeps, and none where there is no file; or bytes that are no database
+pub data Standing : Type 0 where
+  Keeping : Option Filing → Standing
+  Damaged : List ℕ → Standing
+
+abbrev pub IsFileOf : Held → Standing → Type 0
+IsFileOf held (Keeping s) = Holds held s
+IsFileOf held (Damaged bytes) = (held ≡ Bytes bytes) × IsNoFile bytes
+
+-- so it is of a place of which it was known what it had; what was known stays known
+abbrev pub IsFileIn : Option Held → Standing → Type 0
+IsFileIn None t = ⊥
+IsFileIn (Some held) t = IsFileOf held t
 
 -- ---- what the definitions compute of a run: the next state and its version, what is printed, and how it ends
 
@@ -212,12 +205,13 @@ AnswersRead s (Ok command) s1 c0 c1 end = Answers s (effect command) s1 c0 c1 en
 AnswersRead s (Err fault) s1 c0 c1 end = (end ≡ Err (task.Command (Line fault))) × IsNothing s s1 c0 c1
 
 -- the run over the lines that were read, after which the file is written; or it could not be read, and no line was
-abbrev pub AnswersLines : ℕ → Option Filing → Option Filing → Option (List ℕ) → Option (List ℕ) → Option (List ℕ)
+abbrev pub AnswersLines : ℕ → ℕ → Option Filing → Option Filing → Option (List ℕ) → Option (List ℕ) → Option (List ℕ)
     → Option (List ℕ) → Result FileBatchEnd TaskFault → Type 0
-AnswersLines now s s1 r0 r1 c0 c1 (Ok end) =
+AnswersLines now numbered s s1 r0 r1 c0 c1 (Ok end) =
     (seen : List ℕ) × Consumes r0 r1 seen × (last : Option State)
-    × RunOver now seen r1 (state_in s) last end.refused c0 c1 end.stream × (s1 ≡ as_written last)
-AnswersLines now s s1 r0 r1 c0 c1 (Err fault) = MayStop s fault × IsNothing s s1 c0 c1 × Keeps r0 r1
+    × (tally : Tally) × Counts numbered tally end.refused end.lines.items
+    × RunOver now seen r1 (state_in s) last tally c0 c1 end.stream × (s1 ≡ as_written last)
+AnswersLines now numbered s s1 r0 r1 c0 c1 (Err fault) = MayStop s fault × IsNothing s s1 c0 c1 × Keeps r0 r1
 
 -- from this state the run leads to that one
 abbrev pub Computes : Option Filing → Run → Option Filing → Type 0
@@ -225,23 +219,115 @@ Computes s (ByCommand r) s1 =
     (read : Result Command LineFault)
     × IsReading r.words r.now read
     × AnswersRead s read s1 r.out_before r.out_after r.end
-Computes s (ByBatch r) s1 = AnswersLines r.now s s1 r.in_before r.in_after r.out_before r.out_after r.end
-
-abbrev pub ComputesAll : Option Filing → List Run → Option Filing → Type 0
-ComputesAll s [] s1 = s1 ≡ s
-ComputesAll s (run ∷ runs) s1 = (between : Option Filing) × Computes s run between × ComputesAll between runs s1
+Computes s (ByBatch r) s1 = AnswersLines r.now r.numbered s s1 r.in_before r.in_after r.out_before r.out_after r.end
 
 -- what the output held before and after
 abbrev pub OutputStays : Run → Type 0
 OutputStays (ByCommand r) = Keeps r.out_before r.out_after
 OutputStays (ByBatch r) = Keeps r.out_before r.out_after
 
--- ---- one run over a place: what `run_single` and `run_file_batch` ensure
+-- ---- what a file stands for after a run
 
--- from this state the run leads to the one that the definitions compute, and prints what they do. The place has that
--- state's file, unless it could not be written
-abbrev pub Leads : Option Held → Option Held → Option Filing → Run → Type 0
-Leads old new s run = (s1 : Option Filing) × Computes s run s1 × IsLeftIn old new s1 (fault_of run)
+-- a write of the file failed: it stands for what it stood for, or for what was to be written, or is damaged, a front of
+-- the file of that and not all
+abbrev pub IsAfterFailure : Standing → Option Filing → Standing → Type 0
+IsAfterFailure t s1 t1 =
+    (t1 ≡ t)
+    ⊎ ((t1 ≡ Keeping s1)
+    ⊎ ((front : List ℕ) × (k : Filing) × (s1 ≡ Some k) × IsFrontOf front k × (t1 ≡ Damaged front)))
+
+-- after a run from the standing `t` that led to `s1`, by the fault that the run ended with
+abbrev pub StandsBy : Standing → Option Filing → Option TaskFault → Standing → Type 0
+StandsBy t s1 None t1 = t1 ≡ Keeping s1
+StandsBy t s1 (Some task.CannotWrite) t1 = IsAfterFailure t s1 t1
+StandsBy t s1 (Some task.CannotOpen) t1 = t1 ≡ t
+StandsBy t s1 (Some (task.File fault)) t1 = t1 ≡ t
+StandsBy t s1 (Some (task.Command fault)) t1 = t1 ≡ t
+StandsBy t s1 (Some (task.Stream fault)) t1 = t1 ≡ t
+
+-- the words mean a command that makes a database
+abbrev pub IsCreate : Run → Type 0
+IsCreate (ByCommand r) =
+    (command : Command) × (reading r.words r.now ≡ Some (Ok command))
+    × (spec : CreateSpec) × (effect command ≡ Makes spec)
+IsCreate (ByBatch r) = ⊥
+
+-- what a run over bytes that are no database ends with: a fault of the file of which this is said, unless the file
+-- couldn't be opened or the words are no command
+abbrev pub IsRefusedBy : (FileFault → Type 0) → TaskFault → Type 0
+IsRefusedBy Is (task.File fault) = Is fault
+IsRefusedBy Is task.CannotOpen = Unit {0}
+IsRefusedBy Is (task.Command (Line fault)) = Unit {0}
+IsRefusedBy Is (task.Command (Refused fault)) = ⊥
+IsRefusedBy Is (task.Command NoDatabase) = ⊥
+IsRefusedBy Is (task.Command Output) = ⊥
+IsRefusedBy Is task.CannotWrite = ⊥
+IsRefusedBy Is (task.Stream fault) = ⊥
+
+-- the fault of these bytes
+abbrev pub IsOfBytes : List ℕ → TaskFault → Type 0
+IsOfBytes bytes fault = IsRefusedBy (λ f. IsAnswer bytes (Err f)) fault
+
+-- the run printed nothing, and ended so
+abbrev pub IsRefusedOver : List ℕ → Run → Type 0
+IsRefusedOver bytes run =
+    OutputStays run × (fault : TaskFault) × (fault_of run ≡ Some fault) × IsOfBytes bytes fault
+
+-- from what it stands for the run leads to what the definitions compute, and prints what they do. Over bytes that are no
+-- database a create goes on as over no file, since it asks for no database, and any other run is refused
+abbrev pub Leads : Standing → Run → Standing → Type 0
+Leads (Keeping s) run t1 = (s1 : Option Filing) × Computes s run s1 × StandsBy (Keeping s) s1 (fault_of run) t1
+Leads (Damaged bytes) run t1 =
+    (IsCreate run × (s1 : Option Filing) × Computes None run s1 × StandsBy (Damaged bytes) s1 (fault_of run) t1)
+    ⊎ ((¬ IsCreate run) × IsRefusedOver bytes run × (t1 ≡ Damaged bytes))
+
+-- ---- runs and kills
+
+-- a run that came to its end, or one that was killed before it; of what a killed run printed nothing is said
+pub data Event : Type 0 where
+  Ended : Run → Event
+  Killed : Run → Event
+
+-- there is no file, or it is no database
+abbrev pub HasNone : Held → Type 0
+HasNone Missing = Unit {0}
+HasNone (Bytes bytes) = IsNoFile bytes
+
+-- a kill leaves what was there; or what the run leaves that comes to its end; or, where no database was there, bytes
+-- that are none
+abbrev pub WasKilled : Held → Run → Held → Type 0
+WasKilled old run new =
+    (new ≡ old) ⊎ (Did old run new ⊎ (HasNone old × (bytes : List ℕ) × (new ≡ Bytes bytes) × IsNoFile bytes))
+
+abbrev pub Happened : Held → Event → Held → Type 0
+Happened old (Ended run) new = Did old run new
+Happened old (Killed run) new = WasKilled old run new
+
+-- one after another, and nobody else wrote the file in between
+abbrev pub HappenedAll : Held → List Event → Held → Type 0
+HappenedAll old [] new = new ≡ old
+HappenedAll old (event ∷ events) new =
+    (between : Held) × Happened old event between × HappenedAll between events new
+
+-- no database is kept
+abbrev pub KeepsNone : Standing → Type 0
+KeepsNone (Keeping None) = Unit {0}
+KeepsNone (Keeping (Some k)) = ⊥
+KeepsNone (Damaged bytes) = Unit {0}
+
+-- the state before the run, or the one after it; or, where no database was kept, none is
+abbrev pub LeadsKilled : Standing → Run → Standing → Type 0
+LeadsKilled t run t1 = (t1 ≡ t) ⊎ (Leads t run t1 ⊎ (KeepsNone t × (bytes : List ℕ) × (t1 ≡ Damaged bytes)))
+
+abbrev pub LeadsBy : Standing → Event → Standing → Type 0
+LeadsBy t (Ended run) t1 = Leads t run t1
+LeadsBy t (Killed run) t1 = LeadsKilled t run t1
+
+abbrev pub LeadsAll : Standing → List Event → Standing → Type 0
+LeadsAll t [] t1 = t1 ≡ t
+LeadsAll t (event ∷ events) t1 = (between : Standing) × LeadsBy t event between × LeadsAll between events t1
+
+-- ---- one run over a place: what `run_single` and `run_file_batch` ensure
 
 -- the place didn't open, or what is there is no database that can be read
 abbrev pub IsOfPlace : TaskFault → Type 0
@@ -255,18 +341,22 @@ IsOfPlace (task.Stream fault) = ⊥
 abbrev pub EndsUnread : Run → Type 0
 EndsUnread run = (fault : TaskFault) × IsOfPlace fault × (fault_of run ≡ Some fault) × OutputStays run
 
--- over the file of any state the run does what is computed from that state. Where it isn't known what the place has, as
--- of a file of the program, it does what is computed from some valid state, or from none, or it ends unread
+-- the run does what is computed from what the file stands for, and leaves the file of that. Where it isn't known what
+-- the place has, as of a file of the program, it does what is computed from some valid state, or from none, or it ends
+-- unread
 abbrev pub IsComputed : Option Held → Option Held → Run → Type 0
-IsComputed None new run = ((s : Option Filing) × IsValidFiling s × Leads None new s run) ⊎ EndsUnread run
-IsComputed (Some old) new run = (s : Option Filing) → Holds old s → Leads (Some old) new s run
+IsComputed None new run =
+    ((s : Option Filing) × IsValidFiling s × (t1 : Standing) × Leads (Keeping s) run t1) ⊎ EndsUnread run
+IsComputed (Some old) new run =
+    (t : Standing) → IsFileOf old t → (t1 : Standing) × Leads t run t1 × IsFileIn new t1
 
 -- ---- the laws
 
--- a run over the file of a state leads to the state that the definitions compute, and prints what they do. The file is
--- that of the new state, unless it could not be written
-abbrev pub RunIsComputed : Held → Option Filing → Run → Held → Type 0
-RunIsComputed old s run new = Holds old s → Did old run new → Leads (Some old) (Some new) s run
+-- a run over a file leads from what the file stands for to what the definitions compute, and prints what they do, also
+-- where the file could not be written; and a run that is killed leads to what was before it, or to what is after it
+abbrev pub RunIsComputed : Held → Standing → Event → Held → Type 0
+RunIsComputed old t event new =
+    IsFileOf old t → Happened old event new → (t1 : Standing) × LeadsBy t event t1 × IsFileOf new t1
 
 -- the first file: none, or the file of a valid database, in any version
 abbrev pub IsFirst : Held → Option Stored → Type 0
@@ -281,12 +371,12 @@ abbrev pub first_of : (held : Held) (first : Option Stored) → IsFirst held fir
 first_of held None is = None
 first_of held (Some d) is = Some (record { version = is.2.version; state = begun d })
 
--- the headline: after any list of runs, batches and single commands, with any outcome of memory, the file has the
--- bytes, and the outputs have the texts, that the definitions compute from the first file
-abbrev pub RunsAreComputed : Held → Option Stored → List Run → Held → Type 0
-RunsAreComputed old first runs new =
-    (is : IsFirst old first) → DidAll old runs new → AllByRecursion IsWritten runs
-    → (last : Option Filing) × ComputesAll (first_of old first is) runs last × Holds new last
+-- the headline: after any list of runs, batches and single commands, with any outcome of memory, with failed writes and
+-- kills, the file has the bytes, and the outputs have the texts, that the definitions compute from the first file
+abbrev pub RunsAreComputed : Held → Option Stored → List Event → Held → Type 0
+RunsAreComputed old first events new =
+    (is : IsFirst old first) → HappenedAll old events new
+    → (last : Standing) × LeadsAll (Keeping (first_of old first is)) events last × IsFileOf new last
 
 -- a run that ends with a fault, of the command or of the file, and not because the file could not be written, leaves
 -- the file as it was, whatever that is; it printed nothing unless its output failed
@@ -295,24 +385,9 @@ FaultChangesNothing old run fault new =
     Did old run new → fault_of run ≡ Some fault → fault ≢ task.CannotWrite
     → (new ≡ old) × (fault ≢ task.Command Output → OutputStays run)
 
--- the words mean a command that makes a database
-abbrev pub IsCreate : Run → Type 0
-IsCreate (ByCommand r) =
-    (command : Command) × (reading r.words r.now ≡ Some (Ok command))
-    × (spec : CreateSpec) × (effect command ≡ Makes spec)
-IsCreate (ByBatch r) = ⊥
-
--- what a run over a file that breaks off after so many bytes ends with: that it does, unless it couldn't be opened, or
--- not be read to its end; or the words are no command
+-- that the file breaks off after so many bytes, if it could be read to its end
 abbrev pub IsOfBreak : ℕ → TaskFault → Type 0
-IsOfBreak at (task.File fault) = IsOfFile (Err fault) → fault ≡ Truncated at
-IsOfBreak at task.CannotOpen = Unit {0}
-IsOfBreak at (task.Command (Line fault)) = Unit {0}
-IsOfBreak at (task.Command (Refused fault)) = ⊥
-IsOfBreak at (task.Command NoDatabase) = ⊥
-IsOfBreak at (task.Command Output) = ⊥
-IsOfBreak at task.CannotWrite = ⊥
-IsOfBreak at (task.Stream fault) = ⊥
+IsOfBreak at fault = IsRefusedBy (λ f. IsOfFile (Err f) → f ≡ Truncated at) fault
 
 -- a file that a failed write cut stays as it is, and each run over it but a create is refused and prints nothing
 abbrev pub DamagedFileStays : List ℕ → Filing → Run → Held → Type 0

@@ -1,11 +1,11 @@
--- Definition: what one command over the database in a place comes to (own).
+-- Definition: the results of one command on a stored database (own).
 use Rattle.std.specs.Prelude.{◌≡◌, ℕ, Bool, List, Option, Some, None, Result, Ok, Err, false, true, if◌then◌else◌}
 use Rattle.std.specs.Io.KnownBytes.{Keeps}
 use Rattle.rrd_spec.specs.Journal.Survivors.{Stored}
 use Rattle.rrd_tool.specs.Commands.{effect}
 use Rattle.rrd_tool.specs.Effects.{Effect, Makes, Changes, Reverts, Shows, is_change, text_on}
 use Rattle.rrd_tool.specs.Lines.{is_empty}
-use Rattle.rrd_tool.specs.Execution.{Executes}
+use Rattle.rrd_tool.specs.Execution.{Executes, database_left, fault_left, has_changed}
 use Rattle.rrd_tool.specs.Commands.Reading.{IsReading}
 use Rattle.rrd_tool.specs.declared.commands.Command.{Command}
 use Rattle.rrd_tool.specs.declared.execution.Outcome.{Outcome}
@@ -54,7 +54,7 @@ EndsBy None false database text old new (Err fault) =
 
 -- an outcome that printed this text
 abbrev pub Ends : Outcome → List ℕ → Option Held → Option Held → Result (Unit {0}) TaskFault → Type 0
-Ends outcome text old new end = EndsBy outcome.fault outcome.changed outcome.database text old new end
+Ends outcome text old new end = EndsBy (fault_left outcome) (has_changed outcome) (database_left outcome) text old new end
 
 -- ---- the whole: `old` and `new` are what the place has before and after, `c0` and `c1` what the output has
 

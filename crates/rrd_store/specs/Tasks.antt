@@ -1,4 +1,4 @@
--- Definition: what the program's words ask for (own).
+-- Definition: the task that the program's arguments ask for (own).
 use Rattle.std.specs.Prelude.{[], ◌∷◌, ℕ, List, codes, if◌then◌else◌}
 use Rattle.std.specs.Str.{bytes_eq}
 use Rattle.rrd_tool.specs.Arguments.{begins_with_minus}

@@ -1,4 +1,4 @@
-//! A batch over the database in a place.
+//! A batch on a stored database.
 ghost use Rattle.rrd_store.specs.Batch.{IsFileBatch};
 ghost use Rattle.rrd_store.specs.Runs.{ByBatch, IsComputed};
 
@@ -9,56 +9,67 @@ use rrd_tool::{StreamFault, run_batch};
 use std::alloc::Global;
 use std::io::{Read, Write};
 
-/// How a batch over a place ended, after its lines.
-#[derive(Clone, Copy, Debug, PartialEq, Eq)]
+/// The end of a batch on a stored database.
+#[derive(Debug, Drop, PartialEq, Eq)]
 pub struct FileBatchEnd {
-    /// How many fault lines were written whole.
+    /// The number of refused lines whose fault was completely written.
     pub refused: u64,
-    /// Why the batch ended before its input did.
+    /// The numbers of the first refused lines, as in [`rrd_tool::BatchEnd`].
+    pub lines: Vec<u64>,
+    /// The reason why the batch ended before its input ended; `None` if the batch ran to the end of the input.
     pub stream: Option<StreamFault>,
-    /// Why the database isn't in its place.
+    /// The reason why the database was not written; `None` if the database was written, or there is no database.
     pub unstored: Option<TaskFault>,
 }
 
-// Looks for the database, runs the lines and writes what they left.
+// Reads the database, runs the lines, and writes the database that the lines left.
 fn run_over<P: Place, R: Read, W: Write>(
     alloc: Global,
     now: u64,
+    numbered: usize,
     place: &mut P,
     reader: &mut R,
     out: &mut W,
 ) -> Result<FileBatchEnd, TaskFault>
-    ensures { IsFileBatch now (P.contents place.old) (P.contents place.new)
+    ensures { IsFileBatch now numbered (P.contents place.old) (P.contents place.new)
         (R.remaining reader.old) (R.remaining reader.new) (W.contents out.old) (W.contents out.new) result }
 {
     let database = load(alloc, place, Access::Change)?;
-    let end = run_batch(alloc, database, now, reader, out);
+    let end = run_batch(alloc, database, now, numbered, reader, out);
     let unstored = store(place, end.database.as_ref()).err();
     Ok(FileBatchEnd {
         refused: end.refused,
+        lines: end.lines,
         stream: end.stream,
         unstored,
     })
 }
 
-/// Runs each line of the reader over the database in a place, or over none where nothing is there, as
-/// `run_batch` does, and writes the database, where there is one in the end, in place of what is there.
-/// From the first read to that write nobody else changes the place.
+/// Runs each line of `reader` on the database in `place`, and writes the database at the end.
 ///
-/// Errors: `File` and `CannotOpen` where the place has no database that can be read. Nothing was read
-/// of the lines then, nothing written, and the place is as it was.
+/// Runs the lines as [`run_batch`] does. If `place` has nothing, the batch starts without a database. If there is no
+/// database at the end, nothing is written.
+/// `now` is the present time in seconds since 1970, `numbered` the maximum number of refused lines to list. Nobody else
+/// may change `place` between the first read and the write.
+///
+/// # Errors
+///
+/// `File` or `CannotOpen` if no database can be read from `place`. No line was read then, nothing was written, and
+/// `place` is unchanged.
 pub fn run_file_batch<P: Place, R: Read, W: Write>(
     alloc: Global,
     now: u64,
+    numbered: usize,
     place: &mut P,
     reader: &mut R,
     out: &mut W,
 ) -> Result<FileBatchEnd, TaskFault>
-    ensures run { IsFileBatch now (P.contents place.old) (P.contents place.new)
+    ensures run { IsFileBatch now numbered (P.contents place.old) (P.contents place.new)
         (R.remaining reader.old) (R.remaining reader.new) (W.contents out.old) (W.contents out.new) result }
     ensures computed { IsComputed (P.contents place.old) (P.contents place.new)
         (ByBatch (record {
           now = now;
+          numbered = numbered;
           in_before = R.remaining reader.old;
           in_after = R.remaining reader.new;
           out_before = W.contents out.old;
@@ -67,5 +78,5 @@ pub fn run_file_batch<P: Place, R: Read, W: Write>(
         })) }
 {
     place_runs_are_computed();
-    run_over(alloc, now, place, reader, out)
+    run_over(alloc, now, numbered, place, reader, out)
 }

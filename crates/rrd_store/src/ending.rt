@@ -1,4 +1,4 @@
-//! How the program ends: what it tells on standard error, and its status.
+//! The end of a run: the faults on standard error, and the status.
 ghost use Rattle.std.specs.Prelude.{◌≡◌};
 ghost use Rattle.std.specs.Result.{result_err};
 ghost use Rattle.rrd_fixed.specs.Written.{Writes};
@@ -10,7 +10,7 @@ use rrd_fixed::WriteFault;
 use rrd_tool::StreamFault;
 use std::io::Write;
 
-// 0 if nothing was refused and nothing failed, 2 if the words were no command, else 1.
+// Returns 0 if nothing was refused and nothing failed, 2 if the arguments were no command, 1 otherwise.
 fn single_status(end: Result<(), TaskFault>) -> u8
     ensures { result ≡ single_status end }
 {
@@ -21,7 +21,7 @@ fn single_status(end: Result<(), TaskFault>) -> u8
     }
 }
 
-// 0 if no line was refused and nothing failed, else 1.
+// Returns 0 if no line was refused and nothing failed, 1 otherwise.
 fn batch_status(refused: u64, stream: Option<StreamFault>, unstored: Option<TaskFault>) -> u8
     ensures { result ≡ batch_status refused stream unstored }
 {
@@ -31,7 +31,7 @@ fn batch_status(refused: u64, stream: Option<StreamFault>, unstored: Option<Task
     }
 }
 
-// Writes what is written for a fault, if there is one.
+// Writes the report of a fault, if there is a fault.
 fn write_if<W: Write>(err: &mut W, fault: Option<TaskFault>) -> Result<(), WriteFault>
     ensures { Writes (W.contents err.old) (W.contents err.new) (report_if USAGE.now fault) result }
 {
@@ -41,7 +41,7 @@ fn write_if<W: Write>(err: &mut W, fault: Option<TaskFault>) -> Result<(), Write
     }
 }
 
-// Writes what is written for the faults of a batch.
+// Writes the report of the faults of a batch.
 fn write_batch_faults<W: Write>(
     err: &mut W,
     stream: Option<StreamFault>,
@@ -56,9 +56,10 @@ fn write_batch_faults<W: Write>(
     write_if(err, unstored)
 }
 
-/// Ends the program after one command: tells its fault, if there is one, and gives the status. That is
-/// 0 if nothing was refused and nothing failed, 2 if the words were no command, else 1. If telling fails,
-/// the status alone tells.
+/// Reports the fault of one command, if there is one, and returns the status of the program.
+///
+/// The status is 0 if nothing was refused and nothing failed, 2 if the arguments were no command, 1 otherwise. If the
+/// report cannot be written, the status is the same.
 pub fn end_single<W: Write>(err: &mut W, end: Result<(), TaskFault>) -> u8
     ensures status { result ≡ single_status end }
     ensures told { Tells (W.contents err.old) (W.contents err.new) (report_if USAGE.now (result_err end)) }
@@ -67,9 +68,10 @@ pub fn end_single<W: Write>(err: &mut W, end: Result<(), TaskFault>) -> u8
     single_status(end)
 }
 
-/// Ends the program after a batch: tells which stream failed and why the database isn't in its file,
-/// and gives the status: 0 if no line was refused and nothing failed, else 1. If telling fails, the
-/// status alone tells.
+/// Reports the faults of a batch, and returns the status of the program.
+///
+/// The report has a line for the stream that failed, and a line if the database was not written. The status is 0 if no
+/// line was refused and nothing failed, 1 otherwise. If the report cannot be written, the status is the same.
 pub fn end_batch<W: Write>(
     err: &mut W,
     refused: u64,
@@ -83,8 +85,10 @@ pub fn end_batch<W: Write>(
     batch_status(refused, stream, unstored)
 }
 
-/// Ends the program after a batch over a file, as `end_batch` does, or `end_single` where the file
-/// has no database that can be read.
+/// Reports the faults of a batch on a file, and returns the status of the program.
+///
+/// If the lines were run, the report and the status are those of [`end_batch`]. If no database could be read from the
+/// file, they are those of [`end_single`].
 pub fn end_file_batch<W: Write>(err: &mut W, end: Result<FileBatchEnd, TaskFault>) -> u8
     ensures status { result ≡ file_batch_status end }
     ensures told { Tells (W.contents err.old) (W.contents err.new) (file_batch_report USAGE.now end) }

@@ -1,4 +1,4 @@
-//! Why a task wasn't done, and the lines that say so.
+//! The reasons why a task was not done, and the lines that report them.
 ghost use Rattle.std.specs.Prelude.{◌≡◌, ◌≤◌, length};
 ghost use Rattle.rrd_fixed.specs.Written.{Writes};
 ghost use Rattle.rrd_tool.specs.Faults.{error_line};
@@ -12,23 +12,23 @@ use rrd_tool::{Fault, LineFault, StreamFault, write_error};
 use std::io::Write;
 use thiserror::Error;
 
-/// Why a task wasn't done, or not whole.
+/// The reason why a task was not done, or only in part.
 #[derive(Clone, Copy, Debug, PartialEq, Eq, Error)]
 #[error("{}", self.text().as_str())]
 pub enum TaskFault {
-    /// The command was refused, or its output failed.
+    /// The command was refused, or a write of its output failed.
     Command(Fault),
     /// A stream of the batch failed.
     Stream(StreamFault),
-    /// The file keeps no database, or its end could not be reached.
+    /// The file has no database, or could not be read to its end.
     File(FileFault),
-    /// The file is not there, or can't be opened to be read.
+    /// The file does not exist, or cannot be opened for reading.
     CannotOpen,
-    /// The file can't be opened to be written, or a write of it failed.
+    /// The file cannot be opened for writing, or a write of the file failed.
     CannotWrite,
 }
 
-// The words are no command.
+// Converts the fault of arguments that are no command.
 impl From<LineFault> for TaskFault {
     ghost use Rattle.std.specs.Prelude.{◌≡◌};
     ghost use Rattle.rrd_tool.specs.declared.faults.Fault.TheVariants.{Line};
@@ -41,7 +41,7 @@ impl From<LineFault> for TaskFault {
     }
 }
 
-// The text of a stream's fault.
+// Returns the message of a stream's fault.
 fn stream_string(fault: StreamFault) -> ArrayString<96>
     ensures text { result.bytes ≡ stream_text fault }
     ensures short { length result.bytes ≤ 60 }
@@ -54,7 +54,7 @@ fn stream_string(fault: StreamFault) -> ArrayString<96>
 }
 
 impl TaskFault {
-    /// The text that says why, without the mark before it: at most 60 bytes.
+    /// Returns the message of at most 60 bytes, without `ERROR: ` before it.
     pub fn text(self) -> ArrayString<96>
         ensures text { result.bytes ≡ task_fault_text self }
         ensures short { length result.bytes ≤ 60 }
@@ -68,7 +68,7 @@ impl TaskFault {
         }
     }
 
-    /// Whether the words were no command, which the usage text answers.
+    /// Checks whether the arguments were no command. The usage text follows the line of such a fault.
     pub fn is_misuse(self) -> bool
         ensures { result ≡ is_misuse self }
     {
@@ -83,7 +83,11 @@ fn write_line<W: Write>(err: &mut W, fault: &TaskFault) -> Result<(), WriteFault
     write_error(err, fault.text().as_str())
 }
 
-/// Writes the line of a fault: `ERROR: `, its text and LF. The usage text follows where the words were no command.
+/// Writes the line of a fault: `ERROR: `, the message and LF. The usage text follows if the arguments were no command.
+///
+/// # Errors
+///
+/// A write failed. A first part of the line and the text is written.
 pub fn write_task_fault<W: Write>(err: &mut W, fault: &TaskFault) -> Result<(), WriteFault>
     ensures { Writes (W.contents err.old) (W.contents err.new) (report_of USAGE.now fault.now) result }
 {

@@ -1,4 +1,4 @@
-//! Laws of the tasks. Each is the contract of a function that does nothing.
+//! Theorems about the tasks. Each is the contract of a function that does nothing.
 ghost use Rattle.std.specs.Prelude.{ℕ, List, Option};
 ghost use Rattle.rrd_spec.specs.Journal.Survivors.{Stored};
 ghost use Rattle.rrd_store.specs.Places.{Held};
@@ -10,15 +10,19 @@ use rrd_spec::laws::{
     action_goes_on, created_is_valid, database_begins, database_stays, versions_stay_within,
 };
 
-/// After any list of runs over one file, each a batch or a single command, with any outcome of memory,
-/// the bytes of the file and all that was printed are what the definitions compute: from the accepted
-/// commands that were not reverted by then, the number of those that can still be reverted, and the
-/// database that a first file had, with its journal. So it is of each run over the file of any state.
+/// Theorem: after any list of runs on one file, the bytes of the file and all printed text are what the definitions compute.
+///
+/// A run is a batch or a single command, with any outcome of memory, with failed writes, and with kills between the runs.
+/// The definitions compute from the accepted commands that were not reverted, the number of commands that can still be
+/// reverted, and the database of the first file with its journal. A write that failed leaves the file of the state before
+/// the run or after the run, or a first part of the latter, which stays until a create. A killed run leaves the state
+/// before the run or after the run; if there was no database, there may be none. The clause `each` says the same of one
+/// run on any file.
 pub fn runs_are_computed()
-    ensures all { (old : Held) (first : Option Stored) (runs : List laws.Run) (new : Held) →
-        laws.RunsAreComputed old first runs new }
-    ensures each { (old : Held) (kept : Option laws.Filing) (run : laws.Run) (new : Held) →
-        laws.RunIsComputed old kept run new }
+    ensures all { (old : Held) (first : Option Stored) (events : List laws.Event) (new : Held) →
+        laws.RunsAreComputed old first events new }
+    ensures each { (old : Held) (t : laws.Standing) (event : laws.Event) (new : Held) →
+        laws.RunIsComputed old t event new }
 {
     action_goes_on();
     created_is_valid();
@@ -27,10 +31,11 @@ pub fn runs_are_computed()
     file_is_layout();
     layout_is_file();
     one_answer();
+    sizes();
     versions_stay_within();
 }
 
-/// What one run over a place comes to is computed too, as far as it is known what the place has.
+/// Theorem: the definitions compute what one run on a storage leaves and prints, if the storage's bytes are known.
 pub(crate) fn place_runs_are_computed()
     ensures { (old : Option Held) (run : laws.Run) (new : Option Held) →
         laws.DidIn old run new → laws.IsComputed old new run }
@@ -42,18 +47,19 @@ pub(crate) fn place_runs_are_computed()
     file_is_layout();
     layout_is_file();
     one_answer();
+    sizes();
     versions_stay_within();
 }
 
-/// A run that ends with a fault, of the command or of the file, leaves the file as it was, whatever that
-/// is, but where the file could not be written.
+/// Theorem: a run that ends with a fault of the command or of the file leaves the file as it was, whatever the file is,
+/// except if the fault is that the file could not be written.
 pub fn faults_change_nothing()
     ensures { (old : Held) (run : laws.Run) (fault : TaskFault) (new : Held) →
         laws.FaultChangesNothing old run fault new }
 {}
 
-/// A file of which a failed write left a front stays as it is: a batch over it, and each command but one
-/// that makes a database, is refused where the file breaks off, and prints nothing.
+/// Theorem: a file that a failed write cut short stays as it is: a batch on the file, and each command except a create, is
+/// refused at the byte at which the file ends, and prints nothing.
 pub fn damaged_files_stay()
     ensures { (front : List ℕ) (kept : laws.Filing) (run : laws.Run) (new : Held) →
         laws.DamagedFileStays front kept run new }

@@ -1,4 +1,4 @@
-//! The tasks of the program: a batch, or one command, over a database that a file keeps.
+//! The tasks of the program: a batch, or one command, on the database in a file.
 #![tactic(auto)]
 
 mod batch;

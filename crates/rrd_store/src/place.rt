@@ -1,61 +1,74 @@
-//! A place that keeps a database as bytes.
+//! The storage of a database, which keeps the bytes of the database as a file does.
 ghost use Rattle.std.specs.Prelude.{◌≡◌, ℕ, IfOk, None, OnErr, OnOk, Option};
 ghost use Rattle.rrd_store.specs.Places.{AreAll, Cuts, FallsBack, Held, IsBegun, IsFor, IsReady, Opens, TakesOver};
 
 use std::io;
 use std::io::{Read, Write};
 
-/// What a place is opened for.
+/// The access that a command needs to the storage.
 #[derive(Clone, Copy, Debug, PartialEq, Eq)]
 pub enum Access {
-    /// Its bytes are read.
+    /// Reads the bytes.
     Read,
-    /// They are read, and may be replaced.
+    /// Reads the bytes, and may then replace them.
     Change,
 }
 
-/// A place for bytes, as a file at a path, of which others may hold a part in time: it keeps its bytes
-/// until all of them are replaced, or tells that they aren't.
+/// The storage of a database: keeps bytes until all of them are replaced, as a file at a path does.
+///
+/// Others may use the same storage at other times.
 pub trait Place {
-    // What it has, where that is known.
+    // The bytes that the storage represents, if known: the next `open` reads these bytes. The storage may have other
+    // bytes, if `open` finds the bytes that they represent.
     ghost contents: { Self → Option Held } = { λ _. None };
 
-    // How many bytes the last change that began is for, where that is known.
+    // The number of bytes for which the last change began, if known.
     ghost announced: { Self → Option ℕ } = { λ _. None };
 
-    /// What reads its bytes.
+    /// The reader of the bytes.
     type Reader: Read + Drop;
 
-    /// What takes the bytes that are to replace them.
+    /// The writer of the new bytes.
     type Writer: Write + Drop;
 
-    /// A reader of its bytes, from the first on; none where nothing is there, and one that ends at once
-    /// where something without a byte is. While they are read nobody
-    /// else changes them, and once it was opened for a change nobody else does until that is written.
+    /// Returns a reader of the bytes, from the first byte on. Returns `None` if nothing is stored.
     ///
-    /// Errors: they can't be read, or another one has them.
+    /// If a change was interrupted before, `open` may end the change or take the change back. Nobody else changes the
+    /// bytes while they are read; after an `open` for [`Access::Change`] nobody else does until the change is written.
+    ///
+    /// # Errors
+    ///
+    /// The bytes cannot be read, or another program holds them.
     fn open(&mut self, access: Access) -> io::Result<Option<Self::Reader>>
         ensures stays { contents self.new ≡ contents self.old }
         ensures reads { IfOk result (Opens (contents self.old) Self.Reader.remaining) };
 
-    /// Readies it for so many bytes in place of those that it has, and for no other number. What is not
-    /// there is made, without a byte. The bytes count from `end` on.
+    /// Begins to replace the bytes by exactly `length` new bytes, and returns a writer of the new bytes.
     ///
-    /// Errors: they can't be written, or there is no room for them.
+    /// If nothing is stored, `begin` may create a storage without bytes. The new bytes count only after [`Place::end`].
+    ///
+    /// # Errors
+    ///
+    /// The storage cannot be written, or has no space for the new bytes.
     fn begin(&mut self, length: u64) -> io::Result<Self::Writer>
         ensures ready { IsReady (contents self.old) (contents self.new) }
         ensures begun { IfOk result (λ writer. IsBegun (contents self.old) (Self.Writer.contents writer)) }
         ensures announced { IfOk result (λ writer. IsFor length (announced self.new) (Self.Writer.contents writer)) };
 
-    /// Has the bytes that were written in place of its own: as many as the change that began is for.
+    /// Replaces the bytes by the bytes that were written, whose number is the `length` of `begin`.
     ///
-    /// Errors: its bytes stay, or a front of the others is there, and not all.
+    /// # Errors
+    ///
+    /// A call failed. The storage has its old bytes; or the new bytes, if the call that failed was the last that counts
+    /// or could not be taken back; or the first part of the new bytes.
     fn end(&mut self, writer: Self::Writer) -> io::Result<()>
         requires { AreAll (announced self.old) (Self.Writer.contents writer) }
         ensures ok { OnOk result (TakesOver (contents self.old) (contents self.new) (Self.Writer.contents writer)) }
         ensures err { OnErr result (Cuts (contents self.old) (contents self.new) (Self.Writer.contents writer)) };
 
-    /// Ends a change of which a write failed: its bytes stay, or a front of those that were written is there.
+    /// Ends a change of which a write failed.
+    ///
+    /// The storage has its old bytes, or the first part of the bytes that were written.
     fn give_up(&mut self, writer: Self::Writer)
         ensures { FallsBack (contents self.old) (contents self.new) (Self.Writer.contents writer) };
 }

@@ -1,7 +1,8 @@
-//! One command over the database in a place.
+//! One command on a stored database.
 ghost use Rattle.std.specs.Prelude.{◌≡◌, List, None, Result, false, ℕ};
 ghost use Rattle.std.specs.Io.KnownBytes.{Keeps};
 ghost use Rattle.rrd_tool.specs.Commands.{effect};
+ghost use Rattle.rrd_tool.specs.Execution.{fault_left, has_changed};
 ghost use Rattle.rrd_tool.specs.Lines.{is_empty};
 ghost use Rattle.rrd_store.specs.Runs.{ByCommand, IsComputed};
 ghost use Rattle.rrd_store.specs.Single.{Ends, IsSingle, StartsFrom, access_for};
@@ -15,12 +16,12 @@ use rrd_tool::{Command, Fault, Outcome, Words, execute, read_command};
 use std::alloc::Global;
 use std::io::Write;
 
-// What a command needs its place for.
+// Returns the access that a command needs to the storage.
 fn access_of(command: &Command) -> Access
     ensures { result ≡ access_for (effect command.now) }
 {
     match command {
-        Command::Fetch { .. }
+        Command::Fetch(_)
         | Command::First { .. }
         | Command::Last
         | Command::LastUpdate
@@ -33,7 +34,7 @@ fn access_of(command: &Command) -> Access
     }
 }
 
-// The database that a command runs over. One that makes a database doesn't ask what the place has.
+// Returns the database that a command runs on. A command that creates a database does not read the storage.
 fn start<P: Place>(
     alloc: Global,
     command: &Command,
@@ -51,28 +52,26 @@ fn start<P: Place>(
     }
 }
 
-// Hands on what a command printed, or writes what it changed.
+// Flushes the output of a command, or writes the database that the command changed.
 fn finish<P: Place, W: Write>(outcome: Outcome, place: &mut P, out: &mut W) -> Result<(), TaskFault>
-    ensures place { (text : List ℕ) → (outcome.fault ≡ None → outcome.changed ≡ false → is_empty text ≡ false)
+    ensures place { (text : List ℕ) → (fault_left outcome ≡ None → has_changed outcome ≡ false → is_empty text ≡ false)
         → Ends outcome text (P.contents place.old) (P.contents place.new) result }
     ensures out { Keeps (W.contents out.old) (W.contents out.new) }
 {
-    if let Some(fault) = outcome.fault {
-        return Err(TaskFault::Command(fault));
-    }
-    if outcome.changed {
-        return store(place, outcome.database.as_ref());
-    }
-    match flush(out) {
-        Ok(()) => Ok(()),
-        Err(_) => Err(TaskFault::Command(Fault::Output)),
+    match outcome {
+        Outcome::Refused { fault, .. } => Err(TaskFault::Command(fault)),
+        Outcome::Changed(database) => store(place, Some(&database)),
+        Outcome::Printed(_) => match flush(out) {
+            Ok(()) => Ok(()),
+            Err(_) => Err(TaskFault::Command(Fault::Output)),
+        },
     }
 }
 
-// Reads the words, looks for the database, runs the command and writes what it changed.
+// Parses the arguments, reads the database, runs the command, and writes the database that the command changed.
 fn run_words<P: Place, W: Write>(
     alloc: Global,
-    words: &Words,
+    words: &Words<'_>,
     now: u64,
     place: &mut P,
     out: &mut W,
@@ -86,18 +85,22 @@ fn run_words<P: Place, W: Write>(
     finish(outcome, place, out)
 }
 
-/// Runs the command that the words are over the database in a place, and writes what it prints. The
-/// words are read first, then the place, unless the command is a create; then the command runs, and
-/// if it changed the database this is written in place of what is there. `now` is the present time in
-/// seconds since 1970.
+/// Runs one command on the database in `place`, and writes the command's output to `out`.
 ///
-/// Errors: `Command` where the words are no command, the command is refused or its output fails; `File`
-/// and `CannotOpen` where the place has no database that can be read. At each of them the place is as
-/// it was. `CannotWrite`, after an accepted change: the place is as it was, or has a front of the new
-/// bytes and not all.
+/// The arguments are parsed first. Then the database is read from `place`, unless the command is a create. Then the
+/// command runs, and if the command changed the database, the database is written to `place`. `now` is the present time
+/// in seconds since 1970.
+///
+/// # Errors
+///
+/// - `Command` if the arguments are no command. `place` was not read.
+/// - `CannotOpen` or `File` if no database can be read from `place`.
+/// - `Command` if the command is refused, or a write of its output failed. `place` is unchanged, as in the cases above.
+/// - `CannotWrite` if an accepted change could not be written: `place` has its old bytes, or the new bytes, or the
+///   first part of the new bytes.
 pub fn run_single<P: Place, W: Write>(
     alloc: Global,
-    words: &Words,
+    words: &Words<'_>,
     now: u64,
     place: &mut P,
     out: &mut W,

@@ -1,14 +1,14 @@
-//! Reading a database from a place, and writing it there.
+//! Reads and writes a stored database.
 ghost use Rattle.std.specs.Prelude.{◌≡◌, option_map};
 ghost use Rattle.rrd_store.specs.Places.{Finds, Leaves, Replaces};
 ghost use Rattle.rrd_file.specs.Layout.{layout};
 
 use crate::{Access, Place, TaskFault};
-use rrd_base::Database;
+use rrd_base::{Database, database_is_valid};
 use rrd_file::{decode, encode, encoded_length};
 use std::alloc::Global;
 
-/// The database in a place; none where nothing is there.
+/// Reads the database in a storage. Returns `None` if nothing is stored.
 pub(crate) fn load<P: Place>(
     alloc: Global,
     place: &mut P,
@@ -25,15 +25,14 @@ pub(crate) fn load<P: Place>(
     };
     match decode(alloc, reader) {
         Ok(database) => {
-            // That the database is valid is told with the number of its entries.
-            let _entries = database.undoable();
+            database_is_valid(&database);
             Ok(Some(database))
         }
         Err(fault) => Err(TaskFault::File(fault)),
     }
 }
 
-// Writes a database in place of what is there.
+// Replaces the bytes of a storage by those of a database.
 fn replace<P: Place>(place: &mut P, database: &Database) -> Result<(), TaskFault>
     ensures { Replaces (P.contents place.old) (P.contents place.new) (layout database.now) result }
 {
@@ -50,7 +49,7 @@ fn replace<P: Place>(place: &mut P, database: &Database) -> Result<(), TaskFault
     }
 }
 
-/// Writes a database, where there is one, in place of what is there.
+/// Replaces the bytes of a storage by those of a database, if there is a database.
 pub(crate) fn store<P: Place>(place: &mut P, database: Option<&Database>) -> Result<(), TaskFault>
     ensures { Leaves (option_map (λ d. d.now) database.entry) (P.contents place.old) (P.contents place.new) result }
 {

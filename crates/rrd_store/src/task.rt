@@ -1,4 +1,4 @@
-//! What the program's words ask for.
+//! The task that the program's arguments ask for.
 ghost use Rattle.std.specs.Prelude.{◌≡◌, ◌∷◌, IfOk, map};
 ghost use Rattle.std.specs.String.{string_bytes};
 ghost use Rattle.rrd_store.specs.Tasks.{asked, told_by};
@@ -6,22 +6,26 @@ ghost use Rattle.rrd_store.specs.Tasks.{asked, told_by};
 use rrd_tool::{Words, begins_with_minus};
 use std::alloc::{AllocError, Global};
 
-/// What the program is asked to do.
+/// A task of the program.
 #[derive(Drop)]
 pub enum Task<'a> {
-    /// Tell how it is used: the words ask for nothing that it does, or for help.
+    /// Report the usage of the program: the arguments ask for help, or name no task.
     Usage,
-    /// Run the commands on standard input, over no file.
+    /// Run the commands on standard input, in memory.
     Batch,
-    /// Run them over the database in a file.
+    /// Run the commands on standard input on the database in a file.
     FileBatch { file: &'a str },
-    /// Run one command over it. The words are the command's, its name first.
-    Single { file: &'a str, words: Words },
+    /// Run one command on the database in a file. `words` is the command's name and then the command's arguments.
+    Single { file: &'a str, words: Words<'a> },
 }
 
-// A command's words: its name, and those behind FILE.
-fn command_words(alloc: Global, command: &str, rest: &[String]) -> Result<Words, AllocError>
-    ensures { IfOk result (λ words. words ≡ command.now ∷ map string_bytes rest.now) }
+// Returns a command's name and the arguments after FILE.
+fn command_words<'a>(
+    alloc: Global,
+    command: &'a str,
+    rest: &'a [String],
+) -> Result<Words<'a>, AllocError>
+    ensures { IfOk result (λ words. words ≡ command.entry.now ∷ map string_bytes rest.entry.now) }
 {
     let mut words = Words::new(alloc);
     words.push(command)?;
@@ -31,9 +35,11 @@ fn command_words(alloc: Global, command: &str, rest: &[String]) -> Result<Words,
     Ok(words)
 }
 
-/// What the program's words ask for. The first one is the program's name.
+/// Parses the program's arguments into a task. The first argument is the program's name.
 ///
-/// Errors: there was no memory for a command's words.
+/// # Errors
+///
+/// `AllocError` if memory runs out for the arguments of a command.
 pub fn asked_for<'a>(alloc: Global, words: &'a [String]) -> Result<Task<'a>, AllocError>
     ensures { IfOk result (λ task. told_by task ≡ asked (map string_bytes words.now)) }
 {

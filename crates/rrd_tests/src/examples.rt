@@ -5,7 +5,7 @@ use rrd_base::{CreateSpec, Database, DsDef, Given, List, RraDef, Sample, Update}
 use rrd_file::{decode, encode};
 use rrd_fixed::{Cell, Kind, Name, Number};
 use rrd_fold::Function;
-use rrd_tool::{execute, read_command, run_batch};
+use rrd_tool::{Outcome, execute, read_command, run_batch};
 use std::alloc::Global;
 use std::process::Abort;
 use std::test::Fail;
@@ -104,10 +104,18 @@ fn a_command_is_read_and_run(rt: HostRuntime) -> Result<(), Fail> {
     let command = read_command(alloc, &words, now)?;
     let mut out = Vec::new(alloc);
     let outcome = execute(alloc, Some(new_database(alloc)?), command, &mut out);
-    assert_eq!(&rt; (outcome.changed, outcome.fault), (true, None));
-    let database = outcome.database.ok_or("no database")?;
+    let Outcome::Changed(database) = outcome else {
+        return Err(Fail::from("not changed"));
+    };
     let lines = "last\nfetch LAST -s 0 -e 9\nupdate 10:2\n";
-    let end = run_batch(alloc, Some(database), now, &mut lines.as_bytes(), &mut out);
+    let end = run_batch(
+        alloc,
+        Some(database),
+        now,
+        0,
+        &mut lines.as_bytes(),
+        &mut out,
+    );
     assert_eq!(&rt; (end.refused, end.stream), (1, None));
     let text = "10\ntime: g\n10: 1.000000\nERROR: not later than 10\n";
     assert_eq!(&rt; out.as_slice(), text.as_bytes());

@@ -3,4 +3,5 @@
 pub(crate) mod bytes;
 pub(crate) mod decoding;
 mod each_call;
+mod each_growth;
 mod lengths;

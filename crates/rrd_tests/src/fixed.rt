@@ -307,8 +307,8 @@ const CELLS: &[(Cell, &str)] = &[
 fn cells(rt: HostRuntime) -> Result<(), Fail> {
     for (cell, wanted) in CELLS {
         let mut out = Vec::new(rt.alloc());
-        assert!(rt; write_cell(&mut out, *cell).is_ok());
-        assert_eq!(rt; out.as_slice(), wanted.as_bytes());
+        assert!(rt; write_cell(&mut out, *cell).is_ok(), "{wanted}");
+        assert_eq!(rt; out.as_slice(), wanted.as_bytes(), "{wanted}");
         assert_eq!(rt; cell_string(*cell).as_str(), *wanted);
     }
     Ok(())
@@ -331,8 +331,8 @@ const RAWS: &[(Kind, Raw, &str)] = &[
 fn raws(rt: HostRuntime) -> Result<(), Fail> {
     for (kind, raw, wanted) in RAWS {
         let mut out = Vec::new(rt.alloc());
-        assert!(rt; write_raw(&mut out, *kind, *raw).is_ok());
-        assert_eq!(rt; out.as_slice(), wanted.as_bytes());
+        assert!(rt; write_raw(&mut out, *kind, *raw).is_ok(), "{wanted}");
+        assert_eq!(rt; out.as_slice(), wanted.as_bytes(), "{wanted}");
         assert_eq!(rt; raw_string(*kind, *raw).as_str(), *wanted);
     }
     Ok(())
@@ -342,8 +342,8 @@ fn raws(rt: HostRuntime) -> Result<(), Fail> {
 fn times(rt: HostRuntime) -> Result<(), Fail> {
     for (seconds, wanted) in [(0i64, "0"), (-20, "-20"), (920_804_700, "920804700")] {
         let mut out = Vec::new(rt.alloc());
-        assert!(rt; write_time(&mut out, seconds).is_ok());
-        assert_eq!(rt; out.as_slice(), wanted.as_bytes());
+        assert!(rt; write_time(&mut out, seconds).is_ok(), "{wanted}");
+        assert_eq!(rt; out.as_slice(), wanted.as_bytes(), "{wanted}");
         assert_eq!(rt; time_string(seconds).as_str(), wanted);
     }
     Ok(())
@@ -370,7 +370,7 @@ fn names(rt: HostRuntime) {
         };
         assert_eq!(rt; name.good(), *good, "{text}");
         assert_eq!(rt; name.as_str(), *text);
-        assert!(rt; name.same(&name.duplicate()));
+        assert!(rt; name.same(&name.duplicate()), "{text}");
     }
 }
 

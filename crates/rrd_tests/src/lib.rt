@@ -20,4 +20,8 @@ mod spec;
 #[cfg(test)]
 mod store;
 #[cfg(test)]
+mod tail;
+#[cfg(test)]
 mod tool;
+#[cfg(test)]
+mod undo;

@@ -40,7 +40,7 @@ fn assert_rows(rt: &impl Abort, archive: &Archive, cells: &[Cell])
     assert_eq!(rt; archive.rows(), cells.len() as u64);
     assert_eq!(rt; archive.sources(), 1);
     for (i, cell) in cells.iter().enumerate() {
-        assert_eq!(rt; archive.row(i as u64), [*cell].as_slice());
+        assert_eq!(rt; archive.row(i as u64), [*cell].as_slice(), "row {i}");
     }
 }
 
@@ -50,7 +50,7 @@ fn assert_dropped(rt: &impl Abort, dropped: &Dropped, cells: &[Cell])
 {
     assert_eq!(rt; dropped.len(), cells.len() as u64);
     for (i, cell) in cells.iter().enumerate() {
-        assert_eq!(rt; dropped.row(i as u64), [*cell].as_slice());
+        assert_eq!(rt; dropped.row(i as u64), [*cell].as_slice(), "row {i}");
     }
 }
 
@@ -229,8 +229,8 @@ fn assert_runs<T: Table>(rt: &impl Abort, rows: &T, runs: &[&[Cell]]) {
     for cells in runs {
         assert!(rt; first < rows.count());
         let (count, lent) = rows.together(first, rows.count() - first);
-        assert_eq!(rt; lent, *cells);
-        assert_eq!(rt; count, cells.len() as u64);
+        assert_eq!(rt; lent, *cells, "from {first}");
+        assert_eq!(rt; count, cells.len() as u64, "from {first}");
         first += count;
     }
     assert_eq!(rt; first, rows.count());

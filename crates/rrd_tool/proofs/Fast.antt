@@ -1,18 +1,20 @@
--- The command with only the named subcommand serves.
-use Rattle.std.proofs.Common.{◌≡◌, refl, List, ◌∷◌, [], Some, drop, ap, sym, true}
+-- The command with only the named subcommand serves, and enters that subcommand.
+use Rattle.std.proofs.Common.{◌≡◌, ◌∙◌, ℕ, refl, List, ◌∷◌, [], Option, Some, None, IfSome, Result, drop, ap, true, option_map}
 use Rattle.std.specs.Str.{bytes_eq}
 use Rattle.std.proofs.lemmas.Slice.Eq.{bytes_eq-Decides}
-use Rattle.std.specs.Prelude.{slice_get}
-use Rattle.rrd_tool.proofs.Simple.{rrdi_simple, rrdi_free}
-use Rattle.clap.specs.Words.{App, Text}
+use Rattle.clap.specs.Words.{App, Row, Text, subcommand_of}
 use Rattle.rrd_tool.proofs.OnLiterals.{shapes_on_literals}
-use Rattle.rrd_tool.specs.Arguments.Shapes.{Serves, app_with}
-use Rattle.rrd_tool.specs.Commands.{rrdi_app, shape_of}
+use Rattle.rrd_tool.specs.Arguments.Shapes.{Serves, app_with, first_name}
+use Rattle.rrd_tool.specs.Arguments.Taken.{entered_of}
+use Rattle.rrd_tool.specs.Commands.{line_of, rrdi_app, shape_of, values_of}
 use Rattle.rrd_tool.specs.Commands.Names.{command_names, name_in, name_text}
+use Rattle.rrd_tool.specs.Fields.Answers.{Meets}
+use Rattle.rrd_tool.specs.declared.commands.Command.{Command}
 use Rattle.rrd_tool.specs.declared.commands.name.CommandName.{CommandName}
 use Rattle.rrd_tool.specs.declared.commands.name.CommandName.TheVariants as verb
+use Rattle.rrd_tool.specs.declared.faults.LineFault.{LineFault}
 use Rattle.rrd_tool.proofs.Finding.{found_passes}
-use Rattle.rrd_tool.proofs.FirstWord.{serves}
+use Rattle.rrd_tool.proofs.FirstWord.{entered_by, serves}
 
 -- each name's command serves words that begin with the name
 named_serves : (name : CommandName) (rest : List Text) → Serves (app_with (shape_of name)) (name_text name ∷ rest)
@@ -28,13 +30,6 @@ named_serves verb.LastUpdate = serves (app_with (shape_of verb.LastUpdate)) (nam
 named_serves verb.Info = serves (app_with (shape_of verb.Info)) (name_text verb.Info) (refl, refl, refl, refl, refl, refl, refl)
 named_serves verb.Revert = serves (app_with (shape_of verb.Revert)) (name_text verb.Revert) (refl, refl, refl, refl, refl, refl, refl)
 
-pub whole_serves : (a : App) (words : List Text) → a ≡ rrdi_app → Serves a words
-whole_serves a words e = rw e (refl, refl, rrdi_simple, rrdi_free)
-
-pub first_split : (ws : List Text) (w : Text) → Some w ≡ slice_get ws 0 → ws ≡ w ∷ drop 1 ws
-first_split [] w e = cc
-first_split (x ∷ xs) w e = let same : w ≡ x = cc in ap (λ y. y ∷ xs) (sym same)
-
 same_name : (a b : Text) → bytes_eq a b ≡ true → a ≡ b
 same_name a b t = (bytes_eq-Decides a b).0 t
 
@@ -42,6 +37,61 @@ same_name a b t = (bytes_eq-Decides a b).0 t
 pub name_is : (word : Text) (name : CommandName) → name_in word ≡ Some name → word ≡ name_text name
 name_is word name h = same_name word (name_text name) (found_passes (λ item. bytes_eq word (name_text item)) command_names name h)
 
--- a command of that name's shape serves words that begin with its word
-pub serves_as : (app : App) (name : CommandName) (word : Text) → app ≡ app_with (shape_of name) → name_in word ≡ Some name → (rest : List Text) → Serves app (word ∷ rest)
-serves_as app name word e h rest = rw (e, name_is word name h) (named_serves name rest)
+-- words that begin with a command's name begin with the text of the name
+pub first_is : (words : List Text) (name : CommandName) → first_name words ≡ Some name → words ≡ name_text name ∷ drop 1 words
+first_is [] name e = cc
+first_is (w ∷ ws) name e = ap (λ y. y ∷ ws) (name_is w name e)
+
+-- a command of that name's shape serves these words
+pub serves_as : (app : App) (name : CommandName) (words : List Text) → app ≡ app_with (shape_of name) → first_name words ≡ Some name → Serves app words
+serves_as app name words e h = rw (e, first_is words name h) (named_serves name (drop 1 words))
+
+-- ---- the subcommand that is entered
+
+-- the name of the subcommand that was entered
+abbrev entered_name : Option (Text × List Row) → Option Text
+entered_name entered = option_map (λ (e : Text × List Row). e.0) entered
+
+-- words that begin with a name enter the subcommand of that name
+enters_named : (name : CommandName) (rest : List Text) → entered_name (subcommand_of rrdi_app (name_text name ∷ rest)) ≡ Some (name_text name)
+unfolding shapes_on_literals
+enters_named verb.Create rest = ap entered_name (entered_by rrdi_app (name_text verb.Create) rest refl refl)
+enters_named verb.Update rest = ap entered_name (entered_by rrdi_app (name_text verb.Update) rest refl refl)
+enters_named verb.Fetch rest = ap entered_name (entered_by rrdi_app (name_text verb.Fetch) rest refl refl)
+enters_named verb.Tune rest = ap entered_name (entered_by rrdi_app (name_text verb.Tune) rest refl refl)
+enters_named verb.Resize rest = ap entered_name (entered_by rrdi_app (name_text verb.Resize) rest refl refl)
+enters_named verb.First rest = ap entered_name (entered_by rrdi_app (name_text verb.First) rest refl refl)
+enters_named verb.Last rest = ap entered_name (entered_by rrdi_app (name_text verb.Last) rest refl refl)
+enters_named verb.LastUpdate rest = ap entered_name (entered_by rrdi_app (name_text verb.LastUpdate) rest refl refl)
+enters_named verb.Info rest = ap entered_name (entered_by rrdi_app (name_text verb.Info) rest refl refl)
+enters_named verb.Revert rest = ap entered_name (entered_by rrdi_app (name_text verb.Revert) rest refl refl)
+
+-- a name's text is the name's
+name_found : (name : CommandName) → name_in (name_text name) ≡ Some name
+unfolding shapes_on_literals
+name_found verb.Create = refl
+name_found verb.Update = refl
+name_found verb.Fetch = refl
+name_found verb.Tune = refl
+name_found verb.Resize = refl
+name_found verb.First = refl
+name_found verb.Last = refl
+name_found verb.LastUpdate = refl
+name_found verb.Info = refl
+name_found verb.Revert = refl
+
+values_read : (name : CommandName) (now : ℕ) (entered : Option (Text × List Row)) (r : Result Command LineFault) → entered_name entered ≡ Some (name_text name)
+    → IfSome entered (λ e. Meets (values_of name e.1 now) r) → IfSome (line_of entered now) (λ read. Meets read r)
+values_read name now None r e h = tt
+values_read name now (Some p) r e h =
+    let same : p.0 ≡ name_text name = cc in
+    let found : name_in p.0 ≡ Some name = ap name_in same ∙ name_found name in
+    rw found h
+
+-- what the values are read as by the words' name is what the words are read as
+pub read_as : (name : CommandName) (words : List Text) (now : ℕ) (entered : Option (Text × List Row)) (r : Result Command LineFault)
+    → first_name words ≡ Some name → entered ≡ entered_of words → IfSome entered (λ e. Meets (values_of name e.1 now) r) → IfSome (line_of entered now) (λ read. Meets read r)
+unfolding entered_of
+read_as name words now entered r h e meets =
+    let split = first_is words name h in
+    values_read name now entered r (ap entered_name (e ∙ ap (subcommand_of rrdi_app) split) ∙ enters_named name (drop 1 words)) meets

@@ -58,6 +58,18 @@ module _ (a : App) (word name : Text) (rest : List Text) (met : subcommand_met (
   entered_is : entered a (walk a.top.rules (names_of a) nothing_held (word ∷ rest)).stopped ≡ option_map (λ s. rows_at s rest) (named a name)
   entered_is = ap (λ (w : Walk). entered a w.stopped) (walk_is a.top (names_of a) word name rest met)
 
+-- a command whose words begin with a subcommand's name enters that subcommand
+module _ (a : App) (name : Text) (rest : List Text) (met : subcommand_met (names_of (built a)) idle name ≡ Some name) (alone : a.top.no_binary_name ≡ true) where
+  words_of : argument_words a (name ∷ rest) ≡ name ∷ rest
+  words_of = rw alone refl
+
+  fault_by : fault_of a (name ∷ rest) ≡ level (built a).top (or_else (or_else (other_fault (built a).top (Some name) name nothing_held) []) []) name rest (named (built a) name)
+  fault_by = ap (built_fault (built a) nothing_held) words_of ∙ fault_is (built a) name name rest met
+
+  pub entered_by : subcommand_of a (name ∷ rest) ≡ option_map (λ s. rows_at s rest) (named (built a) name)
+  entered_by =
+      ap (λ ws. entered (built a) (walk (built a).top.rules (names_of (built a)) nothing_held ws).stopped) words_of ∙ entered_is (built a) name name rest met
+
 -- the two commands have the same subcommand of that name, and differ in nothing else than other subcommands
 abbrev pub Alike : App → App → Text → Type 0
 Alike a b name = (subcommand_met (names_of (built a)) idle name ≡ Some name) × (subcommand_met (names_of (built b)) idle name ≡ Some name)
@@ -65,20 +77,15 @@ Alike a b name = (subcommand_met (names_of (built a)) idle name ≡ Some name) �
     × (a.top.no_binary_name ≡ true) × (b.top.no_binary_name ≡ true) × (is_simple_and_free a ≡ true)
 
 module _ (a b : App) (name : Text) (rest : List Text) (h : Alike a b name) where
-  words_of : (c : App) → c.top.no_binary_name ≡ true → argument_words c (name ∷ rest) ≡ name ∷ rest
-  words_of c e = rw e refl
-
   same_fault : fault_of a (name ∷ rest) ≡ fault_of b (name ∷ rest)
   same_fault =
-      ap (built_fault (built a) nothing_held) (words_of a h.4) ∙ fault_is (built a) name name rest h.0
+      fault_by a name rest h.0 h.4
       ∙ ap₂ (λ t found. level t (or_else (or_else (other_fault t (Some name) name nothing_held) []) []) name rest found) h.2 h.3
-      ∙ sym (ap (built_fault (built b) nothing_held) (words_of b h.5) ∙ fault_is (built b) name name rest h.1)
+      ∙ sym (fault_by b name rest h.1 h.5)
 
   same_subcommand : subcommand_of a (name ∷ rest) ≡ subcommand_of b (name ∷ rest)
   same_subcommand =
-      ap (λ ws. entered (built a) (walk (built a).top.rules (names_of (built a)) nothing_held ws).stopped) (words_of a h.4) ∙ entered_is (built a) name name rest h.0
-      ∙ ap (option_map (λ s. rows_at s rest)) h.3
-      ∙ sym (ap (λ ws. entered (built b) (walk (built b).top.rules (names_of (built b)) nothing_held ws).stopped) (words_of b h.5) ∙ entered_is (built b) name name rest h.1)
+      entered_by a name rest h.0 h.4 ∙ ap (option_map (λ s. rows_at s rest)) h.3 ∙ sym (entered_by b name rest h.1 h.5)
 
 -- a command that is alike serves
 pub serves : (a : App) (name : Text) → Alike a rrdi_app name → (rest : List Text) → Serves a (name ∷ rest)

@@ -17,3 +17,5 @@ pub mod RunLemmas
 pub mod MoveLemmas
 pub mod PrintLemmas
 pub mod Choosable
+pub mod SearchLemmas
+pub mod RowLemmas

@@ -1,10 +1,10 @@
 -- What bytes more do to the lines of an input, and to an unfinished one.
-use Rattle.std.proofs.Common.{◌≡◌, ◌∙◌, ◌++◌, ◌∷◌, ◌&&◌, ◌≤◌, ℕ, Bool, true, false, List, [], length, sym, ap, refl, append_assoc, append-nil, arith, nat_le, nat_eq, length-append, ⊎_elim, ◌⊎◌, inl, inr, if◌then◌else◌, Result, Ok, Err}
+use Rattle.std.proofs.Common.{◌≡◌, ◌∙◌, ◌++◌, ◌∷◌, ◌&&◌, ◌||◌, ◌≤◌, ◌<◌, ℕ, zero, suc, get_or, take, ◌+◌, Bool, true, false, List, [], length, sym, ap, refl, append_assoc, append-nil, arith, nat_le, nat_eq, length-append, ⊎_elim, ◌⊎◌, inl, inr, if◌then◌else◌, Result, Ok, Err}
 use Rattle.std.specs.Result.{OnOk, is_err}
 use Rattle.std.proofs.lemmas.Bool.{cases_Bool}
 use Rattle.std.proofs.lemmas.Bool.Decides.{nat_tests}
 use Rattle.std.specs.List.{list_all}
-use Rattle.rrd_tool.specs.Lines.{is_empty, is_plain, is_text, last_part, whole_lines, without_cr}
+use Rattle.rrd_tool.specs.Lines.{has_end, is_empty, is_plain, is_text, last_part, whole_lines, without_cr}
 use Rattle.rrd_tool.specs.Lines.Buffer.{BuffersBy, IsLost}
 use Rattle.rrd_tool.specs.declared.lines.Ending.{Ending}
 use Rattle.rrd_tool.specs.declared.lines.Ending.TheVariants.{Plain, Cr, Lost}
@@ -152,3 +152,65 @@ part_append unfinished (x ∷ xs) ys = elim (nat_eq x 10) as
 pub at_ok : {T E P : Type 0} (r : Result T E) → is_err r ≡ false → OnOk r P → P
 at_ok (Ok x) e p = p
 at_ok (Err f) e p = absurd (let bad : true ≡ false = e in cc)
+
+-- ---- lines that are found at once
+
+neither : (x y : Bool) → (x || y) ≡ false → (x ≡ false) × (y ≡ false)
+neither true y h = cc
+neither false y h = (refl, h)
+
+-- bytes without LF go on with a line
+pub whole_run : (unfinished part rest : List ℕ) → has_end part ≡ false → whole_lines unfinished (part ++ rest) ≡ whole_lines (unfinished ++ part) rest
+whole_run unfinished [] rest h = ap (λ l. whole_lines l rest) (sym (append-nil unfinished))
+whole_run unfinished (b ∷ part) rest h =
+    let parts = neither (nat_eq b 10) (has_end part) h in
+    rw parts.0 (whole_run (unfinished ++ b ∷ []) part rest parts.1 ∙ ap (λ l. whole_lines l rest) (append_assoc unfinished (b ∷ []) part))
+
+pub part_run : (unfinished part rest : List ℕ) → has_end part ≡ false → last_part unfinished (part ++ rest) ≡ last_part (unfinished ++ part) rest
+part_run unfinished [] rest h = ap (λ l. last_part l rest) (sym (append-nil unfinished))
+part_run unfinished (b ∷ part) rest h =
+    let parts = neither (nat_eq b 10) (has_end part) h in
+    rw parts.0 (part_run (unfinished ++ b ∷ []) part rest parts.1 ∙ ap (λ l. last_part l rest) (append_assoc unfinished (b ∷ []) part))
+
+-- LF ends one line
+pub one_whole : (unfinished part : List ℕ) → has_end part ≡ false → whole_lines unfinished (part ++ 10 ∷ []) ≡ without_cr (unfinished ++ part) ∷ []
+one_whole unfinished part h = whole_run unfinished part (10 ∷ []) h
+
+pub one_part : (unfinished part : List ℕ) → has_end part ≡ false → last_part unfinished (part ++ 10 ∷ []) ≡ []
+one_part unfinished part h = part_run unfinished part (10 ∷ []) h
+
+-- no LF, no whole line
+pub no_whole : (unfinished part : List ℕ) → has_end part ≡ false → whole_lines unfinished part ≡ []
+no_whole unfinished part h = ap (whole_lines unfinished) (sym (append-nil part)) ∙ whole_run unfinished part [] h
+
+pub no_part : (unfinished part : List ℕ) → has_end part ≡ false → last_part unfinished part ≡ unfinished ++ part
+no_part unfinished part h = ap (last_part unfinished) (sym (append-nil part)) ∙ part_run unfinished part [] h
+
+-- no byte of them is LF
+pub no_end_at : (part : List ℕ) (i : ℕ) → has_end part ≡ false → i < length part → nat_eq (get_or part i 0) 10 ≡ false
+no_end_at [] i h inside = absurd (omega arith)
+no_end_at (b ∷ part) zero h inside = (neither (nat_eq b 10) (has_end part) h).0
+no_end_at (b ∷ part) (suc i) h inside = no_end_at part i (neither (nat_eq b 10) (has_end part) h).1 (omega arith)
+
+pub none_empty : (line : List ℕ) → is_empty line ≡ true → line ≡ []
+none_empty [] h = refl
+none_empty (b ∷ line) h = cc
+
+pub on_ok : {T E P : Type 0} (r : Result T E) → P → OnOk r P
+on_ok (Ok x) p = p
+on_ok (Err f) p = tt
+
+-- a CR at the end is dropped, and nothing else
+pub cr_dropped : (line : List ℕ) (n : ℕ) → length line ≡ n + 1 → get_or line n 0 ≡ 13 → without_cr line ≡ take n line
+cr_dropped [] n long is = absurd (omega (arith, long))
+cr_dropped (b ∷ []) zero long is = rw is refl
+cr_dropped (b ∷ []) (suc n) long is = absurd (omega (arith, long))
+cr_dropped (b ∷ c ∷ line) zero long is = absurd (omega (arith, long))
+cr_dropped (b ∷ c ∷ line) (suc n) long is = ap (λ l. b ∷ l) (cr_dropped (c ∷ line) n (omega (arith, long)) is)
+
+pub cr_kept : (line : List ℕ) (n : ℕ) → length line ≡ n + 1 → nat_eq (get_or line n 0) 13 ≡ false → without_cr line ≡ line
+cr_kept [] n long other = refl
+cr_kept (b ∷ []) zero long other = rw other refl
+cr_kept (b ∷ []) (suc n) long other = absurd (omega (arith, long))
+cr_kept (b ∷ c ∷ line) zero long other = absurd (omega (arith, long))
+cr_kept (b ∷ c ∷ line) (suc n) long other = ap (λ l. b ∷ l) (cr_kept (c ∷ line) n (omega (arith, long)) other)

@@ -15,7 +15,7 @@ use Rattle.clap.specs.Words.{fault_of}
 use Rattle.rrd_fixed.specs.Writing.{Appends-kept}
 use Rattle.rrd_tool.specs.Batch.{Turn}
 use Rattle.rrd_tool.specs.Effects.{Effect, Makes, Changes, Reverts, Shows, StandsFor, is_change, stored_next, stored_of, next, revert_verdict, text_on, verdict_on, first_state}
-use Rattle.rrd_tool.specs.Execution.{Affects, Comes, IsFault}
+use Rattle.rrd_tool.specs.Execution.{Affects, Comes, IsFault, database_left, fault_left, has_changed}
 use Rattle.rrd_tool.specs.Batch.Answers.{Performs, Asks, line_turns}
 use Rattle.rrd_tool.specs.Execution.Printing.{Prints, PrintsBy}
 use Rattle.rrd_tool.specs.Faults.{fault_line}
@@ -212,7 +212,7 @@ pub shown_comes : (kept : Stored) (show : Stored → Result (List ℕ) Refusal) 
     → show kept ≡ Ok text → Prints kept c0 c1 text outcome → Affects (Some kept) (Shows show) c0 c1 outcome
 shown_comes kept show text c0 c1 outcome e p =
     prints_comes (verdict_on (Some kept) (Shows show)) (text_on (Some kept) (Shows show)) (Shows show)
-    (outcome.database ≡ stored_next (Some kept) (Shows show)) (outcome.database ≡ Some kept) c0 c1 outcome.changed outcome.fault
+    (database_left outcome ≡ stored_next (Some kept) (Shows show)) (database_left outcome ≡ Some kept) c0 c1 (has_changed outcome) (fault_left outcome)
     (rw e refl) p.0 p.1 (rw e p.2)
 
 -- ---- what prints nothing

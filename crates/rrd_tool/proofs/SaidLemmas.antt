@@ -9,7 +9,7 @@ use Rattle.rrd_tool.specs.Commands.{effect}
 use Rattle.rrd_tool.specs.Commands.Fetch.{fetch_text}
 use Rattle.rrd_tool.specs.Commands.Last.{time_line}
 use Rattle.rrd_tool.specs.Effects.{Effect, Makes, Changes, Reverts, Shows, is_change, text_on, verdict_on}
-use Rattle.rrd_tool.specs.Execution.{Comes, Executes, PrintsSome}
+use Rattle.rrd_tool.specs.Execution.{Comes, Executes, PrintsSome, fault_left, has_changed}
 use Rattle.rrd_tool.specs.Faults.{fault_line}
 use Rattle.rrd_tool.specs.Lines.{is_empty}
 use Rattle.rrd_tool.specs.declared.commands.Command.{Command}
@@ -53,10 +53,10 @@ each_says : (asked : Command) → Says (effect asked)
 each_says (command.Create spec) = tt
 each_says (command.Update update) = tt
 each_says (command.Tune tuning) = tt
-each_says (command.Resize index change rows) = tt
-each_says (command.Fetch function asked start stop) =
-    λ kept h. answer_says (fetch_text kept.content) (choice kept.content function asked start stop) (λ chosen. refl) h
-each_says (command.First index) = λ kept h. answer_says time_line (oldest_time kept.content index) line_says h
+each_says (command.Resize archive change rows) = tt
+each_says (command.Fetch request) =
+    λ kept h. answer_says (fetch_text kept.content) (choice kept.content request.function request.asked request.start request.end) (λ chosen. refl) h
+each_says (command.First archive) = λ kept h. answer_says time_line (oldest_time kept.content archive) line_says h
 each_says command.Last = λ kept h. line_says (pos kept.content.last)
 each_says command.LastUpdate = λ kept h. refl
 each_says command.Info = λ kept h. refl
@@ -86,5 +86,5 @@ came_done verdict text e Moved Same c0 c1 changed (Some fault) f h = absurd cc
 
 pub prints_some : (kept : Option Stored) (asked : Command) (c0 c1 : Option (List ℕ)) (outcome : Outcome) → Executes kept asked c0 c1 outcome → PrintsSome kept asked outcome
 prints_some kept asked c0 c1 outcome h f n =
-    let done = came_done (verdict_on kept (effect asked)) (text_on kept (effect asked)) (effect asked) _ _ c0 c1 outcome.changed outcome.fault f h in
+    let done = came_done (verdict_on kept (effect asked)) (text_on kept (effect asked)) (effect asked) _ _ c0 c1 (has_changed outcome) (fault_left outcome) f h in
     shown_says kept asked done.0 (sym n ∙ done.1)

@@ -16,7 +16,6 @@ use Rattle.rrd_tool.proofs.OnLiterals.{shapes_on_literals}
 use Rattle.rrd_tool.specs.Commands.{rrdi_app, line_of, values_of}
 use Rattle.rrd_tool.specs.Commands.Names.{name_in}
 use Rattle.rrd_tool.specs.Fields.Parts.{Unread}
-use Rattle.rrd_tool.specs.declared.commands.name.CommandName.{CommandName}
 use Rattle.rrd_tool.proofs.Finding.{all_pass, found_among}
 use Rattle.rrd_tool.specs.Arguments.Taken.{IsTaken, entered_of}
 use Rattle.rrd_tool.specs.Commands.Reading.{IsReading}
@@ -100,6 +99,10 @@ entered_reads now None h = absurd cc
 entered_reads now (Some p) h =
     found_reads now p.1 (find (λ s. answers_to p.0 (label_of s)) (built rrdi_app).subs) (found_among (λ s. answers_to p.0 (label_of s)) IsNamed (built rrdi_app).subs all_named) h
 
+pub taken_enters : (words : List Text) → IsTaken words → is_some (entered_of words) ≡ true
+unfolding entered_of
+taken_enters words h = app_enters rrdi_app words rrdi_wants h
+
 -- so words that clap takes are read as a command
 pub taken_reads : (words : List Text) (now : ℕ) → IsTaken words → is_some (line_of (entered_of words) now) ≡ true
 unfolding entered_of
@@ -119,11 +122,3 @@ pub read_from : (words : List Text) (now : ℕ) (sub : Option (Text × List Row)
     → IsTaken words → sub ≡ entered_of words → IfSome (line_of sub now) (λ read. Meets read r) → IsReading words now r
 read_from words now sub r t e h =
     read_by words now (line_of sub now) r t (ap (λ o. line_of o now) (sym e)) (ap (λ o. is_some (line_of o now)) e ∙ taken_reads words now t) h
-
--- what is read of the subcommand of the matches, by its name and its values
-pub line_is : (sub : Option (Text × List Row)) (word : Text) (rows : List Row) (name : CommandName) (now : ℕ) → sub ≡ Some (word, rows) → name_in word ≡ Some name
-    → line_of sub now ≡ Some (values_of name rows now)
-line_is sub word rows name now e h = ap (λ o. line_of o now) e ∙ ap (option_map (λ n. values_of n rows now)) h
-
-pub unnamed : (sub : Option (Text × List Row)) (word : Text) (rows : List Row) (now : ℕ) → sub ≡ Some (word, rows) → name_in word ≡ None → line_of sub now ≡ None
-unnamed sub word rows now e h = ap (λ o. line_of o now) e ∙ ap (option_map (λ n. values_of n rows now)) h

@@ -1,57 +1,95 @@
--- Words whose first is neither a subcommand's name nor a flag are refused.
-use Rattle.std.proofs.Common.{◌≡◌, ◌∙◌, ap, sym, refl, Bool, true, false, List, [], ◌∷◌, None, is_some, map, option_map}
+-- Words whose first is no subcommand's name are refused.
+use Rattle.std.proofs.Common.{◌≡◌, ◌∙◌, ap, sym, refl, Bool, not, ◌&&◌, true, false, ℕ, List, [], ◌∷◌, Option, Some, None, IfSome, is_some, length, map, option_map}
+use Rattle.std.specs.Prelude.{drop, encode_utf8, slice_get}
 use Rattle.std.specs.List.{AllByRecursion, find}
-use Rattle.std.specs.Str.{bytes_eq}
+use Rattle.std.specs.Str.{bytes_eq, chars}
 use Rattle.std.proofs.lemmas.Slice.Eq.{bytes_eq-Decides}
-use Rattle.clap.specs.Words.{App, Kinds, Shape, Text, fault_of}
+use Rattle.clap.specs.Words.{Kinds, Shape, Text, fault_of}
 use Rattle.clap.specs.Kinds.{or_else}
-use Rattle.clap.specs.Faults.{built_fault, check_fault, defaults_fault, entered_fault, settle_fault, turn_fault, walk_fault}
-use Rattle.clap.specs.Walk.{Names, answers_to, arg_by_index, finished, idle, nothing_held, settled, subcommand_met, walk, walk_from, walked}
+use Rattle.clap.specs.Faults.{built_fault, bundle_fault, bundle_step_fault, flags_fault, long_fault, short_fault, stray_fault, step_fault, turn_fault, use_fault, walk_fault}
+use Rattle.clap.specs.Walk.{Held, Names, Outcome, Rule, after_flag, answers_to, arg_by_index, arg_by_long, arg_by_short, bundle, bundle_met, bundle_step, has_long, has_short, idle, nothing_held, plain, subcommand_met, takes_values, walk_from, walked}
 use Rattle.clap.specs.Lexer.{long_of, short_of}
-use Rattle.clap.specs.Simple.{built, entered, names_of}
-use Rattle.clap.specs.declared.error.kind.ErrorKind.TheVariants.{UnknownArgument, InvalidSubcommand}
+use Rattle.clap.specs.Simple.{built, names_of}
+use Rattle.clap.specs.declared.error.kind.ErrorKind.TheVariants.{DisplayHelp}
 use Rattle.rrd_tool.proofs.OnLiterals.{shapes_on_literals}
-use Rattle.rrd_tool.specs.Arguments.{begins_with_minus}
-use Rattle.rrd_tool.specs.Arguments.Shapes.{IsRefused}
+use Rattle.rrd_tool.specs.Arguments.Shapes.{IsRefused, first_name}
+use Rattle.rrd_tool.specs.Arguments.Taken.{entered_of}
 use Rattle.rrd_tool.specs.Commands.{rrdi_app}
 use Rattle.rrd_tool.specs.Commands.Names.{command_names, name_in, name_text}
 use Rattle.rrd_tool.specs.declared.commands.name.CommandName.{CommandName}
-use Rattle.rrd_tool.proofs.Finding.{none_passes}
+use Rattle.rrd_tool.proofs.Finding.{found_among, none_passes}
+use Rattle.rrd_tool.proofs.Subcommand.{taken_enters}
 
-abbrev stray : Kinds
-stray = UnknownArgument ∷ InvalidSubcommand ∷ []
+first_empty : (a b : Kinds) → or_else a b ≡ [] → a ≡ []
+first_empty [] b h = refl
+first_empty (k ∷ ks) b h = h
 
-stray_turn : (s : Shape) (names : Names) (word : Text) → subcommand_met names idle word ≡ None → bytes_eq word (45 ∷ 45 ∷ []) ≡ false
-    → long_of word ≡ None → short_of word ≡ None → arg_by_index s.rules 1 ≡ None → s.is_leaf ≡ false → turn_fault s names (walk_from nothing_held) word ≡ stray
-stray_turn s names word met dashes long short i l = rw (met, dashes, long, short, i, l) refl
+-- ---- a first word that is no name
 
-no_dashes : (word : Text) → begins_with_minus word ≡ false → bytes_eq word (45 ∷ 45 ∷ []) ≡ false
-no_dashes [] b = refl
-no_dashes (x ∷ xs) b = rw b refl
+-- an argument that takes no value and asks for help
+abbrev AsksForHelp : Bool → Rule → Type 0
+AsksForHelp again a = (takes_values a ≡ false) × (use_fault again a [] [] ≡ DisplayHelp ∷ [])
 
-no_long : (word : Text) → begins_with_minus word ≡ false → long_of word ≡ None
-no_long [] b = refl
-no_long (x ∷ xs) b = rw b refl
+no_long : (rules : List Rule) (again : Bool) (found : Option Rule) (value : Option Text) → IfSome found (AsksForHelp again)
+    → long_fault rules again found value nothing_held ≡ [] → ⊥
+no_long rules again None value asks e = cc
+no_long rules again (Some a) (Some v) asks e = let bad = rw asks.0 at e in cc
+no_long rules again (Some a) None asks e = let bad = rw (asks.0, asks.1) at e in cc
 
-no_short : (word : Text) → begins_with_minus word ≡ false → short_of word ≡ None
-no_short [] b = refl
-no_short (x ∷ xs) b = rw b refl
+no_short : (rules : List Rule) (again : Bool) (found : Option Rule) (rest : Text) (next : Held → Kinds) → IfSome found (AsksForHelp again)
+    → short_fault rules again found rest nothing_held next ≡ [] → ⊥
+no_short rules again None rest next asks e = cc
+no_short rules again (Some a) rest next asks e = let bad = rw (asks.0, asks.1) at e in cc
 
-stray_first : (s : Shape) (names : Names) (word : Text) (rest : List Text) → subcommand_met names idle word ≡ None → begins_with_minus word ≡ false
-    → arg_by_index s.rules 1 ≡ None → s.is_leaf ≡ false → walk_fault s names (walk_from nothing_held) (word ∷ rest) ≡ stray
-unfolding walk_fault
-stray_first s names word rest met b i l = ap (λ first. or_else first (walk_fault s names (walked s.rules names (walk_from nothing_held) word) rest))
-    (stray_turn s names word met (no_dashes word b) (no_long word b) (no_short word b) i l)
+module _ (s : Shape) (names : Names) (index : arg_by_index s.rules 1 ≡ None) (leaf : s.is_leaf ≡ false) (asks : AllByRecursion (AsksForHelp s.args_override_self) s.rules) where
+  strays : stray_fault s ≡ [] → ⊥
+  strays e = let bad = rw leaf at e in cc
 
-stray_refused : (a : App) (word : Text) (rest : List Text) → walk_fault a.top (names_of a) (walk_from nothing_held) (word ∷ rest) ≡ stray
-    → built_fault a nothing_held (word ∷ rest) ≡ stray
-stray_refused a word rest e =
-    let w = walk a.top.rules (names_of a) nothing_held (word ∷ rest) in
-    ap (λ first. or_else first
-    (or_else (entered_fault a w.stopped)
-    (or_else (settle_fault a.top.rules a.top.args_override_self w.held)
-    (or_else (defaults_fault (settled a.top.rules w.held).rows a.top.rules)
-    (check_fault a.top (finished a.top.rules w.held) (is_some (entered a w.stopped))))))) e
+  module _ (word : Text) (met : subcommand_met names idle word ≡ None) (dashes : bytes_eq word (45 ∷ 45 ∷ []) ≡ false) where
+    abbrev turn : Kinds
+    turn = turn_fault s names (walk_from nothing_held) word
+
+    plain_turn : long_of word ≡ None → short_of word ≡ None → turn ≡ [] → ⊥
+    plain_turn long short e = strays (rw (met, dashes, long, short, index) at e)
+
+    long_turn : (p : Text × Option Text) → long_of word ≡ Some p → turn ≡ [] → ⊥
+    long_turn p long e =
+        let found = arg_by_long s.rules p.0 in
+        let among = found_among (λ a. not (is_some a.index) && has_long a p.0) (AsksForHelp s.args_override_self) s.rules asks in
+        no_long s.rules s.args_override_self found p.1 among (first_empty (long_fault s.rules s.args_override_self found p.1 nothing_held) _ (rw (met, dashes, long) at e))
+
+    -- what the step after flags comes to
+    abbrev step_kinds : Held × Outcome → Kinds
+    step_kinds m = step_fault s 1 (after_flag s.rules idle word m.0 m.1).0 (after_flag s.rules idle word m.0 m.1).1
+
+    letter_turn : (found : Option ℕ) (flags : Text) (k : ℕ)
+        → or_else (bundle_step_fault s.rules s.args_override_self found flags 0 nothing_held (flags_fault s.rules s.args_override_self k))
+        (step_kinds (bundle_step s.rules found flags 0 plain nothing_held (bundle_met s.rules k))) ≡ [] → ⊥
+    letter_turn None flags k e = strays (rw index at e)
+    letter_turn (Some x) flags k e =
+        let found = arg_by_short s.rules x in
+        let among = found_among (λ a. not (is_some a.index) && has_short a x) (AsksForHelp s.args_override_self) s.rules asks in
+        let rest = drop (length (encode_utf8 x)) flags in
+        no_short s.rules s.args_override_self found rest (flags_fault s.rules s.args_override_self k rest 0) among (first_empty _ _ e)
+
+    flags_turn : (flags : Text) → or_else (bundle_fault s.rules s.args_override_self flags nothing_held) (step_kinds (bundle s.rules flags nothing_held)) ≡ [] → ⊥
+    unfolding flags_fault bundle_met
+    flags_turn [] e = strays (rw index at e)
+    flags_turn (x ∷ xs) e = letter_turn (slice_get (chars (x ∷ xs)) 0) (x ∷ xs) (length xs) e
+
+    short_turn : (flags : Text) → long_of word ≡ None → short_of word ≡ Some flags → turn ≡ [] → ⊥
+    short_turn flags long short e = flags_turn flags (rw (met, dashes, long, short) at e)
+
+    by_short : (short : Option Text) → long_of word ≡ None → short_of word ≡ short → turn ≡ [] → ⊥
+    by_short None long short e = plain_turn long short e
+    by_short (Some flags) long short e = short_turn flags long short e
+
+    by_long : (long : Option (Text × Option Text)) → long_of word ≡ long → turn ≡ [] → ⊥
+    by_long None long e = by_short (short_of word) long refl e
+    by_long (Some p) long e = long_turn p long e
+
+    turn_refuses : turn ≡ [] → ⊥
+    turn_refuses e = by_long (long_of word) refl e
 
 other_way : (a b : Text) → bytes_eq a b ≡ false → bytes_eq b a ≡ false
 other_way a b e = go (bytes_eq b a) refl
@@ -90,8 +128,35 @@ rrdi_words : (words : List Text) → fault_of rrdi_app words ≡ built_fault (bu
 unfolding rrdi_app
 rrdi_words words = refl
 
-pub unknown_refused : (word : Text) (rest : List Text) → begins_with_minus word ≡ false → name_in word ≡ None → IsRefused (word ∷ rest)
-unknown_refused word rest b unnamed none =
-    let stands = stray_refused (built rrdi_app) word rest
-    (stray_first (built rrdi_app).top (names_of (built rrdi_app)) word rest (none_met word unnamed) b rrdi_index rrdi_leaf) in
-    let bad : stray ≡ [] = sym stands ∙ (sym (rrdi_words (word ∷ rest)) ∙ none) in cc
+rrdi_asks : AllByRecursion (AsksForHelp (built rrdi_app).top.args_override_self) (built rrdi_app).top.rules
+unfolding shapes_on_literals
+rrdi_asks = ((refl, refl), tt)
+
+-- the walk over words that are taken has no fault
+walk_taken : (words : List Text) → fault_of rrdi_app words ≡ [] → walk_fault (built rrdi_app).top (names_of (built rrdi_app)) (walk_from nothing_held) words ≡ []
+walk_taken words taken = first_empty _ _ (sym (rrdi_words words) ∙ taken)
+
+-- `--`, with words after it or without
+dashes_refused : (rest : List Text) → IsRefused ((45 ∷ 45 ∷ []) ∷ rest)
+unfolding shapes_on_literals entered_of walk_fault walked
+dashes_refused [] taken = let bad : false ≡ true = taken_enters ((45 ∷ 45 ∷ []) ∷ []) taken in cc
+dashes_refused (word ∷ rest) taken = let bad = walk_taken ((45 ∷ 45 ∷ []) ∷ word ∷ rest) taken in cc
+
+other_refused : (word : Text) (rest : List Text) → name_in word ≡ None → bytes_eq word (45 ∷ 45 ∷ []) ≡ false → IsRefused (word ∷ rest)
+unfolding walk_fault
+other_refused word rest unnamed dashes taken =
+    turn_refuses (built rrdi_app).top (names_of (built rrdi_app)) rrdi_index rrdi_leaf rrdi_asks word (none_met word unnamed) dashes
+    (first_empty _ _ (walk_taken (word ∷ rest) taken))
+
+word_refused : (word : Text) (rest : List Text) → name_in word ≡ None → IsRefused (word ∷ rest)
+word_refused word rest unnamed = go (bytes_eq word (45 ∷ 45 ∷ [])) refl
+  where
+    go : (r : Bool) → bytes_eq word (45 ∷ 45 ∷ []) ≡ r → IsRefused (word ∷ rest)
+    go false t = other_refused word rest unnamed t
+    go true t = rw ((bytes_eq-Decides word (45 ∷ 45 ∷ [])).0 t) (dashes_refused rest)
+
+-- words whose first is no name are refused
+pub unnamed_refused : (words : List Text) → first_name words ≡ None → IsRefused words
+unfolding shapes_on_literals entered_of
+unnamed_refused [] unnamed taken = let bad : false ≡ true = taken_enters [] taken in cc
+unnamed_refused (word ∷ rest) unnamed taken = word_refused word rest unnamed taken

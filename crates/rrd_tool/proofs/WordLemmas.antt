@@ -1,11 +1,11 @@
 -- The words of a text, word by word.
-use Rattle.std.proofs.Common.{◌≡◌, ◌∙◌, ◌+◌, ◌-◌, ◌≤◌, ◌<◌, ◌++◌, ◌∷◌, ◌&&◌, [], ℕ, zero, suc, Bool, true, false, List, length, take, drop, get_or, sym, ap, refl, arith, add-one, drop-cons, length-drop}
-use Rattle.std.proofs.lemmas.List.{take_more, get_or-drop}
+use Rattle.std.proofs.Common.{◌≡◌, ◌∙◌, ◌<◌, ◌++◌, ◌∷◌, ◌&&◌, ◌||◌, [], ℕ, zero, suc, Bool, true, false, List, take, drop, sym, ap, refl, arith, append-nil, append_assoc, Result, Ok, Err}
+use Rattle.std.specs.Result.{OnErr}
 use Rattle.std.proofs.lemmas.Bool.Decides.{nat_tests}
-use Rattle.std.specs.List.{list_all}
+use Rattle.std.specs.List.{list_all, list_any}
 use Rattle.std.specs.Str.{IsAscii, IsUtf8}
 use Rattle.std.proofs.lemmas.Str.{IsUtf8-from_ascii}
-use Rattle.rrd_tool.specs.Lines.{if_some, is_blank, is_plain, words_after}
+use Rattle.rrd_tool.specs.Lines.{if_some, is_empty, is_blank, is_plain, words_after}
 
 -- ---- plain bytes
 
@@ -38,36 +38,31 @@ plain_utf8 bytes h = IsUtf8-from_ascii bytes (plain_ascii bytes h)
 
 -- ---- words
 
-pub words_blank : (begun rest : List ℕ) (b : ℕ) → is_blank b ≡ true → words_after begun (b ∷ rest) ≡ if_some begun ++ words_after [] rest
-words_blank begun rest b h = rw h refl
+neither : (x y : Bool) → (x || y) ≡ false → (x ≡ false) × (y ≡ false)
+neither true y h = cc
+neither false y h = (refl, h)
 
-pub words_letter : (begun rest : List ℕ) (b : ℕ) → is_blank b ≡ false → words_after begun (b ∷ rest) ≡ words_after (begun ++ b ∷ []) rest
-words_letter begun rest b h = rw h refl
+-- letters go on with a word that is begun
+words_run : (begun part rest : List ℕ) → list_any is_blank part ≡ false → words_after begun (part ++ rest) ≡ words_after (begun ++ part) rest
+words_run begun [] rest h = ap (λ l. words_after l rest) (sym (append-nil begun))
+words_run begun (b ∷ part) rest h =
+    let parts = neither (is_blank b) (list_any is_blank part) h in
+    rw parts.0 (words_run (begun ++ b ∷ []) part rest parts.1 ∙ ap (λ l. words_after l rest) (append_assoc begun (b ∷ []) part))
 
--- the bytes from one place up to another
-abbrev pub between : List ℕ → ℕ → ℕ → List ℕ
-between text from at = take (at - from) (drop from text)
+-- a word before a blank
+pub words_first : (part rest : List ℕ) (b : ℕ) → list_any is_blank part ≡ false → is_blank b ≡ true → words_after [] (part ++ b ∷ rest) ≡ if_some part ++ words_after [] rest
+words_first part rest b none blank = words_run [] part (b ∷ rest) none ∙ rw blank refl
 
-none_between : (text : List ℕ) (at : ℕ) → between text at at ≡ []
-none_between text at = ap (λ n. take n (drop at text)) {x = at - at} {y = 0} (omega arith)
+-- a word without one
+pub words_last : (part : List ℕ) → list_any is_blank part ≡ false → words_after [] part ≡ if_some part
+words_last part none = ap (words_after []) (sym (append-nil part)) ∙ words_run [] part [] none
 
-between_more : (text : List ℕ) (from at : ℕ) → from ≤ at → at < length text → between text from (at + 1) ≡ between text from at ++ get_or text at 0 ∷ []
-between_more text from at le inside =
-    let n = at - from in
-    let more : n < length (drop from text) = omega (arith, length-drop from text) in
-    let here : get_or (drop from text) n 0 ≡ get_or text at 0 = get_or-drop from text n 0 ∙ ap (λ i. get_or text i 0) {x = from + n} {y = at} (omega arith) in
-    ap (λ k. take k (drop from text)) {x = at + 1 - from} {y = n + 1} (omega arith) ∙ take_more (drop from text) n 0 more ∙ ap (λ b. take n (drop from text) ++ b ∷ []) here
+-- where no word can be added there is one
+pub some_words : (words : List (List ℕ)) (part : List ℕ) (rest : List (List ℕ)) → is_empty part ≡ false → is_empty (words ++ (if_some part ++ rest)) ≡ false
+some_words [] [] rest h = absurd (let bad : true ≡ false = h in cc)
+some_words [] (b ∷ part) rest h = refl
+some_words (word ∷ words) part rest h = refl
 
-pub step_blank : (text : List ℕ) (from at : ℕ) → at < length text → is_blank (get_or text at 0) ≡ true
-    → words_after (between text from at) (drop at text) ≡ if_some (between text from at) ++ words_after (between text (at + 1) (at + 1)) (drop (at + 1) text)
-step_blank text from at inside blank =
-    ap (words_after (between text from at)) (drop-cons text at 0 inside ∙ ap (λ n. get_or text at 0 ∷ drop n text) (sym (add-one at)))
-    ∙ words_blank (between text from at) (drop (at + 1) text) (get_or text at 0) blank
-    ∙ ap (λ begun. if_some (between text from at) ++ words_after begun (drop (at + 1) text)) (sym (none_between text (at + 1)))
-
-pub step_letter : (text : List ℕ) (from at : ℕ) → from ≤ at → at < length text → is_blank (get_or text at 0) ≡ false
-    → words_after (between text from at) (drop at text) ≡ words_after (between text from (at + 1)) (drop (at + 1) text)
-step_letter text from at le inside letter =
-    ap (words_after (between text from at)) (drop-cons text at 0 inside ∙ ap (λ n. get_or text at 0 ∷ drop n text) (sym (add-one at)))
-    ∙ words_letter (between text from at) (drop (at + 1) text) (get_or text at 0) letter
-    ∙ ap (λ begun. words_after begun (drop (at + 1) text)) (sym (between_more text from at le inside))
+pub on_err : {T E P : Type 0} (r : Result T E) → P → OnErr r P
+on_err (Ok x) p = tt
+on_err (Err f) p = p

@@ -1,27 +1,27 @@
--- Definition: the arguments of a command, as clap takes them.
+-- Definition: the arguments of a command, as clap parses them.
 use Rattle.std.specs.Prelude.{◌==◌, ◌∷◌, ℕ, Bool, List, [], Some, false, true, codes, unwrap_or}
 use Rattle.clap.specs.Words.{App, Row, Rule, Text, all_of, new_app, new_rule}
 use Rattle.clap.specs.declared.builder.action.ArgAction.TheVariants.{Append}
 pub mod Taken
 pub mod Shapes
 
--- `--long VALUE`
+-- the option `--long VALUE`
 abbrev pub option_rule : Text → Text → Rule
 option_rule id long = record (new_rule id) { long = Some long }
 
--- `--long VALUE` or `-letter VALUE`
+-- the option `--long VALUE` or `-letter VALUE`
 abbrev pub letter_rule : Text → Text → ℕ → Rule
 letter_rule id long letter = record (new_rule id) { long = Some long; short = Some letter }
 
--- a word that has to be there
+-- an argument that is required
 abbrev pub required_rule : Text → Rule
 required_rule id = record (new_rule id) { required = true }
 
--- a word that may be there
+-- an argument that may be left out
 abbrev pub word_rule : Text → Rule
 word_rule id = new_rule id
 
--- any number of words
+-- an argument with any number of values
 abbrev pub many_rule : Text → Rule
 many_rule id = record (new_rule id) { action = Some Append }
 
@@ -34,11 +34,11 @@ bare_top = record (new_app (codes "rrdi")) {
   };
 }
 
--- it is an option, and no command and no file
+-- the text is an option, and neither a command nor a file
 abbrev pub begins_with_minus : Text → Bool
 begins_with_minus [] = false
 begins_with_minus (b ∷ bs) = b == 45
 
--- the values of an argument that any number of words may have
+-- the values of an argument that may have any number of them
 abbrev pub words_of : Text → List Row → List Text
 words_of id rows = unwrap_or (all_of id rows) []

@@ -1,5 +1,5 @@
--- Definition: the commands: their command_names and shapes, what their values are read as, and what they do (rrdcreate,
--- rrdupdate, rrdtune, rrdresize, rrdfetch, rrdfirst, rrdlast, rrdlastupdate, rrdinfo; revert is own).
+-- Definition: the commands: their names and shapes, how their values are parsed, and their effects (rrdcreate,
+-- rrdupdate, rrdtune, rrdresize, rrdfetch, rrdfirst, rrdlast, rrdlastupdate, rrdinfo; revert is this project's).
 use Rattle.std.specs.Prelude.{ℕ, List, Option, Result, Ok, fold, option_and_then, option_map}
 use Rattle.clap.specs.Words.{App, Row, Text, new_app, with_subcommand}
 use Rattle.rrd_spec.specs.Commands.{Resizing, TuningBy, Updating}
@@ -33,7 +33,7 @@ pub mod Info
 pub mod Reading
 pub mod Fetched
 
--- the shape of the command of a name; those without arguments have a name alone
+-- the shape of the command with a name; the shape of a command without arguments is only a name
 abbrev pub shape_of : CommandName → App
 shape_of verb.Create = create_app
 shape_of verb.Update = update_app
@@ -53,7 +53,7 @@ with_command app name = with_subcommand app (shape_of name).top
 unfoldable pub rrdi_app : App
 rrdi_app = fold with_command bare_top command_names
 
--- what the values of the command of a name are read as
+-- the command that its values are parsed as
 abbrev pub values_of : CommandName → List Row → ℕ → Result Command Unread
 values_of verb.Create rows now = create_of rows now
 values_of verb.Update rows now = update_of rows now
@@ -66,19 +66,19 @@ values_of verb.LastUpdate rows now = Ok command.LastUpdate
 values_of verb.Info rows now = Ok command.Info
 values_of verb.Revert rows now = Ok command.Revert
 
--- what a subcommand is read as that was entered, by its word and its values; none for a word that is no name
+-- the command of the subcommand that was entered, from its name and its values; `None` for an unknown name
 abbrev pub line_of : Option (Text × List Row) → ℕ → Option (Result Command Unread)
 line_of entered now =
     option_and_then (λ e. option_map (λ name. values_of name e.1 now) (name_in e.0)) entered
 
--- what a command does
+-- the effect of a command
 abbrev pub effect : Command → Effect
 effect (command.Create spec) = Makes spec
 effect (command.Update update) = Changes (Updating update)
 effect (command.Tune tuning) = Changes (TuningBy tuning)
-effect (command.Resize index change rows) = Changes (Resizing index change rows)
-effect (command.Fetch function asked start stop) = Shows (λ kept. fetch_answer kept.content function asked start stop)
-effect (command.First index) = Shows (λ kept. first_text kept.content index)
+effect (command.Resize archive change rows) = Changes (Resizing archive change rows)
+effect (command.Fetch request) = Shows (λ kept. fetch_answer kept.content request)
+effect (command.First archive) = Shows (λ kept. first_text kept.content archive)
 effect command.Last = Shows (λ kept. last_text kept.content)
 effect command.LastUpdate = Shows (λ kept. lastupdate_text kept.content)
 effect command.Info = Shows info_text

@@ -1,4 +1,4 @@
--- Definition: the texts of faults (own).
+-- Definition: the texts of errors (this project's rule).
 use Rattle.std.specs.Prelude.{◌++◌, ℕ, Bool, List, codes, decimal, if◌then◌else◌, true, false}
 use Rattle.rrd_spec.specs.Commands.RefusalTexts.{refusal_text}
 use Rattle.rrd_tool.specs.declared.faults.LineFault.{LineFault}
@@ -8,9 +8,9 @@ use Rattle.rrd_tool.specs.declared.faults.Part.TheVariants as part
 use Rattle.rrd_tool.specs.declared.faults.Fault.{Fault}
 use Rattle.rrd_tool.specs.declared.faults.Fault.TheVariants.{Line, Refused, NoDatabase, Output}
 
--- ---- words that are no command
+-- ---- arguments that are not a command
 
--- a part's name
+-- the name of a part
 abbrev pub word_of : Part → List ℕ
 word_of part.Step = codes "step"
 word_of part.Start = codes "start"
@@ -28,19 +28,19 @@ word_of part.Change = codes "change"
 word_of part.Rows = codes "rows"
 word_of part.Function = codes "function"
 word_of part.Resolution = codes "resolution"
-word_of part.Until = codes "end"
+word_of part.End = codes "end"
 
--- a command may have several of these parts, and a fault prints which one it is
+-- a command may have several of these parts, and an error prints the number of the part
 abbrev pub is_numbered : Part → Bool
 is_numbered part.Definition = true
 is_numbered part.Sample = true
 is_numbered _ = false
 
--- a part, and which one it is where there may be several
+-- a part, and its number if there may be several
 abbrev pub place_text : Part → ℕ → List ℕ
 place_text part number = if is_numbered part then word_of part ++ codes " " ++ decimal number else word_of part
 
--- the part that can't be read; of definitions and samples also which one
+-- the part that cannot be parsed; for definitions and samples also its number
 abbrev pub unread_text : Part → ℕ → List ℕ
 unread_text part number = codes "unreadable " ++ place_text part number
 
@@ -58,6 +58,6 @@ fault_text Output = codes "write failed"
 abbrev pub error_line : List ℕ → List ℕ
 error_line text = codes "ERROR: " ++ text ++ codes "\n"
 
--- what is written for a fault
+-- the line that is written for an error
 abbrev pub fault_line : Fault → List ℕ
 fault_line fault = error_line (fault_text fault)

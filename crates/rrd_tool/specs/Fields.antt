@@ -1,4 +1,4 @@
--- Definition: what a text stands for (rrdcreate, "DS" and "RRA").
+-- Definition: the values of texts (rrdcreate, "DS" and "RRA").
 use Rattle.std.specs.Prelude.{ℕ, ℤ, ◌==◌, Bool, List, [], ◌∷◌, Option, Some, None, codes, find, if◌then◌else◌}
 use Rattle.std.specs.List.{list_any, before_first, after_first, slice_split}
 use Rattle.std.specs.Str.{bytes_eq}
@@ -11,7 +11,7 @@ use Rattle.rrd_fold.specs.declared.function.Function.{Function}
 pub mod Parts
 pub mod Answers
 
--- what is read next, unless something before it can't be read
+-- the value that is parsed next, unless something before it cannot be parsed
 infixl 10 ◌>>?◌
 abbrev pub ◌>>?◌ : {A B : Type 0} → Option A → (A → Option B) → Option B
 Some x >>? next = next x
@@ -22,34 +22,34 @@ None >>? next = None
 abbrev pub is_colon : ℕ → Bool
 is_colon c = c == 58
 
--- what stands before the first colon, and what behind it; none without a colon
+-- the text before the first colon, and the text after it; `None` without a colon
 abbrev pub cut_of : Text → Option (Text × Text)
 cut_of text = if list_any is_colon text then Some (before_first is_colon text, after_first is_colon text) else None
 
--- what is read before the first colon, and then of what stands behind it
+-- the value of the text before the first colon, and then of the text after it
 abbrev pub field : {A B : Type 0} → (Text → Option A) → Text → (A → Text → Option B) → Option B
 field read text next = cut_of text >>? (λ cut. read cut.0 >>? (λ x. next x cut.1))
 
--- what stands between the colons
+-- the texts between the colons
 abbrev pub pieces : Text → List Text
 pieces text = slice_split is_colon text
 
--- what is read of each of the pieces, if all of them can be read
+-- the values of the texts, if all of them can be parsed
 abbrev pub each_in : {A : Type 0} → (Text → Option A) → List Text → Option (List A)
 each_in read [] = Some []
 each_in read (piece ∷ more) = read piece >>? (λ x. each_in read more >>? (λ xs. Some (x ∷ xs)))
 
--- ---- words for one thing
+-- ---- words for one value
 
--- a name that a source could have, good or not
+-- a name that the type of names can hold, valid or not
 abbrev pub name_of : Text → Option Name
 name_of text = if fits text then Some text else None
 
--- the one of these that has this word
+-- the item that has this word
 abbrev pub named : {A : Type 0} → (A → Text) → List A → Text → Option A
 named word_of all text = find (λ item. bytes_eq text (word_of item)) all
 
--- a type's word, as it is read and printed
+-- the word of a type, as it is parsed and printed
 abbrev pub kind_text : Kind → Text
 kind_text Kind.Gauge = codes "GAUGE"
 kind_text Kind.Counter = codes "COUNTER"
@@ -62,7 +62,7 @@ kinds = Kind.Gauge ∷ Kind.Counter ∷ Kind.Derive ∷ Kind.Absolute ∷ []
 abbrev pub kind_of : Text → Option Kind
 kind_of text = named kind_text kinds text
 
--- a function's word, as it is read and printed
+-- the word of a function, as it is parsed and printed
 abbrev pub function_text : Function → Text
 function_text Function.Average = codes "AVERAGE"
 function_text Function.Min = codes "MIN"

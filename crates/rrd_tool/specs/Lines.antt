@@ -1,6 +1,7 @@
--- Definition: the lines of an input, and the words of a line (own; rrdtool reads such lines by its command `-`).
+-- Definition: the lines of an input, and the arguments on a line (this project's rule; RRDtool reads such lines in its
+-- command `-`).
 use Rattle.std.specs.Prelude.{◌==◌, ◌&&◌, ◌||◌, ◌++◌, ◌∷◌, [], ℕ, Bool, List, Option, Some, None, length, if◌then◌else◌, nat_le, true, false}
-use Rattle.std.specs.List.{list_all}
+use Rattle.std.specs.List.{list_all, list_any}
 pub mod Buffer
 
 -- a line without the CR at its end
@@ -8,6 +9,10 @@ abbrev pub without_cr : List ℕ → List ℕ
 without_cr [] = []
 without_cr (b ∷ []) = if b == 13 then [] else b ∷ []
 without_cr (b ∷ c ∷ bs) = b ∷ without_cr (c ∷ bs)
+
+-- whether LF ends a line in the bytes
+abbrev pub has_end : List ℕ → Bool
+has_end bytes = list_any (λ b. b == 10) bytes
 
 -- the lines that LF ends, without their ends, where the first one's bytes `unfinished` came before
 abbrev pub whole_lines : List ℕ → List ℕ → List (List ℕ)
@@ -48,7 +53,7 @@ text_in line = if is_text line then Some line else None
 abbrev pub is_blank : ℕ → Bool
 is_blank b = b == 32 || b == 9
 
--- the words of a text, which blanks part, where the first one's bytes `unfinished` came before
+-- the arguments in a text, separated by blanks; the bytes `unfinished` of the first one came before
 abbrev pub words_after : List ℕ → List ℕ → List (List ℕ)
 words_after unfinished [] = if_some unfinished
 words_after unfinished (b ∷ bs) =

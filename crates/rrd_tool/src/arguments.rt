@@ -1,10 +1,9 @@
 //! Arguments as clap takes them, and words as it parses them.
 ghost use Rattle.std.specs.Prelude.{◌≡◌, IfOk, false, map, option_map};
 ghost use Rattle.clap.specs.Words.{App, all_of, app_of, first_of, found_of, rows_of, rule_of};
-ghost use Rattle.rrd_tool.specs.Arguments.Shapes.{HasApp, IsParsedBy, ServesOrRefuses, app_with};
+ghost use Rattle.rrd_tool.specs.Arguments.Shapes.{HasApp, IsParsedBy, Serves, app_with};
 ghost use Rattle.rrd_tool.specs.Arguments.{bare_top, letter_rule, many_rule, option_rule, required_rule, word_rule};
 
-use crate::commands::{command_named, rrdi_command};
 use crate::{LineFault, Words};
 use clap::error::ErrorKind;
 use clap::{Arg, ArgAction, ArgMatches};
@@ -70,23 +69,14 @@ pub(crate) fn command_with<'a>(
     bare_command(alloc).subcommand(sub)
 }
 
-// A command that takes and refuses these words as the whole one does; none where they are refused.
-fn command_for<'a>(alloc: Global, words: &Words) -> Result<Option<clap::Command<'a>>, AllocError>
-    ensures { IfOk result (λ o. ServesOrRefuses o words.now) }
-{
-    match words.first() {
-        None => Ok(Some(rrdi_command(alloc)?)),
-        Some(name) => command_named(alloc, name),
-    }
-}
-
-/// What clap makes of the words.
-pub(crate) fn parse<'a>(alloc: Global, words: &'a Words) -> Result<ArgMatches<'a>, LineFault>
+/// What clap makes of the words, by a command that takes and refuses them as the one of all subcommands does.
+pub(crate) fn parse<'a>(
+    command: clap::Command<'a>,
+    words: &'a Words<'_>,
+) -> Result<ArgMatches<'a>, LineFault>
+    requires { Serves (app_of command) words.now }
     ensures { IsParsedBy words.entry.now result }
 {
-    let Some(command) = command_for(alloc, words)? else {
-        return Err(LineFault::Usage);
-    };
     match command.try_get_matches_from(words.as_slice()) {
         Ok(matches) => Ok(matches),
         Err(error) => {

@@ -1,23 +1,29 @@
 //! A batch: each line of an input is run, and what it prints or its fault is written.
-ghost use Rattle.std.specs.Prelude.{◌≡◌, ◌<◌, ◌≤◌, ◌+◌, ◌^◌, ◌∷◌, [], ℕ, List, Option, OnOk, IfSome, true, length, option_map};
+ghost use Rattle.std.specs.Prelude.{◌≡◌, ◌<◌, ◌≤◌, ◌+◌, ◌^◌, ◌∷◌, ◌++◌, [], ℕ, false, List, Option, OnOk, IfSome, true, length, option_map};
 ghost use Rattle.std.specs.List.{list_all};
 ghost use Rattle.std.specs.Result.{result_err};
 ghost use Rattle.std.specs.Io.KnownBytes.{Consumes};
 ghost use Rattle.rrd_spec.specs.Journal.Survivors.{State};
 ghost use Rattle.rrd_tool.specs.Effects.{StandsFor};
 ghost use Rattle.rrd_tool.specs.Lines.Buffer.{Buffers};
-ghost use Rattle.rrd_tool.specs.Lines.{is_plain, last_part, text_in, whole_lines};
-ghost use Rattle.rrd_tool.specs.Batch.Answers.{Asks, Moves, MovesByCommand, MovesByLine};
+ghost use Rattle.rrd_tool.specs.Lines.{has_end, is_plain, last_part, text_in, whole_lines};
+ghost use Rattle.rrd_tool.specs.Batch.{Counts, Tally, no_lines};
+ghost use Rattle.rrd_tool.specs.Batch.Answers.{Asks, Moves, MovesByCommand, MovesByLine, Tallies};
 ghost use Rattle.rrd_tool.specs.Batch.Run.{RunOver};
 
-use crate::execution::execute;
+use crate::execution::{Outcome, execute};
 use crate::faults::{Fault, write_fault};
-use crate::lines::{LineBuffer, read_words};
+use crate::lines::{LineBuffer, read_words, text_of_line};
+use crate::refusals::Refusals;
 use crate::{Command, LineFault, read_command};
+use memchr::memchr;
 use rrd_base::Database;
 use rrd_fixed::{WriteFault, flush, read_some};
 use std::alloc::Global;
 use std::io::{Read, Write};
+
+/// The most bytes that are read at once. They are on the stack, of which a library may have little.
+const CHUNK: usize = 8_192;
 
 /// Why a batch ended before its input did.
 #[derive(Clone, Copy, Debug, PartialEq, Eq)]
@@ -26,7 +32,7 @@ pub enum StreamFault {
     Write,
     /// A read failed, or there were 2^40: an unfinished line wasn't run.
     Read,
-    /// There was no memory for a line: nothing was read or written.
+    /// There was no memory for a line, or for the numbers of the refused lines: nothing was read or written.
     OutOfMemory,
 }
 
@@ -37,6 +43,9 @@ pub struct BatchEnd {
     pub database: Option<Database>,
     /// How many fault lines were written whole.
     pub refused: u64,
+    /// The numbers of the lines that these answer, in order, as many as were asked for: the first line of the input
+    /// is 1, and lines without words count too.
+    pub lines: Vec<u64>,
     /// Why the batch ended before its input did.
     pub stream: Option<StreamFault>,
 }
@@ -48,11 +57,11 @@ struct Context {
     now: u64,
 }
 
-// What moves: the database, and how many fault lines were written whole.
+// What moves: the database, and which lines were refused.
 #[derive(Drop)]
 struct Batch {
     database: Option<Database>,
-    refused: u64,
+    refusals: Refusals,
 }
 
 // What a line's text asks for; nothing where it has no words.
@@ -81,18 +90,26 @@ fn run_command<W: Write>(
 ) -> Result<Option<Fault>, WriteFault>
     ensures { MovesByCommand database.old database.new (W.contents out.old) (W.contents out.new) command result }
 {
-    let outcome = execute(alloc, database.take(), command, out);
-    *database = outcome.database;
-    let Some(fault) = outcome.fault else {
-        if outcome.changed {
-            return Ok(None);
+    match execute(alloc, database.take(), command, out) {
+        Outcome::Printed(kept) => {
+            *database = Some(kept);
+            flush(out)?;
+            Ok(None)
         }
-        flush(out)?;
-        return Ok(None);
-    };
-    match fault {
-        Fault::Output => Err(WriteFault {}),
-        fault => Ok(Some(fault)),
+        Outcome::Changed(changed) => {
+            *database = Some(changed);
+            Ok(None)
+        }
+        Outcome::Refused {
+            database: kept,
+            fault,
+        } => {
+            *database = kept;
+            match fault {
+                Fault::Output => Err(WriteFault {}),
+                fault => Ok(Some(fault)),
+            }
+        }
     }
 }
 
@@ -122,39 +139,41 @@ fn answer<W: Write>(
     text: Option<&[u8]>,
 ) -> Result<(), WriteFault>
     requires plain { IfSome text (λ bytes. list_all is_plain bytes.now ≡ true) }
-    requires room { batch.old.refused + 1 < 2 ^ 64 }
+    requires room { batch.old.refusals.lines + 1 < 2 ^ 64 }
     ensures told { (line : List ℕ) → option_map (λ bytes. bytes.now) text.entry ≡ text_in line
-        → Moves context.now batch.old.database batch.new.database batch.old.refused batch.new.refused
+        → Moves context.now batch.old.database batch.new.database batch.old.refusals batch.new.refusals
         (W.contents out.old) (W.contents out.new) (line ∷ []) result }
-    ensures count { batch.new.refused ≤ batch.old.refused + 1 }
+    ensures count { batch.new.refusals.lines ≤ batch.old.refusals.lines + 1 }
 {
+    batch.refusals.begin_line();
     let Some(fault) = perform(context, &mut batch.database, out, text)? else {
         return Ok(());
     };
     write_fault(out, &fault)?;
-    batch.refused += 1;
+    batch.refusals.refuse();
     flush(out)
 }
 
-// Takes a byte, and answers the line that it ends.
-fn take_byte<W: Write>(
+// Takes the bytes of a line up to its LF, and answers it. What stands whole in the bytes isn't copied.
+fn take_line<W: Write>(
     context: Context,
     batch: &mut Batch,
     out: &mut W,
     line: &mut LineBuffer,
-    byte: u8,
+    bytes: &[u8],
 ) -> Result<(), WriteFault>
-    requires { batch.old.refused + 1 < 2 ^ 64 }
+    requires room { batch.old.refusals.lines + 1 < 2 ^ 64 }
+    requires inner { has_end bytes.now ≡ false }
     ensures told { (unfinished : List ℕ) → Buffers line.old unfinished
-        → Moves context.now batch.old.database batch.new.database batch.old.refused batch.new.refused
-        (W.contents out.old) (W.contents out.new) (whole_lines unfinished (byte ∷ [])) result
-        × OnOk result (Buffers line.new (last_part unfinished (byte ∷ []))) }
-    ensures count { batch.new.refused ≤ batch.old.refused + 1 }
+        → Moves context.now batch.old.database batch.new.database batch.old.refusals batch.new.refusals
+        (W.contents out.old) (W.contents out.new) (whole_lines unfinished (bytes.now ++ 10 ∷ [])) result
+        × OnOk result (Buffers line.new (last_part unfinished (bytes.now ++ 10 ∷ []))) }
+    ensures count { batch.new.refusals.lines ≤ batch.old.refusals.lines + 1 }
 {
-    if byte != b'\n' {
-        line.push(byte);
-        return Ok(());
+    if line.is_empty() {
+        return answer(context, batch, out, text_of_line(bytes));
     }
+    line.extend(bytes);
     answer(context, batch, out, line.whole_line())?;
     line.clear();
     Ok(())
@@ -168,16 +187,19 @@ fn feed<W: Write>(
     line: &mut LineBuffer,
     bytes: &[u8],
 ) -> Result<(), WriteFault>
-    requires { batch.old.refused + length bytes.now < 2 ^ 64 }
+    requires { batch.old.refusals.lines + length bytes.now < 2 ^ 64 }
     ensures told { (unfinished : List ℕ) → Buffers line.old unfinished
-        → Moves context.now batch.old.database batch.new.database batch.old.refused batch.new.refused
+        → Moves context.now batch.old.database batch.new.database batch.old.refusals batch.new.refusals
         (W.contents out.old) (W.contents out.new) (whole_lines unfinished bytes.now) result
         × OnOk result (Buffers line.new (last_part unfinished bytes.now)) }
-    ensures count { batch.new.refused ≤ batch.old.refused + length bytes.now }
+    ensures count { batch.new.refusals.lines ≤ batch.old.refusals.lines + length bytes.now }
 {
-    for byte in bytes {
-        take_byte(context, batch, out, line, *byte)?;
+    let mut from = 0;
+    while let Some(length) = memchr(b'\n', &bytes[from..]) {
+        take_line(context, batch, out, line, &bytes[from..from + length])?;
+        from += length + 1;
     }
+    line.extend(&bytes[from..]);
     Ok(())
 }
 
@@ -188,17 +210,18 @@ fn run_lines<R: Read, W: Write>(
     reader: &mut R,
     out: &mut W,
 ) -> Result<(), StreamFault>
-    requires { batch.old.refused ≡ 0 }
-    ensures { (s0 : Option State) → StandsFor batch.old.database s0
+    requires { batch.old.refusals.lines ≡ 0 }
+    ensures { (s0 : Option State) → StandsFor batch.old.database s0 → (most : ℕ) → Tallies most batch.old.refusals no_lines
         → (seen : List ℕ) × Consumes (R.remaining reader.old) (R.remaining reader.new) seen
         × (s1 : Option State) × StandsFor batch.new.database s1
-        × RunOver context.now seen (R.remaining reader.new) s0 s1 batch.new.refused
+        × (tally : Tally) × Tallies most batch.new.refusals tally
+        × RunOver context.now seen (R.remaining reader.new) s0 s1 tally
         (W.contents out.old) (W.contents out.new) (result_err result) }
 {
     let Ok(mut line) = LineBuffer::new(context.alloc) else {
         return Err(StreamFault::OutOfMemory);
     };
-    let mut chunk = [0u8; 65_536];
+    let mut chunk = [0u8; CHUNK];
     'reads: for _ in 0..1_099_511_627_776u64 {
         let Ok(count) = read_some(reader, &mut chunk) else {
             return Err(StreamFault::Read);
@@ -223,29 +246,38 @@ fn run_lines<R: Read, W: Write>(
 /// and handed on before the next line is run. LF ends a line, a CR right before it is dropped, and a
 /// last line without LF counts; spaces and tabs part words, and a line without words is skipped. A
 /// line over 65,536 bytes, or with a byte that is neither tab nor printable ASCII, is the usage
-/// fault. Takes 65,536 bytes for a line before it reads; reads at most 65,536 bytes at once, and at
+/// fault. Takes 65,536 bytes for a line and 8 for each of the `numbered` numbers of refused lines that are kept at most,
+/// before it reads, and no memory for them later; reads at most 8,192 bytes at once, and at
 /// most 2^40 times. `now` is the present time in seconds since 1970.
 pub fn run_batch<R: Read, W: Write>(
     alloc: Global,
     database: Option<Database>,
     now: u64,
+    numbered: usize,
     reader: &mut R,
     out: &mut W,
 ) -> BatchEnd
     ensures { (s0 : Option State) → StandsFor database s0
         → (seen : List ℕ) × Consumes (R.remaining reader.old) (R.remaining reader.new) seen
         × (s1 : Option State) × StandsFor result.database s1
-        × RunOver now seen (R.remaining reader.new) s0 s1 result.refused
+        × (tally : Tally) × Counts numbered tally result.refused result.lines.items
+        × RunOver now seen (R.remaining reader.new) s0 s1 tally
         (W.contents out.old) (W.contents out.new) result.stream }
 {
-    let mut batch = Batch {
-        database,
-        refused: 0,
+    let Ok(refusals) = Refusals::new(alloc, numbered) else {
+        return BatchEnd {
+            database,
+            refused: 0,
+            lines: Vec::new(alloc),
+            stream: Some(StreamFault::OutOfMemory),
+        };
     };
+    let mut batch = Batch { database, refusals };
     let stream = run_lines(Context { alloc, now }, &mut batch, reader, out).err();
     BatchEnd {
         database: batch.database,
-        refused: batch.refused,
+        refused: batch.refusals.count,
+        lines: batch.refusals.numbers,
         stream,
     }
 }

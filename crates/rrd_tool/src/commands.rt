@@ -1,9 +1,9 @@
-//! The commands, and the tables of them: their shapes, what reads their values, and what runs them. Their names are in
-//! `name`, and what is a command's own stands in its file.
-ghost use Rattle.std.specs.Prelude.{◌≡◌, ◌∷◌, IfOk, IfSome, List, None, Option, Some, is_some, true, ℕ};
-ghost use Rattle.clap.specs.Words.{app_of, found_of, rows_of, subcommand_rows_of};
-ghost use Rattle.rrd_tool.specs.Commands.{line_of, rrdi_app, shape_of, values_of};
-ghost use Rattle.rrd_tool.specs.Arguments.Shapes.{HasApp, ServesOrRefuses};
+//! The commands, and the tables of them: the shape of each command for clap, its parsing and its run. The names are in
+//! `name`, and the parts of one command are in the file of its name.
+ghost use Rattle.std.specs.Prelude.{◌≡◌, IfOk, IfSome, List, None, Option, Some, is_some, true, ℕ};
+ghost use Rattle.clap.specs.Words.{found_of, rows_of, subcommand_rows_of};
+ghost use Rattle.rrd_tool.specs.Commands.{shape_of, values_of};
+ghost use Rattle.rrd_tool.specs.Arguments.Shapes.{HasApp, first_name};
 ghost use Rattle.rrd_tool.specs.Execution.{Executes};
 ghost use Rattle.rrd_tool.specs.Commands.Reading.{IsReading};
 ghost use Rattle.rrd_tool.specs.Fields.Answers.{Meets};
@@ -20,55 +20,49 @@ mod revert;
 mod tune;
 mod update;
 
-use crate::arguments::{bare_command, command_with, parse};
+use crate::arguments::{command_with, parse};
 use crate::execution::Outcome;
-use crate::{Fault, LineFault, Words, begins_with_minus};
+use crate::{Fault, LineFault, Words};
 use clap::ArgMatches;
-use name::{CommandName, NAMES};
+use name::CommandName;
 use rrd_base::{Change, CreateSpec, Database, Tuning, Update};
-use rrd_fold::Function;
+use rrd_spec::FetchRequest;
 use std::alloc::{AllocError, Global};
 use std::io::Write;
 
-/// What a line asks for.
+/// A parsed command.
 #[derive(Drop)]
 pub enum Command {
-    /// Make a database (rrdcreate).
+    /// Creates a database (rrdcreate).
     Create(CreateSpec),
-    /// Take in samples (rrdupdate).
+    /// Adds samples (rrdupdate).
     Update(Update),
-    /// Change the settings of sources, or add or remove an archive (rrdtune).
+    /// Changes the settings of data sources, or adds or removes an archive (rrdtune).
     Tune(Tuning),
-    /// Change the number of rows of the archive with this number by so many rows (rrdresize).
+    /// Adds `rows` rows to the archive with the number `archive`, or removes them (rrdresize).
     Resize {
-        index: u64,
+        archive: u64,
         change: Change,
         rows: u64,
     },
-    /// Print rows of an archive with this function whose resolution is near `asked` seconds, from
-    /// `start` to `stop`, in seconds since 1970 (rrdfetch).
-    Fetch {
-        function: Function,
-        asked: u64,
-        start: u64,
-        stop: u64,
-    },
-    /// Print the time of the oldest row of the archive with this number (rrdfirst).
+    /// Prints the rows that the request asks for (rrdfetch).
+    Fetch(FetchRequest),
+    /// Prints the time of the oldest row of the archive with the number `archive` (rrdfirst).
     First {
-        index: u64,
+        archive: u64,
     },
-    /// Print the time of the last update (rrdlast).
+    /// Prints the time of the last sample (rrdlast).
     Last,
-    /// Print the last raw value of each source (rrdlastupdate).
+    /// Prints the last raw value of each data source (rrdlastupdate).
     LastUpdate,
-    /// Print the settings, and how many changes can be reverted (rrdinfo).
+    /// Prints the settings, and the number of changes that can be reverted (rrdinfo).
     Info,
-    /// Take back the newest change.
+    /// Undoes the newest change.
     Revert,
 }
 
 impl CommandName {
-    /// The command's shape for clap.
+    /// Returns the shape of the command for clap.
     fn shape<'a>(self, alloc: Global) -> Result<clap::Command<'a>, AllocError>
         ensures { IfOk result (HasApp (shape_of self)) }
     {
@@ -84,7 +78,7 @@ impl CommandName {
         }
     }
 
-    /// The command of this name with these values.
+    /// Parses the values of the command's arguments.
     fn read(self, alloc: Global, matches: &ArgMatches<'_>, now: u64) -> Result<Command, LineFault>
         ensures { Meets (values_of self (rows_of (found_of matches.now)) now) result }
     {
@@ -103,67 +97,53 @@ impl CommandName {
     }
 }
 
-/// The command with its subcommands.
-pub(crate) fn rrdi_command<'a>(alloc: Global) -> Result<clap::Command<'a>, AllocError>
-    ensures { IfOk result (λ c. app_of c ≡ rrdi_app) }
+// Returns the name of the command that the words begin with; `None` if the first word is no command's name.
+fn name_of(words: &Words) -> Option<CommandName>
+    ensures { result ≡ first_name words.now }
 {
-    let mut command = bare_command(alloc);
-    for name in &NAMES {
-        command = command.subcommand(name.shape(alloc)?)?;
-    }
-    Ok(command)
+    CommandName::of(words.first()?)
 }
 
-/// The command for words that begin with this one; none where such words are refused.
-pub(crate) fn command_named<'a>(
+// Parses the values that clap found for the command of this name.
+fn read_entered(
     alloc: Global,
-    word: &str,
-) -> Result<Option<clap::Command<'a>>, AllocError>
-    ensures { (rest : List (List ℕ)) → IfOk result (λ o. ServesOrRefuses o (word.now ∷ rest)) }
+    name: CommandName,
+    matches: &ArgMatches<'_>,
+    now: u64,
+) -> Result<Command, LineFault>
+    requires { is_some (subcommand_rows_of matches.now) ≡ true }
+    ensures { IfSome (subcommand_rows_of matches.now) (λ entered. Meets (values_of name entered.1 now) result) }
 {
-    if let Some(name) = CommandName::of(word) {
-        return Ok(Some(command_with(alloc, name.shape(alloc)?)?));
-    }
-    if begins_with_minus(word) {
-        return Ok(Some(rrdi_command(alloc)?));
-    }
-    Ok(None)
-}
-
-// The command of the subcommand that the matches name.
-fn read_entered(alloc: Global, matches: &ArgMatches<'_>, now: u64) -> Result<Command, LineFault>
-    requires { is_some (line_of (subcommand_rows_of matches.now) now) ≡ true }
-    ensures { IfSome (line_of (subcommand_rows_of matches.now) now) (λ read. Meets read result) }
-{
-    let Some((word, inner)) = matches.subcommand() else {
-        unreachable!()
-    };
-    let Some(name) = CommandName::of(word) else {
+    let Some((_word, inner)) = matches.subcommand() else {
         unreachable!()
     };
     name.read(alloc, inner, now)
 }
 
-/// The command that the words are. `now` is the time that `N` and the defaults mean, in seconds
-/// since 1970.
+/// Parses the words of one command: its name and then its arguments.
 ///
-/// Defaults: a step of 300 seconds, a start ten seconds before now but not before 1970 (rrdcreate),
-/// a journal of 16 changes (this project's); a fetch ends now, begins a day before its end but not
-/// before 1970 and asks for a resolution of one second (rrdfetch).
+/// `now` is the time for `N` and for the defaults, in seconds since 1970. Defaults: a step of 300 seconds, a start ten
+/// seconds before `now` but not before 1970 (rrdcreate), a journal of 16 changes (this project's); a fetch ends at `now`,
+/// starts a day before its end but not before 1970, and asks for a resolution of one second (rrdfetch).
 ///
-/// Errors: `Usage` where clap refuses the words, a request for help included. `BadWord` names the
-/// first part that can't be read, in this order: of create step, start, journal, definitions; of
-/// update template, samples; of tune heartbeat, minimum, maximum, type, rename, the archive's definition;
-/// of resize archive, change, rows; of fetch function, resolution, start, end; of first archive. `OutOfMemory` where a
-/// growth was refused.
-pub fn read_command(alloc: Global, words: &Words, now: u64) -> Result<Command, LineFault>
+/// # Errors
+///
+/// - `Usage` if clap refuses the words, also if they ask for help.
+/// - `BadWord` for the first part that cannot be parsed, in this order: of create step, start, journal, definitions; of
+///   update template, samples; of tune heartbeat, minimum, maximum, type, rename, the archive's definition; of resize
+///   archive, change, rows; of fetch function, resolution, start, end; of first archive.
+/// - `OutOfMemory` if memory runs out.
+pub fn read_command(alloc: Global, words: &Words<'_>, now: u64) -> Result<Command, LineFault>
     ensures { IsReading words.now now result }
 {
-    let matches = parse(alloc, words)?;
-    read_entered(alloc, &matches, now)
+    let Some(name) = name_of(words) else {
+        return Err(LineFault::Usage);
+    };
+    let matches = parse(command_with(alloc, name.shape(alloc)?)?, words)?;
+    read_entered(alloc, name, &matches, now)
 }
 
-/// Runs a command over a database.
+/// Runs a command on a database, and writes to `out` what the command prints.
 pub(crate) fn run<W: Write>(
     alloc: Global,
     database: Database,
@@ -175,32 +155,30 @@ pub(crate) fn run<W: Write>(
     match command {
         Command::Create(spec) => create::run(alloc, Some(database), spec),
         Command::Update(samples) => update::run(alloc, database, &samples),
-        Command::Fetch {
-            function,
-            asked,
-            start,
-            stop,
-        } => fetch::run(database, function, asked, start, stop, out),
-        Command::First { index } => first::run(database, index, out),
+        Command::Fetch(request) => fetch::run(database, request, out),
+        Command::First { archive } => first::run(database, archive, out),
         Command::Last => last::run(database, out),
         Command::LastUpdate => lastupdate::run(database, out),
         Command::Info => info::run(database, out),
         Command::Revert => revert::run(database),
         Command::Tune(tuning) => tune::run(alloc, database, &tuning),
         Command::Resize {
-            index,
+            archive,
             change,
             rows,
-        } => resize::run(alloc, database, index, change, rows),
+        } => resize::run(alloc, database, archive, change, rows),
     }
 }
 
-/// Runs a command where there is no database.
+/// Runs a command without a database: only a create is accepted.
 pub(crate) fn run_without(alloc: Global, command: Command) -> Outcome
     ensures { (c : Option (List ℕ)) → Executes None command c c result }
 {
     match command {
         Command::Create(spec) => create::run(alloc, None, spec),
-        _ => Outcome::of_refusal(None, Fault::NoDatabase),
+        _ => Outcome::Refused {
+            database: None,
+            fault: Fault::NoDatabase,
+        },
     }
 }

@@ -1,5 +1,5 @@
 //! Running a command.
-ghost use Rattle.std.specs.Prelude.{◌≡◌, ℕ, List, Option, Some, None, true, false};
+ghost use Rattle.std.specs.Prelude.{◌≡◌, ℕ, List, Option, Some, None};
 ghost use Rattle.rrd_spec.specs.Journal.Survivors.{State};
 ghost use Rattle.rrd_fixed.specs.Written.{Writes};
 ghost use Rattle.rrd_tool.specs.Execution.{Executes, PrintsSome, RunsOn};
@@ -16,53 +16,32 @@ use std::io::Write;
 
 /// What a command came to.
 #[derive(Drop)]
-pub struct Outcome {
-    /// The database after it.
-    pub database: Option<Database>,
-    /// Whether it was done and is one that changes the database.
-    pub changed: bool,
-    /// Why it wasn't done; or `Output`, where it was done and a write of its text failed.
-    pub fault: Option<Fault>,
+pub enum Outcome {
+    /// It is one that prints, and was done: its text was written. The database stays.
+    Printed(Database),
+    /// It was done, and changed the database or made it. It prints nothing.
+    Changed(Database),
+    /// It wasn't done, and the database stays; or `Output`: it was done, and a write of its text failed.
+    Refused {
+        database: Option<Database>,
+        fault: Fault,
+    },
 }
 
 impl Outcome {
-    ghost use Rattle.std.specs.Prelude.{◌≡◌, List, Option, Some, None, false, true, ℕ};
-
-    /// What a refused command comes to.
-    pub(crate) fn of_refusal(database: Option<Database>, fault: Fault) -> Outcome
-        ensures { result ≡ record { database = database; changed = false; fault = Some fault } }
-    {
-        Outcome {
-            database,
-            changed: false,
-            fault: Some(fault),
-        }
-    }
-
-    /// What a command comes to that changed the database.
-    pub(crate) fn of_change(database: Database) -> Outcome
-        ensures { result ≡ record { database = Some database; changed = true; fault = None } }
-    {
-        Outcome {
-            database: Some(database),
-            changed: true,
-            fault: None,
-        }
-    }
+    ghost use Rattle.std.specs.Prelude.{List, Option, ℕ};
 
     /// What a command comes to that prints.
     pub(crate) fn of_text(database: Database, written: Result<(), WriteFault>) -> Outcome
         ensures { (c0 : Option (List ℕ)) → (c1 : Option (List ℕ)) → (text : List ℕ)
             → Writes c0 c1 text written → Prints database c0 c1 text result }
     {
-        let fault = match written {
-            Ok(()) => None,
-            Err(_) => Some(Fault::Output),
-        };
-        Outcome {
-            database: Some(database),
-            changed: false,
-            fault,
+        match written {
+            Ok(()) => Outcome::Printed(database),
+            Err(_) => Outcome::Refused {
+                database: Some(database),
+                fault: Fault::Output,
+            },
         }
     }
 }

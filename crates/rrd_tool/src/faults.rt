@@ -47,7 +47,7 @@ pub enum Part {
     /// The resolution of a fetch: `resolution`.
     Resolution,
     /// The end of a fetch: `end`.
-    Until,
+    End,
 }
 
 impl Part {
@@ -72,7 +72,7 @@ impl Part {
             Part::Rows => "rows",
             Part::Function => "function",
             Part::Resolution => "resolution",
-            Part::Until => "end",
+            Part::End => "end",
         }
     }
 

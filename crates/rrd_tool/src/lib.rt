@@ -9,6 +9,7 @@ mod execution;
 mod faults;
 mod fields;
 mod lines;
+mod refusals;
 mod words;
 
 pub use batch::{BatchEnd, StreamFault, run_batch};

@@ -1,9 +1,10 @@
-//! The lines of an input, byte by byte, and the words of a line.
+//! The lines of an input, and the words of a line.
 ghost use Rattle.std.specs.Prelude.{◌≡◌, ◌≢◌, ◌≤◌, List, ◌++◌, ◌∷◌, [], ℕ, option_map, IfOk, vec_capacity, true, false, IfSome, OnOk, OnErr};
 ghost use Rattle.std.specs.List.{list_all};
-ghost use Rattle.rrd_tool.specs.Lines.{if_some, is_blank, is_empty, is_plain, text_in, without_cr, words_of};
+ghost use Rattle.rrd_tool.specs.Lines.{has_end, if_some, is_empty, is_plain, text_in, without_cr, words_of};
 
 use crate::Words;
+use memchr::memchr2;
 use std::alloc::{AllocError, Global};
 
 /// The most bytes of a line, without its end.
@@ -34,6 +35,50 @@ fn is_plain(byte: u8) -> bool
     byte == b'\t' || (b' ' <= byte && byte <= b'~')
 }
 
+// Whether each byte may stand in a line. Looks at all of them, several at once, since nearly all lines are plain.
+fn all_plain(bytes: &[u8]) -> bool
+    ensures { result ≡ list_all is_plain bytes.now }
+{
+    let mut plain = true;
+    for byte in bytes {
+        plain = plain & is_plain(*byte);
+    }
+    plain
+}
+
+// A text, or none where the bytes are none.
+fn read_text(bytes: &[u8]) -> Option<&[u8]>
+    ensures text { option_map (λ text. text.now) result ≡ text_in bytes.now }
+    ensures plain { IfSome result (λ text. list_all is_plain text.now ≡ true) }
+{
+    if bytes.len() > MOST || !all_plain(bytes) {
+        return None;
+    }
+    Some(bytes)
+}
+
+// A line without one CR at its end.
+fn drop_cr(line: &[u8]) -> &[u8]
+    ensures { result.now ≡ without_cr line.now }
+{
+    let Some(last) = line.len().checked_sub(1) else {
+        return line;
+    };
+    if line[last] == b'\r' {
+        return &line[..last];
+    }
+    line
+}
+
+/// The text of a line that came whole, without one CR at its end. None if it is longer than 65,536 bytes or has a byte
+/// that is neither tab nor printable ASCII.
+pub(crate) fn text_of_line(line: &[u8]) -> Option<&[u8]>
+    ensures text { option_map (λ text. text.now) result ≡ text_in (without_cr line.now) }
+    ensures plain { IfSome result (λ text. list_all is_plain text.now ≡ true) }
+{
+    read_text(drop_cr(line))
+}
+
 impl LineBuffer {
     ghost use Rattle.rrd_tool.specs.Lines.Buffer.{Buffers};
     ghost use Rattle.rrd_tool.specs.declared.lines.Ending.TheVariants.{Plain};
@@ -57,6 +102,16 @@ impl LineBuffer {
             Ending::Lost => {}
             Ending::Cr => self.ending = Ending::Lost,
             Ending::Plain => self.push_behind_plain(byte),
+        }
+    }
+
+    /// Adds bytes other than LF.
+    pub(crate) fn extend(&mut self, bytes: &[u8])
+        requires { has_end bytes.now ≡ false }
+        ensures { (unfinished : List ℕ) → Buffers self.old unfinished → Buffers self.new (unfinished ++ bytes.now) }
+    {
+        for byte in bytes {
+            self.push(*byte);
         }
     }
 
@@ -128,18 +183,11 @@ impl LineBuffer {
     }
 }
 
-// Whether a byte parts words: space or tab.
-fn is_blank(byte: u8) -> bool
-    ensures { result ≡ is_blank byte }
-{
-    byte == b' ' || byte == b'\t'
-}
-
 // Adds a word, if it has a byte.
-fn push_word(words: &mut Words, word: &[u8]) -> Result<(), AllocError>
+fn push_word<'a>(words: &mut Words<'a>, word: &'a [u8]) -> Result<(), AllocError>
     requires { list_all is_plain word.now ≡ true }
-    ensures ok { OnOk result (words.new ≡ words.old ++ if_some word.now) }
-    ensures err { OnErr result (is_empty word.now ≡ false) }
+    ensures ok { OnOk result (words.new ≡ words.old ++ if_some word.entry.now) }
+    ensures err { OnErr result (is_empty word.entry.now ≡ false) }
 {
     if word.is_empty() {
         return Ok(());
@@ -151,18 +199,16 @@ fn push_word(words: &mut Words, word: &[u8]) -> Result<(), AllocError>
 }
 
 /// The words of a text, which spaces and tabs part. A text without words takes no memory.
-pub(crate) fn read_words(alloc: Global, text: &[u8]) -> Result<Words, AllocError>
+pub(crate) fn read_words(alloc: Global, text: &[u8]) -> Result<Words<'_>, AllocError>
     requires { list_all is_plain text.now ≡ true }
     ensures ok { IfOk result (λ words. words ≡ words_of text.now) }
     ensures err { OnErr result (is_empty (words_of text.now) ≡ false) }
 {
     let mut words = Words::new(alloc);
     let mut from = 0;
-    for (at, byte) in text.iter().enumerate() {
-        if is_blank(*byte) {
-            push_word(&mut words, &text[from..at])?;
-            from = at + 1;
-        }
+    while let Some(length) = memchr2(b' ', b'\t', &text[from..]) {
+        push_word(&mut words, &text[from..from + length])?;
+        from += length + 1;
     }
     push_word(&mut words, &text[from..])?;
     Ok(words)

@@ -1,30 +1,28 @@
 //! Words, and lists of them.
 ghost use Rattle.std.specs.Prelude.{◌≡◌, ◌++◌, ◌∷◌, [], length, map, is_ok, if◌then◌else◌, slice_get, option_map};
-ghost use Rattle.std.specs.String.{string_bytes};
 ghost use Rattle.rrd_tool.specs.Arguments.{begins_with_minus};
 
 use std::alloc::{AllocError, Global};
 use std::marker::Model;
 
-/// The words of one command, in the order in which they were pushed. Contracts see them as the
-/// list of their texts.
+/// The words of one command, in the order in which they were pushed, borrowed from the line or the
+/// arguments that they are in. Contracts see them as the list of their texts.
 #[derive(Drop)]
-pub struct Words {
-    items: Vec<String>,
+pub struct Words<'a> {
+    items: Vec<&'a str>,
 }
 
-impl Model for Words {
+impl<'a> Model for Words<'a> {
     ghost use Rattle.std.specs.Prelude.{List, ℕ, map};
-    ghost use Rattle.std.specs.String.{string_bytes};
 
     ghost Value = { List (List ℕ) };
 
-    ghost view = { λ w. map string_bytes w.items.items };
+    ghost view = { λ w. map (λ word. word.now) w.items.items };
 }
 
-impl Words {
-    /// No words. Takes no memory.
-    pub fn new(alloc: Global) -> Words
+impl<'a> Words<'a> {
+    /// Creates an empty list. Does not allocate.
+    pub fn new(alloc: Global) -> Words<'a>
         ensures { result ≡ [] }
     {
         Words {
@@ -32,41 +30,43 @@ impl Words {
         }
     }
 
-    /// Adds a word at the end, or leaves the list as it is where there is no memory.
-    pub fn push(&mut self, text: &str) -> Result<(), AllocError>
-        ensures { self.new ≡ (if is_ok result then self.old ++ text.now ∷ [] else self.old) }
+    /// Adds a word at the end. Allocates only for the list, not for the word.
+    ///
+    /// # Errors
+    /// `AllocError` if memory runs out. On error, the list is unchanged.
+    pub fn push(&mut self, text: &'a str) -> Result<(), AllocError>
+        ensures { self.new ≡ (if is_ok result then self.old ++ text.entry.now ∷ [] else self.old) }
     {
-        let word = String::from_str(*self.items.allocator(), text)?;
-        self.items.push(word)?;
+        self.items.push(text)?;
         Ok(())
     }
 
-    /// How many words there are.
+    /// Returns the number of words.
     pub fn len(&self) -> usize
         ensures { result ≡ length self.now }
     {
         self.items.len()
     }
 
-    /// The first word.
+    /// Returns the first word, or `None` if there are no words.
     pub fn first(&self) -> Option<&str>
         ensures { option_map (λ s. s.now) result ≡ slice_get self.now 0 }
     {
         if self.items.is_empty() {
             return None;
         }
-        Some(self.items[0].as_str())
+        Some(self.items[0])
     }
 
     /// The words as clap takes them.
-    pub(crate) fn as_slice(&self) -> &[String]
-        ensures { map string_bytes result.now ≡ self.now }
+    pub(crate) fn as_slice(&self) -> &[&'a str]
+        ensures { map (λ word. word.now) result.now ≡ self.now }
     {
         self.items.as_slice()
     }
 }
 
-/// Whether a word begins with a minus: it is an option then, and no command and no file.
+/// Checks whether a word begins with a minus, so that it is an option and neither a command nor a file.
 pub fn begins_with_minus(word: &str) -> bool
     ensures { result ≡ begins_with_minus word.now }
 {

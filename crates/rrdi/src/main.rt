@@ -1,8 +1,10 @@
-//! `rrdi`: runs a command, or a batch of them, over a round-robin database in a file.
+//! `rrdi`: runs a command, or a batch of commands, on a round-robin database in a file.
 #![tactic(auto)]
 
+mod causes;
 mod clock;
-mod file;
+mod disk;
+mod settings;
 mod tasks;
 
 use crate::tasks::{batch, fail, file_batch, single};
@@ -12,13 +14,13 @@ use std::env;
 use std::io::ErrorKind;
 use std::process::ExitCode;
 
-/// The words ask for nothing that the program does.
+/// The fault of arguments that name no task of the program.
 const MISUSE: TaskFault = TaskFault::Command(Fault::Line(LineFault::Usage));
 
-/// There is no memory for the words, or for the output.
+/// The fault if memory runs out for the arguments, or for the output.
 const NO_MEMORY: TaskFault = TaskFault::Command(Fault::Line(LineFault::OutOfMemory));
 
-// Does what the program's words ask for, and gives the status. Words that are no text ask for nothing.
+// Runs the task that the program's arguments name, and returns the status. Arguments that are no text name no task.
 fn run(rt: &HostRuntime) -> u8 {
     let words: Vec<String> = match env::args(rt).and_then(|words| Ok(words.collect(rt.alloc())?)) {
         Ok(words) => words,

@@ -1,45 +1,74 @@
-//! The tasks over the program's streams and files. Each gives the program's status.
+//! The tasks on the program's streams and files. Each returns the status of the program.
 use crate::NO_MEMORY;
+use crate::causes::report_cause;
 use crate::clock::seconds_now;
-use crate::file::FileAt;
+use crate::disk::Host;
+use crate::settings::settings;
+use rrd_disk::FileAt;
 use rrd_store::{TaskFault, end_batch, end_file_batch, end_single, run_file_batch, run_single};
 use rrd_tool::{Words, run_batch};
 use std::io::BufWriter;
 
-/// The most bytes of output that are written at once.
+/// The maximum number of bytes of output that one call writes.
 const OUTPUT: usize = 65_536;
 
-/// Ends the program with a fault.
+/// Reports a fault, and returns the status for it.
 pub(crate) fn fail(rt: &HostRuntime, fault: TaskFault) -> u8 {
     end_single(&mut rt.stderr(), Err(fault))
 }
 
-/// Runs the commands on standard input, over no file.
+/// Runs the commands on standard input, in memory.
 pub(crate) fn batch(rt: &HostRuntime) -> u8 {
     let Ok(mut out) = BufWriter::with_capacity(rt.alloc(), OUTPUT, rt.stdout()) else {
         return fail(rt, NO_MEMORY);
     };
-    let end = run_batch(rt.alloc(), None, seconds_now(rt), &mut rt.stdin(), &mut out);
+    let end = run_batch(
+        rt.alloc(),
+        None,
+        seconds_now(rt),
+        0,
+        &mut rt.stdin(),
+        &mut out,
+    );
     end_batch(&mut rt.stderr(), end.refused, end.stream, None)
 }
 
-/// Runs the commands on standard input over the database in a file.
+// Reports why the file could not be opened or written, if `fault` is such a fault.
+fn report(rt: &HostRuntime, file: &FileAt<'_, Host<'_>>, path: &str, fault: Option<TaskFault>) {
+    if let Some(TaskFault::CannotOpen | TaskFault::CannotWrite) = fault {
+        if let Some(error) = file.cause() {
+            report_cause(rt, path, error, settings(rt));
+        }
+    }
+}
+
+/// Runs the commands on standard input on the database in a file.
 pub(crate) fn file_batch(rt: &HostRuntime, path: &str) -> u8 {
     let Ok(mut out) = BufWriter::with_capacity(rt.alloc(), OUTPUT, rt.stdout()) else {
         return fail(rt, NO_MEMORY);
     };
-    let mut file = FileAt::new(rt, path);
+    let disk = Host::new(rt);
+    let mut file = FileAt::new(&disk, path, settings(rt));
     let now = seconds_now(rt);
-    let end = run_file_batch(rt.alloc(), now, &mut file, &mut rt.stdin(), &mut out);
-    end_file_batch(&mut rt.stderr(), end)
+    let end = run_file_batch(rt.alloc(), now, 0, &mut file, &mut rt.stdin(), &mut out);
+    let fault = match &end {
+        Ok(end) => end.unstored,
+        Err(fault) => Some(*fault),
+    };
+    let status = end_file_batch(&mut rt.stderr(), end);
+    report(rt, &file, path, fault);
+    status
 }
 
-/// Runs one command over the database in a file.
-pub(crate) fn single(rt: &HostRuntime, path: &str, words: &Words) -> u8 {
+/// Runs one command on the database in a file.
+pub(crate) fn single(rt: &HostRuntime, path: &str, words: &Words<'_>) -> u8 {
     let Ok(mut out) = BufWriter::with_capacity(rt.alloc(), OUTPUT, rt.stdout()) else {
         return fail(rt, NO_MEMORY);
     };
-    let mut file = FileAt::new(rt, path);
+    let disk = Host::new(rt);
+    let mut file = FileAt::new(&disk, path, settings(rt));
     let end = run_single(rt.alloc(), words, seconds_now(rt), &mut file, &mut out);
-    end_single(&mut rt.stderr(), end)
+    let status = end_single(&mut rt.stderr(), end);
+    report(rt, &file, path, end.err());
+    status
 }

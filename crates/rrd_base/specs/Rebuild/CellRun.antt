@@ -1,11 +1,11 @@
--- Glue: cells that come at once.
+-- Glue: runs of consecutive cells.
 use Rattle.std.specs.Prelude.{List, replicate}
 use Rattle.rrd_fixed.specs.declared.cell.Cell.{Cell}
 use Rattle.rrd_fixed.specs.declared.cell.Cell.TheVariants.{Unknown}
 use Rattle.rrd_base.specs.declared.cell_run.CellRun.{CellRun}
 use Rattle.rrd_base.specs.declared.cell_run.CellRun.TheVariants as run
 
--- one after another
+-- the cells of a run, one after another
 abbrev pub run_cells : CellRun → List Cell
 run_cells (run.Given cells) = cells.now
 run_cells (run.Unknown count) = replicate count Unknown

@@ -1,6 +1,6 @@
--- Glue: outlines that a test of an entry can work with; and a tune's names.
-use Rattle.std.specs.Prelude.{◌≡◌, ◌<◌, ◌≤◌, List, length, slice_set, sum}
-use Rattle.std.specs.List.{AllByRecursion, fold}
+-- Glue: the outlines on which a check of an entry works; and the names of a tune.
+use Rattle.std.specs.Prelude.{◌≡◌, ◌<◌, ◌≤◌, List, length, sum}
+use Rattle.std.specs.List.{AllByRecursion}
 use Rattle.rrd_fixed.specs.declared.name.Name.{Name}
 use Rattle.rrd_spec.specs.declared.entry.SourceBefore.{SourceBefore}
 use Rattle.rrd_spec.specs.declared.outline.Outline.{Outline}
@@ -12,8 +12,10 @@ use Rattle.rrd_spec.specs.Journal.Fitting.{IsArchiveDef, IsRemovedNumber}
 use Rattle.rrd_spec.specs.Journal.Outlines.{outline_of, rows_of}
 use Rattle.rrd_spec.specs.Validity.{IsValidWithin}
 use Rattle.rrd_base.specs.Rebuild.Judges.{Judge}
+use Rattle.rrd_base.specs.Tune.{with_kept}
 
--- an outline whose numbers of rows and steps can be worked with: that of a valid content, and of one that is begun
+-- an outline whose numbers of rows and steps are within the limits: that of a valid content, or of one that is partly
+-- read
 pub record IsOutline (outline : Outline) : Type 0 where
   pub few_sources : length outline.sources ≤ present.most_sources
   pub archives_are : AllByRecursion (IsArchiveDef present) outline.archives
@@ -24,13 +26,13 @@ pub record IsJudge (j : Judge) : Type 0 where
   pub small_step : j.step ≤ present.longest_step
   pub outline_is : IsOutline j.outline
 
--- that of a content which is valid within the limits of a version
+-- the outline of a content that is valid within the limits of a version
 pub record IsValidOutline (version : Version) (outline : Outline) : Type 0 where
   pub content : Content
   pub valid : IsValidWithin (limits_of version) content
   pub outline_is : outline ≡ outline_of content
 
--- there is a place for a removed archive
+-- there is room for a removed archive
 abbrev pub HasPlace : Outline → Entry → Type 0
 HasPlace now (UpdateEntry old) = Unit {0}
 HasPlace now (TuneEntry olds) = Unit {0}
@@ -38,6 +40,6 @@ HasPlace now (ResizeEntry archive rows) = Unit {0}
 HasPlace now AddedEntry = Unit {0}
 HasPlace now (RemovedEntry number archive) = IsRemovedNumber present now number
 
--- the names with those of the sources that a tune's entry puts back
+-- the names after the data sources of a tune's entry are restored
 abbrev pub with_names : List Name → List SourceBefore → List Name
-with_names names olds = fold (λ ns (old : SourceBefore). slice_set ns old.number old.source.name) names olds
+with_names names olds = with_kept (λ (old : SourceBefore). old.source.name) names olds

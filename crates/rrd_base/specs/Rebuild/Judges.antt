@@ -1,4 +1,4 @@
--- Definition: what judges an entry of a journal.
+-- Definition: the judge of an entry of a journal.
 use Rattle.std.specs.Prelude.{ℕ}
 use Rattle.rrd_spec.specs.declared.outline.Outline.{Outline}
 use Rattle.rrd_spec.specs.declared.version.Version.{Version}
@@ -11,6 +11,6 @@ pub record Judge : Type 0 where
   pub step : ℕ
   pub outline : Outline
 
--- those of a file, of which so much came
+-- the judge after some records of a file were read
 abbrev pub judge : Filed → Judge
 judge f = record { version = f.header.version; step = f.header.step; outline = outline_left f }

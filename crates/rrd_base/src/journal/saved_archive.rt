@@ -1,4 +1,4 @@
-//! What the journal keeps of an archive.
+//! The part of a journal entry that restores an archive.
 ghost use Rattle.std.specs.Prelude.{◌≡◌};
 ghost use Rattle.rrd_spec.specs.Preparations.{AllOf, parts_in};
 
@@ -6,8 +6,9 @@ use rrd_fold::{Function, RowPrep};
 use rrd_ring::Dropped;
 use std::marker::Model;
 
-/// What is kept of an archive before an update: for each data source the preparation of its
-/// unfinished row, and the oldest rows, as many as the update finishes or all.
+/// The values of an archive that an update replaced.
+///
+/// They are the partial row of each data source, and the oldest rows: as many as the update finishes, at most all.
 #[derive(Drop)]
 pub struct SavedArchive {
     pub(crate) function: Function,
@@ -27,7 +28,7 @@ impl Model for SavedArchive {
 }
 
 impl SavedArchive {
-    /// What is kept of an archive of this function. The preparations are of that function.
+    /// Creates the saved values of an archive with this function. The partial rows have the same function.
     pub fn new(function: Function, preps: Vec<RowPrep>, rows: Dropped) -> SavedArchive
         requires { AllOf function preps.items }
         ensures { result ≡ record { function = function; parts = parts_in preps.items; rows = rows } }
@@ -39,14 +40,14 @@ impl SavedArchive {
         }
     }
 
-    /// The archive's consolidation function.
+    /// Returns the consolidation function of the archive.
     pub fn function(&self) -> Function
         ensures { result ≡ self.now.function }
     {
         self.function
     }
 
-    /// For each data source the preparation of its unfinished row.
+    /// Returns the partial row of each data source.
     pub fn preps(&self) -> &[RowPrep]
         ensures parts { parts_in result.now ≡ self.now.parts }
         ensures function { AllOf self.now.function result.now }
@@ -54,7 +55,7 @@ impl SavedArchive {
         self.preps.as_slice()
     }
 
-    /// The rows, oldest first.
+    /// Returns the rows, oldest first.
     pub fn rows(&self) -> &Dropped
         ensures { result.now ≡ self.now.rows }
     {

@@ -1,27 +1,27 @@
-//! Where the next cell of a file goes.
+//! The position of the next cell of a file.
 ghost use Rattle.std.specs.Prelude.{◌≡◌, ◌+◌, ◌%◌, ◌<◌, ◌≤◌};
 ghost use Rattle.rrd_base.specs.Rebuild.Cursors.{Advances, KnowsPlace, Passes};
 ghost use Rattle.rrd_spec.specs.Limits.{present};
 ghost use Rattle.rrd_spec.specs.Files.Rebuilding.{IsArchiveDef};
 ghost use Rattle.rrd_spec.specs.Settings.{resolution};
-ghost use Rattle.rrd_spec.specs.Files.Slots.{place_in};
+ghost use Rattle.rrd_spec.specs.Files.Places.{place_in};
 
 use crate::RraDef;
 use rrd_spec::first_place;
 
-/// The next cell's archive, the slot of its row in a file, that row's place, 0 the oldest, and its
-/// source.
+/// The position of the next cell: its archive, the slot of its row in a file, the index of the row (0 is the oldest),
+/// and its data source.
 #[derive(Clone, Copy, Debug)]
 pub(crate) struct Cursor {
     pub(crate) archive: usize,
     pub(crate) slot: u64,
-    // It is worked out at an archive's first cell, and then goes on with the slots: no cell takes a
+    // The index is computed at the first cell of an archive, and then rises with the slots: so no other cell needs a
     // division.
     pub(crate) place: u64,
     pub(crate) source: usize,
 }
 
-// The place so many after a place, among so many rows: the first one follows the last.
+// Returns the index `count` rows after `place`, among `rows` rows: the first row follows the last.
 fn later_place(place: u64, count: u64, rows: u64) -> u64
     requires there { place < rows }
     requires at_most_once { count ≤ rows }
@@ -33,7 +33,7 @@ fn later_place(place: u64, count: u64, rows: u64) -> u64
 }
 
 impl Cursor {
-    /// At the first cell of the first archive.
+    /// Creates a cursor at the first cell of the first archive.
     pub(super) fn new() -> Cursor
         ensures { result ≡ record { archive = 0; slot = 0; place = 0; source = 0 } }
     {
@@ -45,8 +45,7 @@ impl Cursor {
         }
     }
 
-    /// The place of its row in an archive of these settings, with steps of so many seconds and a last
-    /// time.
+    /// Returns the index of the row in an archive with these settings, for steps of `step` seconds and a last time.
     pub(super) fn place(&self, def: &RraDef, step: u64, last: u64) -> u64
         requires def_is { IsArchiveDef present def.now }
         requires some_step { 0 < step }
@@ -61,8 +60,8 @@ impl Cursor {
         self.place
     }
 
-    /// Goes on from a cell in the row of this place to the next: of the next source, or slot, or
-    /// archive. There are so many sources, and the archive has so many rows.
+    /// Advances from a cell in the row at index `place` to the next cell: of the next data source, slot or archive.
+    /// There are `sources` data sources, and the archive has `rows` rows.
     pub(super) fn advance(&mut self, place: u64, sources: usize, rows: u64)
         requires archive_there { self.old.archive < present.most_archives }
         requires slot_there { self.old.slot < rows }
@@ -85,8 +84,8 @@ impl Cursor {
         }
     }
 
-    /// Goes on from the first cell of the row of this place by so many rows, to the next one or to the
-    /// next archive. This one has so many rows.
+    /// Advances from the first cell of the row at index `place` by `count` rows, within the archive or to the next one.
+    /// The archive has `rows` rows.
     pub(super) fn pass(&mut self, place: u64, count: u64, rows: u64)
         requires archive_there { self.old.archive < present.most_archives }
         requires rows_there { self.old.slot + count ≤ rows }

@@ -1,7 +1,6 @@
-//! Whether a whole journal entry fits an outline: each of its pieces by the rule that `Judge` has of it.
+//! The checks of a complete journal entry against an outline: each record by its rule in `Judge`.
 ghost use Rattle.std.specs.Prelude.{◌≡◌, ◌%◌, ◌/◌, List, ◌<◌, ◌≤◌, length, true};
 ghost use Rattle.std.specs.List.{AllByRecursion};
-ghost use Rattle.rrd_base.specs.Rebuild.EntryChecks.{with_names};
 ghost use Rattle.rrd_base.specs.Journal.{entry_of, update_of};
 ghost use Rattle.rrd_fold.specs.declared.function.Function.TheVariants.{Average};
 ghost use Rattle.rrd_spec.specs.Preparations.{parts_in};
@@ -14,7 +13,7 @@ ghost use Rattle.rrd_spec.specs.Validity.{AreParts, IsPart, IsRow, Rise};
 
 use super::judge::Judge;
 use super::piece_checks::are_bounded;
-use crate::journal::{BeforeUpdate, Entry, SavedArchive};
+use crate::journal::{BeforeUpdate, Entry, SavedArchive, put_back};
 use crate::named::has_double_name;
 use crate::rra::Rra;
 use crate::{DsDef, RraDef, SourceBefore};
@@ -27,7 +26,7 @@ use rrd_spec::limits::MOST_SOURCES;
 
 // ---- rows
 
-// Whether a row has a cell for each of so many sources, none past the greatest rate.
+// Returns whether a row has one cell for each data source, none larger in size than the maximum rate.
 fn is_row(cells: &[Cell], sources: usize) -> bool
     ensures good { result ≡ true → IsRow sources cells.now }
     ensures bad { IsRow sources cells.now → result ≡ true }
@@ -35,7 +34,7 @@ fn is_row(cells: &[Cell], sources: usize) -> bool
     cells.len() == sources && are_bounded(cells)
 }
 
-// Whether all are such rows.
+// Returns whether all rows have one cell for each data source, none larger in size than the maximum rate.
 fn are_rows<T: Table>(rows: &T, sources: usize) -> bool
     ensures good { result ≡ true → AllByRecursion (IsRow sources) (T.table rows.now) }
     ensures bad { AllByRecursion (IsRow sources) (T.table rows.now) → result ≡ true }
@@ -48,9 +47,9 @@ fn are_rows<T: Table>(rows: &T, sources: usize) -> bool
     true
 }
 
-// ---- an update
+// ---- entries of updates
 
-// Whether these can each be the preparation of a source's unfinished step at a time.
+// Returns whether these can be the partial steps of data sources at `last`.
 fn are_step_parts(judge: &Judge, last: u64, preps: &[StepPrep]) -> bool
     ensures good { result ≡ true → AllByRecursion (IsPart Average (last % judge.now.step)) preps.now }
     ensures bad { AllByRecursion (IsPart Average (last % judge.now.step)) preps.now → result ≡ true }
@@ -63,7 +62,7 @@ fn are_step_parts(judge: &Judge, last: u64, preps: &[StepPrep]) -> bool
     true
 }
 
-// The same of an unfinished row of an archive of these settings.
+// Returns whether these can be partial rows at `last` in an archive with these settings.
 fn are_row_parts(judge: &Judge, last: u64, def: &RraDef, preps: &[RowPrep]) -> bool
     requires { IsArchiveDef present def.now }
     ensures good { result ≡ true
@@ -79,7 +78,7 @@ fn are_row_parts(judge: &Judge, last: u64, def: &RraDef, preps: &[RowPrep]) -> b
     true
 }
 
-// Whether these are the preparations of an unfinished row, one for each source.
+// Returns whether these can be the partial rows at `last` in an archive with these settings, one for each data source.
 fn are_preps(judge: &Judge, last: u64, def: &RraDef, preps: &[RowPrep]) -> bool
     requires { IsArchiveDef present def.now }
     ensures good { result ≡ true → AreParts def.now.function (length judge.now.outline.sources)
@@ -90,7 +89,7 @@ fn are_preps(judge: &Judge, last: u64, def: &RraDef, preps: &[RowPrep]) -> bool
     preps.len() == judge.outline().sources.len() && are_row_parts(judge, last, def, preps)
 }
 
-// Whether an update that began at a time may have saved that of an archive of these settings.
+// Returns whether an update from `from` may have saved these values of an archive with these settings.
 fn may_save(judge: &Judge, from: u64, def: &RraDef, old: &SavedArchive) -> bool
     requires { IsArchiveDef present def.now }
     ensures good { result ≡ true → MaySave judge.now.step from judge.now.outline.last
@@ -104,7 +103,7 @@ fn may_save(judge: &Judge, from: u64, def: &RraDef, old: &SavedArchive) -> bool
         && are_rows(old.rows(), judge.outline().sources.len())
 }
 
-// Whether it may have saved that of each archive.
+// Returns whether an update from `from` may have saved these values of each archive.
 fn may_save_each(judge: &Judge, from: u64, olds: &[SavedArchive]) -> bool
     ensures good { result ≡ true → MaySaveEach judge.now.step from judge.now.outline.last
         (length judge.now.outline.sources) judge.now.outline.archives olds.now }
@@ -123,7 +122,7 @@ fn may_save_each(judge: &Judge, from: u64, olds: &[SavedArchive]) -> bool
     true
 }
 
-// Whether an update may have left this outline.
+// Returns whether an update may have left this outline.
 fn may_update(judge: &Judge, old: &BeforeUpdate) -> bool
     ensures good { result ≡ true → MayUpdate judge.now.step judge.now.outline (update_of old.now) }
     ensures bad { MayUpdate judge.now.step judge.now.outline (update_of old.now) → result ≡ true }
@@ -136,9 +135,9 @@ fn may_update(judge: &Judge, old: &BeforeUpdate) -> bool
         && may_save_each(judge, old.last, &old.archives)
 }
 
-// ---- a tune
+// ---- entries of tunes
 
-// Whether these are good sources by rising number.
+// Returns whether these are valid data sources by rising number.
 fn are_named(judge: &Judge, olds: &[SourceBefore]) -> bool
     ensures rise { result ≡ true → Rise 0 (length judge.now.outline.sources) olds.now }
     ensures each { result ≡ true → AllByRecursion (IsSourceBefore (limits_of judge.now.version)) olds.now }
@@ -155,7 +154,7 @@ fn are_named(judge: &Judge, olds: &[SourceBefore]) -> bool
     true
 }
 
-// The names of the sources. It takes no memory.
+// Copies the names of data sources. Does not allocate.
 fn names_of(sources: &[DsDef]) -> ArrayVec<Name, MOST_SOURCES>
     requires { length sources.now ≤ present.most_sources }
     ensures { result.items ≡ names sources.now }
@@ -167,29 +166,17 @@ fn names_of(sources: &[DsDef]) -> ArrayVec<Name, MOST_SOURCES>
     all
 }
 
-// Puts the names of a tune's entry in their places.
-fn put_names(names: &mut [Name], olds: &[SourceBefore])
-    ensures { names.new ≡ with_names names.old olds.now }
-{
-    for old in olds {
-        let number = old.number as usize;
-        if number < names.len() {
-            names[number] = old.source.name.duplicate();
-        }
-    }
-}
-
-// The names of the sources with those of a tune's entry.
+// Returns the names of data sources after a tune's entry is undone.
 fn names_with(sources: &[DsDef], olds: &[SourceBefore]) -> ArrayVec<Name, MOST_SOURCES>
     requires { length sources.now ≤ present.most_sources }
     ensures { result.items ≡ names (with_sources sources.now olds.now) }
 {
     let mut all = names_of(sources);
-    put_names(&mut all, olds);
+    put_back(&mut all, olds);
     all
 }
 
-// Whether a tune may have left this outline.
+// Returns whether a tune may have left this outline.
 fn may_tune(judge: &Judge, olds: &[SourceBefore]) -> bool
     ensures good { result ≡ true → MayTune (limits_of judge.now.version) judge.now.outline olds.now }
     ensures bad { MayTune (limits_of judge.now.version) judge.now.outline olds.now → result ≡ true }
@@ -200,9 +187,9 @@ fn may_tune(judge: &Judge, olds: &[SourceBefore]) -> bool
     !has_double_name(names_with(judge.outline().sources.as_slice(), olds).as_slice())
 }
 
-// ---- a resize
+// ---- entries of resizes
 
-// Whether a resize may have left this outline.
+// Returns whether a resize may have left this outline.
 fn may_resize(judge: &Judge, archive: u64, old: &Archive) -> bool
     ensures good { result ≡ true → MayResize (limits_of judge.now.version) judge.now.outline archive old.now }
     ensures bad { MayResize (limits_of judge.now.version) judge.now.outline archive old.now → result ≡ true }
@@ -212,9 +199,10 @@ fn may_resize(judge: &Judge, archive: u64, old: &Archive) -> bool
         && are_rows(old, judge.outline().sources.len())
 }
 
-// ---- an archive that was added or removed
+// ---- entries of archives that were added or removed
 
-// Whether archives may have come and gone, and one has been added to others.
+// Returns whether an addition may have left this outline: the version has such entries, and there are two archives or
+// more.
 fn may_add(judge: &Judge) -> bool
     ensures good { result ≡ true → MayUndo (limits_of judge.now.version) 0 judge.now.outline AddedEntry }
     ensures bad { MayUndo (limits_of judge.now.version) 0 judge.now.outline AddedEntry → result ≡ true }
@@ -222,7 +210,7 @@ fn may_add(judge: &Judge) -> bool
     judge.archives_come_and_go() && judge.outline().archives.len() > 1
 }
 
-// Whether a removal may have left this outline.
+// Returns whether a removal may have left this outline.
 fn may_remove(judge: &Judge, number: u64, old: &Rra) -> bool
     ensures good { result ≡ true
         → MayRemove (limits_of judge.now.version) judge.now.step judge.now.outline number old.now }
@@ -231,14 +219,14 @@ fn may_remove(judge: &Judge, number: u64, old: &Rra) -> bool
 {
     let def = old.def();
     judge.had_number(number)
-        && judge.had_settings(&def)
+        && judge.may_have(&def)
         && are_preps(judge, judge.outline().last, &def, old.preps())
         && old.rows() == def.rows
         && are_rows(old.archive(), judge.outline().sources.len())
 }
 
 impl Judge {
-    /// Whether an entry fits the outline.
+    /// Returns whether an entry fits the outline.
     pub(super) fn may_undo(&self, entry: &Entry) -> bool
         ensures good { result ≡ true
             → MayUndo (limits_of self.now.version) self.now.step self.now.outline (entry_of entry.now) }

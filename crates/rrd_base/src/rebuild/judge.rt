@@ -1,6 +1,7 @@
-//! What judges journal entries while a file is read.
+//! The checks of journal entries while a file is read.
 //!
-//! Each rule of an entry stands here once: a reader asks it of each piece, and `may_undo` of an entry that is whole.
+//! Each rule of an entry is here once: a reader checks each record of an entry by it, and `may_undo` checks the
+//! complete entry.
 ghost use Rattle.std.specs.Prelude.{◌≡◌, ◌++◌, ◌∷◌, [], ◌%◌, ◌<◌, ◌≤◌, IfOk, IfSome, None, OnErr, OnOk, Some, length, min, slice_get, true};
 ghost use Rattle.rrd_base.specs.Journal.{entry_of};
 ghost use Rattle.rrd_base.specs.Rebuild.EntryChecks.{HasPlace, IsOutline};
@@ -25,8 +26,10 @@ use rrd_spec::limits::MOST_TUNED;
 use std::alloc::{AllocError, Global};
 use std::marker::Model;
 
-/// What judges the next entry of a journal, newest first: the version whose limits hold, the seconds in a
-/// step, and the outline that is left once all newer entries are undone.
+/// The checks of the next entry of a journal, newest first.
+///
+/// A value has the version whose limits hold, the seconds in a step, and the outline that is left after all newer
+/// entries are undone.
 #[derive(Drop)]
 pub struct Judge {
     version: Version,
@@ -46,7 +49,7 @@ impl Model for Judge {
 }
 
 impl Judge {
-    /// Begins with the last time, in seconds since 1970, and no settings.
+    /// Creates a judge with the last time, in seconds since 1970, and no settings.
     pub(super) fn new(
         alloc: Global,
         version: Version,
@@ -72,7 +75,7 @@ impl Judge {
         })
     }
 
-    /// Takes the settings of one data source more, or leaves all as it is.
+    /// Adds the settings of one more data source. On error, the judge is unchanged.
     pub(super) fn push_source(&mut self, def: DsDef) -> Result<(), AllocError>
         requires { length self.old.outline.sources < present.most_sources }
         ensures ok { OnOk result (self.new ≡ record self.old {
@@ -83,7 +86,7 @@ impl Judge {
         self.outline.sources.push(def)
     }
 
-    /// Takes the settings of one archive more. It takes no memory.
+    /// Adds the settings of one more archive. Does not allocate.
     pub(super) fn push_archive(&mut self, def: RraDef)
         requires few { length self.old.outline.archives < present.most_archives }
         requires good { IsOutline (record self.old.outline { archives = self.old.outline.archives ++ def ∷ [] }) }
@@ -94,7 +97,7 @@ impl Judge {
         self.outline.archives.push(def);
     }
 
-    /// Undoes an entry: the next one is judged by what it found. It takes no memory.
+    /// Undoes an entry in the outline, by which the next entry is checked. Does not allocate.
     pub(super) fn undo(&mut self, entry: &Entry)
         requires place { HasPlace self.old.outline (entry_of entry.now) }
         requires good { IsOutline (outline_undone self.old.outline (entry_of entry.now)) }
@@ -103,15 +106,15 @@ impl Judge {
         undo(&mut self.outline, entry);
     }
 
-    /// The outline.
-    pub fn outline(&self) -> &Outline
+    /// Returns the outline.
+    pub(super) fn outline(&self) -> &Outline
         ensures value { result.now ≡ self.now.outline }
         ensures few_sources { length result.now.sources ≤ present.most_sources }
     {
         &self.outline
     }
 
-    /// The settings of an archive.
+    /// Returns the settings of an archive.
     pub fn archive(&self, archive: usize) -> &RraDef
         requires { archive < length self.now.outline.archives }
         ensures value { slice_get self.now.outline.archives archive ≡ Some result.now }
@@ -120,9 +123,11 @@ impl Judge {
         self.outline.archives.get(archive)
     }
 
-    // ---- an update
+    // ---- entries of updates
 
-    /// Whether an update can have begun at a time, in seconds since 1970: before the last time.
+    /// Returns whether an update can have started at `last`, in seconds since 1970.
+    ///
+    /// An update starts before the last time of the outline.
     pub fn is_earlier(&self, last: u64) -> bool
         ensures good { result ≡ true → last < self.now.outline.last }
         ensures bad { last < self.now.outline.last → result ≡ true }
@@ -130,8 +135,8 @@ impl Judge {
         last < self.outline.last
     }
 
-    /// Whether so many known seconds and their sum in millionths can be the preparation of a data source's
-    /// unfinished step at a time, in seconds since 1970.
+    /// Returns whether these values can be a data source's partial step at `last`, in seconds since 1970. `known` is
+    /// the number of known seconds, and `sum` the sum of their rates in millionths.
     pub(super) fn is_step_part(&self, last: u64, known: u64, sum: i128) -> bool
         ensures few { result ≡ true → known ≤ present.longest_step }
         ensures good { result ≡ true → IsPart Average (last % self.now.step) (record { known = known; value = sum }) }
@@ -140,7 +145,10 @@ impl Judge {
         is_part(Function::Average, last % self.step, known, sum)
     }
 
-    /// That preparation. None where no preparation can be this.
+    /// Returns the partial step with these values at `last`, in seconds since 1970.
+    ///
+    /// `known` is the number of known seconds, and `sum` the sum of their rates in millionths. Returns `None` if no
+    /// partial step can have these values.
     pub fn step_part(&self, last: u64, known: u64, sum: i128) -> Option<StepPrep>
         ensures some { IfSome result (λ prep. IsPart Average (last % self.now.step) prep
             × (prep ≡ record { known = known; value = sum })) }
@@ -153,8 +161,9 @@ impl Judge {
         Some(StepPrep::from_part(known, sum))
     }
 
-    /// Whether so many known steps and what they come to can be the preparation of an unfinished row of an
-    /// archive of these settings at a time, in seconds since 1970.
+    /// Returns whether these values can be a partial row at `last`, in seconds since 1970, in an archive with these
+    /// settings. `known` is the number of known steps, and `value` their sum, minimum, maximum or last value in
+    /// millionths.
     pub(super) fn is_row_part(&self, last: u64, def: &RraDef, known: u64, value: i128) -> bool
         requires some_steps { 0 < def.now.steps }
         requires few_steps { def.now.steps ≤ present.most_steps }
@@ -166,7 +175,10 @@ impl Judge {
         is_part(def.function, last / self.step % def.steps, known, value)
     }
 
-    /// That preparation. None where no preparation can be this.
+    /// Returns the partial row with these values at `last`, in an archive with these settings.
+    ///
+    /// `last` is in seconds since 1970, `known` is the number of known steps, and `value` their sum, minimum, maximum
+    /// or last value in millionths. Returns `None` if no partial row can have these values.
     pub fn row_part(&self, last: u64, def: &RraDef, known: u64, value: i128) -> Option<RowPrep>
         requires some_steps { 0 < def.now.steps }
         requires few_steps { def.now.steps ≤ present.most_steps }
@@ -181,8 +193,9 @@ impl Judge {
         Some(RowPrep::from_part(def.function, known, value))
     }
 
-    /// How many rows of an archive of these settings an update replaced that began at a time, in seconds
-    /// since 1970: at most all.
+    /// Returns how many rows of an archive an update from `last` replaced: at most all.
+    ///
+    /// `last` is in seconds since 1970.
     pub fn rows_replaced(&self, last: u64, def: &RraDef) -> u64
         requires some_steps { 0 < def.now.steps }
         requires few_steps { def.now.steps ≤ present.most_steps }
@@ -191,9 +204,9 @@ impl Judge {
         rows_between(def, self.step, last, self.outline.last).min(def.rows)
     }
 
-    // ---- a tune
+    // ---- entries of tunes
 
-    /// Whether a tune can have named so many data sources: 1 to 5.
+    /// Returns whether a tune can have named `count` data sources: 1 to 5.
     pub fn can_name(count: u64) -> bool
         ensures good { result ≡ true → (0 < count) × (count ≤ most_tuned) }
         ensures bad { (0 < count) × (count ≤ most_tuned) → result ≡ true }
@@ -201,7 +214,9 @@ impl Judge {
         0 < count && count <= MOST_TUNED as u64
     }
 
-    /// Whether a data source that a tune named can have been this, from the lowest number that it may have.
+    /// Returns whether a tune can have named this data source.
+    ///
+    /// The number of the data source must be at least `lowest`.
     pub fn is_named(&self, lowest: u64, old: &SourceBefore) -> bool
         ensures few { result ≡ true → old.now.number < present.most_sources }
         ensures good { result ≡ true → (lowest ≤ old.now.number) × (old.now.number < length self.now.outline.sources)
@@ -215,9 +230,9 @@ impl Judge {
             && old.source.kind.accepts(old.raw)
     }
 
-    // ---- a resize
+    // ---- entries of resizes
 
-    /// Whether there is an archive of this number.
+    /// Returns whether there is an archive with this number.
     pub fn has_archive(&self, number: u64) -> bool
         ensures good { result ≡ true → number < length self.now.outline.archives }
         ensures bad { number < length self.now.outline.archives → result ≡ true }
@@ -225,7 +240,7 @@ impl Judge {
         number < self.outline.archives.len() as u64
     }
 
-    /// Whether an archive can have had so many rows before it was resized.
+    /// Returns whether an archive can have had `rows` rows before a resize.
     pub fn had_rows(&self, archive: usize, rows: u64) -> bool
         requires { archive < length self.now.outline.archives }
         ensures good { result ≡ true → AreOldRows (limits_of self.now.version) self.now.outline archive rows }
@@ -240,16 +255,18 @@ impl Judge {
         !has_too_many_cells(self.version.most_cells(), self.outline.sources.len(), all)
     }
 
-    // ---- an archive that was added or removed
+    // ---- entries of archives that were added or removed
 
-    /// Whether archives come and go in this version.
+    /// Returns whether the version has entries for added and removed archives.
     pub fn archives_come_and_go(&self) -> bool
         ensures { result ≡ archives_come_and_go_of self.now.version }
     {
         self.version.archives_come_and_go()
     }
 
-    /// Whether a removed archive can have had this number: there is a place for it.
+    /// Returns whether a removed archive can have had this number.
+    ///
+    /// There must be room for one more archive.
     pub fn had_number(&self, number: u64) -> bool
         ensures good { result ≡ true → IsRemovedNumber (limits_of self.now.version) self.now.outline number }
         ensures bad { IsRemovedNumber (limits_of self.now.version) self.now.outline number → result ≡ true }
@@ -258,8 +275,10 @@ impl Judge {
         number <= archives as u64 && archives < self.version.most_archives()
     }
 
-    /// Whether a removed archive can have had these settings.
-    pub fn had_settings(&self, def: &RraDef) -> bool
+    /// Returns whether an archive of these settings may be added to those of the outline.
+    ///
+    /// Each setting must be within its range, and all cells must be few enough.
+    pub fn may_have(&self, def: &RraDef) -> bool
         ensures good { result ≡ true → AreRemovedSettings (limits_of self.now.version) self.now.outline def.now }
         ensures bad { AreRemovedSettings (limits_of self.now.version) self.now.outline def.now → result ≡ true }
     {

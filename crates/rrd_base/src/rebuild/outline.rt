@@ -1,24 +1,13 @@
-//! Entries undone in an outline.
+//! How entries are undone in an outline.
 ghost use Rattle.std.specs.Prelude.{◌≡◌};
 ghost use Rattle.rrd_base.specs.Journal.{entry_of};
 ghost use Rattle.rrd_base.specs.Rebuild.EntryChecks.{HasPlace};
-ghost use Rattle.rrd_spec.specs.Journal.Outlines.{outline_undone, with_row_number, with_sources};
+ghost use Rattle.rrd_spec.specs.Journal.Outlines.{outline_undone, with_row_number};
 
-use crate::journal::Entry;
-use crate::{ArchiveList, DsDef, List, Outline, RraDef, SourceBefore};
+use crate::journal::{Entry, put_back};
+use crate::{ArchiveList, Outline, RraDef};
 
-// Puts the sources of a tune's entry back.
-fn put_sources(sources: &mut List<DsDef>, olds: &[SourceBefore])
-    ensures { sources.new ≡ with_sources sources.old olds.now }
-{
-    for old in olds {
-        if old.number < sources.len() as u64 {
-            sources.set(old.number as usize, old.source.duplicate());
-        }
-    }
-}
-
-// Gives an archive its number of rows back.
+// Restores the number of rows of an archive.
 fn put_row_number(archives: &mut ArchiveList<RraDef>, archive: u64, rows: u64)
     ensures { archives.new ≡ with_row_number archives.old archive rows }
 {
@@ -27,14 +16,14 @@ fn put_row_number(archives: &mut ArchiveList<RraDef>, archive: u64, rows: u64)
     }
 }
 
-/// Leaves the outline that an entry's change found. It takes no memory.
+/// Changes the outline to that before the change of an entry. Does not allocate.
 pub(super) fn undo(outline: &mut Outline, entry: &Entry)
     requires { HasPlace outline.old (entry_of entry.now) }
     ensures { outline.new ≡ outline_undone outline.old (entry_of entry.now) }
 {
     match entry {
         Entry::Update(old) => outline.last = old.last,
-        Entry::Tune(olds) => put_sources(&mut outline.sources, olds.as_slice()),
+        Entry::Tune(olds) => put_back(outline.sources.as_mut_slice(), olds.as_slice()),
         Entry::Resize { archive, old } => {
             put_row_number(&mut outline.archives, *archive, old.rows());
         }

@@ -1,5 +1,5 @@
-//! Tests of what a file's pieces say.
-ghost use Rattle.std.specs.Prelude.{◌≡◌, ◌≤◌, length, take, true};
+//! Checks of the values in a file's records.
+ghost use Rattle.std.specs.Prelude.{◌≡◌, ◌≤◌, true};
 ghost use Rattle.std.specs.List.{AllByRecursion};
 ghost use Rattle.rrd_fixed.specs.Rate.{IsBounded};
 ghost use Rattle.rrd_fold.specs.Bounds.{weight};
@@ -13,11 +13,11 @@ use rrd_fixed::Cell;
 use rrd_fold::Function;
 use rrd_spec::limits::GREATEST_BOUND;
 
-// The greatest rate, in millionths, as a number with a sign: comparing with both ends is quicker than taking
-// the size first.
+// The maximum rate, in millionths, as a signed number: comparing a value with both bounds is faster than computing its
+// size first.
 const GREATEST: i128 = GREATEST_BOUND as i128;
 
-/// Whether a source's settings are good.
+/// Returns whether the settings of a data source are valid.
 pub(super) fn is_source(source: &DsDef) -> bool
     ensures good { result ≡ true → IsSource source.now }
     ensures bad { IsSource source.now → result ≡ true }
@@ -25,7 +25,7 @@ pub(super) fn is_source(source: &DsDef) -> bool
     source.name.good() && !is_bad_heartbeat(source.heartbeat) && !has_bad_bounds(source)
 }
 
-// For how many values one may stand.
+// Returns how many cells of the maximum size a value may add up to.
 fn weight(function: Function, known: u64) -> u64
     ensures { result ≡ weight function known }
 {
@@ -35,7 +35,7 @@ fn weight(function: Function, known: u64) -> u64
     }
 }
 
-/// Whether a preparation can be that of at most so many cells.
+/// Returns whether a count and a value can be those of a partial step or row of at most `passed` cells.
 pub(super) fn is_part(function: Function, passed: u64, known: u64, value: i128) -> bool
     requires { passed ≤ present.most_steps }
     ensures good { result ≡ true → IsPart function passed (record { known = known; value = value }) }
@@ -48,7 +48,7 @@ pub(super) fn is_part(function: Function, passed: u64, known: u64, value: i128) 
     value.unsigned_abs() <= most && (known > 0 || value == 0)
 }
 
-/// Whether an archive's settings are good.
+/// Returns whether the settings of an archive are valid.
 pub(super) fn is_archive(def: &RraDef) -> bool
     ensures good { result ≡ true → IsArchiveDef present def.now }
     ensures bad { IsArchiveDef present def.now → result ≡ true }
@@ -56,7 +56,7 @@ pub(super) fn is_archive(def: &RraDef) -> bool
     !is_bad_steps(def.steps) && !is_bad_rows(def.rows) && !is_bad_xff(def.xff)
 }
 
-/// Whether a cell is not past the greatest rate.
+/// Returns whether a cell is unknown, or at most the maximum rate in size.
 pub fn is_bounded(cell: Cell) -> bool
     ensures good { result ≡ true → IsBounded cell }
     ensures bad { IsBounded cell → result ≡ true }
@@ -67,20 +67,7 @@ pub fn is_bounded(cell: Cell) -> bool
     }
 }
 
-/// How many of these cells come before the first that is past the greatest rate.
-pub(super) fn bounded_front(cells: &[Cell]) -> usize
-    ensures few { result ≤ length cells.now }
-    ensures bounded { AllByRecursion IsBounded (take result cells.now) }
-{
-    for (i, cell) in cells.iter().enumerate() {
-        if !is_bounded(*cell) {
-            return i;
-        }
-    }
-    cells.len()
-}
-
-/// Whether none of these cells is past the greatest rate.
+/// Returns whether no cell is larger in size than the maximum rate.
 pub(super) fn are_bounded(cells: &[Cell]) -> bool
     ensures good { result ≡ true → AllByRecursion IsBounded cells.now }
     ensures bad { AllByRecursion IsBounded cells.now → result ≡ true }

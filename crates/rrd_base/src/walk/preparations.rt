@@ -1,4 +1,4 @@
-//! The preparations of many sources, item by item.
+//! Functions on the partial steps and rows of all data sources, item by item.
 ghost use Rattle.std.specs.Prelude.{◌≡◌, ◌+◌, ◌^◌, ◌<◌, ◌≤◌, ◌≤ℤ◌, length, map, pos, replicate};
 ghost use Rattle.std.specs.List.{AllByRecursion, fold};
 ghost use Rattle.rrd_fold.specs.Parts.{Part, nothing, step_cell, with_each};
@@ -12,7 +12,7 @@ use crate::RraDef;
 use rrd_fixed::{Cell, Meter};
 use rrd_fold::{RowPrep, StepPrep};
 
-/// Adds to each preparation its source's rate, so many seconds of it. A turn for each.
+/// Adds `seconds` seconds of each data source's rate to its partial step. Each is one unit of work.
 pub(crate) fn add_seconds(preps: &mut [StepPrep], rates: &[Cell], seconds: u64, meter: &mut Meter)
     requires row { IsRow (length preps.old) rates.now }
     requires fits { AllByRecursion (λ (p : Part). p.known + seconds ≤ most_known) preps.old }
@@ -25,8 +25,8 @@ pub(crate) fn add_seconds(preps: &mut [StepPrep], rates: &[Cell], seconds: u64, 
     }
 }
 
-/// Writes the cell of each source's step, which so many seconds make, and starts each preparation
-/// anew. A turn for each.
+/// Writes the cell of each data source's step of `step` seconds, and empties its partial step. Each is one unit of
+/// work.
 pub(crate) fn close_steps(preps: &mut [StepPrep], step: u64, cells: &mut [Cell], meter: &mut Meter)
     requires places { length cells.old ≡ length preps.old }
     requires some { 1 ≤ step }
@@ -43,7 +43,7 @@ pub(crate) fn close_steps(preps: &mut [StepPrep], step: u64, cells: &mut [Cell],
     }
 }
 
-/// Adds to each preparation its source's step, `count` times. A turn for each.
+/// Adds each data source's step to its partial row, `count` times. Each is one unit of work.
 pub(crate) fn add_steps(preps: &mut [RowPrep], step: &[Cell], count: u64, meter: &mut Meter)
     requires row { IsRow (length preps.old) step.now }
     requires fits { AllByRecursion (λ (p : Consolidating). p.part.known + count ≤ most_known) preps.old }
@@ -56,8 +56,8 @@ pub(crate) fn add_steps(preps: &mut [RowPrep], step: &[Cell], count: u64, meter:
     }
 }
 
-/// Writes the cell of each source's row, which an archive of these settings makes of its steps, and
-/// starts each preparation anew. A turn for each.
+/// Writes the cell of each data source's row, in an archive with these settings, and empties its partial row. Each is
+/// one unit of work.
 pub(crate) fn close_rows(preps: &mut [RowPrep], def: &RraDef, row: &mut [Cell], meter: &mut Meter)
     requires places { length row.old ≡ length preps.old }
     requires some { 1 ≤ def.now.steps }

@@ -1,4 +1,4 @@
--- Definition: the texts of a file's faults (own).
+-- Definition: the texts of a file's errors (this project's rule).
 use Rattle.std.specs.Prelude.{◌++◌, ℕ, List, codes, decimal}
 use Rattle.rrd_file.specs.declared.fault.FileFault.{FileFault}
 use Rattle.rrd_file.specs.declared.fault.FileFault.TheVariants as fault

@@ -1,4 +1,4 @@
--- Definition: which values the bytes of a piece can stand for, of which a law says that no two have the same bytes.
+-- Definition: the values that the bytes of a record can represent; a law says that no two of them have the same bytes.
 use Rattle.std.specs.Prelude.{◌≡◌, ◌^◌, ◌<◌, ◌≤ℤ◌, ℕ, ℤ, pos, unsigned_abs, true, Option, Some, None}
 use Rattle.std.specs.Int.{w128}
 use Rattle.std.specs.Int.RustNames.{FitsSigned}
@@ -13,7 +13,7 @@ use Rattle.rrd_spec.specs.Files.Filed.{Header, Source}
 use Rattle.rrd_spec.specs.declared.version.Version.{Version}
 use Rattle.rrd_spec.specs.declared.version.Version.TheVariants.{One, Two}
 
--- a number other than the least, which stands for none
+-- a number other than the minimum, which represents an absent value
 abbrev pub FitsNumber : ℤ → Type 0
 FitsNumber z = unsigned_abs z < 2 ^ 127
 
@@ -50,7 +50,7 @@ pub record FitsArchive (def : RraDef) : Type 0 where
   pub xff_high : unsigned_abs def.xff < 2 ^ 32
   pub rows : def.rows < 2 ^ 32
 
--- the numbers that the bytes of a count can be
+-- the number of different values of a count's bytes
 abbrev pub counts : Version → ℕ
 counts One = 2 ^ 16
 counts Two = 2 ^ 32

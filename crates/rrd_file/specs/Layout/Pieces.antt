@@ -1,4 +1,4 @@
--- Definition: the pieces that a file is made of, each with its bytes.
+-- Definition: the records of a file, each with its bytes.
 use Rattle.std.specs.Prelude.{ℕ, List, [], ◌∷◌, ◌++◌}
 use Rattle.rrd_fixed.specs.declared.cell.Cell.{Cell}
 use Rattle.rrd_fixed.specs.declared.raw.Raw.{Raw}
@@ -10,7 +10,7 @@ use Rattle.rrd_spec.specs.declared.version.Version.TheVariants.{One, Two}
 use Rattle.rrd_spec.specs.Files.Filed.{Header, Source}
 use Rattle.rrd_file.specs.Layout.Values.{archive_bytes, cell_bytes, eight_bytes, four_bytes, part_bytes, raw_bytes, source_bytes, two_bytes}
 
--- what an entry undoes
+-- the kind of change that an entry undoes
 pub data Tag : Type 0 where
   AnUpdate : Tag
   ATune : Tag
@@ -19,7 +19,7 @@ pub data Tag : Type 0 where
   ARemoval : Tag
 
 pub data Piece : Type 0 where
-  -- of the body
+  -- records of the body
   Mark : Piece
   OfVersion : Version → Piece
   OfHeader : Header → Piece
@@ -27,13 +27,13 @@ pub data Piece : Type 0 where
   OfArchive : RraDef → Piece
   OfPrep : Part → Piece
   OfCell : Cell → Piece
-  -- of an entry, which also has preparations and cells: its tag
+  -- records of an entry, which also has partial rows and cells: its tag
   OfTag : Tag → Piece
-  -- the last time before an update, a source's raw value and part before it, and a number of rows
+  -- the last time before an update, the raw value and the partial step of a data source before it, and a number of rows
   OfTime : ℕ → Piece
   OfRawAndPart : Raw → Part → Piece
   OfRows : ℕ → Piece
-  -- how many sources a tune named, and each of them before it
+  -- the number of data sources that a tune named, and each data source before the tune
   OfCount : ℕ → Piece
   OfSourceBefore : SourceBefore → Piece
   -- the number of the archive that was resized or removed
@@ -50,18 +50,18 @@ tag_byte AResize = 3
 tag_byte AnAddition = 4
 tag_byte ARemoval = 5
 
--- how many entries there are, or can be
+-- the number of entries that there are, or that there can be
 abbrev pub count_bytes : Version → ℕ → List ℕ
 count_bytes One n = two_bytes n
 count_bytes Two n = four_bytes n
 
--- step (4), last time (8), depth, sources (2), archives (2), entries
+-- step (4), last time (8), depth, data sources (2), archives (2), entries
 abbrev pub header_bytes : Version → Header → List ℕ
 header_bytes version h =
     four_bytes h.step ++ eight_bytes h.last
     ++ count_bytes version h.depth ++ two_bytes h.sources ++ two_bytes h.archives ++ count_bytes version h.entries
 
--- the bytes of a piece
+-- the bytes of a record
 unfoldable pub spell : Piece → List ℕ
 -- the letters RRDI
 spell Mark = 82 ∷ 82 ∷ 68 ∷ 73 ∷ []

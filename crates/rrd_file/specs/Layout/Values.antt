@@ -27,7 +27,7 @@ eight_bytes n = to_be_bytes w64 n
 unfoldable pub signed_bytes : ℤ → List ℕ
 signed_bytes z = to_be_bytes w128 (cast_unsigned w128 z)
 
--- ---- what may be unknown or absent: it is written as the least number, 80 00 .. 00, which no value is
+-- ---- values that may be unknown or absent: then the minimum is written, 80 00 .. 00, which no value is
 
 abbrev pub least : ℤ
 least = negsuc (2 ^ 127 - 1)
@@ -71,9 +71,9 @@ function_byte Min = 1
 function_byte Max = 2
 function_byte Last = 3
 
--- ---- settings and preparations
+-- ---- settings, and partial steps and rows
 
--- name (20), type (1), heartbeat (8), least rate (16), greatest rate (16)
+-- name (20), type (1), heartbeat (8), minimum rate (16), maximum rate (16)
 abbrev pub source_bytes : DsDef → List ℕ
 source_bytes def =
     name_bytes def.name ++ kind_byte def.kind ∷ eight_bytes def.heartbeat ++ bound_bytes def.min ++ bound_bytes def.max
@@ -83,6 +83,6 @@ abbrev pub archive_bytes : RraDef → List ℕ
 archive_bytes def =
     function_byte def.function ∷ four_bytes def.steps ++ four_bytes (unsigned_abs def.xff) ++ four_bytes def.rows
 
--- how many are known (4), what they come to (16)
+-- the number of known seconds or steps (4), their value (16)
 abbrev pub part_bytes : Part → List ℕ
 part_bytes part = four_bytes part.known ++ signed_bytes part.value

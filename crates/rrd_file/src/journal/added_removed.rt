@@ -1,4 +1,4 @@
-//! Archives that were added or removed, both ways.
+//! The entries of archives that were added or removed: writing and reading.
 ghost use Rattle.std.specs.Prelude.{◌<◌, ◌^◌, ◌∷◌, [], ◌≡◌, ◌++◌, ℕ, IfOk, List, length, replicate};
 ghost use Rattle.rrd_spec.specs.Journal.Entries.{AddedEntry, RemovedEntry};
 ghost use Rattle.rrd_spec.specs.Files.Rebuilding.{due, outline_left};
@@ -28,7 +28,7 @@ use rrd_fixed::WriteFault;
 use std::alloc::Global;
 use std::io::{Read, Write};
 
-/// Writes the entry of an archive that was added: its tag says all.
+/// Writes the entry of an archive that was added: only a tag.
 #[tactic(auto, unfolding(crate::specs::Layout::Pieces::spell))]
 pub(super) fn write_added<W: Write>(out: &mut PieceWriter<'_, W>) -> Result<(), WriteFault>
     ensures { Gathers W.contents out.old out.new
@@ -74,7 +74,7 @@ pub(super) fn write_removed<W: Write>(
     write_rows(out, old.archive())
 }
 
-// Reads the number of the archive.
+// Reads the number of the removed archive.
 fn read_removed_number<R: Read + Drop>(
     input: &mut PieceReader<R>,
     build: &Rebuild,
@@ -93,7 +93,7 @@ fn read_removed_number<R: Read + Drop>(
     Ok(number)
 }
 
-// Reads its settings.
+// Reads the settings of the removed archive.
 fn read_removed_settings<R: Read + Drop>(
     input: &mut PieceReader<R>,
     build: &Rebuild,
@@ -110,13 +110,13 @@ fn read_removed_settings<R: Read + Drop>(
     let Some(def) = archive_of(&piece) else {
         return Err(bad_entry(build));
     };
-    if !build.judge().had_settings(&def) {
+    if !build.judge().may_have(&def) {
         return Err(bad_entry(build));
     }
     Ok(def)
 }
 
-/// Reads what follows the tag of a removal.
+/// Reads the records after the tag of a removal.
 pub(super) fn read_removed<R: Read + Drop>(
     alloc: Global,
     input: &mut PieceReader<R>,

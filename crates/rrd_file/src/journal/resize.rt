@@ -1,4 +1,4 @@
-//! What a resize replaced, both ways.
+//! The entry of a resize: writing and reading.
 ghost use Rattle.std.specs.Prelude.{◌<◌, ◌≤◌, ◌^◌, ◌∷◌, [], ◌≡◌, ◌++◌, ℕ, IfOk, List, length};
 ghost use Rattle.rrd_spec.specs.Journal.Entries.{ResizeEntry};
 ghost use Rattle.rrd_spec.specs.Limits.{present};
@@ -59,7 +59,7 @@ pub(super) fn write_resize<W: Write>(
     write_rows(out, old)
 }
 
-// Reads the number of an archive.
+// Reads the number of the resized archive.
 fn read_number<R: Read + Drop>(
     input: &mut PieceReader<R>,
     build: &Rebuild,
@@ -79,7 +79,7 @@ fn read_number<R: Read + Drop>(
     Ok(archive)
 }
 
-// Reads how many rows an archive had.
+// Reads the number of rows that the archive had.
 fn read_old_row_count<R: Read + Drop>(
     input: &mut PieceReader<R>,
     build: &Rebuild,
@@ -102,7 +102,7 @@ fn read_old_row_count<R: Read + Drop>(
     Ok(rows)
 }
 
-/// Reads what follows the tag of a resize.
+/// Reads the records after the tag of a resize.
 pub(super) fn read_resize<R: Read + Drop>(
     alloc: Global,
     input: &mut PieceReader<R>,

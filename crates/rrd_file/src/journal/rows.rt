@@ -1,4 +1,4 @@
-//! The rows of an entry, as they are read: `cells` writes them.
+//! The rows of entries: reading. The module `cells` writes them.
 ghost use Rattle.std.specs.Prelude.{◌<◌, ◌≤◌, ◌∷◌, [], ◌≡◌, ◌++◌, ℕ, IfOk, List, length, map, replicate};
 ghost use Rattle.rrd_spec.specs.Limits.{present};
 ghost use Rattle.rrd_spec.specs.Files.Rebuilding.{due, outline_left};
@@ -55,7 +55,7 @@ fn read_row<R: Read + Drop>(
     Ok(())
 }
 
-/// Reads so many rows, at most 1,000,000, that an update replaced.
+/// Reads `count` rows that an update replaced, at most 1,000,000.
 pub(super) fn read_saved_rows<R: Read + Drop>(
     alloc: Global,
     input: &mut PieceReader<R>,
@@ -78,7 +78,7 @@ pub(super) fn read_saved_rows<R: Read + Drop>(
     Ok(rows)
 }
 
-/// Reads the rows, 1 to 1,000,000, of an archive before it was resized.
+/// Reads the `count` rows of an archive that was resized or removed, 1 to 1,000,000.
 pub(super) fn read_old_rows<R: Read + Drop>(
     alloc: Global,
     input: &mut PieceReader<R>,

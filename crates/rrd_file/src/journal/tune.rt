@@ -1,4 +1,4 @@
-//! What a tune replaced, both ways.
+//! The entry of a tune of data sources: writing and reading.
 ghost use Rattle.std.specs.Prelude.{◌≡◌, ◌<◌, ◌≤◌, ◌^◌, ◌∷◌, [], ◌≢◌, ◌+◌, ◌++◌, ℕ, IfOk, IfSome, List, None, length, map};
 ghost use Rattle.std.specs.List.{AllByRecursion};
 ghost use Rattle.rrd_spec.specs.Journal.Entries.{TuneEntry};
@@ -26,7 +26,7 @@ use rrd_base::{Entry, Judge, Rebuild, SourceBefore};
 use rrd_fixed::WriteFault;
 use std::io::{Read, Write};
 
-// Writes the tag of a tune, and how many sources it named.
+// Writes the tag of a tune, and the number of data sources that the tune named.
 #[tactic(auto, unfolding(crate::specs::Layout::Pieces::spell))]
 fn write_tuned<W: Write>(out: &mut PieceWriter<'_, W>, count: usize) -> Result<(), WriteFault>
     requires { count ≤ most_tuned }
@@ -85,7 +85,7 @@ pub(super) fn write_tune<W: Write>(
     write_sources_before(out, olds)
 }
 
-// A source before a tune.
+// Returns a data source before a tune.
 fn source_before_of(bytes: &[u8]) -> Option<SourceBefore>
     requires { length bytes.now ≡ BEFORE_TUNE_SIZE }
     ensures some { IfSome result (λ old. FitsSourceBefore old × (spell (OfSourceBefore old) ≡ bytes.now)) }
@@ -105,7 +105,7 @@ fn source_before_of(bytes: &[u8]) -> Option<SourceBefore>
     })
 }
 
-// Reads how many sources a tune named, 1 to 5.
+// Reads the number of data sources that a tune named, 1 to 5.
 fn read_count<R: Read + Drop>(input: &mut PieceReader<R>, build: &Rebuild) -> Result<u64, FileFault>
     ensures brings { (bytes : List ℕ) (pieces : List Piece) (later : List DueInEntry)
         → Comes bytes build.now pieces (CountDue ∷ later) input.old
@@ -122,7 +122,7 @@ fn read_count<R: Read + Drop>(input: &mut PieceReader<R>, build: &Rebuild) -> Re
     Ok(count)
 }
 
-// Reads a source that a tune named, from the lowest number that it may have.
+// Reads a data source that a tune named, whose number is at least `lowest`.
 fn read_named_source<R: Read + Drop>(
     input: &mut PieceReader<R>,
     build: &Rebuild,
@@ -145,7 +145,7 @@ fn read_named_source<R: Read + Drop>(
     Ok(old)
 }
 
-/// Reads what follows the tag of a tune.
+/// Reads the records after the tag of a tune.
 pub(super) fn read_tune<R: Read + Drop>(
     input: &mut PieceReader<R>,
     build: &Rebuild,

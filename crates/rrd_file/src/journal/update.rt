@@ -1,4 +1,4 @@
-//! What an update replaced, both ways.
+//! The entry of an update: writing and reading.
 ghost use Rattle.std.specs.Prelude.{◌≡◌, ◌≤◌, ◌∷◌, [], ◌<◌, ◌++◌, ℕ, IfOk, List, Some, length, map, min, slice_get};
 ghost use Rattle.std.specs.List.{flat_map};
 ghost use Rattle.rrd_spec.specs.Journal.Entries.{UpdateEntry, rows_between};
@@ -32,7 +32,7 @@ use rrd_fold::StepPrep;
 use std::alloc::Global;
 use std::io::{Read, Write};
 
-// Writes the tag of an update, and the last time before it.
+// Writes the tag of an update, and the last time before the update.
 #[tactic(auto, unfolding(crate::specs::Layout::Pieces::spell))]
 fn write_time<W: Write>(out: &mut PieceWriter<'_, W>, last: u64) -> Result<(), WriteFault>
     ensures { Gathers W.contents out.old out.new
@@ -87,7 +87,7 @@ fn write_row_count<W: Write>(out: &mut PieceWriter<'_, W>, rows: u64) -> Result<
     Ok(())
 }
 
-// Writes what an update replaced of an archive.
+// Writes the values that an update replaced in an archive.
 fn write_saved<W: Write>(
     out: &mut PieceWriter<'_, W>,
     saved: &SavedArchive,
@@ -100,7 +100,7 @@ fn write_saved<W: Write>(
     write_rows(out, saved.rows())
 }
 
-// Writes what an update replaced of all archives.
+// Writes the values that an update replaced in all archives.
 fn write_all_saved<W: Write>(
     out: &mut PieceWriter<'_, W>,
     saved: &[SavedArchive],
@@ -145,7 +145,7 @@ fn read_time<R: Read + Drop>(input: &mut PieceReader<R>, build: &Rebuild) -> Res
     Ok(last)
 }
 
-// Reads a source's raw value and the preparation of its unfinished step.
+// Reads the raw value and the partial step of a data source before an update.
 fn read_raw_and_part<R: Read + Drop>(
     input: &mut PieceReader<R>,
     build: &Rebuild,
@@ -171,7 +171,7 @@ fn read_raw_and_part<R: Read + Drop>(
     }
 }
 
-// Reads what was before of each source.
+// Reads the raw value and the partial step of each data source before an update.
 fn read_raws_and_parts<R: Read + Drop>(
     alloc: Global,
     input: &mut PieceReader<R>,
@@ -195,7 +195,7 @@ fn read_raws_and_parts<R: Read + Drop>(
     Ok((raws, preps))
 }
 
-// Reads how many rows of an archive were replaced.
+// Reads the number of rows that an update replaced in an archive.
 fn read_row_count<R: Read + Drop>(
     input: &mut PieceReader<R>,
     build: &Rebuild,
@@ -221,7 +221,7 @@ fn read_row_count<R: Read + Drop>(
     Ok(rows)
 }
 
-// Reads what was before of an archive.
+// Reads the values that an update replaced in an archive.
 fn read_saved<R: Read + Drop>(
     alloc: Global,
     input: &mut PieceReader<R>,
@@ -246,7 +246,7 @@ fn read_saved<R: Read + Drop>(
     Ok(SavedArchive::new(def.function, preps, rows))
 }
 
-// Reads what was before of each archive.
+// Reads the values that an update replaced in each archive.
 fn read_all_saved<R: Read + Drop>(
     alloc: Global,
     input: &mut PieceReader<R>,
@@ -270,7 +270,7 @@ fn read_all_saved<R: Read + Drop>(
     Ok(olds)
 }
 
-/// Reads what follows the tag of an update.
+/// Reads the records after the tag of an update.
 pub(super) fn read_update<R: Read + Drop>(
     alloc: Global,
     input: &mut PieceReader<R>,

@@ -1,5 +1,5 @@
-//! Bytes that came and wait to be taken.
-ghost use Rattle.std.specs.Prelude.{◌≡◌, ◌+◌, ◌++◌, ◌<◌, ◌≤◌, [], IfOk, OnErr, drop, length, take};
+//! The buffer of bytes that were read and wait to be taken.
+ghost use Rattle.std.specs.Prelude.{◌≡◌, ◌+◌, ◌++◌, ◌<◌, ◌≤◌, [], IfOk, OnErr, drop, length, take, vec_capacity, vec_len};
 ghost use Rattle.std.specs.Io.KnownBytes.{IsAtEnd, Keeps, prepend_known};
 
 use rrd_fixed::{ReadFault, read_some};
@@ -7,52 +7,58 @@ use std::alloc::{AllocError, Global};
 use std::io::Read;
 use std::marker::Model;
 
-/// The bytes that fit.
-const ROOM: usize = 65_536;
+/// The first size of the buffer, in bytes. A small file fits, so that no more bytes are cleared for it.
+const FIRST: usize = 4_096;
 
-/// At most 65,536 bytes that came and were not taken. Contracts see their list.
+/// The maximum size of the buffer, in bytes.
+pub(super) const ROOM: usize = 65_536;
+
+/// At most 65,536 bytes that were read and not taken. Contracts see their list.
 #[derive(Drop)]
 pub(crate) struct Waiting {
-    // Those of these from `from` on and before `end`.
+    // The bytes from `from` to before `end` wait. The capacity is that of the maximum size.
     bytes: Vec<u8>,
     from: usize,
     end: usize,
 }
 
 impl Model for Waiting {
-    ghost use Rattle.std.specs.Prelude.{List, ℕ, slice_range};
+    ghost use Rattle.std.specs.Prelude.{◌≤◌, List, ℕ, slice_range, vec_capacity};
     ghost use Rattle.rrd_file.specs.Reader.Waiting.{IsWaiting};
 
     ghost Value = { List ℕ };
 
     ghost view = { λ w. slice_range w.bytes.items w.from w.end };
 
-    ghost invariant = { λ w. IsWaiting w.bytes.items w.from w.end };
+    ghost invariant = { λ w. IsWaiting w.bytes.items w.from w.end × (65536 ≤ vec_capacity w.bytes) };
 }
 
 impl Waiting {
-    /// No bytes yet. Takes the memory for all that fit.
+    /// Creates an empty buffer.
+    ///
+    /// Allocates the maximum size, and clears none of it yet.
+    ///
+    /// # Errors
+    /// - `AllocError`: memory runs out.
     pub(crate) fn new(alloc: Global) -> Result<Waiting, AllocError>
         ensures { IfOk result (λ waiting. waiting ≡ []) }
     {
-        let mut bytes = Vec::with_capacity(alloc, ROOM)?;
-        bytes.resize(ROOM, 0)?;
         Ok(Waiting {
-            bytes,
+            bytes: Vec::with_capacity(alloc, ROOM)?,
             from: 0,
             end: 0,
         })
     }
 
-    /// How many bytes wait.
+    /// Returns how many bytes wait.
     pub(crate) fn len(&self) -> usize
         ensures count { result ≡ length self.now }
-        ensures few { result ≤ 65536 }
+        ensures few { result ≤ ROOM }
     {
         self.end - self.from
     }
 
-    /// The first bytes, so many.
+    /// Returns the first `size` bytes.
     pub(crate) fn front(&self, size: usize) -> &[u8]
         requires { size ≤ length self.now }
         ensures front { result.now ≡ take size self.now }
@@ -61,7 +67,7 @@ impl Waiting {
         &self.bytes[self.from..self.from + size]
     }
 
-    /// Goes on behind the first bytes, so many.
+    /// Skips the first `size` bytes.
     pub(crate) fn skip(&mut self, size: usize)
         requires { size ≤ length self.old }
         ensures { self.new ≡ drop size self.old }
@@ -69,7 +75,7 @@ impl Waiting {
         self.from += size;
     }
 
-    /// Takes the first bytes, as many as the piece has.
+    /// Takes the first bytes, as many as `piece` has.
     pub(crate) fn take(&mut self, piece: &mut [u8])
         requires { length piece.old ≤ length self.old }
         ensures taken { self.old ≡ piece.new ++ self.new }
@@ -80,16 +86,17 @@ impl Waiting {
         self.from = end;
     }
 
-    /// Reads once behind what waits, and says how many bytes came: none only at the end.
+    /// Reads once after the waiting bytes, and returns how many bytes were read: 0 only at the end.
     pub(crate) fn fill<R: Read>(&mut self, reader: &mut R) -> Result<usize, ReadFault>
-        requires { length self.old < 65536 }
+        requires { length self.old < ROOM }
         ensures keeps { Keeps (prepend_known self.old (R.remaining reader.old))
             (prepend_known self.new (R.remaining reader.new)) }
         ensures count { IfOk result (λ n. length self.new ≡ length self.old + n) }
-        ensures few { IfOk result (λ n. n ≤ 65536) }
+        ensures few { IfOk result (λ n. n ≤ ROOM) }
         ensures err { OnErr result (self.new ≡ self.old) }
         ensures end { IfOk result (λ n. n ≡ 0 → IsAtEnd (R.remaining reader.new)) }
     {
+        make_room(&mut self.bytes, self.end);
         self.bytes.copy_within(self.from..self.end, 0);
         self.end -= self.from;
         self.from = 0;
@@ -97,4 +104,24 @@ impl Waiting {
         self.end += count;
         Ok(count)
     }
+}
+
+// Makes the buffer longer if the last read filled it to its end: 4,096 bytes at first, then twice as long each time, at
+// most 65,536. So a small file needs few cleared bytes, and a large file few calls.
+fn make_room(bytes: &mut Vec<u8>, end: usize)
+    requires within { end ≤ vec_len bytes.old }
+    requires few { vec_len bytes.old ≤ ROOM }
+    requires capacity { ROOM ≤ vec_capacity bytes.old }
+    ensures front { take end bytes.new.items ≡ take end bytes.old.items }
+    ensures within { end ≤ vec_len bytes.new }
+    ensures room { end < ROOM → end < vec_len bytes.new }
+    ensures few { vec_len bytes.new ≤ ROOM }
+    ensures capacity { ROOM ≤ vec_capacity bytes.new }
+{
+    if end < bytes.len() {
+        return;
+    }
+    let size = (bytes.len() * 2).clamp(FIRST, ROOM);
+    // The capacity suffices, so this does not allocate and does not fail.
+    let _ = bytes.resize(size, 0);
 }

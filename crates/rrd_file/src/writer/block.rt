@@ -1,60 +1,61 @@
 //! Bytes that wait to be written, and how many cells are put among them at once.
-ghost use Rattle.std.specs.Prelude.{◌≡◌, ◌+◌, ◌*◌, ◌≤◌, ℕ, [], ◌++◌, List, length, true};
+ghost use Rattle.std.specs.Prelude.{◌≡◌, ◌+◌, ◌*◌, ◌≤◌, [], ◌++◌, length, take, true};
 ghost use Rattle.std.specs.List.{flat_map};
 ghost use Rattle.rrd_file.specs.Layout.Values as spelling;
 
 use crate::cells::cell_halves;
-use crate::layout::CELL_SIZE;
+use crate::layout::{CELL_SIZE, WIDEST};
 use rrd_fixed::Cell;
 use std::marker::Model;
 
-/// The bytes that fit.
-const ROOM: usize = 32_768;
+/// The number of bytes that fit into a block. A block is cleared before it is used, so a larger one costs each file
+/// more; a place that has to write more at once gathers blocks itself.
+pub(crate) const BLOCK_SIZE: usize = 4_096;
 
-/// The bytes of the longest row, 64 cells: no piece has more.
-const LONGEST: usize = 1_024;
+/// The number of bytes in the widest row. No piece has more.
+pub(crate) const LONGEST: usize = WIDEST * CELL_SIZE;
 
-/// Bytes that wait to be written, at most 32,768. Contracts see their list.
+/// Bytes that wait to be written, at most 4,096. Contracts see their list.
 #[derive(Drop)]
 pub(crate) struct Block {
-    // Of these the first `len`.
-    bytes: [u8; ROOM],
+    // The first `len` of these wait.
+    bytes: [u8; BLOCK_SIZE],
     len: usize,
 }
 
 impl Model for Block {
-    ghost use Rattle.std.specs.Prelude.{List, ℕ, ◌≤◌, take};
+    ghost use Rattle.std.specs.Prelude.{◌≡◌, ◌≤◌, List, ℕ, length, take};
 
     ghost Value = { List ℕ };
 
     ghost view = { λ b. take b.len b.bytes };
 
-    ghost invariant = { λ b. b.len ≤ 32768 };
+    ghost invariant = { λ b. b.len ≤ 4096 };
 }
 
 impl Block {
-    /// No bytes yet.
+    /// Returns a block without a byte.
     pub(crate) fn new() -> Block
         ensures { result ≡ [] }
     {
         Block {
-            bytes: [0; ROOM],
+            bytes: [0; BLOCK_SIZE],
             len: 0,
         }
     }
 
-    /// The bytes.
+    /// Returns the bytes.
     pub(crate) fn as_slice(&self) -> &[u8]
         ensures { result.now ≡ self.now }
     {
         &self.bytes[..self.len]
     }
 
-    /// Whether there is room for a piece, or for a row.
+    /// Returns whether there is room for a piece, or for a row.
     pub(crate) fn has_room(&self) -> bool
-        ensures { result ≡ true → length self.now + 1024 ≤ 32768 }
+        ensures { result ≡ true → length self.now + LONGEST ≤ BLOCK_SIZE }
     {
-        ROOM - self.len >= LONGEST
+        BLOCK_SIZE - self.len >= LONGEST
     }
 
     /// Forgets the bytes, which were written.
@@ -66,7 +67,7 @@ impl Block {
 
     /// Adds bytes.
     pub(crate) fn add(&mut self, bytes: &[u8])
-        requires { length self.old + length bytes.now ≤ 32768 }
+        requires { length self.old + length bytes.now ≤ BLOCK_SIZE }
         ensures { self.new ≡ self.old ++ bytes.now }
     {
         let end = self.len + bytes.len();
@@ -76,7 +77,7 @@ impl Block {
 
     /// Adds cells.
     pub(crate) fn cells(&mut self, cells: &[Cell])
-        requires { length self.old + CELL_SIZE * length cells.now ≤ 32768 }
+        requires { length self.old + CELL_SIZE * length cells.now ≤ BLOCK_SIZE }
         ensures { self.new ≡ self.old ++ flat_map spelling.cell_bytes cells.now }
     {
         let end = self.len + CELL_SIZE * cells.len();

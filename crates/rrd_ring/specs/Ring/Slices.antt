@@ -1,4 +1,4 @@
--- Glue: what a vector of cells ends as, once a `&mut` to a slice of it has ended.
+-- Glue: the value of a vector of cells after a `&mut` to a slice of it has ended.
 use Rattle.std.specs.Prelude.{ℕ, List, Vec, length, slice_range}
 use Rattle.std.specs.Global.{Global}
 use Rattle.std.specs.Borrow.{Fml, RattleType, MutBor, Array, Lends}
@@ -10,15 +10,15 @@ use Rattle.std.specs.contracts.vec.Vec.{the_row as vec_row}
 use Rattle.rrd_fixed.specs.declared.cell.Cell.{Cell}
 use Rattle.rrd_fixed.specs.contracts.cell.Cell.{the_row as cell_row}
 
--- a vector of cells, as the logic names its type
+-- the logic's name for the type of a vector of cells
 abbrev pub cells_row : RattleType
 cells_row = vec_row cell_row heap_row ghosts
 
--- the vector ends with what was last written through the loan, from place start on
+-- the vector ends with the cells that were last written through the loan, from cell `start` on
 abbrev pub LendsPart : MutBor (Vec Cell Global) → ℕ → MutBor (List Cell) → Fml
 LendsPart cells start part = Lends cells_row (Array cell_row 0) cells part (with_items_from cells.now start)
 
--- the same, where as many cells come back as were lent
+-- the same loan, if it returns as many cells as it took
 abbrev pub LendsAsMany : MutBor (Vec Cell Global) → ℕ → ℕ → MutBor (List Cell) → Fml
 LendsAsMany cells start end part =
     Lends cells_row (Array cell_row 0) cells part

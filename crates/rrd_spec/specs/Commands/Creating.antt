@@ -1,4 +1,4 @@
--- Definition: which databases can be made, and how a new one stands (rrdcreate).
+-- Definition: which databases can be created, and the content of a new one (rrdcreate).
 use Rattle.std.specs.Prelude.{ℕ, nat_lt, ◌==◌, Bool, not, ◌||◌, Option, List, [], ◌∷◌, ◌++◌, length, map, replicate}
 use Rattle.std.specs.List.{list_any}
 use Rattle.rrd_fixed.specs.declared.raw.Raw.{Raw}
@@ -17,7 +17,7 @@ use Rattle.rrd_spec.specs.Commands.Verdict.{Check, ◌refuses◌, first_refusal,
 pub use Rattle.rrd_spec.specs.Commands.Verdict.{is_bad_steps, is_bad_xff}
 use Rattle.rrd_spec.specs.History.Steps.{step}
 
--- ---- what is refused
+-- ---- the refusals
 
 abbrev pub is_bad_step : Limits → ℕ → Bool
 is_bad_step limits step = is_out limits.longest_step step
@@ -25,18 +25,18 @@ is_bad_step limits step = is_out limits.longest_step step
 abbrev pub is_bad_depth : Limits → ℕ → Bool
 is_bad_depth limits depth = is_out limits.deepest_journal depth
 
--- the sources, and each archive's number of rows
+-- the settings asked for: the data sources, and each archive's number of rows
 abbrev pub settings_asked : CreateSpec → Settings
 settings_asked spec = record { sources = spec.sources; rows = map (λ (def : RraDef). def.rows) spec.archives }
 
--- too many sources, archives, or cells, which are the sources times all rows
+-- too many data sources, archives, or cells, which are the data sources times all rows
 abbrev pub is_too_large : Limits → CreateSpec → Bool
 is_too_large limits spec =
     nat_lt limits.most_sources (length spec.sources)
     || nat_lt limits.most_archives (length spec.archives)
     || nat_lt limits.most_cells (cells (settings_asked spec))
 
--- what is asked before the sources and archives are looked at
+-- the checks before those of the data sources and archives
 abbrev pub first_checks : Limits → CreateSpec → List Check
 first_checks limits spec =
     ◌refuses◌ (is_bad_step limits spec.step) BadStep
@@ -45,7 +45,7 @@ first_checks limits spec =
     ∷ ◌refuses◌ (length spec.archives == 0) NoArchive
     ∷ []
 
--- each number over all sources before the next one
+-- each check covers all data sources before the next check
 abbrev pub source_checks : Limits → List DsDef → List Check
 source_checks limits sources =
     ◌refuses◌ (list_any (λ (source : DsDef). not (is_good source.name)) sources) BadName
@@ -54,7 +54,7 @@ source_checks limits sources =
     ∷ ◌refuses◌ (list_any (has_bad_bounds limits) sources) BadBounds
     ∷ []
 
--- and over all archives
+-- each check covers all archives before the next check
 abbrev pub archive_checks : Limits → List RraDef → List Check
 archive_checks limits defs =
     ◌refuses◌ (list_any (λ (def : RraDef). is_bad_xff limits def.xff) defs) BadXff
@@ -75,7 +75,7 @@ create_checks limits spec =
     ++ archive_checks limits spec.archives
     ++ size_checks limits spec
 
--- the refusal of a database that is to be made, none if it is accepted. Memory isn't spoken of
+-- the refusal of a create, `None` if it is accepted. Memory is left out
 unfoldable pub create_verdict_within : Limits → CreateSpec → Option Refusal
 create_verdict_within limits spec = first_refusal (create_checks limits spec)
 
@@ -84,7 +84,7 @@ create_verdict = create_verdict_within present
 
 -- ---- the new database
 
--- the base that is made: its last time is the start, and nothing is known yet
+-- the content of a new database: its last time is the start, and nothing is known yet
 abbrev pub created : CreateSpec → Content
 created spec = record {
   step = spec.step;

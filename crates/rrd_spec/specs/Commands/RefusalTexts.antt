@@ -1,4 +1,4 @@
--- Definition: the texts of refusals (own).
+-- Definition: the texts of refusals (this project's).
 use Rattle.std.specs.Prelude.{◌++◌, ℕ, List, codes, decimal}
 use Rattle.rrd_spec.specs.declared.refusal.Refusal.{Refusal}
 use Rattle.rrd_spec.specs.declared.refusal.Refusal.TheVariants as refusal

@@ -1,5 +1,5 @@
--- Definition: which commands are accepted, and what refuses the others. What can be wrong is that of rrdupdate,
--- rrdtune and rrdresize; the limits and the order of the refusals are this project's.
+-- Definition: which commands are accepted, and the refusals of the others. The checks are those of rrdupdate, rrdtune
+-- and rrdresize; the limits and the order of the checks are this project's.
 use Rattle.std.specs.Prelude.{ℕ, ◌+◌, ℤ, pos, int_lt, unsigned_abs, nat_lt, nat_le, ◌==◌, if◌then◌else◌, Bool, true, false, not, ◌&&◌, ◌||◌, Option, Some, None, is_none, List, [], ◌∷◌, ◌++◌, length, slice_index_or}
 use Rattle.std.specs.List.{fold, list_any, list_all}
 use Rattle.std.specs.Option.{option_map_or, unwrap_or}
@@ -22,7 +22,7 @@ use Rattle.rrd_spec.specs.History.{Content}
 use Rattle.rrd_spec.specs.Commands.{Asked, DatabaseChange, Updating, TuningBy, Resizing, settings_of, settings_after, archive_event, events, value_for, tuned}
 use Rattle.rrd_spec.specs.Settings.{Settings, names, cells, has_source, is_double}
 
--- what can be wrong, and the refusal that says so
+-- a check: whether something is wrong, and the refusal for it
 pub record Check : Type 0 where
   pub wrong : Bool
   pub refusal : Refusal
@@ -30,14 +30,14 @@ pub record Check : Type 0 where
 abbrev pub ◌refuses◌ : Bool → Refusal → Check
 ◌refuses◌ wrong refusal = record { wrong = wrong; refusal = refusal }
 
--- the first refusal in this order
+-- the refusal of the first check that fails
 abbrev pub first_refusal : List Check → Option Refusal
 first_refusal [] = None
 first_refusal (check ∷ checks) = if check.wrong then Some check.refusal else first_refusal checks
 
 -- ---- names and settings
 
--- a bound past the greatest rate
+-- a bound larger in size than the maximum rate
 abbrev pub is_far : Limits → Option ℤ → Bool
 is_far limits None = false
 is_far limits (Some bound) = nat_lt limits.greatest_bound (unsigned_abs bound)
@@ -50,7 +50,7 @@ is_crossed (Some min) None = false
 abbrev pub has_bad_bounds : Limits → DsDef → Bool
 has_bad_bounds limits source = is_far limits source.min || is_far limits source.max || is_crossed source.min source.max
 
--- a number that isn't from 1 to the greatest one
+-- a number that is not from 1 to the maximum
 abbrev pub is_out : ℕ → ℕ → Bool
 is_out greatest number = (number == 0) || nat_lt greatest number
 
@@ -60,20 +60,20 @@ is_bad_heartbeat limits seconds = is_out limits.longest_heartbeat seconds
 abbrev pub is_bad_rows : Limits → ℕ → Bool
 is_bad_rows limits rows = is_out limits.most_rows rows
 
--- a share that isn't from 0 to the greatest one
+-- a share that is not from 0 to the maximum
 abbrev pub is_bad_xff : Limits → ℤ → Bool
 is_bad_xff limits xff = int_lt xff (pos 0) || int_lt (pos limits.greatest_share) xff
 
 abbrev pub is_bad_steps : Limits → ℕ → Bool
 is_bad_steps limits steps = is_out limits.most_steps steps
 
--- ---- each command
+-- ---- the checks of each command
 
 abbrev pub is_admitted : DsDef → Given → Bool
 is_admitted source Given.Unknown = true
 is_admitted source (Given.Number number) = not (is_none (admit source.kind number))
 
--- the samples after the first ones, the newest of which came at `last`
+-- the checks of samples after earlier ones, the newest of which has the time `last`
 abbrev pub sample_checks : Limits → List DsDef → List Name → ℕ → List Sample → List Check
 sample_checks limits sources template last [] = []
 sample_checks limits sources template last (sample ∷ samples) =
@@ -89,7 +89,7 @@ abbrev pub no_sample : List Sample → Bool
 no_sample [] = true
 no_sample (sample ∷ samples) = false
 
--- the names that the values belong to: those given, or all in their order
+-- the names that the values belong to: the template, or the names of all data sources in order
 abbrev pub template_of : List DsDef → Option (List Name) → List Name
 template_of sources template = unwrap_or template (names sources)
 
@@ -109,7 +109,7 @@ abbrev pub names_no_source : {A : Type 0} → List DsDef → Option (Asked A) �
 names_no_source sources None = false
 names_no_source sources (Some option) = not (has_source sources option.0)
 
--- there is no option
+-- a tune has no option
 abbrev pub has_no_option : Tuning → Bool
 has_no_option tuning =
     is_none tuning.heartbeat
@@ -121,11 +121,11 @@ has_no_option tuning =
 abbrev pub asks_nothing : Tuning → Bool
 asks_nothing tuning = has_no_option tuning && is_none tuning.archive
 
--- an archive stands alone
+-- a tune has an archive and another option
 abbrev pub is_mixed : Tuning → Bool
 is_mixed tuning = not (has_no_option tuning) && not (is_none tuning.archive)
 
--- an option names no source
+-- an option names no data source
 abbrev pub any_names_no_source : List DsDef → Tuning → Bool
 any_names_no_source sources tuning =
     names_no_source sources tuning.heartbeat
@@ -137,7 +137,7 @@ any_names_no_source sources tuning =
 abbrev pub asks_bad_name : Tuning → Bool
 asks_bad_name tuning = option_map_or (λ (option : Asked Name). not (is_good option.1)) tuning.rename false
 
--- the new name is that of another source
+-- the new name is that of another data source
 abbrev pub asks_double_name : List DsDef → Tuning → Bool
 asks_double_name sources tuning =
     option_map_or (λ (option : Asked Name). not (same_name option.0 option.1) && has_source sources option.1)
@@ -147,7 +147,7 @@ abbrev pub asks_bad_heartbeat : Limits → Tuning → Bool
 asks_bad_heartbeat limits tuning =
     option_map_or (λ (option : Asked ℕ). is_bad_heartbeat limits option.1) tuning.heartbeat false
 
--- the database would be too large with one archive more
+-- the database would be too large with one more archive
 abbrev pub archive_is_too_large : Limits → Settings → Bool
 archive_is_too_large limits settings =
     nat_lt limits.most_archives (length settings.rows) || nat_lt limits.most_cells (cells settings)
@@ -176,12 +176,12 @@ option_checks limits sources tuning =
     ∷ ◌refuses◌ (list_any (λ (source : DsDef). has_bad_bounds limits (tuned tuning source)) sources) BadBounds
     ∷ []
 
--- the options, and then what is asked of an archive
+-- the checks of the options, and then those of an archive
 abbrev pub tune_checks : Limits → Settings → Tuning → List Check
 tune_checks limits settings tuning =
     option_checks limits settings.sources tuning ++ archive_tune_checks limits settings tuning.archive
 
--- the rows that the archive would have are too many
+-- the archive would have too many rows
 abbrev pub grows_too_far : Limits → Change → ℕ → ℕ → Bool
 grows_too_far limits Grow old rows = nat_lt limits.most_rows (old + rows)
 grows_too_far limits Shrink old rows = false
@@ -208,7 +208,7 @@ checks limits base (Updating update) = update_checks limits base.sources base.la
 checks limits base (TuningBy tuning) = tune_checks limits (settings_of base) tuning
 checks limits base (Resizing archive change rows) = resize_checks limits (settings_of base) archive change rows
 
--- the refusal of a command, none if it is accepted. Memory isn't spoken of
+-- the refusal of a command, `None` if it is accepted. Memory is left out
 unfoldable pub verdict_within : Limits → Content → DatabaseChange → Option Refusal
 verdict_within limits base command = first_refusal (checks limits base command)
 

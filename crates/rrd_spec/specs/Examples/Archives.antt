@@ -31,8 +31,8 @@ averages = archive Average 2 3
 abbrev pub greatest : RraDef
 greatest = record (archive Max 2 3) { xff = pos 400000 }
 
--- each row of two archives that were added in the middle of a step: the step that had ended isn't for them, the one in
--- progress is as a whole
+-- the rows of the first archive and of two archives that were added in the middle of a step: the step that had ended
+-- does not count for these, and the step in progress counts as a whole
 abbrev pub rows_then : List (List (List Cell))
 rows_then =
     (known 1000000 ∷ known 4000000 ∷ known 6000000 ∷ known 6000000 ∷ [])
@@ -50,7 +50,7 @@ added = run (small 4)
 abbrev pub taken_back : Stored
 taken_back = fold stored_after added (Reverted ∷ Reverted ∷ Reverted ∷ [])
 
--- by the whole history, by one command after another, and taken back
+-- the rows by the whole history, and by one command after another; and the database after three reverts
 abbrev pub TwoAdded : Type 0
 TwoAdded =
     (rows (content (small 4) (at 10 1 ∷ at 15 2 ∷ Added averages ∷ Added greatest ∷ at 40 6 ∷ [])) ≡ rows_then)
@@ -71,7 +71,7 @@ removed = run (small 4)
 abbrev pub put_back : Stored
 put_back = fold stored_after removed (Reverted ∷ Reverted ∷ [])
 
--- an archive keeps to itself when one before it is removed, and this one comes back where it was
+-- an archive keeps its rows if one before it is removed, and the removed archive returns to its old number
 abbrev pub OneRemoved : Type 0
 OneRemoved =
     (rows (content (small 4)
@@ -86,19 +86,19 @@ OneRemoved =
 
 -- ---- limits
 
--- with so many archives more, of one row each
+-- `number` more archives, of one row each
 abbrev pub with_more : ℕ → Content
 with_more number =
     let base = small 4 in record base { archives = base.archives ++ replicate number (new_archive 1 (archive Last 1 1)) }
 
--- the archive past 64, and the last one of 128; and one more
+-- the 65th archive and the 128th, which are accepted; and one more, which is not
 abbrev pub AtTheLimits : Type 0
 AtTheLimits =
     (verdict (with_more 63) (adding (archive Last 1 1)) ≡ None)
     × (verdict (with_more 126) (adding (archive Last 1 1)) ≡ None)
     × (verdict (with_more 127) (adding (archive Last 1 1)) ≡ Some TooLarge)
 
--- an archive that was added is told of in the second version alone
+-- only version 2 has an entry for an archive that was added
 abbrev pub InVersions : Type 0
 InVersions =
     FitsWithin (limits_of Two) (with_more 1) AddedEntry

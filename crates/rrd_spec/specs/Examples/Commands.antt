@@ -19,7 +19,7 @@ six = update (reading 10 1 ∷ reading 20 2 ∷ reading 30 3 ∷ reading 40 4 �
 abbrev pub shrunk : Stored
 shrunk = run (small 6) (Changed six ∷ Changed (Resizing 0 Shrink 4) ∷ Changed (Resizing 0 Grow 4) ∷ [])
 
--- an archive made smaller shows no old row when it grows again; two reverts bring them back
+-- an archive that shrank shows no old row after it grows again; two reverts restore the rows
 abbrev pub ShrinkAndGrow : Type 0
 ShrinkAndGrow = (rows shrunk.content ≡ (nan ∷ nan ∷ nan ∷ nan ∷ known 5000000 ∷ known 6000000 ∷ []) ∷ [])
     × (rows (fold stored_after shrunk (Reverted ∷ Reverted ∷ [])).content
@@ -28,7 +28,7 @@ ShrinkAndGrow = (rows shrunk.content ≡ (nan ∷ nan ∷ nan ∷ nan ∷ known 
     × (verdict shrunk.content (Resizing 1 Grow 1) ≡ Some NoSuchArchive)
     × (verdict shrunk.content (Resizing 0 Grow 1000000) ≡ Some BadRows)
 
--- a journal of two places: the third revert finds nothing
+-- a journal of depth 2: the third revert finds no entry
 abbrev pub TwoPlaces : Type 0
 TwoPlaces =
     let end = run (record (small 4) { depth = 2 })
@@ -38,7 +38,7 @@ TwoPlaces =
     ∷ Reverted ∷ Reverted ∷ Reverted ∷ []) in
     (end.content.last ≡ 10) × (end.journal ≡ [])
 
--- an update is refused whole
+-- an update with one wrong sample is refused as a whole
 abbrev pub RefusedWhole : Type 0
 RefusedWhole =
     (verdict (small 4) (update (reading 10 1 ∷ reading 20 2 ∷ reading 20 3 ∷ [])) ≡ Some (NotLater 20))
@@ -50,7 +50,7 @@ RefusedWhole =
 abbrev pub to_gauge : Tuning
 to_gauge = record no_tuning { kind = Some ((letter 99, Gauge)); rename = Some ((letter 99, letter 103)) }
 
--- another type makes the raw value unknown, and a revert brings name and value back
+-- another type makes the raw value unknown, and a revert restores name and value
 abbrev pub Retyped : Type 0
 Retyped = let base = created 10 0 (record (counter 100) { name = letter 99 }) (archive Last 1 4 ∷ []) in
     let tuned = run base (Changed (update (reading 10 7 ∷ [])) ∷ Changed (TuningBy to_gauge) ∷ []) in
@@ -63,7 +63,7 @@ Retyped = let base = created 10 0 (record (counter 100) { name = letter 99 }) (a
 abbrev pub with_maximum : Tuning
 with_maximum = record no_tuning { maximum = Some ((letter 103, Some (pos 5000000))) }
 
--- new bounds don't change the interval before them; two reverts, and the same update is known again
+-- new bounds do not change the interval before them; after two reverts, the same update gives a known row again
 abbrev pub Bounded : Type 0
 Bounded =
     let tuned = run (small 4)

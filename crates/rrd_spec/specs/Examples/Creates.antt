@@ -1,4 +1,4 @@
--- Example: worked examples of new databases, and of what refuses one.
+-- Example: worked examples of new databases, and of the refusals of a create.
 use Rattle.std.specs.Prelude.{◌≡◌, ℕ, pos, Some, None, List, [], ◌∷◌, replicate}
 use Rattle.rrd_fold.specs.declared.function.Function.TheVariants.{Last}
 use Rattle.rrd_spec.specs.declared.requests.create.CreateSpec.{CreateSpec}
@@ -12,12 +12,13 @@ use Rattle.rrd_spec.specs.History.Steps.{step}
 abbrev pub asked : ℕ → List DsDef → List RraDef → CreateSpec
 asked step sources archives = record { step = step; start = 0; depth = 16; sources = sources; archives = archives }
 
--- a journal of this depth
+-- a database with a journal of this depth
 abbrev pub deep : ℕ → CreateSpec
 deep depth = record { step = 10; start = 0; depth = depth; sources = gauge 100 ∷ []; archives = archive Last 1 4 ∷ [] }
 
--- a step of 0; no source; a share of 1; nine archives of 1,000,000 rows, and eight; 129 archives; a depth of 100,000
--- and one more; one archive of 1,000,000 rows
+-- a step of 0; no data source; no archive; a share of 1; an archive of 1,000,001 rows; nine archives of 1,000,000 rows,
+-- and eight; 129 archives; a depth of 100,000, and one more; one archive of 1,000,000 rows; the content of a new
+-- database
 abbrev pub Created : Type 0
 Created =
     (create_verdict (asked 0 (gauge 100 ∷ []) (archive Last 1 4 ∷ [])) ≡ Some BadStep)

@@ -1,4 +1,4 @@
--- Example: worked examples of what a fetch reads, and of where the rows of an archive begin.
+-- Example: worked examples of the rows that a fetch reads, and of the oldest row of an archive.
 use Rattle.std.specs.Prelude.{◌≡◌, pos, negsuc, Ok, Err, [], ◌∷◌}
 use Rattle.rrd_fold.specs.declared.function.Function.TheVariants.{Min, Last}
 use Rattle.rrd_spec.specs.declared.refusal.Refusal.TheVariants.{BadSpan, BadTime, NoArchiveForFunction, SpanTooLong, NoSuchArchive}
@@ -12,7 +12,8 @@ use Rattle.rrd_spec.specs.Examples.{created, gauge, archive, at}
 abbrev pub two_archives : Content
 two_archives = content_listed (created 10 0 (gauge 100) (archive Last 1 3 ∷ archive Last 2 3 ∷ [])) (at 100 1 ∷ [])
 
--- the finer one reaches the start, only the coarser one does, neither does; and what is refused
+-- the finer archive reaches the start; only the coarser one does; neither does; a resolution of 20 is requested; and
+-- the refusals
 abbrev pub Fetched : Type 0
 Fetched =
     (choice two_archives Last 1 80 99 ≡ Ok (record { archive = 0; res = 10; lo = 80; hi = 100 }))
@@ -24,7 +25,7 @@ Fetched =
     × (choice two_archives Last 1 0 10000000000 ≡ Err BadTime)
     × (choice two_archives Last 1 0 9999999999 ≡ Err SpanTooLong)
 
--- where the rows of each archive begin, also before 1970; and no third archive
+-- the time of the oldest row of each archive, also before 1970; and no third archive
 abbrev pub Oldest : Type 0
 Oldest =
     (oldest_time two_archives 0 ≡ Ok (pos 80))

@@ -6,14 +6,14 @@ use Rattle.rrd_spec.specs.History.{Resized}
 use Rattle.rrd_spec.specs.Laws.ListedContent.{content_listed}
 use Rattle.rrd_spec.specs.Examples.{created, gauge, counter, archive, at, count_at, rows, known, nan}
 
--- two samples, one a step
+-- two samples, one for each step
 abbrev pub TwoSamples : Type 0
 TwoSamples =
     rows (content_listed (created 10 0 (gauge 100) (archive Average 1 4 ∷ []))
     (at 10 1 ∷ at 20 2 ∷ []))
     ≡ (nan ∷ nan ∷ known 1000000 ∷ known 2000000 ∷ []) ∷ []
 
--- an interval as long as the heartbeat, and one a second longer
+-- an interval as long as the heartbeat, and one that is a second longer
 abbrev pub Heartbeat : Type 0
 Heartbeat =
     rows (content_listed (created 100 1000 (gauge 200) (archive Average 1 10 ∷ []))
@@ -27,7 +27,7 @@ Shared =
     (at 5 2 ∷ at 35 4 ∷ []))
     ≡ (nan ∷ known 3000000 ∷ known 4000000 ∷ known 4000000 ∷ []) ∷ []
 
--- the manual's counter: a long one
+-- the counter of the manual page, with a long history
 abbrev pub Manual : Type 0
 Manual =
     map (drop 9)
@@ -42,7 +42,7 @@ Manual =
     ∷ known 20000 ∷ known 20000 ∷ known 20000 ∷ known 13333 ∷ known 16667 ∷ known 6667 ∷ known 3333 ∷ [])
     ∷ (known 23333 ∷ []) ∷ []
 
--- an archive made smaller shows no old row when it grows again
+-- an archive that shrank shows no old row after it grows again
 abbrev pub Shrunk : Type 0
 Shrunk =
     rows (content_listed (created 10 0 (gauge 100) (archive Last 1 6 ∷ []))

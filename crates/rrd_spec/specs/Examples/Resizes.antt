@@ -1,4 +1,4 @@
--- Example: a worked example of the rows, by their times, of an archive that was resized.
+-- Example: the rows, by their times, of an archive that was resized.
 use Rattle.std.specs.Prelude.{◌≡◌, pos, negsuc, List, [], ◌∷◌, map}
 use Rattle.rrd_fold.specs.declared.function.Function.TheVariants.{Last}
 use Rattle.rrd_spec.specs.History.{Content, Event, Resized}
@@ -13,7 +13,7 @@ shrunk = at 10 1 ∷ at 20 2 ∷ at 30 3 ∷ at 40 4 ∷ at 50 5 ∷ at 60 6 ∷
 abbrev pub six_rows : Content
 six_rows = created 10 0 (gauge 100) (archive Last 1 6 ∷ [])
 
--- its horizon is where the two rows began, and it ends at its last time
+-- the horizon is the time after which the two rows ended, and the end of the archive is its last time
 abbrev pub Resizing : Type 0
 Resizing =
     (map (horizon 10) (lives six_rows shrunk) ≡ pos 40 ∷ [])

@@ -13,7 +13,8 @@ use Rattle.rrd_spec.specs.Journal.Survivors.{Stored}
 
 -- ---- the lists
 
--- step and last time in seconds, the journal's depth, and how many sources, archives and entries there are
+-- the step and the last time in seconds, the depth of the journal, and the numbers of data sources, archives and
+-- entries
 pub record Header : Type 0 where
   pub version : Version
   pub step : ℕ
@@ -23,18 +24,18 @@ pub record Header : Type 0 where
   pub archives : ℕ
   pub entries : ℕ
 
--- a source: its settings, its last raw value and the part of its unfinished step
+-- a data source: its settings, its last raw value and the part of its unfinished step
 pub record Source : Type 0 where
   pub def : DsDef
   pub raw : Raw
   pub part : Part
 
--- an archive without its rows: its settings, and for each source the part of its unfinished row
+-- an archive without its rows: its settings, and the part of the unfinished row for each data source
 pub record Head : Type 0 where
   pub def : RraDef
   pub parts : List Part
 
--- cells come archive by archive, slot by slot, source by source; entries newest first
+-- cells are ordered by archive, then by slot, then by data source; entries are ordered newest first
 pub record Filed : Type 0 where
   pub header : Header
   pub sources : List Source
@@ -42,7 +43,7 @@ pub record Filed : Type 0 where
   pub cells : List Cell
   pub entries : List Entry
 
--- ---- those of a database
+-- ---- the lists of a database
 
 abbrev pub header_of : Version → Stored → Header
 header_of version d = record {

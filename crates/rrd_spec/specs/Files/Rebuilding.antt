@@ -1,5 +1,5 @@
--- Definition: which piece of a database is due when it comes piece by piece, as a file has it, which piece may come,
--- and what it adds (own).
+-- Definition: which record of a database is due if a file is read record by record, which record may come, and what it
+-- adds (this project's rule).
 use Rattle.std.specs.Prelude.{◌≡◌, ℕ, ◌+◌, ◌*◌, ◌/◌, ◌%◌, ◌<◌, ◌≤◌, false, nat_lt, if◌then◌else◌, Option, Some, None, List, [], ◌∷◌, ◌++◌, length, map, sum}
 use Rattle.std.specs.List.{fold}
 use Rattle.rrd_fixed.specs.declared.cell.Cell.{Cell}
@@ -23,16 +23,16 @@ use Rattle.rrd_spec.specs.Validity.{IsPart, IsSourceWithin}
 abbrev pub limits : Filed → Limits
 limits f = limits_of f.header.version
 
--- ---- which piece is due
+-- ---- which record is due
 
--- the archive that hasn't a preparation for each source yet, if there is one: archives come one by one, so it is the
--- last
+-- the archive that does not have a partial row for each data source yet, if there is one: archives are read one by one,
+-- so it is the last one
 abbrev pub unprepared : ℕ → List Head → Option RraDef
 unprepared sources [] = None
 unprepared sources (head ∷ heads) =
     if nat_lt (length head.parts) sources then Some head.def else unprepared sources heads
 
--- how many rows the archives have
+-- the number of rows in all archives
 abbrev pub rows_in_all : List Head → ℕ
 rows_in_all heads = sum (map (λ (head : Head). head.def.rows) heads)
 
@@ -46,13 +46,13 @@ abbrev pub prep_or : Option RraDef → Due → Due
 prep_or None due = due
 prep_or (Some def) due = PrepDue def
 
--- sources, then each archive's head with its preparations, then cells, then entries
+-- the order: data sources, then the settings of each archive with its partial rows, then cells, then entries
 unfoldable pub due : Filed → Due
 due f =
     if nat_lt (length f.sources) f.header.sources then SourceDue
     else prep_or (unprepared f.header.sources f.heads) (after_heads f)
 
--- ---- the rules of each piece, of what came before it
+-- ---- the rules of each record, by the records before it
 
 pub record IsHeader (h : Header) : Type 0 where
   pub some_step : 0 < h.step
@@ -90,7 +90,7 @@ pub record MayCell (f : Filed) (cell : Cell) : Type 0 where
   pub is_due : due f ≡ CellDue
   pub bounded : IsBounded cell
 
--- the outline that the header, the sources and the heads say
+-- the outline of the header, the data sources and the settings of the archives
 abbrev pub outline_filed : Filed → Outline
 outline_filed f = record {
   last = f.header.last;
@@ -98,7 +98,7 @@ outline_filed f = record {
   archives = map (λ (head : Head). head.def) f.heads;
 }
 
--- and once all entries that came have been undone
+-- the outline after all entries that were read have been undone
 abbrev pub outline_left : Filed → Outline
 outline_left f = fold outline_undone (outline_filed f) f.entries
 
@@ -106,7 +106,7 @@ pub record MayEntry (f : Filed) (entry : Entry) : Type 0 where
   pub is_due : due f ≡ EntryDue
   pub fits : MayUndo (limits f) f.header.step (outline_left f) entry
 
--- ---- what a piece adds
+-- ---- what a record adds
 
 abbrev pub begun : Header → Filed
 begun h = record { header = h; sources = []; heads = []; cells = []; entries = [] }

@@ -9,7 +9,7 @@ use Rattle.rrd_spec.specs.History.Groups.{Rule, finished, group_part, unfinished
 use Rattle.rrd_spec.specs.History.Steps.{steps_of}
 use Rattle.rrd_spec.specs.History.Lives.{Life}
 
--- the steps of a row of an archive, for so many sources
+-- how the steps of an archive make its rows, for `sources` data sources
 abbrev pub steps_to_rows : RraDef → ℕ → Rule (List Cell) (List Part) (List Cell)
 steps_to_rows def sources =
     record {
@@ -24,24 +24,24 @@ unfoldable pub rows_of : Content → Rra → List Event → List (List Cell)
 rows_of base archive events =
     finished (steps_to_rows archive.def (length base.sources)) (base.last / base.step) archive.parts (steps_of base events)
 
--- what an archive's unfinished row has made of its steps (rrdcreate, "RRA")
+-- the parts of an archive's unfinished row (rrdcreate, "RRA")
 unfoldable pub row_parts_of : Content → Rra → List Event → List Part
 row_parts_of base archive events =
     unfinished (steps_to_rows archive.def (length base.sources)) (base.last / base.step)
     archive.parts (steps_of base events)
 
--- ---- the archives that a history adds too
+-- ---- all archives, with those that a history adds
 
--- the steps of the history that an archive hasn't missed: those that end after it began
+-- the steps of the history that count for an archive: those that end after it began
 abbrev pub steps_for : Content → Life → List Event → List (List Cell)
 steps_for base life events = drop life.missed (steps_of base events)
 
--- how many steps had ended when it began, since 1970
+-- the number of steps since 1970 that had ended when the archive began
 abbrev pub steps_before : Content → Life → ℕ
 steps_before base life = life.birth.last / base.step
 
--- the row of this number: of the steps that end after so many rows, it has those that the archive hasn't missed. What
--- the archive began with in its unfinished row comes before them (rrdcreate, "RRA")
+-- row `number`, counted from 1970: its steps are those of its time that count for the archive, after the unfinished row
+-- that the archive began with (rrdcreate, "RRA")
 abbrev pub row : Content → Life → List Event → ℕ → List Cell
 row base life events number =
     let rule = steps_to_rows life.begun.def (length base.sources) in
@@ -52,7 +52,7 @@ abbrev pub row_ending : Content → Life → List Event → ℤ → List Cell
 row_ending base life events time =
     row base life events (unsigned_abs time / resolution base.step life.begun.def - 1)
 
--- what its unfinished row has made of its steps (rrdcreate, "RRA")
+-- the parts of the archive's unfinished row (rrdcreate, "RRA")
 unfoldable pub row_parts : Content → Life → List Event → List Part
 row_parts base life events =
     unfinished (steps_to_rows life.begun.def (length base.sources)) (steps_before base life) life.begun.parts

@@ -1,4 +1,4 @@
--- Definition: what the journal keeps of a command, and how it is undone (own).
+-- Definition: the journal entry of a command, and how it undoes the command (this project's rule).
 use Rattle.std.specs.Prelude.{◌≡◌, ℕ, zero, suc, pos, ◌+◌, ◌-◌, ◌/◌, min, Bool, false, ◌||◌, if◌then◌else◌, Option, Some, None, List, [], ◌∷◌, ◌++◌, map, length, take, slice_index_or, slice_set}
 use Rattle.std.specs.List.{fold, insert}
 use Rattle.rrd_fixed.specs.declared.cell.Cell.{Cell}
@@ -20,7 +20,8 @@ use Rattle.rrd_spec.specs.declared.requests.tune.ArchiveTune.TheVariants.{Add, R
 use Rattle.rrd_spec.specs.History.Rows.{row}
 use Rattle.rrd_spec.specs.History.Steps.{step}
 
--- what an update's entry keeps of an archive: its function, its preparations, and the oldest of its rows
+-- the values that the entry of an update saves of an archive: its function, the parts of its unfinished row, and its
+-- oldest rows
 pub record SavedArchive : Type 0 where
   pub function : Function
   pub parts : List Part
@@ -36,17 +37,18 @@ pub data Entry : Type 0 where
   UpdateEntry : BeforeUpdate → Entry
   TuneEntry : List SourceBefore → Entry
   ResizeEntry : ℕ → List (List Cell) → Entry
-  -- an archive was added; the archive of a number was removed
+  -- an archive was added; archive `number` was removed
   AddedEntry : Entry
   RemovedEntry : ℕ → Rra → Entry
 
 -- ---- the entry of a command
 
--- how many rows of an archive end after one time and not after another
+-- the number of an archive's rows that end after `from`, up to `to`
 abbrev pub rows_between : ℕ → RraDef → ℕ → ℕ → ℕ
 rows_between step def from to = to / resolution step def - from / resolution step def
 
--- of an archive, for an update from one time to another: as many of its oldest rows as the update finishes, or all
+-- the values saved of an archive by an update between two times: as many of its oldest rows as the update finishes, at
+-- most all
 abbrev pub saved : ℕ → ℕ → ℕ → Rra → SavedArchive
 saved step from to archive = record {
   function = archive.def.function;
@@ -63,7 +65,7 @@ is_named tuning source =
     is_asked tuning.heartbeat source || is_asked tuning.minimum source || is_asked tuning.maximum source
     || is_asked tuning.kind source || is_asked tuning.rename source
 
--- the sources that are named, as they are before the tune, by rising number
+-- the data sources that a tune names, as they are before it, by rising number
 abbrev pub sources_before : Tuning → ℕ → List DsDef → List Raw → List SourceBefore
 sources_before tuning number [] raws = []
 sources_before tuning number (source ∷ sources) [] = []
@@ -76,7 +78,7 @@ rows_at [] index = []
 rows_at (archive ∷ archives) zero = archive.rows
 rows_at (archive ∷ archives) (suc index) = rows_at archives index
 
--- the archive of a number, which is there
+-- archive `number`, which exists
 abbrev pub archive_at : List Rra → ℕ → Rra
 archive_at archives number =
     slice_index_or archives number (record {
@@ -85,12 +87,12 @@ archive_at archives number =
       rows = [];
     })
 
--- what is kept of an archive that comes or goes
+-- the entry of a tune that adds or removes an archive
 abbrev pub archive_entry : Content → ArchiveTune → Entry
 archive_entry base (Add def) = AddedEntry
 archive_entry base (Remove number) = RemovedEntry number (archive_at base.archives number)
 
--- what is kept of a content before an update that ends at a time
+-- the values saved of a content before an update that ends at a time
 abbrev pub before : Content → ℕ → BeforeUpdate
 before base end =
     record {
@@ -106,7 +108,7 @@ entry base (TuningBy tuning) =
     option_map_or (archive_entry base) tuning.archive (TuneEntry (sources_before tuning 0 base.sources base.raws))
 entry base (Resizing archive change rows) = ResizeEntry archive (rows_at base.archives archive)
 
--- how many cells there are in rows, in what an update saved, and in an entry
+-- the number of cells in rows, in the values that an update saved, and in an entry
 abbrev pub cells_in : List (List Cell) → ℕ
 cells_in [] = 0
 cells_in (row ∷ rows) = length row + cells_in rows
@@ -124,7 +126,7 @@ entry_cells (RemovedEntry number archive) = cells_in archive.rows
 
 -- ---- undoing
 
--- the old rows come back as the oldest; as many of the newest go
+-- the old rows return as the oldest; as many of the newest are removed
 abbrev pub put_back : Rra → SavedArchive → Rra
 put_back archive old =
     record archive { parts = old.parts; rows = old.rows ++ take (length archive.rows - length old.rows) archive.rows }
@@ -157,9 +159,9 @@ undone now (ResizeEntry archive rows) = record now { archives = with_rows_at now
 undone now AddedEntry = record now { archives = take (length now.archives - 1) now.archives }
 undone now (RemovedEntry number archive) = record now { archives = insert now.archives number archive }
 
--- ---- what can be undone
+-- ---- the contents whose commands can be undone
 
--- what undoing needs of a content: its archives have their rows, and there is a raw value per source
+-- the conditions for undoing: each archive has its rows, and each data source has a raw value
 pub record IsSound (base : Content) : Type 0 where
   pub is_base : IsBase base
   pub one_raw_each : length base.raws ≡ length base.sources

@@ -1,4 +1,4 @@
--- Definition: which journal entry fits an outline (own).
+-- Definition: which journal entry fits an outline (this project's rule).
 use Rattle.std.specs.Prelude.{◌≡◌, ◌≢◌, ℕ, ◌/◌, ◌%◌, ◌<◌, ◌≤◌, ◌≤ℤ◌, pos, min, true, false, List, [], ◌∷◌, ◌*◌, ◌+◌, length, slice_index_or, sum}
 use Rattle.std.specs.List.{AllByRecursion}
 use Rattle.rrd_fixed.specs.declared.cell.Cell.{Cell}
@@ -14,7 +14,7 @@ use Rattle.rrd_spec.specs.Journal.Entries.{BeforeUpdate, Entry, UpdateEntry, Tun
 use Rattle.rrd_spec.specs.Journal.Outlines.{rows_of, with_row_number, with_sources}
 use Rattle.rrd_spec.specs.Validity.{AreAccepted, AreParts, IsRow, IsSourceWithin, Rise}
 
--- what an update from one time to another saved of an archive of these settings
+-- the values that an update between two times may have saved of an archive with these settings
 pub record MaySave (step from to sources : ℕ) (def : RraDef) (old : SavedArchive) : Type 0 where
   pub same_function : old.function ≡ def.function
   pub parts_are : AreParts def.function sources (from / step % def.steps) old.parts
@@ -34,7 +34,7 @@ pub record MayUpdate (step : ℕ) (now : Outline) (old : BeforeUpdate) : Type 0 
   pub parts_are : AreParts Average (length now.sources) (old.last % step) old.parts
   pub archives_are : MaySaveEach step old.last now.last (length now.sources) now.archives old.archives
 
--- a data source before a tune, by itself
+-- a data source before a tune, checked without the others
 abbrev pub IsSourceBefore : Limits → SourceBefore → Type 0
 IsSourceBefore limits old = IsSourceWithin limits old.source × IsAccepted old.source.kind old.raw
 
@@ -59,7 +59,7 @@ pub record MayResize (limits : Limits) (now : Outline) (archive : ℕ) (rows : L
   pub old_rows : AreOldRows limits now archive (length rows)
   pub each_row : AllByRecursion (IsRow (length now.sources)) rows
 
--- an archive's settings
+-- the settings of an archive
 pub record IsArchiveDef (limits : Limits) (def : RraDef) : Type 0 where
   pub some_steps : 0 < def.steps
   pub few_steps : def.steps ≤ limits.most_steps
@@ -68,17 +68,17 @@ pub record IsArchiveDef (limits : Limits) (def : RraDef) : Type 0 where
   pub xff_low : pos 0 ≤ℤ def.xff
   pub xff_high : def.xff ≤ℤ pos limits.greatest_share
 
--- the number of a removed archive: there is a place for it
+-- the number of a removed archive: there is room for the archive at that number
 pub record IsRemovedNumber (limits : Limits) (now : Outline) (number : ℕ) : Type 0 where
   pub there : number ≤ length now.archives
   pub few : length now.archives < limits.most_archives
 
--- its settings: with its rows the cells are still few enough
+-- the settings of a removed archive: with its rows the cells are within the limit
 pub record AreRemovedSettings (limits : Limits) (now : Outline) (def : RraDef) : Type 0 where
   pub def_is : IsArchiveDef limits def
   pub few_cells : length now.sources * (sum (rows_of now.archives) + def.rows) ≤ limits.most_cells
 
--- a removed archive, as an archive of the last time
+-- a removed archive, with the partial rows of the last time
 pub record MayRemove (limits : Limits) (step : ℕ) (now : Outline) (number : ℕ) (archive : Rra) : Type 0 where
   pub number_is : IsRemovedNumber limits now number
   pub settings_are : AreRemovedSettings limits now archive.def
@@ -87,7 +87,7 @@ pub record MayRemove (limits : Limits) (step : ℕ) (now : Outline) (number : �
   pub rows_are : length archive.rows ≡ archive.def.rows
   pub each_row : AllByRecursion (IsRow (length now.sources)) archive.rows
 
--- whether an entry fits, steps of so many seconds being taken
+-- an entry fits an outline, if steps have `step` seconds
 abbrev pub MayUndo : Limits → ℕ → Outline → Entry → Type 0
 MayUndo limits step now (UpdateEntry old) = MayUpdate step now old
 MayUndo limits step now (TuneEntry olds) = MayTune limits now olds

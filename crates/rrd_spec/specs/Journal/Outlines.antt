@@ -1,5 +1,5 @@
--- Definition: the outline of a database, by which a journal entry is judged, and what is left of it once the entry is
--- undone (own).
+-- Definition: the outline of a database, which decides whether a journal entry fits, and the outline after the entry is
+-- undone (this project's rule).
 use Rattle.std.specs.Prelude.{ℕ, zero, suc, List, [], ◌∷◌, ◌-◌, length, map, slice_set, take}
 use Rattle.std.specs.List.{fold, insert}
 use Rattle.rrd_spec.specs.declared.entry.SourceBefore.{SourceBefore}
@@ -9,22 +9,22 @@ use Rattle.rrd_spec.specs.declared.settings.RraDef.{RraDef}
 use Rattle.rrd_spec.specs.History.{Content, definitions}
 use Rattle.rrd_spec.specs.Journal.Entries.{Entry, UpdateEntry, TuneEntry, ResizeEntry, AddedEntry, RemovedEntry}
 
--- a content's
+-- the outline of a content
 abbrev pub outline_of : Content → Outline
 outline_of content =
     record { last = content.last; sources = content.sources; archives = definitions content.archives }
 
--- the settings with those of a tune's entry
+-- the settings of the data sources after the entry of a tune is undone
 abbrev pub with_sources : List DsDef → List SourceBefore → List DsDef
 with_sources sources olds = fold (λ ss (old : SourceBefore). slice_set ss old.number old.source) sources olds
 
--- an archive has so many rows
+-- the settings of the archives with another number of rows of one archive
 abbrev pub with_row_number : List RraDef → ℕ → ℕ → List RraDef
 with_row_number [] index rows = []
 with_row_number (def ∷ defs) zero rows = record def { rows = rows } ∷ defs
 with_row_number (def ∷ defs) (suc index) rows = def ∷ with_row_number defs index rows
 
--- once an entry is undone
+-- the outline after an entry is undone
 abbrev pub outline_undone : Outline → Entry → Outline
 outline_undone now (UpdateEntry old) = record now { last = old.last }
 outline_undone now (TuneEntry olds) = record now { sources = with_sources now.sources olds }

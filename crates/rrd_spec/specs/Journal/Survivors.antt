@@ -1,4 +1,4 @@
--- Definition: commands that are accepted, refused and reverted, and which of them count in the end (own).
+-- Definition: commands that are accepted, refused and reverted, and which of them survive (this project's rule).
 use Rattle.std.specs.Prelude.{◌≡◌, ℕ, zero, suc, ◌+◌, ◌-◌, ◌≤◌, ◌<◌, min, if◌then◌else◌, None, List, [], ◌∷◌, ◌++◌, length, take, reverse}
 use Rattle.rrd_spec.specs.History.{Content}
 use Rattle.rrd_spec.specs.Commands.{DatabaseChange, content_of, moved}
@@ -10,8 +10,8 @@ pub data Action : Type 0 where
   Changed : DatabaseChange → Action
   Reverted : Action
 
--- the base, the entries that it came with (newest first), the commands that survive (newest first), and how many of
--- them can be reverted
+-- the base, the entries that it brought along (newest first), the commands that survive (newest first), and the number
+-- of surviving commands that can be reverted
 pub record State : Type 0 where
   pub base : Content
   pub brought : List Entry
@@ -23,7 +23,7 @@ pub record Stored : Type 0 where
   pub content : Content
   pub journal : List Entry
 
--- what the survivors make of the base
+-- the content that the survivors make of the base
 abbrev pub survived : Content → List DatabaseChange → Content
 survived base newest_first = content_of base (reverse newest_first)
 
@@ -36,10 +36,10 @@ entries base (suc n) (command ∷ commands) = entry (survived base commands) com
 abbrev pub journal_of : State → List Entry
 journal_of state = entries state.base state.revertible state.survivors ++ state.brought
 
--- ---- as the definition has it
+-- ---- the state of a run, by the definition
 
--- an accepted command survives. The journal has `depth` places: what it has no place for are its oldest entries,
--- those that were brought first of all
+-- an accepted command survives. The journal has room for `depth` entries: the oldest entries beyond are lost, those
+-- that were brought along before the others
 abbrev pub with_change : State → DatabaseChange → State
 with_change state command = record {
   base = state.base;
@@ -48,8 +48,8 @@ with_change state command = record {
   revertible = min (state.revertible + 1) state.base.depth;
 }
 
--- a revert drops the newest command that can be reverted; with none left, the newest entry that was brought is undone
--- in the base; with neither it is refused
+-- a revert drops the newest command that can be reverted; if there is none, the newest entry that was brought along is
+-- undone in the base; if there is none either, the revert is refused
 abbrev pub without_last : Content → List Entry → List DatabaseChange → ℕ → State
 without_last base brought (command ∷ survivors) (suc n) =
     record { base = base; brought = brought; survivors = survivors; revertible = n }
@@ -63,7 +63,7 @@ after state (Changed command) =
     if is_accepted (survived state.base state.survivors) command then with_change state command else state
 after state Reverted = without_last state.base state.brought state.survivors state.revertible
 
--- ---- as a database of a content and a journal does it
+-- ---- the same actions on a content and a journal
 
 abbrev pub reverted : Content → List Entry → Stored
 reverted now [] = record { content = now; journal = [] }
@@ -80,14 +80,14 @@ abbrev pub stored_after : Stored → Action → Stored
 stored_after stored (Changed command) = if is_accepted stored.content command then changed stored command else stored
 stored_after stored Reverted = reverted stored.content stored.journal
 
--- ---- that both agree
+-- ---- the agreement of both
 
--- each survivor was accepted on what the earlier ones had made
+-- each survivor was accepted on the content that the earlier survivors made
 abbrev pub AllAccepted : Content → List DatabaseChange → Type 0
 AllAccepted base [] = Unit {0}
 AllAccepted base (command ∷ commands) = (verdict (survived base commands) command ≡ None) × AllAccepted base commands
 
--- the brought entries, undone one after another, leave sound contents of the same depth
+-- undoing the brought entries one after another leaves sound contents of the same depth
 abbrev pub AllUndo : Content → List Entry → Type 0
 AllUndo base [] = Unit {0}
 AllUndo base (entry ∷ entries) =

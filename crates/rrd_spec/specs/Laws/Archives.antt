@@ -1,4 +1,4 @@
--- Law: histories in which archives come and go.
+-- Law: histories in which archives are added and removed.
 use Rattle.std.specs.Prelude.{◌≡◌, ℕ, ◌<◌, ℤ, List, [], ◌∷◌, ◌++◌, length, replicate}
 use Rattle.std.specs.List.{remove}
 use Rattle.rrd_spec.specs.declared.settings.RraDef.{RraDef}
@@ -8,29 +8,25 @@ use Rattle.rrd_spec.specs.History.Cells.{content, row_then}
 use Rattle.rrd_spec.specs.History.Lives.{new_archive}
 use Rattle.rrd_spec.specs.Laws.ListedLives.{content_lived}
 
--- the content's rows by list and by time are the same
-abbrev pub IsLived : Content → List Event → Type 0
-IsLived base es = IsBase base → IsHistory (moment_of base) es → content_lived base es ≡ content base es
-
--- a history in which archives come and go may be cut anywhere
+-- a history in which archives are added and removed may be cut anywhere
 abbrev pub CutsLives : Content → List Event → Type 0
 CutsLives base es =
     IsBase base → IsHistory (moment_of base) es → (fs : List Event) → IsHistory (moment_at_end base es) fs
     → content_lived base (es ++ fs) ≡ content_lived (content_lived base es) fs
 
--- an archive that is added stands behind the others, and is a new one; all else stays
+-- an archive that is added comes after the others, and is a new one; all else stays unchanged
 abbrev pub AddChanges : Content → RraDef → Type 0
 AddChanges base def =
     IsBase base → 0 < def.steps → 0 < def.rows → content base (Added def ∷ [])
     ≡ record base { archives = base.archives ++ new_archive (length base.sources) def ∷ [] }
 
--- one that is removed goes, and all else stays
+-- an archive that is removed is gone; all else stays unchanged
 abbrev pub RemoveChanges : Content → ℕ → Type 0
 RemoveChanges base number =
     IsBase base → content base (Removed number ∷ []) ≡ record base { archives = remove base.archives number }
 
--- what an archive that is added shows of the time up to its birth, whenever that is: nothing. So its horizon is as good
--- as one that is at least its end at its birth
+-- a new archive shows no known cell at any time up to its birth. So its horizon may as well be at least its end at its
+-- birth
 abbrev pub BlankAtFirst : ℕ → ℕ → ℕ → RraDef → ℤ → Type 0
 BlankAtFirst sources step last def time =
     row_then sources step last (new_archive sources def) time ≡ replicate sources Cell.Unknown

@@ -1,4 +1,4 @@
--- Law: what an archive shows, by time, by list and by age.
+-- Law: the rows that an archive shows, by time, as lists and by age.
 use Rattle.std.specs.Prelude.{◌≡◌, ◌++◌, ℕ, ◌-◌, ◌/◌, List, length, take, map, if◌then◌else◌, ℤ, nat_lt, Some, slice_index_or, ◌<◌, ◌≤◌, min, pos, slice_get}
 use Rattle.std.specs.List.{range_with_len}
 use Rattle.rrd_spec.specs.History.{Content, Rra, Event, moment_of, IsHistory, IsBase, Reading, Sampled, IsArchive}
@@ -10,11 +10,17 @@ use Rattle.rrd_spec.specs.Settings.{resolution}
 use Rattle.rrd_spec.specs.History.Steps.{steps_of, step as step_numbered}
 use Rattle.rrd_spec.specs.History.Rows.{rows_of, row}
 use Rattle.rrd_spec.specs.Laws.ListedContent.{KeepsArchives, content_listed, keep_last, filled_up, kept_rows}
+use Rattle.rrd_spec.specs.Laws.ListedLives.{content_lived}
 use Rattle.rrd_spec.specs.History.Cells.{row_at, cell_at, cell, content, row_by_time}
 
--- the content's rows by list and by time are the same, where no archive comes or goes
+-- the rows of a content as lists are its rows by their times, whatever archives are added and removed
 abbrev pub IsListed : Content → List Event → Type 0
 IsListed base events =
+    IsBase base → IsHistory (moment_of base) events → content_lived base events ≡ content base events
+
+-- if no archive is added or removed, the lists may be those of the base's archives, number by number
+abbrev pub IsListedByNumber : Content → List Event → Type 0
+IsListedByNumber base events =
     IsBase base → IsHistory (moment_of base) events → KeepsArchives events
     → content_listed base events ≡ content base events
 
@@ -31,7 +37,7 @@ ShowsByTime base events =
     (time : ℤ) → IsMultiple time (resolution base.step life.begun.def)
     → row_at (content base events) shown time ≡ row_by_time base life events time
 
--- so the content shows in each cell the one of that time
+-- so the content shows each cell of that row
 abbrev pub ShowsCells : Content → List Event → Type 0
 ShowsCells base events =
     IsBase base → IsHistory (moment_of base) events →
@@ -47,14 +53,14 @@ pub record ListsByNumber (base : Content) (archive : Rra) (events : List Event) 
       ≡ map (row base (life_of base archive) events)
       (range_with_len (base.last / base.step / archive.def.steps) (length (rows_of base archive events)))
 
--- the rows from before an update: the oldest of them, as many as the update finished, then those that it left
+-- the rows before an update are the oldest rows, as many as the update finished, followed by those that the update left
 abbrev pub RowsComeBack : Content → ℕ → Rra → List Reading → Type 0
 RowsComeBack base index archive samples =
     let f = length (rows_of base archive (map Sampled samples)) in let r = length archive.rows in IsArchive archive
     → take (min f r) archive.rows ++ take (r - min f r) (kept_rows base index archive (map Sampled samples))
     ≡ archive.rows
 
--- of the rows there ever were, the archive shows those that have had a place at every moment; a row is told by its
+-- of all rows that ever ended, the archive shows those for which it had room at every moment; a row is named by its
 -- age, 0 for the newest
 abbrev pub ShowsByAge : ℕ → ℕ → List (List Cell) → List Cell → Type 0
 ShowsByAge rows lasting all unknown =

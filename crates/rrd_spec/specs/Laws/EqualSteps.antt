@@ -1,4 +1,4 @@
--- Law: what many seconds or steps that are alike leave, all at once.
+-- Law: the effect of many equal seconds or steps, all at once.
 use Rattle.std.specs.Prelude.{◌≡◌, ℕ, ◌+◌, ◌-◌, ◌*◌, ◌/◌, ◌%◌, ◌<◌, ◌≤◌, pos, ◌≤ℤ◌, List, ◌∷◌, ◌++◌, length, map, replicate}
 use Rattle.std.specs.List.{fold}
 use Rattle.rrd_fixed.specs.declared.cell.Cell.{Cell}
@@ -9,16 +9,16 @@ use Rattle.rrd_spec.specs.History.{Rra, Content, IsBase}
 use Rattle.rrd_spec.specs.Laws.ListedContent.{keep_last}
 use Rattle.rrd_spec.specs.Laws.Passing.{archive_passed, passed}
 
--- ---- an archive, `before` steps having ended
+-- ---- an archive after `before` steps
 
--- steps may pass in two pieces
+-- steps may pass in two parts
 abbrev pub StepsInPieces : ℕ → ℕ → Rra → List (List Cell) → List (List Cell) → Type 0
 StepsInPieces sources before archive xs ys =
     0 < archive.def.steps
     → archive_passed sources before (xs ++ ys) archive
     ≡ archive_passed sources (before + length xs) ys (archive_passed sources before xs archive)
 
--- steps that leave their row unfinished change its parts alone
+-- steps that do not finish their row change only its parts
 abbrev pub StepsWithin : ℕ → ℕ → Rra → List (List Cell) → Type 0
 StepsWithin sources before archive steps =
     let def = archive.def in
@@ -26,12 +26,12 @@ StepsWithin sources before archive steps =
     archive_passed sources before steps archive
     ≡ record archive { parts = fold (with_each def.function) archive.parts steps }
 
--- how many steps the row in progress wants after the next one
+-- the number of steps that the row in progress needs after the next one
 abbrev pub steps_left : ℕ → ℕ → ℕ
 steps_left before size = (before / size + 1) * size - (before + 1)
 
--- a step, and many of another that fill the row and go on: they leave the row that was in progress, whole rows of
--- that other step, and what is past them
+-- one step, and many equal steps that fill the row and go on: they finish the row in progress, make whole rows of the
+-- equal steps, and leave the rest in the unfinished row
 abbrev pub StepsOver : ℕ → ℕ → ℕ → Rra → List Cell → List Cell → Type 0
 StepsOver sources before count archive first then =
     let def = archive.def in
@@ -47,8 +47,8 @@ StepsOver sources before count archive first then =
 
 -- ---- a content
 
--- the seconds that are left of the step in progress, and those of `count` whole steps, all of one rate for each
--- source: they end the step, and then as many of these rates
+-- the seconds left of the step in progress, and those of `count` whole steps, all with the same rates: they end the
+-- step, and then `count` steps with these rates
 abbrev pub SecondsOver : Content → ℕ → ℕ → List Cell → Type 0
 SecondsOver base left count rates =
     let sources = length base.sources in

@@ -1,4 +1,4 @@
--- Law: the lists that a file has of a database are those of no other one.
+-- Law: different databases have different lists in a file.
 use Rattle.std.specs.Prelude.{◌≡◌, ℕ, ◌<◌, List, length}
 use Rattle.std.specs.List.{AllByRecursion}
 use Rattle.rrd_fixed.specs.declared.cell.Cell.{Cell}
@@ -10,13 +10,13 @@ use Rattle.rrd_spec.specs.Files.Slots.{by_slot}
 use Rattle.rrd_spec.specs.Journal.Survivors.{Stored}
 use Rattle.rrd_spec.specs.Validity.{IsValidWithin}
 
--- so many rows with one cell of each source are told by their cells, slot by slot
+-- rows with one cell for each data source are equal if their numbers and their cells in slot order are
 abbrev pub RowsFiledOnce : ℕ → ℕ → ℕ → List (List Cell) → List (List Cell) → Type 0
 RowsFiledOnce resolution last sources rows others =
     0 < resolution → AllByRecursion (HasOneEach sources) rows → AllByRecursion (HasOneEach sources) others
     → length rows ≡ length others → by_slot resolution last rows ≡ by_slot resolution last others → rows ≡ others
 
--- a database whose content is valid is told by its lists
+-- databases with valid contents are equal if their lists are
 abbrev pub FiledOnce : Limits → Version → Stored → Stored → Type 0
 FiledOnce limits version d other =
     IsValidWithin limits d.content → IsValidWithin limits other.content → filed version d ≡ filed version other

@@ -1,4 +1,4 @@
--- Law: a history may be cut anywhere: what the first part leaves is the base of the rest.
+-- Law: a history may be cut anywhere: the content that the first part leaves is the base of the rest.
 use Rattle.std.specs.Prelude.{◌≡◌, ◌++◌, ℕ, ◌+◌, List, length, []}
 use Rattle.rrd_spec.specs.History.{Content, Event, moment_of, moment_at_end, IsHistory, IsBase}
 use Rattle.rrd_spec.specs.Commands.{events}
@@ -6,7 +6,7 @@ use Rattle.rrd_spec.specs.Laws.ListedContent.{content_listed}
 use Rattle.rrd_spec.specs.History.Cells.{content}
 use Rattle.rrd_spec.specs.History.Groups.{finished, unfinished, Rule}
 
--- For every list in two pieces, the groups go on where the first piece left them.
+-- for every list in two parts, the groups continue where the first part left them
 pub record GoesOn {A P B : Type 0} (rule : Rule A P B) (before : ℕ) (begun : P) (xs ys : List A) : Type 0 where
   pub finished_is :
       finished rule before begun (xs ++ ys)
@@ -15,7 +15,7 @@ pub record GoesOn {A P B : Type 0} (rule : Rule A P B) (before : ℕ) (begun : P
       unfinished rule before begun (xs ++ ys)
       ≡ unfinished rule (before + length xs) (unfinished rule before begun xs) ys
 
--- what a history in two pieces comes to is what its second piece makes of the first one's content
+-- the content of a history in two parts is that of the second part on the content of the first
 abbrev pub GoesOnFromContent : Content → List Event → List Event → Type 0
 GoesOnFromContent base first second =
     IsBase base → IsHistory (moment_of base) first → IsHistory (moment_at_end base first) second
@@ -24,11 +24,11 @@ GoesOnFromContent base first second =
 abbrev pub StaysBase : Content → List Event → Type 0
 StaysBase base events = IsBase base → IsHistory (moment_of base) events → IsBase (content base events)
 
--- without an event a content stays as it is
+-- a content without an event stays unchanged
 abbrev pub StaysAsItIs : Content → Type 0
 StaysAsItIs base = IsBase base → content_listed base [] ≡ base
 
--- a history may be cut anywhere, its rows being said by list
+-- a history may be cut anywhere, with its rows as lists
 abbrev pub GoesOnListed : Content → List Event → List Event → Type 0
 GoesOnListed base first second =
     IsBase base → IsHistory (moment_of base) first → IsHistory (moment_at_end base first) second

@@ -1,5 +1,6 @@
--- Law: the content of a history with its rows as the list of those that are kept, which proofs go by. `content` in
--- History/Cells says each row by its time, and is the definition; `IsListed` in Laws/Cells says that both are the same.
+-- Law: the content of a history in which no archive is added or removed, each archive's rows as the list of those that
+-- are kept; proofs use this form. `content` in History/Cells gives each row by its time, and is the definition;
+-- `IsListedByNumber` in Laws/Cells says that both are equal.
 use Rattle.std.specs.Prelude.{ℕ, ◌+◌, ◌-◌, ◌/◌, min, List, [], ◌∷◌, ◌++◌, map, length, drop, replicate}
 use Rattle.std.specs.List.{enumerate_from}
 use Rattle.rrd_fixed.specs.declared.cell.Cell.{Cell}
@@ -9,7 +10,7 @@ use Rattle.rrd_spec.specs.History.Steps.{parts_of}
 use Rattle.rrd_spec.specs.History.Rows.{row_parts_of, rows_of}
 use Rattle.rrd_spec.specs.Commands.{DatabaseChange, events, settings_of}
 
--- no archive comes or goes: of such events the list below is made, all archives being the base's
+-- no archive is added or removed, so that all archives are the base's: the list below needs this
 abbrev pub KeepsArchives : List Event → Type 0
 KeepsArchives [] = Unit {0}
 KeepsArchives (Sampled sample ∷ events) = KeepsArchives events
@@ -18,23 +19,23 @@ KeepsArchives (Resized archive rows ∷ events) = KeepsArchives events
 KeepsArchives (Added def ∷ events) = ⊥
 KeepsArchives (Removed archive ∷ events) = ⊥
 
--- the newest items, so many of them
+-- the `n` newest items
 abbrev pub keep_last : {A : Type 0} → ℕ → List A → List A
 keep_last n xs = drop (length xs - n) xs
 
--- how many of the newest rows have had a place at every moment from the first to the last. `since` says how many rows
--- ended after a time
+-- the number of the newest rows for which there was room at every moment from the first to the last. `since` is the
+-- number of rows that ended after a time
 abbrev pub rows_never_lost : ℕ → (ℕ → ℕ) → ℕ → Moment → List Event → ℕ
 rows_never_lost index since rows now [] = rows + since now.last
 rows_never_lost index since rows now (event ∷ events) =
     min (rows + since now.last)
     (rows_never_lost index since (rows_after index rows event) (moment_after now event) events)
 
--- the items, with unknown ones before them where they are too few
+-- the items; if there are fewer than `n`, unknown items precede them
 abbrev pub filled_up : {A : Type 0} → ℕ → A → List A → List A
 filled_up n unknown items = replicate (n - length items) unknown ++ items
 
--- the base's rows and those that ended since, as far as they have always had a place (rrdcreate, "RRA"; rrdresize)
+-- the base's rows and those that ended since, as far as there was always room for them (rrdcreate, "RRA"; rrdresize)
 unfoldable pub kept_rows : Content → ℕ → Rra → List Event → List (List Cell)
 kept_rows base index archive events =
     let size = resolution base.step archive.def in
@@ -60,6 +61,6 @@ content_listed base events = record base {
   archives = map (archive_of base events) (enumerate_from 0 base.archives);
 }
 
--- the same, its rows being the list of those that are kept
+-- a content after one command, with the rows as lists
 abbrev pub moved_listed : Content → DatabaseChange → Content
 moved_listed base command = content_listed base (events (settings_of base) command)

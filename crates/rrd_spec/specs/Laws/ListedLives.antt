@@ -1,4 +1,6 @@
--- Law: the content of a history in which archives come and go, the rows of each as a list, which proofs go by.
+-- Law: the content of any history, also one in which archives are added and removed, each archive's rows as the list of
+-- those that are kept; proofs use this form. `content` in History/Cells gives each row by its time, and is the
+-- definition; `IsListed` in Laws/Cells says that both are equal.
 use Rattle.std.specs.Prelude.{ℕ, ◌-◌, ◌/◌, List, ◌++◌, map, length, replicate}
 use Rattle.rrd_fixed.specs.declared.cell.Cell.{Cell}
 use Rattle.rrd_spec.specs.Settings.{resolution}
@@ -9,13 +11,13 @@ use Rattle.rrd_spec.specs.History.Rows.{row_parts, steps_before, steps_for, step
 use Rattle.rrd_spec.specs.History.Steps.{parts_of}
 use Rattle.rrd_spec.specs.Laws.ListedContent.{filled_up, keep_last, rows_never_lost}
 
--- the rows of an archive that ended since it began
+-- the rows of an archive that ended since the archive began
 unfoldable pub rows_for : Content → List Event → Life → List (List Cell)
 rows_for base events life =
     finished (steps_to_rows life.begun.def (length base.sources)) (steps_before base life) life.begun.parts
     (steps_for base life events)
 
--- those that it began with and those that ended since, as far as they have always had a place
+-- the rows that the archive began with and those that ended since, as far as there was always room for them
 unfoldable pub kept_for : Content → List Event → Life → List (List Cell)
 kept_for base events life =
     let size = resolution base.step life.begun.def in

@@ -1,4 +1,4 @@
--- Law: what seconds leave of a content: steps and rows, one after another.
+-- Law: the content after seconds have passed: steps and rows, one after another.
 use Rattle.std.specs.Prelude.{◌≡◌, ◌++◌, ℕ, ◌+◌, ◌-◌, ◌/◌, List, length, map, [], ◌∷◌, ◌<◌, replicate, ◌*◌}
 use Rattle.std.specs.List.{fold}
 use Rattle.rrd_spec.specs.History.{Content, Rra, IsBase, Reading, Sampled, rates}
@@ -10,7 +10,7 @@ use Rattle.rrd_spec.specs.History.Groups.{finished, unfinished}
 use Rattle.rrd_fold.specs.declared.function.Function.TheVariants.{Average}
 use Rattle.rrd_fold.specs.Parts.{with_each}
 
--- an archive after these steps, `before` having ended earlier
+-- an archive after these steps, if `before` steps ended earlier
 unfoldable pub archive_passed : ℕ → ℕ → List (List Cell) → Rra → Rra
 archive_passed sources before steps archive = record archive {
   parts = unfinished (steps_to_rows archive.def sources) before archive.parts steps;
@@ -31,18 +31,18 @@ passed base seconds =
           (finished rule base.last base.parts seconds)) base.archives;
     }
 
--- seconds that pass in two pieces
+-- seconds that pass in two parts
 abbrev pub PassesInPieces : Content → List (List Cell) → List (List Cell) → Type 0
 PassesInPieces base xs ys = IsBase base → passed base (xs ++ ys) ≡ passed (passed base xs) ys
 
--- seconds that leave their step unfinished change its parts alone
+-- seconds that do not finish their step change only its parts and the last time
 abbrev pub PassesWithin : Content → List (List Cell) → Type 0
 PassesWithin base seconds =
     let last = base.last + length seconds in
     IsBase base → last < (base.last / base.step + 1) * base.step → passed base seconds
     ≡ record base { last = last; parts = fold (with_each Average) base.parts seconds }
 
--- a sample is its rates, in each second of its interval
+-- a sample has the effect of its rates in each second of its interval
 abbrev pub SampledPasses : Content → Reading → Type 0
 SampledPasses base sample =
     IsBase base → base.last < sample.time

@@ -1,15 +1,16 @@
--- Law: which row stands in which slot of a file, and what a file has once a row is put into its place.
+-- Law: which row is in which slot of a file, and the cells of a file after a row is put at its index.
 use Rattle.std.specs.Prelude.{◌≡◌, ◌≢◌, ℕ, ◌+◌, ◌*◌, ◌<◌, List, [], ◌++◌, length, take, drop, slice_index_or, slice_set}
 use Rattle.std.specs.List.{AllByRecursion}
 use Rattle.rrd_fixed.specs.declared.cell.Cell.{Cell}
 use Rattle.rrd_spec.specs.Settings.{resolution}
 use Rattle.rrd_spec.specs.History.Cells.{row_at, time_of}
 use Rattle.rrd_spec.specs.History.{Rra, Content}
-use Rattle.rrd_spec.specs.Files.Slots.{by_slot, place_in, row_in, slot_of}
+use Rattle.rrd_spec.specs.Files.Slots.{by_slot, row_in, slot_of}
+use Rattle.rrd_spec.specs.Files.Places.{place_in}
 
--- ---- slots and places
+-- ---- slots and indexes
 
--- each slot has a place, whose row's time has that slot
+-- each slot has an index, and the time of the row at that index has the slot
 pub record HasPlace (resolution last rows slot : ℕ) : Type 0 where
   pub there : place_in resolution last rows slot < rows
   pub back : slot_of resolution rows (time_of resolution rows last (place_in resolution last rows slot)) ≡ slot
@@ -17,7 +18,7 @@ pub record HasPlace (resolution last rows slot : ℕ) : Type 0 where
 abbrev pub SlotHasPlace : ℕ → ℕ → ℕ → ℕ → Type 0
 SlotHasPlace resolution last rows slot = 0 < resolution → slot < rows → HasPlace resolution last rows slot
 
--- each place has a slot, that of its row's time
+-- each index has a slot: that of its row's time
 pub record HasSlot (resolution last rows place : ℕ) : Type 0 where
   pub there : slot_of resolution rows (time_of resolution rows last place) < rows
   pub back : place_in resolution last rows (slot_of resolution rows (time_of resolution rows last place)) ≡ place
@@ -25,20 +26,20 @@ pub record HasSlot (resolution last rows place : ℕ) : Type 0 where
 abbrev pub PlaceHasSlot : ℕ → ℕ → ℕ → ℕ → Type 0
 PlaceHasSlot resolution last rows place = 0 < resolution → place < rows → HasSlot resolution last rows place
 
--- different slots have different places
+-- different slots have different indexes
 abbrev pub PlacesDiffer : ℕ → ℕ → ℕ → ℕ → ℕ → Type 0
 PlacesDiffer resolution last rows slot other =
     slot < rows → other < rows → slot ≢ other → place_in resolution last rows slot ≢ place_in resolution last rows other
 
 -- ---- rows
 
--- the row in a slot, found by its time, is the one in the slot's place
+-- the row in a slot, found by its time, is the one at the slot's index
 abbrev pub StandsInPlace : ℕ → ℕ → List (List Cell) → ℕ → Type 0
 StandsInPlace resolution last rows slot =
     0 < resolution → slot < length rows
     → row_in resolution last rows slot ≡ slice_index_or rows (place_in resolution last (length rows) slot) []
 
--- a content shows at the time of a place the row in it
+-- a content shows at the time of an index the row at that index
 abbrev pub ShowsInPlace : Content → Rra → ℕ → Type 0
 ShowsInPlace content archive place =
     let size = resolution content.step archive.def in
@@ -46,11 +47,11 @@ ShowsInPlace content archive place =
     → row_at content archive (time_of size (length archive.rows) content.last place)
     ≡ slice_index_or archive.rows place []
 
--- the rows with another one in a slot's place
+-- the rows with another row at a slot's index
 abbrev pub with_row_in : ℕ → ℕ → List (List Cell) → ℕ → List Cell → List (List Cell)
 with_row_in resolution last rows slot row = slice_set rows (place_in resolution last (length rows) slot) row
 
--- that row is then in that slot, and in other slots are those that were there
+-- the new row is then in that slot, and the other slots keep their rows
 abbrev pub PutsRow : ℕ → ℕ → List (List Cell) → ℕ → List Cell → Type 0
 PutsRow resolution last rows slot row =
     0 < resolution → slot < length rows → row_in resolution last (with_row_in resolution last rows slot row) slot ≡ row
@@ -60,25 +61,25 @@ KeepsRow resolution last rows slot row other =
     0 < resolution → slot < length rows → other < length rows → other ≢ slot
     → row_in resolution last (with_row_in resolution last rows slot row) other ≡ row_in resolution last rows other
 
--- ---- cells, where all rows have one of each source
+-- ---- cells, if each row has one cell for each data source
 
 abbrev pub HasOneEach : ℕ → List Cell → Type 0
 HasOneEach sources row = length row ≡ sources
 
--- as many cells as rows and sources
+-- there are as many cells as rows times data sources
 abbrev pub AsManyCells : ℕ → ℕ → ℕ → List (List Cell) → Type 0
 AsManyCells resolution last sources rows =
     0 < resolution → AllByRecursion (HasOneEach sources) rows
     → length (by_slot resolution last rows) ≡ length rows * sources
 
--- the cell of a slot and a source is that of the row in the slot's place
+-- the cell of a slot and a data source is that of the row at the slot's index
 abbrev pub CellStandsInSlot : ℕ → ℕ → ℕ → List (List Cell) → ℕ → ℕ → Cell → Type 0
 CellStandsInSlot resolution last sources rows slot source or =
     0 < resolution → AllByRecursion (HasOneEach sources) rows → slot < length rows → source < sources
     → slice_index_or (by_slot resolution last rows) (slot * sources + source) or
     ≡ slice_index_or (slice_index_or rows (place_in resolution last (length rows) slot) []) source or
 
--- another row in a slot's place makes one block of cells another
+-- another row at a slot's index changes one block of cells
 abbrev pub PutsBlock : ℕ → ℕ → ℕ → List (List Cell) → ℕ → List Cell → Type 0
 PutsBlock resolution last sources rows slot row =
     let cells = by_slot resolution last rows in
@@ -86,7 +87,7 @@ PutsBlock resolution last sources rows slot row =
     → by_slot resolution last (with_row_in resolution last rows slot row)
     ≡ take (slot * sources) cells ++ (row ++ drop ((slot + 1) * sources) cells)
 
--- another cell of that row makes that one cell another
+-- another cell in that row changes only that cell
 abbrev pub PutsCell : ℕ → ℕ → ℕ → List (List Cell) → ℕ → ℕ → Cell → Type 0
 PutsCell resolution last sources rows slot source cell =
     let row = slice_index_or rows (place_in resolution last (length rows) slot) [] in

@@ -1,4 +1,4 @@
--- Law: what is made of something valid is valid.
+-- Law: results of valid values are valid.
 use Rattle.std.specs.Prelude.{◌≡◌, ℕ, ◌+◌, List, length, None, ◌≤◌}
 use Rattle.std.specs.List.{AllByRecursion}
 use Rattle.rrd_spec.specs.Limits.{present}
@@ -14,15 +14,15 @@ use Rattle.rrd_fold.specs.declared.function.Function.{Function}
 use Rattle.rrd_fold.specs.Parts.{Part, with_each}
 use Rattle.rrd_spec.specs.Laws.Passing.{archive_passed, passed}
 
--- a database that isn't refused is valid
+-- a new database that is not refused is valid
 abbrev pub CreatedIsValid : CreateSpec → Type 0
 CreatedIsValid spec = create_verdict spec ≡ None → IsValid (created spec)
 
--- an accepted command moves a valid content to a valid one
+-- an accepted command leaves a valid content valid
 abbrev pub StaysValid : Content → DatabaseChange → Type 0
 StaysValid base command = IsValid base → verdict base command ≡ None → IsValid (moved base command)
 
--- what seconds leave of a valid content is valid, and what steps leave of a valid archive
+-- seconds leave a valid content valid, and steps leave a valid archive valid
 abbrev pub StaysValidFor : Content → List (List Cell) → Type 0
 StaysValidFor base seconds =
     IsValid base → AllByRecursion (IsRow (length base.sources)) seconds →
@@ -33,7 +33,7 @@ ArchiveStaysValid sources before steps archive =
     IsValidArchive sources before archive → AllByRecursion (IsRow sources) steps
     → IsValidArchive sources (before + length steps) (archive_passed sources before steps archive)
 
--- parts of no cell are parts, and so are parts with one cell more each
+-- parts with one more cell each are within their bounds
 abbrev pub PartsGrow : Function → ℕ → ℕ → List Part → List Cell → Type 0
 PartsGrow function sources n parts row =
     AreParts function sources n parts → IsRow sources row

@@ -1,5 +1,5 @@
--- Law: what is within the limits of a version is within those of every database; and of archives that came or went a
--- file of the first version tells nothing.
+-- Law: the limits of each version are within those of every database; and a file of version 1 has no entry for an
+-- archive that was added or removed.
 use Rattle.std.specs.Prelude.{◌≡◌, ℕ, List}
 use Rattle.rrd_spec.specs.Limits.{limits_of}
 use Rattle.rrd_spec.specs.History.{Rra, Content}
@@ -24,7 +24,7 @@ abbrev pub DatabaseIsWithin : Version → Content → List Entry → Type 0
 DatabaseIsWithin version now journal =
     IsValidDatabaseWithin (limits_of version) now journal → IsValidDatabase now journal
 
--- neither entry may come in a file of the first version, whatever came before it
+-- in a file of version 1 neither entry may come, whatever came before it
 abbrev pub FirstTellsNoArchive : Filed → Type 0
 FirstTellsNoArchive f =
     f.header.version ≡ One

@@ -1,4 +1,4 @@
--- Law: what is shown of the archive of a number.
+-- Law: the rows and parts that are shown of archive `number`.
 use Rattle.std.proofs.Common.{◌≡◌, refl, ℕ, zero, suc, ◌<◌, ℤ, List, [], ◌∷◌, length, get_or}
 use Rattle.std.proofs.Math.Nat.{le_of_suc-le-suc, not-suc-le-zero}
 use Rattle.rrd_fixed.specs.declared.cell.Cell.TheVariants.{Unknown}

@@ -1,4 +1,4 @@
--- Law: samples that pass their checks come one after another.
+-- Law: samples that pass their checks have rising times.
 use Rattle.std.proofs.Common.{List, [], ◌∷◌, map}
 use Rattle.std.proofs.lemmas.Bool.{leb-false}
 use Rattle.std.specs.List.{AllByRecursion}

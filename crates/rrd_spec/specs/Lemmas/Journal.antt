@@ -1,4 +1,4 @@
--- Law: undoing an entry keeps the journal's depth.
+-- Law: undoing an entry keeps the depth of the journal.
 use Rattle.std.proofs.Common.{◌≡◌, refl, List, [], ◌∷◌}
 use Rattle.std.specs.List.{fold}
 use Rattle.rrd_spec.specs.declared.entry.SourceBefore.{SourceBefore}

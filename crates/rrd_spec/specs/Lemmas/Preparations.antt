@@ -1,4 +1,4 @@
--- Law: the preparations of many sources, one source after another.
+-- Law: the partial steps and rows of many data sources, one after another.
 use Rattle.std.proofs.Common.{◌≡◌, refl, sym, ◌∙◌, ap, ap₂, ℕ, zero, suc, List, [], ◌∷◌, length, map, replicate}
 use Rattle.std.specs.List.{fold}
 use Rattle.rrd_fixed.specs.declared.cell.Cell.{Cell}
@@ -11,7 +11,7 @@ use Rattle.rrd_spec.specs.History.Steps.{step}
 
 -- ---- parts
 
--- the same row of cells many times, source by source
+-- the same row of cells many times, data source by data source
 pub fold-with_each : (function : Function) (n : ℕ) (parts : List Part) (cells : List Cell)
     → fold (with_each function) parts (replicate n cells)
     ≡ map_each (λ p c. fold (with_cell function) p (replicate n c)) parts cells
@@ -33,9 +33,9 @@ fold-with_each function n (part ∷ parts) (cell ∷ cells) =
       each zero part parts = refl
       each (suc n) part parts = each n (with_cell function part cell) (with_each function parts cells)
 
--- ---- preparations
+-- ---- partial rows
 
--- the parts of preparations of one function
+-- the parts of partial rows with the same function
 parts_in-each : (function : Function) (count : ℕ) (preps : List Consolidating) (step : List Cell)
     → AllOf function preps
     → parts_in (map_each (with_steps count) preps step)
@@ -58,7 +58,7 @@ pub parts_in-anew : (preps : List Consolidating) → parts_in (map anew preps) �
 parts_in-anew [] = refl
 parts_in-anew (prep ∷ preps) = ap (λ rest. nothing ∷ rest) (parts_in-anew preps)
 
--- they stay of that function
+-- partial rows keep their function
 pub AllOf-with_steps : (function : Function) (count : ℕ) (preps : List Consolidating) (step : List Cell)
     → AllOf function preps → AllOf function (map_each (with_steps count) preps step)
 AllOf-with_steps function count [] step of = tt

@@ -1,4 +1,4 @@
--- Law: the rates of many sources, one source after another.
+-- Law: the rates of many data sources, one after another.
 use Rattle.std.proofs.Common.{◌≡◌, ap, ℕ, zero, suc, ◌<◌, List, [], ◌∷◌, ◌++◌, length, take, drop, get_or, set}
 use Rattle.std.proofs.Math.Nat.{le_of_suc-le-suc, not-suc-le-zero}
 use Rattle.rrd_fixed.specs.declared.cell.Cell.{Cell}
@@ -9,7 +9,7 @@ use Rattle.rrd_spec.specs.History.{rates}
 use Rattle.rrd_spec.specs.Validity.{AreAccepted}
 use Rattle.rrd_spec.specs.Settings.{cells}
 
--- a raw value that its source accepts
+-- a raw value that its data source accepts
 pub accepted_at : (sources : List DsDef) (raws : List Raw) (i : ℕ) (d : DsDef) (r : Raw) → AreAccepted sources raws
     → i < length sources → i < length raws → IsAccepted (get_or sources i d).kind (get_or raws i r)
 accepted_at [] raws i d r is h k = absurd (not-suc-le-zero h)
@@ -18,11 +18,11 @@ accepted_at (source ∷ sources) (raw ∷ raws) zero d r is h k = is.0
 accepted_at (source ∷ sources) (raw ∷ raws) (suc i) d r is h k =
     accepted_at sources raws i d r is.1 (le_of_suc-le-suc h) (le_of_suc-le-suc k)
 
--- the rate of one source
+-- the rate of one data source
 abbrev pub rate_of : ℕ → DsDef → Raw → Raw → Cell
 rate_of interval source old new = rate source.kind old new interval source.heartbeat source.min source.max
 
--- one rate more
+-- one more rate
 pub rates_more : (sources : List DsDef) (interval : ℕ) (olds news : List Raw) (cells : List Cell)
     (i : ℕ) (d : DsDef) (r s : Raw) (cell : Cell)
     → i < length sources → i < length olds → i < length news → i < length cells

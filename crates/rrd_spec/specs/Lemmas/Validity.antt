@@ -1,4 +1,4 @@
--- Law: what a valid content has, as proofs use it.
+-- Law: the properties of a valid content that proofs use.
 use Rattle.std.proofs.Common.{◌≡◌, refl, ap, ℕ, suc, ◌/◌, List, [], ◌∷◌, length}
 use Rattle.std.specs.List.{AllByRecursion}
 use Rattle.rrd_fixed.specs.declared.cell.Cell.{Cell}
@@ -9,7 +9,7 @@ use Rattle.rrd_spec.specs.History.{Rra, Content, IsArchive, IsBase}
 use Rattle.rrd_spec.specs.Lemmas.Lists.{All-weaker}
 use Rattle.rrd_spec.specs.Validity.{AreAccepted, IsRow, IsValid, IsValidArchive}
 
--- there is a raw value for each source
+-- there is one raw value for each data source
 pub length-accepted : (sources : List DsDef) (raws : List Raw) → AreAccepted sources raws
     → length raws ≡ length sources
 length-accepted [] [] h = refl
@@ -17,13 +17,13 @@ length-accepted [] (raw ∷ raws) h = absurd h
 length-accepted (source ∷ sources) [] h = absurd h
 length-accepted (source ∷ sources) (raw ∷ raws) h = ap suc (length-accepted sources raws h.1)
 
--- rows are as wide as there are sources
+-- each row has one cell for each data source
 pub rows_wide : (sources : ℕ) (rows : List (List Cell)) → AllByRecursion (IsRow sources) rows
     → AllByRecursion (λ (row : List Cell). length row ≡ sources) rows
 rows_wide sources rows is =
     All-weaker (IsRow sources) (λ (row : List Cell). length row ≡ sources) rows (λ row of. of.one_each) is
 
--- archives have their rows
+-- each archive has its rows
 pub is_archive : {sources steps : ℕ} (archive : Rra) → IsValidArchive sources steps archive → IsArchive archive
 is_archive archive is = record { some_steps = is.some_steps; some_rows = is.some_rows; rows_are = is.rows_are }
 
@@ -33,7 +33,7 @@ are_archives sources steps [] is = tt
 are_archives sources steps (archive ∷ archives) is =
     (is_archive archive is.0, are_archives sources steps archives is.1)
 
--- so it is a base for a history, and sound
+-- a valid content is a base for a history, and sound
 pub base_of_valid : (base : Content) → IsValid base → IsBase base
 base_of_valid base is = record {
   some_step = is.some_step;

@@ -1,26 +1,27 @@
-//! What a fetch asks, and what it reads.
+//! The request of a fetch, and the rows that the fetch reads.
 use rrd_fold::Function;
 
-/// What a fetch asks for (rrdfetch).
+/// The request of a fetch (rrdfetch).
 #[derive(Clone, Copy, Debug)]
 pub struct FetchRequest {
-    /// The function of the archives that may be read.
+    /// The consolidation function of the archives that the fetch may read.
     pub function: Function,
-    /// The seconds in a row that are wished for.
+    /// The requested resolution, in seconds per row.
     pub asked: u64,
-    /// The time from which rows are wanted, in seconds since 1970: 0 to 9,999,999,999.
+    /// The time from which rows are requested, in seconds since 1970: 0 to 9,999,999,999.
     pub start: u64,
-    /// The time up to which rows are wanted, in seconds since 1970: 0 to 9,999,999,999, not before the
-    /// start.
+    /// The time up to which rows are requested, in seconds since 1970: `start` to 9,999,999,999.
     pub end: u64,
 }
 
-/// What a fetch reads: the rows of an archive at the multiples of `res` from after `lo` up to `hi`.
+/// The rows of an archive that a fetch reads.
+///
+/// They are the rows at the multiples of `res` after `lo`, up to `hi`.
 #[derive(Clone, Copy, Debug, PartialEq, Eq)]
 pub struct Chosen {
-    /// The archive's number.
+    /// The number of the archive.
     pub archive: u64,
-    /// Seconds in a row.
+    /// The resolution, in seconds per row.
     pub res: u64,
     /// The start, in seconds since 1970, rounded down to a multiple of `res`.
     pub lo: u64,
@@ -28,13 +29,13 @@ pub struct Chosen {
     pub hi: u64,
 }
 
-/// An archive that can be read.
+/// An archive that a fetch may read.
 #[derive(Clone, Copy, Debug)]
 pub struct Candidate {
-    /// The archive's number.
+    /// The number of the archive.
     pub number: u64,
-    /// Seconds in a row.
+    /// The resolution, in seconds per row.
     pub resolution: u64,
-    /// The time after which its rows lie, in seconds since 1970, and negative where it is before that.
+    /// The time after which all rows end, in seconds since 1970; negative before 1970.
     pub reach: i64,
 }

@@ -1,10 +1,10 @@
-//! What a resize asks.
+//! The request of a resize.
 
-/// Whether an archive grows or shrinks (rrdresize).
+/// The direction of a resize (rrdresize).
 #[derive(Clone, Copy, Debug, PartialEq, Eq)]
 pub enum Change {
-    /// Unknown rows are added before the oldest: `GROW`.
+    /// `GROW`: unknown rows are added before the oldest row.
     Grow,
-    /// The oldest rows go: `SHRINK`.
+    /// `SHRINK`: the oldest rows are removed.
     Shrink,
 }

@@ -1,4 +1,4 @@
-//! What an update asks, and what an accepted one took.
+//! The request of an update, and the receipt of an accepted one.
 use crate::List;
 use rrd_fixed::{Name, Number};
 
@@ -7,33 +7,35 @@ use rrd_fixed::{Name, Number};
 pub enum Given {
     /// No value: `U`.
     Unknown,
-    /// A number, with a point or without.
+    /// A number, with or without a decimal point.
     Number(Number),
 }
 
-/// The values at a time (rrdupdate).
+/// The values of one time (rrdupdate).
 #[derive(Drop)]
 pub struct Sample {
-    /// Seconds since 1970: 0 to 9,999,999,999.
+    /// The time, in seconds since 1970: 0 to 9,999,999,999.
     pub time: u64,
-    /// A value for each source, in the template's order.
+    /// One value for each data source, in the order of the template.
     pub values: List<Given>,
 }
 
 /// Samples in the order of their times (rrdupdate).
 #[derive(Drop)]
 pub struct Update {
-    /// The names of the sources that get the values; without it all sources in their order.
+    /// The names of the data sources that get the values.
+    ///
+    /// `None` means all data sources, in order.
     pub template: Option<List<Name>>,
-    /// The samples; one is needed at least, and each has to be later than the one before it.
+    /// The samples: at least one, each later than the one before.
     pub samples: List<Sample>,
 }
 
-/// What an accepted update took.
+/// The cost of an accepted update.
 #[derive(Clone, Copy, Debug, PartialEq, Eq)]
 pub struct Receipt {
-    /// How many turns the preparations and the archives took.
+    /// The units of work of the partial steps, the partial rows and the archives.
     pub turns: u64,
-    /// How many cells its journal entry holds.
+    /// The number of cells in the journal entry.
     pub cells: u64,
 }

@@ -1,7 +1,8 @@
 //! Small databases, each call of rrd_base on its happy path: the readers, and updates of fewer, as many and
 //! more rows than an archive has and back.
-use crate::shared::databases::{assert_rows, database_of, updated};
-use rrd_base::{Database, Refusal};
+use crate::shared::databases::assert_rows;
+use crate::shared::plans::{Deed, FOUR_LAST, NEW, Plan, Samples, done, made};
+use rrd_base::{Database, Refusal, RraDef};
 use rrd_fixed::{Kind, Raw};
 use rrd_fold::Function;
 use std::process::Abort;
@@ -11,9 +12,21 @@ use std::test::Fail;
 
 // A gauge in rows of one and of three steps: 10 seconds at 2, 10 at 5, and 4 at 6 of a step in
 // progress.
-const TWO_ARCHIVES: &str = "create --step 10 --start 0 --journal 7 DS:g:GAUGE:100:U:U \
-RRA:LAST:0.5:1:4 RRA:AVERAGE:0.5:3:5\n\
-update 10:2 20:5 24:6\n";
+const TWO_ARCHIVES: Plan = Plan {
+    name: "two archives",
+    depth: 7,
+    archives: &[
+        FOUR_LAST,
+        RraDef {
+            function: Function::Average,
+            steps: 3,
+            rows: 5,
+            ..FOUR_LAST
+        },
+    ],
+    deeds: &[Deed::Update(&[(10, &[2]), (20, &[5]), (24, &[6])])],
+    ..NEW
+};
 
 fn assert_settings(rt: &impl Abort, database: &Database) {
     assert_eq!(rt; (database.step(), database.depth()), (10, 7));
@@ -43,7 +56,7 @@ fn assert_unfinished(rt: &impl Abort, database: &Database) {
 
 #[test]
 fn settings_and_what_is_unfinished(rt: HostRuntime) -> Result<(), Fail> {
-    let database = database_of(rt.alloc(), TWO_ARCHIVES)?;
+    let database = made(rt.alloc(), &TWO_ARCHIVES)?;
     assert_settings(&rt, &database);
     assert_unfinished(&rt, &database);
     Ok(())
@@ -52,8 +65,11 @@ fn settings_and_what_is_unfinished(rt: HostRuntime) -> Result<(), Fail> {
 // ---- updates and what takes them back
 
 // Four rows of 10 seconds, and half a step more.
-const BEFORE: &str = "create --step 10 --start 0 DS:g:GAUGE:100:U:U RRA:LAST:0.5:1:4\n\
-update 10:1 20:2 30:3 40:4 45:7\n";
+const BEFORE: Plan = Plan {
+    name: "four rows and half a step",
+    deeds: &[Deed::Update(&[(10, &[1]), (20, &[2]), (30, &[3]), (40, &[4]), (45, &[7])])],
+    ..NEW
+};
 
 fn assert_before(rt: &impl Abort, database: &Database) {
     assert_eq!(rt; (database.last(), database.undoable()), (45, 1));
@@ -68,24 +84,24 @@ fn assert_before(rt: &impl Abort, database: &Database) {
 // Updates, where their last four rows begin, and those rows. Of several samples that together finish
 // fewer rows than the archive has, as many, and more; and of one. The other half of the first step is
 // at 5, so its row is 6.
-const UPDATES: &[(&str, i64, [i128; 4])] = &[
+const UPDATES: &[(Samples, i64, [i128; 4])] = &[
     (
-        "update 50:5 60:6",
+        &[(50, &[5]), (60, &[6])],
         30,
         [3_000_000, 4_000_000, 6_000_000, 6_000_000],
     ),
     (
-        "update 50:5 60:6 80:8",
+        &[(50, &[5]), (60, &[6]), (80, &[8])],
         50,
         [6_000_000, 6_000_000, 8_000_000, 8_000_000],
     ),
     (
-        "update 50:5 60:6 80:8 90:9 100:10",
+        &[(50, &[5]), (60, &[6]), (80, &[8]), (90, &[9]), (100, &[10])],
         70,
         [8_000_000, 8_000_000, 9_000_000, 10_000_000],
     ),
     (
-        "update 145:9",
+        &[(145, &[9])],
         110,
         [9_000_000, 9_000_000, 9_000_000, 9_000_000],
     ),
@@ -94,10 +110,10 @@ const UPDATES: &[(&str, i64, [i128; 4])] = &[
 #[test]
 fn updates_are_taken_back(rt: HostRuntime) -> Result<(), Fail> {
     let alloc = rt.alloc();
-    let mut database = database_of(alloc, BEFORE)?;
+    let mut database = made(alloc, &BEFORE)?;
     assert_before(&rt, &database);
-    for (line, first, rows) in UPDATES {
-        updated(alloc, &mut database, line)?;
+    for (samples, first, rows) in UPDATES {
+        done(alloc, &mut database, &Deed::Update(*samples))?;
         assert_rows(&rt, &database, *first, 10, rows);
         database.revert()?;
         assert_before(&rt, &database);

@@ -2,16 +2,29 @@
 //! `.ci/refuse-in-tests` has each growth refused in turn; otherwise each piece is taken at once.
 use super::rebuild::{archive, finished, gauge, taken};
 use crate::file::bytes::file_of;
-use crate::shared::databases::{NONE, database_of};
+use crate::shared::databases::NONE;
+use crate::shared::files::assert_bytes;
+use crate::shared::plans::{NEW, PLAIN_GAUGE, Plan, Source, made};
 use rrd_base::{PieceFault, Rebuild, Version};
 use rrd_fixed::Raw;
 use std::alloc::Global;
 use std::process::Abort;
 use std::test::Fail;
 
-// Two gauges and an archive of four last values.
-const LINES: &str =
-    "create --step 10 --start 0 DS:a:GAUGE:100:U:U DS:b:GAUGE:100:U:U RRA:LAST:0.5:1:4\n";
+const TWO_GAUGES: Plan = Plan {
+    name: "two gauges",
+    sources: &[
+        Source {
+            name: "a",
+            ..PLAIN_GAUGE
+        },
+        Source {
+            name: "b",
+            ..PLAIN_GAUGE
+        },
+    ],
+    ..NEW
+};
 
 const TAKEN: Result<(), PieceFault> = Ok(());
 
@@ -71,7 +84,7 @@ fn pieces_are_taken(rt: HostRuntime) -> Result<(), Fail> {
         taken(pieces.cell(NONE))?;
     }
     let file = file_of(alloc, &finished(&rt, pieces))?;
-    let wanted = file_of(alloc, &database_of(alloc, LINES)?)?;
-    assert_eq!(&rt; file.as_slice(), wanted.as_slice());
+    let wanted = file_of(alloc, &made(alloc, &TWO_GAUGES)?)?;
+    assert_bytes(&rt, &file, &wanted, TWO_GAUGES.name);
     Ok(())
 }

@@ -1,6 +1,7 @@
 //! Databases from the pieces of their files, and pieces that are bad.
 use crate::file::bytes::{file_of, sampled_file};
 use crate::shared::databases::NONE;
+use crate::shared::files::assert_bytes;
 use arrayvec::ArrayVec;
 use rrd_base::{
     BeforeUpdate, Database, DsDef, Due, Entry, PieceFault, Rebuild, RraDef, SavedArchive,
@@ -98,7 +99,7 @@ fn a_file_made_again_by_its_pieces(rt: HostRuntime) -> Result<(), Fail> {
     assert_eq!(&rt; pieces.undone().last, 0);
     let database = finished(&rt, pieces);
     let file = file_of(alloc, &database)?;
-    assert_eq!(&rt; file.as_slice(), sampled_file(alloc)?.as_slice());
+    assert_bytes(&rt, &file, &sampled_file(alloc)?, "made again");
     Ok(())
 }
 
@@ -110,7 +111,11 @@ fn bad_headers(rt: HostRuntime) -> Result<(), Fail> {
         let Err(fault) = made else {
             return Err(Fail::from("begun"));
         };
-        assert_eq!(&rt; fault, PieceFault::Bad);
+        assert_eq!(&rt;
+            fault,
+            PieceFault::Bad,
+            "{step} {depth} {sources} {entries}"
+        );
     }
     Ok(())
 }
@@ -129,7 +134,8 @@ fn bad_sources_and_archives(rt: HostRuntime) -> Result<(), Fail> {
         let def = gauge(&name, 1_000)?;
         let again = def.duplicate();
         taken(pieces.source(def, Raw::Unknown, 0, 0))?;
-        assert_eq!(&rt; pieces.source(again, Raw::Unknown, 0, 0), BAD);
+        let double = pieces.source(again, Raw::Unknown, 0, 0);
+        assert_eq!(&rt; double, BAD, "{number}");
     }
     assert_eq!(&rt; pieces.archive(archive(1, 125_001)), BAD);
     assert_eq!(&rt; pieces.archive(archive(0, 1)), BAD);
@@ -165,42 +171,25 @@ fn with_two_sources(alloc: Global) -> Result<Rebuild, Fail> {
     Ok(pieces)
 }
 
-const PAST: Cell = Cell::Known(18_446_744_073_709_551_615_000_001);
-
-// Cells that come at once, and how many are taken: up to one past the greatest rate, and no more than are due.
-const CELLS: &[(&[Cell], usize)] = &[
-    (&[], 0),
-    (&[PAST, ONE], 0),
-    (&[ONE], 1),
-    (&[ONE, PAST], 1),
-    (&[ONE, NONE, PAST, ONE], 2),
-    (&[ONE, NONE, ONE, PAST], 3),
-    (&[ONE, ONE, ONE, ONE, NONE, PAST], 5),
-    (&[NONE, NONE, NONE, NONE, NONE, NONE, NONE], 6),
-    (&[ONE, NONE, NONE, ONE, ONE, ONE, ONE, ONE], 6),
-];
-
+// Rows at once come to the same as their cells one by one.
 #[test]
-fn cells_that_come_at_once(rt: HostRuntime) -> Result<(), Fail> {
+fn rows_are_their_cells(rt: HostRuntime) -> Result<(), Fail> {
     let alloc = rt.alloc();
-    for (cells, count) in CELLS {
-        let mut pieces = with_two_sources(alloc)?;
-        assert_eq!(&rt; pieces.cells(cells), *count);
-        // One by one they come to the same.
-        let mut again = with_two_sources(alloc)?;
-        for cell in cells.get(..*count).ok_or("short")? {
-            taken(again.cell(*cell))?;
-        }
-        for _ in *count..6 {
-            taken(pieces.cell(ONE))?;
-            taken(again.cell(ONE))?;
-        }
-        let (one, other) = (finished(&rt, pieces), finished(&rt, again));
-        assert_eq!(&rt;
-            file_of(alloc, &one)?.as_slice(),
-            file_of(alloc, &other)?.as_slice()
-        );
+    let mut pieces = with_two_sources(alloc)?;
+    assert_eq!(&rt; pieces.rows(&[ONE, NONE, ONE]), 2);
+    assert_eq!(&rt; pieces.unknown_rows(3), 2);
+    assert_eq!(&rt; pieces.rows(&[NONE, ONE, ONE, ONE]), 2);
+    let mut again = with_two_sources(alloc)?;
+    for cell in [ONE, NONE, NONE, NONE, NONE, ONE] {
+        taken(again.cell(cell))?;
     }
+    let (one, other) = (finished(&rt, pieces), finished(&rt, again));
+    assert_bytes(
+        &rt,
+        &file_of(alloc, &one)?,
+        &file_of(alloc, &other)?,
+        "rows at once",
+    );
     Ok(())
 }
 
@@ -224,7 +213,7 @@ fn rows_that_come_at_once(rt: HostRuntime) -> Result<(), Fail> {
     let rows = database.rows(0);
     for (number, row) in [[NONE, NONE], [ONE, NONE], [NONE, ONE]].iter().enumerate() {
         assert!(&rt; (number as u64) < rows.rows());
-        assert_eq!(&rt; rows.row(number as u64), row.as_slice());
+        assert_eq!(&rt; rows.row(number as u64), row.as_slice(), "{number}");
     }
     Ok(())
 }

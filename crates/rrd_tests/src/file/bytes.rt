@@ -1,9 +1,12 @@
 //! Files byte by byte, worked out by hand, and writers that fail.
-use crate::shared::databases::database_of;
+use crate::shared::files::assert_bytes;
 use crate::shared::joined;
+use crate::shared::plans::{Deed, FOUR_LAST, NEW, PLAIN_GAUGE, Plan, Source, Tuned, UNTUNED, made};
 use crate::shared::streams::{Manner, PLAIN, Taker};
-use rrd_base::Database;
+use rrd_base::{Database, RraDef};
 use rrd_file::encode;
+use rrd_fixed::Kind;
+use rrd_fold::Function;
 use std::alloc::{AllocError, Global};
 use std::process::Abort;
 use std::test::Fail;
@@ -376,79 +379,215 @@ pub(crate) fn renamed_file(alloc: Global) -> Result<Vec<u8>, AllocError> {
 
 // ---- databases
 
-// Steps of 10 seconds, the gauge `g` and an archive of four last values.
-pub(crate) const NEW: &str = "create --step 10 --start 0 DS:g:GAUGE:100:U:U RRA:LAST:0.5:1:4\n";
+const SAMPLE: Deed = Deed::Update(&[(10, &[1])]);
 
-pub(crate) const SAMPLED: &str = "create --step 10 --start 0 DS:g:GAUGE:100:U:U RRA:LAST:0.5:1:4\n\
-update 10:1\n";
+pub(crate) const SAMPLED: Plan = Plan {
+    name: "sampled",
+    deeds: &[SAMPLE],
+    ..NEW
+};
 
-pub(crate) const TAKEN_BACK: &str =
-    "create --step 10 --start 0 DS:g:GAUGE:100:U:U RRA:LAST:0.5:1:4\n\
-update 10:1\n\
-revert\n";
+pub(crate) const TAKEN_BACK: Plan = Plan {
+    name: "taken back",
+    deeds: &[SAMPLE, Deed::Revert],
+    ..NEW
+};
 
 // A sample of 1 at 10, a tune to a heartbeat of 200 and a least rate of -2, and two rows more.
-pub(crate) const THREE_CHANGES: &str =
-    "create --step 10 --start 0 DS:g:GAUGE:100:U:U RRA:LAST:0.5:1:4\n\
-update 10:1\n\
-tune --heartbeat g:200 --minimum g:-2\n\
-resize 0 GROW 2\n";
+pub(crate) const THREE_CHANGES: Plan = Plan {
+    name: "three changes",
+    deeds: &[
+        SAMPLE,
+        Deed::Tune(Tuned {
+            heartbeat: Some(("g", 200)),
+            minimum: Some(("g", -2_000_000)),
+            ..UNTUNED
+        }),
+        Deed::Grow(0, 2),
+    ],
+    ..NEW
+};
 
 // Two archives and two sources: a gauge, and one that counts up and down and has bounds.
-pub(crate) const TWO_SOURCES: &str = "create --step 10 --start 0 --journal 2 \
-DS:a:GAUGE:100:U:U DS:b:DERIVE:100:-10:4.5 RRA:LAST:0.5:1:6 RRA:MAX:0.5:2:3\n";
+pub(crate) const TWO_SOURCES: Plan = Plan {
+    name: "two sources",
+    depth: 2,
+    sources: &[
+        Source {
+            name: "a",
+            ..PLAIN_GAUGE
+        },
+        Source {
+            name: "b",
+            kind: Kind::Derive,
+            heartbeat: 100,
+            min: Some(-10_000_000),
+            max: Some(4_500_000),
+        },
+    ],
+    archives: &[
+        RraDef {
+            rows: 6,
+            ..FOUR_LAST
+        },
+        RraDef {
+            function: Function::Max,
+            steps: 2,
+            rows: 3,
+            ..FOUR_LAST
+        },
+    ],
+    ..NEW
+};
 
 // Samples at 10 (a 1, b 100) and at 35 (a 2, b 50). So b falls by 2 a second from 10 on. The rows at
 // -20 and -10 of the first archive stand in the slots 4 and 5, the row at -20 of the second in slot 2.
-pub(crate) const TWO_SOURCES_SAMPLED: &str = "create --step 10 --start 0 --journal 2 \
-DS:a:GAUGE:100:U:U DS:b:DERIVE:100:-10:4.5 RRA:LAST:0.5:1:6 RRA:MAX:0.5:2:3\n\
-update 10:1:100 35:2:50\n";
+pub(crate) const TWO_SOURCES_SAMPLED: Plan = Plan {
+    name: "two sources, sampled",
+    deeds: &[Deed::Update(&[(10, &[1, 100]), (35, &[2, 50])])],
+    ..TWO_SOURCES
+};
 
 // A long update, a renaming, a short update, and two rows less.
-pub(crate) const FOUR_CHANGES: &str = "create --step 10 --start 0 --journal 3 \
-DS:s00:GAUGE:1000:U:U DS:s01:GAUGE:1000:U:U RRA:AVERAGE:0.5:1:6 RRA:MIN:0.5:2:3\n\
-update 10:1:100 35:2:50 121:7:3\n\
-tune --heartbeat s01:300 --data-source-rename s00:first\n\
-update 144:9:4\n\
-resize 0 SHRINK 2\n";
+pub(crate) const FOUR_CHANGES: Plan = Plan {
+    name: "four changes",
+    depth: 3,
+    sources: &[
+        Source {
+            name: "s00",
+            heartbeat: 1_000,
+            ..PLAIN_GAUGE
+        },
+        Source {
+            name: "s01",
+            heartbeat: 1_000,
+            ..PLAIN_GAUGE
+        },
+    ],
+    archives: &[
+        RraDef {
+            function: Function::Average,
+            rows: 6,
+            ..FOUR_LAST
+        },
+        RraDef {
+            function: Function::Min,
+            steps: 2,
+            rows: 3,
+            ..FOUR_LAST
+        },
+    ],
+    deeds: &[
+        Deed::Update(&[(10, &[1, 100]), (35, &[2, 50]), (121, &[7, 3])]),
+        Deed::Tune(Tuned {
+            heartbeat: Some(("s01", 300)),
+            rename: Some(("s00", "first")),
+            ..UNTUNED
+        }),
+        Deed::Update(&[(144, &[9, 4])]),
+        Deed::Shrink(0, 2),
+    ],
+    ..NEW
+};
 
 // A row of four steps, two of which have come.
-pub(crate) const HALF_A_ROW: &str =
-    "create --step 10 --start 0 DS:g:GAUGE:100:U:U RRA:AVERAGE:0.5:4:3\n\
-update 20:1\n";
+pub(crate) const HALF_A_ROW: Plan = Plan {
+    name: "half a row",
+    archives: &[RraDef {
+        function: Function::Average,
+        steps: 4,
+        rows: 3,
+        ..FOUR_LAST
+    }],
+    deeds: &[Deed::Update(&[(20, &[1])])],
+    ..NEW
+};
 
-// The lines of several databases.
-pub(crate) const DATABASES: &[&str] = &[NEW, SAMPLED, TWO_SOURCES, THREE_CHANGES, HALF_A_ROW];
+pub(crate) const DATABASES: &[Plan] = &[NEW, SAMPLED, TWO_SOURCES, THREE_CHANGES, HALF_A_ROW];
+
+const ADDITION: Deed = Deed::Add(FOUR_LAST);
 
 // A second archive is added, and then the first one is removed.
-pub(crate) const ADDED: &str = "create --step 10 --start 0 DS:g:GAUGE:100:U:U RRA:LAST:0.5:1:4\n\
-tune RRA:LAST:0.5:1:4\n";
+pub(crate) const ADDED: Plan = Plan {
+    name: "an archive added",
+    deeds: &[ADDITION],
+    ..NEW
+};
 
-pub(crate) const REMOVED: &str = "create --step 10 --start 0 DS:g:GAUGE:100:U:U RRA:LAST:0.5:1:4\n\
-tune RRA:LAST:0.5:1:4\n\
-tune DELRRA:0\n";
+pub(crate) const REMOVED: Plan = Plan {
+    name: "an archive removed",
+    deeds: &[ADDITION, Deed::Remove(0)],
+    ..NEW
+};
 
-const RENAMED: &str = "create --step 10 --start 0 \
-DS:a:GAUGE:100:U:U DS:b:GAUGE:100:U:U RRA:LAST:0.5:1:4\n\
-tune --data-source-rename a:c\n";
+const RENAMING: Deed = Deed::Tune(Tuned {
+    rename: Some(("a", "c")),
+    ..UNTUNED
+});
+
+const RENAMED: Plan = Plan {
+    name: "a source renamed",
+    sources: &[
+        Source {
+            name: "a",
+            ..PLAIN_GAUGE
+        },
+        Source {
+            name: "b",
+            ..PLAIN_GAUGE
+        },
+    ],
+    deeds: &[RENAMING],
+    ..NEW
+};
 
 // Archives come and go among other changes, in the middle of steps and of rows.
-pub(crate) const ARCHIVES_CHANGED: &str =
-    "create --step 10 --start 0 DS:a:GAUGE:100:U:U DS:b:COUNTER:100:U:U RRA:LAST:0.5:3:4\n\
-update 13:1:5 27:2:9\n\
-tune RRA:AVERAGE:0.5:2:3\n\
-update 44:3:12\n\
-resize 0 GROW 2\n\
-tune DELRRA:0\n\
-update 71:4:20\n\
-tune -r a:c\n\
-tune RRA:MAX:0:1:2\n\
-tune DELRRA:0\n";
+pub(crate) const ARCHIVES_CHANGED: Plan = Plan {
+    name: "archives changed",
+    sources: &[
+        Source {
+            name: "a",
+            ..PLAIN_GAUGE
+        },
+        Source {
+            name: "b",
+            kind: Kind::Counter,
+            ..PLAIN_GAUGE
+        },
+    ],
+    archives: &[RraDef {
+        steps: 3,
+        rows: 4,
+        ..FOUR_LAST
+    }],
+    deeds: &[
+        Deed::Update(&[(13, &[1, 5]), (27, &[2, 9])]),
+        Deed::Add(RraDef {
+            function: Function::Average,
+            steps: 2,
+            rows: 3,
+            ..FOUR_LAST
+        }),
+        Deed::Update(&[(44, &[3, 12])]),
+        Deed::Grow(0, 2),
+        Deed::Remove(0),
+        Deed::Update(&[(71, &[4, 20])]),
+        RENAMING,
+        Deed::Add(RraDef {
+            function: Function::Max,
+            xff: 0,
+            steps: 1,
+            rows: 2,
+        }),
+        Deed::Remove(0),
+    ],
+    ..NEW
+};
 
 // ---- tests
 
-// Lines, the file of the database that they make, and how long that is.
-const FILES: &[(&str, &[&[&[u8]]], usize)] = &[
+// Databases, their files, and how long these are.
+const FILES: &[(Plan, &[&[&[u8]]], usize)] = &[
     (NEW, NEW_FILE, 224),
     (SAMPLED, SAMPLED_FILE, 309),
     (TAKEN_BACK, NEW_FILE, 224),
@@ -462,11 +601,11 @@ const FILES: &[(&str, &[&[&[u8]]], usize)] = &[
 #[test]
 fn files_byte_by_byte(rt: HostRuntime) -> Result<(), Fail> {
     let alloc = rt.alloc();
-    for (lines, parts, length) in FILES {
+    for (plan, parts, length) in FILES {
         let wanted = joined_parts(alloc, parts)?;
-        assert_eq!(&rt; wanted.len(), *length, "{lines}");
-        let file = file_of(alloc, &database_of(alloc, lines)?)?;
-        assert_eq!(&rt; file.as_slice(), wanted.as_slice(), "{lines}");
+        assert_eq!(&rt; wanted.len(), *length, "{}", plan.name);
+        let file = file_of(alloc, &made(alloc, plan)?)?;
+        assert_bytes(&rt, &file, &wanted, plan.name);
     }
     Ok(())
 }
@@ -474,7 +613,7 @@ fn files_byte_by_byte(rt: HostRuntime) -> Result<(), Fail> {
 #[test]
 fn a_file_goes_behind_what_is_there(rt: HostRuntime) -> Result<(), Fail> {
     let alloc = rt.alloc();
-    let database = database_of(alloc, NEW)?;
+    let database = made(alloc, &NEW)?;
     let new = new_file(alloc)?;
     let wanted = joined(alloc, &[b"before", new.as_slice()])?;
     let mut out = joined(alloc, &[b"before"])?;
@@ -489,7 +628,7 @@ const ROOMS: &[(usize, bool)] = &[(100, false), (223, false), (224, true)];
 #[test]
 fn a_writer_that_fails_has_a_front(rt: HostRuntime) -> Result<(), Fail> {
     let alloc = rt.alloc();
-    let database = database_of(alloc, NEW)?;
+    let database = made(alloc, &NEW)?;
     let new = new_file(alloc)?;
     for (room, whole) in ROOMS {
         let writing = Manner {
@@ -499,18 +638,26 @@ fn a_writer_that_fails_has_a_front(rt: HostRuntime) -> Result<(), Fail> {
             ..PLAIN
         };
         let mut out = Taker::new(alloc, writing, PLAIN);
-        assert_eq!(&rt; encode(&database, &mut out).is_ok(), *whole);
+        assert_eq!(&rt; encode(&database, &mut out).is_ok(), *whole, "{room}");
         assert_eq!(&rt; out.taken.as_slice(), new.get(..*room).ok_or("short")?);
     }
     Ok(())
 }
 
-// These rows fill a block of 32,768 bytes and more: 160 bytes before the cells, and 16 for each.
+// These rows fill eight blocks of 4,096 bytes and more: 160 bytes before the cells, and 16 for each.
+const LONG: Plan = Plan {
+    name: "2,100 rows",
+    archives: &[RraDef {
+        rows: 2_100,
+        ..FOUR_LAST
+    }],
+    ..NEW
+};
+
 #[test]
 fn a_long_file_goes_out_in_blocks(rt: HostRuntime) -> Result<(), Fail> {
     let alloc = rt.alloc();
-    let lines = "create --step 10 --start 0 DS:g:GAUGE:100:U:U RRA:LAST:0.5:1:2100\n";
-    let database = database_of(alloc, lines)?;
+    let database = made(alloc, &LONG)?;
     let new = new_file(alloc)?;
     let head = new.get(..136).ok_or("short")?;
     let mut wanted = joined(alloc, &[head, &[0x00, 0x00, 0x08, 0x34], &NOTHING])?;
@@ -518,7 +665,7 @@ fn a_long_file_goes_out_in_blocks(rt: HostRuntime) -> Result<(), Fail> {
         wanted.extend_from_slice(&ABSENT)?;
     }
     assert_eq!(&rt; wanted.len(), 33_760);
-    assert_eq!(&rt; file_of(alloc, &database)?.as_slice(), wanted.as_slice());
+    assert_bytes(&rt, &file_of(alloc, &database)?, &wanted, "2,100 rows");
     assert_breaks_off(&rt, alloc, &database, &wanted)
 }
 

@@ -4,11 +4,14 @@ use crate::file::bytes::{
     ARCHIVES_CHANGED, DATABASES, FOUR_CHANGES, REMOVED, SAMPLED, THREE_CHANGES, file_of, new_file,
     renamed_file, sampled_file,
 };
-use crate::shared::databases::database_of;
+use crate::shared::files::assert_bytes;
 use crate::shared::joined;
+use crate::shared::plans::{FOUR_LAST, NEW, PLAIN_GAUGE, Plan, Source, made};
 use crate::shared::streams::{Giver, Manner, PLAIN};
-use rrd_base::Database;
+use rrd_base::{Database, RraDef};
 use rrd_file::{FileFault, decode};
+use rrd_fixed::Kind;
+use rrd_fold::Function;
 use std::alloc::Global;
 use std::mem;
 use std::process::Abort;
@@ -48,9 +51,10 @@ fn assert_same_file(
     alloc: Global,
     one: &Database,
     other: &Database,
+    case: &str,
 ) -> Result<(), Fail> {
     let (one, other) = (file_of(alloc, one)?, file_of(alloc, other)?);
-    assert_eq!(rt; one.as_slice(), other.as_slice());
+    assert_bytes(rt, &one, &other, case);
     Ok(())
 }
 
@@ -60,40 +64,46 @@ fn assert_revert_alike(
     alloc: Global,
     one: &mut Database,
     other: &mut Database,
+    case: &str,
 ) -> Result<(), Fail> {
-    assert_same_file(rt, alloc, one, other)?;
+    assert_same_file(rt, alloc, one, other, case)?;
     for _ in 0..other.undoable() {
-        assert!(rt; other.revert().is_ok());
-        assert!(rt; one.revert().is_ok());
-        assert_same_file(rt, alloc, one, other)?;
+        assert!(rt; other.revert().is_ok(), "{case}");
+        assert!(rt; one.revert().is_ok(), "{case}");
+        assert_same_file(rt, alloc, one, other, case)?;
     }
-    assert!(rt; one.revert().is_err());
+    assert!(rt; one.revert().is_err(), "{case}");
     Ok(())
 }
 
 #[test]
 fn what_is_read_reverts_as_what_was_written(rt: HostRuntime) -> Result<(), Fail> {
     let alloc = rt.alloc();
-    for lines in [THREE_CHANGES, FOUR_CHANGES, REMOVED, ARCHIVES_CHANGED] {
-        let mut written = database_of(alloc, lines)?;
+    for plan in &[THREE_CHANGES, FOUR_CHANGES, REMOVED, ARCHIVES_CHANGED] {
+        let mut written = made(alloc, plan)?;
         let mut read = read_from(alloc, &file_of(alloc, &written)?)?;
-        assert_revert_alike(&rt, alloc, &mut read, &mut written)?;
+        assert_revert_alike(&rt, alloc, &mut read, &mut written, plan.name)?;
     }
     Ok(())
 }
 
 // What was written is read. Cut anywhere it is truncated, and bytes behind it are too many.
-fn assert_whole_alone(rt: &impl Abort, alloc: Global, bytes: &[u8]) -> Result<(), Fail> {
-    assert_eq!(rt; again(alloc, bytes)?.as_slice(), bytes);
+fn assert_whole_alone(rt: &impl Abort, alloc: Global, plan: &Plan) -> Result<(), Fail> {
+    let case = plan.name;
+    let written = file_of(alloc, &made(alloc, plan)?)?;
+    let bytes = written.as_slice();
+    assert_bytes(rt, &again(alloc, bytes)?, bytes, case);
     for length in 0..bytes.len() {
         let front = bytes.get(..length).ok_or("short")?;
         let at = length as u64;
-        assert_eq!(rt; fault_of(alloc, front), Some(FileFault::Truncated { at }));
+        let fault = Some(FileFault::Truncated { at });
+        assert_eq!(rt; fault_of(alloc, front), fault, "{case}");
     }
     let at = bytes.len() as u64;
     for behind in ["\0", "RRDI"] {
         let longer = joined(alloc, &[bytes, behind.as_bytes()])?;
-        assert_eq!(rt; fault_of(alloc, &longer), Some(FileFault::Trailing { at }));
+        let fault = Some(FileFault::Trailing { at });
+        assert_eq!(rt; fault_of(alloc, &longer), fault, "{case}");
     }
     Ok(())
 }
@@ -101,26 +111,22 @@ fn assert_whole_alone(rt: &impl Abort, alloc: Global, bytes: &[u8]) -> Result<()
 #[test]
 fn files_are_read_whole_alone(rt: HostRuntime) -> Result<(), Fail> {
     let alloc = rt.alloc();
-    for lines in DATABASES {
-        let bytes = file_of(alloc, &database_of(alloc, lines)?)?;
-        assert_whole_alone(&rt, alloc, &bytes)?;
+    for plan in DATABASES {
+        assert_whole_alone(&rt, alloc, plan)?;
     }
     Ok(())
 }
 
 #[test]
 fn a_file_with_four_entries_is_read_whole_alone(rt: HostRuntime) -> Result<(), Fail> {
-    let alloc = rt.alloc();
-    let bytes = file_of(alloc, &database_of(alloc, FOUR_CHANGES)?)?;
-    assert_whole_alone(&rt, alloc, &bytes)
+    assert_whole_alone(&rt, rt.alloc(), &FOUR_CHANGES)
 }
 
 #[test]
 fn files_of_changed_archives_are_read_whole_alone(rt: HostRuntime) -> Result<(), Fail> {
     let alloc = rt.alloc();
-    for lines in [REMOVED, ARCHIVES_CHANGED] {
-        let bytes = file_of(alloc, &database_of(alloc, lines)?)?;
-        assert_whole_alone(&rt, alloc, &bytes)?;
+    for plan in &[REMOVED, ARCHIVES_CHANGED] {
+        assert_whole_alone(&rt, alloc, plan)?;
     }
     Ok(())
 }
@@ -142,7 +148,7 @@ const WRONG_REMOVALS: &[(usize, u8, u64)] = &[
 #[test]
 fn a_wrong_byte_of_a_removal_has_its_entry(rt: HostRuntime) -> Result<(), Fail> {
     let alloc = rt.alloc();
-    let bytes = file_of(alloc, &database_of(alloc, REMOVED)?)?;
+    let bytes = file_of(alloc, &made(alloc, &REMOVED)?)?;
     for (at, byte, number) in WRONG_REMOVALS {
         let wrong = changed(alloc, &bytes, *at, *byte)?;
         let fault = FileFault::BadEntry { number: *number };
@@ -155,7 +161,7 @@ fn a_wrong_byte_of_a_removal_has_its_entry(rt: HostRuntime) -> Result<(), Fail> 
 #[test]
 fn no_archive_comes_or_goes_in_the_first_version(rt: HostRuntime) -> Result<(), Fail> {
     let alloc = rt.alloc();
-    let bytes = file_of(alloc, &database_of(alloc, REMOVED)?)?;
+    let bytes = file_of(alloc, &made(alloc, &REMOVED)?)?;
     let first = in_first_version(alloc, &bytes)?;
     let fault = Some(FileFault::BadEntry { number: 1 });
     assert_eq!(&rt; fault_of(alloc, &first), fault);
@@ -165,7 +171,7 @@ fn no_archive_comes_or_goes_in_the_first_version(rt: HostRuntime) -> Result<(), 
     for tag in [4u8, 5] {
         let newest = joined(alloc, &[&announced, &[tag]])?;
         let first = in_first_version(alloc, &newest)?;
-        assert_eq!(&rt; fault_of(alloc, &first), fault);
+        assert_eq!(&rt; fault_of(alloc, &first), fault, "{tag}");
     }
     // An addition leaves an archive before it.
     let newest = joined(alloc, &[&announced, &[4]])?;
@@ -179,7 +185,7 @@ fn no_archive_comes_or_goes_in_the_first_version(rt: HostRuntime) -> Result<(), 
 }
 
 // A byte of the file with a sample, in either version, what it is changed to, and the fault then.
-const WRONG_IN_BOTH: &[(usize, u8, FileFault)] = &[
+pub(crate) const WRONG_IN_BOTH: &[(usize, u8, FileFault)] = &[
     (0, 83, FileFault::NotOurs),
     (0, 0, FileFault::NotOurs),
     (3, 0, FileFault::NotOurs),
@@ -192,7 +198,7 @@ const WRONG_IN_BOTH: &[(usize, u8, FileFault)] = &[
 
 // The same of the second version alone. The source begins at 30,
 // the archive's head at 127, its cells at 160, and the entry at 224.
-const WRONG_BYTES: &[(usize, u8, FileFault)] = &[
+pub(crate) const WRONG_BYTES: &[(usize, u8, FileFault)] = &[
     (5, 1, FileFault::BadBlock { at: 6 }), // a header of the first version, with no depth
     (21, 0, FileFault::BadBlock { at: 6 }), // no depth
     (29, 17, FileFault::BadBlock { at: 6 }), // more entries than the depth
@@ -308,11 +314,11 @@ fn a_wrong_entry_is_told_before_its_end(rt: HostRuntime) -> Result<(), Fail> {
 #[test]
 fn the_first_version_is_written_in_the_second(rt: HostRuntime) -> Result<(), Fail> {
     let alloc = rt.alloc();
-    for lines in DATABASES {
-        let mut made = database_of(alloc, lines)?;
-        let first = in_first_version(alloc, &file_of(alloc, &made)?)?;
+    for plan in DATABASES {
+        let mut database = made(alloc, plan)?;
+        let first = in_first_version(alloc, &file_of(alloc, &database)?)?;
         let mut read = read_from(alloc, &first)?;
-        assert_revert_alike(&rt, alloc, &mut read, &mut made)?;
+        assert_revert_alike(&rt, alloc, &mut read, &mut database, plan.name)?;
     }
     Ok(())
 }
@@ -337,7 +343,7 @@ fn names_differ_once_a_rename_is_undone(rt: HostRuntime) -> Result<(), Fail> {
 #[test]
 fn names_differ_once_a_tune_is_undone(rt: HostRuntime) -> Result<(), Fail> {
     let alloc = rt.alloc();
-    let bytes = file_of(alloc, &database_of(alloc, FOUR_CHANGES)?)?;
+    let bytes = file_of(alloc, &made(alloc, &FOUR_CHANGES)?)?;
     let mut places = Vec::new(alloc);
     for (at, three) in bytes.as_slice().windows(3).enumerate() {
         if three == b"s00".as_slice() {
@@ -366,14 +372,14 @@ fn assert_other_or_none(
     let right = mem::replace(place, byte);
     if let Ok(database) = decode(alloc, &*bytes) {
         let written = file_of(alloc, &database)?;
-        assert_eq!(rt; written.as_slice(), &*bytes, "{at} {byte}");
+        assert_bytes(rt, &written, bytes, "a changed file");
     }
     *bytes.get_mut(at).ok_or("short")? = right;
     Ok(())
 }
 
-fn assert_others_or_none(rt: &impl Abort, alloc: Global, lines: &str) -> Result<(), Fail> {
-    let mut bytes = file_of(alloc, &database_of(alloc, lines)?)?;
+fn assert_others_or_none(rt: &impl Abort, alloc: Global, plan: &Plan) -> Result<(), Fail> {
+    let mut bytes = file_of(alloc, &made(alloc, plan)?)?;
     for at in 0..bytes.len() {
         for byte in [0, 1, 128] {
             assert_other_or_none(rt, alloc, &mut bytes, at, byte)?;
@@ -385,13 +391,13 @@ fn assert_others_or_none(rt: &impl Abort, alloc: Global, lines: &str) -> Result<
 #[test]
 fn a_changed_file_is_another_or_none(rt: HostRuntime) -> Result<(), Fail> {
     let alloc = rt.alloc();
-    assert_others_or_none(&rt, alloc, SAMPLED)?;
-    assert_others_or_none(&rt, alloc, THREE_CHANGES)
+    assert_others_or_none(&rt, alloc, &SAMPLED)?;
+    assert_others_or_none(&rt, alloc, &THREE_CHANGES)
 }
 
 #[test]
 fn a_changed_file_of_a_removal_is_another_or_none(rt: HostRuntime) -> Result<(), Fail> {
-    assert_others_or_none(&rt, rt.alloc(), REMOVED)
+    assert_others_or_none(&rt, rt.alloc(), &REMOVED)
 }
 
 // Each byte changed to each other value. A built test takes a few seconds; an unproved run, which takes
@@ -452,29 +458,58 @@ fn short_reads_interrupts_and_failures(rt: HostRuntime) -> Result<(), Fail> {
 }
 
 // A file of more bytes than come at once.
+const LONG: Plan = Plan {
+    name: "10,000 rows",
+    archives: &[RraDef {
+        rows: 10_000,
+        ..FOUR_LAST
+    }],
+    ..NEW
+};
+
 #[test]
 fn a_long_file(rt: HostRuntime) -> Result<(), Fail> {
     let alloc = rt.alloc();
-    let lines = "create --step 10 --start 0 DS:g:GAUGE:100:U:U RRA:LAST:0.5:1:10000\n";
-    let bytes = file_of(alloc, &database_of(alloc, lines)?)?;
+    let bytes = file_of(alloc, &made(alloc, &LONG)?)?;
     assert_eq!(&rt; bytes.len(), 160_160);
-    assert_eq!(&rt; again(alloc, &bytes)?.as_slice(), bytes.as_slice());
+    assert_bytes(&rt, &again(alloc, &bytes)?, &bytes, "10,000 rows");
     for length in [65_535, 65_536, 65_537, 131_072, 160_159] {
         let front = bytes.get(..length).ok_or("short")?;
         let at = length as u64;
-        assert_eq!(&rt; fault_of(alloc, front), Some(FileFault::Truncated { at }));
+        let fault = Some(FileFault::Truncated { at });
+        assert_eq!(&rt; fault_of(alloc, front), fault, "{length}");
     }
     Ok(())
 }
 
 // Three sources and rows across the end of what comes at once: the cells begin at 394, so the cell 4,071 lies
 // across it, and the row of 4,071 to 4,073.
-const ACROSS: &str =
-    "create --step 10 --start 0 DS:a:GAUGE:100:U:U DS:b:GAUGE:100:U:U DS:c:GAUGE:100:U:U RRA:LAST:0.5:1:2000\n";
+const ACROSS: Plan = Plan {
+    name: "rows across the end of what comes at once",
+    sources: &[
+        Source {
+            name: "a",
+            ..PLAIN_GAUGE
+        },
+        Source {
+            name: "b",
+            ..PLAIN_GAUGE
+        },
+        Source {
+            name: "c",
+            ..PLAIN_GAUGE
+        },
+    ],
+    archives: &[RraDef {
+        rows: 2_000,
+        ..FOUR_LAST
+    }],
+    ..NEW
+};
 
 // The file with all cells unknown, or known and zero.
 fn file_across(alloc: Global, known: bool) -> Result<Vec<u8>, Fail> {
-    let mut bytes = file_of(alloc, &database_of(alloc, ACROSS)?)?;
+    let mut bytes = file_of(alloc, &made(alloc, &ACROSS)?)?;
     if known {
         for cell in 0..6_000 {
             *bytes.get_mut(394 + 16 * cell).ok_or("short")? = 0;
@@ -489,7 +524,7 @@ fn rows_across_the_end_of_a_block(rt: HostRuntime) -> Result<(), Fail> {
     for known in [false, true] {
         let bytes = file_across(alloc, known)?;
         assert_eq!(&rt; bytes.len(), 394 + 16 * 6_000);
-        assert_eq!(&rt; again(alloc, &bytes)?.as_slice(), bytes.as_slice());
+        assert_bytes(&rt, &again(alloc, &bytes)?, &bytes, ACROSS.name);
         // A cell past the greatest rate, at each place of the row across the end and of those beside it.
         for cell in 4_068..4_077 {
             let at = 394 + 16 * cell;
@@ -498,7 +533,7 @@ fn rows_across_the_end_of_a_block(rt: HostRuntime) -> Result<(), Fail> {
             assert_eq!(&rt; fault_of(alloc, &wrong), Some(fault), "{cell}");
             // Other cells have the other kind.
             let other = changed(alloc, &bytes, at, if known { 128 } else { 0 })?;
-            assert_eq!(&rt; again(alloc, &other)?.as_slice(), other.as_slice());
+            assert_bytes(&rt, &again(alloc, &other)?, &other, ACROSS.name);
         }
     }
     Ok(())
@@ -512,7 +547,8 @@ fn a_cut_row_across_the_end_of_a_block(rt: HostRuntime) -> Result<(), Fail> {
     for length in 65_530..65_580usize {
         let front = bytes.get(..length).ok_or("short")?;
         let at = length as u64;
-        assert_eq!(&rt; fault_of(alloc, front), Some(FileFault::Truncated { at }));
+        let fault = Some(FileFault::Truncated { at });
+        assert_eq!(&rt; fault_of(alloc, front), fault, "{length}");
     }
     let wrong = changed(alloc, &bytes, 65_530, 127)?;
     for (length, fault) in [
@@ -520,7 +556,7 @@ fn a_cut_row_across_the_end_of_a_block(rt: HostRuntime) -> Result<(), Fail> {
         (65_546, FileFault::BadBlock { at: 65_530 }),
     ] {
         let front = wrong.get(..length).ok_or("short")?;
-        assert_eq!(&rt; fault_of(alloc, front), Some(fault));
+        assert_eq!(&rt; fault_of(alloc, front), Some(fault), "{length}");
     }
     Ok(())
 }
@@ -548,7 +584,7 @@ fn faults_of_files(rt: HostRuntime) -> Result<(), Fail> {
     let alloc = rt.alloc();
     for (fault, text) in FILE_FAULTS {
         let shown = format!(in alloc; "{fault}")?;
-        assert_eq!(&rt; shown.as_str(), *text);
+        assert_eq!(&rt; shown.as_str(), *text, "{text}");
     }
     Ok(())
 }

@@ -1,11 +1,13 @@
 //! Files over readers and writers of which each call fails in turn, or is interrupted.
 use crate::file::bytes::{ARCHIVES_CHANGED, FOUR_CHANGES, SAMPLED, file_of, sampled_file};
-use crate::file::decoding::in_first_version;
-use crate::shared::databases::database_of;
+use crate::file::decoding::{WRONG_BYTES, WRONG_IN_BOTH, changed, in_first_version};
 use crate::shared::each_call::{FAULTS, INTERRUPTS, assert_front, failing_after, interrupted};
+use crate::shared::plans::{FOUR_LAST, NEW, PLAIN_GAUGE, Plan, Source, made};
 use crate::shared::streams::{Giver, PLAIN, Taker};
-use rrd_base::Database;
+use rrd_base::{Database, RraDef};
 use rrd_file::{FileFault, decode, encode};
+use rrd_fixed::Kind;
+use rrd_fold::Function;
 use std::alloc::Global;
 use std::io::ErrorKind;
 use std::process::Abort;
@@ -46,17 +48,37 @@ fn each_read_of_a_file_fails(rt: HostRuntime) -> Result<(), Fail> {
     Ok(())
 }
 
-const THREE_SOURCES: &str =
-    "create --step 10 --start 0 DS:a:GAUGE:100:U:U DS:b:GAUGE:100:U:U DS:c:GAUGE:100:U:U RRA:LAST:0.5:1:2\n";
+const THREE_SOURCES: Plan = Plan {
+    name: "three sources",
+    sources: &[
+        Source {
+            name: "a",
+            ..PLAIN_GAUGE
+        },
+        Source {
+            name: "b",
+            ..PLAIN_GAUGE
+        },
+        Source {
+            name: "c",
+            ..PLAIN_GAUGE
+        },
+    ],
+    archives: &[RraDef {
+        rows: 2,
+        ..FOUR_LAST
+    }],
+    ..NEW
+};
 
-// What these lines leave has, taken together, an entry of each kind in its journal.
-const JOURNALS: [&str; 2] = [FOUR_CHANGES, ARCHIVES_CHANGED];
+// These have, taken together, an entry of each kind in their journals.
+const JOURNALS: [Plan; 2] = [FOUR_CHANGES, ARCHIVES_CHANGED];
 
 #[test]
 fn each_read_of_entries_fails(rt: HostRuntime) -> Result<(), Fail> {
     let alloc = rt.alloc();
-    for lines in JOURNALS {
-        let bytes = file_of(alloc, &database_of(alloc, lines)?)?;
+    for plan in &JOURNALS {
+        let bytes = file_of(alloc, &made(alloc, plan)?)?;
         assert_each_read_counts(&rt, alloc, &bytes, ErrorKind::Other);
     }
     Ok(())
@@ -89,10 +111,42 @@ fn an_earlier_source_is_told_first(rt: HostRuntime) -> Result<(), Fail> {
 #[test]
 fn an_earlier_cell_of_a_row_is_told_first(rt: HostRuntime) -> Result<(), Fail> {
     let alloc = rt.alloc();
-    let mut bytes = file_of(alloc, &database_of(alloc, THREE_SOURCES)?)?;
+    let mut bytes = file_of(alloc, &made(alloc, &THREE_SOURCES)?)?;
     assert_eq!(&rt; bytes.len(), 490);
     *bytes.get_mut(410).ok_or("short")? = 127;
     assert_told_once_whole(&rt, alloc, &bytes, 410, 426);
+    Ok(())
+}
+
+// A read that fails is told as such, until the bytes before the read show what is wrong with the file: then the fault is
+// told, and no read follows.
+fn assert_told_or_failed(
+    rt: &impl Abort,
+    alloc: Global,
+    bytes: &[u8],
+    fault: FileFault,
+) -> Result<(), Fail> {
+    for calls in 0..bytes.len() {
+        let front = bytes.get(..calls).ok_or("short")?;
+        let is_shown = decode(alloc, front).err() == Some(fault);
+        let wanted = if is_shown { fault } else { FileFault::Read };
+        let told = fault_after(alloc, bytes, calls, ErrorKind::Other);
+        assert_eq!(rt; told, Some(wanted), "{calls}");
+        if is_shown {
+            return Ok(());
+        }
+    }
+    Ok(())
+}
+
+#[test]
+fn each_read_of_a_wrong_file_fails(rt: HostRuntime) -> Result<(), Fail> {
+    let alloc = rt.alloc();
+    let bytes = sampled_file(alloc)?;
+    for (at, byte, fault) in WRONG_IN_BOTH.iter().chain(WRONG_BYTES) {
+        let wrong = changed(alloc, &bytes, *at, *byte)?;
+        assert_told_or_failed(&rt, alloc, &wrong, *fault)?;
+    }
     Ok(())
 }
 
@@ -128,7 +182,7 @@ fn assert_each_write_counts(
 #[test]
 fn each_write_of_a_file_fails(rt: HostRuntime) -> Result<(), Fail> {
     let alloc = rt.alloc();
-    let database = database_of(alloc, SAMPLED)?;
+    let database = made(alloc, &SAMPLED)?;
     let bytes = sampled_file(alloc)?;
     for fault in FAULTS {
         assert_each_write_counts(&rt, alloc, &database, &bytes, *fault);
@@ -139,8 +193,8 @@ fn each_write_of_a_file_fails(rt: HostRuntime) -> Result<(), Fail> {
 #[test]
 fn each_write_of_entries_fails(rt: HostRuntime) -> Result<(), Fail> {
     let alloc = rt.alloc();
-    for lines in JOURNALS {
-        let database = database_of(alloc, lines)?;
+    for plan in &JOURNALS {
+        let database = made(alloc, plan)?;
         let bytes = file_of(alloc, &database)?;
         assert_each_write_counts(&rt, alloc, &database, &bytes, None);
     }
@@ -150,11 +204,15 @@ fn each_write_of_entries_fails(rt: HostRuntime) -> Result<(), Fail> {
 #[test]
 fn interrupted_writes_of_a_file(rt: HostRuntime) -> Result<(), Fail> {
     let alloc = rt.alloc();
-    let database = database_of(alloc, SAMPLED)?;
+    let database = made(alloc, &SAMPLED)?;
     let bytes = sampled_file(alloc)?;
     for (interrupts, is_written) in INTERRUPTS {
         let mut out = Taker::new(alloc, interrupted(*interrupts), PLAIN);
-        assert_eq!(&rt; encode(&database, &mut out).is_ok(), *is_written);
+        assert_eq!(&rt;
+            encode(&database, &mut out).is_ok(),
+            *is_written,
+            "{interrupts}"
+        );
         let room = if *is_written { bytes.len() } else { 0 };
         assert_front(&rt, &out.taken, &bytes, room);
     }

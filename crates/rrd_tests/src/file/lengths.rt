@@ -1,17 +1,19 @@
 //! How many bytes files have, summed by hand from the tables of docs/file-format.md.
 use crate::file::bytes::{
-    ADDED, ARCHIVES_CHANGED, FOUR_CHANGES, HALF_A_ROW, NEW, REMOVED, SAMPLED, TAKEN_BACK,
-    THREE_CHANGES, TWO_SOURCES, TWO_SOURCES_SAMPLED, file_of, sampled_file,
+    ADDED, ARCHIVES_CHANGED, FOUR_CHANGES, HALF_A_ROW, REMOVED, SAMPLED, TAKEN_BACK, THREE_CHANGES,
+    TWO_SOURCES, TWO_SOURCES_SAMPLED, file_of, sampled_file,
 };
 use crate::file::decoding::in_first_version;
-use crate::shared::databases::database_of;
+use crate::shared::plans::{FOUR_LAST, NEW, Plan, made};
+use rrd_base::RraDef;
 use rrd_file::{decode, encoded_length};
+use rrd_fold::Function;
 use std::process::Abort;
 use std::test::Fail;
 
 // With one source a body has 30 + 97 bytes, 13 + 20 for each archive and 16 for each row; with two 30 + 194,
 // 13 + 40 and 32.
-const LENGTHS: &[(&str, u64)] = &[
+const LENGTHS: &[(Plan, u64)] = &[
     (NEW, 224), // 30 + 97 + 33 + 64
     (SAMPLED, 309), // and an update of one row: 9 + 36 + 24 + 16
     (TAKEN_BACK, 224),
@@ -33,11 +35,11 @@ const LENGTHS: &[(&str, u64)] = &[
 #[test]
 fn lengths_of_files(rt: HostRuntime) -> Result<(), Fail> {
     let alloc = rt.alloc();
-    for (lines, length) in LENGTHS {
-        let database = database_of(alloc, lines)?;
-        assert_eq!(&rt; encoded_length(&database), *length, "{lines}");
+    for (plan, length) in LENGTHS {
+        let database = made(alloc, plan)?;
+        assert_eq!(&rt; encoded_length(&database), *length, "{}", plan.name);
         let bytes = file_of(alloc, &database)?;
-        assert_eq!(&rt; bytes.len() as u64, *length, "{lines}");
+        assert_eq!(&rt; bytes.len() as u64, *length, "{}", plan.name);
     }
     Ok(())
 }
@@ -46,9 +48,9 @@ fn lengths_of_files(rt: HostRuntime) -> Result<(), Fail> {
 #[test]
 fn lengths_fall_with_reverts(rt: HostRuntime) -> Result<(), Fail> {
     let alloc = rt.alloc();
-    let mut database = database_of(alloc, THREE_CHANGES)?;
+    let mut database = made(alloc, &THREE_CHANGES)?;
     for length in [494, 391, 309, 224] {
-        assert_eq!(&rt; encoded_length(&database), length);
+        assert_eq!(&rt; encoded_length(&database), length, "{length}");
         let _reverted = database.revert();
     }
     Ok(())
@@ -68,10 +70,18 @@ fn the_length_is_that_of_the_second_version(rt: HostRuntime) -> Result<(), Fail>
 }
 
 // A cell has 16 bytes, however many there are, and none of them is looked at.
+const MILLION_ROWS: Plan = Plan {
+    name: "a million rows",
+    archives: &[RraDef {
+        rows: 1_000_000,
+        ..FOUR_LAST
+    }],
+    ..NEW
+};
+
 #[test]
 fn a_long_length(rt: HostRuntime) -> Result<(), Fail> {
     let alloc = rt.alloc();
-    let lines = "create --step 10 --start 0 DS:g:GAUGE:100:U:U RRA:LAST:0.5:1:1000000\n";
-    assert_eq!(&rt; encoded_length(&database_of(alloc, lines)?), 16_000_160);
+    assert_eq!(&rt; encoded_length(&made(alloc, &MILLION_ROWS)?), 16_000_160);
     Ok(())
 }

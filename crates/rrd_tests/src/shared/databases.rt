@@ -1,10 +1,10 @@
-//! Databases that lines make, and their cells.
+//! Commands of lines, and the cells of databases.
 ghost use Rattle.std.specs.Prelude.{◌≤◌};
 
 use super::words_of;
-use rrd_base::{Database, Receipt};
+use rrd_base::Database;
 use rrd_fixed::Cell;
-use rrd_tool::{Command, read_command, run_batch};
+use rrd_tool::{Command, read_command};
 use std::alloc::Global;
 use std::process::Abort;
 use std::test::Fail;
@@ -14,21 +14,6 @@ pub(crate) const NONE: Cell = Cell::Unknown;
 // The command of a line.
 pub(crate) fn command_of(alloc: Global, line: &str) -> Result<Command, Fail> {
     Ok(read_command(alloc, &words_of(alloc, line)?, 0)?)
-}
-
-// The database that the lines make.
-pub(crate) fn database_of(alloc: Global, lines: &str) -> Result<Database, Fail> {
-    let mut out = Vec::new(alloc);
-    let end = run_batch(alloc, None, 0, &mut lines.as_bytes(), &mut out);
-    Ok(end.database.ok_or("no database")?)
-}
-
-// Takes in the update of a line.
-pub(crate) fn updated(alloc: Global, database: &mut Database, line: &str) -> Result<Receipt, Fail> {
-    let Command::Update(update) = command_of(alloc, line)? else {
-        return Err(Fail::from("no update"));
-    };
-    Ok(database.update(alloc, &update)?)
 }
 
 // The cell of an archive's row at a time.

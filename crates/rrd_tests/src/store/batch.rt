@@ -5,15 +5,18 @@ use crate::shared::streams::{Giver, Manner, PLAIN};
 use rrd_file::FileFault;
 use rrd_store::{Access, FileBatchEnd, TaskFault, run_file_batch};
 use rrd_tool::StreamFault;
+use std::alloc::Global;
 use std::test::Fail;
 
 fn ended(
+    alloc: Global,
     refused: u64,
     stream: Option<StreamFault>,
     unstored: Option<TaskFault>,
 ) -> Option<FileBatchEnd> {
     Some(FileBatchEnd {
         refused,
+        lines: Vec::new(alloc),
         stream,
         unstored,
     })
@@ -25,8 +28,8 @@ fn a_batch_over_a_place(rt: HostRuntime) -> Result<(), Fail> {
     let mut place = InMemory::missing(alloc);
     let lines = format!(in alloc; "{CREATE}\nupdate 10:1\nlast\nnothing\n")?;
     let mut out = Vec::new(alloc);
-    let end = run_file_batch(alloc, 0, &mut place, &mut lines.as_bytes(), &mut out);
-    assert_eq!(&rt; end.ok(), ended(1, None, None));
+    let end = run_file_batch(alloc, 0, 0, &mut place, &mut lines.as_bytes(), &mut out);
+    assert_eq!(&rt; end.ok(), ended(alloc, 1, None, None));
     assert_eq!(&rt; out.as_slice(), b"10\nERROR: usage\n".as_slice());
     assert_eq!(&rt; place.bytes.len(), 309);
     assert_eq!(&rt; place.access, Some(Access::Change));
@@ -41,8 +44,8 @@ fn a_batch_over_a_place(rt: HostRuntime) -> Result<(), Fail> {
         },
     );
     let mut out = Vec::new(alloc);
-    let end = run_file_batch(alloc, 0, &mut place, &mut input, &mut out);
-    assert_eq!(&rt; end.ok(), ended(0, Some(StreamFault::Read), None));
+    let end = run_file_batch(alloc, 0, 0, &mut place, &mut input, &mut out);
+    assert_eq!(&rt; end.ok(), ended(alloc, 0, Some(StreamFault::Read), None));
     assert_eq!(&rt; out.as_slice(), b"10\n0\n".as_slice());
     assert_eq!(&rt; place.bytes.len(), 224);
     Ok(())
@@ -53,13 +56,16 @@ fn a_batch_that_stores_nothing(rt: HostRuntime) -> Result<(), Fail> {
     let alloc = rt.alloc();
     let mut place = InMemory::missing(alloc);
     let mut out = Vec::new(alloc);
-    let end = run_file_batch(alloc, 0, &mut place, &mut b"last\n".as_slice(), &mut out);
-    assert_eq!(&rt; end.ok(), ended(1, None, None));
+    let end = run_file_batch(alloc, 0, 0, &mut place, &mut b"last\n".as_slice(), &mut out);
+    assert_eq!(&rt; end.ok(), ended(alloc, 1, None, None));
     assert!(&rt; place.bytes.is_empty());
     assert_step(&rt, alloc, &mut place, &(CREATE, "", "", 224))?;
     place.begins = false;
-    let end = run_file_batch(alloc, 0, &mut place, &mut b"last\n".as_slice(), &mut out);
-    assert_eq!(&rt; end.ok(), ended(0, None, Some(TaskFault::CannotWrite)));
+    let end = run_file_batch(alloc, 0, 0, &mut place, &mut b"last\n".as_slice(), &mut out);
+    assert_eq!(&rt;
+        end.ok(),
+        ended(alloc, 0, None, Some(TaskFault::CannotWrite))
+    );
     assert_eq!(&rt; place.bytes.len(), 224);
     Ok(())
 }
@@ -70,13 +76,26 @@ fn a_batch_over_other_bytes(rt: HostRuntime) -> Result<(), Fail> {
     let mut place = InMemory::with(alloc, b"other bytes")?;
     let mut input = b"last\n".as_slice();
     let mut out = Vec::new(alloc);
-    let end = run_file_batch(alloc, 0, &mut place, &mut input, &mut out);
+    let end = run_file_batch(alloc, 0, 0, &mut place, &mut input, &mut out);
     assert_eq!(&rt; end.err(), Some(TaskFault::File(FileFault::NotOurs)));
     place.opens = false;
-    let end = run_file_batch(alloc, 0, &mut place, &mut input, &mut out);
+    let end = run_file_batch(alloc, 0, 0, &mut place, &mut input, &mut out);
     assert_eq!(&rt; end.err(), Some(TaskFault::CannotOpen));
     assert_eq!(&rt; input.len(), 5);
     assert!(&rt; out.is_empty());
     assert_eq!(&rt; place.bytes.as_slice(), b"other bytes".as_slice());
+    Ok(())
+}
+
+// The numbers of the refused lines come with the count.
+#[test]
+fn numbers_of_refused_lines(rt: HostRuntime) -> Result<(), Fail> {
+    let alloc = rt.alloc();
+    let mut place = InMemory::missing(alloc);
+    let lines = format!(in alloc; "{CREATE}\n\nupdate 5\nlast\nnothing\n")?;
+    let mut out = Vec::new(alloc);
+    let end = run_file_batch(alloc, 0, 8, &mut place, &mut lines.as_bytes(), &mut out)?;
+    assert_eq!(&rt; end.refused, 2);
+    assert_eq!(&rt; end.lines.as_slice(), [3, 5].as_slice());
     Ok(())
 }

@@ -6,6 +6,17 @@ use rrd_store::{Access, Place};
 use std::alloc::{AllocError, Global};
 use std::io::{self, Cursor, Error, ErrorKind, Write};
 
+// How a change ends that was written whole.
+#[derive(Clone, Copy, PartialEq, Eq)]
+pub(crate) enum Ending {
+    // Well.
+    Whole,
+    // It fails, and the old bytes stay.
+    OldStays,
+    // It fails, and the new bytes are there.
+    NewStays,
+}
+
 // Bytes in memory, or nothing there. It may refuse to be opened, or a change to begin or to end,
 // and takes no more bytes than it has room for. Where those of a change are not all written, it keeps its
 // own or what was written.
@@ -16,7 +27,7 @@ pub(crate) struct InMemory {
     pub(crate) bytes: Vec<u8>,
     pub(crate) opens: bool,
     pub(crate) begins: bool,
-    pub(crate) ends: bool,
+    pub(crate) ending: Ending,
     pub(crate) keeps: bool,
     pub(crate) room: usize,
     // What it was opened for last, and how many bytes it was told to expect.
@@ -48,7 +59,7 @@ impl InMemory {
             bytes,
             opens: true,
             begins: true,
-            ends: true,
+            ending: Ending::Whole,
             keeps: false,
             room: usize::MAX,
             access: None,
@@ -104,11 +115,14 @@ impl Place for InMemory {
     }
 
     fn end(&mut self, writer: Waiting) -> io::Result<()> {
-        if !self.ends {
+        if self.ending == Ending::OldStays {
             return Err(Error::from(ErrorKind::Other));
         }
         self.is_missing = false;
         self.bytes = writer.bytes;
+        if self.ending == Ending::NewStays {
+            return Err(Error::from(ErrorKind::Other));
+        }
         Ok(())
     }
 

@@ -174,7 +174,14 @@ impl Session {
     // Runs lines as a batch.
     fn batch(&mut self, lines: &str) -> Result<(), Fail> {
         let mut input = lines.as_bytes();
-        let end = run_file_batch(self.alloc, 0, &mut self.place, &mut input, &mut self.told)?;
+        let end = run_file_batch(
+            self.alloc,
+            0,
+            0,
+            &mut self.place,
+            &mut input,
+            &mut self.told,
+        )?;
         if end.stream.is_some() || end.unstored.is_some() {
             return Err(Fail::from("a batch ended early"));
         }

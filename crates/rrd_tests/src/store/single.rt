@@ -1,5 +1,5 @@
 //! Single commands over a place in memory that may fail.
-use super::place::InMemory;
+use super::place::{Ending, InMemory};
 use crate::file::bytes::{new_file, sampled_file};
 use crate::shared::streams::{Manner, PLAIN, Taker};
 use crate::shared::words_of;
@@ -124,12 +124,26 @@ fn a_place_that_is_not_written(rt: HostRuntime) -> Result<(), Fail> {
     place.begins = false;
     assert_step(&rt, alloc, &mut place, &refused)?;
     place.begins = true;
-    place.ends = false;
+    place.ending = Ending::OldStays;
     assert_step(&rt, alloc, &mut place, &refused)?;
-    place.ends = true;
+    place.ending = Ending::Whole;
     place.keeps = true;
     place.room = 308;
     assert_step(&rt, alloc, &mut place, &refused)
+}
+
+// The last call of a change fails and the new bytes are there: the next command runs over them.
+#[test]
+fn a_place_that_is_written_by_a_call_that_fails(rt: HostRuntime) -> Result<(), Fail> {
+    let alloc = rt.alloc();
+    let mut place = InMemory::with(alloc, &new_file(alloc)?)?;
+    place.ending = Ending::NewStays;
+    let mut out = Vec::new(alloc);
+    let words = words_of(alloc, "update 10:1")?;
+    let end = run_single(alloc, &words, 0, &mut place, &mut out);
+    assert_eq!(&rt; end.err(), Some(TaskFault::CannotWrite));
+    assert_eq!(&rt; place.bytes.as_slice(), sampled_file(alloc)?.as_slice());
+    assert_step(&rt, alloc, &mut place, &("last", "", "10\n", 309))
 }
 
 // What each command opens its place for; a create doesn't open it.

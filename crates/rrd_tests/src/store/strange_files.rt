@@ -15,7 +15,7 @@ fn printed(
     lines: &str,
 ) -> Result<Vec<u8>, Fail> {
     let mut out = Vec::new(alloc);
-    let end = run_file_batch(alloc, 0, place, &mut lines.as_bytes(), &mut out)?;
+    let end = run_file_batch(alloc, 0, 0, place, &mut lines.as_bytes(), &mut out)?;
     assert_eq!(rt;
         (end.refused, end.stream, end.unstored),
         (0, None, None),

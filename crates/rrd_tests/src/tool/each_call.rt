@@ -1,12 +1,13 @@
 //! Texts, commands and batches over readers and writers of which each call fails in turn, or is interrupted.
-use crate::file::bytes::{FOUR_CHANGES, NEW, file_of, new_file};
-use crate::shared::batches::last_of;
-use crate::shared::databases::database_of;
+use crate::file::bytes::{FOUR_CHANGES, file_of, new_file};
+use crate::shared::batches::{last_of, parts_of};
 use crate::shared::each_call::{FAULTS, INTERRUPTS, assert_front, failing_after, interrupted};
+use crate::shared::plans::{NEW, made};
 use crate::shared::streams::{Giver, Manner, PLAIN, Taker};
 use rrd_base::Database;
 use rrd_fixed::{Cell, Kind, Raw, WriteFault, write_bytes, write_cell, write_raw, write_time};
 use rrd_fold::Function;
+use rrd_spec::FetchRequest;
 use rrd_tool::{
     Command, Fault, LineFault, StreamFault, execute, run_batch, write_error, write_fault,
 };
@@ -86,13 +87,13 @@ const COMMANDS: usize = 5;
 // The command of this number.
 fn printing(number: usize) -> Command {
     match number {
-        0 => Command::Fetch {
+        0 => Command::Fetch(FetchRequest {
             function: Function::Average,
             asked: 1,
             start: 100,
-            stop: 140,
-        },
-        1 => Command::First { index: 1 },
+            end: 140,
+        }),
+        1 => Command::First { archive: 1 },
         2 => Command::Last,
         3 => Command::LastUpdate,
         _ => Command::Info,
@@ -102,7 +103,7 @@ fn printing(number: usize) -> Command {
 // What a command prints.
 fn printed(alloc: Global, database: Database, number: usize) -> Result<Vec<u8>, Fail> {
     let mut out = Vec::new(alloc);
-    let end = execute(alloc, Some(database), printing(number), &mut out);
+    let end = parts_of(execute(alloc, Some(database), printing(number), &mut out));
     if end.fault.is_some() {
         return Err(Fail::from("a command was refused"));
     }
@@ -119,7 +120,7 @@ fn assert_ends(
     out: &mut Taker,
     fails: bool,
 ) -> Result<Database, Fail> {
-    let end = execute(alloc, Some(database), printing(number), out);
+    let end = parts_of(execute(alloc, Some(database), printing(number), out));
     let fault = if fails { Some(Fault::Output) } else { None };
     assert_eq!(rt; (end.fault, end.changed), (fault, false), "{number}");
     Ok(end.database.ok_or("no database")?)
@@ -157,9 +158,9 @@ fn assert_command_interrupted(
 }
 
 fn assert_each_write_of_command(rt: &impl Abort, alloc: Global, number: usize) -> Result<(), Fail> {
-    let mut database = database_of(alloc, FOUR_CHANGES)?;
+    let mut database = made(alloc, &FOUR_CHANGES)?;
     let before = file_of(alloc, &database)?;
-    let text = printed(alloc, database_of(alloc, FOUR_CHANGES)?, number)?;
+    let text = printed(alloc, made(alloc, &FOUR_CHANGES)?, number)?;
     for fault in [Some(ErrorKind::Other), None] {
         database = assert_command_breaks_off(rt, alloc, database, number, &text, fault)?;
     }
@@ -239,7 +240,14 @@ fn assert_batch(
 ) -> Result<(), Fail> {
     let (input, _) = batch_of(alloc)?;
     let mut out = Vec::new(alloc);
-    let got = run_batch(alloc, None, 0, &mut Giver::new(&input, reading), &mut out);
+    let got = run_batch(
+        alloc,
+        None,
+        0,
+        0,
+        &mut Giver::new(&input, reading),
+        &mut out,
+    );
     assert_eq!(rt;
         (got.stream, got.refused, last_of(&got.database)),
         end,
@@ -293,7 +301,7 @@ fn assert_each_write_of_batch(
 ) -> Result<(), Fail> {
     let (input, text) = batch_of(alloc)?;
     let mut out = Taker::new(alloc, failing_after(calls, fault), PLAIN);
-    let end = run_batch(alloc, None, 0, &mut input.as_slice(), &mut out);
+    let end = run_batch(alloc, None, 0, 0, &mut input.as_slice(), &mut out);
     let got = (end.stream, end.refused, last_of(&end.database));
     assert_eq!(rt; got, after_writes(calls), "{calls}");
     assert_front(rt, &out.taken, &text, calls);
@@ -328,7 +336,7 @@ fn each_flush_of_a_batch_fails(rt: HostRuntime) -> Result<(), Fail> {
     for (calls, wanted, length) in FLUSHES {
         let flushing = failing_after(*calls, Some(ErrorKind::Other));
         let mut out = Taker::new(alloc, PLAIN, flushing);
-        let end = run_batch(alloc, None, 0, &mut input.as_slice(), &mut out);
+        let end = run_batch(alloc, None, 0, 0, &mut input.as_slice(), &mut out);
         let got = (end.stream, end.refused, last_of(&end.database));
         assert_eq!(&rt; got, *wanted, "{calls}");
         assert_front(&rt, &out.taken, &text, *length);
@@ -388,20 +396,20 @@ impl Write for Lines {
 }
 
 // A million rows, of which none is known.
-const MOST_ROWS: Command = Command::Fetch {
+const MOST_ROWS: Command = Command::Fetch(FetchRequest {
     function: Function::Last,
     asked: 1,
     start: 0,
-    stop: 9_999_990,
-};
+    end: 9_999_990,
+});
 
 // The header, and for each time up to 10,000,000 its digits, `: nan` and the end of the line.
 #[test]
 fn a_million_rows(rt: HostRuntime) -> Result<(), Fail> {
     let alloc = rt.alloc();
     let mut out = Lines::new(alloc);
-    let database = database_of(alloc, NEW)?;
-    let end = execute(alloc, Some(database), MOST_ROWS, &mut out);
+    let database = made(alloc, &NEW)?;
+    let end = parts_of(execute(alloc, Some(database), MOST_ROWS, &mut out));
     assert!(&rt; end.fault.is_none());
     assert_eq!(&rt; (out.bytes, out.count), (12_888_904, 1_000_001));
     assert_eq!(&rt; out.second.as_slice(), b"10: nan\n".as_slice());
@@ -413,8 +421,8 @@ fn a_million_rows(rt: HostRuntime) -> Result<(), Fail> {
 fn a_million_rows_break_off(rt: HostRuntime) -> Result<(), Fail> {
     let alloc = rt.alloc();
     let mut out = Taker::new(alloc, failing_after(8, Some(ErrorKind::Other)), PLAIN);
-    let database = database_of(alloc, NEW)?;
-    let end = execute(alloc, Some(database), MOST_ROWS, &mut out);
+    let database = made(alloc, &NEW)?;
+    let end = parts_of(execute(alloc, Some(database), MOST_ROWS, &mut out));
     assert_eq!(&rt; (end.fault, end.changed), (Some(Fault::Output), false));
     assert_eq!(&rt; out.taken.as_slice(), b"time: g\n".as_slice());
     let after = file_of(alloc, &end.database.ok_or("no database")?)?;

@@ -1,7 +1,9 @@
 //! Calls that take memory, each made again where it found none: what it left is as it was before, and the second one
 //! does all. `.ci/refuse-in-tests` has each growth refused in turn; otherwise the first one does all.
 use crate::file::bytes::{ARCHIVES_CHANGED, FOUR_CHANGES, SAMPLED, file_of};
-use crate::shared::databases::{command_of, database_of};
+use crate::shared::batches::parts_of;
+use crate::shared::databases::command_of;
+use crate::shared::plans::{Plan, made};
 use crate::shared::words_of;
 use rrd_base::{Database, Refusal};
 use rrd_file::{FileFault, decode};
@@ -40,8 +42,8 @@ fn words_grow(rt: HostRuntime) -> Result<(), Fail> {
 
 // ---- files
 
-fn assert_is_read(rt: &impl Abort, alloc: Global, lines: &str) -> Result<(), Fail> {
-    let bytes = file_of(alloc, &database_of(alloc, lines)?)?;
+fn assert_is_read(rt: &impl Abort, alloc: Global, plan: &Plan) -> Result<(), Fail> {
+    let bytes = file_of(alloc, &made(alloc, plan)?)?;
     let end = match decode(alloc, bytes.as_slice()) {
         Err(FileFault::OutOfMemory) => decode(alloc, bytes.as_slice()),
         end => end,
@@ -56,13 +58,13 @@ fn assert_is_read(rt: &impl Abort, alloc: Global, lines: &str) -> Result<(), Fai
 
 #[test]
 fn a_file_is_read(rt: HostRuntime) -> Result<(), Fail> {
-    assert_is_read(&rt, rt.alloc(), SAMPLED)
+    assert_is_read(&rt, rt.alloc(), &SAMPLED)
 }
 
 #[test]
 fn a_file_with_entries_is_read(rt: HostRuntime) -> Result<(), Fail> {
-    assert_is_read(&rt, rt.alloc(), FOUR_CHANGES)?;
-    assert_is_read(&rt, rt.alloc(), ARCHIVES_CHANGED)
+    assert_is_read(&rt, rt.alloc(), &FOUR_CHANGES)?;
+    assert_is_read(&rt, rt.alloc(), &ARCHIVES_CHANGED)
 }
 
 // ---- commands
@@ -115,17 +117,17 @@ fn other_words_are_read(rt: HostRuntime) -> Result<(), Fail> {
 // A command is done, and changes the database.
 fn assert_done(rt: &impl Abort, alloc: Global, database: Database, line: &str) -> Result<(), Fail> {
     let mut out = Vec::new(alloc);
-    let end = execute(alloc, Some(database), command_of(alloc, line)?, &mut out);
+    let end = parts_of(execute(alloc, Some(database), command_of(alloc, line)?, &mut out));
     assert!(rt; end.fault.is_none() && end.changed, "{line}");
     Ok(())
 }
 
 // A command is done, or leaves the database as it was where there was no memory, and is done then.
 fn assert_changes(rt: &impl Abort, alloc: Global, line: &str) -> Result<(), Fail> {
-    let database = database_of(alloc, FOUR_CHANGES)?;
+    let database = made(alloc, &FOUR_CHANGES)?;
     let before = file_of(alloc, &database)?;
     let mut out = Vec::new(alloc);
-    let end = execute(alloc, Some(database), command_of(alloc, line)?, &mut out);
+    let end = parts_of(execute(alloc, Some(database), command_of(alloc, line)?, &mut out));
     let database = end.database.ok_or("no database")?;
     let Some(fault) = end.fault else {
         return Ok(());
@@ -148,10 +150,10 @@ fn a_create_replaces(rt: HostRuntime) -> Result<(), Fail> {
 fn a_create_makes(rt: HostRuntime) -> Result<(), Fail> {
     let alloc = rt.alloc();
     let mut out = Vec::new(alloc);
-    let mut end = execute(alloc, None, command_of(alloc, CREATE)?, &mut out);
+    let mut end = parts_of(execute(alloc, None, command_of(alloc, CREATE)?, &mut out));
     if end.fault == Some(Fault::Refused(Refusal::OutOfMemory)) {
         assert!(&rt; end.database.is_none() && !end.changed);
-        end = execute(alloc, None, command_of(alloc, CREATE)?, &mut out);
+        end = parts_of(execute(alloc, None, command_of(alloc, CREATE)?, &mut out));
     }
     assert_eq!(&rt; (end.fault, end.changed), (None, true));
     Ok(())

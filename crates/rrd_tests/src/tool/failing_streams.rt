@@ -1,8 +1,9 @@
 //! Batches over readers and writers that give or take little, are interrupted, or fail once: what is
 //! tried again, and what isn't.
-use crate::shared::batches::last_of;
+use crate::shared::batches::{last_of, parts_of};
 use crate::shared::streams::{Giver, Manner, PLAIN, Taker};
 use rrd_fold::Function;
+use rrd_spec::FetchRequest;
 use rrd_tool::{Command, Fault, StreamFault, execute, run_batch};
 use std::alloc::{AllocError, Global};
 use std::io::ErrorKind;
@@ -294,7 +295,7 @@ fn batches_over_streams(rt: HostRuntime) -> Result<(), Fail> {
             let name = wanted.name;
             let mut source = Giver::new(wanted.input, wanted.reading);
             let mut sink = Taker::new(alloc, wanted.writing, wanted.flushing);
-            let end = run_batch(alloc, None, 0, &mut source, &mut sink);
+            let end = run_batch(alloc, None, 0, 0, &mut source, &mut sink);
             let last = last_of(&end.database);
             let got = (end.stream, end.refused, last, sink.flushed);
             assert_eq!(&rt; got, wanted.end, "{name}");
@@ -340,7 +341,7 @@ fn lines_as_long_as_can_be(rt: HostRuntime) -> Result<(), Fail> {
             ..PLAIN
         };
         let mut out = Vec::new(alloc);
-        let end = run_batch(alloc, None, 0, &mut Giver::new(&line, reading), &mut out);
+        let end = run_batch(alloc, None, 0, 0, &mut Giver::new(&line, reading), &mut out);
         assert_eq!(&rt;
             (end.stream, end.refused),
             (None, *refused),
@@ -360,6 +361,7 @@ fn a_fetch_cut_short(rt: HostRuntime) -> Result<(), Fail> {
         alloc,
         None,
         0,
+        0,
         &mut &MADE[..],
         &mut Taker::new(alloc, PLAIN, PLAIN),
     );
@@ -372,13 +374,13 @@ fn a_fetch_cut_short(rt: HostRuntime) -> Result<(), Fail> {
         },
         PLAIN,
     );
-    let fetch = Command::Fetch {
+    let fetch = Command::Fetch(FetchRequest {
         function: Function::Last,
         asked: 1,
         start: 0,
-        stop: 19,
-    };
-    let end = execute(alloc, made.database, fetch, &mut out);
+        end: 19,
+    });
+    let end = parts_of(execute(alloc, made.database, fetch, &mut out));
     let got = (end.fault, end.changed, last_of(&end.database));
     assert_eq!(&rt; got, (Some(Fault::Output), false, Some(20)));
     assert_eq!(&rt; out.taken.as_slice(), b"time: g\n".as_slice());

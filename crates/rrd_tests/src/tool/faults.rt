@@ -58,7 +58,7 @@ const REFUSALS: &[(Refusal, &str)] = &[
 fn refusals(rt: HostRuntime) -> Result<(), Fail> {
     for (refusal, text) in REFUSALS {
         let shown = format!(in rt.alloc(); "{refusal}")?;
-        assert_eq!(rt; shown.as_str(), *text);
+        assert_eq!(rt; shown.as_str(), *text, "{text}");
         assert_told(&rt, rt.alloc(), Fault::Refused(*refusal), text)?;
     }
     Ok(())
@@ -89,7 +89,7 @@ const UNREAD: &[(Part, &str)] = &[
     (Part::Rows, "unreadable rows"),
     (Part::Function, "unreadable function"),
     (Part::Resolution, "unreadable resolution"),
-    (Part::Until, "unreadable end"),
+    (Part::End, "unreadable end"),
 ];
 
 // Words that are no command.

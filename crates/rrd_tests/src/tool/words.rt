@@ -3,6 +3,7 @@
 use crate::shared::words_of;
 use rrd_base::{CreateSpec, DsDef, Given, RraDef, Tuning, Update};
 use rrd_fixed::{Name, Number};
+use rrd_spec::FetchRequest;
 use rrd_tool::{Command, LineFault, Words, read_command};
 use std::alloc::Global;
 use std::fmt::{self, Display, Formatter};
@@ -32,17 +33,19 @@ fn tell<W: fmt::Write>(f: &mut Formatter<W>, command: &Command) -> fmt::Result {
         Command::Update(update) => tell_update(f, update),
         Command::Tune(tuning) => tell_tune(f, tuning),
         Command::Resize {
-            index,
+            archive,
             change,
             rows,
-        } => write!(f, "resize {index} {change:?} {rows}"),
-        Command::Fetch {
-            function,
-            asked,
-            start,
-            stop,
-        } => write!(f, "fetch {function:?} {asked} {start} {stop}"),
-        Command::First { index } => write!(f, "first {index}"),
+        } => write!(f, "resize {archive} {change:?} {rows}"),
+        Command::Fetch(
+            FetchRequest {
+                function,
+                asked,
+                start,
+                end,
+            },
+        ) => write!(f, "fetch {function:?} {asked} {start} {end}"),
+        Command::First { archive } => write!(f, "first {archive}"),
         Command::Last => write!(f, "last"),
         Command::LastUpdate => write!(f, "lastupdate"),
         Command::Info => write!(f, "info"),
@@ -185,7 +188,7 @@ const COMMANDS: &[(&str, &str)] = &[
 fn commands(rt: HostRuntime) -> Result<(), Fail> {
     for (line, wanted) in COMMANDS {
         let got = read(rt.alloc(), line, 1000)?;
-        assert_eq!(rt; got.as_str(), *wanted);
+        assert_eq!(rt; got.as_str(), *wanted, "{line}");
     }
     let early = read(rt.alloc(), "create", 9)?;
     assert_eq!(rt; early.as_str(), "create 300 0 16");
@@ -242,7 +245,7 @@ const UNREADABLE: &[(&str, &str)] = &[
 fn unreadable_parts(rt: HostRuntime) -> Result<(), Fail> {
     for (line, wanted) in UNREADABLE {
         let got = read(rt.alloc(), line, 1000)?;
-        assert_eq!(rt; got.as_str(), *wanted);
+        assert_eq!(rt; got.as_str(), *wanted, "{line}");
     }
     Ok(())
 }
@@ -294,7 +297,7 @@ const TAKEN: &[(&str, &str)] = &[
 fn what_clap_takes(rt: HostRuntime) -> Result<(), Fail> {
     for (line, wanted) in TAKEN {
         let got = read(rt.alloc(), line, 1000)?;
-        assert_eq!(rt; got.as_str(), *wanted);
+        assert_eq!(rt; got.as_str(), *wanted, "{line}");
     }
     let none = read_command(rt.alloc(), &Words::new(rt.alloc()), 1000);
     assert!(rt; matches!(none, Err(LineFault::Usage)));

@@ -1,13 +1,14 @@
--- Glue: what the functions of a batch say of the state, which no value holds.
-use Rattle.std.specs.Prelude.{◌≡◌, ◌++◌, [], ℕ, Bool, List, Option, Some, None, Result, Ok, Err}
+-- Glue: the results of the functions of a batch by the state, which no value of the program holds.
+use Rattle.std.specs.Prelude.{◌≡◌, ◌++◌, [], ℕ, Bool, List, Option, Some, None, Result, Ok, Err, length, take}
 use Rattle.std.specs.Io.KnownBytes.{Appends, Keeps}
 use Rattle.rrd_fixed.specs.declared.streams.WriteFault.{WriteFault}
 use Rattle.rrd_spec.specs.Journal.Survivors.{State, Stored}
-use Rattle.rrd_tool.specs.Batch.{Turn, Ran, Stopped, Told}
+use Rattle.rrd_tool.specs.Batch.{Tally, Turn, Ran, Stopped, Told}
 use Rattle.rrd_tool.specs.Effects.{StandsFor}
 use Rattle.rrd_tool.specs.Faults.{fault_line}
 use Rattle.rrd_tool.specs.Lines.{is_empty}
 use Rattle.rrd_tool.specs.Batch.Run.{command_turn, refusal_turn, turn, unless_short}
+use Rattle.rrd_tool.specs.declared.refusals.Refusals.{Refusals}
 use Rattle.rrd_tool.specs.declared.commands.Command.{Command}
 use Rattle.rrd_tool.specs.declared.faults.LineFault.{LineFault}
 use Rattle.rrd_tool.specs.declared.faults.Fault.{Fault}
@@ -15,17 +16,18 @@ use Rattle.rrd_tool.specs.declared.faults.Fault.TheVariants.{Line}
 
 -- ---- one line
 
--- a front of the text was written, or all of it
+-- a prefix of the text was written, or all of it
 abbrev pub AppendsSome : Option (List ℕ) → Option (List ℕ) → List ℕ → Type 0
 AppendsSome old new text =
     (front : List ℕ) × (unwritten : List ℕ) × (text ≡ front ++ unwritten) × Appends old new front
 
--- what a line came to that was no fault's
+-- the result of a line without an error
 abbrev pub passed : {S : Type 0} → S → List ℕ → Turn S
 passed state text = record { state = state; text = text; is_fault = Bool.false }
 
--- what performing a line answers, whose turn depends on whether memory was wanting: its text is written, or a fault is
--- answered and nothing written; where writing or handing on failed a front of the text is there, and that is some text
+-- the result of performing a line, whose turn depends on whether memory ran out: its text is written; or an error is
+-- returned, and nothing is written; or writing or flushing failed, and a prefix of the text, which is not
+-- empty, is written
 abbrev pub Performs : {S F : Type 0} → (F → List ℕ) → (Bool → Turn S) → S → Option (List ℕ) → Option (List ℕ)
     → Result (Option F) WriteFault → Type 0
 Performs fault_line turn state c0 c1 (Ok None) =
@@ -37,11 +39,11 @@ Performs fault_line turn state c0 c1 (Ok (Some fault)) =
 Performs fault_line turn state c0 c1 (Err e) =
     (text : List ℕ) × (turn Bool.false ≡ passed state text) × AppendsSome c0 c1 text × (is_empty text ≡ Bool.false)
 
--- the turn of a line, by whether memory was wanting
+-- the turn of a line, by whether memory ran out
 abbrev pub line_turns : ℕ → Option State → List ℕ → Bool → Turn (Option State)
 line_turns now state line is_short = turn now state (record { line = line; is_short = is_short })
 
--- what a line asks for: a command, nothing, or a fault
+-- the request of a line: a command, nothing, or an error
 abbrev pub Asks : ℕ → List ℕ → Result (Option Command) LineFault → Type 0
 Asks now line (Ok None) = (state : Option State) → line_turns now state line Bool.false ≡ passed state []
 Asks now line (Ok (Some command)) =
@@ -50,16 +52,16 @@ Asks now line (Ok (Some command)) =
 Asks now line (Err fault) =
     (is_short : Bool) × ((state : Option State) → line_turns now state line is_short ≡ refusal_turn state (Line fault))
 
--- the lines were run, or at a fault some of them
-abbrev pub Answers : {S T : Type 0} → (S → Told → Turn S) → S → S → ℕ → ℕ → Option (List ℕ) → Option (List ℕ)
-    → List (List ℕ) → Result T WriteFault → Type 0
-Answers turn s0 s1 n0 n1 c0 c1 lines (Ok x) = Ran turn s0 s1 n0 n1 c0 c1 lines
-Answers turn s0 s1 n0 n1 c0 c1 lines (Err e) = Stopped turn s0 s1 n0 n1 c0 c1 lines
+-- the lines were run, or at an error some of them
+abbrev pub Answers : {S T : Type 0} → (S → Told → Turn S) → S → S → Tally → Tally → Option (List ℕ)
+    → Option (List ℕ) → List (List ℕ) → Result T WriteFault → Type 0
+Answers turn s0 s1 t0 t1 c0 c1 lines (Ok x) = Ran turn s0 s1 t0 t1 c0 c1 lines
+Answers turn s0 s1 t0 t1 c0 c1 lines (Err e) = Stopped turn s0 s1 t0 t1 c0 c1 lines
 
 -- ---- the database
 
--- from each state that the database stands for, the command, or the line, leads to one that the new database stands
--- for
+-- from each state that the database represents, the command or the line leads to a state that the new database
+-- represents
 abbrev pub MovesBy : Option Stored → Option Stored → Option (List ℕ) → Option (List ℕ)
     → (Option State → Bool → Turn (Option State)) → Result (Option Fault) WriteFault → Type 0
 MovesBy b0 b1 c0 c1 turns r =
@@ -74,9 +76,18 @@ abbrev pub MovesByLine : ℕ → Option Stored → Option Stored → Option (Lis
     → Result (Option Fault) WriteFault → Type 0
 MovesByLine now b0 b1 c0 c1 line r = MovesBy b0 b1 c0 c1 (λ state. line_turns now state line) r
 
--- so do these lines
-abbrev pub Moves : {T : Type 0} → ℕ → Option Stored → Option Stored → ℕ → ℕ → Option (List ℕ) → Option (List ℕ)
-    → List (List ℕ) → Result T WriteFault → Type 0
-Moves now b0 b1 n0 n1 c0 c1 lines r =
-    (s0 : Option State) → StandsFor b0 s0
-    → (s1 : Option State) × StandsFor b1 s1 × Answers (turn now) s0 s1 n0 n1 c0 c1 lines r
+-- ---- the lines that were read
+
+-- the counts and numbers that are kept of a tally, at most `most` numbers
+abbrev pub Tallies : ℕ → Refusals → Tally → Type 0
+Tallies most kept t =
+    (kept.most ≡ most) × (kept.lines ≡ t.lines) × (kept.count ≡ length t.refused)
+    × (kept.numbers.items ≡ take most t.refused)
+
+-- these lines lead to a state that the new database represents, and the counts continue with them
+abbrev pub Moves : {T : Type 0} → ℕ → Option Stored → Option Stored → Refusals → Refusals → Option (List ℕ)
+    → Option (List ℕ) → List (List ℕ) → Result T WriteFault → Type 0
+Moves now b0 b1 k0 k1 c0 c1 lines r =
+    (s0 : Option State) → StandsFor b0 s0 → (most : ℕ) (t0 : Tally) → Tallies most k0 t0
+    → (s1 : Option State) × StandsFor b1 s1 × (t1 : Tally) × Tallies most k1 t1
+    × Answers (turn now) s0 s1 t0 t1 c0 c1 lines r

@@ -1,9 +1,10 @@
--- Definition: the run, or what the lines of an input make of a database, and what they print (own).
+-- Definition: the run: the database that the lines of an input make, and the text that they print (this project's
+-- rule).
 use Rattle.std.specs.Prelude.{◌≡◌, ◌⊎◌, ◌∷◌, [], ℕ, Bool, List, Option, Some, None, Result, Ok, Err, true, false, option_map, if◌then◌else◌}
 use Rattle.std.specs.Io.KnownBytes.{IsAtEnd, Keeps}
 use Rattle.clap.specs.Words.{fault_of}
 use Rattle.rrd_spec.specs.Journal.Survivors.{State}
-use Rattle.rrd_tool.specs.Batch.{Told, Turn, Ran, Stopped}
+use Rattle.rrd_tool.specs.Batch.{Tally, Told, Turn, Ran, Stopped, no_lines}
 use Rattle.rrd_tool.specs.Commands.{effect, rrdi_app}
 use Rattle.rrd_tool.specs.Effects.{Effect, stored_of, next, text_on, verdict_on}
 use Rattle.rrd_tool.specs.Faults.{fault_line}
@@ -20,17 +21,17 @@ use Rattle.rrd_tool.specs.declared.faults.Fault.TheVariants.{Line}
 
 -- ---- one line
 
--- what was read, or the part that can't be read
+-- the command that was parsed, or the part that cannot be parsed
 abbrev pub read_as : Option (Result Command Unread) → Result Command LineFault
 read_as None = Err Usage
 read_as (Some (Ok command)) = Ok command
 read_as (Some (Err unread)) = Err (BadWord unread.0 unread.1)
 
--- the command of the words: their reading, where clap states that it takes them
+-- the command of the arguments: their reading, if clap states that it accepts them
 unfoldable pub command_of : List (List ℕ) → ℕ → Result Command LineFault
 command_of words now = if is_empty (fault_of rrdi_app words) then read_as (reading words now) else Err Usage
 
--- a refused line leaves the state, and its fault's line is written
+-- a refused line leaves the state unchanged, and its error is written
 abbrev pub refusal_turn : Option State → Fault → Turn (Option State)
 refusal_turn state fault = record { state = state; text = fault_line fault; is_fault = true }
 
@@ -49,36 +50,38 @@ abbrev pub reading_turn : Option State → Result Command LineFault → Turn (Op
 reading_turn state (Ok command) = command_turn state command
 reading_turn state (Err fault) = refusal_turn state (Line fault)
 
--- what was asked, or want of memory
+-- the requested turn, or an error because memory ran out
 abbrev pub unless_short : Option State → Turn (Option State) → Bool → Turn (Option State)
 unless_short state asked true = refusal_turn state (Line OutOfMemory)
 unless_short state asked false = asked
 
--- a line without words is skipped. Any other may be answered with want of memory
+-- a line without arguments is skipped. For any other line memory may run out
 abbrev pub words_turn : ℕ → Option State → List (List ℕ) → Bool → Turn (Option State)
 words_turn now state [] is_short = record { state = state; text = []; is_fault = false }
 words_turn now state (word ∷ words) is_short =
     unless_short state (reading_turn state (command_of (word ∷ words) now)) is_short
 
--- a line that is no text is no command, also if it has no words
+-- a line that is not a text is not a command, even if it has no arguments
 abbrev pub text_turn : ℕ → Option State → Option (List ℕ) → Bool → Turn (Option State)
 text_turn now state None is_short = refusal_turn state (Line Usage)
 text_turn now state (Some text) is_short = words_turn now state (words_of text) is_short
 
--- what a line comes to, `now` being the present time
+-- the result of a line, if `now` is the present time
 unfoldable pub turn : ℕ → Option State → Told → Turn (Option State)
 turn now state told = text_turn now state (text_in told.line) told.is_short
 
 -- ---- the run
 
--- `seen` is what was read. At the end of the input all its lines were run; after a failed read those that were whole;
--- after a failed write some first ones of those, or at the end of the input of all, of the last of which a front of
--- the text was written; with no memory for a line nothing was read or written
-abbrev pub RunOver : ℕ → List ℕ → Option (List ℕ) → Option State → Option State → ℕ → Option (List ℕ)
+-- `seen` has the bytes that were read. At the end of the input all its lines were run. After a failed read all complete
+-- lines were run. After a failed write the first of the complete lines were run, or at the end of the input the first
+-- of all lines; of the last of them a prefix of the text was written. If memory for a line or for the numbers ran out,
+-- no byte was read or written
+abbrev pub RunOver : ℕ → List ℕ → Option (List ℕ) → Option State → Option State → Tally → Option (List ℕ)
     → Option (List ℕ) → Option StreamFault → Type 0
-RunOver now seen r1 s0 s1 n c0 c1 None = IsAtEnd r1 × Ran (turn now) s0 s1 0 n c0 c1 (lines_of seen)
-RunOver now seen r1 s0 s1 n c0 c1 (Some stream.Read) = Ran (turn now) s0 s1 0 n c0 c1 (whole_lines [] seen)
-RunOver now seen r1 s0 s1 n c0 c1 (Some stream.Write) =
-    Stopped (turn now) s0 s1 0 n c0 c1 (whole_lines [] seen)
-    ⊎ (IsAtEnd r1 × Stopped (turn now) s0 s1 0 n c0 c1 (lines_of seen))
-RunOver now seen r1 s0 s1 n c0 c1 (Some stream.OutOfMemory) = (seen ≡ []) × (s1 ≡ s0) × (n ≡ 0) × Keeps c0 c1
+RunOver now seen r1 s0 s1 t c0 c1 None = IsAtEnd r1 × Ran (turn now) s0 s1 no_lines t c0 c1 (lines_of seen)
+RunOver now seen r1 s0 s1 t c0 c1 (Some stream.Read) = Ran (turn now) s0 s1 no_lines t c0 c1 (whole_lines [] seen)
+RunOver now seen r1 s0 s1 t c0 c1 (Some stream.Write) =
+    Stopped (turn now) s0 s1 no_lines t c0 c1 (whole_lines [] seen)
+    ⊎ (IsAtEnd r1 × Stopped (turn now) s0 s1 no_lines t c0 c1 (lines_of seen))
+RunOver now seen r1 s0 s1 t c0 c1 (Some stream.OutOfMemory) =
+    (seen ≡ []) × (s1 ≡ s0) × (t ≡ no_lines) × Keeps c0 c1

@@ -1,4 +1,4 @@
--- Definition: create: its shape, and what its values are read as (rrdcreate; `--journal` is own).
+-- Definition: create: its shape, and how its values are parsed (rrdcreate; `--journal` is this project's).
 use Rattle.std.specs.Prelude.{◌-◌, ℕ, ℤ, List, [], ◌∷◌, Option, Some, None, Result, Ok, codes, if◌then◌else◌}
 use Rattle.std.specs.Str.{bytes_eq}
 use Rattle.clap.specs.Words.{App, Row, Text, first_of, new_app, with_rule}
@@ -46,7 +46,7 @@ archive_of text =
     field whole_of rest (λ steps rest.
     whole_of rest >>? (λ rows. Some (record { function = function; xff = xff; steps = steps; rows = rows })))))
 
--- `DS:` and a source, or `RRA:` and an archive
+-- `DS:` and a data source, or `RRA:` and an archive
 abbrev pub definition_of : Text → Option Definition
 definition_of text =
     cut_of text >>? (λ cut.
@@ -54,7 +54,7 @@ definition_of text =
     else (if bytes_eq cut.0 (codes "RRA") then archive_of cut.1 >>? (λ archive. Some (Definition.Archive archive))
     else None))
 
--- the sources among the definitions, in their order
+-- the data sources among the definitions, in their order
 abbrev pub sources_in : List Definition → List DsDef
 sources_in [] = []
 sources_in (Definition.Source source ∷ more) = source ∷ sources_in more
@@ -68,14 +68,14 @@ archives_in (Definition.Archive archive ∷ more) = archive ∷ archives_in more
 
 -- ---- its values
 
--- the sources and the archives that the words define, each in their order
+-- the data sources and the archives that the arguments define, each in their order
 abbrev pub definitions_of : List Text → Result (List DsDef × List RraDef) Unread
 definitions_of words =
     each_of definition_of part.Definition 1 words
     >>= (λ definitions. Ok (sources_in definitions, archives_in definitions))
 
--- the step is 300 seconds by default, the start ten seconds before now (rrdcreate), and 16 changes can be reverted
--- (own)
+-- the default of the step is 300 seconds, and of the start ten seconds before now (rrdcreate); the default of the
+-- journal is 16 changes (this project's rule)
 abbrev pub create_of : List Row → ℕ → Result Command Unread
 create_of rows now =
     given whole_of part.Step (first_of (codes "step") rows) 300

@@ -1,4 +1,4 @@
--- Definition: first: its shape, what its value is read as, and what it prints (rrdfirst).
+-- Definition: first: its shape, how its value is parsed, and the text that it prints (rrdfirst).
 use Rattle.std.specs.Prelude.{ℕ, List, Result, Ok, codes}
 use Rattle.std.specs.Result.{result_map_both}
 use Rattle.clap.specs.Words.{App, Row, first_of, new_app, with_rule}
@@ -18,7 +18,7 @@ use Rattle.rrd_tool.specs.declared.faults.Part.TheVariants as part
 unfoldable pub first_app : App
 first_app = with_rule (new_app (name_text verb.First)) (option_rule (codes "rraindex") (codes "rraindex"))
 
--- the archive is the one of number 0 by default (rrdfirst)
+-- the default is archive 0 (rrdfirst)
 abbrev pub first_from : List Row → Result Command Unread
 first_from rows =
     given whole_of part.Archive (first_of (codes "rraindex") rows) 0

@@ -1,5 +1,5 @@
--- Definition: info: what it prints (rrdinfo, with values in plain digits; `journal`, `undoable` and
--- `last_raw` are own).
+-- Definition: info: the text that it prints (rrdinfo, with values in plain digits; `journal`, `undoable` and `last_raw`
+-- are this project's).
 use Rattle.std.specs.Prelude.{◌++◌, [], ℕ, ℤ, List, Option, Some, None, Result, Ok, codes, decimal, length, pos, slice_get, slice_index_or}
 use Rattle.std.specs.Option.{option_map_or}
 use Rattle.rrd_fixed.specs.declared.raw.Raw.{Raw}
@@ -14,22 +14,22 @@ use Rattle.rrd_tool.specs.Fields.{function_text, kind_text}
 
 -- ---- values
 
--- a bound in millionths, or `U` for none
+-- a bound in millionths, or `U` for no bound
 abbrev pub bound_text : Option ℤ → List ℕ
 bound_text None = codes "U"
 bound_text (Some bound) = signed_text bound
 
 -- ---- lines
 
--- a line: what it is of, the name, and the value
+-- a line: the item that the setting belongs to, the name of the setting, and the value
 abbrev pub setting : List ℕ → List ℕ → List ℕ → List ℕ
 setting of name value = of ++ name ++ codes " = " ++ value ++ codes "\n"
 
--- what the lines of the source or archive of a number are of: `ds[0].`
+-- the data source or archive with a number, as the lines of its settings begin: `ds[0].`
 abbrev pub numbered : List ℕ → ℕ → List ℕ
 numbered items number = items ++ codes "[" ++ decimal number ++ codes "]."
 
--- the step, the last time, the journal's depth, and how many changes can be reverted
+-- the step, the last time, the depth of the journal, and the number of changes that can be reverted
 abbrev pub head_text : Stored → List ℕ
 head_text kept =
     setting [] (codes "step") (decimal kept.content.step)
@@ -37,7 +37,7 @@ head_text kept =
     ++ setting [] (codes "journal") (decimal kept.content.depth)
     ++ setting [] (codes "undoable") (decimal (length kept.journal))
 
--- a source, with its raw value
+-- a data source, with its raw value
 abbrev pub source_text : ℕ → DsDef → Raw → List ℕ
 source_text number source raw =
     let of = numbered (codes "ds") number in
@@ -56,15 +56,15 @@ archive_text number def =
     ++ setting of (codes "steps") (decimal def.steps)
     ++ setting of (codes "rows") (decimal def.rows)
 
--- ---- all of them
+-- ---- the whole text
 
--- the source of this number
+-- the lines of data source `number`
 abbrev pub source_at : Content → ℕ → List ℕ
 source_at content number =
     option_map_or (λ (source : DsDef). source_text number source (slice_index_or content.raws number Raw.Unknown))
     (slice_get content.sources number) []
 
--- the archive of this number, with its present number of rows
+-- the lines of archive `number`, with its present number of rows
 abbrev pub archive_at : Content → ℕ → List ℕ
 archive_at content number =
     option_map_or (archive_text number) (slice_get (definitions content.archives) number) []

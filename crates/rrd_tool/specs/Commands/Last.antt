@@ -1,4 +1,4 @@
--- Definition: last: what it prints (rrdlast).
+-- Definition: last: the text that it prints (rrdlast).
 use Rattle.std.specs.Prelude.{◌++◌, ℕ, ℤ, List, Result, Ok, codes, pos}
 use Rattle.rrd_fixed.specs.Text.{time_text}
 use Rattle.rrd_spec.specs.declared.refusal.Refusal.{Refusal}

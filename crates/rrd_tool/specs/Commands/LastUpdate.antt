@@ -1,4 +1,4 @@
--- Definition: lastupdate: what it prints (rrdlastupdate, with fetch's header and raw values in plain
+-- Definition: lastupdate: the text that it prints (rrdlastupdate, with the header of fetch and raw values in plain
 -- digits).
 use Rattle.std.specs.Prelude.{◌++◌, [], ℕ, List, Result, Ok, codes, length, pos, slice_get, slice_index_or}
 use Rattle.std.specs.Option.{option_map_or}
@@ -9,7 +9,7 @@ use Rattle.rrd_spec.specs.declared.refusal.Refusal.{Refusal}
 use Rattle.rrd_spec.specs.History.{Content}
 use Rattle.rrd_tool.specs.Commands.Fetch.{header_text, texts_below}
 
--- a space, and the raw value of the source of this number
+-- a space, and the raw value of data source `number`
 abbrev pub raw_at : Content → ℕ → List ℕ
 raw_at content number =
     option_map_or
@@ -21,6 +21,6 @@ abbrev pub raws_text : Content → List ℕ
 raws_text content =
     time_text (pos content.last) ++ codes ":" ++ texts_below (raw_at content) (length content.sources) ++ codes "\n"
 
--- that line below a line of the sources' names
+-- that line after a line with the names of the data sources
 abbrev pub lastupdate_text : Content → Result (List ℕ) Refusal
 lastupdate_text content = Ok (header_text content.sources ++ raws_text content)

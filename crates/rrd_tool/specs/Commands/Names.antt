@@ -1,4 +1,4 @@
--- Definition: the commands' names (rrdtool's own; revert is own).
+-- Definition: the names of the commands (RRDtool's; revert is this project's).
 use Rattle.std.specs.Prelude.{List, [], ◌∷◌, Option, codes}
 use Rattle.clap.specs.Words.{Text}
 use Rattle.rrd_tool.specs.Fields.{named}
@@ -17,12 +17,12 @@ name_text verb.LastUpdate = codes "lastupdate"
 name_text verb.Info = codes "info"
 name_text verb.Revert = codes "revert"
 
--- all of them, in the order in which clap has them
+-- all commands, in the order in which clap has them
 abbrev pub command_names : List CommandName
 command_names =
     verb.Create ∷ verb.Update ∷ verb.Fetch ∷ verb.Tune ∷ verb.Resize ∷ verb.First ∷
     verb.Last ∷ verb.LastUpdate ∷ verb.Info ∷ verb.Revert ∷ []
 
--- the command of this name; none for another word
+-- the command with this name; `None` for another word
 abbrev pub name_in : Text → Option CommandName
 name_in word = named name_text command_names word

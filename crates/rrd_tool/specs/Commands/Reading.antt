@@ -1,4 +1,5 @@
--- Definition: what a list of words means as a command (the order in which the parts are read is own).
+-- Definition: the command that a list of arguments means (the order in which the parts are parsed is this project's
+-- rule).
 use Rattle.std.specs.Prelude.{◌≡◌, ℕ, List, Option, Some, Result, Ok, Err}
 use Rattle.clap.specs.Words.{Text}
 use Rattle.rrd_tool.specs.Commands.{line_of}
@@ -8,11 +9,12 @@ use Rattle.rrd_tool.specs.declared.commands.Command.{Command}
 use Rattle.rrd_tool.specs.declared.faults.LineFault.{LineFault}
 use Rattle.rrd_tool.specs.declared.faults.LineFault.TheVariants.{Usage, BadWord, OutOfMemory}
 
--- the command, or the first part that can't be read; none where clap refuses the words
+-- the command, or the first part that cannot be parsed; `None` if clap refuses the arguments
 abbrev pub reading : List Text → ℕ → Option (Result Command Unread)
 reading words now = line_of (entered_of words) now
 
--- what `read_command` answers: where clap takes the words their reading, else `Usage`; want of memory at any
+-- the result of `read_command`: the reading of the arguments if clap accepts them, and else `Usage`; memory may run out
+-- for any arguments
 abbrev pub IsReading : List Text → ℕ → Result Command LineFault → Type 0
 IsReading words now (Ok command) = IsTaken words × (reading words now ≡ Some (Ok command))
 IsReading words now (Err (BadWord part number)) = IsTaken words × (reading words now ≡ Some (Err (part, number)))

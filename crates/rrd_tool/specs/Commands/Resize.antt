@@ -1,4 +1,4 @@
--- Definition: resize: its shape, and what its values are read as (rrdresize).
+-- Definition: resize: its shape, and how its values are parsed (rrdresize).
 use Rattle.std.specs.Prelude.{List, Option, Some, None, Result, Ok, codes, if◌then◌else◌}
 use Rattle.std.specs.Str.{bytes_eq}
 use Rattle.clap.specs.Words.{App, Row, Text, first_of, new_app, with_rule}
@@ -26,6 +26,6 @@ change_of text =
 abbrev pub resize_of : List Row → Result Command Unread
 resize_of rows =
     required whole_of part.Archive (first_of (codes "archive") rows)
-    >>= (λ index. required change_of part.Change (first_of (codes "change") rows)
+    >>= (λ archive. required change_of part.Change (first_of (codes "change") rows)
     >>= (λ change. required whole_of part.Rows (first_of (codes "rows") rows)
-    >>= (λ count. Ok (command.Resize index change count))))
+    >>= (λ count. Ok (command.Resize archive change count))))

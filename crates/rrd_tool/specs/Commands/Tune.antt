@@ -1,4 +1,4 @@
--- Definition: tune: its shape, and what its values are read as (rrdtune).
+-- Definition: tune: its shape, and how its values are parsed (rrdtune).
 use Rattle.std.specs.Prelude.{List, Option, Some, None, Result, Ok, codes, if◌then◌else◌}
 use Rattle.std.specs.Str.{bytes_eq}
 use Rattle.clap.specs.Words.{App, Row, Text, first_of, new_app, with_rule}
@@ -24,11 +24,11 @@ tune_app = with_rule (with_rule (with_rule (with_rule (with_rule (with_rule (new
     (letter_rule (codes "rename") (codes "data-source-rename") 114))
     (word_rule (codes "definition"))
 
--- a name, and what is read behind the first colon
+-- a name, and the value after the first colon
 abbrev pub setting_of : {A : Type 0} → (Text → Option A) → Text → Option (Name × A)
 setting_of read text = field name_of text (λ name rest. read rest >>? (λ value. Some (name, value)))
 
--- `RRA:` and an archive that is added, or `DELRRA:` and the number of one that is removed
+-- `RRA:` and an archive to add, or `DELRRA:` and the number of an archive to remove
 abbrev pub archive_tune_of : Text → Option ArchiveTune
 archive_tune_of text =
     cut_of text >>? (λ cut.

@@ -1,4 +1,4 @@
--- Definition: update: its shape, and what its values are read as (rrdupdate).
+-- Definition: update: its shape, and how its values are parsed (rrdupdate).
 use Rattle.std.specs.Prelude.{ℕ, List, Option, Some, Result, Ok, codes, if◌then◌else◌}
 use Rattle.std.specs.Str.{bytes_eq}
 use Rattle.clap.specs.Words.{App, Row, Text, first_of, new_app, with_rule}
@@ -26,11 +26,11 @@ update_app = with_rule (with_rule (new_app (name_text verb.Update))
 abbrev pub template_of : Text → Option (List Name)
 template_of text = each_in name_of (pieces text)
 
--- a sample's time; `N` is now
+-- the time of a sample; `N` is now
 abbrev pub time_of : ℕ → Text → Option ℕ
 time_of now text = if bytes_eq text (codes "N") then Some now else whole_of text
 
--- a sample's value; `U` is unknown
+-- a value of a sample; `U` is unknown
 abbrev pub value_of : Text → Option Given
 value_of text =
     if is_unknown text then Some Given.Unknown else number_of text >>? (λ number. Some (Given.Number number))

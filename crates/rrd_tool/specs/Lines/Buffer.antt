@@ -1,4 +1,4 @@
--- Glue: what the buffer of an unfinished line stands for.
+-- Glue: the line that the buffer of an unfinished line represents.
 use Rattle.std.specs.Prelude.{◌≡◌, ◌≤◌, ◌++◌, ◌∷◌, [], ℕ, List, length, true, false}
 use Rattle.std.specs.List.{list_all}
 use Rattle.rrd_tool.specs.Lines.{is_plain, is_text, without_cr}
@@ -16,6 +16,6 @@ BuffersBy Cr bytes unfinished =
     (unfinished ≡ bytes ++ 13 ∷ []) × (list_all is_plain bytes ≡ true) × (length bytes ≤ 65536)
 BuffersBy Lost bytes unfinished = IsLost unfinished
 
--- these bytes of a line are in the buffer, or it says that they are lost
+-- these bytes of a line are in the buffer, or the buffer says that they are lost
 abbrev pub Buffers : LineBuffer → List ℕ → Type 0
 Buffers line unfinished = BuffersBy line.ending line.bytes.items unfinished

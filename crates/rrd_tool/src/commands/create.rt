@@ -155,7 +155,10 @@ pub(crate) fn run(alloc: Global, database: Option<Database>, spec: CreateSpec) -
     ensures { (c : Option (List ℕ)) → Executes database (Command.Create spec) c c result }
 {
     match Database::create(alloc, spec) {
-        Ok(made) => Outcome::of_change(made),
-        Err(refusal) => Outcome::of_refusal(database, Fault::Refused(refusal)),
+        Ok(made) => Outcome::Changed(made),
+        Err(refusal) => Outcome::Refused {
+            database,
+            fault: Fault::Refused(refusal),
+        },
     }
 }

@@ -1,15 +1,15 @@
-//! `fetch`: prints rows of an archive (rrdfetch). Each line is built without memory, and then written at once; all in
-//! one place, since it is large.
-ghost use Rattle.std.specs.Prelude.{◌≡◌, ◌<◌, ◌≤◌, ◌+◌, ◌++◌, IfNone, IfOk, IfSome, Ok, Option, Some, codes, length, slice_index_or, ℕ};
+//! `fetch`: prints rows of an archive (rrdfetch). The lines are put into a buffer without memory, several rows at once,
+//! and written from there.
+ghost use Rattle.std.specs.Prelude.{◌≡◌, ◌<◌, ◌≤◌, ◌+◌, ◌-◌, ◌*◌, ◌/◌, ◌++◌, IfNone, IfOk, IfSome, Ok, Option, Some, codes, drop, length, slice_index_or, ℕ};
 ghost use Rattle.clap.specs.Words.{found_of, rows_of};
 ghost use Rattle.rrd_fixed.specs.declared.cell.Cell.TheVariants.{Unknown};
-ghost use Rattle.rrd_fixed.specs.Text.{cell_text};
+ghost use Rattle.rrd_fixed.specs.Puts.{Puts};
 ghost use Rattle.rrd_fixed.specs.Written.{Writes};
 ghost use Rattle.rrd_fold.specs.declared.function.Function.{Function};
 ghost use Rattle.rrd_spec.specs.Choice.{choice};
 ghost use Rattle.rrd_tool.specs.Arguments.Shapes.{HasApp};
-ghost use Rattle.rrd_tool.specs.Commands.Fetched.{IsReadable};
-ghost use Rattle.rrd_tool.specs.Commands.Fetch.{fetch_app, fetch_of, fetch_text, header_text, row_text, rows_text};
+ghost use Rattle.rrd_tool.specs.Commands.Fetched.{IsReadable, row_room};
+ghost use Rattle.rrd_tool.specs.Commands.Fetch.{fetch_app, fetch_of, fetch_text, header_text, row_of, row_text, rows_text, texts_below};
 ghost use Rattle.rrd_tool.specs.Execution.{Executes};
 ghost use Rattle.rrd_tool.specs.Fields.Answers.{Meets};
 
@@ -20,12 +20,14 @@ use crate::fields::{read_optional, read_or, read_required};
 use crate::{Command, Fault, LineFault, Part};
 use arrayvec::ArrayString;
 use clap::ArgMatches;
-use itoa::Buffer;
-use rrd_base::{Chosen, Database};
-use rrd_fixed::{Cell, Name, WriteFault, cell_string, write_bytes};
-use rrd_fold::Function;
+use rrd_base::{Chosen, Database, database_is_valid};
+use rrd_fixed::{Cell, Name, WriteFault, put_cell, put_time, write_bytes};
+use rrd_spec::FetchRequest;
 use std::alloc::{AllocError, Global};
 use std::io::Write;
+
+/// The most bytes of rows that are written at once.
+const BLOCK: usize = 4_096;
 
 /// The command's shape for clap.
 pub(crate) fn shape<'a>(alloc: Global) -> Result<clap::Command<'a>, AllocError>
@@ -46,23 +48,13 @@ pub(crate) fn read(matches: &ArgMatches<'_>, now: u64) -> Result<Command, LineFa
     let function = read_required(Part::Function, text_of(matches, "function"))?;
     let asked = read_or(Part::Resolution, text_of(matches, "resolution"), 1)?;
     let start: Option<u64> = read_optional(Part::Start, text_of(matches, "start"))?;
-    let stop = read_or(Part::Until, text_of(matches, "end"), now)?;
-    Ok(Command::Fetch {
+    let end = read_or(Part::End, text_of(matches, "end"), now)?;
+    Ok(Command::Fetch(FetchRequest {
         function,
         asked,
-        start: start.unwrap_or(stop.saturating_sub(86_400)),
-        stop,
-    })
-}
-
-// A space, and the text of a cell.
-fn push_cell(line: &mut ArrayString<4096>, cell: Cell)
-    requires { length line.old.bytes + 49 ≤ 4096 }
-    ensures text { line.new.bytes ≡ line.old.bytes ++ codes " " ++ cell_text cell }
-    ensures room { length line.new.bytes ≤ length line.old.bytes + 49 }
-{
-    line.push_str(" ");
-    line.push_str(cell_string(cell).as_str());
+        start: start.unwrap_or(end.saturating_sub(86_400)),
+        end,
+    }))
 }
 
 // A source's cell in a row; unknown where there is no such row.
@@ -77,20 +69,34 @@ fn cell_in(row: Option<&[Cell]>, source: usize) -> Cell
     }
 }
 
-// Makes the line that of a row.
-fn set_row(line: &mut ArrayString<4096>, database: &Database, archive: u64, time: i64)
-    requires { archive < length database.now.content.archives }
-    ensures { line.new.bytes ≡ row_text database.now.content archive time }
+// The most bytes of a row's line.
+fn row_room(database: &Database) -> usize
+    ensures room { result ≡ row_room (length database.now.content.sources) }
+    ensures few { result ≤ 4096 }
 {
-    line.clear();
-    let mut buffer = Buffer::new();
-    line.push_str(buffer.format(time));
-    line.push_str(":");
+    22 + 49 * database.sources() as usize
+}
+
+// Puts the line of a row before the index `end` of the buffer, from its last byte to its first. Returns where it begins.
+fn put_row(database: &Database, archive: u64, time: i64, buffer: &mut [u8], end: usize) -> usize
+    requires there { archive < length database.now.content.archives }
+    requires room { row_room (length database.now.content.sources) ≤ end }
+    requires inside { end ≤ length buffer.old }
+    ensures text { Puts buffer.old buffer.new end (row_text database.now.content archive time) result }
+    ensures short { end ≤ result + row_room (length database.now.content.sources) }
+{
     let row = database.row(archive, time);
-    for source in 0..database.sources() {
-        push_cell(line, cell_in(row, source as usize));
+    let mut at = end - 1;
+    buffer[at] = b'\n';
+    let mut source = database.sources();
+    while 0 < source {
+        source -= 1;
+        at = put_cell(cell_in(row, source as usize), buffer, at) - 1;
+        buffer[at] = b' ';
     }
-    line.push_str("\n");
+    at -= 1;
+    buffer[at] = b':';
+    put_time(time, buffer, at)
 }
 
 // A space, and a name.
@@ -116,51 +122,68 @@ pub(crate) fn header_string(database: &Database) -> ArrayString<2048>
     line
 }
 
+// Puts the lines of the rows from `from` up to `to`, counted from 0, at the end of the buffer, the last one first. Returns
+// where they begin.
+fn put_rows(database: &Database, chosen: Chosen, from: u64, to: u64, buffer: &mut [u8]) -> usize
+    requires readable { IsReadable database.now.content chosen }
+    requires rows { (from ≤ to) × (to ≤ (chosen.hi - chosen.lo) / chosen.res) }
+    requires room { (to - from) * row_room (length database.now.content.sources) ≤ length buffer.old }
+    ensures rows { texts_below (row_of database.now.content chosen) from ++ drop result buffer.new
+        ≡ texts_below (row_of database.now.content chosen) to }
+    ensures inside { result ≤ length buffer.old }
+{
+    let mut at = buffer.len();
+    let mut row = to;
+    while from < row {
+        let time = chosen.lo + row * chosen.res;
+        at = put_row(database, chosen.archive, time as i64, buffer, at);
+        row -= 1;
+    }
+    at
+}
+
 // Writes a line for each row: those at the multiples of the resolution after `lo`, up to `hi`.
 fn write_rows<W: Write>(out: &mut W, database: &Database, chosen: Chosen) -> Result<(), WriteFault>
     requires { IsReadable database.now.content chosen }
     ensures { Writes (W.contents out.old) (W.contents out.new) (rows_text database.now.content chosen) result }
 {
     let count = chosen.hi.saturating_sub(chosen.lo) / chosen.res;
-    let mut time = chosen.lo;
-    let mut line = ArrayString::new();
-    for _ in 0..count {
-        time += chosen.res;
-        set_row(&mut line, database, chosen.archive, time as i64);
-        write_bytes(out, line.as_str().as_bytes())?;
+    let at_once = (BLOCK / row_room(database)) as u64;
+    let mut buffer = [0; BLOCK];
+    let mut done = 0;
+    while done < count {
+        let next = count.min(done + at_once);
+        let start = put_rows(database, chosen, done, next, &mut buffer);
+        write_bytes(out, &buffer[start..])?;
+        done = next;
     }
     Ok(())
 }
 
-// Writes the rows of a fetch below a line of the sources' names, a row at a time.
+// Writes the rows of a fetch below a line of the sources' names.
 fn write_fetch<W: Write>(out: &mut W, database: &Database, chosen: Chosen) -> Result<(), WriteFault>
     requires { (function : Function) × (asked : ℕ) × (start : ℕ) × (end : ℕ)
         × (choice database.now.content function asked start end ≡ Ok chosen) }
     ensures { Writes (W.contents out.old) (W.contents out.new) (fetch_text database.now.content chosen) result }
 {
     // So the rows can be read that are chosen.
-    database.is_valid();
+    database_is_valid(database);
     write_bytes(out, header_string(database).as_str().as_bytes())?;
     write_rows(out, database, chosen)
 }
 
 /// Prints the rows.
-pub(crate) fn run<W: Write>(
-    database: Database,
-    function: Function,
-    asked: u64,
-    start: u64,
-    stop: u64,
-    out: &mut W,
-) -> Outcome
-    ensures { Executes (Some database) (Command.Fetch function asked start stop)
-        (W.contents out.old) (W.contents out.new) result }
+pub(crate) fn run<W: Write>(database: Database, request: FetchRequest, out: &mut W) -> Outcome
+    ensures { Executes (Some database) (Command.Fetch request) (W.contents out.old) (W.contents out.new) result }
 {
-    match database.choose(function, asked, start, stop) {
+    match database.choose(request.function, request.asked, request.start, request.end) {
         Ok(chosen) => {
             let written = write_fetch(out, &database, chosen);
             Outcome::of_text(database, written)
         }
-        Err(refusal) => Outcome::of_refusal(Some(database), Fault::Refused(refusal)),
+        Err(refusal) => Outcome::Refused {
+            database: Some(database),
+            fault: Fault::Refused(refusal),
+        },
     }
 }

@@ -31,19 +31,22 @@ pub(crate) fn shape<'a>(alloc: Global) -> Result<clap::Command<'a>, AllocError>
 pub(crate) fn read(matches: &ArgMatches<'_>) -> Result<Command, LineFault>
     ensures { Meets (first_from (rows_of (found_of matches.now))) result }
 {
-    let index = read_or(Part::Archive, text_of(matches, "rraindex"), 0)?;
-    Ok(Command::First { index })
+    let archive = read_or(Part::Archive, text_of(matches, "rraindex"), 0)?;
+    Ok(Command::First { archive })
 }
 
 /// Prints the time.
-pub(crate) fn run<W: Write>(database: Database, index: u64, out: &mut W) -> Outcome
-    ensures { Executes (Some database) (Command.First index) (W.contents out.old) (W.contents out.new) result }
+pub(crate) fn run<W: Write>(database: Database, archive: u64, out: &mut W) -> Outcome
+    ensures { Executes (Some database) (Command.First archive) (W.contents out.old) (W.contents out.new) result }
 {
-    match database.first(index) {
+    match database.first(archive) {
         Ok(time) => {
             let written = write_line(out, time_string(time).as_str());
             Outcome::of_text(database, written)
         }
-        Err(refusal) => Outcome::of_refusal(Some(database), Fault::Refused(refusal)),
+        Err(refusal) => Outcome::Refused {
+            database: Some(database),
+            fault: Fault::Refused(refusal),
+        },
     }
 }

@@ -45,11 +45,11 @@ impl Field for Change {
 pub(crate) fn read(matches: &ArgMatches<'_>) -> Result<Command, LineFault>
     ensures { Meets (resize_of (rows_of (found_of matches.now))) result }
 {
-    let index = read_required(Part::Archive, text_of(matches, "archive"))?;
+    let archive = read_required(Part::Archive, text_of(matches, "archive"))?;
     let change = read_required(Part::Change, text_of(matches, "change"))?;
     let rows = read_required(Part::Rows, text_of(matches, "rows"))?;
     Ok(Command::Resize {
-        index,
+        archive,
         change,
         rows,
     })
@@ -66,7 +66,10 @@ pub(crate) fn run(
     ensures { (c : Option (List ℕ)) → Executes (Some database) (Command.Resize archive change rows) c c result }
 {
     match database.resize(alloc, archive, change, rows) {
-        Ok(()) => Outcome::of_change(database),
-        Err(refusal) => Outcome::of_refusal(Some(database), Fault::Refused(refusal)),
+        Ok(()) => Outcome::Changed(database),
+        Err(refusal) => Outcome::Refused {
+            database: Some(database),
+            fault: Fault::Refused(refusal),
+        },
     }
 }

@@ -11,7 +11,10 @@ pub(crate) fn run(mut database: Database) -> Outcome
     ensures { (c : Option (List ℕ)) → Executes (Some database) Command.Revert c c result }
 {
     match database.revert() {
-        Ok(()) => Outcome::of_change(database),
-        Err(refusal) => Outcome::of_refusal(Some(database), Fault::Refused(refusal)),
+        Ok(()) => Outcome::Changed(database),
+        Err(refusal) => Outcome::Refused {
+            database: Some(database),
+            fault: Fault::Refused(refusal),
+        },
     }
 }

@@ -85,7 +85,10 @@ pub(crate) fn run(alloc: Global, mut database: Database, tuning: &Tuning) -> Out
     ensures { (c : Option (List ℕ)) → Executes (Some database) (Command.Tune tuning.now) c c result }
 {
     match database.tune(alloc, tuning) {
-        Ok(()) => Outcome::of_change(database),
-        Err(refusal) => Outcome::of_refusal(Some(database), Fault::Refused(refusal)),
+        Ok(()) => Outcome::Changed(database),
+        Err(refusal) => Outcome::Refused {
+            database: Some(database),
+            fault: Fault::Refused(refusal),
+        },
     }
 }

@@ -91,7 +91,10 @@ pub(crate) fn run(alloc: Global, mut database: Database, update: &Update) -> Out
     ensures { (c : Option (List ℕ)) → Executes (Some database) (Command.Update update.now) c c result }
 {
     match database.update(alloc, update) {
-        Ok(_) => Outcome::of_change(database),
-        Err(refusal) => Outcome::of_refusal(Some(database), Fault::Refused(refusal)),
+        Ok(_) => Outcome::Changed(database),
+        Err(refusal) => Outcome::Refused {
+            database: Some(database),
+            fault: Fault::Refused(refusal),
+        },
     }
 }

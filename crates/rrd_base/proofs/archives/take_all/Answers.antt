@@ -4,7 +4,7 @@ use Rattle.std.specs.List.{AllByRecursion}
 use Rattle.rrd_spec.specs.History.{Rra, definitions}
 use Rattle.rrd_spec.specs.Laws.Passing.{archive_passed}
 use Rattle.rrd_spec.specs.declared.settings.RraDef.{RraDef}
-use Rattle.rrd_spec.specs.Commands.Turns.{rows_pushed, least_of_steps, most_of_steps}
+use Rattle.rrd_base.specs.Walk.Turns.{rows_pushed, least_of_steps, most_of_steps}
 use Rattle.rrd_spec.specs.Validity.{IsValidArchive}
 use Rattle.rrd_spec.specs.Lemmas.Lists.{All-take-set, map_more, map_next}
 use Rattle.rrd_base.specs.Walk.{cells_of, count_of, sources_of}

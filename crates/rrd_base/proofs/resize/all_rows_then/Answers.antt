@@ -10,9 +10,9 @@ use Rattle.rrd_base.proofs.resize.all_rows_then.Goals as goal
 pub overflow_sub-result : goal.overflow_sub-result
 overflow_sub-result c =
     let archives = c.args.archives.now in
-    let this = ap (λ (a : Rra). a.def.rows) c.index-archives-index.is in
+    let this = ap (λ (a : Rra). a.def.rows) c.index-archives-archive.is in
     let def = ap (λ (d : RraDef). d.rows) c.def-old.ensures in
-    let some = some_of_all archives c.args.index c.index-archives-index.result c.requires.there in
+    let some = some_of_all archives c.args.archive c.index-archives-archive.result c.requires.there in
     let most = few_sum archives c.requires.few_rows in
     omega (arith, this, def, some, most, c.all_rows.ensures, c.requires.few_archives)
 
@@ -20,9 +20,9 @@ pub overflow_add-result : goal.overflow_add-result
 overflow_add-result c =
     let archives = c.args.archives.now in
     let old = c.def-old.result.rows in
-    let this = ap (λ (a : Rra). a.def.rows) c.index-archives-index.is in
+    let this = ap (λ (a : Rra). a.def.rows) c.index-archives-archive.is in
     let def = ap (λ (d : RraDef). d.rows) c.def-old.ensures in
-    let some = some_of_all archives c.args.index c.index-archives-index.result c.requires.there in
+    let some = some_of_all archives c.args.archive c.index-archives-archive.result c.requires.there in
     let most = few_sum archives c.requires.few_rows in
     let new = changed_few c.args.change old c.args.rows in
     omega (arith, this, def, some, most, new, c.all_rows.ensures, c.rows_changed.ensures, c.requires.few_archives, c.requires.few)
@@ -31,9 +31,9 @@ pub returns-clause-few : goal.returns-clause-few
 returns-clause-few c =
     let archives = c.args.archives.now in
     let old = c.def-old.result.rows in
-    let this = ap (λ (a : Rra). a.def.rows) c.index-archives-index.is in
+    let this = ap (λ (a : Rra). a.def.rows) c.index-archives-archive.is in
     let def = ap (λ (d : RraDef). d.rows) c.def-old.ensures in
-    let some = some_of_all archives c.args.index c.index-archives-index.result c.requires.there in
+    let some = some_of_all archives c.args.archive c.index-archives-archive.result c.requires.there in
     let most = few_sum archives c.requires.few_rows in
     let new = changed_few c.args.change old c.args.rows in
     omega (arith, this, def, some, most, new, c.all_rows.ensures, c.rows_changed.ensures, c.requires.few_archives, c.requires.few)
@@ -42,14 +42,14 @@ pub returns-clause-rows : goal.returns-clause-rows
 returns-clause-rows c =
     let archives = c.args.archives.now in
     let rows = rows_of_archives archives in
-    let index = c.args.index in
-    let old = get_or rows index 0 in
-    let this = ap (λ (a : Rra). a.def.rows) c.index-archives-index.is in
+    let number = c.args.archive in
+    let old = get_or rows number 0 in
+    let this = ap (λ (a : Rra). a.def.rows) c.index-archives-archive.is in
     let def = ap (λ (d : RraDef). d.rows) c.def-old.ensures in
-    let is : get_or rows index 0 ≡ c.def-old.result.rows = rows_at_archive archives index c.index-archives-index.result c.requires.there ∙ sym this ∙ sym def in
-    let some = some_of_all archives index c.index-archives-index.result c.requires.there in
+    let is : get_or rows number 0 ≡ c.def-old.result.rows = rows_at_archive archives number c.index-archives-archive.result c.requires.there ∙ sym this ∙ sym def in
+    let some = some_of_all archives number c.index-archives-archive.result c.requires.there in
     let new : c.rows_changed.result ≡ commands.rows_changed c.args.change old c.args.rows = c.rows_changed.ensures ∙ ap (λ n. commands.rows_changed c.args.change n c.args.rows) (sym is) in
-    let set = sum_set index (commands.rows_changed c.args.change old c.args.rows) rows (omega (arith, length-map archives (λ (a : Rra). a.def.rows), c.requires.there)) in
-    let sum_is : sum (all_rows_after (Resized index (commands.rows_changed c.args.change old c.args.rows)) rows) + old ≡ sum rows + commands.rows_changed c.args.change old c.args.rows = set in
+    let set = sum_set number (commands.rows_changed c.args.change old c.args.rows) rows (omega (arith, length-map archives (λ (a : Rra). a.def.rows), c.requires.there)) in
+    let sum_is : sum (all_rows_after (Resized number (commands.rows_changed c.args.change old c.args.rows)) rows) + old ≡ sum rows + commands.rows_changed c.args.change old c.args.rows = set in
     let most = few_sum archives c.requires.few_rows in
     omega (arith, this, def, is, some, most, new, sum_is, c.all_rows.ensures, c.requires.few_archives)

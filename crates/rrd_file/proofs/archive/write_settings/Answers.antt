@@ -11,7 +11,7 @@ use Rattle.rrd_file.proofs.archive.write_settings.Goals as goal
 pub archive-requires : goal.archive-requires
 archive-requires g c =
     let d = c.args.database.now.content in
-    let small : HasSmallNumbers c.archive-def.result = small_numbers _ _ d.archives c.args.archive c.archive-def.result c.is_valid.ensures.content_is.archives_are c.archive-def.ensures in
+    let small : HasSmallNumbers c.archive-def.result = small_numbers _ _ d.archives c.args.archive c.archive-def.result c.database_is_valid.ensures.content_is.archives_are c.archive-def.ensures in
     record { room = omega (arith, c.in_ok-make_room.ensures.room); steps = small.steps; xff = small.xff; rows = small.rows }
 
 pub returns-in_err-make_room : goal.returns-in_err-make_room

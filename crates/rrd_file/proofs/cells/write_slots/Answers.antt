@@ -12,7 +12,7 @@ use Rattle.rrd_file.proofs.cells.write_slots.Goals as goal
 pub resolution-requires : goal.resolution-requires
 resolution-requires g c =
     let d = c.args.database.now.content in
-    let valid = c.is_valid.ensures.content_is in
+    let valid = c.database_is_valid.ensures.content_is in
     let small = small_def d c.args.archive c.archive-def.result valid (def_of d c.args.archive c.archive-def.result c.archive-def.ensures) in
     record {
       some_step = rw c.step.ensures valid.some_step;
@@ -24,7 +24,7 @@ resolution-requires g c =
 pub first_place-first-requires : goal.first_place-first-requires
 first_place-first-requires g c =
     let d = c.args.database.now.content in
-    let valid = c.is_valid.ensures.content_is in
+    let valid = c.database_is_valid.ensures.content_is in
     let small = small_def d c.args.archive c.archive-def.result valid (def_of d c.args.archive c.archive-def.result c.archive-def.ensures) in
     record {
       some_seconds = c.resolution.ensures.some;
@@ -39,7 +39,7 @@ write_run-requires g c =
     let is = def_of d c.args.archive c.archive-def.result c.archive-def.ensures in
     record {
       archive_there = c.requires;
-      rows_there = λ a e. omega (arith, rows_are d c.args.archive c.archive-def.result a c.is_valid.ensures.content_is is e);
+      rows_there = λ a e. omega (arith, rows_are d c.args.archive c.archive-def.result a c.database_is_valid.ensures.content_is is e);
     }
 
 pub write_run-requires-2 : goal.write_run-requires-2
@@ -48,7 +48,7 @@ write_run-requires-2 g c =
     let is = def_of d c.args.archive c.archive-def.result c.archive-def.ensures in
     record {
       archive_there = c.requires;
-      rows_there = λ a e. omega (arith, c.first_place-first.ensures.there, rows_are d c.args.archive c.archive-def.result a c.is_valid.ensures.content_is is e);
+      rows_there = λ a e. omega (arith, c.first_place-first.ensures.there, rows_are d c.args.archive c.archive-def.result a c.database_is_valid.ensures.content_is is e);
     }
 
 pub returns-in_err-write_run : goal.returns-in_err-write_run
@@ -57,7 +57,7 @@ returns-in_err-write_run g c = λ a e.
     let d = c.args.database.now.content in
     let def = c.archive-def.result in
     let size : c.resolution.result ≡ resolution d.step def = c.resolution.ensures.value ∙ ap (λ n. resolution n def) c.step.ensures in
-    let whole = archive_spelled c.rows_stand_in_slots.ensures.row d c.args.archive def c.resolution.result c.last.result c.first_place-first.result a c.is_valid.ensures.content_is (def_of d c.args.archive def c.archive-def.ensures) e size c.last.ensures c.first_place-first.ensures.place in
+    let whole = archive_spelled c.rows_stand_in_slots.ensures.row d c.args.archive def c.resolution.result c.last.result c.first_place-first.result a c.database_is_valid.ensures.content_is (def_of d c.args.archive def c.archive-def.ensures) e size c.last.ensures c.first_place-first.ensures.place in
     rw p.1 (subst (Breaks _ _ _) (sym whole) (breaks_stop (spelled (row_pieces (slice_range a.rows 0 c.first_place-first.result))) (c.in_err-write_run.ensures a e)))
 
 pub returns : goal.returns
@@ -65,6 +65,6 @@ returns g c = λ a e.
     let d = c.args.database.now.content in
     let def = c.archive-def.result in
     let size : c.resolution.result ≡ resolution d.step def = c.resolution.ensures.value ∙ ap (λ n. resolution n def) c.step.ensures in
-    let whole = archive_spelled c.rows_stand_in_slots.ensures.row d c.args.archive def c.resolution.result c.last.result c.first_place-first.result a c.is_valid.ensures.content_is (def_of d c.args.archive def c.archive-def.ensures) e size c.last.ensures c.first_place-first.ensures.place in
+    let whole = archive_spelled c.rows_stand_in_slots.ensures.row d c.args.archive def c.resolution.result c.last.result c.first_place-first.result a c.database_is_valid.ensures.content_is (def_of d c.args.archive def c.archive-def.ensures) e size c.last.ensures c.first_place-first.ensures.place in
     let out = c.write_run-2.new.out in
     subst (λ bs. Gathers g.W.Write.contents c.args.out.now out bs c.write_run-2.result) (sym whole) (gathers_then out (spelled (row_pieces (slice_range a.rows 0 c.first_place-first.result))) c.write_run-2.result (c.in_ok-write_run.ensures a e) (c.write_run-2.ensures a e))

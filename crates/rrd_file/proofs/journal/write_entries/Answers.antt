@@ -9,7 +9,7 @@ use Rattle.rrd_file.proofs.Gathering.{all_added, flat_flat, item_added, item_bro
 use Rattle.rrd_file.proofs.journal.write_entries.Goals as goal
 
 pub write_entry-requires : goal.write_entry-requires
-write_entry-requires g c = entry_of_some c.args.database.now.content c.args.database.now.journal c.loop-number.number _ c.is_valid.ensures (sym c.entry.ensures)
+write_entry-requires g c = entry_of_some c.args.database.now.content c.args.database.now.journal c.loop-number.number _ c.database_is_valid.ensures (sym c.entry.ensures)
 
 pub returns-in_err-write_entry : goal.returns-in_err-write_entry
 returns-in_err-write_entry g c =

@@ -9,7 +9,7 @@ use Rattle.rrd_file.proofs.length.Pieces.{items_have}
 use Rattle.rrd_file.proofs.length.entries_length.Goals as goal
 
 pub entry_length-length-requires : goal.entry_length-length-requires
-entry_length-length-requires c = entry_of_some c.args.database.now.content c.args.database.now.journal c.loop-number.number _ c.is_valid.ensures (sym c.entry.ensures)
+entry_length-length-requires c = entry_of_some c.args.database.now.content c.args.database.now.journal c.loop-number.number _ c.database_is_valid.ensures (sym c.entry.ensures)
 
 pub loop-number-preserved : goal.loop-number-preserved
 loop-number-preserved c = record {

@@ -5,4 +5,4 @@ use Rattle.rrd_fixed.proofs.number.read_fraction.Goals as goal
 
 pub returns-clause-small : goal.returns-clause-small
 returns-clause-small c =
-    rw c.pow.ensures (fraction_below (length c.args.digits.now) c.in_ok-value.value (grind (arith, common_steps)) (c.in_ok-value.ensures.small))
+    rw c.last_counts.ensures (fraction_below (length c.args.digits.now) c.in_ok-value.value (grind (arith, common_steps)) (c.in_ok-value.ensures.small))

@@ -13,10 +13,10 @@ returns-clause-value c =
     let fits_double_a : FitsSigned w128 (pos 2 *ℤ c.args.a) = omega (arith, ints) in
     let fits_sum : FitsSigned w128 (pos 2 *ℤ c.args.a +ℤ c.args.b) = omega (arith, ints) in
     let fits_double_b : FitsSigned w128 (pos 2 *ℤ c.args.b) = omega (arith, ints) in
-    let fits_result : FitsSigned w128 c.div_euclid.result = search rules in
-    simp to_z-of_z (simp to_z-of_z at c.div_euclid.ensures)
+    let fits_result : FitsSigned w128 c.floor.result = search rules in
+    simp to_z-of_z (simp to_z-of_z at c.floor.ensures)
 
 pub returns-clause-limit : goal.returns-clause-limit
 returns-clause-limit c =
-    let e : to_z w128 (of_z w128 c.div_euclid.result) ≡ near c.args.a c.args.b = returns-clause-value c in
+    let e : to_z w128 (of_z w128 c.floor.result) ≡ near c.args.a c.args.b = returns-clause-value c in
     λ t h. rw e (near_limit_of c.args.a c.args.b t c.requires.positive h)

@@ -1,13 +1,9 @@
-use Rattle.rrd_spec.proofs.CellLemmas.{is_lived}
 use Rattle.rrd_spec.proofs.LivesCut.{lived-cut}
 use Rattle.rrd_spec.proofs.LivesPlain.{add_changes, blank_at_first, remove_changes}
 use Rattle.rrd_spec.proofs.laws.archives_come_and_go.Goals as goal
 
 pub returns-clause-cut : goal.returns-clause-cut
 returns-clause-cut c = lived-cut
-
-pub returns-clause-by_time : goal.returns-clause-by_time
-returns-clause-by_time c = is_lived
 
 pub returns-clause-add : goal.returns-clause-add
 returns-clause-add c = add_changes

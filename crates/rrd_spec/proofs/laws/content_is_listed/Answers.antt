@@ -1,10 +1,19 @@
+use Rattle.rrd_spec.proofs.Accepted.{accepted_history}
+use Rattle.rrd_spec.specs.Commands.{events, settings_of}
+use Rattle.rrd_spec.specs.Lemmas.Validity.{sound}
+use Rattle.rrd_spec.proofs.CellLemmas.{is_lived}
 use Rattle.rrd_spec.proofs.LivesPlain.{is_listed}
 use Rattle.rrd_spec.proofs.Moving.{moved_is}
-use Rattle.rrd_spec.specs.Lemmas.Validity.{sound}
 use Rattle.rrd_spec.proofs.laws.content_is_listed.Goals as goal
 
 pub returns-clause-events : goal.returns-clause-events
-returns-clause-events c = is_listed
+returns-clause-events c = is_lived
 
 pub returns-clause-command : goal.returns-clause-command
-returns-clause-command c = λ base command is h keeps. moved_is base command (sound base is) h keeps
+returns-clause-command c = λ base command is h. is_lived base (events (settings_of base) command) (sound base is).is_base (accepted_history base command h)
+
+pub returns-clause-events_by_number : goal.returns-clause-events_by_number
+returns-clause-events_by_number c = is_listed
+
+pub returns-clause-command_by_number : goal.returns-clause-command_by_number
+returns-clause-command_by_number c = λ base command is h keeps. moved_is base command (sound base is) h keeps

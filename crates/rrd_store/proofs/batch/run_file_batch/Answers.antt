@@ -5,6 +5,7 @@ pub returns-clause-computed : goal.returns-clause-computed
 returns-clause-computed g c =
     c.place_runs_are_computed.ensures (g.P.Place.contents c.args.place.now) (ByBatch (record {
       now = c.args.now;
+      numbered = c.args.numbered;
       in_before = g.R.Read.remaining c.args.reader.now;
       in_after = g.R.Read.remaining c.run_over.new.reader;
       out_before = g.W.Write.contents c.args.out.now;

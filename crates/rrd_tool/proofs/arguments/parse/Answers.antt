@@ -1,7 +1,6 @@
 use Rattle.std.proofs.Common.{◌≡◌, ◌∙◌, ap, sym, true, false}
 use Rattle.clap.specs.declared.error.kind.ErrorKind.TheVariants.{OutOfMemory}
 use Rattle.clap.specs.Words.{app_of, fault_of, subcommand_of}
-use Rattle.rrd_tool.specs.Arguments.Shapes.{Serves}
 use Rattle.rrd_tool.specs.Arguments.Taken.{entered_of}
 use Rattle.rrd_tool.proofs.Simple.{refused}
 use Rattle.rrd_tool.proofs.arguments.parse.Goals as goal
@@ -9,8 +8,8 @@ use Rattle.rrd_tool.proofs.arguments.parse.Goals as goal
 pub returns-in-Ok : goal.returns-in-Ok
 unfolding entered_of
 returns-in-Ok c =
-    let serves : Serves (app_of c.in-Some.command) c.args.words.now = rw c.in-Some.is at c.in_ok-command.ensures in
-    let app = app_of c.in-Some.command in
+    let serves = c.requires in
+    let app = app_of c.args.command in
     let parse = c.in-Ok.ensures in (
       sym serves.0 ∙ (sym (ap (fault_of app) c.as_slice.ensures) ∙ parse.kinds serves.3),
       (parse.matches serves.2).1 ∙ (ap (subcommand_of app) c.as_slice.ensures ∙ serves.1),
@@ -18,8 +17,8 @@ returns-in-Ok c =
 
 pub returns : goal.returns
 returns c =
-    let serves : Serves (app_of c.in-Some.command) c.args.words.now = rw c.in-Some.is at c.in_ok-command.ensures in
-    let app = app_of c.in-Some.command in
+    let serves = c.requires in
+    let app = app_of c.args.command in
     let parse = c.in-Err.ensures in
     let kinds = parse.kinds serves.3 in
     λ taken. refused _ c.in-Err.error kinds (λ k.

@@ -1,43 +1,80 @@
-use Rattle.std.proofs.Common.{◌++◌, ◌∷◌, ◌+◌, ◌<◌, [], List, ℕ, Ok, Err, length, take, drop, get_or, arith}
-use Rattle.std.proofs.lemmas.List.{take_more, take-append-drop}
+use Rattle.std.proofs.Common.{◌≡◌, ◌∙◌, ◌++◌, ◌∷◌, ◌+◌, ◌-◌, [], List, ℕ, Some, Ok, Err, false, take, drop, sym, ap, append-nil, arith}
+use Rattle.std.proofs.lemmas.List.{length-drop, take-append-drop, take_rest}
 use Rattle.std.proofs.lemmas.Result.{err_from_is_err_and}
-use Rattle.rrd_tool.specs.Lines.{last_part, whole_lines}
+use Rattle.memchr.specs.Find.{IsFirstByte, is_byte}
+use Rattle.rrd_tool.specs.Lines.{has_end, last_part, whole_lines}
 use Rattle.rrd_tool.proofs.MoveLemmas.{MovesStopped, moves_front, moves_more}
-use Rattle.rrd_tool.proofs.LineLemmas.{part_append}
+use Rattle.rrd_tool.proofs.LineLemmas.{no_part, no_whole, part_append, whole_append}
+use Rattle.rrd_tool.proofs.SearchLemmas.{found_line, found_none, line_inner}
 use Rattle.rrd_tool.proofs.batch.feed.Goals as goal
 
-pub returns-in_err-take_byte-clause-told : goal.returns-in_err-take_byte-clause-told
-returns-in_err-take_byte-clause-told g c unfinished h =
+-- where no LF is left the lines are those before, and the rest goes on with the last one
+rest_lines : (bytes unfinished : List ℕ) (from : ℕ) → has_end (drop from bytes) ≡ false → whole_lines unfinished bytes ≡ whole_lines unfinished (take from bytes)
+rest_lines bytes unfinished from none =
+    ap (whole_lines unfinished) (sym (take-append-drop from bytes)) ∙ (whole_append unfinished (take from bytes) (drop from bytes)
+    ∙ (ap (λ l. whole_lines unfinished (take from bytes) ++ l) (no_whole (last_part unfinished (take from bytes)) (drop from bytes) none) ∙ append-nil (whole_lines unfinished (take from bytes))))
+
+rest_part : (bytes unfinished : List ℕ) (from : ℕ) → has_end (drop from bytes) ≡ false → last_part unfinished bytes ≡ last_part unfinished (take from bytes) ++ drop from bytes
+rest_part bytes unfinished from none =
+    ap (last_part unfinished) (sym (take-append-drop from bytes)) ∙ (part_append unfinished (take from bytes) (drop from bytes) ∙ no_part (last_part unfinished (take from bytes)) (drop from bytes) none)
+
+pub take_line-requires-clause-inner : goal.take_line-requires-clause-inner
+take_line-requires-clause-inner g c =
+    line_inner c.args.bytes.now c.loop-length.from c.in-Some.length (rw (c.in-Some.is, take_rest c.args.bytes.now c.loop-length.from) at c.memchr.ensures)
+
+pub returns-in_err-take_line-clause-told : goal.returns-in_err-take_line-clause-told
+returns-in_err-take_line-clause-told g c unfinished h =
     let p = err_from_is_err_and c.from_residual.result c.from_residual.ensures.1 in
     let bytes = c.args.bytes.now in
-    let i = c.loop-byte.byte-index in
-    let b = get_or bytes i 0 in
-    let inv = c.loop-byte.invariant.0 unfinished h in
-    let bad = (c.in_err-take_byte.ensures.told (last_part unfinished (take i bytes)) inv.1).0 in
-    let inside : i < length bytes = c.loop-byte-test.true in
+    let from = c.loop-length.from in
+    let n = c.in-Some.length in
+    let found : IsFirstByte (is_byte 10) (drop from bytes) (Some n) = rw (c.in-Some.is, take_rest bytes from) at c.memchr.ensures in
+    let part = take (from + n - from) (drop from bytes) in
+    let m = from + (n + 1) in
+    let inv = c.loop-length.invariant.0 unfinished h in
+    let bad = (c.in_err-take_line.ensures.told (last_part unfinished (take from bytes)) inv.1).0 in
     let Stops : List (List ℕ) → Type 0 = λ lines.
-    MovesStopped c.args.context.now c.args.batch.now.database c.take_byte.new.batch.database c.args.batch.now.refused c.take_byte.new.batch.refused
-    (g.W.Write.contents c.args.out.now) (g.W.Write.contents c.take_byte.new.out) lines in
-    let here : Stops (whole_lines unfinished (take i bytes ++ b ∷ [])) =
-    moves_more {T = Unit {0}} c.args.context.now _ _ _ _ _ _ _ _ _ unfinished (take i bytes) (b ∷ []) inv.0 (Err c.in_err-take_byte.field-0.0) bad in
-    let more : Stops (whole_lines unfinished (take (i + 1) bytes)) = rw (take_more bytes i 0 inside) here in
-    let whole : Stops (whole_lines unfinished (take (i + 1) bytes ++ drop (i + 1) bytes)) =
-    moves_front c.args.context.now _ _ _ _ _ _ unfinished (take (i + 1) bytes) (drop (i + 1) bytes) more in
-    rw p.1 (rw (take-append-drop (i + 1) bytes) at whole, tt)
+    MovesStopped c.args.context.now c.args.batch.now.database c.take_line.new.batch.database c.args.batch.now.refusals c.take_line.new.batch.refusals
+    (g.W.Write.contents c.args.out.now) (g.W.Write.contents c.take_line.new.out) lines in
+    let here : Stops (whole_lines unfinished (take from bytes ++ (part ++ 10 ∷ []))) =
+    moves_more {T = Unit {0}} c.args.context.now _ _ _ c.args.batch.now.refusals c.loop-length.batch.refusals c.take_line.new.batch.refusals _ _ _ unfinished (take from bytes) (part ++ 10 ∷ []) inv.0 (Err c.in_err-take_line.field-0.0) bad in
+    let more : Stops (whole_lines unfinished (take m bytes)) = rw (found_line bytes from n found) here in
+    let whole : Stops (whole_lines unfinished (take m bytes ++ drop m bytes)) =
+    moves_front c.args.context.now _ _ c.args.batch.now.refusals c.take_line.new.batch.refusals _ _ unfinished (take m bytes) (drop m bytes) more in
+    rw p.1 (rw (take-append-drop m bytes) at whole, tt)
 
-pub loop-byte-preserved : goal.loop-byte-preserved
-loop-byte-preserved g c = (
-  λ unfinished h.
-      let bytes = c.args.bytes.now in
-      let i = c.loop-byte.byte-index in
-      let inv = c.loop-byte.invariant.0 unfinished h in
-      let good = c.in_ok-take_byte.ensures.told (last_part unfinished (take i bytes)) inv.1 in
-      let inside : i < length bytes = c.loop-byte-test.true in
-      rw (take_more bytes i 0 inside) (
-        moves_more {T = Unit {0}} c.args.context.now _ _ _ _ _ _ _ _ _ unfinished (take i bytes) (get_or bytes i 0 ∷ []) inv.0 (Ok (tt {0})) good.0,
-        rw (part_append unfinished (take i bytes) (get_or bytes i 0 ∷ [])) good.1,
-      ),
-  let old = c.loop-byte.invariant.1 in
-      let one = c.take_byte.ensures.count in
-      omega (arith, old, one),
-)
+pub loop-length-preserved : goal.loop-length-preserved
+loop-length-preserved g c =
+    let bytes = c.args.bytes.now in
+    let from = c.loop-length.from in
+    let n = c.in-Some.length in
+    let found : IsFirstByte (is_byte 10) (drop from bytes) (Some n) = rw (c.in-Some.is, take_rest bytes from) at c.memchr.ensures in
+    let part = take (from + n - from) (drop from bytes) in
+    let inside = found.0.high in (
+      λ unfinished h.
+          let inv = c.loop-length.invariant.0 unfinished h in
+          let good = c.in_ok-take_line.ensures.told (last_part unfinished (take from bytes)) inv.1 in
+          rw (found_line bytes from n found) (
+            moves_more {T = Unit {0}} c.args.context.now _ _ _ c.args.batch.now.refusals c.loop-length.batch.refusals c.take_line.new.batch.refusals _ _ _ unfinished (take from bytes) (part ++ 10 ∷ []) inv.0 (Ok (tt {0})) good.0,
+            rw (part_append unfinished (take from bytes) (part ++ 10 ∷ [])) good.1,
+          ),
+      let old = c.loop-length.invariant.1 in
+          let one = c.take_line.ensures.count in
+          omega (arith, old, one),
+      omega (arith, inside, length-drop from bytes),
+    )
+
+pub extend-requires : goal.extend-requires
+extend-requires g c =
+    let bytes = c.args.bytes.now in
+    let from = c.loop-length.from in
+    rw (take_rest bytes from) (found_none (is_byte 10) (drop from bytes) (rw (c.in_default.is, take_rest bytes from) at c.memchr.ensures))
+
+pub returns-clause-told : goal.returns-clause-told
+returns-clause-told g c unfinished h =
+    let bytes = c.args.bytes.now in
+    let from = c.loop-length.from in
+    let inv = c.loop-length.invariant.0 unfinished h in
+    let none = found_none (is_byte 10) (drop from bytes) (rw (c.in_default.is, take_rest bytes from) at c.memchr.ensures) in
+    let held = rw (take_rest bytes from) at (c.extend.ensures (last_part unfinished (take from bytes)) inv.1) in
+    rw (rest_lines bytes unfinished from none, rest_part bytes unfinished from none) (inv.0, held)

@@ -1,79 +1,90 @@
 use Rattle.std.proofs.Common.{◌≡◌, ◌∙◌, ◌++◌, [], take, sym, ap, false, true, inl, inr, arith}
 use Rattle.rrd_tool.specs.Lines.{is_empty, last_part}
+use Rattle.rrd_tool.specs.Batch.{no_lines}
 use Rattle.rrd_tool.specs.Batch.Run.{turn}
-use Rattle.rrd_tool.proofs.BatchLemmas.{feed_fails, feed_goes, last_fails, last_goes, none_left}
+use Rattle.std.proofs.KnownBytes.{Consumes-nil}
+use Rattle.rrd_tool.proofs.BatchLemmas.{feed_fails, feed_goes, last_fails, last_goes, none_left, ran_none}
+use Rattle.rrd_tool.proofs.RunLemmas.{appends_nothing}
 use Rattle.rrd_tool.proofs.LineLemmas.{at_ok, part_append}
 use Rattle.rrd_tool.proofs.batch.run_lines.Goals as goal
 
 pub returns-then-is_empty : goal.returns-then-is_empty
-returns-then-is_empty g c h0 s =
-    let inv = c.reads.invariant.0 h0 s in
+returns-then-is_empty g c h0 s most tallies =
+    let inv = c.reads.invariant.0 h0 s most tallies in
     let seen = inv.0 in
     let more = take c.in-Ok-read_some.count c.read_some.new.buffer in
     let none : more ≡ [] = ap (λ n. take n c.read_some.new.buffer) c.if-count-eq0.true in
-    let nothing : is_empty (last_part [] seen) ≡ true = sym (c.is_empty.ensures (last_part [] seen) inv.5) ∙ c.if-is_empty.true in
-    let left = none_left (turn c.args.context.now) h0 inv.2 inv.2 0 c.reads.batch.refused c.reads.batch.refused
+    let nothing : is_empty (last_part [] seen) ≡ true = sym (c.is_empty.ensures (last_part [] seen) inv.7) ∙ c.if-is_empty.true in
+    let left = none_left (turn c.args.context.now) h0 inv.2 inv.2 no_lines inv.4 inv.4
     (g.R.Read.remaining c.args.reader.now) (g.R.Read.remaining c.reads.reader) (g.R.Read.remaining c.read_some.new.reader)
     (g.W.Write.contents c.args.out.now) (g.W.Write.contents c.reads.out) (g.W.Write.contents c.reads.out)
-    seen more inv.1 c.in-Ok-read_some.ensures.ok inv.4 none nothing in
-    (seen, left.0, inv.2, inv.3, (c.in-Ok-read_some.ensures.end c.if-count-eq0.true (omega arith), left.1))
+    seen more inv.1 c.in-Ok-read_some.ensures.ok inv.6 none nothing in
+    (seen, left.0, inv.2, inv.3, inv.4, inv.5, (c.in-Ok-read_some.ensures.end c.if-count-eq0.true (omega arith), left.1))
 
 pub returns-then-is_err : goal.returns-then-is_err
-returns-then-is_err g c h0 s =
-    let inv = c.reads.invariant.0 h0 s in
+returns-then-is_err g c h0 s most tallies =
+    let inv = c.reads.invariant.0 h0 s most tallies in
     let seen = inv.0 in
     let more = take c.in-Ok-read_some.count c.read_some.new.buffer in
     let none : more ≡ [] = ap (λ n. take n c.read_some.new.buffer) c.if-count-eq0.true in
-    let some : is_empty (last_part [] seen) ≡ false = sym (c.is_empty.ensures (last_part [] seen) inv.5) ∙ c.if-is_empty.false in
-    let told = c.answer.ensures.told (last_part [] seen) (c.last_line.ensures.text (last_part [] seen) inv.5) inv.2 inv.3 in
-    let failed = last_fails (turn c.args.context.now) h0 inv.2 told.0 0 c.reads.batch.refused c.answer.new.batch.refused
+    let some : is_empty (last_part [] seen) ≡ false = sym (c.is_empty.ensures (last_part [] seen) inv.7) ∙ c.if-is_empty.false in
+    let told = c.answer.ensures.told (last_part [] seen) (c.last_line.ensures.text (last_part [] seen) inv.7) inv.2 inv.3 most inv.4 inv.5 in
+    let failed = last_fails (turn c.args.context.now) h0 inv.2 told.0 no_lines inv.4 told.2
     (g.R.Read.remaining c.args.reader.now) (g.R.Read.remaining c.reads.reader) (g.R.Read.remaining c.read_some.new.reader)
     (g.W.Write.contents c.args.out.now) (g.W.Write.contents c.reads.out) (g.W.Write.contents c.answer.new.out)
-    seen more inv.1 c.in-Ok-read_some.ensures.ok inv.4 none some c.answer.result (sym c.if-is_err.ensures.value) told.2 in
-    (seen, failed.0, told.0, told.1, inr (c.in-Ok-read_some.ensures.end c.if-count-eq0.true (omega arith), failed.1))
+    seen more inv.1 c.in-Ok-read_some.ensures.ok inv.6 none some c.answer.result (sym c.if-is_err.ensures.value) told.4 in
+    (seen, failed.0, told.0, told.1, told.2, told.3, inr (c.in-Ok-read_some.ensures.end c.if-count-eq0.true (omega arith), failed.1))
 
 pub returns-then-count-eq0 : goal.returns-then-count-eq0
-returns-then-count-eq0 g c h0 s =
-    let inv = c.reads.invariant.0 h0 s in
+returns-then-count-eq0 g c h0 s most tallies =
+    let inv = c.reads.invariant.0 h0 s most tallies in
     let seen = inv.0 in
     let more = take c.in-Ok-read_some.count c.read_some.new.buffer in
     let none : more ≡ [] = ap (λ n. take n c.read_some.new.buffer) c.if-count-eq0.true in
-    let some : is_empty (last_part [] seen) ≡ false = sym (c.is_empty.ensures (last_part [] seen) inv.5) ∙ c.if-is_empty.false in
-    let told = c.answer.ensures.told (last_part [] seen) (c.last_line.ensures.text (last_part [] seen) inv.5) inv.2 inv.3 in
-    let left = last_goes (turn c.args.context.now) h0 inv.2 told.0 0 c.reads.batch.refused c.answer.new.batch.refused
+    let some : is_empty (last_part [] seen) ≡ false = sym (c.is_empty.ensures (last_part [] seen) inv.7) ∙ c.if-is_empty.false in
+    let told = c.answer.ensures.told (last_part [] seen) (c.last_line.ensures.text (last_part [] seen) inv.7) inv.2 inv.3 most inv.4 inv.5 in
+    let left = last_goes (turn c.args.context.now) h0 inv.2 told.0 no_lines inv.4 told.2
     (g.R.Read.remaining c.args.reader.now) (g.R.Read.remaining c.reads.reader) (g.R.Read.remaining c.read_some.new.reader)
     (g.W.Write.contents c.args.out.now) (g.W.Write.contents c.reads.out) (g.W.Write.contents c.answer.new.out)
-    seen more inv.1 c.in-Ok-read_some.ensures.ok inv.4 none some c.answer.result (sym c.if-is_err.ensures.value) told.2 in
-    (seen, left.0, told.0, told.1, (c.in-Ok-read_some.ensures.end c.if-count-eq0.true (omega arith), left.1))
+    seen more inv.1 c.in-Ok-read_some.ensures.ok inv.6 none some c.answer.result (sym c.if-is_err.ensures.value) told.4 in
+    (seen, left.0, told.0, told.1, told.2, told.3, (c.in-Ok-read_some.ensures.end c.if-count-eq0.true (omega arith), left.1))
 
 pub returns-then-is_err-2 : goal.returns-then-is_err-2
-returns-then-is_err-2 g c h0 s =
-    let inv = c.reads.invariant.0 h0 s in
+returns-then-is_err-2 g c h0 s most tallies =
+    let inv = c.reads.invariant.0 h0 s most tallies in
     let seen = inv.0 in
     let more = take c.in-Ok-read_some.count c.read_some.new.buffer in
-    let fed = c.feed.ensures.told (last_part [] seen) inv.5 in
-    let told = fed.0 inv.2 inv.3 in
-    let failed = feed_fails (turn c.args.context.now) h0 inv.2 told.0 0 c.reads.batch.refused c.feed.new.batch.refused
+    let fed = c.feed.ensures.told (last_part [] seen) inv.7 in
+    let told = fed.0 inv.2 inv.3 most inv.4 inv.5 in
+    let failed = feed_fails (turn c.args.context.now) h0 inv.2 told.0 no_lines inv.4 told.2
     (g.R.Read.remaining c.args.reader.now) (g.R.Read.remaining c.reads.reader) (g.R.Read.remaining c.read_some.new.reader)
     (g.W.Write.contents c.args.out.now) (g.W.Write.contents c.reads.out) (g.W.Write.contents c.feed.new.out)
-    seen more inv.1 c.in-Ok-read_some.ensures.ok inv.4 c.feed.result (sym c.if-is_err-2.ensures.value) told.2 in
-    (seen ++ more, failed.0, told.0, told.1, inl failed.1)
+    seen more inv.1 c.in-Ok-read_some.ensures.ok inv.6 c.feed.result (sym c.if-is_err-2.ensures.value) told.4 in
+    (seen ++ more, failed.0, told.0, told.1, told.2, told.3, inl failed.1)
 
 pub reads-preserved : goal.reads-preserved
 reads-preserved g c = (
-  λ h0 s.
-      let inv = c.reads.invariant.0 h0 s in
+  λ h0 s most tallies.
+      let inv = c.reads.invariant.0 h0 s most tallies in
       let seen = inv.0 in
       let more = take c.in-Ok-read_some.count c.read_some.new.buffer in
-      let fed = c.feed.ensures.told (last_part [] seen) inv.5 in
-      let told = fed.0 inv.2 inv.3 in
-      let on = feed_goes (turn c.args.context.now) h0 inv.2 told.0 0 c.reads.batch.refused c.feed.new.batch.refused
+      let fed = c.feed.ensures.told (last_part [] seen) inv.7 in
+      let told = fed.0 inv.2 inv.3 most inv.4 inv.5 in
+      let on = feed_goes (turn c.args.context.now) h0 inv.2 told.0 no_lines inv.4 told.2
       (g.R.Read.remaining c.args.reader.now) (g.R.Read.remaining c.reads.reader) (g.R.Read.remaining c.read_some.new.reader)
       (g.W.Write.contents c.args.out.now) (g.W.Write.contents c.reads.out) (g.W.Write.contents c.feed.new.out)
-      seen more inv.1 c.in-Ok-read_some.ensures.ok inv.4 c.feed.result (sym c.if-is_err-2.ensures.value) told.2 in
-      (seen ++ more, on.0, told.0, told.1, on.1, rw (part_append [] seen more) (at_ok c.feed.result (sym c.if-is_err-2.ensures.value) fed.1)),
+      seen more inv.1 c.in-Ok-read_some.ensures.ok inv.6 c.feed.result (sym c.if-is_err-2.ensures.value) told.4 in
+      (seen ++ more, on.0, told.0, told.1, told.2, told.3, on.1, rw (part_append [] seen more) (at_ok c.feed.result (sym c.if-is_err-2.ensures.value) fed.1)),
   let count = c.feed.ensures.count in
       let bound = c.in-Ok-read_some.ensures.bound in
       let before = c.reads.invariant.1 in
       omega (arith, count, bound.0, bound.1, before),
 )
+
+pub reads-init : goal.reads-init
+reads-init g c =
+    let out = g.W.Write.contents c.args.out.now in (
+      λ h0 s most tallies.
+          ([], Consumes-nil (g.R.Read.remaining c.args.reader.now), h0, s, no_lines, tallies, ran_none (turn c.args.context.now) h0 no_lines out out (appends_nothing out), c.in-Ok.ensures),
+      let none = c.requires in omega (arith, none),
+    )

@@ -3,15 +3,17 @@ use Rattle.std.specs.Io.KnownBytes.{Consumes}
 use Rattle.rrd_spec.specs.Journal.Survivors.{State}
 use Rattle.rrd_tool.specs.Lines.Buffer.{Buffers}
 use Rattle.rrd_tool.specs.Lines.{last_part, whole_lines}
-use Rattle.rrd_tool.specs.Batch.{Ran}
+use Rattle.rrd_tool.specs.Batch.{Ran, Tally, no_lines}
+use Rattle.rrd_tool.specs.Batch.Answers.{Tallies}
 use Rattle.rrd_tool.specs.Effects.{StandsFor}
 use Rattle.rrd_tool.specs.Batch.Run.{turn}
 use Rattle.rrd_tool.proofs.batch.run_lines.Given as goal
 
 abbrev pub invariant-reads : goal.invariant-reads
-invariant-reads g l = ((s0 : Option State) → StandsFor l.fn.batch.database s0
+invariant-reads g l = ((s0 : Option State) → StandsFor l.fn.batch.database s0 → (most : ℕ) → Tallies most l.fn.batch.refusals no_lines
     → (seen : List ℕ) × Consumes (g.R.Read.remaining l.fn.reader) (g.R.Read.remaining l.reader) seen
     × (s1 : Option State) × StandsFor l.batch.database s1
-    × Ran (turn l.context.now) s0 s1 0 l.batch.refused (g.W.Write.contents l.fn.out) (g.W.Write.contents l.out) (whole_lines [] seen)
+    × (tally : Tally) × Tallies most l.batch.refusals tally
+    × Ran (turn l.context.now) s0 s1 no_lines tally (g.W.Write.contents l.fn.out) (g.W.Write.contents l.out) (whole_lines [] seen)
     × Buffers l.line (last_part [] seen))
-    × (l.batch.refused ≤ 65536 * l.counter)
+    × (l.batch.refusals.lines ≤ 65536 * l.counter)

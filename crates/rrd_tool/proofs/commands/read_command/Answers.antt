@@ -1,15 +1,27 @@
-use Rattle.std.proofs.Common.{◌∙◌, ap, is_some}
+use Rattle.std.proofs.Common.{◌∙◌, ap, is_some, sym}
 use Rattle.clap.specs.Words.{subcommand_rows_of}
-use Rattle.rrd_tool.specs.Commands.{line_of}
-use Rattle.rrd_tool.proofs.Subcommand.{read_from, taken_reads}
+use Rattle.rrd_tool.specs.Commands.{shape_of}
+use Rattle.rrd_tool.proofs.Fast.{read_as, serves_as}
+use Rattle.rrd_tool.proofs.Subcommand.{read_from, taken_enters}
+use Rattle.rrd_tool.proofs.Unknown.{unnamed_refused}
 use Rattle.rrd_tool.proofs.commands.read_command.Goals as goal
+
+pub returns-in_default : goal.returns-in_default
+returns-in_default c = unnamed_refused c.args.words.now (sym c.name_of.ensures ∙ c.in_default.is)
+
+pub parse-requires : goal.parse-requires
+parse-requires c =
+    serves_as _ c.in-Some.name c.args.words.now (c.in_ok-command_with.ensures (shape_of c.in-Some.name) c.in_ok-shape.ensures) (sym c.name_of.ensures ∙ c.in-Some.is)
 
 pub read_entered-requires : goal.read_entered-requires
 read_entered-requires c =
     let got = c.in_ok-matches.ensures in
-    ap (λ o. is_some (line_of o c.args.now)) got.1 ∙ taken_reads c.args.words.now c.args.now got.0
+    ap (λ o. is_some o) got.1 ∙ taken_enters c.args.words.now got.0
 
 pub returns : goal.returns
 returns c =
     let got = c.in_ok-matches.ensures in
-    read_from c.args.words.now c.args.now (subcommand_rows_of c.in_ok-matches.matches) c.read_entered.result got.0 got.1 c.read_entered.ensures
+    let name = sym c.name_of.ensures ∙ c.in-Some.is in
+    let entered = subcommand_rows_of c.in_ok-matches.matches in
+    read_from c.args.words.now c.args.now entered c.read_entered.result got.0 got.1
+    (read_as c.in-Some.name c.args.words.now c.args.now entered c.read_entered.result name got.1 c.read_entered.ensures)

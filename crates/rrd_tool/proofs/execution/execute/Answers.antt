@@ -1,3 +1,4 @@
+use Rattle.rrd_tool.specs.Execution.{database_left, fault_left, has_changed}
 use Rattle.rrd_tool.specs.Commands.{effect}
 use Rattle.rrd_tool.proofs.RunLemmas.{runs_on}
 use Rattle.rrd_tool.proofs.SaidLemmas.{prints_some}
@@ -9,12 +10,12 @@ returns-in-None-clause-kept g c = rw c.in-None.is (c.run_without.ensures (g.W.Wr
 pub returns-in-None-clause-run : goal.returns-in-None-clause-run
 returns-in-None-clause-run g c state s =
     let outcome = c.run_without.result in
-    runs_on c.created_is_valid.ensures c.database_begins.ensures c.action_goes_on.ensures (effect c.args.command) c.args.database outcome.database state _ _ outcome.changed outcome.fault s (rw c.in-None.is (c.run_without.ensures (g.W.Write.contents c.args.out.now)))
+    runs_on c.created_is_valid.ensures c.database_begins.ensures c.action_goes_on.ensures (effect c.args.command) c.args.database (database_left outcome) state _ _ (has_changed outcome) (fault_left outcome) s (rw c.in-None.is (c.run_without.ensures (g.W.Write.contents c.args.out.now)))
 
 pub returns-in-Some-clause-run : goal.returns-in-Some-clause-run
 returns-in-Some-clause-run g c state s =
     let outcome = c.run.result in
-    runs_on c.created_is_valid.ensures c.database_begins.ensures c.action_goes_on.ensures (effect c.args.command) c.args.database outcome.database state _ _ outcome.changed outcome.fault s (rw c.in-Some.is c.run.ensures)
+    runs_on c.created_is_valid.ensures c.database_begins.ensures c.action_goes_on.ensures (effect c.args.command) c.args.database (database_left outcome) state _ _ (has_changed outcome) (fault_left outcome) s (rw c.in-Some.is c.run.ensures)
 
 pub returns-in-None-clause-says : goal.returns-in-None-clause-says
 returns-in-None-clause-says g c =

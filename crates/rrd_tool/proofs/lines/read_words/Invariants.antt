@@ -1,6 +1,9 @@
-use Rattle.std.proofs.Common.{◌≡◌, ◌≤◌, ◌-◌, ◌++◌, take, drop}
+use Rattle.std.proofs.Common.{◌≡◌, ◌≤◌, ◌-◌, ◌++◌, [], drop, length}
 use Rattle.rrd_tool.specs.Lines.{words_after, words_of}
 use Rattle.rrd_tool.proofs.lines.read_words.Given as goal
 
-abbrev pub invariant-loop-at : goal.invariant-loop-at
-invariant-loop-at l = (l.from ≤ l.at) × (words_of l.text ≡ l.words ++ words_after (take (l.at - l.from) (drop l.from l.text)) (drop l.at l.text))
+abbrev pub invariant-loop-length : goal.invariant-loop-length
+invariant-loop-length l = (l.from ≤ length l.text) × (words_of l.text ≡ l.words ++ words_after [] (drop l.from l.text))
+
+abbrev pub decreases-loop-length : goal.decreases-loop-length
+decreases-loop-length l = length l.text - l.from

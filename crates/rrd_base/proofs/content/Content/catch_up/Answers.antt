@@ -20,8 +20,8 @@ end_steps-requires-clause-turns c =
     let all = most_caught V time is c.if-time-end.false in
     subst (λ (z : Content). c.args.walk.now.meter + most_of_ends z (steps_after V time) < 2 ^ 64) c.self.view_is (omega (arith, most, all))
 
-pub begin-requires-else-time-end-clause-within : goal.begin-requires-else-time-end-clause-within
-begin-requires-else-time-end-clause-within c =
+pub pass_within_step-requires-else-time-end-clause-within : goal.pass_within_step-requires-else-time-end-clause-within
+pass_within_step-requires-else-time-end-clause-within c =
     let is = c.self.invariant in
     let V = content_of c.self.inside in
     let rates = c.args.walk.now.rates.items in
@@ -33,8 +33,8 @@ begin-requires-else-time-end-clause-within c =
     let last = at_last V late time rates is row h steps in
     last.within
 
-pub begin-requires-else-time-end-clause-rates_are : goal.begin-requires-else-time-end-clause-rates_are
-begin-requires-else-time-end-clause-rates_are c =
+pub pass_within_step-requires-else-time-end-clause-rates_are : goal.pass_within_step-requires-else-time-end-clause-rates_are
+pass_within_step-requires-else-time-end-clause-rates_are c =
     let is = c.self.invariant in
     let V = content_of c.self.inside in
     let rates = c.args.walk.now.rates.items in
@@ -46,8 +46,8 @@ begin-requires-else-time-end-clause-rates_are c =
     let last = at_last V late time rates is row h steps in
     subst (λ (walk : Vec Cell Global). IsRow (length late.sources) walk.items) (sym c.end_steps.ensures.keeps.rates) last.row_is
 
-pub begin-requires-else-time-end-clause-in_time : goal.begin-requires-else-time-end-clause-in_time
-begin-requires-else-time-end-clause-in_time c =
+pub pass_within_step-requires-else-time-end-clause-in_time : goal.pass_within_step-requires-else-time-end-clause-in_time
+pass_within_step-requires-else-time-end-clause-in_time c =
     let is = c.self.invariant in
     let V = content_of c.self.inside in
     let rates = c.args.walk.now.rates.items in
@@ -59,8 +59,8 @@ begin-requires-else-time-end-clause-in_time c =
     let last = at_last V late time rates is row h steps in
     omega (arith, last.in_time, c.requires.in_time)
 
-pub begin-requires-else-time-end-clause-turns : goal.begin-requires-else-time-end-clause-turns
-begin-requires-else-time-end-clause-turns c =
+pub pass_within_step-requires-else-time-end-clause-turns : goal.pass_within_step-requires-else-time-end-clause-turns
+pass_within_step-requires-else-time-end-clause-turns c =
     let is = c.self.invariant in
     let V = content_of c.self.inside in
     let rates = c.args.walk.now.rates.items in
@@ -76,8 +76,8 @@ begin-requires-else-time-end-clause-turns c =
     let most = subst (λ (z : Content). c.args.walk.now.meter + most_to z time < 2 ^ 64) (sym c.self.view_is) c.requires.turns in
     omega (arith, most, all, high, sources)
 
-pub begin-requires-clause-turns : goal.begin-requires-clause-turns
-begin-requires-clause-turns c =
+pub pass_within_step-requires-clause-turns : goal.pass_within_step-requires-clause-turns
+pass_within_step-requires-clause-turns c =
     let is = c.self.invariant in
     let V = content_of c.self.inside in
     let rates = c.args.walk.now.rates.items in
@@ -92,7 +92,7 @@ returns-then-time-end-clause-value c =
     let V = content_of c.self.inside in
     let rates = c.args.walk.now.rates.items in
     let time : ℕ = c.args.time in
-    c.begin.ensures.value ∙ ap (λ m. passed c.args.self.now (replicate (time - m) rates)) (ap (λ (x : Content). x.last) c.self.view_is)
+    c.pass_within_step.ensures.value ∙ ap (λ m. passed c.args.self.now (replicate (time - m) rates)) (ap (λ (x : Content). x.last) c.self.view_is)
 
 pub returns-then-time-end-clause-least : goal.returns-then-time-end-clause-least
 returns-then-time-end-clause-least c =
@@ -102,8 +102,8 @@ returns-then-time-end-clause-least c =
     let time : ℕ = c.args.time in
     let later = subst (λ (z : Content). z.last < time) (sym c.self.view_is) c.requires.later in
     let none = least_within V time is later c.if-time-end.true in
-    let ticked = ap (λ (w : Walk). w.meter) c.begin.ensures.ticked in
-    subst (λ (z : Content). c.args.walk.now.meter + least_to z time ≤ c.begin.new.walk.meter) c.self.view_is (omega (arith, none, ticked))
+    let ticked = ap (λ (w : Walk). w.meter) c.pass_within_step.ensures.ticked in
+    subst (λ (z : Content). c.args.walk.now.meter + least_to z time ≤ c.pass_within_step.new.walk.meter) c.self.view_is (omega (arith, none, ticked))
 
 pub returns-then-time-end-clause-most : goal.returns-then-time-end-clause-most
 returns-then-time-end-clause-most c =
@@ -111,8 +111,8 @@ returns-then-time-end-clause-most c =
     let V = content_of c.self.inside in
     let rates = c.args.walk.now.rates.items in
     let time : ℕ = c.args.time in
-    let ticked = ap (λ (w : Walk). w.meter) c.begin.ensures.ticked ∙ ap (λ (x : Content). c.args.walk.now.meter + length x.sources) (sym c.self.view_is) in
-    subst (λ (z : Content). c.begin.new.walk.meter ≤ c.args.walk.now.meter + most_to z time) c.self.view_is (omega (arith, ticked, most_within V time))
+    let ticked = ap (λ (w : Walk). w.meter) c.pass_within_step.ensures.ticked ∙ ap (λ (x : Content). c.args.walk.now.meter + length x.sources) (sym c.self.view_is) in
+    subst (λ (z : Content). c.pass_within_step.new.walk.meter ≤ c.args.walk.now.meter + most_to z time) c.self.view_is (omega (arith, ticked, most_within V time))
 
 pub returns-else-time-end-clause-value : goal.returns-else-time-end-clause-value
 returns-else-time-end-clause-value c =
@@ -125,8 +125,8 @@ returns-else-time-end-clause-value c =
     let late = c.end_steps.new.self in
     let steps : late ≡ passed V (replicate (seconds_to_steps V time) rates) = c.end_steps.ensures.value ∙ ap (λ (x : Content). passed x (replicate (end_of_step V - V.last + steps_after V time * x.step) rates)) (sym c.self.view_is) in
     let last = at_last V late time rates is row h steps in
-    caught_up c.seconds_pass_in_pieces.ensures V late c.begin-else-time-end.new.self time rates is h steps
-    (c.begin-else-time-end.ensures.value ∙ ap (λ (row : Vec Cell Global). passed late (replicate ((time - end_of_step V) % V.step) row.items)) c.end_steps.ensures.keeps.rates)
+    caught_up c.seconds_pass_in_pieces.ensures V late c.pass_within_step-else-time-end.new.self time rates is h steps
+    (c.pass_within_step-else-time-end.ensures.value ∙ ap (λ (row : Vec Cell Global). passed late (replicate ((time - end_of_step V) % V.step) row.items)) c.end_steps.ensures.keeps.rates)
     ∙ ap (λ (x : Content). passed x (replicate (time - x.last) rates)) c.self.view_is
 
 pub returns-else-time-end-clause-least : goal.returns-else-time-end-clause-least
@@ -137,8 +137,8 @@ returns-else-time-end-clause-least c =
     let time : ℕ = c.args.time in
     let low = subst (λ (z : Content). c.args.walk.now.meter + least_of_ends z (steps_after V time) ≤ c.end_steps.new.walk.meter) (sym c.self.view_is) c.end_steps.ensures.least in
     let all = least_caught V time is c.if-time-end.false in
-    let ticked = ap (λ (w : Walk). w.meter) c.begin-else-time-end.ensures.ticked in
-    subst (λ (z : Content). c.args.walk.now.meter + least_to z time ≤ c.begin-else-time-end.new.walk.meter) c.self.view_is (omega (arith, all, low, ticked))
+    let ticked = ap (λ (w : Walk). w.meter) c.pass_within_step-else-time-end.ensures.ticked in
+    subst (λ (z : Content). c.args.walk.now.meter + least_to z time ≤ c.pass_within_step-else-time-end.new.walk.meter) c.self.view_is (omega (arith, all, low, ticked))
 
 pub returns-else-time-end-clause-most : goal.returns-else-time-end-clause-most
 returns-else-time-end-clause-most c =
@@ -154,5 +154,5 @@ returns-else-time-end-clause-most c =
     let high = subst (λ (z : Content). c.end_steps.new.walk.meter ≤ c.args.walk.now.meter + most_of_ends z (steps_after V time)) (sym c.self.view_is) c.end_steps.ensures.most in
     let all = most_caught V time is h in
     let sources = ap length last.same.sources in
-    let ticked = ap (λ (w : Walk). w.meter) c.begin-else-time-end.ensures.ticked in
-    subst (λ (z : Content). c.begin-else-time-end.new.walk.meter ≤ c.args.walk.now.meter + most_to z time) c.self.view_is (omega (arith, all, high, ticked, sources))
+    let ticked = ap (λ (w : Walk). w.meter) c.pass_within_step-else-time-end.ensures.ticked in
+    subst (λ (z : Content). c.pass_within_step-else-time-end.new.walk.meter ≤ c.args.walk.now.meter + most_to z time) c.self.view_is (omega (arith, all, high, ticked, sources))

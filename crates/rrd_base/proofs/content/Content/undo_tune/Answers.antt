@@ -16,13 +16,14 @@ invariant_of-self c =
     let X : Content = content_of d in
     let olds = c.args.kept.now.items in
     let list = c.as_slice.ensures.value in
-    let sources : (with_items d.sources c.put_sources_back.new.sources).items ≡ with_sources d.sources.items olds
-    = with_items_is d.sources c.put_sources_back.new.sources (omega (arith, c.put_sources_back.auto.sources, c.deref_mut.ensures.len)) ∙ c.put_sources_back.ensures.sources
+    let again = c.as_slice-2.ensures.value in
+    let sources : (with_items d.sources c.put_back.new.all).items ≡ with_sources d.sources.items olds
+    = with_items_is d.sources c.put_back.new.all (omega (arith, c.put_back.auto.all, c.deref_mut.ensures.len)) ∙ c.put_back.ensures
     ∙ ap (λ ss. with_sources ss c.as_slice.result.now) c.deref_mut.ensures.value ∙ ap (with_sources d.sources.items) list in
-    let raws : (with_items d.raws c.put_sources_back.new.raws).items ≡ with_raws d.raws.items olds
-    = with_items_is d.raws c.put_sources_back.new.raws (omega (arith, c.put_sources_back.auto.raws, c.deref_mut-2.ensures.len)) ∙ c.put_sources_back.ensures.raws
-    ∙ ap (λ rs. with_raws rs c.as_slice.result.now) c.deref_mut-2.ensures.value ∙ ap (with_raws d.raws.items) list in
-    let same = settings_are X (with_items d.sources c.put_sources_back.new.sources).items (with_items d.raws c.put_sources_back.new.raws).items (with_sources d.sources.items olds) (with_raws d.raws.items olds) sources raws ∙ sym (sources_put_back X olds) in
+    let raws : (with_items d.raws c.put_back-2.new.all).items ≡ with_raws d.raws.items olds
+    = with_items_is d.raws c.put_back-2.new.all (omega (arith, c.put_back-2.auto.all, c.deref_mut-2.ensures.len)) ∙ c.put_back-2.ensures
+    ∙ ap (λ rs. with_raws rs c.as_slice-2.result.now) c.deref_mut-2.ensures.value ∙ ap (with_raws d.raws.items) again in
+    let same = settings_are X (with_items d.sources c.put_back.new.all).items (with_items d.raws c.put_back-2.new.all).items (with_sources d.sources.items olds) (with_raws d.raws.items olds) sources raws ∙ sym (sources_put_back X olds) in
     subst IsValid (sym same) (subst (λ (x : Content). IsValid (undone x (TuneEntry olds))) (sym c.self.view_is) c.requires)
 
 pub returns : goal.returns
@@ -31,11 +32,12 @@ returns c =
     let X : Content = content_of d in
     let olds = c.args.kept.now.items in
     let list = c.as_slice.ensures.value in
-    let sources : (with_items d.sources c.put_sources_back.new.sources).items ≡ with_sources d.sources.items olds
-    = with_items_is d.sources c.put_sources_back.new.sources (omega (arith, c.put_sources_back.auto.sources, c.deref_mut.ensures.len)) ∙ c.put_sources_back.ensures.sources
+    let again = c.as_slice-2.ensures.value in
+    let sources : (with_items d.sources c.put_back.new.all).items ≡ with_sources d.sources.items olds
+    = with_items_is d.sources c.put_back.new.all (omega (arith, c.put_back.auto.all, c.deref_mut.ensures.len)) ∙ c.put_back.ensures
     ∙ ap (λ ss. with_sources ss c.as_slice.result.now) c.deref_mut.ensures.value ∙ ap (with_sources d.sources.items) list in
-    let raws : (with_items d.raws c.put_sources_back.new.raws).items ≡ with_raws d.raws.items olds
-    = with_items_is d.raws c.put_sources_back.new.raws (omega (arith, c.put_sources_back.auto.raws, c.deref_mut-2.ensures.len)) ∙ c.put_sources_back.ensures.raws
-    ∙ ap (λ rs. with_raws rs c.as_slice.result.now) c.deref_mut-2.ensures.value ∙ ap (with_raws d.raws.items) list in
-    settings_are X (with_items d.sources c.put_sources_back.new.sources).items (with_items d.raws c.put_sources_back.new.raws).items (with_sources d.sources.items olds) (with_raws d.raws.items olds) sources raws
+    let raws : (with_items d.raws c.put_back-2.new.all).items ≡ with_raws d.raws.items olds
+    = with_items_is d.raws c.put_back-2.new.all (omega (arith, c.put_back-2.auto.all, c.deref_mut-2.ensures.len)) ∙ c.put_back-2.ensures
+    ∙ ap (λ rs. with_raws rs c.as_slice-2.result.now) c.deref_mut-2.ensures.value ∙ ap (with_raws d.raws.items) again in
+    settings_are X (with_items d.sources c.put_back.new.all).items (with_items d.raws c.put_back-2.new.all).items (with_sources d.sources.items olds) (with_raws d.raws.items olds) sources raws
     ∙ sym (sources_put_back X olds) ∙ ap (λ (x : Content). undone x (TuneEntry olds)) c.self.view_is

@@ -7,8 +7,8 @@ use Rattle.rrd_base.proofs.Comes.{archive_came, at_head, cursor_stays, head_keep
 use Rattle.rrd_base.proofs.Versions.{few_archives}
 use Rattle.rrd_base.proofs.rebuild.Rebuild.archive.Goals as goal
 
-pub begin-requires : goal.begin-requires
-begin-requires c =
+pub unprepared-requires : goal.unprepared-requires
+unprepared-requires c =
     let may : MayHead (filed_in (coming c.self.inside)) c.args.def = subst (λ f. MayHead f c.args.def) (sym c.self.view_is) (c.may_head.ensures.good c.if-not-may_head.false) in
     record { few_rows = may.def_is.few_rows; some_sources = c.self.invariant.came.header_is.some_source; few_sources = c.self.invariant.came.header_is.few_sources; there = c.first_place-first.ensures.there }
 

@@ -5,7 +5,7 @@ use Rattle.rrd_spec.specs.History.{Rra}
 use Rattle.rrd_spec.specs.Limits.{present}
 use Rattle.rrd_spec.specs.Files.Rebuilding.{IsArchiveDef, due, with_cell}
 use Rattle.rrd_spec.specs.Settings.{resolution}
-use Rattle.rrd_spec.specs.Files.Slots.{place_in}
+use Rattle.rrd_spec.specs.Files.Places.{place_in}
 use Rattle.rrd_base.specs.Rebuild.Cursors.{Advances, KnowsPlace, filled_by}
 use Rattle.rrd_base.specs.Rebuild.{IsCursor, IsRebuilding, coming, filed_in}
 use Rattle.rrd_base.proofs.CellComes.{at_cell, cell_came, cell_comes, cell_here, is_put, place_there, row_there, with_cell_at}
@@ -40,8 +40,8 @@ place-place-requires-clause-known c =
     let here = cell_here c.cells_stand_in_slots.ensures.as_many d a cursor c.self.invariant.came c.self.invariant.cursor_is is_due c.get_mut-rra.ensures.value refl in
     subst (λ (def : RraDef). KnowsPlace (resolution d.step def) d.last def.rows cursor) (sym c.def-def.ensures) here.knows
 
-pub put-requires-clause-there : goal.put-requires-clause-there
-put-requires-clause-there c =
+pub set_cell-requires-clause-there : goal.set_cell-requires-clause-there
+set_cell-requires-clause-there c =
     let d = coming c.self.inside in
     let cursor = c.self.inside.cursor in
     let may = c.may_cell.ensures.good c.if-not-may_cell.false in
@@ -53,8 +53,8 @@ put-requires-clause-there c =
     let inside = place_there c.rows_stand_in_slots.ensures.place d a cursor place c.self.invariant.came here place_is in
     omega (arith, inside, here.so_far.rows_are)
 
-pub put-requires-clause-within : goal.put-requires-clause-within
-put-requires-clause-within c =
+pub set_cell-requires-clause-within : goal.set_cell-requires-clause-within
+set_cell-requires-clause-within c =
     let d = coming c.self.inside in
     let cursor = c.self.inside.cursor in
     let may = c.may_cell.ensures.good c.if-not-may_cell.false in
@@ -125,8 +125,8 @@ invariant_of-self c =
     let goes : Advances d.sources_due a.def.rows place cursor c.advance.new.self = subst (λ (def : RraDef). Advances d.sources_due def.rows place cursor c.advance.new.self) c.def-def.ensures c.advance.ensures in
     let after = cell_comes c.cells_stand_in_slots.ensures.as_many d a b c.args.cell place cursor c.advance.new.self c.self.invariant.came here.at put refl refl place_is c.self.invariant.cursor_is.source_there here.slot goes in
     record {
-      came = subst (λ (x : Rra). IsRebuilding (cell_came d x c.advance.new.self.archive (filled_by d.sources_due c.advance.new.self))) (sym c.put.ensures) after.came;
-      cursor_is = subst (λ (x : Rra). IsCursor (cell_came d x c.advance.new.self.archive (filled_by d.sources_due c.advance.new.self)) c.advance.new.self) (sym c.put.ensures) after.cursor_is;
+      came = subst (λ (x : Rra). IsRebuilding (cell_came d x c.advance.new.self.archive (filled_by d.sources_due c.advance.new.self))) (sym c.set_cell.ensures) after.came;
+      cursor_is = subst (λ (x : Rra). IsCursor (cell_came d x c.advance.new.self.archive (filled_by d.sources_due c.advance.new.self)) c.advance.new.self) (sym c.set_cell.ensures) after.cursor_is;
     }
 
 pub returns-clause-ok : goal.returns-clause-ok
@@ -144,4 +144,4 @@ returns-clause-ok c =
     let put = is_put c.cells_stand_in_slots.ensures.as_many c.cells_stand_in_slots.ensures.cell_put d a c.args.cell place cursor c.self.invariant.came here.at.there c.get_mut-rra.ensures.value refl place_is c.self.invariant.cursor_is.source_there (omega (arith, inside, here.so_far.rows_are)) may.bounded in
     let goes : Advances d.sources_due a.def.rows place cursor c.advance.new.self = subst (λ (def : RraDef). Advances d.sources_due def.rows place cursor c.advance.new.self) c.def-def.ensures c.advance.ensures in
     let after = cell_comes c.cells_stand_in_slots.ensures.as_many d a b c.args.cell place cursor c.advance.new.self c.self.invariant.came here.at put refl refl place_is c.self.invariant.cursor_is.source_there here.slot goes in
-    (may, ap (λ (x : Rra). filed_in (cell_came d x c.advance.new.self.archive (filled_by d.sources_due c.advance.new.self))) c.put.ensures ∙ (after.filed_is ∙ ap (λ f. with_cell f c.args.cell) c.self.view_is))
+    (may, ap (λ (x : Rra). filed_in (cell_came d x c.advance.new.self.archive (filled_by d.sources_due c.advance.new.self))) c.set_cell.ensures ∙ (after.filed_is ∙ ap (λ f. with_cell f c.args.cell) c.self.view_is))

@@ -12,7 +12,7 @@ use Rattle.rrd_spec.specs.Limits.{present}
 use Rattle.rrd_spec.specs.Files.Filed.{Filed}
 use Rattle.rrd_spec.specs.Files.Rebuilding.{IsArchiveDef, due}
 use Rattle.rrd_spec.specs.Settings.{resolution}
-use Rattle.rrd_spec.specs.Files.Slots.{place_in}
+use Rattle.rrd_spec.specs.Files.Places.{place_in}
 use Rattle.rrd_base.specs.Rebuild.Cursors.{KnowsPlace, Passes, filled_by}
 use Rattle.rrd_base.specs.Rebuild.{IsCursor, IsRebuilding, coming, filed_in}
 use Rattle.rrd_spec.specs.Lemmas.Lists.{All-take}

@@ -18,17 +18,17 @@ returns-in_default-clause-brings g c = λ bytes pieces later st.
     let len : length c.piece.new.piece ≡ 13 = search rules in
     rw c.bad_entry.ensures (unread_head bytes c.args.build.now pieces later c.args.input.now c.piece.new.self c.piece.new.piece st c.in_ok-piece.ensures.read (sym len) (c.archive_of.ensures.none (search rules)))
 
-pub returns-then-not-had_settings-clause-brings : goal.returns-then-not-had_settings-clause-brings
-returns-then-not-had_settings-clause-brings g c = λ bytes pieces later st.
+pub returns-then-not-may_have-clause-brings : goal.returns-then-not-may_have-clause-brings
+returns-then-not-may_have-clause-brings g c = λ bytes pieces later st.
     let len : length c.piece.new.piece ≡ 13 = search rules in
-    rw c.bad_entry-then-not-had_settings.ensures (broken bytes c.args.build.now pieces RemovedHeadDue later c.args.input.now c.piece.new.self (OfArchive c.in-Some.def) c.piece.new.piece st c.in_ok-piece.ensures.read c.in-Some.ensures.some.1 (sym len) (ReadRemovedHead c.in-Some.def c.in-Some.ensures.some.0) (λ k. let bad : false ≡ true = sym c.if-not-had_settings.true ∙ c.had_settings.ensures.bad (judges c.args.build.now c.judge.result.now RemovedHeadDue (OfArchive c.in-Some.def) c.judge.ensures k) in absurd cc))
+    rw c.bad_entry-then-not-may_have.ensures (broken bytes c.args.build.now pieces RemovedHeadDue later c.args.input.now c.piece.new.self (OfArchive c.in-Some.def) c.piece.new.piece st c.in_ok-piece.ensures.read c.in-Some.ensures.some.1 (sym len) (ReadRemovedHead c.in-Some.def c.in-Some.ensures.some.0) (λ k. let bad : false ≡ true = sym c.if-not-may_have.true ∙ c.may_have.ensures.bad (judges c.args.build.now c.judge.result.now RemovedHeadDue (OfArchive c.in-Some.def) c.judge.ensures k) in absurd cc))
 
 pub returns-clause-brings : goal.returns-clause-brings
 returns-clause-brings g c = λ bytes pieces later st.
     let len : length c.piece.new.piece ≡ 13 = search rules in
-    kept bytes c.args.build.now pieces RemovedHeadDue later c.args.input.now c.piece.new.self (OfArchive c.in-Some.def) c.piece.new.piece st c.in_ok-piece.ensures.read c.in-Some.ensures.some.1 (sym len) (ReadRemovedHead c.in-Some.def c.in-Some.ensures.some.0) (judged c.args.build.now c.judge.result.now RemovedHeadDue (OfArchive c.in-Some.def) c.judge.ensures (c.had_settings.ensures.good c.if-not-had_settings.false))
+    kept bytes c.args.build.now pieces RemovedHeadDue later c.args.input.now c.piece.new.self (OfArchive c.in-Some.def) c.piece.new.piece st c.in_ok-piece.ensures.read c.in-Some.ensures.some.1 (sym len) (ReadRemovedHead c.in-Some.def c.in-Some.ensures.some.0) (judged c.args.build.now c.judge.result.now RemovedHeadDue (OfArchive c.in-Some.def) c.judge.ensures (c.may_have.ensures.good c.if-not-may_have.false))
 
 pub returns-clause-good : goal.returns-clause-good
 returns-clause-good g c =
-    let is = (c.had_settings.ensures.good c.if-not-had_settings.false).def_is in
+    let is = (c.may_have.ensures.good c.if-not-may_have.false).def_is in
     record { some_steps = is.some_steps; few_steps = is.few_steps; some_rows = is.some_rows; few_rows = is.few_rows; xff_low = is.xff_low; xff_high = is.xff_high }

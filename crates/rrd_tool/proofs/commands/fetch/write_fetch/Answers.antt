@@ -28,4 +28,4 @@ returns g c =
 pub write_rows-requires : goal.write_rows-requires
 write_rows-requires g c =
     let asked = c.requires in
-    chosen_readable c.args.database.now.content asked.0 asked.1 asked.2 asked.3 c.args.chosen c.is_valid.ensures.content_is asked.4
+    chosen_readable c.args.database.now.content asked.0 asked.1 asked.2 asked.3 c.args.chosen c.database_is_valid.ensures.content_is asked.4

@@ -1,0 +1,1 @@
+"""The modules that the scripts of this folder share."""

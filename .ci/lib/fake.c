@@ -1,0 +1,507 @@
+/* A small program with the words of rrdi and a layout of its own, for the tests of the scripts: it keeps rrdi's promises
+   on files, locks, kills and syncs, unless the environment names a fault that it is to have:
+
+       FAKE_BUG=NAME[,NAME..] fake COMMAND FILE ..
+
+   A file has a head of 64 bytes (mark, state, length, place of the tail, last time, checksum, rows, entries), rows of 16
+   bytes and at most 16 entries of 96. A change puts the old bytes behind the longer of old and new, marks the head, puts
+   the new rows, and then the new head; the next run that opens a file with such a mark takes it back. */
+#define _GNU_SOURCE
+#include <errno.h>
+#include <fcntl.h>
+#include <stdint.h>
+#include <stdio.h>
+#include <stdlib.h>
+#include <string.h>
+#include <sys/file.h>
+#include <sys/stat.h>
+#include <time.h>
+#include <unistd.h>
+
+#define HEAD 64
+#define ROW 16
+#define ENTRY 96
+#define ENTRIES 16
+#define PAGE 4096
+
+struct head {
+    char mark[4];
+    uint32_t state;
+    uint64_t length, tail, last, sum, rows, entries, tuned;
+};
+
+struct base {
+    unsigned char *bytes;
+    size_t length;
+};
+
+static int syncs, number_of_sync;
+
+static int has(const char *bug) {
+    const char *text = getenv("FAKE_BUG");
+    size_t length = strlen(bug);
+    for (; text && *text; text = strchr(text, ',') ? strchr(text, ',') + 1 : NULL)
+        if (!strncmp(text, bug, length) && (text[length] == ',' || !text[length]))
+            return 1;
+    return 0;
+}
+
+static int tell(const char *text) {
+    if (has("wrong-text"))
+        text = "something else";
+    fprintf(stderr, "ERROR: %s\n", text);
+    return has("wrong-status") ? 0 : 1;
+}
+
+/* The reason of an error number, in the words of the manual. */
+static const char *reason_of(int number) {
+    switch (number) {
+    case ENOENT: return "no such file or directory";
+    case EACCES: return "permission denied";
+    case EROFS: return "read-only file system";
+    case ENOSPC: return "no space left on device";
+    case EFBIG: return "file too large";
+    case EISDIR: return "is a directory";
+    case EEXIST: return "another program has written the file meanwhile";
+    default: return strerror(number);
+    }
+}
+
+/* Tells a fault of FILE, and the reason in a line of its own. */
+static int tell_why(const char *text, const char *path, const char *reason) {
+    int status = tell(text);
+    if (!has("no-reason"))
+        fprintf(stderr, "rrdi: %s: %s\n", path, has("wrong-reason") ? "something else" : reason);
+    return status;
+}
+
+/* The reason of a run that has waited for a lock. */
+static const char *in_use(void) {
+    static char text[80];
+    const char *wait = getenv("RRDI_WAIT");
+    int seconds = wait && *wait && strspn(wait, "0123456789") == strlen(wait) ? atoi(wait) : 5;
+    snprintf(text, sizeof text, "in use by another program (waited %d second%s)", seconds, seconds == 1 ? "" : "s");
+    return text;
+}
+
+static struct head *head_of(struct base base) {
+    return (struct head *)base.bytes;
+}
+
+static uint64_t sum_of(struct base base) {
+    uint64_t sum = base.length + head_of(base)->last * 31 + head_of(base)->tuned;
+    for (size_t at = HEAD; at < base.length; at++)
+        sum = (sum ^ base.bytes[at]) * 1099511628211u;
+    return sum;
+}
+
+/* ---- calls */
+
+static ssize_t once(int file, const unsigned char *bytes, size_t count, off_t at) {
+    ssize_t got = -1;
+    for (int tries = 0; tries <= 1000; tries++) {
+        got = pwrite(file, bytes, count, at);
+        if (got >= 0 || errno != EINTR)
+            break;
+    }
+    return got;
+}
+
+static int put(int file, const unsigned char *bytes, size_t count, off_t at) {
+    size_t done = 0;
+    while (done < count) {
+        ssize_t got = once(file, bytes + done, count - done, at + done);
+        if (got < 0)
+            return has("hides-failure") || (done && has("hides-second")) ? 0 : -1;
+        done += got;
+        if (has("hides-short"))
+            return 0;
+    }
+    return 0;
+}
+
+static int cut(int file, size_t length) {
+    return ftruncate(file, length);
+}
+
+static int settle_on_disk(int file) {
+    char name[20];
+    if (!syncs)
+        return 0;
+    snprintf(name, sizeof name, "no-sync-%d", ++number_of_sync);
+    return has(name) ? 0 : fsync(file);
+}
+
+static struct base read_whole(int file) {
+    struct stat found;
+    struct base base = {NULL, 0};
+    if (fstat(file, &found) || !(base.bytes = calloc(1, (S_ISREG(found.st_mode) ? found.st_size : 1 << 20) + HEAD)))
+        return base;
+    if (!S_ISREG(found.st_mode)) {
+        ssize_t got;
+        while ((got = read(file, base.bytes + base.length, 4096)) > 0)
+            base.length += got;
+        return base;
+    }
+    while (base.length < (size_t)found.st_size) {
+        ssize_t got = pread(file, base.bytes + base.length, found.st_size - base.length, base.length);
+        if (got < 0 && errno == EINTR)
+            continue;
+        if (got <= 0) {
+            base.bytes = NULL;
+            break;
+        }
+        base.length += got;
+    }
+    return base;
+}
+
+static int lock(int file, int how) {
+    const char *text = getenv("RRDI_WAIT");
+    int is_whole = text && *text && strspn(text, "0123456789") == strlen(text) && atof(text) <= 3600;
+    double seconds = is_whole ? atof(text) : 5;
+    int pause = 1;
+    if (has("never-waits"))
+        seconds = 0;
+    while (flock(file, how | LOCK_NB)) {
+        if (errno != EWOULDBLOCK)
+            return has("needs-locks") ? -1 : 0;
+        if (seconds <= 0)
+            return -1;
+        usleep(pause * 1000);
+        seconds -= pause / 1000.0;
+        pause = pause * 2 > 50 ? 50 : pause * 2;
+    }
+    return 0;
+}
+
+/* ---- a change */
+
+static int take_back(int file, struct base old, struct base new) {
+    size_t count = old.length > new.length ? old.length : new.length;
+    if (has("restores-less"))
+        count = HEAD + ROW;
+    if (count > old.length)
+        count = old.length;
+    if (!put(file, old.bytes + HEAD, count - HEAD, HEAD) && !put(file, old.bytes, HEAD, 0))
+        cut(file, old.length);
+    return -1;
+}
+
+static int put_pages(int file, struct base old, struct base new) {
+    for (size_t at = 0; at < new.length; at += PAGE) {
+        if (has("slow"))
+            usleep(500);
+        size_t begin = at ? at : HEAD, end = at + PAGE < new.length ? at + PAGE : new.length;
+        int is_same = end <= old.length && !memcmp(old.bytes + begin, new.bytes + begin, end - begin);
+        if (begin < end && (!is_same || has("writes-all")) && put(file, new.bytes + begin, end - begin, begin))
+            return -1;
+    }
+    return 0;
+}
+
+/* Over bytes that are no database's. */
+static int store_bare(int file, struct base old, struct base new) {
+    unsigned char spoiled[4] = {0};
+    if ((old.length && put(file, spoiled, 4, 0)) || put(file, new.bytes + HEAD, new.length - HEAD, HEAD)
+        || cut(file, new.length) || put(file, new.bytes, HEAD, 0)) {
+        cut(file, 0);
+        return -1;
+    }
+    return settle_on_disk(file);
+}
+
+static int store(int file, struct base old, struct base new, int is_database) {
+    struct head marked;
+    head_of(new)->length = new.length;
+    head_of(new)->sum = sum_of(new);
+    if (!is_database)
+        return store_bare(file, old, new);
+    size_t most = old.length > new.length ? old.length : new.length, tail = (most + PAGE - 1) / PAGE * PAGE;
+    memcpy(&marked, old.bytes, HEAD);
+    marked.state = 1;
+    marked.tail = tail;
+    if (has("no-tail"))
+        return put_pages(file, old, new) || put(file, new.bytes, HEAD, 0) || cut(file, new.length);
+    if (has("commits-early") && put(file, new.bytes, HEAD, 0))
+        return -1;
+    if (put(file, old.bytes, old.length, tail) || settle_on_disk(file)) {
+        cut(file, old.length);
+        return -1;
+    }
+    if (has("marks-late") && put_pages(file, old, new))
+        return take_back(file, old, new);
+    if (put(file, (unsigned char *)&marked, HEAD, 0) || settle_on_disk(file) || put_pages(file, old, new)
+        || settle_on_disk(file) || (has("cuts-early") && cut(file, new.length)) || put(file, new.bytes, HEAD, 0))
+        return take_back(file, old, new);
+    settle_on_disk(file);
+    cut(file, new.length);
+    settle_on_disk(file);
+    return 0;
+}
+
+/* Whether a file is as a change leaves it, or has to be taken back, or cut. */
+static int is_settled(struct base base) {
+    return base.length < HEAD || memcmp(base.bytes, "RRDI", 4)
+        || (head_of(base)->state == 0 && base.length <= head_of(base)->length);
+}
+
+static int settle(int file) {
+    struct base base = read_whole(file);
+    if (!base.bytes)
+        return -1;
+    if (is_settled(base) || has("stays-marked"))
+        return 0;
+    struct head old = *head_of(base);
+    if (old.state) {
+        memcpy(&old, base.bytes + old.tail, HEAD);
+        size_t tail = head_of(base)->tail;
+        if (has("takes-head-first") && put(file, base.bytes + tail, HEAD, 0))
+            return -1;
+        if (put(file, base.bytes + tail + HEAD, old.length - HEAD, HEAD) || settle_on_disk(file)
+            || put(file, base.bytes + tail, HEAD, 0) || settle_on_disk(file))
+            return -1;
+    }
+    return cut(file, old.length) || settle_on_disk(file);
+}
+
+/* ---- commands, over bytes in memory */
+
+static struct base grown(struct base base, size_t length) {
+    base.bytes = realloc(base.bytes, length);
+    if (length > base.length)
+        memset(base.bytes + base.length, 0, length - base.length);
+    base.length = length;
+    return base;
+}
+
+static struct base create(long rows) {
+    struct base base = grown((struct base){NULL, 0}, HEAD + rows * ROW);
+    memcpy(base.bytes, "RRDI", 4);
+    head_of(base)->rows = rows;
+    return base;
+}
+
+static unsigned char *row_at(struct base base, uint64_t time) {
+    return base.bytes + HEAD + time / 10 % head_of(base)->rows * ROW;
+}
+
+/* An entry: the last time, the setting, the rows and the row of before. */
+static struct base entered(struct base base, uint64_t time) {
+    unsigned char entry[ENTRY] = {0};
+    size_t first = HEAD + head_of(base)->rows * ROW;
+    memcpy(entry, &head_of(base)->last, 8);
+    memcpy(entry + 8, &head_of(base)->tuned, 8);
+    memcpy(entry + 16, &time, 8);
+    memcpy(entry + 24, row_at(base, time), ROW);
+    if (head_of(base)->entries < ENTRIES) {
+        head_of(base)->entries++;
+        base = grown(base, base.length + ENTRY);
+    } else
+        memmove(base.bytes + first, base.bytes + first + ENTRY, (ENTRIES - 1) * ENTRY);
+    memcpy(base.bytes + base.length - ENTRY, entry, ENTRY);
+    return base;
+}
+
+static struct base update(struct base base, const char *word) {
+    uint64_t time = atol(word), value = atol(strchr(word, ':') + 1);
+    base = entered(base, time);
+    memcpy(row_at(base, time), &time, 8);
+    memcpy(row_at(base, time) + 8, &value, 8);
+    head_of(base)->last = time;
+    return base;
+}
+
+static struct base revert(struct base base) {
+    unsigned char *entry = base.bytes + base.length - ENTRY;
+    uint64_t time;
+    memcpy(&time, entry + 16, 8);
+    memcpy(row_at(base, time), entry + 24, ROW);
+    memcpy(&head_of(base)->last, entry, 8);
+    memcpy(&head_of(base)->tuned, entry + 8, 8);
+    head_of(base)->entries--;
+    base.length -= ENTRY;
+    return base;
+}
+
+static struct base resize(struct base base, long change) {
+    size_t had = HEAD + head_of(base)->rows * ROW, behind = base.length - had, now = had + change * ROW;
+    size_t most = base.length > now + behind ? base.length : now + behind, length = now + behind;
+    base = grown(base, most);
+    memmove(base.bytes + now, base.bytes + had, behind);
+    base.length = length;
+    head_of(base)->rows += change;
+    return base;
+}
+
+/* Runs one command. Gives its status, or -1 after a change. */
+static int execute(struct base *base, char **words, int count) {
+    if (!strcmp(words[0], "create")) {
+        const char *rows = strrchr(words[count - 1], ':');
+        *base = create(rows ? atol(rows + 1) : 4);
+        return -1;
+    }
+    if (!base->bytes)
+        return tell("no database");
+    if (!strcmp(words[0], "update")) {
+        if ((uint64_t)atol(words[1]) <= head_of(*base)->last) {
+            fprintf(stderr, "ERROR: not later than %lu\n", head_of(*base)->last);
+            return 1;
+        }
+        for (int word = 1; word < count; word++)
+            *base = update(*base, words[word]);
+        return -1;
+    }
+    if (!strcmp(words[0], "revert")) {
+        if (!head_of(*base)->entries)
+            return tell("nothing to revert");
+        *base = revert(*base);
+        return -1;
+    }
+    if (!strcmp(words[0], "tune")) {
+        *base = entered(*base, 0);
+        head_of(*base)->tuned++;
+        return -1;
+    }
+    if (!strcmp(words[0], "resize")) {
+        *base = resize(*base, (words[2][0] == 'G' ? 1 : -1) * atol(words[3]));
+        return -1;
+    }
+    printf("%lu\n", head_of(*base)->last);
+    return fflush(stdout) ? tell("write failed") : 0;
+}
+
+/* The next byte of standard input: 0 at its end, -1 if a read failed. */
+static ssize_t next_byte(char *byte) {
+    static char waiting[1 << 16];
+    static ssize_t from, behind;
+    while (from == behind) {
+        behind = read(0, waiting, sizeof waiting);
+        from = 0;
+        if (behind < 0 && errno == EINTR)
+            behind = 0;
+        else if (behind <= 0)
+            return behind;
+    }
+    *byte = waiting[from++];
+    return 1;
+}
+
+static int run_lines(struct base *base) {
+    static char line[1 << 20];
+    int changed = 0, status = 0;
+    for (;;) {
+        size_t length = 0;
+        ssize_t got;
+        char byte;
+        while ((got = next_byte(&byte)) != 0) {
+            if (got < 0) {
+                tell("read failed");
+                return changed ? -2 : 1;
+            }
+            if (byte == '\n')
+                break;
+            line[length++] = byte;
+        }
+        line[length] = 0;
+        char *words[4096];
+        int count = 0;
+        for (char *word = strtok(line, " "); word; word = strtok(NULL, " "))
+            words[count++] = word;
+        if (count) {
+            int ended = execute(base, words, count);
+            changed |= ended == -1;
+            status |= ended == 1;
+        }
+        if (!got)
+            break;
+    }
+    changed |= base->bytes != NULL;
+    return changed ? (status ? -2 : -1) : status;
+}
+
+static int fault(struct base base) {
+    if (base.length < HEAD || memcmp(base.bytes, "RRDI", base.length < 4 ? base.length : 4)) {
+        if (base.length >= 4) 
+            return tell("file: not ours");
+    } else if (head_of(base)->length == base.length && head_of(base)->state == 0) {
+        if (has("reads-anything") || head_of(base)->sum == sum_of(base))
+            return 0;
+        return tell("file: bad block at 6");
+    } else if (head_of(base)->length == base.length)
+        return tell("file: not ours");
+    fprintf(stderr, "ERROR: file: truncated at %zu\n", base.length);
+    return 1;
+}
+
+static int is_regular(int file) {
+    struct stat found;
+    return !fstat(file, &found) && S_ISREG(found.st_mode);
+}
+
+static int over_file(char **words, int count, const char *path) {
+    int makes = !strcmp(words[0], "create"), is_batch = !strcmp(words[0], "batch");
+    int is_kept = 0, why = 0, reads = !strcmp(words[0], "last") || !strcmp(words[0], "info") || !strcmp(words[0], "fetch");
+    struct base old = {NULL, 0}, base = {NULL, 0};
+    if (makes && has("breaks-links"))
+        unlink(path);
+    struct stat found;
+    if (!makes && !reads && !stat(path, &found) && !S_ISREG(found.st_mode))
+        return tell_why("cannot open", path, "not a regular file");
+    int is_database = 0, file = open(path, makes ? O_RDWR | O_CREAT : reads ? O_RDONLY : O_RDWR, 0666);
+    if (file < 0 && !makes && errno != ENOENT) {
+        why = errno;
+        file = open(path, O_RDONLY);
+        is_kept = 1;
+    }
+    if (file < 0 && !(is_batch && errno == ENOENT))
+        return tell_why(makes ? "cannot write" : reads || errno == ENOENT ? "cannot open" : "cannot write", path, reason_of(errno));
+    if (file >= 0) {
+        int how = (reads || has("changes-share")) ? LOCK_SH : LOCK_EX;
+        int skips = (reads && has("reads-without-lock")) || (makes && has("creates-without-lock"));
+        if (!skips && lock(file, how))
+            return tell_why(makes ? "cannot write" : "cannot open", path, in_use());
+        if (makes && !is_regular(file))
+            return has("writes-devices") ? 0 : tell_why("cannot write", path, "not a regular file");
+        old = read_whole(file);
+        if (reads && old.bytes && !is_settled(old)) {
+            close(file);
+            file = open(path, O_RDWR);
+            if (file < 0 || lock(file, LOCK_EX))
+                return tell_why("cannot open", path, in_use());
+        }
+        if ((old.bytes && !is_settled(old) && settle(file)) || (is_regular(file) && !(old = read_whole(file)).bytes))
+            return tell("file: read failed");
+        is_database = old.length >= HEAD && !memcmp(old.bytes, "RRDI", 4) && head_of(old)->length == old.length;
+        if (!makes && fault(old))
+            return 1;
+        if (!makes) {
+            base = grown(base, old.length);
+            memcpy(base.bytes, old.bytes, old.length);
+        }
+    }
+    int ended = is_batch ? run_lines(&base) : execute(&base, words, count);
+    if (ended >= 0)
+        return ended;
+    if (file < 0)
+        file = open(path, O_RDWR | O_CREAT | (has("overwrites-new") ? 0 : O_EXCL), 0666);
+    if (is_kept || file < 0 || (is_batch && !is_database && lock(file, LOCK_EX)) || (store(file, old, base, is_database)))
+        return tell_why("cannot write", path, reason_of(why ? why : errno));
+    if (has("breaks-links")) {
+        unlink(path);
+        file = open(path, O_RDWR | O_CREAT, 0666);
+        put(file, base.bytes, base.length, 0);
+    }
+    return ended == -2;
+}
+
+int main(int count, char **words) {
+    syncs = getenv("RRDI_SYNC") && !strcmp(getenv("RRDI_SYNC"), "1");
+    if (count < 3) {
+        fprintf(stderr, "ERROR: usage\n");
+        return 2;
+    }
+    const char *path = words[2];
+    words[2] = words[1];
+    return over_file(words + 2, count - 2, path);
+}

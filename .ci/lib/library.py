@@ -1,0 +1,72 @@
+"""Builds the C library of an archive, and programs over it: the tests of its functions, and the program that does by
+the library what rrdi does (by_library.c). It needs `make`, a C compiler `cc`, `ld` and `objcopy`, and `rt` on the
+PATH, beside which what of C the kit's code calls is found."""
+from __future__ import annotations
+
+import re
+import subprocess
+from dataclasses import dataclass
+from pathlib import Path
+
+from lib.program import TOP
+
+HERE = Path(__file__).resolve().parent
+# The archive that `rt lib` and `rt ci` leave.
+ARCHIVE = TOP / "out/librrdi_c.a"
+USAGE = TOP / "crates/rrd_store/src/usage.rt"
+EXPORTS = frozenset({"rrdi_run", "rrdi_batch", "rrdi_run_file", "rrdi_batch_file"})
+# What a library may call of C: memory, bytes, files, and errno. Nothing that ends the process, or handles signals.
+MAY_CALL = frozenset({"malloc", "realloc", "free", "memcpy", "memmove", "memset", "memcmp", "bcmp", "strlen", "__errno_location",
+                      "open", "open64", "close", "read", "pread", "pread64", "pwrite", "pwrite64", "lseek", "lseek64",
+                      "ftruncate", "ftruncate64", "fdatasync", "flock", "fcntl", "fcntl64", "statx", "nanosleep"})
+# What the compiler's own library, the linker, and the start files put in: division of 128 bits, and what each shared object has.
+OF_LINKER = frozenset({"__udivti3", "__cxa_finalize", "__gmon_start__", "_ITM_deregisterTMCloneTable", "_ITM_registerTMCloneTable"})
+
+
+@dataclass(frozen=True)
+class Library:
+    """A library that was built, in a folder."""
+    folder: Path
+
+    @property
+    def shared(self) -> Path:
+        return self.folder / "librrdi.so.0"
+
+    @property
+    def static(self) -> Path:
+        return self.folder / "librrdi.a"
+
+    def program(self, name: str, source: str, *, static: bool = False, flags: tuple[str, ...] = (), more: tuple[str, ...] = ()
+                ) -> Path:
+        """Builds a program that uses the library, from a source in this folder."""
+        path = self.folder / name
+        linked = [str(self.static)] if static else [f"-L{self.folder}", "-lrrdi", f"-Wl,-rpath,{self.folder}"]
+        subprocess.run(["cc", "-Wall", "-Wextra", "-Werror", "-O1", "-g", *flags, f"-I{TOP / 'include'}", str(HERE / source), *linked,
+                        "-lpthread", *more, "-o", str(path)], check=True)
+        return path
+
+    def by_library(self, name: str = "by-library", *, static: bool = False) -> Path:
+        """Builds the program that does by the library what rrdi does."""
+        return self.program(name, "by_library.c", static=static, flags=(f"-DUSAGE={usage_text()}",))
+
+
+def usage_text() -> str:
+    """Returns the usage text as a string of C."""
+    found = re.search(r'USAGE: &str = "(.*?)";', USAGE.read_text(), re.DOTALL)
+    if not found:
+        raise RuntimeError(f"there is no usage text in {USAGE}")
+    return '"' + found[1].replace("\\\n", "").replace("\n", "\\n") + '"'
+
+
+def build(folder: str | Path, archive: str | Path) -> Library:
+    """Links the library of an archive as `make` does."""
+    path = Path(folder).resolve()
+    subprocess.run(["make", "--no-print-directory", "-s", "-C", str(TOP), "library", f"BUILD={path}",
+                    f"ARCHIVE={Path(archive).resolve()}"], check=True)
+    return Library(path)
+
+
+def names(path: Path, *options: str) -> set[str]:
+    """Returns the names that `nm` lists, without their versions."""
+    listed = subprocess.run(["nm", *options, str(path)], capture_output=True, text=True, check=True).stdout
+    return {line.split()[-1].split("@")[0] for line in listed.splitlines() if line.strip() and not line.endswith(":")}

@@ -1,0 +1,92 @@
+"""A built program, its runs, and the answers of the runs."""
+from __future__ import annotations
+
+import os
+import signal
+import subprocess
+from dataclasses import dataclass
+from pathlib import Path
+from typing import Callable, Mapping, NamedTuple, Sequence
+
+# The program that `rt run`, `rt test` and `rt ci` leave, and the program of the tests that `rt test` and `rt ci` leave.
+TOP = Path(__file__).resolve().parent.parent.parent
+BUILT = TOP / "crates/rrdi/out/rrdi"
+TESTS = TOP / "crates/rrd_tests/out/rrd_tests_tests"
+# The maximum duration of a run in seconds.
+PATIENCE = 60
+# The status of a run that was killed.
+KILLED = -signal.SIGKILL
+
+
+class Answer(NamedTuple):
+    """The status of a run, and what it printed on standard output and on standard error."""
+    status: int | str
+    out: str = ""
+    err: str = ""
+
+
+def error(text: str) -> str:
+    """Returns the line that reports a fault."""
+    return f"ERROR: {text}\n"
+
+
+# The faults after which one more line gives the reason.
+WITH_REASON = (error("cannot open"), error("cannot write"))
+
+
+def parted(err: str) -> tuple[str, str]:
+    """Returns the specified lines of standard error, and the reason in the line after them. That line, `rrdi: FILE:
+    REASON`, must follow if FILE cannot be opened or written. If it is missing, or another line follows, there is no
+    reason."""
+    *lines, last = err.splitlines(keepends=True) or [""]
+    if lines and lines[-1] in WITH_REASON and last.startswith("rrdi: ") and last.endswith("\n"):
+        return "".join(lines), last.rstrip("\n").rpartition(": ")[2]
+    return err, ""
+
+
+def waited(seconds: int) -> str:
+    """Returns the reason of a run that waited for a lock."""
+    return f"in use by another program (waited {seconds} second{'' if seconds == 1 else 's'})"
+
+
+@dataclass(frozen=True)
+class Program:
+    path: str
+
+    @classmethod
+    def at(cls, path: str | Path) -> Program:
+        return cls(str(Path(path).resolve()))
+
+    def run(self, words: Sequence[object], lines: str = "", *, cwd: str | Path | None = None,
+            env: Mapping[str, str] | None = None, before: Callable[[], None] | None = None,
+            seconds: float = PATIENCE, name: str | None = None) -> Answer:
+        """Runs the program with arguments and standard input. If a run does not end in time, its answer says so."""
+        told = [name or self.path, *(word if isinstance(word, bytes) else str(word) for word in words)]
+        try:
+            ran = subprocess.run(told, executable=self.path, input=lines.encode(), capture_output=True, timeout=seconds,
+                                 cwd=cwd, env=environment(env), preexec_fn=before)
+        except subprocess.TimeoutExpired:
+            return Answer(f"no end in {seconds:g} seconds")
+        return Answer(ran.returncode, ran.stdout.decode(errors="replace"), ran.stderr.decode(errors="replace"))
+
+
+def environment(more: Mapping[str, str] | None) -> dict[str, str]:
+    """Returns the environment of a run, without the caller's variables that the program reads."""
+    kept = {name: value for name, value in os.environ.items()
+            if not name.startswith("RRDI_") and name not in ("LD_PRELOAD", "LOG", "RECORD")}
+    return {**kept, **(more or {})}
+
+
+def held(path: str | Path) -> bytes | None:
+    """Returns the bytes of a file, if the file exists."""
+    path = Path(path)
+    return path.read_bytes() if path.is_file() else None
+
+
+def put(path: str | Path, data: bytes | None) -> None:
+    """Replaces a file by a new one with these bytes, or removes the file. A file that is open or linked elsewhere
+    stays."""
+    path = Path(path)
+    path.unlink(missing_ok=True)
+    if data is not None:
+        path.write_bytes(data)

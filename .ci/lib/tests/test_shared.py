@@ -1,0 +1,189 @@
+"""The tally, runs, the pieces of a file, the forms of the commands, and the definitions."""
+from __future__ import annotations
+
+import contextlib
+import io
+import tempfile
+import unittest
+from pathlib import Path
+
+from lib import command_line, definitions, layout, manual
+from lib.between import Event
+from lib.changes import FILE, changes, is_refused, locks_of, readings
+from lib.program import TOP, Answer, Program, environment, error, held, parted, put, waited
+from lib.self_test import SelfTest, answering
+from lib.tally import Tally, number_tried
+
+
+def printed(function, *words: object) -> tuple[object, str]:
+    with contextlib.redirect_stdout(io.StringIO()) as out:
+        return function(*words), out.getvalue()
+
+
+class Tallies(unittest.TestCase):
+    def test_end(self) -> None:
+        tally = Tally()
+        self.assertEqual(printed(tally.end, "runs"), (1, "0 runs: 0 wrong\n"))
+        tally.count("runs", 3)
+        tally.count("lines")
+        self.assertEqual(printed(tally.end, "runs"), (0, "3 runs, 1 lines: 0 wrong\n"))
+        tally.leave_out("all that needs a disk")
+        self.assertEqual(printed(tally.want, False, "a fault"), (False, "a fault\n"))
+        self.assertEqual(printed(tally.end, "runs"), (1, "left out: all that needs a disk\n3 runs, 1 lines: 1 wrong\n"))
+
+    def test_number_tried(self) -> None:
+        self.assertEqual([number_tried(line) for line in ("12 runs: 0 wrong", "1,234 runs", "try-it: 7 checks, 0 failed", "no runs", "",
+                                                                  "-3 runs")], [12, 1234, 7, 0, 0, 0])
+
+    def test_add(self) -> None:
+        tally, other = Tally(), Tally(is_quiet=True)
+        other.count("runs")
+        other.want(False, "a fault")
+        tally.add(other)
+        self.assertEqual((tally.tried["runs"], tally.wrong), (1, 1))
+
+
+class Faults(unittest.TestCase):
+    def test_parted(self) -> None:
+        write, opened = error("cannot write"), error("cannot open")
+        self.assertEqual(parted(write + "rrdi: a: b: disk quota exceeded\n"), (write, "disk quota exceeded"))
+        self.assertEqual(parted(error("write failed") + opened + "rrdi: a: is a directory\n"),
+                         (error("write failed") + opened, "is a directory"))
+        for err in ("", write, error("usage") + "rrdi: a: b\n", write + "rrdi: a: b", write + "more\n", "rrdi: a: b\n",
+                    write + "rrdi: a: b\nrrdi: a: b\n"):
+            self.assertEqual(parted(err), (err, ""))
+
+    def test_waited(self) -> None:
+        self.assertEqual([waited(seconds).partition(" (")[2] for seconds in (0, 1, 5)],
+                         ["waited 0 seconds)", "waited 1 second)", "waited 5 seconds)"])
+
+
+class Scripts(unittest.TestCase):
+    def test_status(self) -> None:
+        parser = command_line.parser_of("what it does")
+        parser.add_argument("program")
+        for words, wanted in ((["--self-test"], 5), (["p"], 3)):
+            with self.assertRaises(SystemExit) as ended:
+                command_line.run(parser, lambda options: 3, lambda: 5, words)
+            self.assertEqual(ended.exception.code, wanted)
+
+    def test_self_test(self) -> None:
+        test = SelfTest("a script")
+        self.assertEqual(printed(test.end)[0], 1)
+        test.want(True, "")
+        self.assertEqual(printed(test.end), (0, "1 tests of a script: 0 wrong\n"))
+        printed(test.want, False, "not so")
+        self.assertEqual(printed(test.end)[0], 1)
+
+
+class Runs(unittest.TestCase):
+    def test_answers(self) -> None:
+        with tempfile.TemporaryDirectory() as folder:
+            program = Program(answering(folder, "it", 3, "out\n", "err\n"))
+            self.assertEqual(program.run(["a"]), Answer(3, "out\n", "err\n"))
+            slow = Program(answering(folder, "slow", more="exec sleep 5"))
+            self.assertEqual(slow.run([], seconds=0.2).status, "no end in 0.2 seconds")
+            file = Path(folder, "file")
+            self.assertIsNone(held(file))
+            put(file, b"x")
+            self.assertEqual(held(file), b"x")
+            put(file, None)
+            self.assertFalse(file.exists())
+        self.assertEqual(environment({"A": "b"})["A"], "b")
+
+    def test_refused(self) -> None:
+        self.assertTrue(is_refused(Answer(1, "", "ERROR: file: not ours\n")))
+        self.assertFalse(is_refused(Answer(0, "", "ERROR: file: not ours\n")))
+        self.assertFalse(is_refused(Answer(1, "", "ERROR: usage\n")))
+
+    def test_tasks(self) -> None:
+        names = [task.name for task in changes() + readings()]
+        self.assertEqual(len(set(names)), len(names))
+        kinds = {task.words[0] for task in changes()}
+        self.assertEqual(kinds, {"create", "update", "tune", "resize", "revert", "batch"})
+
+    def test_locks(self) -> None:
+        call = lambda text: Event(text.split()[0], text.split()[1:])
+        opened, locked, shared = call(f"open -1 0 4 2 {FILE}"), call("flock 4 6 0 0"), call("flock 4 5 0 0")
+        reads, puts = call("pread 4 10 10 0"), call("pwrite 4 10 10 0")
+        self.assertEqual(locks_of([opened, locked, reads, puts], FILE, True), [])
+        self.assertEqual(locks_of([opened, shared, reads], FILE, False), [])
+        self.assertEqual(len(locks_of([opened, reads], FILE, False)), 1)
+        self.assertEqual(len(locks_of([opened, shared, reads, puts], FILE, True)), 2)
+        self.assertEqual(len(locks_of([opened, shared, reads, puts], FILE, False)), 1)
+        self.assertEqual(locks_of([opened, locked, call("fcntl 4 1030 5 0"), call("read 5 10 10 0")], FILE, True), [])
+        self.assertEqual(len(locks_of([opened, call("flock 4 6 -1 0"), reads], FILE, False)), 1)
+
+
+class Layout(unittest.TestCase):
+    # The second file of docs/file-format.md: a gauge of four rows, with one update.
+    def test_a_new_file(self) -> None:
+        new = layout.heads(2, ["g"], [4]) + 4 * layout.UNKNOWN
+        self.assertEqual(len(new), 224)
+        self.assertEqual(new[:6], b"RRDI\0\2")
+        first = layout.as_version_1(new)
+        self.assertEqual((len(first), first[:6]), (220, b"RRDI\0\1"))
+        self.assertEqual(layout.as_version_2(first), new)
+        self.assertEqual(first, layout.heads(1, ["g"], [4]) + 4 * layout.UNKNOWN)
+        self.assertEqual([layout.size_of_header(version) for version in (1, 2)], [26, 30])
+
+    def test_pieces(self) -> None:
+        self.assertEqual(layout.known(1), bytes(13) + b"\x0f\x42\x40")
+        self.assertEqual(len(layout.source("g")), 97)
+        self.assertEqual(len(layout.archive(4)), 33)
+        self.assertEqual(layout.resized(5), b"\3\0\0\0\0\0\5")
+
+
+class Manual(unittest.TestCase):
+    def test_source(self) -> None:
+        text = """.Sh NAME
+.Sh SYNOPSIS
+.Nm
+.Cm tune
+.Ar file
+.Op Fl s | -step Ar seconds
+.Op Fl t | -template Ar name Ns Oo : Ns Ar name ... Oc
+.Op Li RRA : Ns Ar function | Li DELRRA : Ns Ar archive
+.Ar time : Ns Ar value Ns Oo : Ns Ar value ... Oc ...
+.Nm
+.Cm last | info
+.Ar file
+.Sh DESCRIPTION
+"""
+        forms = {name: manual.plain(form) for name, form in manual.in_source(text).items()}
+        wanted = "tune [-s|--step SECONDS] [-t|--template NAME[:NAME..]] [RRA:FUNCTION | DELRRA:ARCHIVE] TIME:VALUE[:VALUE..].."
+        self.assertEqual(forms, {"tune": manual.plain(wanted), "last": "LAST", "info": "INFO"})
+
+    def test_page(self) -> None:
+        text = "x\n\n    create [-s|--step SECONDS] D..\n    tune [--a B]\n         [-c|--d E]\n\nmore\n"
+        forms = manual.in_page(text)
+        self.assertEqual(list(forms), ["create", "tune"])
+        self.assertEqual(manual.options(forms["tune"]), [("", "a", "B"), ("c", "d", "E")])
+        self.assertEqual(manual.in_page("nothing"), {})
+
+    def test_usage(self) -> None:
+        text = "usage\n\ncommands:\n  create FILE [--a B]\n         a DEFINITION is\n  last   FILE\n\nend\n"
+        self.assertEqual({name: manual.plain(form) for name, form in manual.in_usage(text).items()}, {"create": "CREATE[--AB]", "last": "LAST"})
+        self.assertNotEqual(manual.plain("a [-b|--c D]"), manual.plain("a [-b|--c E]"))
+
+
+class Definitions(unittest.TestCase):
+    def test_the_worked_session(self) -> None:
+        """The worked batches of crates/rrdi/cases that the small batches here are like: a gauge, and its steps."""
+        create = definitions.Create(10, 0, 16, [definitions.Source("g", "GAUGE", 100, None, None)], [definitions.Archive("LAST", 0, 1, 4)])
+        database, told = definitions.run(None, create)
+        self.assertEqual(told, [])
+        database, told = definitions.run(database, definitions.Update(None, [(10, ["1"]), (25, ["7"])]))
+        self.assertEqual((told, database.last), ([], 25))
+        self.assertEqual(database.step_cell(0, 0), 10**6)
+        self.assertEqual(database.step_cell(0, 1), 7 * 10**6)
+
+    def test_values(self) -> None:
+        self.assertEqual([definitions.near(7, 2), definitions.near(-7, 2), definitions.near(5, 3)], [4, -3, 2])
+        self.assertEqual(definitions.shown(-1_500_000), "-1.500000")
+        self.assertEqual(definitions.rise(5, 3), 2**32 - 2)
+        self.assertRaises(definitions.Refused, definitions.admitted, "COUNTER", "1.5")
+
+    def test_random_batches_are_the_same_each_time(self) -> None:
+        self.assertEqual(definitions.batch(7), definitions.batch(7))
+        self.assertTrue((TOP / "crates/rrdi/cases").is_dir())

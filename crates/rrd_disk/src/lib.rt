@@ -1,0 +1,20 @@
+//! Files as the storage of databases: a file is opened, locked, read, recovered and changed page by page.
+//! The caller provides the calls of the system, so that the program and a library for C write files by the same code.
+#![tactic(auto)]
+
+mod disk;
+mod file_bytes;
+mod locks;
+mod once;
+mod place;
+mod reader;
+mod settings;
+mod window;
+mod writer;
+
+pub use disk::{Disk, DiskFile, Facts, Lock, Opening};
+pub use place::FileAt;
+pub use reader::FileReader;
+pub use rrd_undo::Syncs;
+pub use settings::Settings;
+pub use writer::FileWriter;

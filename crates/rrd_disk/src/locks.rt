@@ -1,0 +1,77 @@
+//! The advisory lock on an open file. The system releases the lock when the last handle of that open file
+//! is closed.
+ghost use Rattle.std.specs.Prelude.{◌≡◌, ◌+◌, IfSome};
+
+use crate::{Disk, DiskFile, Lock};
+use std::io::{self, Error, ErrorKind};
+
+/// The maximum time in milliseconds for which a run waits.
+const MOST: u64 = 3_600_000;
+
+/// The longest pause between two tries, in milliseconds.
+const LONGEST: u64 = 50;
+
+/// The result of a try to lock a file.
+#[derive(Clone, Copy, Debug, PartialEq, Eq)]
+pub(crate) enum Held {
+    /// This program holds the lock.
+    Lock,
+    /// The file system has no locks.
+    Nothing,
+}
+
+/// The pauses between the tries, in milliseconds: each is twice as long as the one before, up to 50.
+#[derive(Drop)]
+struct Pauses {
+    left: u64,
+    next: u64,
+}
+
+impl Pauses {
+    fn within(milliseconds: u64) -> Pauses {
+        Pauses {
+            left: milliseconds,
+            next: 1,
+        }
+    }
+
+    // Returns the next pause. Returns `None` if the time is over.
+    fn take(&mut self) -> Option<u64>
+        ensures over { result ≡ None → self.old.left ≡ 0 }
+        ensures rest { IfSome result (λ pause. self.new.left + pause ≡ self.old.left) }
+    {
+        if self.left == 0 {
+            return None;
+        }
+        let pause = self.next.min(self.left);
+        self.left -= pause;
+        self.next = self.next.saturating_mul(2).min(LONGEST);
+        Some(pause)
+    }
+}
+
+/// Locks a file, and tries again for `wait` milliseconds while another program holds a lock.
+///
+/// Returns `Held::Nothing` if the file system has no locks.
+///
+/// # Errors
+///
+/// `WouldBlock` if another program held a lock at each try.
+pub(crate) fn lock<D: Disk>(disk: &D, file: &D::File, lock: Lock, wait: u64) -> io::Result<Held> {
+    let wait = wait.min(MOST);
+    let mut pauses = Pauses::within(wait);
+    for _ in 0..=wait {
+        match file.try_lock(lock) {
+            Ok(()) => return Ok(Held::Lock),
+            Err(error)
+                if error.kind() == ErrorKind::WouldBlock
+                    || error.kind() == ErrorKind::Interrupted => {}
+            Err(_) => return Ok(Held::Nothing),
+        }
+        let Some(pause) = pauses.take() else {
+            break;
+        };
+        disk.pause(pause);
+    }
+    Err(Error::new(ErrorKind::WouldBlock, "in use by another program"))
+}

@@ -1,0 +1,20 @@
+//! The settings by which a run uses its file.
+use rrd_undo::Syncs;
+
+/// The settings by which a run uses its file.
+#[derive(Clone, Copy, Debug, PartialEq, Eq)]
+pub struct Settings {
+    /// The time in milliseconds for which the run waits for a lock that another program holds. With 0 the run tries
+    /// once. A value above 3,600,000 counts as 3,600,000.
+    pub wait: u64,
+    /// When the run syncs the file.
+    pub syncs: Syncs,
+}
+
+impl Settings {
+    /// The usual settings: a run waits for 5 seconds, and does not sync.
+    pub const DEFAULT: Settings = Settings {
+        wait: 5_000,
+        syncs: Syncs::Never,
+    };
+}

@@ -1,0 +1,23 @@
+use Rattle.std.proofs.Common.{◌≤◌, ◌-◌, length, decimal, codes, arith, lit<}
+use Rattle.std.proofs.lemmas.Fmt.{length-decimal-le}
+use borrow.Rule.Slice.PartMut.{put_mid, same_len_mid}
+use Rattle.rrd_fixed.specs.Puts.{Puts}
+use Rattle.rrd_fixed.proofs.PutLemmas.{puts_part, puts_six}
+use Rattle.rrd_fixed.proofs.puts.put_six.Goals as goal
+
+pub write_digits-requires : goal.write_digits-requires
+write_digits-requires c =
+    let few : length (decimal c.args.number) ≤ 6 = length-decimal-le 6 c.args.number (lit< tt) c.requires.small (omega arith) in
+    let same = same_len_mid (c.args.end - 6) (c.args.end - (c.args.end - 6)) c.args.buffer.now c.copy_from_slice.new.self c.copy_from_slice.ensures.len in
+    (omega (arith, few, c.requires.room), omega (arith, same, c.requires.inside))
+
+pub returns : goal.returns
+returns c =
+    let end = c.args.end in
+    let old = c.args.buffer.now in
+    let few : length (decimal c.args.number) ≤ 6 = length-decimal-le 6 c.args.number (lit< tt) c.requires.small (omega arith) in
+    let zeros : Puts old (put_mid (end - 6) (end - (end - 6)) old (codes "000000")) end (codes "000000") (end - 6) =
+    puts_part old (codes "000000") end (end - 6) (omega arith) c.requires.inside (omega (arith, c.requires.room)) in
+    let mid : Puts old (put_mid (end - 6) (end - (end - 6)) old c.copy_from_slice.new.self) end (codes "000000") (end - 6) = rw c.copy_from_slice.ensures.after zeros in
+    puts_six old (put_mid (end - 6) (end - (end - 6)) old c.copy_from_slice.new.self) c.write_digits.new.buf end (end - 6) c.write_digits.result c.args.number mid
+    (record { begins = c.write_digits.ensures.start; bytes = c.write_digits.ensures.written }) few c.write_digits.ensures.before

@@ -1,0 +1,12 @@
+pub mod Options
+pub mod Words
+pub mod Fronts
+pub mod Standing
+pub mod Marked
+pub mod Pieces
+pub mod Recorded
+pub mod Slotted
+pub mod Backs
+pub mod Places
+pub mod Settling
+pub mod Lemmas

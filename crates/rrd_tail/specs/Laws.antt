@@ -1,0 +1,153 @@
+-- Laws of marks, records and slots, and of the bytes that a file represents.
+use Rattle.std.specs.Prelude.{◌≡◌, ◌≢◌, ℕ, ◌+◌, ◌%◌, ◌^◌, ◌<◌, ◌≤◌, List, [], ◌∷◌, ◌++◌, length, take, slice_index, slice_index_or, Some, None}
+use Rattle.rrd_tail.specs.declared.mark.Shape.{Shape}
+use Rattle.rrd_tail.specs.declared.mark.Mark.{Mark}
+use Rattle.rrd_tail.specs.declared.mark.Mark.TheVariants.{Cut, Undo}
+use Rattle.rrd_tail.specs.declared.record.Record.{Record}
+use Rattle.rrd_tail.specs.Bytes.{StandsAt}
+use Rattle.rrd_tail.specs.Marks.{database_mark, size_of, shape_for, cut_mark, undo_mark, mark_bytes, mark_of}
+use Rattle.rrd_tail.specs.Records.{record_bytes, IsRightAt, record_at, last_record}
+use Rattle.rrd_tail.specs.Slots.{Slot, slot_bytes, IsRightSlot, slot_place, slot_at, slots_in}
+use Rattle.rrd_tail.specs.Settled.{old_byte, settled}
+
+-- ---- shapes
+
+-- a file's own length never says that a record of its shape is at its end
+abbrev pub LengthTells : ℕ → Type 0
+LengthTells n = n % 4096 ≢ size_of (shape_for n)
+
+-- ---- marks
+
+abbrev pub PlainHasNoMark : List ℕ → Type 0
+PlainHasNoMark file = StandsAt file 0 database_mark → mark_of file ≡ None
+
+abbrev pub CutMarkIsRead : Shape → List ℕ → Type 0
+CutMarkIsRead shape file = StandsAt file 0 (cut_mark shape) → mark_of file ≡ Some (Cut shape)
+
+abbrev pub UndoMarkIsRead : ℕ → List ℕ → Type 0
+UndoMarkIsRead tail file = tail < 2 ^ 64 → StandsAt file 0 (undo_mark tail) → mark_of file ≡ Some (Undo tail)
+
+-- a mark that is read is there
+abbrev pub MarkStands : Mark → List ℕ → Type 0
+MarkStands mark file = mark_of file ≡ Some mark → StandsAt file 0 (mark_bytes mark)
+
+-- the first sixteen bytes say the mark
+abbrev pub FrontSaysMark : List ℕ → Type 0
+FrontSaysMark file = mark_of (take 16 file) ≡ mark_of file
+
+-- ---- records
+
+abbrev pub RecordIsRead : ℕ → Record → List ℕ → Type 0
+RecordIsRead at r file = at < 2 ^ 64 → length r.first ≡ 16 → IsRightAt at r → StandsAt file at (record_bytes r) → record_at file at ≡ Some r
+
+-- a record that is read is there, and right
+abbrev pub RecordStands : ℕ → Record → List ℕ → Type 0
+RecordStands at r file = record_at file at ≡ Some r → StandsAt file at (record_bytes r) × IsRightAt at r × (length r.first ≡ 16)
+
+abbrev pub NoRecordPastTheEnd : ℕ → List ℕ → Type 0
+NoRecordPastTheEnd at file = length file < at + 64 → record_at file at ≡ None
+
+-- a record at a file's end, in the shape for its length, is the last one
+abbrev pub LastRecordIsRead : Shape → ℕ → Record → List ℕ → Type 0
+LastRecordIsRead shape at r file =
+    length file ≡ at + size_of shape → IsRightAt at r → record_at file at ≡ Some r → shape_for r.length ≡ shape
+    → last_record shape file ≡ Some r
+
+-- a file whose length does not say so has no last record
+abbrev pub NoLastRecord : Shape → List ℕ → Type 0
+NoLastRecord shape file = length file % 4096 ≢ size_of shape → last_record shape file ≡ None
+
+-- a last record that is read is where the length says, in the shape for its own length
+abbrev pub LastRecordStands : Shape → Record → List ℕ → Type 0
+LastRecordStands shape r file =
+    last_record shape file ≡ Some r
+    → (length file ≡ r.place + size_of shape) × (record_at file r.place ≡ Some r) × (shape_for r.length ≡ shape)
+
+-- ---- slots
+
+-- these are a file's slots, in order and right, and no slot follows
+pub record AreSlots (tail : ℕ) (file : List ℕ) (slots : List Slot) : Type 0 where
+  pub each : (i : ℕ) (s : Slot) → i < length slots → slot_at tail file i ≡ Some (slice_index_or slots i s)
+  pub right : (i : ℕ) (s : Slot) → i < length slots → IsRightSlot tail (slice_index_or slots i s)
+  pub end : slot_at tail file (length slots) ≡ None
+
+abbrev pub SlotsAreInOrder : ℕ → List ℕ → Type 0
+SlotsAreInOrder tail file = AreSlots tail file (slots_in tail file)
+
+abbrev pub OnlySlots : ℕ → List ℕ → List Slot → Type 0
+OnlySlots tail file slots = AreSlots tail file slots → slots_in tail file ≡ slots
+
+-- a slot that is read is there, and right
+abbrev pub SlotStands : ℕ → ℕ → Slot → List ℕ → Type 0
+SlotStands tail i s file = slot_at tail file i ≡ Some s → StandsAt file (slot_place tail i) (slot_bytes tail s) × IsRightSlot tail s
+
+abbrev pub SlotIsRead : ℕ → ℕ → Slot → List ℕ → Type 0
+SlotIsRead tail i s file =
+    tail < 2 ^ 64 → IsRightSlot tail s → StandsAt file (slot_place tail i) (slot_bytes tail s) → slot_at tail file i ≡ Some s
+
+-- the place behind a file's slots
+abbrev pub next_place : ℕ → List ℕ → ℕ
+next_place tail file = slot_place tail (length (slots_in tail file))
+
+-- a file that has the bytes of another one, and perhaps more behind them
+abbrev pub Continues : List ℕ → List ℕ → Type 0
+Continues file new = (k : ℕ) → k < length file → slice_index new k ≡ slice_index file k
+
+-- a slot that is put at the next place, whatever the bytes before it, is one more
+abbrev pub SlotIsAppended : ℕ → Slot → List ℕ → List ℕ → Type 0
+SlotIsAppended tail s file new =
+    tail < 2 ^ 64 → IsRightSlot tail s → length file ≤ next_place tail file → Continues file new
+    → StandsAt new (next_place tail file) (slot_bytes tail s) → length new ≡ next_place tail file + length (slot_bytes tail s)
+    → slots_in tail new ≡ slots_in tail file ++ s ∷ []
+
+-- a slot that is cut short is none
+abbrev pub CutSlotIsNotCounted : ℕ → Slot → List ℕ → List ℕ → Type 0
+CutSlotIsNotCounted tail s file new =
+    tail < 2 ^ 64 → IsRightSlot tail s → length file ≤ length new → Continues file new
+    → length new < next_place tail file + length (slot_bytes tail s)
+    → ((i : ℕ) → next_place tail file + i < length new → slice_index new (next_place tail file + i) ≡ slice_index (slot_bytes tail s) i)
+    → slots_in tail new ≡ slots_in tail file
+
+-- zeros in place of a header are no slot, whatever follows
+abbrev pub ZerosEndSlots : ℕ → List ℕ → List ℕ → Type 0
+ZerosEndSlots tail file new =
+    length file ≤ length new → length file ≤ next_place tail file → Continues file new
+    → ((i : ℕ) → i < 32 → slice_index new (next_place tail file + i) ≡ 0) → slots_in tail new ≡ slots_in tail file
+
+-- bytes below the slots change none of them
+abbrev pub SlotsStay : ℕ → List ℕ → List ℕ → Type 0
+SlotsStay tail file new =
+    length new ≡ length file → ((k : ℕ) → tail + 128 ≤ k → slice_index new k ≡ slice_index file k) → slots_in tail new ≡ slots_in tail file
+
+-- a file that ends where the slots begin has none
+abbrev pub NoSlotsBelow : ℕ → List ℕ → Type 0
+NoSlotsBelow tail file = length file ≤ tail + 128 → slots_in tail file ≡ []
+
+-- ---- what a file stands for
+
+-- so many bytes of a file under its mark
+pub record IsUnmarked (file : List ℕ) (count : ℕ) (bytes : List ℕ) : Type 0 where
+  pub len : length bytes ≡ count
+  pub front : (k : ℕ) → k < 4 → k < count → slice_index bytes k ≡ slice_index database_mark k
+  pub behind : (k : ℕ) → 4 ≤ k → k < count → slice_index bytes k ≡ slice_index file k
+
+-- what a file was, by a record and slots
+pub record IsUndone (r : Record) (slots : List Slot) (file bytes : List ℕ) : Type 0 where
+  pub len : length bytes ≡ r.length
+  pub each : (k : ℕ) → k < r.length → slice_index bytes k ≡ old_byte r slots file k
+
+abbrev pub PlainStands : List ℕ → Type 0
+PlainStands file = mark_of file ≡ None → settled file ≡ file
+
+abbrev pub UnmarkedStands : Shape → List ℕ → Type 0
+UnmarkedStands shape file = mark_of file ≡ Some (Cut shape) → last_record shape file ≡ None → IsUnmarked file (length file) (settled file)
+
+abbrev pub CutStands : Shape → Record → List ℕ → Type 0
+CutStands shape r file = mark_of file ≡ Some (Cut shape) → last_record shape file ≡ Some r → IsUnmarked file r.length (settled file)
+
+abbrev pub UndoneStands : ℕ → Record → List ℕ → Type 0
+UndoneStands tail r file =
+    mark_of file ≡ Some (Undo tail) → record_at file tail ≡ Some r → IsUndone r (slots_in tail file) file (settled file)
+
+abbrev pub OrphanStands : ℕ → List ℕ → Type 0
+OrphanStands tail file = mark_of file ≡ Some (Undo tail) → record_at file tail ≡ None → settled file ≡ file

@@ -1,0 +1,14 @@
+//! The bytes in the tail of a file that is being changed: marks, records and slots of old bytes, written and read.
+#![tactic(auto)]
+
+mod checksum;
+pub mod laws;
+mod mark;
+mod record;
+mod slot;
+#[cfg(test)]
+mod tests;
+
+pub use mark::{DATABASE_MARK, Mark, Shape, read_mark, undo_mark};
+pub use record::Record;
+pub use slot::{SlotHeader, read_slot, slot_header};

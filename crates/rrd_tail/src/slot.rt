@@ -1,0 +1,74 @@
+//! A slot: old bytes, and their offset in the file before the change.
+ghost use Rattle.std.specs.Prelude.{◌≡◌};
+ghost use Rattle.rrd_tail.specs.Slots as slots;
+ghost use Rattle.rrd_tail.specs.Reads.{IsSlotRead};
+
+use crate::checksum::{SEED, mix, mix_bytes};
+use crate::mark::number_at;
+
+/// The header of a slot.
+#[derive(Clone, Copy, PartialEq, Eq, Debug, Drop)]
+pub struct SlotHeader {
+    /// The byte of the old file at which the slot's bytes begin.
+    pub place: usize,
+    /// The number of the slot's bytes.
+    pub count: usize,
+}
+
+// Returns the checksum of a slot.
+fn slot_sum(tail: usize, place: usize, bytes: &[u8]) -> u64
+    ensures { result ≡ slots.slot_sum tail (record { place = place; bytes = bytes.now }) }
+{
+    let sum = mix(SEED, place as u64);
+    let sum = mix(sum, bytes.len() as u64);
+    let sum = mix(sum, tail as u64);
+    mix_bytes(sum, bytes)
+}
+
+/// Returns the encoded header of a slot that keeps `bytes`.
+///
+/// The old file had `bytes` from byte `place` on. The tail begins at byte `tail`.
+#[tactic(auto, unfolding(crate::specs::Slots::slot_header))]
+pub fn slot_header(tail: usize, place: usize, bytes: &[u8]) -> [u8; 32]
+    ensures { result ≡ slots.slot_header tail (record { place = place; bytes = bytes.now }) }
+{
+    let mut header = [0; 32];
+    header[..8].copy_from_slice(&place.to_be_bytes());
+    header[8..16].copy_from_slice(&bytes.len().to_be_bytes());
+    header[16..24].copy_from_slice(&tail.to_be_bytes());
+    header[24..].copy_from_slice(&slot_sum(tail, place, bytes).to_be_bytes());
+    header
+}
+
+// Checks whether a slot with these bytes is valid.
+fn is_right(tail: usize, place: usize, bytes: &[u8]) -> bool
+    ensures { result ≡ slots.is_right_slot tail (record { place = place; bytes = bytes.now }) }
+{
+    16 <= place
+        && !bytes.is_empty()
+        && bytes.len() <= 4_096
+        && place <= tail
+        && bytes.len() <= tail - place
+}
+
+/// Reads the header of the slot with which `bytes` begin.
+///
+/// Returns `None` if the bytes are no valid and complete slot of the tail that begins at byte `tail`.
+pub fn read_slot(tail: usize, bytes: &[u8]) -> Option<SlotHeader>
+    ensures { IsSlotRead tail bytes.now result }
+{
+    if bytes.len() < 32 {
+        return None;
+    }
+    let place = number_at(bytes, 0);
+    let count = number_at(bytes, 8);
+    if bytes.len() - 32 < count {
+        return None;
+    }
+    let old = &bytes[32..32 + count];
+    if is_right(tail, place, old) && bytes[..32] == slot_header(tail, place, old)[..] {
+        Some(SlotHeader { place, count })
+    } else {
+        None
+    }
+}

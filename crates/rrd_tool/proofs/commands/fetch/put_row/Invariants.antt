@@ -1,0 +1,18 @@
+use Rattle.std.proofs.Common.{◌≡◌, ◌≤◌, ◌+◌, ◌*◌, ◌++◌, List, ℕ, codes, length}
+use Rattle.rrd_fixed.specs.Puts.{Puts}
+use Rattle.rrd_fixed.specs.Text.{cell_text}
+use Rattle.rrd_spec.specs.History.Cells.{cell_at}
+use Rattle.rrd_tool.specs.Commands.Fetch.{texts_below}
+use Rattle.rrd_tool.proofs.commands.fetch.put_row.Given as goal
+
+abbrev pub invariant-loop-source : goal.invariant-loop-source
+invariant-loop-source l =
+    ((rest : List ℕ) × Puts l.fn.buffer l.buffer l.end rest l.at
+    × (texts_below (λ source. codes " " ++ cell_text (cell_at l.database.content l.archive l.time source)) l.source ++ rest
+    ≡ texts_below (λ source. codes " " ++ cell_text (cell_at l.database.content l.archive l.time source)) (length l.database.content.sources) ++ codes "\n"))
+    × (l.source ≤ length l.database.content.sources)
+    × (l.end + 49 * l.source ≤ l.at + (1 + 49 * length l.database.content.sources))
+    × (length l.buffer ≡ length l.fn.buffer)
+
+abbrev pub decreases-loop-source : goal.decreases-loop-source
+decreases-loop-source l = l.source

@@ -1,0 +1,78 @@
+-- What is laid over a byte, and clauses on results.
+use Rattle.std.proofs.Common.{◌≡◌, ℕ, zero, suc, ◌+◌, ◌-◌, ◌<◌, ◌≤◌, List, [], ◌∷◌, ◌++◌, length, drop, slice_index, Result, Ok, Err, OnOk, OnErr, refl, sym, ◌∙◌, ap, arith}
+use Rattle.std.proofs.lemmas.Bool.{lt-ltb, le-ltb, lt-leb, le-leb}
+use Rattle.std.proofs.lemmas.List.Elements.{All-head, All-tail, All-same, All-drop}
+use Rattle.std.specs.List.{All}
+use Rattle.rrd_tail.specs.Slots.{Slot, laid, all_laid}
+use Rattle.rrd_undo.specs.Undoing.{EndsBelow, slot_of}
+
+pub laid_below : (s : Slot) (k b : ℕ) → k < s.place → laid s k b ≡ b
+laid_below s k b low = rw (lt-leb s.place k low)
+
+pub laid_in : (s : Slot) (k b : ℕ) → s.place ≤ k → k < s.place + length s.bytes → laid s k b ≡ slice_index s.bytes (k - s.place)
+laid_in s k b low high = rw (le-leb s.place k low, lt-ltb k (s.place + length s.bytes) high)
+
+pub laid_above : (s : Slot) (k b : ℕ) → s.place + length s.bytes ≤ k → laid s k b ≡ b
+laid_above s k b high =
+    let low : s.place ≤ k = omega arith in
+    rw (le-leb s.place k low, le-ltb k (s.place + length s.bytes) high)
+
+pub all_laid-append : (slots : List Slot) (s : Slot) (k b : ℕ) → all_laid (slots ++ s ∷ []) k b ≡ laid s k (all_laid slots k b)
+all_laid-append [] s k b = refl
+all_laid-append (t ∷ rest) s k b = all_laid-append rest s k (laid t k b)
+
+-- what ends below a byte leaves it
+pub all_laid_above : (slots : List Slot) (done k b : ℕ) → All (EndsBelow done) slots → done ≤ k → all_laid slots k b ≡ b
+all_laid_above [] done k b below high = refl
+all_laid_above (s ∷ rest) done k b below high =
+    let head : EndsBelow done s = All-head (EndsBelow done) s rest below in
+    all_laid_above rest done k (laid s k b) (All-tail (EndsBelow done) s rest below) high ∙ laid_above s k b (omega (arith, head))
+
+-- the slots from the i-th on
+abbrev pub IsSlot : List Slot → ℕ → ℕ → List ℕ → Type 0
+IsSlot slots i place bytes = drop i slots ≡ slot_of place bytes ∷ drop (suc i) slots
+
+-- a byte that a slot reaches doesn't depend on what stood there
+pub covered_same : (slots : List Slot) (i place : ℕ) (bytes : List ℕ) (k x y : ℕ) → IsSlot slots i place bytes
+    → place ≤ k → k < place + length bytes → all_laid slots k x ≡ all_laid slots k y
+covered_same [] zero place bytes k x y is low high = cc
+covered_same [] (suc j) place bytes k x y is low high = cc
+covered_same (s ∷ rest) zero place bytes k x y is low high =
+    let e : s ≡ slot_of place bytes = cc in
+    let same : laid (slot_of place bytes) k x ≡ laid (slot_of place bytes) k y =
+    laid_in (slot_of place bytes) k x low high ∙ sym (laid_in (slot_of place bytes) k y low high) in
+    rw e (ap (all_laid rest k) same)
+covered_same (s ∷ rest) (suc j) place bytes k x y is low high =
+    covered_same rest j place bytes k (laid s k x) (laid s k y) is low high
+
+-- a slot of the list is as each of them
+pub All-slot : (P : Slot → Type 0) (slots : List Slot) (i place : ℕ) (bytes : List ℕ) → IsSlot slots i place bytes
+    → All P slots → P (slot_of place bytes)
+All-slot P slots i place bytes is all =
+    All-head P (slot_of place bytes) (drop (suc i) slots) (All-same P _ _ (sym is) (All-drop P i slots all))
+
+pub on_ok : {T E : Type 0} (r : Result T E) (P Q : Type 0) → (P → Q) → OnOk r P → OnOk r Q
+on_ok (Ok x) P Q f h = f h
+on_ok (Err e) P Q f h = tt
+
+pub on_err : {T E : Type 0} (r : Result T E) (P Q : Type 0) → (P → Q) → OnErr r P → OnErr r Q
+on_err (Ok x) P Q f h = tt
+on_err (Err e) P Q f h = f h
+
+pub always_ok : {T E : Type 0} (r : Result T E) (P : Type 0) → P → OnOk r P
+always_ok (Ok x) P h = h
+always_ok (Err e) P h = tt
+
+pub always_err : {T E : Type 0} (r : Result T E) (P : Type 0) → P → OnErr r P
+always_err (Ok x) P h = tt
+always_err (Err e) P h = h
+
+-- what follows from each of two clauses
+pub on_both : {T E : Type 0} (r : Result T E) (P Q R : Type 0) → OnOk r P → OnErr r Q → (P → R) → (Q → R) → R
+on_both (Ok x) P Q R p q f g = f p
+on_both (Err e) P Q R p q f g = g q
+
+-- what holds whatever the result is
+pub on_any : {T E : Type 0} (r : Result T E) (P : Type 0) → P → OnOk r P
+on_any (Ok x) P h = h
+on_any (Err e) P h = tt

@@ -1,0 +1,7 @@
+pub mod Laid
+pub mod Cutting
+pub mod Undone
+pub mod Turned
+pub mod Stages
+pub mod Recovering
+pub mod Gathering

@@ -1,0 +1,440 @@
+-- The stages of a change.
+use Rattle.std.proofs.Common.{◌≡◌, ◌≢◌, ◌⊎◌, Bool, true, false, IsTrue, ℕ, ◌+◌, ◌-◌, ◌<◌, ◌≤◌, min, max, List, [], ◌∷◌, length, take, drop, slice_index, slice_range, refl, sym, ◌∙◌, ap, inl, inr, arith, length-take, length-drop, get_or-take, get_or-drop}
+use Rattle.std.proofs.lemmas.Bool.{cases_lt}
+use Rattle.std.proofs.lemmas.List.{ext_get_or}
+use Rattle.std.proofs.lemmas.List.Elements.{All-nil, All-same, All-weaker}
+use Rattle.std.specs.List.{All}
+use Rattle.rrd_tail.specs.Settled.{settled}
+use Rattle.rrd_tail.specs.Slots.{Slot, all_laid, slots_in}
+use Rattle.rrd_undo.specs.Calls.{AreAny, AreAt, ArePut, AreWholeOrNot, IsSized}
+use Rattle.rrd_undo.specs.Changing.{Agreeing, ArePutBelow, Holds, IsAt, IsBroken, IsFirstPut, Knows, StandsForOld, IsLeft, IsPage, IsStarted, StaysBehind}
+use Rattle.rrd_undo.specs.Databases.{IsDatabase}
+use Rattle.rrd_undo.specs.Undoing.{EndsBelow, IsOldPage, IsTail, Paged, Turning, Turns, Undoing}
+use Rattle.rrd_undo.specs.declared.change.Change.{Change}
+use Rattle.rrd_undo.specs.declared.change.Stage.{Stage}
+use Rattle.rrd_undo.specs.declared.change.Stage.TheVariants.{Untouched, Marked, Committing, Unkept, Spoiled}
+use Rattle.rrd_undo.proofs.Cutting.{settled_plain}
+use Rattle.rrd_undo.proofs.Laid.{all_laid_above}
+use Rattle.rrd_undo.proofs.Undone.{undone_settled}
+
+no_length : (slots : List Slot) → length slots ≡ 0 → slots ≡ []
+no_length [] none = refl
+no_length (s ∷ rest) none = absurd (omega (arith, none))
+
+-- ---- the beginning
+
+pub begun : (old new file : List ℕ) → file ≡ old → Agreeing old new file 4096
+begun old new file same = record {
+  same = same;
+  within = λ k high low _. absurd (omega arith);
+  put = λ k high low _. absurd (omega arith);
+}
+
+pub marked_turning : (old new file : List ℕ) (tail : ℕ) (changed : List ℕ) (done : ℕ) → Undoing old tail 0 changed → Agreeing old new file done
+    → Turning old new tail 0 changed done
+marked_turning old new file tail changed done undoing agree =
+    let none : slots_in tail changed ≡ [] = no_length (slots_in tail changed) undoing.counted in
+    let each : (k : ℕ) → 16 ≤ k → k < length old → slice_index changed k ≡ slice_index old k = λ k high low. (rw none at (undoing.restores.each k high low)) in
+    record {
+      undoing = undoing;
+      below = All-same (EndsBelow done) (slots_in tail changed) [] none (All-nil (EndsBelow done));
+      first = λ k high page low. each k high low;
+      put = λ k high low within. each k (omega arith) (agree.within k high low within) ∙ agree.put k high low within;
+    }
+
+-- ---- a page
+
+-- a page's bytes, in a file that has them there
+put_page : (new file changed : List ℕ) (at : ℕ) (page : List ℕ) → IsPage new at page → ArePutBelow at new file
+    → ((i : ℕ) → i < length page → slice_index changed (at + i) ≡ slice_index page i) → ((k : ℕ) → k < at → slice_index changed k ≡ slice_index file k)
+    → ArePutBelow (at + 4096) new changed
+put_page new file changed at page is holds put same = λ k high low within.
+    elim (cases_lt k at) as (λ _. slice_index changed k ≡ slice_index new k) [
+      | inl below ↦ same k below ∙ holds k high below within
+      | inr above ↦
+          let there : at + (k - at) ≡ k = omega arith in
+          let inside : k - at < length page = omega (arith, is.len) in
+          ap (slice_index changed) (sym there) ∙ put (k - at) inside ∙ is.each (k - at) inside ∙ ap (slice_index new) there
+    ]
+
+ends_more : (done more : ℕ) → done ≤ more → (slots : List Slot) → All (EndsBelow done) slots → All (EndsBelow more) slots
+ends_more done more le slots all = All-weaker (EndsBelow done) (EndsBelow more) (λ s below. omega (arith, below)) slots all
+
+pub turned_turning : (old new : List ℕ) (tail slots after at : ℕ) (page file changed : List ℕ) → 4096 ≤ at → IsPage new at page → at + length page ≤ tail
+    → Turning old new tail slots file at → Turns old tail after at page file changed → Turning old new tail after changed (at + 4096)
+turned_turning old new tail slots after at page file changed high is within t turns = record {
+  undoing = turns.undoing;
+  below = turns.below (at + 4096) (omega (arith, is.len)) (ends_more at (at + 4096) (omega arith) (slots_in tail file) t.below);
+  first = λ k from page_k low. turns.same k (omega arith) (inl (omega arith)) ∙ t.first k from page_k low;
+  put = put_page new file changed at page is t.put turns.put (λ k low. turns.same k (omega arith) (inl low));
+}
+
+pub put_below : (new file changed : List ℕ) (at : ℕ) (page : List ℕ) → IsPage new at page → ArePut at page file changed → ArePutBelow at new file
+    → ArePutBelow (at + 4096) new changed
+put_below new file changed at page is put holds = put_page new file changed at page is holds put.inside (λ k low. put.outside k (inl low))
+
+-- a page that is as it was
+pub same_holds : (s : Stage) (old new : List ℕ) (tail slots : ℕ) (file : List ℕ) (at : ℕ) (page : List ℕ) → 4096 ≤ at → IsPage new at page
+    → AreAt file at (min (length old - at) (length page)) page → Holds s old new tail slots file at → Holds s old new tail slots file (at + 4096)
+same_holds Untouched old new tail slots file at page high is are holds = record {
+  same = holds.same;
+  within = λ k from low within. elim (cases_lt k at) as (λ _. k < length old) [
+    | inl below ↦ holds.within k from below within
+    | inr above ↦ omega (arith, is.len, are.len)
+  ];
+  put = λ k from low within. elim (cases_lt k at) as (λ _. slice_index old k ≡ slice_index new k) [
+    | inl below ↦ holds.put k from below within
+    | inr above ↦
+        let there : at + (k - at) ≡ k = omega arith in
+        let inside : k - at < length page = omega (arith, is.len) in
+        ap (λ (f : List ℕ). slice_index f k) (sym holds.same) ∙ ap (slice_index file) (sym there) ∙ sym (are.each (k - at) (omega (arith, are.len)))
+        ∙ is.each (k - at) inside ∙ ap (slice_index new) there
+  ];
+}
+same_holds Marked old new tail slots file at page high is are holds = (
+  holds.0,
+  record {
+    undoing = holds.1.undoing;
+    below = ends_more at (at + 4096) (omega arith) (slots_in tail file) holds.1.below;
+    first = holds.1.first;
+    put = put_page new file file at page is holds.1.put (λ i low. sym (are.each i (omega (arith, are.len)))) (λ k low. refl);
+  },
+)
+same_holds Committing old new tail slots file at page high is are holds = holds
+same_holds Unkept old new tail slots file at page high is are holds = holds
+same_holds Spoiled old new tail slots file at page high is are holds =
+    (holds.0, put_page new file file at page is holds.1 (λ i low. sym (are.each i (omega (arith, are.len)))) (λ k low. refl))
+
+-- what is read of a page that was not changed is the old page
+pub old_page : (s : Stage) (old new : List ℕ) (tail slots : ℕ) (file : List ℕ) (at count : ℕ) (bytes : List ℕ) → 4096 ≤ at → count ≤ length old - at
+    → AreAt file at count bytes → Holds s old new tail slots file at → IsDatabase old → AreAt old at count bytes
+old_page Untouched old new tail slots file at count bytes high few are holds is = rw holds.same at are
+old_page Marked old new tail slots file at count bytes high few are holds is = record {
+  len = are.len;
+  each = λ i low. are.each i low
+      ∙ sym (all_laid_above (slots_in tail file) at (at + i) (slice_index file (at + i)) holds.1.below (omega arith))
+      ∙ holds.1.undoing.restores.each (at + i) (omega arith) (omega arith);
+}
+old_page Committing old new tail slots file at count bytes high few are holds is = absurd holds
+old_page Unkept old new tail slots file at count bytes high few are holds is = absurd holds
+old_page Spoiled old new tail slots file at count bytes high few are holds is = absurd (holds.0 is)
+
+pub is_old_page : (old : List ℕ) (at : ℕ) (page bytes : List ℕ) → 16 ≤ at → length page ≤ 4096 → AreAt old at (min (length old - at) (length page)) bytes → IsOldPage old at bytes
+is_old_page old at page bytes high few are = record {
+  behind = high;
+  few = omega (arith, are.len);
+  within = λ some. omega (arith, are.len);
+  are = record { len = refl; each = λ i low. are.each i (omega (arith, are.len)) };
+}
+
+-- ---- a call fails
+
+pub holds_left : (s : Stage) (old new : List ℕ) (tail slots count : ℕ) (file : List ℕ) (at : ℕ) → IsTail old tail → Holds s old new tail slots file at → IsLeft s old tail count file
+holds_left Untouched old new tail slots count file at is_tail holds = inl holds.same
+holds_left Marked old new tail slots count file at is_tail holds = undone_settled old tail file is_tail holds.1.undoing.marked holds.1.undoing.restores
+holds_left Committing old new tail slots count file at is_tail holds = absurd holds
+holds_left Unkept old new tail slots count file at is_tail holds = absurd holds
+holds_left Spoiled old new tail slots count file at is_tail holds = holds.0
+
+pub holds_stands : (s : Stage) (old new : List ℕ) (tail slots : ℕ) (file : List ℕ) (at : ℕ) → IsTail old tail → Holds s old new tail slots file at → IsDatabase old → settled file ≡ old
+holds_stands Untouched old new tail slots file at is_tail holds is = ap settled holds.same ∙ settled_plain old is
+holds_stands Marked old new tail slots file at is_tail holds is = undone_settled old tail file is_tail holds.1.undoing.marked holds.1.undoing.restores
+holds_stands Committing old new tail slots file at is_tail holds is = absurd holds
+holds_stands Unkept old new tail slots file at is_tail holds is = absurd holds
+holds_stands Spoiled old new tail slots file at is_tail holds is = absurd (holds.0 is)
+
+-- a started change that isn't of a database
+pub other_spoiled : (s : Stage) (old new : List ℕ) (tail slots : ℕ) (file : List ℕ) (at : ℕ) → (s ≢ Marked) → IsStarted s → Holds s old new tail slots file at
+    → (IsDatabase old → ⊥) × ArePutBelow at new file
+other_spoiled Untouched old new tail slots file at other started holds = absurd started
+other_spoiled Marked old new tail slots file at other started holds = absurd (other refl)
+other_spoiled Committing old new tail slots file at other started holds = absurd started
+other_spoiled Unkept old new tail slots file at other started holds = absurd started
+other_spoiled Spoiled old new tail slots file at other started holds = holds
+
+pub other_holds : (s : Stage) (old new : List ℕ) (tail slots : ℕ) (file : List ℕ) (at : ℕ) → (s ≢ Marked) → IsStarted s
+    → (IsDatabase old → ⊥) → ArePutBelow at new file → Holds s old new tail slots file at
+other_holds Untouched old new tail slots file at other started none put = absurd started
+other_holds Marked old new tail slots file at other started none put = absurd (other refl)
+other_holds Committing old new tail slots file at other started none put = absurd started
+other_holds Unkept old new tail slots file at other started none put = absurd started
+other_holds Spoiled old new tail slots file at other started none put = (none, put)
+
+pub other_left : (s : Stage) (old : List ℕ) (tail count : ℕ) (file : List ℕ) → (s ≢ Marked) → IsStarted s → (IsDatabase old → ⊥) → IsLeft s old tail count file
+other_left Untouched old tail count file other started none = absurd started
+other_left Marked old tail count file other started none = absurd (other refl)
+other_left Committing old tail count file other started none = absurd started
+other_left Unkept old tail count file other started none = absurd started
+other_left Spoiled old tail count file other started none = none
+
+-- ---- the end
+
+-- the first page is put, and the others are in the file
+pub put_whole : (new file last first : List ℕ) → length last ≡ length new → ((k : ℕ) → 4096 ≤ k → k < length new → slice_index file k ≡ slice_index new k)
+    → AreAt new 0 (min 4096 (length new)) first → ArePut 0 first file last → last ≡ new
+put_whole new file last first len rest are put =
+    ext_get_or 0 last new len (λ k low. elim (cases_lt k (length first)) as (λ _. slice_index last k ≡ slice_index new k) [
+      | inl inside ↦
+          let there : 0 + k ≡ k = omega arith in
+          ap (slice_index last) (sym there) ∙ put.inside k inside ∙ are.each k (omega (arith, are.len)) ∙ ap (slice_index new) there
+      | inr behind ↦ put.outside k (inr (omega arith)) ∙ rest k (omega (arith, are.len, len)) (omega (arith, len))
+    ])
+
+pub spoiled_end : (new file cut last first : List ℕ) (n done : ℕ) → n ≡ length new → length new ≤ done → AreAt new 0 (min 4096 (length new)) first → ArePutBelow done new file
+    → IsSized n file cut → ArePut 0 first cut last → last ≡ new
+spoiled_end new file cut last first n done counts all are holds sized put =
+    put_whole new cut last first (omega (arith, put.len, are.len, sized.len, counts))
+    (λ k high low. sized.below k (omega (arith, counts)) ∙ holds k high (omega arith) low) are put
+
+module _ (old new file first : List ℕ) (done : ℕ) (agree : Agreeing old new file done) (all : length new ≤ done) (longer : length old ≤ length new)
+    (are : AreAt new 0 (min 4096 (length new)) first) where
+  alone_rest : (k : ℕ) → 4096 ≤ k → k < length new → slice_index file k ≡ slice_index new k
+  alone_rest k high low = ap (λ (f : List ℕ). slice_index f k) agree.same ∙ agree.put k high (omega arith) low
+
+  -- bytes behind the first page are no more than there were
+  alone_len : 4096 < length new → length new ≤ length old
+  alone_len more =
+      let last : length new - 1 < length old = agree.within (length new - 1) (omega arith) (omega arith) (omega arith) in
+      omega arith
+
+  pub alone_put : (last : List ℕ) → ArePut 0 first file last → last ≡ new
+  alone_put last put =
+      let old_len : length file ≡ length old = ap length agree.same in
+      let len : length last ≡ length new = elim (cases_lt 4096 (length new)) as (λ _. length last ≡ length new) [
+        | inl more ↦ omega (arith, put.len, are.len, old_len, alone_len more)
+        | inr few ↦ omega (arith, put.len, are.len, old_len)
+      ] in
+      put_whole new file last first len alone_rest are put
+
+  -- the file has them
+  pub alone_same : (old_first : List ℕ) → AreAt old 0 (min 4096 (length old)) old_first → length old ≡ length new → first ≡ old_first → file ≡ new
+  alone_same old_first old_are len same =
+      agree.same ∙ ext_get_or 0 old new len (λ k low. elim (cases_lt k 4096) as (λ _. slice_index old k ≡ slice_index new k) [
+        | inl inside ↦
+            let there : 0 + k ≡ k = omega arith in
+            ap (slice_index old) (sym there) ∙ sym (old_are.each k (omega arith)) ∙ ap (λ (f : List ℕ). slice_index f k) (sym same)
+            ∙ are.each k (omega (arith, len)) ∙ ap (slice_index new) there
+        | inr behind ↦ agree.put k behind (omega (arith, len)) (omega (arith, len))
+      ])
+
+  pub alone_left : (last : List ℕ) → (last ≡ old) ⊎ (last ≡ new) → IsFirstPut old (length new) last
+  alone_left last either = elim either as (λ _. IsFirstPut old (length new) last) [
+    | inl same ↦ inl same
+    | inr put ↦ inr (
+      ap length put,
+      longer,
+      λ k high low. ap (λ (f : List ℕ). slice_index f k) put ∙ sym (agree.put k high (omega arith) (omega arith)),
+    )
+  ]
+
+-- what has the new first page's bytes has a database's
+pub database_of : (new first : List ℕ) → AreAt new 0 (min 4096 (length new)) first → IsDatabase first → IsDatabase new
+database_of new first are is = record {
+  enough = omega (arith, is.enough, are.len);
+  begins = λ i low.
+      let there : 0 + i ≡ i = omega arith in
+      ap (slice_index new) (sym there) ∙ sym (are.each i (omega (arith, is.enough, are.len))) ∙ is.begins i low;
+}
+
+-- and the other way
+pub first_database : (old first : List ℕ) → AreAt old 0 (min 4096 (length old)) first → IsDatabase old → IsDatabase first
+first_database old first are is = record {
+  enough = omega (arith, is.enough, are.len);
+  begins = λ i low.
+      let there : 0 + i ≡ i = omega arith in
+      are.each i (omega (arith, is.enough)) ∙ ap (slice_index old) there ∙ is.begins i low;
+}
+
+-- ---- the first page of a marked file
+
+range_length : (xs : List ℕ) (from to : ℕ) → to ≤ length xs → length (slice_range xs from to) ≡ to - from
+range_length xs from to within = omega (arith, length-take (to - from) (drop from xs), length-drop from xs)
+
+range_at : (xs : List ℕ) (from to i : ℕ) → i < to - from → slice_index (slice_range xs from to) i ≡ slice_index xs (from + i)
+range_at xs from to i low = get_or-take (to - from) (drop from xs) i 0 low ∙ get_or-drop from xs i 0
+
+-- the pages differ from `from` on and below `end` alone, and there the new page has these bytes
+module _ (old new : List ℕ) (tail slots done : ℕ) (file first old_first : List ℕ) (from end : ℕ) (is : IsDatabase old) (t : Turning old new tail slots file done) (all : length new ≤ done)
+    (below : length new ≤ tail) (are : AreAt new 0 (min 4096 (length new)) first) (old_are : AreAt old 0 (min 4096 (length old)) old_first)
+    (behind : 16 ≤ from) (order : from ≤ end) (within_old : from ≤ length old_first) (within : end ≤ length first)
+    (same_below : (k : ℕ) → 16 ≤ k → k < from → slice_index old_first k ≡ slice_index first k)
+    (same_above : (k : ℕ) → end ≤ k → k < length first → (k < length old_first) × (slice_index old_first k ≡ slice_index first k)) where
+  new_at : (k : ℕ) → k < length first → slice_index first k ≡ slice_index new k
+  new_at k low =
+      let there : 0 + k ≡ k = omega arith in
+      are.each k (omega (arith, are.len)) ∙ ap (slice_index new) there
+
+  old_at : (k : ℕ) → k < length old_first → slice_index old_first k ≡ slice_index old k
+  old_at k low =
+      let there : 0 + k ≡ k = omega arith in
+      old_are.each k (omega (arith, old_are.len)) ∙ ap (slice_index old) there
+
+  -- a byte of the file's first page that is the same in both
+  stays : (k : ℕ) → 16 ≤ k → k < length first → (k < from) ⊎ (end ≤ k) → slice_index file k ≡ slice_index new k
+  stays k high low outside =
+      let both : (k < length old_first) × (slice_index old_first k ≡ slice_index first k) = elim outside as (λ _. (k < length old_first) × (slice_index old_first k ≡ slice_index first k)) [
+        | inl under ↦ (omega (arith, under, within_old), same_below k high under)
+        | inr over ↦ same_above k over low
+      ] in
+      t.first k high (omega (arith, are.len, low)) (omega (arith, both.0, old_are.len)) ∙ sym (old_at k both.0) ∙ both.1 ∙ new_at k low
+
+  -- a byte behind it
+  follows : (k : ℕ) → length first ≤ k → k < length new → slice_index file k ≡ slice_index new k
+  follows k high low = t.put k (omega (arith, are.len)) (omega arith) low
+
+  pub first_same : from ≡ end → Paged old new tail slots file
+  first_same none = record {
+    undoing = t.undoing;
+    put = λ k high low. elim (cases_lt k (length first)) as (λ _. slice_index file k ≡ slice_index new k) [
+      | inl page ↦ elim (cases_lt k from) as (λ _. slice_index file k ≡ slice_index new k) [
+        | inl under ↦ stays k high page (inl under)
+        | inr over ↦ stays k high page (inr (omega (arith, none, over)))
+      ]
+      | inr far ↦ follows k far low
+    ];
+  }
+
+  module _ (bytes rest : List ℕ) (last : ℕ) (last_is : last ≡ min end (length old_first)) (bytes_are : bytes ≡ slice_range old_first from last) (rest_are : rest ≡ slice_range first from end) where
+    bytes_length : length bytes ≡ last - from
+    bytes_length = ap length bytes_are ∙ range_length old_first from last (omega (arith, last_is))
+
+    rest_length : length rest ≡ end - from
+    rest_length = ap length rest_are ∙ range_length first from end within
+
+    pub first_old_page : IsOldPage old from bytes × (length bytes ≡ min (length old - from) (length rest)) × (from + length rest ≤ tail)
+    first_old_page = (
+      record {
+        behind = behind;
+        few = omega (arith, bytes_length, last_is, old_are.len);
+        within = λ some. omega (arith, bytes_length, last_is, old_are.len);
+        are = record {
+          len = refl;
+          each = λ i low. ap (λ (b : List ℕ). slice_index b i) bytes_are ∙ range_at old_first from last i (omega (arith, bytes_length))
+              ∙ old_at (from + i) (omega (arith, bytes_length, last_is));
+        };
+      },
+      omega (arith, bytes_length, rest_length, last_is, old_are.len, are.len, within, order),
+      omega (arith, rest_length, are.len, within, order, below),
+    )
+
+    pub first_turned : (after : ℕ) (changed : List ℕ) → Turns old tail after from rest file changed → Paged old new tail after changed
+    first_turned after changed turns = record {
+      undoing = turns.undoing;
+      put = λ k high low. elim (cases_lt k from) as (λ _. slice_index changed k ≡ slice_index new k) [
+        | inl under ↦ turns.same k (omega (arith, below)) (inl under) ∙ stays k high (omega (arith, within, order)) (inl under)
+        | inr over ↦ elim (cases_lt k end) as (λ _. slice_index changed k ≡ slice_index new k) [
+          | inl inside ↦
+              let there : from + (k - from) ≡ k = omega (arith, over) in
+              let few : k - from < end - from = omega (arith, over, inside) in
+              ap (slice_index changed) (sym there) ∙ turns.put (k - from) (omega (arith, rest_length, few)) ∙ ap (λ (b : List ℕ). slice_index b (k - from)) rest_are
+              ∙ range_at first from end (k - from) few ∙ ap (slice_index first) there ∙ new_at k (omega (arith, within, inside))
+          | inr above ↦
+              turns.same k (omega (arith, below)) (inr (omega (arith, rest_length, order, above)))
+              ∙ elim (cases_lt k (length first)) as (λ _. slice_index file k ≡ slice_index new k) [
+                | inl page ↦ stays k high page (inr above)
+                | inr far ↦ follows k far low
+              ]
+        ]
+      ];
+    }
+
+-- ---- taking back
+
+pub restored_first : (old old_first file last : List ℕ) (old_length count : ℕ) → AreAt old 0 (min 4096 (length old)) old_first → old_length ≡ length old → old_length ≡ count
+    → IsFirstPut old count file → ArePut 0 old_first file last → last ≡ old
+restored_first old old_first file last old_length count are old_len same_len first put =
+    let behind : StaysBehind old file = elim first as (λ _. StaysBehind old file) [
+      | inl same ↦ λ k high low. ap (λ (f : List ℕ). slice_index f k) same
+      | inr was ↦ was.2
+    ] in
+    let len : length file ≡ length old = elim first as (λ _. length file ≡ length old) [
+      | inl same ↦ ap length same
+      | inr was ↦ omega (arith, was.0, old_len, same_len)
+    ] in
+    put_whole old file last old_first (omega (arith, put.len, are.len, len)) behind are put
+
+pub restored_length : (old file : List ℕ) (n old_length count : ℕ) → n ≡ length file → n ≡ old_length → old_length ≡ length old → (old_length ≡ count → ⊥) → IsFirstPut old count file → file ≡ old
+restored_length old file n old_length count len same old_len other first = elim first as (λ _. file ≡ old) [
+  | inl is ↦ is
+  | inr was ↦ absurd (other (omega (arith, was.0, len, same, old_len)))
+]
+
+pub restored : (old old_first file changed last : List ℕ) (old_length : ℕ) → AreAt old 0 (min 4096 (length old)) old_first → StaysBehind old file
+    → ArePut 0 old_first file changed → IsSized old_length changed last → old_length ≡ length old → last ≡ old
+restored old old_first file changed last old_length are behind put cut old_len =
+    ext_get_or 0 last old (cut.len ∙ old_len) (λ k low.
+    let within : k < length old = omega (arith, cut.len, old_len) in
+    cut.below k (omega (arith, cut.len)) ∙ (elim (cases_lt k (length old_first)) as (λ _. slice_index changed k ≡ slice_index old k) [
+      | inl inside ↦
+          let there : 0 + k ≡ k = omega arith in
+          ap (slice_index changed) (sym there) ∙ put.inside k inside ∙ are.each k (omega (arith, are.len)) ∙ ap (slice_index old) there
+      | inr out ↦ put.outside k (inr (omega arith)) ∙ behind k (omega (arith, are.len)) within
+    ]))
+
+-- the first page, as it is read
+pub first_read : (old opened bytes : List ℕ) (n count : ℕ) → n ≡ length old → opened ≡ old → count ≡ min n 4096 → AreAt opened 0 count bytes → AreAt old 0 (min 4096 (length old)) bytes
+first_read old opened bytes n count len same counts are =
+    let e : count ≡ min 4096 (length old) = omega (arith, len, counts) in
+    let are_old : AreAt old 0 count bytes = rw same at are in
+    rw (← e) are_old
+
+-- the first page is a page
+pub front_few : (old old_first taken : List ℕ) → AreAt old 0 (min 4096 (length old)) old_first → taken ≡ old_first → length taken ≤ 4096
+front_few old old_first taken are same = rw same (omega (arith, are.len))
+
+pub spoiled_end_synced : (new file cut synced last first : List ℕ) (n done : ℕ) → n ≡ length new → length new ≤ done → AreAt new 0 (min 4096 (length new)) first → ArePutBelow done new file
+    → IsSized n file cut → synced ≡ cut → ArePut 0 first synced last → last ≡ new
+spoiled_end_synced new file cut synced last first n done counts all are holds sized same put =
+    spoiled_end new file cut last first n done counts all are holds sized (rw same at put)
+
+pub spoiled_end_kept : (new file cut synced last kept first : List ℕ) (n done : ℕ) → n ≡ length new → length new ≤ done → AreAt new 0 (min 4096 (length new)) first
+    → ArePutBelow done new file → IsSized n file cut → synced ≡ cut → ArePut 0 first synced last → kept ≡ last → kept ≡ new
+spoiled_end_kept new file cut synced last kept first n done counts all are holds sized same put again =
+    again ∙ spoiled_end_synced new file cut synced last first n done counts all are holds sized same put
+
+pub not_true : (b : Bool) → b ≡ false → IsTrue b → ⊥
+not_true true e t = cc
+not_true false e t = cc
+
+-- ---- changes
+
+pub at_left : (old new : List ℕ) (done : ℕ) (c : Change) (f : List ℕ) → IsAt old new done c f → IsBroken old c f × StandsForOld old f
+at_left old new done c f is_at = (
+  record { knows = is_at.knows; left = holds_left c.stage old new c.tail.place c.tail.slots c.length f done is_at.knows.tail is_at.holds },
+  λ is. holds_stands c.stage old new c.tail.place c.tail.slots f done is_at.knows.tail is_at.holds is,
+)
+
+knows_page : (old : List ℕ) (c d : Change) → d ≡ record c { old_page = d.old_page } → Knows old c → Knows old d
+knows_page old c d frame knows = rw frame (record { old_length = knows.old_length; old_first = knows.old_first; tail = knows.tail; below = knows.below })
+
+pub at_same : (old new : List ℕ) (done : ℕ) (c d : Change) (f g : List ℕ) → d ≡ record c { old_page = d.old_page } → g ≡ f → IsAt old new done c f → IsAt old new done d g
+at_same old new done c d f g frame same is_at =
+    let knows : Knows old d = knows_page old c d frame is_at.knows in
+    let holds : Holds d.stage old new d.tail.place d.tail.slots g done = rw (frame, same) is_at.holds in
+    record { knows = knows; holds = holds }
+
+pub at_page_same : (old new : List ℕ) (at : ℕ) (page : List ℕ) (c d : Change) (f g : List ℕ) → 4096 ≤ at → d ≡ record c { old_page = d.old_page } → g ≡ f → IsPage new at page
+    → page ≡ d.old_page.items → AreAt f at (min (c.old_length - at) (length page)) d.old_page.items → IsAt old new at c f → IsAt old new (at + 4096) d g
+at_page_same old new at page c d f g high frame same is page_is are is_at =
+    let are_page : AreAt f at (min (length old - at) (length page)) page = rw (← is_at.knows.old_length) (record {
+      len = ap length page_is ∙ are.len;
+      each = λ i low. ap (λ (b : List ℕ). slice_index b i) page_is ∙ are.each i low;
+    }) in
+    let knows : Knows old d = knows_page old c d frame is_at.knows in
+    let more : Holds c.stage old new c.tail.place c.tail.slots f (at + 4096) = same_holds c.stage old new c.tail.place c.tail.slots f at page high is are_page is_at.holds in
+    let holds : Holds d.stage old new d.tail.place d.tail.slots g (at + 4096) = rw (frame, same) more in
+    record { knows = knows; holds = holds }
+
+-- the old page at hand
+pub at_old_page : (old new : List ℕ) (at : ℕ) (page bytes kept : List ℕ) (c : Change) (f : List ℕ) → 4096 ≤ at → AreAt f at (min (c.old_length - at) (length page)) bytes → IsAt old new at c f
+    → kept ≡ bytes → IsDatabase old → AreAt old at (min (length old - at) (length page)) kept
+at_old_page old new at page bytes kept c f high are is_at same is =
+    let are_old : AreAt f at (min (length old - at) (length page)) bytes = rw (← is_at.knows.old_length) are in
+    rw same (old_page c.stage old new c.tail.place c.tail.slots f at (min (length old - at) (length page)) bytes high (omega arith) are_old is_at.holds is)
+
+pub page_of : (old : List ℕ) (at : ℕ) (page bytes taken : List ℕ) → 16 ≤ at → length page ≤ 4096 → AreAt old at (min (length old - at) (length page)) bytes → taken ≡ bytes
+    → IsOldPage old at taken × (length taken ≡ min (length old - at) (length page))
+page_of old at page bytes taken high few are same = rw same (is_old_page old at page bytes high few are, are.len)
+
+pub same_length : (c d : Change) → d ≡ record c { old_page = d.old_page } → d.length ≡ c.length
+same_length c d frame = ap (λ (x : Change). x.length) frame

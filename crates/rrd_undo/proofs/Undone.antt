@@ -1,0 +1,365 @@
+-- Files with an undo mark.
+use Rattle.std.proofs.Common.{◌≡◌, ◌⊎◌, ℕ, suc, ◌+◌, ◌-◌, ◌*◌, ◌%◌, ◌^◌, ◌<◌, ◌≤◌, min, max, List, [], ◌∷◌, ◌++◌, length, take, drop, slice_index, Option, Some, None, refl, sym, ◌∙◌, ap, inl, inr, arith, length-take, length-drop, length-append, replicate, get_or-take, get_or-drop}
+use Rattle.std.proofs.lemmas.Bool.{cases_lt, lt-ltb, le-ltb}
+use Rattle.std.proofs.lemmas.List.{ext_get_or, get_or-append-add, get_or_append_left, length-replicate, take_all}
+use Rattle.std.proofs.lemmas.List.Elements.{All-nil, All-push, All-same, All-weaker}
+use Rattle.std.specs.List.{All}
+use Rattle.rrd_tail.specs.Bytes.{StandsAt}
+use Rattle.rrd_tail.specs.Laws.{IsUndone}
+use Rattle.rrd_tail.specs.Marks.{cut_mark, database_mark, mark_of, shape_for, size_of, undo_mark}
+use Rattle.rrd_tail.specs.Records.{IsRightAt, last_record, record_at, record_bytes, shaped_bytes}
+use Rattle.rrd_tail.specs.Settled.{old_byte, settled}
+use Rattle.rrd_tail.specs.Slots.{IsRightSlot, Slot, all_laid, laid, slot_bytes, slot_header, slot_place, slots_in}
+use Rattle.rrd_tail.specs.declared.mark.Shape.{Shape}
+use Rattle.rrd_tail.specs.declared.mark.Shape.TheVariants.{Short, Long}
+use Rattle.rrd_tail.specs.declared.record.Record.{Record}
+use Rattle.rrd_tail.proofs.Recorded.{length-record}
+use Rattle.rrd_tail.proofs.Slotted.{length-slot}
+use Rattle.rrd_undo.specs.Calls.{AreAny, AreAt, ArePut, AreWholeOrNot, IsFrontPut}
+use Rattle.rrd_undo.specs.Databases.{IsDatabase}
+use Rattle.rrd_undo.specs.Undoing.{EndsBelow, IsCut, IsOldPage, IsReady, IsRecorded, IsTail, IsToCut, Keeps, Paged, Restores, Turns, Undoing, record_of, slot_of}
+use Rattle.rrd_undo.proofs.Cutting.{cut_mark_length, cut_put_settled, cut_settled, put_stands, settled_plain, stands_same, to_cut_settled}
+use Rattle.rrd_undo.proofs.Laid.{all_laid-append, laid_above, laid_below, laid_in}
+use Rattle.rrd_tail.proofs.Lemmas.{cut_slot_is_not_counted, last_record_is_read, no_slots_below, record_is_read, record_stands, slot_is_appended, slots_stay, undo_mark_is_read, undo_mark_length, undone_stands, zeros_end_slots}
+
+-- a record that is in a file is in another one with the same bytes there
+pub record_same : (tail at : ℕ) (r : Record) (f g : List ℕ) → tail ≡ at → at < 2 ^ 64 → length f ≤ length g
+    → ((k : ℕ) → at ≤ k → k < at + 64 → slice_index g k ≡ slice_index f k) → record_at f at ≡ Some r → record_at g at ≡ Some r
+record_same tail at r f g _ fits longer same is =
+    let stands = record_stands at r f is in
+    let len : length (record_bytes r) ≡ 64 = omega (arith, length-record r, stands.2) in
+    record_is_read at r g fits stands.2 stands.1 (stands_same at (record_bytes r) f g longer (λ k high low. same k high (omega (arith, len))) stands.0)
+
+-- the first sixteen bytes
+pub sixteen_at : (old : List ℕ) (k : ℕ) → k < 16 → slice_index (take 16 old) k ≡ slice_index old k
+sixteen_at old k low = get_or-take 16 old k 0 low
+
+pub old_byte_first : (r : Record) (slots : List Slot) (file : List ℕ) (k : ℕ) → k < 16 → old_byte r slots file k ≡ slice_index r.first k
+old_byte_first r slots file k low = rw (lt-ltb k 16 low)
+
+pub old_byte_rest : (r : Record) (slots : List Slot) (file : List ℕ) (k : ℕ) → 16 ≤ k → old_byte r slots file k ≡ all_laid slots k (slice_index file k)
+old_byte_rest r slots file k high = rw (le-ltb k 16 high)
+
+-- such a file stands for its old bytes
+pub undone_settled : (old : List ℕ) (tail : ℕ) (f : List ℕ) → IsTail old tail → StandsAt f 0 (undo_mark tail) → Restores old tail f → settled f ≡ old
+undone_settled old tail f is_tail marked restores =
+    let r = record_of tail old in
+    let slots = slots_in tail f in
+    let is : IsUndone r slots f (settled f) = undone_stands tail r f (undo_mark_is_read tail f is_tail.fits marked) restores.recorded in
+    ext_get_or 0 (settled f) old is.len (λ k low.
+    let within : k < length old = omega (arith, is.len) in
+    is.each k within ∙ (elim (cases_lt k 16) as (λ _. old_byte r slots f k ≡ slice_index old k) [
+      | inl first ↦ old_byte_first r slots f k first ∙ sixteen_at old k first
+      | inr rest ↦ old_byte_rest r slots f k rest ∙ restores.each k rest within
+    ]))
+
+-- what the first sixteen bytes are doesn't matter, nor what an undo mark stands over
+pub restores_same : (old : List ℕ) (tail : ℕ) (f g : List ℕ) → IsDatabase old → IsTail old tail → length g ≡ length f
+    → ((k : ℕ) → 16 ≤ k → slice_index g k ≡ slice_index f k) → Restores old tail f → Restores old tail g
+restores_same old tail f g is is_tail len same restores =
+    let slots : slots_in tail g ≡ slots_in tail f = slots_stay tail f g len (λ k high. same k (omega arith)) in
+    record {
+      reaches = omega (arith, restores.reaches, len);
+      recorded = record_same tail tail (record_of tail old) f g refl is_tail.fits (omega (arith, len))
+          (λ k high low. same k (omega (arith, is.enough, is_tail.below))) restores.recorded;
+      each = λ k high low. rw (slots, same k high) (restores.each k high low);
+    }
+
+pub marked_again : (old : List ℕ) (tail : ℕ) (f g : List ℕ) → IsDatabase old → IsTail old tail → Restores old tail f → ArePut 0 (undo_mark tail) f g
+    → settled g ≡ old
+marked_again old tail f g is is_tail restores put =
+    let len : length g ≡ length f = omega (arith, put.len, undo_mark_length tail, restores.reaches, is.enough, is_tail.below) in
+    undone_settled old tail g is_tail (put_stands 0 (undo_mark tail) f g put)
+    (restores_same old tail f g is is_tail len (λ k high. put.outside k (inr (omega (arith, undo_mark_length tail)))) restores)
+
+-- ---- marking a file
+
+replicate_zeros : length (replicate {A = ℕ} 64 0) ≡ 64
+replicate_zeros = length-replicate {A = ℕ} 64 0
+
+pub shaped_length : (s : Shape) (r : Record) → length r.first ≡ 16 → length (shaped_bytes s r) ≡ size_of s
+shaped_length Short r first = omega (arith, length-record r)
+shaped_length Long r first = omega (arith, length-record r, length-append (record_bytes r) (replicate 64 0), replicate_zeros)
+
+pub shaped_stands : (s : Shape) (at : ℕ) (r : Record) (f : List ℕ) → StandsAt f at (shaped_bytes s r) → StandsAt f at (record_bytes r)
+shaped_stands Short at r f stands = stands
+shaped_stands Long at r f stands =
+    let len = length-append (record_bytes r) (replicate 64 0) in
+    record {
+      within = omega (arith, len, stands.within);
+      each = λ i low. stands.each i (omega (arith, len)) ∙ get_or_append_left (record_bytes r) (replicate 64 0) 0 i low;
+    }
+
+pub size_some : (s : Shape) → (64 ≤ size_of s) × (size_of s ≤ 128)
+size_some Short = (omega arith, omega arith)
+size_some Long = (omega arith, omega arith)
+
+pub length-sixteen : (old : List ℕ) → 16 ≤ length old → length (take 16 old) ≡ 16
+length-sixteen old enough = omega (arith, length-take 16 old)
+
+-- the first sixteen bytes are those of the first page
+pub sixteen_of : (old bytes : List ℕ) → 16 ≤ length old → AreAt old 0 (min 4096 (length old)) bytes → take 16 bytes ≡ take 16 old
+sixteen_of old bytes enough are =
+    let len : length (take 16 bytes) ≡ length (take 16 old) = omega (arith, length-take 16 bytes, length-take 16 old, are.len) in
+    ext_get_or 0 (take 16 bytes) (take 16 old) len (λ k low.
+    let first : k < 16 = omega (arith, length-take 16 bytes) in
+    let there : 0 + k ≡ k = omega arith in
+    sixteen_at bytes k first ∙ are.each k (omega arith) ∙ ap (slice_index old) there ∙ sym (sixteen_at old k first))
+
+pub record_is : (old bytes first : List ℕ) (place n : ℕ) → 16 ≤ length old → AreAt old 0 (min 4096 (length old)) bytes → n ≡ length old → first ≡ take 16 bytes
+    → (let r : Record = record { place = place; length = n; first = first } in r) ≡ record_of place old
+record_is old bytes first place n enough are counts firsts =
+    let e : first ≡ take 16 old = firsts ∙ sixteen_of old bytes enough are in
+    rw (counts, e) refl
+
+-- the record of a database is right
+pub right_record_of : (bytes : List ℕ) (place : ℕ) → IsDatabase bytes → place % 4096 ≡ 0 → length bytes ≤ place → IsRightAt place (record_of place bytes)
+right_record_of bytes place is page below = record {
+  its_place = refl;
+  page = page;
+  enough = is.enough;
+  below = below;
+  begins = λ i low. sixteen_at bytes i (omega arith) ∙ is.begins i low;
+}
+
+-- the cut mark is put over a database
+pub cut_marked : (old f g : List ℕ) (s : Shape) → IsDatabase old → f ≡ old → s ≡ shape_for (length old) → ArePut 0 (cut_mark s) f g → IsCut old g
+cut_marked old f g s is same shape put =
+    let put_old : ArePut 0 (cut_mark (shape_for (length old))) old g = rw (← shape, ← same) put in
+    let four : length (cut_mark (shape_for (length old))) ≡ 4 = cut_mark_length (shape_for (length old)) in
+    record {
+      is = is;
+      marked = put_stands 0 (cut_mark (shape_for (length old))) old g put_old;
+      len = omega (arith, put_old.len, four, is.enough);
+      each = λ k high low. put_old.outside k (inr (omega (arith, four)));
+    }
+
+pub cut_marked_or_not : (old f g : List ℕ) (s : Shape) → IsDatabase old → f ≡ old → s ≡ shape_for (length old) → AreWholeOrNot 0 (cut_mark s) f g → settled g ≡ old
+cut_marked_or_not old f g s is same shape either = elim either as (λ _. settled g ≡ old) [
+  | inl none ↦ ap settled (none ∙ same) ∙ settled_plain old is
+  | inr put ↦ cut_settled old g (cut_marked old f g s is same shape put)
+]
+
+-- and the record of the old bytes behind it
+pub record Recorded (old : List ℕ) (tail : ℕ) (f : List ℕ) : Type 0 where
+  pub to_cut : IsToCut old f
+  pub reaches : tail + 64 ≤ length f
+  pub ends : length f ≤ tail + 128
+  pub recorded : record_at f tail ≡ Some (record_of tail old)
+
+module _ (old : List ℕ) (tail : ℕ) (is : IsDatabase old) (is_tail : IsTail old tail) where
+  right_record : IsRightAt tail (record_of tail old)
+  right_record = right_record_of old tail is is_tail.page is_tail.below
+
+  pub old_recorded : (f g : List ℕ) (s : Shape) (r : Record) → IsCut old f → s ≡ shape_for (length old) → r ≡ record_of tail old
+      → ArePut tail (shaped_bytes s r) f g → Recorded old tail g
+  old_recorded f g s r cut shape record_eq put =
+      let the : Shape = shape_for (length old) in
+      let put_it : ArePut tail (shaped_bytes the (record_of tail old)) f g = rw (← shape, ← record_eq) put in
+      let size : length (shaped_bytes the (record_of tail old)) ≡ size_of the = shaped_length the (record_of tail old) (length-sixteen old is.enough) in
+      let len : length g ≡ tail + size_of the = omega (arith, put_it.len, size, cut.len, is_tail.below) in
+      let there : record_at g tail ≡ Some (record_of tail old) =
+      record_is_read tail (record_of tail old) g is_tail.fits (length-sixteen old is.enough) right_record
+      (shaped_stands the tail (record_of tail old) g (put_stands tail _ f g put_it)) in
+      let marked : StandsAt g 0 (cut_mark the) =
+      stands_same 0 (cut_mark the) f g (omega (arith, len, cut.len, is_tail.below))
+      (λ k high low. put_it.outside k (inl (omega (arith, cut_mark_length the, is.enough, is_tail.below)))) cut.marked in
+      record {
+        to_cut = record {
+          is = is;
+          marked = marked;
+          recorded = (record_of tail old, last_record_is_read the tail (record_of tail old) g len right_record there refl, refl);
+          longer = omega (arith, len, is_tail.below);
+          each = λ k high low. put_it.outside k (inl (omega (arith, is_tail.below))) ∙ cut.each k high low;
+        };
+        reaches = omega (arith, len, (size_some the).0);
+        ends = omega (arith, len, (size_some the).1);
+        recorded = there;
+      }
+
+  pub old_recorded_or_not : (f g : List ℕ) (s : Shape) (r : Record) → IsCut old f → s ≡ shape_for (length old) → r ≡ record_of tail old
+      → AreWholeOrNot tail (shaped_bytes s r) f g → settled g ≡ old
+  old_recorded_or_not f g s r cut shape record_eq either = elim either as (λ _. settled g ≡ old) [
+    | inl none ↦ ap settled none ∙ cut_settled old f cut
+    | inr put ↦ to_cut_settled old g (old_recorded f g s r cut shape record_eq put).to_cut
+  ]
+
+  -- a file whose tail has a record and no slot, and that has the old bytes behind its first sixteen
+  pub no_slots_restore : (f g : List ℕ) → Recorded old tail f → length g ≡ length f → ((k : ℕ) → 16 ≤ k → slice_index g k ≡ slice_index f k) → Restores old tail g
+  no_slots_restore f g recorded len same =
+      let none : slots_in tail g ≡ [] = no_slots_below tail g (omega (arith, len, recorded.ends)) in
+      record {
+        reaches = omega (arith, len, recorded.reaches);
+        recorded = record_same tail tail (record_of tail old) f g refl is_tail.fits (omega (arith, len))
+            (λ k high low. same k (omega (arith, is.enough, is_tail.below))) recorded.recorded;
+        each = λ k high low. rw none (same k high ∙ recorded.to_cut.each k (omega arith) low);
+      }
+
+  pub undo_marked : (f g : List ℕ) → Recorded old tail f → ArePut 0 (undo_mark tail) f g → Undoing old tail 0 g
+  undo_marked f g recorded put =
+      let len : length g ≡ length f = omega (arith, put.len, undo_mark_length tail, recorded.reaches, is.enough, is_tail.below) in
+      let none : slots_in tail g ≡ [] = no_slots_below tail g (omega (arith, len, recorded.ends)) in
+      record {
+        restores = no_slots_restore f g recorded len (λ k high. put.outside k (inr (omega (arith, undo_mark_length tail))));
+        marked = put_stands 0 (undo_mark tail) f g put;
+        counted = ap length none;
+        room = omega (arith, len, recorded.ends);
+      }
+
+  pub undo_marked_or_not : (f g : List ℕ) → Recorded old tail f → AreWholeOrNot 0 (undo_mark tail) f g → settled g ≡ old
+  undo_marked_or_not f g recorded either = elim either as (λ _. settled g ≡ old) [
+    | inl none ↦ ap settled none ∙ to_cut_settled old f recorded.to_cut
+    | inr put ↦ undone_settled old tail g is_tail (put_stands 0 (undo_mark tail) f g put) (undo_marked f g recorded put).restores
+  ]
+
+-- ---- keeping old bytes
+
+module _ (old : List ℕ) (tail slots at : ℕ) (bytes f : List ℕ) (is : IsDatabase old) (is_tail : IsTail old tail) (page : IsOldPage old at bytes)
+    (undoing : Undoing old tail slots f) (some : 1 ≤ length bytes) where
+  slot : Slot
+  slot = slot_of at bytes
+
+  right_slot : IsRightSlot tail (slot_of at bytes)
+  right_slot = record { behind = page.behind; some = some; most = page.few; below = omega (arith, page.within some, is_tail.below) }
+
+  slot_length : length (slot_bytes tail (slot_of at bytes)) ≡ 32 + length bytes
+  slot_length = length-slot tail (slot_of at bytes)
+
+  next_is : slot_place tail (length (slots_in tail f)) ≡ slot_place tail slots
+  next_is = ap (slot_place tail) undoing.counted
+
+  above_tail : tail + 64 ≤ slot_place tail slots
+  above_tail = omega (arith, undoing.restores.reaches, undoing.room)
+
+  -- old bytes don't change by a slot of old bytes
+  laid_old : (k : ℕ) → 16 ≤ k → k < length old → laid (slot_of at bytes) k (slice_index old k) ≡ slice_index old k
+  laid_old k high low = elim (cases_lt k at) as (λ _. laid (slot_of at bytes) k (slice_index old k) ≡ slice_index old k) [
+    | inl below ↦ laid_below (slot_of at bytes) k (slice_index old k) below
+    | inr from ↦ elim (cases_lt k (at + length bytes)) as (λ _. laid (slot_of at bytes) k (slice_index old k) ≡ slice_index old k) [
+      | inl inside ↦
+          let there : at + (k - at) ≡ k = omega arith in
+          laid_in (slot_of at bytes) k (slice_index old k) from inside ∙ page.are.each (k - at) (omega arith) ∙ ap (slice_index old) there
+      | inr above ↦ laid_above (slot_of at bytes) k (slice_index old k) above
+    ]
+  ]
+
+  -- a file that has the tail's bytes, and these slots
+  restores_more : (g : List ℕ) → length f ≤ length g → ((k : ℕ) → k < length f → slice_index g k ≡ slice_index f k)
+      → (slots_in tail g ≡ slots_in tail f) ⊎ (slots_in tail g ≡ slots_in tail f ++ slot_of at bytes ∷ []) → Restores old tail g
+  restores_more g longer same either = record {
+    reaches = omega (arith, undoing.restores.reaches);
+    recorded = record_same tail tail (record_of tail old) f g refl is_tail.fits longer
+        (λ k high low. same k (omega (arith, undoing.restores.reaches))) undoing.restores.recorded;
+    each = λ k high low.
+        let here : slice_index g k ≡ slice_index f k = same k (omega (arith, is_tail.below, undoing.restores.reaches)) in
+        elim either as (λ _. all_laid (slots_in tail g) k (slice_index g k) ≡ slice_index old k) [
+          | inl none ↦ rw (none, here) (undoing.restores.each k high low)
+          | inr more ↦ rw (more, here) (all_laid-append (slots_in tail f) (slot_of at bytes) k (slice_index f k)
+              ∙ ap (laid (slot_of at bytes) k) (undoing.restores.each k high low) ∙ laid_old k high low)
+        ];
+  }
+
+  marked_more : (g : List ℕ) → length f ≤ length g → ((k : ℕ) → k < length f → slice_index g k ≡ slice_index f k) → StandsAt g 0 (undo_mark tail)
+  marked_more g longer same =
+      stands_same 0 (undo_mark tail) f g longer (λ k high low. same k (omega (arith, undo_mark_length tail, undoing.restores.reaches, is.enough, is_tail.below))) undoing.marked
+
+  pub kept_put : (g taken : List ℕ) (place : ℕ) → place ≡ slot_place tail slots → taken ≡ slot_bytes tail (slot_of at bytes) → ArePut place taken f g
+      → Keeps old tail (slots + 1) at bytes f g
+  kept_put g taken place places takes put_taken =
+      let put : ArePut (slot_place tail slots) (slot_bytes tail (slot_of at bytes)) f g = rw (← places, ← takes) put_taken in
+      let longer : length f ≤ length g = omega (arith, put.len) in
+      let len : length g ≡ slot_place tail slots + (32 + length bytes) = omega (arith, put.len, slot_length, undoing.room) in
+      let same : (k : ℕ) → k < length f → slice_index g k ≡ slice_index f k = λ k low. put.outside k (inl (omega (arith, undoing.room))) in
+      let stands : StandsAt g (slot_place tail (length (slots_in tail f))) (slot_bytes tail (slot_of at bytes)) = rw next_is (put_stands _ _ f g put) in
+      let more : slots_in tail g ≡ slots_in tail f ++ slot_of at bytes ∷ [] =
+      slot_is_appended tail (slot_of at bytes) f g is_tail.fits right_slot (omega (arith, next_is, undoing.room)) same stands (omega (arith, len, next_is, slot_length)) in
+      record {
+        undoing = record {
+          restores = restores_more g longer same (inr more);
+          marked = marked_more g longer same;
+          counted = ap length more ∙ length-append (slots_in tail f) (slot_of at bytes ∷ []) ∙ ap (λ (n : ℕ). n + 1) undoing.counted;
+          room = omega (arith, len, page.few);
+        };
+        same = λ k low. same k (omega (arith, undoing.restores.reaches));
+        kept = inr (some, more);
+      }
+
+  whole_settled : (g : List ℕ) → Keeps old tail (slots + 1) at bytes f g → settled g ≡ old
+  whole_settled g keeps = undone_settled old tail g is_tail keeps.undoing.marked keeps.undoing.restores
+
+  cut_front_settled : (g : List ℕ) (n : ℕ) → n < 32 + length bytes → ArePut (slot_place tail slots) (take n (slot_bytes tail (slot_of at bytes))) f g → settled g ≡ old
+  cut_front_settled g n short put =
+      let taken_len : length (take n (slot_bytes tail (slot_of at bytes))) ≡ n = omega (arith, length-take n (slot_bytes tail (slot_of at bytes)), slot_length) in
+      let longer : length f ≤ length g = omega (arith, put.len) in
+      let len : length g ≡ slot_place tail slots + n = omega (arith, put.len, taken_len, undoing.room) in
+      let same : (k : ℕ) → k < length f → slice_index g k ≡ slice_index f k = λ k low. put.outside k (inl (omega (arith, undoing.room))) in
+      let none : slots_in tail g ≡ slots_in tail f =
+      cut_slot_is_not_counted tail (slot_of at bytes) f g is_tail.fits right_slot longer same (omega (arith, len, next_is, slot_length))
+      (λ i low.
+      let inside : i < n = omega (arith, len, next_is) in
+      ap (λ (p : ℕ). slice_index g (p + i)) next_is ∙ put.inside i (omega (arith, taken_len))
+      ∙ get_or-take n (slot_bytes tail (slot_of at bytes)) i 0 inside) in
+      undone_settled old tail g is_tail (marked_more g longer same) (restores_more g longer same (inl none))
+
+  front_settled : (g taken : List ℕ) (place : ℕ) → place ≡ slot_place tail slots → taken ≡ slot_bytes tail (slot_of at bytes) → (n : ℕ) → n ≤ length taken
+      → ArePut place (take n taken) f g → settled g ≡ old
+  front_settled g taken place places takes n most put_taken =
+      let put : ArePut (slot_place tail slots) (take n (slot_bytes tail (slot_of at bytes))) f g = rw (← places, ← takes) put_taken in
+      let most_is : n ≤ 32 + length bytes = omega (arith, most, ap length takes, slot_length) in
+      elim (cases_lt n (32 + length bytes)) as (λ _. settled g ≡ old) [
+        | inl short ↦ cut_front_settled g n short put
+        | inr whole ↦
+            let all : take n (slot_bytes tail (slot_of at bytes)) ≡ slot_bytes tail (slot_of at bytes) = take_all n (slot_bytes tail (slot_of at bytes)) (omega (arith, slot_length)) in
+            let put_all : ArePut (slot_place tail slots) (slot_bytes tail (slot_of at bytes)) f g = rw (← all) put in
+            whole_settled g (kept_put g (slot_bytes tail (slot_of at bytes)) (slot_place tail slots) refl refl put_all)
+      ]
+
+  pub kept_front : (g taken : List ℕ) (place : ℕ) → place ≡ slot_place tail slots → taken ≡ slot_bytes tail (slot_of at bytes) → IsFrontPut place taken f g
+      → settled g ≡ old
+  kept_front g taken place places takes either = elim either as (λ _. settled g ≡ old) [
+    | inl none ↦ ap settled none ∙ undone_settled old tail f is_tail undoing.marked undoing.restores
+    | inr front ↦ front_settled g taken place places takes front.0 front.1 front.2
+  ]
+
+-- ---- as the calls say it
+
+pub cut_or_not : (old f g mark : List ℕ) (s : Shape) → IsDatabase old → f ≡ old → s ≡ shape_for (length old) → mark ≡ cut_mark s → AreWholeOrNot 0 mark f g → settled g ≡ old
+cut_or_not old f g mark s is same shape mark_is either =
+    let either_is : AreWholeOrNot 0 (cut_mark s) f g = rw (← mark_is) either in
+    cut_marked_or_not old f g s is same shape either_is
+
+pub cut_synced : (old f g h mark : List ℕ) (s : Shape) → IsDatabase old → f ≡ old → s ≡ shape_for (length old) → mark ≡ cut_mark s → ArePut 0 mark f g → h ≡ g → IsCut old h
+cut_synced old f g h mark s is same shape mark_is put synced =
+    let put_is : ArePut 0 (cut_mark s) f g = rw (← mark_is) put in
+    rw synced (cut_marked old f g s is same shape put_is)
+
+pub recorded_synced : (old : List ℕ) (tail : ℕ) (f g h : List ℕ) (s : Shape) (r : Record) → IsDatabase old → IsTail old tail → IsCut old f → s ≡ shape_for (length old)
+    → r ≡ record_of tail old → ArePut tail (shaped_bytes s r) f g → h ≡ g → Recorded old tail h
+recorded_synced old tail f g h s r is is_tail cut shape record_eq put synced = rw synced (old_recorded old tail is is_tail f g s r cut shape record_eq put)
+
+pub undo_synced : (old : List ℕ) (tail : ℕ) (f g h mark : List ℕ) → IsDatabase old → IsTail old tail → Recorded old tail f → mark ≡ undo_mark tail → ArePut 0 mark f g
+    → h ≡ g → Undoing old tail 0 h
+undo_synced old tail f g h mark is is_tail recorded mark_is put synced =
+    let put_is : ArePut 0 (undo_mark tail) f g = rw (← mark_is) put in
+    rw synced (undo_marked old tail is is_tail f g recorded put_is)
+
+pub undo_or_not : (old : List ℕ) (tail : ℕ) (f g mark : List ℕ) → IsDatabase old → IsTail old tail → Recorded old tail f → mark ≡ undo_mark tail → AreWholeOrNot 0 mark f g
+    → settled g ≡ old
+undo_or_not old tail f g mark is is_tail recorded mark_is either =
+    let either_is : AreWholeOrNot 0 (undo_mark tail) f g = rw (← mark_is) either in
+    undo_marked_or_not old tail is is_tail f g recorded either_is
+
+pub undoing_synced : (old : List ℕ) (tail slots : ℕ) (f h : List ℕ) → IsTail old tail → Undoing old tail slots f → h ≡ f → settled h ≡ old
+undoing_synced old tail slots f h is_tail undoing synced = ap settled synced ∙ undone_settled old tail f is_tail undoing.marked undoing.restores
+
+-- the bytes of a slot, as they are put together
+pub taken_is : (taken b2 b1 b0 header bytes : List ℕ) (tail at : ℕ) → taken ≡ b2 → b2 ≡ b1 ++ bytes → b1 ≡ b0 ++ header → b0 ≡ [] → header ≡ slot_header tail (slot_of at bytes)
+    → taken ≡ slot_bytes tail (slot_of at bytes)
+taken_is taken b2 b1 b0 header bytes tail at e1 e2 e3 e4 e5 =
+    e1 ∙ e2 ∙ ap (λ (b : List ℕ). b ++ bytes) (e3 ∙ ap (λ (b : List ℕ). b ++ header) e4 ∙ e5)
+
+pub kept_synced : (old : List ℕ) (tail slots at : ℕ) (bytes f g h : List ℕ) → Keeps old tail slots at bytes f g → h ≡ g → Keeps old tail slots at bytes f h
+kept_synced old tail slots at bytes f g h keeps synced = rw synced keeps
+
+pub cut_settled_synced : (old f h : List ℕ) → IsCut old f → h ≡ f → settled h ≡ old
+cut_settled_synced old f h cut synced = ap settled synced ∙ cut_settled old f cut

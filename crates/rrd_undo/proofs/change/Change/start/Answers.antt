@@ -1,0 +1,31 @@
+use Rattle.std.proofs.Common.{rules, ◌≡◌, IsTrue}
+use Rattle.rrd_undo.specs.Databases.{IsDatabase}
+use Rattle.rrd_undo.specs.Changing.{Agreeing}
+use Rattle.rrd_undo.proofs.Laid.{on_err, on_ok}
+use Rattle.rrd_undo.proofs.Stages.{database_of, first_database, not_true}
+use Rattle.rrd_undo.proofs.change.Change.start.Goals as goal
+
+pub returns-in-Untouched-clause-ok : goal.returns-in-Untouched-clause-ok
+returns-in-Untouched-clause-ok g c = on_ok c.mark.result _ _ (λ h f old new done is_at.
+    let agree : Agreeing old new (g.F.Bytes.held c.args.file.now) done = rw c.in-Untouched.is at is_at.holds in
+    let yes : IsTrue c.can_mark.result = search rules in
+    h f old new done (database_of old _ is_at.knows.old_first (c.can_mark.ensures.yes yes).0) is_at.knows agree) c.mark.ensures.ok
+
+pub returns-in-Untouched-clause-err : goal.returns-in-Untouched-clause-err
+returns-in-Untouched-clause-err g c = on_err c.mark.result _ _ (λ h f old new done is_at.
+    let agree : Agreeing old new (g.F.Bytes.held c.args.file.now) done = rw c.in-Untouched.is at is_at.holds in
+    let yes : IsTrue c.can_mark.result = search rules in
+    let both = h f old new done (database_of old _ is_at.knows.old_first (c.can_mark.ensures.yes yes).0) is_at.knows agree in
+    (both.0, λ is. both.1)) c.mark.ensures.err
+
+pub returns-in-Untouched-2-clause-ok : goal.returns-in-Untouched-2-clause-ok
+returns-in-Untouched-2-clause-ok g c = on_ok c.spoil.result _ _ (λ h f old new done is_at.
+    let agree : Agreeing old new (g.F.Bytes.held c.args.file.now) done = rw c.in-Untouched-2.is at is_at.holds in
+    let none : IsDatabase old → ⊥ = λ is. not_true _ c.if-can_mark.false (c.can_mark.ensures.no (first_database old _ is_at.knows.old_first is) is_at.knows.tail.page) in
+    h f old new done none is_at.knows agree) c.spoil.ensures.ok
+
+pub returns-in-Untouched-2-clause-err : goal.returns-in-Untouched-2-clause-err
+returns-in-Untouched-2-clause-err g c = on_err c.spoil.result _ _ (λ h f old new done is_at.
+    let agree : Agreeing old new (g.F.Bytes.held c.args.file.now) done = rw c.in-Untouched-2.is at is_at.holds in
+    let none : IsDatabase old → ⊥ = λ is. not_true _ c.if-can_mark.false (c.can_mark.ensures.no (first_database old _ is_at.knows.old_first is) is_at.knows.tail.page) in
+    (h f old new done none is_at.knows agree, λ is. absurd (none is))) c.spoil.ensures.err

@@ -1,0 +1,86 @@
+-- Glue: the state of a file at each stage of a change (own).
+use Rattle.std.specs.Prelude.{◌≡◌, ◌⊎◌, ℕ, ◌+◌, ◌-◌, ◌<◌, ◌≤◌, min, List, length, slice_index, ⊤}
+use Rattle.rrd_tail.specs.Marks.{undo_mark}
+use Rattle.rrd_tail.specs.Settled.{settled}
+use Rattle.rrd_undo.specs.Calls.{AreAt, ArePut}
+use Rattle.rrd_undo.specs.Databases.{IsDatabase}
+use Rattle.rrd_undo.specs.Undoing.{IsTail, Turning}
+use Rattle.rrd_undo.specs.declared.change.Change.{Change}
+use Rattle.rrd_undo.specs.declared.change.Stage.{Stage}
+use Rattle.rrd_undo.specs.declared.change.Stage.TheVariants.{Untouched, Marked, Committing, Unkept, Spoiled}
+
+-- the bytes of a new page
+pub record IsPage (new : List ℕ) (at : ℕ) (page : List ℕ) : Type 0 where
+  pub len : length page ≡ min 4096 (length new - at)
+  pub each : (i : ℕ) → i < length page → slice_index page i ≡ slice_index new (at + i)
+
+-- the file is as it was, and in the pages below `done`, but for the first, it has the new bytes
+pub record Agreeing (old new file : List ℕ) (done : ℕ) : Type 0 where
+  pub same : file ≡ old
+  pub within : (k : ℕ) → 4096 ≤ k → k < done → k < length new → k < length old
+  pub put : (k : ℕ) → 4096 ≤ k → k < done → k < length new → slice_index old k ≡ slice_index new k
+
+-- the pages below `done`, but for the first, have the new bytes
+abbrev pub ArePutBelow : ℕ → List ℕ → List ℕ → Type 0
+ArePutBelow done new file = (k : ℕ) → 4096 ≤ k → k < done → k < length new → slice_index file k ≡ slice_index new k
+
+-- what is behind the first page is the old bytes
+abbrev pub StaysBehind : List ℕ → List ℕ → Type 0
+StaysBehind old file = (k : ℕ) → 4096 ≤ k → k < length old → slice_index file k ≡ slice_index old k
+
+-- the new pages below `done`, but for the first, are in the file
+abbrev pub Holds : Stage → List ℕ → List ℕ → ℕ → ℕ → List ℕ → ℕ → Type 0
+Holds Untouched old new tail slots file done = Agreeing old new file done
+Holds Marked old new tail slots file done = IsDatabase old × Turning old new tail slots file done
+Holds Committing old new tail slots file done = ⊥
+Holds Unkept old new tail slots file done = ⊥
+Holds Spoiled old new tail slots file done = (IsDatabase old → ⊥) × ArePutBelow done new file
+
+-- the file is as it was, or its first page alone was put, and the file has this length
+abbrev pub IsFirstPut : List ℕ → ℕ → List ℕ → Type 0
+IsFirstPut old count file = (file ≡ old) ⊎ ((length file ≡ count) × (length old ≤ count) × StaysBehind old file)
+
+-- the old bytes can be had back
+abbrev pub IsLeft : Stage → List ℕ → ℕ → ℕ → List ℕ → Type 0
+IsLeft Untouched old tail count file = IsFirstPut old count file
+IsLeft Marked old tail count file = settled file ≡ old
+IsLeft Committing old tail count file = (f : List ℕ) → ArePut 0 (undo_mark tail) file f → settled f ≡ old
+IsLeft Unkept old tail count file = (IsDatabase old → ⊥) × StaysBehind old file
+IsLeft Spoiled old tail count file = (IsDatabase old → ⊥)
+
+-- a file that is changed is marked or spoiled
+abbrev pub IsStarted : Stage → Type 0
+IsStarted Untouched = ⊥
+IsStarted Marked = ⊤
+IsStarted Committing = ⊥
+IsStarted Unkept = ⊥
+IsStarted Spoiled = ⊤
+
+-- what is known of the old bytes in memory
+pub record Knows (old : List ℕ) (c : Change) : Type 0 where
+  pub old_length : c.old_length ≡ length old
+  pub old_first : AreAt old 0 (min 4096 (length old)) c.old_first.items
+  pub tail : IsTail old c.tail.place
+  pub below : c.length ≤ c.tail.place
+
+-- the new pages below `done`, but for the first, are in the file
+pub record IsAt (old new : List ℕ) (done : ℕ) (c : Change) (file : List ℕ) : Type 0 where
+  pub knows : Knows old c
+  pub holds : Holds c.stage old new c.tail.place c.tail.slots file done
+
+-- a call has failed
+pub record IsBroken (old : List ℕ) (c : Change) (file : List ℕ) : Type 0 where
+  pub knows : Knows old c
+  pub left : IsLeft c.stage old c.tail.place c.length file
+
+-- the next one who opens the file has the old bytes, if they were a database
+abbrev pub StandsForOld : List ℕ → List ℕ → Type 0
+StandsForOld old file = IsDatabase old → settled file ≡ old
+
+-- or the new ones
+abbrev pub StandsForEither : List ℕ → List ℕ → List ℕ → Type 0
+StandsForEither old new file = IsDatabase old → (settled file ≡ old) ⊎ (settled file ≡ new)
+
+-- the old bytes can be had back: they are a database, or all in memory
+abbrev pub CanRestore : List ℕ → Type 0
+CanRestore old = IsDatabase old ⊎ (length old < 16)

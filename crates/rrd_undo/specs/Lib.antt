@@ -1,0 +1,7 @@
+pub mod Calls
+pub mod Databases
+pub mod Undoing
+pub mod Settling
+pub mod Changing
+pub mod Writing
+pub mod Memory

@@ -1,0 +1,31 @@
+-- Glue: the state of a file while the file is settled (own).
+use Rattle.std.specs.Prelude.{◌≡◌, ℕ, ◌+◌, ◌<◌, ◌≤◌, List, length, drop, slice_index, Option, Some, None}
+use Rattle.rrd_tail.specs.Bytes.{StandsAt}
+use Rattle.rrd_tail.specs.Marks.{undo_mark}
+use Rattle.rrd_tail.specs.Reads.{slot_of}
+use Rattle.rrd_tail.specs.Slots.{all_laid, slot_at, slots_in}
+use Rattle.rrd_tail.specs.declared.slot.SlotHeader.{SlotHeader}
+use Rattle.rrd_undo.specs.Databases.{IsDatabase}
+use Rattle.rrd_undo.specs.Undoing.{IsTail, Restores}
+
+-- the old bytes can be had back from the tail of a file with an undo mark
+pub record IsUndone (old : List ℕ) (tail : ℕ) (file : List ℕ) : Type 0 where
+  pub is : IsDatabase old
+  pub is_tail : IsTail old tail
+  pub marked : StandsAt file 0 (undo_mark tail)
+  pub restores : Restores old tail file
+
+-- and they are in the file, but for the first sixteen
+abbrev pub IsPutBack : List ℕ → List ℕ → Type 0
+IsPutBack old file = (k : ℕ) → 16 ≤ k → k < length old → slice_index file k ≡ slice_index old k
+
+-- the header of slot i, whose bytes are in the buffer behind it, if the file has that slot
+abbrev pub IsSlotFound : ℕ → List ℕ → ℕ → List ℕ → Option SlotHeader → Type 0
+IsSlotFound tail file i buffer None = slot_at tail file i ≡ None
+IsSlotFound tail file i buffer (Some header) = (slot_at tail file i ≡ Some (slot_of header buffer)) × (32 + header.count ≤ length buffer)
+
+-- how far slots are put back
+pub record IsBack (old : List ℕ) (tail number : ℕ) (f : List ℕ) : Type 0 where
+  pub undone : IsUndone old tail f
+  pub within : number ≤ length (slots_in tail f)
+  pub laid : (k : ℕ) → 16 ≤ k → k < length old → all_laid (drop number (slots_in tail f)) k (slice_index f k) ≡ slice_index old k

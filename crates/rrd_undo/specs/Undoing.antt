@@ -1,0 +1,101 @@
+-- Glue: the undoing of a change by the file's tail, and what each step of a change preserves (own).
+use Rattle.std.specs.Prelude.{◌≡◌, ◌⊎◌, ℕ, ◌+◌, ◌%◌, ◌^◌, ◌<◌, ◌≤◌, List, [], ◌∷◌, ◌++◌, length, take, slice_index, Option, Some}
+use Rattle.std.specs.List.{All}
+use Rattle.rrd_tail.specs.Bytes.{StandsAt}
+use Rattle.rrd_tail.specs.Marks.{cut_mark, shape_for, undo_mark}
+use Rattle.rrd_tail.specs.Records.{last_record, record_at}
+use Rattle.rrd_tail.specs.Slots.{Slot, all_laid, slot_place, slots_in}
+use Rattle.rrd_tail.specs.declared.record.Record.{Record}
+use Rattle.rrd_undo.specs.Calls.{AreAt}
+use Rattle.rrd_undo.specs.Databases.{IsDatabase}
+
+-- a page begins there, and the old bytes don't reach it
+pub record IsTail (old : List ℕ) (tail : ℕ) : Type 0 where
+  pub page : tail % 4096 ≡ 0
+  pub below : length old ≤ tail
+  pub fits : tail < 2 ^ 64
+
+-- the record of some bytes, at a place
+abbrev pub record_of : ℕ → List ℕ → Record
+record_of place bytes = record { place = place; length = length bytes; first = take 16 bytes }
+
+-- the old bytes can be had back from the file's tail, whatever the first sixteen bytes are
+pub record Restores (old : List ℕ) (tail : ℕ) (file : List ℕ) : Type 0 where
+  pub reaches : tail + 64 ≤ length file
+  pub recorded : record_at file tail ≡ Some (record_of tail old)
+  pub each : (k : ℕ) → 16 ≤ k → k < length old → all_laid (slots_in tail file) k (slice_index file k) ≡ slice_index old k
+
+-- so they can, and the file has an undo mark, and room for another slot behind so many
+pub record Undoing (old : List ℕ) (tail slots : ℕ) (file : List ℕ) : Type 0 where
+  pub restores : Restores old tail file
+  pub marked : StandsAt file 0 (undo_mark tail)
+  pub counted : length (slots_in tail file) ≡ slots
+  pub room : length file ≤ slot_place tail slots
+
+abbrev pub EndsBelow : ℕ → Slot → Type 0
+EndsBelow done s = s.place + length s.bytes ≤ done
+
+-- these bytes are old ones, and can be kept in a slot
+pub record IsOldPage (old : List ℕ) (at : ℕ) (bytes : List ℕ) : Type 0 where
+  pub behind : 16 ≤ at
+  pub few : length bytes ≤ 4096
+  pub within : 1 ≤ length bytes → at + length bytes ≤ length old
+  pub are : AreAt old at (length bytes) bytes
+
+abbrev pub slot_of : ℕ → List ℕ → Slot
+slot_of place bytes = record { place = place; bytes = bytes }
+
+-- old bytes were kept in a slot, if there are any, and nothing below the tail was changed
+pub record Keeps (old : List ℕ) (tail slots at : ℕ) (bytes file changed : List ℕ) : Type 0 where
+  pub undoing : Undoing old tail slots changed
+  pub same : (k : ℕ) → k < tail → slice_index changed k ≡ slice_index file k
+  pub kept : ((length bytes ≡ 0) × (slots_in tail changed ≡ slots_in tail file))
+      ⊎ ((1 ≤ length bytes) × (slots_in tail changed ≡ slots_in tail file ++ slot_of at bytes ∷ []))
+
+-- old bytes were kept, and new ones put over them
+pub record Turns (old : List ℕ) (tail slots at : ℕ) (page file changed : List ℕ) : Type 0 where
+  pub undoing : Undoing old tail slots changed
+  pub put : (i : ℕ) → i < length page → slice_index changed (at + i) ≡ slice_index page i
+  pub same : (k : ℕ) → k < tail → (k < at) ⊎ (at + length page ≤ k) → slice_index changed k ≡ slice_index file k
+  pub below : (done : ℕ) → at + length page ≤ done → All (EndsBelow done) (slots_in tail file) → All (EndsBelow done) (slots_in tail changed)
+
+-- the new bytes are in the file below `done`, but for the first page, and no slot reaches further
+pub record Turning (old new : List ℕ) (tail slots : ℕ) (file : List ℕ) (done : ℕ) : Type 0 where
+  pub undoing : Undoing old tail slots file
+  pub below : All (EndsBelow done) (slots_in tail file)
+  pub first : (k : ℕ) → 16 ≤ k → k < 4096 → k < length old → slice_index file k ≡ slice_index old k
+  pub put : (k : ℕ) → 4096 ≤ k → k < done → k < length new → slice_index file k ≡ slice_index new k
+
+-- all new bytes but the first sixteen are in the file
+pub record Paged (old new : List ℕ) (tail slots : ℕ) (file : List ℕ) : Type 0 where
+  pub undoing : Undoing old tail slots file
+  pub put : (k : ℕ) → 16 ≤ k → k < length new → slice_index file k ≡ slice_index new k
+
+-- the file's last record has the length of these bytes
+abbrev pub IsRecorded : List ℕ → List ℕ → Type 0
+IsRecorded bytes file = (r : Record) × (last_record (shape_for (length bytes)) file ≡ Some r) × (r.length ≡ length bytes)
+
+-- and there is a record of the new bytes, too
+pub record IsReady (old new : List ℕ) (tail : ℕ) (file : List ℕ) : Type 0 where
+  pub is_tail : IsTail old tail
+  pub restores : Restores old tail file
+  pub marked : StandsAt file 0 (undo_mark tail)
+  pub recorded : IsRecorded new file
+  pub fits : recorded.0.place < 2 ^ 64
+  pub longer : length new ≤ length file
+  pub put : (k : ℕ) → 16 ≤ k → k < length new → slice_index file k ≡ slice_index new k
+
+-- a file with a cut mark and a last record, which stands for these bytes
+pub record IsToCut (bytes file : List ℕ) : Type 0 where
+  pub is : IsDatabase bytes
+  pub marked : StandsAt file 0 (cut_mark (shape_for (length bytes)))
+  pub recorded : IsRecorded bytes file
+  pub longer : length bytes ≤ length file
+  pub each : (k : ℕ) → 4 ≤ k → k < length bytes → slice_index file k ≡ slice_index bytes k
+
+-- a file with a cut mark that has no more bytes than it stands for
+pub record IsCut (bytes file : List ℕ) : Type 0 where
+  pub is : IsDatabase bytes
+  pub marked : StandsAt file 0 (cut_mark (shape_for (length bytes)))
+  pub len : length file ≡ length bytes
+  pub each : (k : ℕ) → 4 ≤ k → k < length bytes → slice_index file k ≡ slice_index bytes k

@@ -1,0 +1,80 @@
+//! The calls of a file that is changed.
+ghost use Rattle.std.specs.Prelude.{◌≡◌, ◌⊎◌, ℕ, ◌+◌, ◌<◌, ◌≤◌, ◌%◌, List, length, IfOk, OnOk, OnErr, Bool, IsTrue};
+ghost use Rattle.rrd_undo.specs.Calls.{AreAny, AreAt, ArePut, AreWholeOrNot, IsFrontPut, IsSized};
+
+use std::io;
+
+/// Reads and writes the bytes of a file that is changed.
+///
+/// A kill leaves what the calls before the kill left, and of the call that the kill interrupts what an error of that
+/// call may leave. These clauses assume two things about the system: a kill cuts neither a write within one page
+/// ([`Bytes::put_whole`]) nor a change of the length ([`Bytes::set_len`]).
+pub trait Bytes {
+    // The bytes that a kill leaves, and whether they are known: those of a file of the system aren't.
+    ghost held: { Self → List ℕ };
+
+    ghost is_known: { Bool };
+
+    /// Returns the length of the file in bytes.
+    ///
+    /// # Errors
+    ///
+    /// The system does not report the length.
+    fn len(&mut self) -> io::Result<usize>
+        ensures same { held self.new ≡ held self.old }
+        ensures len { IfOk result (λ n. IsTrue is_known → n ≡ length (held self.old)) };
+
+    /// Reads `count` bytes, of which the first is byte `at`, in place of what `into` has.
+    ///
+    /// # Errors
+    ///
+    /// The file has fewer bytes, a read failed, or memory ran out. `into` may then have any bytes.
+    fn read(&mut self, at: usize, count: usize, into: &mut Vec<u8>) -> io::Result<()>
+        ensures same { held self.new ≡ held self.old }
+        ensures read { OnOk result (IsTrue is_known → AreAt (held self.old) at count into.new.items) };
+
+    /// Writes bytes from byte `at` on.
+    ///
+    /// # Errors
+    ///
+    /// The file may then have any bytes there.
+    fn put(&mut self, at: usize, bytes: &[u8]) -> io::Result<()>
+        ensures ok { OnOk result (IsTrue is_known → ArePut at bytes.now (held self.old) (held self.new)) }
+        ensures err { OnErr result (IsTrue is_known → AreAny at (length bytes.now) (held self.old) (held self.new)) };
+
+    /// Writes bytes from byte `at` on that lie within one page.
+    ///
+    /// # Errors
+    ///
+    /// The file then has all of the bytes, or none.
+    fn put_whole(&mut self, at: usize, bytes: &[u8]) -> io::Result<()>
+        requires { at % 4096 + length bytes.now ≤ 4096 }
+        ensures ok { OnOk result (IsTrue is_known → ArePut at bytes.now (held self.old) (held self.new)) }
+        ensures err { OnErr result (IsTrue is_known → AreWholeOrNot at bytes.now (held self.old) (held self.new)) };
+
+    /// Writes bytes from byte `at` on, where `at` is the end of the file or later.
+    ///
+    /// # Errors
+    ///
+    /// The file then has the first part of the bytes, perhaps none.
+    fn append(&mut self, at: usize, bytes: &[u8]) -> io::Result<()>
+        ensures ok { OnOk result (IsTrue is_known → length (held self.old) ≤ at → ArePut at bytes.now (held self.old) (held self.new)) }
+        ensures err { OnErr result (IsTrue is_known → length (held self.old) ≤ at → IsFrontPut at bytes.now (held self.old) (held self.new)) };
+
+    /// Sets the length of the file to `count` bytes: cuts the file, or appends zeros.
+    ///
+    /// # Errors
+    ///
+    /// The file is then as it was, or has that length.
+    fn set_len(&mut self, count: usize) -> io::Result<()>
+        ensures ok { OnOk result (IsTrue is_known → IsSized count (held self.old) (held self.new)) }
+        ensures err { OnErr result (IsTrue is_known → (held self.new ≡ held self.old) ⊎ IsSized count (held self.old) (held self.new)) };
+
+    /// Returns after the disk has stored all bytes that were written.
+    ///
+    /// # Errors
+    ///
+    /// The disk may have stored any part of the bytes.
+    fn sync(&mut self) -> io::Result<()>
+        ensures same { held self.new ≡ held self.old };
+}

@@ -1,0 +1,402 @@
+//! A change of a file, page by page.
+//!
+//! A database is marked before its first page is replaced. Each old page is copied to the file's tail before the new
+//! page is written, and one call makes the file represent the new bytes. If only the first page differs, one call
+//! writes that page. A file that is no database is marked invalid until its new first page is written: a kill may
+//! lose such a file, but leaves nothing that reads as a database.
+ghost use Rattle.std.specs.Prelude.{◌≡◌, ◌⊎◌, ℕ, ◌+◌, ◌-◌, ◌%◌, ◌<◌, ◌≤◌, List, length, min, slice_index, IsTrue, IfOk, OnErr, OnOk};
+ghost use Rattle.rrd_tail.specs.Marks.{undo_mark};
+ghost use Rattle.rrd_tail.specs.Settled.{settled};
+ghost use Rattle.rrd_undo.specs.Calls.{AreAt, ArePut, AreWholeOrNot};
+ghost use Rattle.rrd_undo.specs.Databases.{IsDatabase};
+
+use crate::Bytes;
+use crate::page::{
+    LEAST, PAGE, difference_end, first_difference, front_page, is_database, next_page, page_from,
+    read_page,
+};
+use crate::recovery::settle;
+use crate::tail::{Syncs, Tail, sync};
+use rrd_tail::undo_mark;
+use std::alloc::Global;
+use std::io::{self, Error, ErrorKind};
+
+/// The invalid mark: four bytes with which no database begins.
+const SPOILED: [u8; 4] = [0; 4];
+
+/// The progress of a change of a file.
+#[derive(Clone, Copy)]
+pub(crate) enum Stage {
+    /// The file is unchanged, except that the new first page may have been written.
+    Untouched,
+    /// The file is marked, or the next call marks the file. The file represents its old bytes.
+    Marked,
+    /// The next call makes the file represent its new bytes.
+    Committing,
+    /// The file is no database, and may have been extended for more bytes.
+    Unkept,
+    /// The file is no database, and its first bytes are the invalid mark.
+    Spoiled,
+}
+
+/// A change of a file to new bytes.
+#[derive(Drop)]
+pub(crate) struct Change {
+    pub(crate) stage: Stage,
+    pub(crate) tail: Tail,
+    /// The old length of the file in bytes; then the new length.
+    pub(crate) old_length: usize,
+    pub(crate) length: usize,
+    /// The old first page; then the old page that was read last, for comparison.
+    pub(crate) old_first: Vec<u8>,
+    pub(crate) old_page: Vec<u8>,
+}
+
+// Extends a file for its new bytes: writes zeros after the file's own bytes.
+fn make_room<F: Bytes>(file: &mut F, from: usize, to: usize, zeros: &mut Vec<u8>) -> io::Result<()>
+    ensures { IsTrue F.is_known → (k : ℕ) → k < from → slice_index (F.held file.new) k ≡ slice_index (F.held file.old) k }
+{
+    zeros.clear();
+    zeros.resize(PAGE, 0)?;
+    if from < to {
+        file.set_len(to)?;
+    }
+    let mut at = from;
+    while at < to {
+        let count = (to - at).min(zeros.len());
+        file.put(at, &zeros[..count])?;
+        at = next_page(at)?;
+    }
+    Ok(())
+}
+
+impl Change {
+    ghost use Rattle.rrd_undo.specs.Changing.{Agreeing, ArePutBelow, CanRestore, IsAt, IsBroken, IsFirstPut, IsPage, IsStarted, Knows, StandsForEither, StandsForOld, StaysBehind};
+    ghost use Rattle.rrd_undo.specs.Undoing.{Paged, Turning};
+
+    /// Creates a change of a file to a length of `count` bytes. `begin` starts the change.
+    pub(crate) fn new(alloc: Global, count: usize, syncs: Syncs) -> Change {
+        Change {
+            stage: Stage::Untouched,
+            tail: Tail {
+                place: 0,
+                slots: 0,
+                buffer: Vec::new(alloc),
+                syncs,
+            },
+            old_length: 0,
+            length: count,
+            old_first: Vec::new(alloc),
+            old_page: Vec::new(alloc),
+        }
+    }
+
+    /// Starts the change: reads the old length and the old first page.
+    pub(crate) fn begin<F: Bytes>(&mut self, file: &mut F) -> io::Result<()>
+        ensures same { F.held file.new ≡ F.held file.old }
+        ensures ok { OnOk result (IsTrue F.is_known → (new : List ℕ) → IsAt (F.held file.old) new 4096 self.new (F.held file.new)) }
+    {
+        self.stage = Stage::Untouched;
+        self.old_length = file.len()?;
+        self.tail.place = page_from(self.old_length.max(self.length))?;
+        let count = self.old_length.min(PAGE);
+        read_page(file, 0, count, &mut self.old_first)
+    }
+
+    // Checks whether the file's page from byte `at` on is `page`. The file's page is then in `old_page`.
+    fn is_same<F: Bytes>(&mut self, file: &mut F, page: &[u8], at: usize) -> io::Result<bool>
+        ensures frame { self.new ≡ record self.old { old_page = self.new.old_page } }
+        ensures same { F.held file.new ≡ F.held file.old }
+        ensures few { OnOk result (length self.new.old_page.items ≤ 4096) }
+        ensures read { OnOk result (IsTrue F.is_known → AreAt (F.held file.old) at (min (self.old.old_length - at) (length page.now)) self.new.old_page.items) }
+        ensures yes { IfOk result (λ b. IsTrue b → page.now ≡ self.new.old_page.items) }
+    {
+        let count = self.old_length.saturating_sub(at).min(page.len());
+        read_page(file, at, count, &mut self.old_page)?;
+        Ok(page == self.old_page.as_slice())
+    }
+
+    // Marks a file that is no database as invalid. A file of 16 bytes or more is first extended for the new bytes.
+    fn spoil<F: Bytes>(&mut self, file: &mut F) -> io::Result<()>
+        ensures frame { self.new ≡ record self.old { stage = self.new.stage; tail = record self.old.tail { buffer = self.new.tail.buffer } } }
+        ensures started { OnOk result (IsStarted self.new.stage) }
+        ensures ok { OnOk result (IsTrue F.is_known → (old new : List ℕ) (done : ℕ) → (IsDatabase old → ⊥) → Knows old self.old
+            → Agreeing old new (F.held file.old) done → IsAt old new done self.new (F.held file.new)) }
+        ensures err { OnErr result (IsTrue F.is_known → (old new : List ℕ) (done : ℕ) → (IsDatabase old → ⊥) → Knows old self.old
+            → Agreeing old new (F.held file.old) done → IsBroken old self.new (F.held file.new)) }
+    {
+        self.stage = Stage::Unkept;
+        if LEAST <= self.old_length {
+            make_room(file, self.old_length, self.length, &mut self.tail.buffer)?;
+        }
+        file.put_whole(0, &SPOILED)?;
+        self.stage = Stage::Spoiled;
+        Ok(())
+    }
+
+    // Marks a file that is a database, so that a kill leaves the old bytes.
+    fn mark<F: Bytes>(&mut self, file: &mut F) -> io::Result<()>
+        requires page { self.old.tail.place % 4096 ≡ 0 }
+        requires enough { 16 ≤ length self.old.old_first.items }
+        ensures frame { self.new ≡ record self.old { stage = self.new.stage; tail = record self.old.tail { slots = 0 } } }
+        ensures started { IsStarted self.new.stage }
+        ensures ok { OnOk result (IsTrue F.is_known → (old new : List ℕ) (done : ℕ) → IsDatabase old → Knows old self.old
+            → Agreeing old new (F.held file.old) done → IsAt old new done self.new (F.held file.new)) }
+        ensures err { OnErr result (IsTrue F.is_known → (old new : List ℕ) (done : ℕ) → IsDatabase old → Knows old self.old
+            → Agreeing old new (F.held file.old) done → IsBroken old self.new (F.held file.new) × (settled (F.held file.new) ≡ old)) }
+    {
+        self.stage = Stage::Marked;
+        self.tail.mark(file, self.old_length, &self.old_first)
+    }
+
+    // Checks whether a file is a database and can be marked.
+    fn can_mark(&self) -> bool
+        ensures yes { IsTrue result → IsDatabase self.now.old_first.items × (self.now.tail.place % 4096 ≡ 0) }
+        ensures no { IsDatabase self.now.old_first.items → self.now.tail.place % 4096 ≡ 0 → IsTrue result }
+    {
+        is_database(&self.old_first) && self.tail.place % PAGE == 0
+    }
+
+    // Prepares a file for its first replaced page, unless the file is prepared: marks the file as changing or invalid.
+    fn start<F: Bytes>(&mut self, file: &mut F) -> io::Result<()>
+        ensures page { self.new.old_page ≡ self.old.old_page }
+        ensures length { self.new.length ≡ self.old.length }
+        ensures started { OnOk result (IsStarted self.new.stage) }
+        ensures ok { OnOk result (IsTrue F.is_known → (old new : List ℕ) (done : ℕ) → IsAt old new done self.old (F.held file.old)
+            → IsAt old new done self.new (F.held file.new)) }
+        ensures err { OnErr result (IsTrue F.is_known → (old new : List ℕ) (done : ℕ) → IsAt old new done self.old (F.held file.old)
+            → IsBroken old self.new (F.held file.new) × StandsForOld old (F.held file.new)) }
+    {
+        match self.stage {
+            Stage::Marked | Stage::Spoiled => Ok(()),
+            Stage::Untouched if self.can_mark() => self.mark(file),
+            Stage::Untouched => self.spoil(file),
+            Stage::Committing | Stage::Unkept => Err(Error::from(ErrorKind::InvalidInput)),
+        }
+    }
+
+    // Writes a page that differs from the old page in `old_page`.
+    fn put_differing<F: Bytes>(&mut self, file: &mut F, page: &[u8], at: usize) -> io::Result<()>
+        requires { 4096 ≤ at }
+        ensures ok { OnOk result (IsTrue F.is_known → (old new : List ℕ) → IsPage new at page.now → at + length page.now ≤ self.old.length → IsStarted self.old.stage
+            → (IsDatabase old → AreAt old at (min (length old - at) (length page.now)) self.old.old_page.items)
+            → IsAt old new at self.old (F.held file.old) → IsAt old new (at + 4096) self.new (F.held file.new)) }
+        ensures err { OnErr result (IsTrue F.is_known → (old new : List ℕ) → IsPage new at page.now → at + length page.now ≤ self.old.length → IsStarted self.old.stage
+            → (IsDatabase old → AreAt old at (min (length old - at) (length page.now)) self.old.old_page.items)
+            → IsAt old new at self.old (F.held file.old) → IsBroken old self.new (F.held file.new) × StandsForOld old (F.held file.new)) }
+    {
+        match self.stage {
+            Stage::Marked => self.tail.turn(file, at, &self.old_page, page),
+            _ => file.put(at, page),
+        }
+    }
+
+    /// Writes the next page from byte `at` on, if the page differs from the old page.
+    pub(crate) fn put<F: Bytes>(&mut self, file: &mut F, page: &[u8], at: usize) -> io::Result<()>
+        requires { 4096 ≤ at }
+        ensures ok { OnOk result (IsTrue F.is_known → (old new : List ℕ) → IsPage new at page.now
+            → IsAt old new at self.old (F.held file.old) → IsAt old new (at + 4096) self.new (F.held file.new)) }
+        ensures err { OnErr result (IsTrue F.is_known → (old new : List ℕ) → IsPage new at page.now
+            → IsAt old new at self.old (F.held file.old) → IsBroken old self.new (F.held file.new) × StandsForOld old (F.held file.new)) }
+    {
+        if self.length < at {
+            return Err(Error::from(ErrorKind::InvalidInput));
+        }
+        if page.len() > self.length - at {
+            return Err(Error::from(ErrorKind::InvalidInput));
+        }
+        if self.is_same(file, page, at)? {
+            return Ok(());
+        }
+        self.start(file)?;
+        self.put_differing(file, page, at)
+    }
+
+    // Checks whether one call may write the first page, if no other page differs.
+    fn is_alone(&self, first: &[u8]) -> bool
+        ensures { IsTrue result → self.now.old_length ≤ self.now.length }
+    {
+        match self.tail.syncs {
+            Syncs::Never => self.old_length <= self.length,
+            Syncs::Ordered => self.old_length == self.length && first == self.old_first.as_slice(),
+        }
+    }
+
+    // Writes the first page of a change in which no other page differs and none is removed.
+    fn put_alone<F: Bytes>(&self, file: &mut F, first: &[u8]) -> io::Result<()>
+        requires { length first.now ≤ 4096 }
+        ensures ok { OnOk result (IsTrue F.is_known → (old new : List ℕ) (done : ℕ) → self.now.length ≡ length new → length old ≤ length new → length new ≤ done → 4096 ≤ done
+            → AreAt new 0 (min 4096 (length new)) first.now → Knows old self.now → Agreeing old new (F.held file.old) done → F.held file.new ≡ new) }
+        ensures err { OnErr result (IsTrue F.is_known → (old new : List ℕ) (done : ℕ) → self.now.length ≡ length new → length old ≤ length new → length new ≤ done → 4096 ≤ done
+            → AreAt new 0 (min 4096 (length new)) first.now → Knows old self.now → Agreeing old new (F.held file.old) done
+            → (F.held file.new ≡ old) ⊎ (F.held file.new ≡ new)) }
+    {
+        if self.old_length == self.length && first == self.old_first.as_slice() {
+            return Ok(());
+        }
+        file.put_whole(0, first)
+    }
+
+    // Writes the differing bytes of the new first page that follow the mark.
+    fn put_first<F: Bytes>(&mut self, file: &mut F, first: &[u8]) -> io::Result<()>
+        ensures frame { self.new ≡ record self.old { tail = record self.old.tail { slots = self.new.tail.slots; buffer = self.new.tail.buffer } } }
+        ensures ok { OnOk result (IsTrue F.is_known → (old new : List ℕ) (done : ℕ) → IsDatabase old → Knows old self.old → self.old.length ≡ length new → length new ≤ done
+            → AreAt new 0 (min 4096 (length new)) first.now → Turning old new self.old.tail.place self.old.tail.slots (F.held file.old) done
+            → Paged old new self.new.tail.place self.new.tail.slots (F.held file.new)) }
+        ensures err { OnErr result (IsTrue F.is_known → (old new : List ℕ) (done : ℕ) → IsDatabase old → Knows old self.old → self.old.length ≡ length new → length new ≤ done
+            → AreAt new 0 (min 4096 (length new)) first.now → Turning old new self.old.tail.place self.old.tail.slots (F.held file.old) done
+            → settled (F.held file.new) ≡ old) }
+    {
+        let old = self.old_first.as_slice();
+        if old.len() < LEAST || first.len() < LEAST {
+            return Err(Error::from(ErrorKind::InvalidData));
+        }
+        let from = first_difference(old, first);
+        let end = difference_end(old, first, from);
+        if from == end {
+            return Ok(());
+        }
+        let last = end.min(old.len());
+        self.tail
+            .turn(file, from, &old[from..last], &first[from..end])
+    }
+
+    // Ends a change of a file that is marked.
+    fn end_marked<F: Bytes>(&mut self, file: &mut F, first: &[u8]) -> io::Result<()>
+        requires { 16 ≤ length first.now }
+        ensures ok { OnOk result (IsTrue F.is_known → (old new : List ℕ) (done : ℕ) → IsDatabase old → IsDatabase new → Knows old self.old → self.old.length ≡ length new → length new ≤ done
+            → AreAt new 0 (min 4096 (length new)) first.now → Turning old new self.old.tail.place self.old.tail.slots (F.held file.old) done
+            → settled (F.held file.new) ≡ new) }
+        ensures err { self.old.stage ≡ Stage.Marked → OnErr result (IsTrue F.is_known → (old new : List ℕ) (done : ℕ) → IsDatabase old → IsDatabase new → Knows old self.old → self.old.length ≡ length new → length new ≤ done
+            → AreAt new 0 (min 4096 (length new)) first.now → Turning old new self.old.tail.place self.old.tail.slots (F.held file.old) done
+            → IsBroken old self.new (F.held file.new) × StandsForEither old new (F.held file.new)) }
+    {
+        self.put_first(file, first)?;
+        self.tail.record_new(file, self.length, first)?;
+        self.stage = Stage::Committing;
+        self.tail.commit(file, self.length, first)
+    }
+
+    // Ends a change of a file that is marked invalid.
+    fn end_spoiled<F: Bytes>(&mut self, file: &mut F, first: &[u8]) -> io::Result<()>
+        requires { length first.now ≤ 4096 }
+        ensures frame { self.new ≡ self.old }
+        ensures ok { OnOk result (IsTrue F.is_known → (new : List ℕ) (done : ℕ) → self.old.length ≡ length new → length new ≤ done
+            → AreAt new 0 (min 4096 (length new)) first.now → ArePutBelow done new (F.held file.old) → F.held file.new ≡ new) }
+    {
+        file.set_len(self.length)?;
+        sync(file, self.tail.syncs)?;
+        file.put_whole(0, first)?;
+        sync(file, self.tail.syncs)
+    }
+
+    // Ends a change that one call cannot make.
+    fn end_started<F: Bytes>(&mut self, file: &mut F, first: &[u8]) -> io::Result<()>
+        requires few { length first.now ≤ 4096 }
+        requires enough { 16 ≤ length first.now }
+        ensures ok { OnOk result (IsTrue F.is_known → (old new : List ℕ) (done : ℕ) → IsDatabase new → self.old.length ≡ length new → length new ≤ done
+            → AreAt new 0 (min 4096 (length new)) first.now → IsAt old new done self.old (F.held file.old) → settled (F.held file.new) ≡ new) }
+        ensures err { OnErr result (IsTrue F.is_known → (old new : List ℕ) (done : ℕ) → IsDatabase new → self.old.length ≡ length new → length new ≤ done
+            → AreAt new 0 (min 4096 (length new)) first.now → IsAt old new done self.old (F.held file.old)
+            → IsBroken old self.new (F.held file.new) × StandsForEither old new (F.held file.new)) }
+    {
+        self.start(file)?;
+        match self.stage {
+            Stage::Marked => self.end_marked(file, first),
+            _ => self.end_spoiled(file, first),
+        }
+    }
+
+    /// Ends the change with the new first page, after all other pages were written.
+    ///
+    /// `first` is the new first page, `count` the number of all new bytes.
+    pub(crate) fn end<F: Bytes>(
+        &mut self,
+        file: &mut F,
+        first: &[u8],
+        count: usize,
+    ) -> io::Result<()>
+        requires { length first.now ≤ 4096 }
+        ensures ok { OnOk result (IsTrue F.is_known → (old new : List ℕ) (done : ℕ) → count ≡ length new → length new ≤ done → 4096 ≤ done
+            → AreAt new 0 (min 4096 (length new)) first.now → IsAt old new done self.old (F.held file.old) → settled (F.held file.new) ≡ new) }
+        ensures err { OnErr result (IsTrue F.is_known → (old new : List ℕ) (done : ℕ) → count ≡ length new → length new ≤ done → 4096 ≤ done
+            → AreAt new 0 (min 4096 (length new)) first.now → IsAt old new done self.old (F.held file.old)
+            → IsBroken old self.new (F.held file.new) × StandsForEither old new (F.held file.new)) }
+    {
+        if count != self.length || !is_database(first) {
+            return Err(Error::from(ErrorKind::InvalidInput));
+        }
+        match self.stage {
+            Stage::Untouched if self.is_alone(first) => self.put_alone(file, first),
+            _ => self.end_started(file, first),
+        }
+    }
+
+    // Restores the old first page. If the new length is not the old one, the file's length shows whether the page was
+    // written.
+    fn restore_first<F: Bytes>(&self, file: &mut F) -> io::Result<()>
+        ensures ok { OnOk result (IsTrue F.is_known → (old : List ℕ) → Knows old self.now → IsFirstPut old self.now.length (F.held file.old) → F.held file.new ≡ old) }
+        ensures err { OnErr result (IsTrue F.is_known → (old : List ℕ) → Knows old self.now → IsFirstPut old self.now.length (F.held file.old)
+            → (F.held file.new ≡ F.held file.old) ⊎ (F.held file.new ≡ old)) }
+    {
+        if self.old_length == self.length {
+            return file.put_whole(0, front_page(&self.old_first));
+        }
+        if file.len()? != self.old_length {
+            return Err(Error::from(ErrorKind::InvalidData));
+        }
+        Ok(())
+    }
+
+    // Restores the old first page and the old length of a file that is no database.
+    fn restore<F: Bytes>(&self, file: &mut F) -> io::Result<()>
+        ensures { OnOk result (IsTrue F.is_known → (old : List ℕ) → Knows old self.now → StaysBehind old (F.held file.old) → F.held file.new ≡ old) }
+    {
+        file.put_whole(0, front_page(&self.old_first))?;
+        file.set_len(self.old_length)
+    }
+
+    // Marks a file again, after the call that makes the file represent its new bytes failed.
+    fn mark_again<F: Bytes>(&self, file: &mut F) -> io::Result<()>
+        ensures ok { OnOk result (IsTrue F.is_known → ArePut 0 (undo_mark self.now.tail.place) (F.held file.old) (F.held file.new)) }
+        ensures err { OnErr result (IsTrue F.is_known → AreWholeOrNot 0 (undo_mark self.now.tail.place) (F.held file.old) (F.held file.new)) }
+    {
+        file.put_whole(0, &undo_mark(self.tail.place))
+    }
+
+    // Leaves the first `count` of the new bytes in the file.
+    fn leave_front<F: Bytes>(&self, file: &mut F, first: &[u8], count: usize) -> io::Result<()> {
+        file.set_len(count)?;
+        file.put_whole(0, front_page(&first[..count.min(first.len())]))
+    }
+
+    /// Undoes the change, after a call that failed.
+    ///
+    /// A file that was no database and whose old bytes are not in memory keeps the first `count` of the new bytes
+    /// instead. `first` is the new first page.
+    pub(crate) fn take_back<F: Bytes>(
+        &mut self,
+        file: &mut F,
+        first: &[u8],
+        count: usize,
+    ) -> io::Result<()>
+        ensures ok { OnOk result (IsTrue F.is_known → (old : List ℕ) → CanRestore old → IsBroken old self.old (F.held file.old) → F.held file.new ≡ old) }
+        ensures stands { IsTrue F.is_known → (old : List ℕ) → IsDatabase old → IsBroken old self.old (F.held file.old)
+            → (F.held file.new ≡ F.held file.old) ⊎ (settled (F.held file.new) ≡ settled (F.held file.old)) ⊎ (settled (F.held file.new) ≡ old) }
+    {
+        match self.stage {
+            Stage::Untouched => self.restore_first(file),
+            Stage::Marked => {
+                settle(file, &mut self.old_page)?;
+                Ok(())
+            }
+            Stage::Committing => {
+                self.mark_again(file)?;
+                settle(file, &mut self.old_page)?;
+                Ok(())
+            }
+            Stage::Spoiled if LEAST <= self.old_length => self.leave_front(file, first, count),
+            Stage::Unkept | Stage::Spoiled => self.restore(file),
+        }
+    }
+}

@@ -1,0 +1,104 @@
+//! Pages of a file: the offsets of pages, and the differences between pages.
+ghost use Rattle.std.specs.Prelude.{◌≡◌, ◌↔◌, ◌≤◌, ◌+◌, ◌%◌, ◌^◌, ◌<◌, ℕ, length, slice_index, IsTrue, IfOk, OnOk};
+ghost use Rattle.rrd_undo.specs.Calls.{AreAt};
+ghost use Rattle.rrd_undo.specs.Databases.{IsDatabase};
+
+use crate::Bytes;
+use rrd_tail::DATABASE_MARK;
+use std::io::{self, Error, ErrorKind};
+
+/// The length of a page in bytes. The system stores files in memory in such pages.
+pub const PAGE: usize = 4_096;
+
+/// The minimum length of a database in bytes: the length of an undo mark.
+pub(crate) const LEAST: usize = 16;
+
+/// Returns the offset of the page that follows the page at byte `at`.
+pub(crate) fn next_page(at: usize) -> io::Result<usize>
+    ensures { IfOk result (λ next. next ≡ at + 4096) }
+{
+    match at.checked_add(PAGE) {
+        Some(next) => Ok(next),
+        None => Err(Error::from(ErrorKind::FileTooLarge)),
+    }
+}
+
+/// Returns the offset of the first page that begins at byte `at` or later.
+pub(crate) fn page_from(at: usize) -> io::Result<usize>
+    ensures page { IfOk result (λ page. page % 4096 ≡ 0) }
+    ensures behind { IfOk result (λ page. at ≤ page) }
+    ensures fits { IfOk result (λ page. page < 2 ^ 64) }
+{
+    let pages = at / PAGE + usize::from(at % PAGE != 0);
+    match pages.checked_mul(PAGE) {
+        Some(page) => Ok(page),
+        None => Err(Error::from(ErrorKind::FileTooLarge)),
+    }
+}
+
+/// Reads `count` bytes from byte `at` on, at most one page.
+pub(crate) fn read_page<F: Bytes>(
+    file: &mut F,
+    at: usize,
+    count: usize,
+    into: &mut Vec<u8>,
+) -> io::Result<()>
+    ensures same { F.held file.new ≡ F.held file.old }
+    ensures page { OnOk result (length into.new.items ≤ 4096) }
+    ensures read { OnOk result (IsTrue F.is_known → AreAt (F.held file.old) at count into.new.items) }
+{
+    file.read(at, count, into)?;
+    if into.len() > PAGE {
+        return Err(Error::from(ErrorKind::InvalidData));
+    }
+    Ok(())
+}
+
+/// Returns the first bytes of `bytes`, at most one page.
+pub(crate) fn front_page(bytes: &[u8]) -> &[u8]
+    ensures few { length result.now ≤ 4096 }
+    ensures same { length bytes.now ≤ 4096 → result.now ≡ bytes.now }
+{
+    &bytes[..bytes.len().min(PAGE)]
+}
+
+/// Returns the index of the first byte in which two pages differ, after their first 16 bytes.
+///
+/// If no such byte differs, returns the length of the shorter page.
+pub(crate) fn first_difference(old: &[u8], new: &[u8]) -> usize
+    requires old { 16 ≤ length old.now }
+    requires new { 16 ≤ length new.now }
+    ensures least { 16 ≤ result }
+    ensures old { result ≤ length old.now }
+    ensures new { result ≤ length new.now }
+    ensures same { (k : ℕ) → 16 ≤ k → k < result → slice_index old.now k ≡ slice_index new.now k }
+{
+    let mut at = LEAST;
+    while at < old.len() && at < new.len() && old[at] == new[at] {
+        at += 1;
+    }
+    at
+}
+
+/// Returns the index after the last byte in which a new page differs from the old page.
+///
+/// Returns `from` if that index is smaller, or if no byte differs.
+pub(crate) fn difference_end(old: &[u8], new: &[u8], from: usize) -> usize
+    requires { from ≤ length new.now }
+    ensures from { from ≤ result }
+    ensures within { result ≤ length new.now }
+    ensures same { (k : ℕ) → result ≤ k → k < length new.now → (k < length old.now) × (slice_index old.now k ≡ slice_index new.now k) }
+{
+    let mut end = new.len();
+    while end > from && end <= old.len() && old[end - 1] == new[end - 1] {
+        end -= 1;
+    }
+    end
+}
+
+/// Checks whether bytes are a database, by their number and their first four bytes.
+pub(crate) fn is_database(bytes: &[u8]) -> bool
+    ensures { IsTrue result ↔ IsDatabase bytes.now }
+{
+    bytes.len() >= LEAST && &bytes[..4] == &DATABASE_MARK[..]
+}

@@ -1,0 +1,241 @@
+//! Recovers a file after a change that was not ended.
+ghost use Rattle.std.specs.Prelude.{◌≡◌, ◌↔◌, ℕ, ◌%◌, ◌<◌, ◌≤◌, List, length, Option, Some, IfSome, IsSome, None, ◌+◌, IsTrue, IfOk, OnErr, OnOk};
+ghost use Rattle.rrd_tail.specs.Marks.{mark_of};
+ghost use Rattle.rrd_tail.specs.Records.{if_shaped, last_record, record_at};
+ghost use Rattle.rrd_tail.specs.Settled.{settled};
+ghost use Rattle.rrd_tail.specs.declared.mark.Mark.{Mark};
+ghost use Rattle.rrd_undo.specs.Settling.{IsPutBack, IsSlotFound, IsUndone};
+ghost use Rattle.rrd_undo.specs.Undoing.{IsToCut};
+
+use crate::Bytes;
+use crate::page::{LEAST, PAGE};
+use crate::tail::{SLOT, SLOT_HEADER, Syncs, cut_front, finish, place_of_slot};
+use rrd_tail::{DATABASE_MARK, Mark, Record, Shape, SlotHeader, read_mark, read_slot};
+use std::io::{self, Error, ErrorKind};
+
+// The number of bytes of a record that are read.
+const RECORD: usize = 64;
+
+/// The effect of [`settle`] on a file.
+#[derive(Clone, Copy, PartialEq, Eq, Debug, Drop)]
+pub enum Settled {
+    /// The file is unchanged: the file has no mark, or has an undo mark without a valid record.
+    AsItWas,
+    /// A change whose new bytes were complete was ended.
+    Ended,
+    /// A change was taken back.
+    TakenBack,
+}
+
+/// Checks whether a file begins with a mark. `front` is the first 16 bytes of the file, or all bytes of a shorter file.
+pub fn is_marked(front: &[u8]) -> bool
+    ensures { IsTrue result ↔ IsSome (mark_of front.now) }
+{
+    read_mark(front).is_some()
+}
+
+// Reads the record at byte `at` of a file, if there is one.
+fn read_record<F: Bytes>(
+    file: &mut F,
+    file_length: usize,
+    at: usize,
+    buffer: &mut Vec<u8>,
+) -> io::Result<Option<Record>>
+    ensures same { F.held file.new ≡ F.held file.old }
+    ensures ok { IfOk result (λ r. IsTrue F.is_known → file_length ≡ length (F.held file.old) → r ≡ record_at (F.held file.old) at) }
+{
+    let count = file_length.saturating_sub(at).min(RECORD);
+    file.read(at, count, buffer)?;
+    Ok(Record::read(at, buffer))
+}
+
+// Reads the record at the end of a file with a cut mark, if there is one.
+fn read_last<F: Bytes>(
+    file: &mut F,
+    file_length: usize,
+    shape: Shape,
+    buffer: &mut Vec<u8>,
+) -> io::Result<Option<Record>>
+    ensures same { F.held file.new ≡ F.held file.old }
+    ensures ok { IfOk result (λ r. IsTrue F.is_known → file_length ≡ length (F.held file.old) → r ≡ last_record shape (F.held file.old)) }
+{
+    if file_length % PAGE != shape.size() {
+        return Ok(None);
+    }
+    let found = read_record(
+        file,
+        file_length,
+        file_length.saturating_sub(shape.size()),
+        buffer,
+    )?;
+    Ok(shaped(shape, found))
+}
+
+// Returns a record, if the record has this shape.
+fn shaped(shape: Shape, found: Option<Record>) -> Option<Record>
+    ensures { result ≡ if_shaped shape found }
+{
+    match found {
+        Some(last) if Shape::for_length(last.length).size() == shape.size() => Some(last),
+        _ => None,
+    }
+}
+
+// Replaces the cut mark of a file without a record by the mark of a database.
+fn unmark<F: Bytes>(file: &mut F) -> io::Result<()>
+    ensures stands { IsTrue F.is_known → (shape : Shape) → mark_of (F.held file.old) ≡ Some (Mark.Cut shape) → last_record shape (F.held file.old) ≡ None
+        → settled (F.held file.new) ≡ settled (F.held file.old) }
+    ensures ok { OnOk result (IsTrue F.is_known → (shape : Shape) → mark_of (F.held file.old) ≡ Some (Mark.Cut shape) → last_record shape (F.held file.old) ≡ None
+        → F.held file.new ≡ settled (F.held file.old)) }
+{
+    file.put_whole(0, &DATABASE_MARK)?;
+    file.sync()
+}
+
+// Settles a file with a cut mark.
+fn settle_cut<F: Bytes>(
+    file: &mut F,
+    file_length: usize,
+    shape: Shape,
+    buffer: &mut Vec<u8>,
+) -> io::Result<Settled>
+    ensures stands { IsTrue F.is_known → file_length ≡ length (F.held file.old) → mark_of (F.held file.old) ≡ Some (Mark.Cut shape)
+        → settled (F.held file.new) ≡ settled (F.held file.old) }
+    ensures ok { OnOk result (IsTrue F.is_known → file_length ≡ length (F.held file.old) → mark_of (F.held file.old) ≡ Some (Mark.Cut shape)
+        → F.held file.new ≡ settled (F.held file.old)) }
+{
+    match read_last(file, file_length, shape, buffer)? {
+        None => unmark(file)?,
+        Some(record) => end_cut(file, shape, &record)?,
+    }
+    Ok(Settled::Ended)
+}
+
+// Cuts a file with a cut mark to the length in its last record.
+fn end_cut<F: Bytes>(file: &mut F, shape: Shape, last: &Record) -> io::Result<()>
+    ensures stands { IsTrue F.is_known → mark_of (F.held file.old) ≡ Some (Mark.Cut shape) → last_record shape (F.held file.old) ≡ Some last.now
+        → settled (F.held file.new) ≡ settled (F.held file.old) }
+    ensures ok { OnOk result (IsTrue F.is_known → mark_of (F.held file.old) ≡ Some (Mark.Cut shape) → last_record shape (F.held file.old) ≡ Some last.now
+        → F.held file.new ≡ settled (F.held file.old)) }
+{
+    finish(file, last.length, Syncs::Ordered)
+}
+
+// Reads the slot with this number, if the file has that slot.
+fn read_slot_at<F: Bytes>(
+    file: &mut F,
+    file_length: usize,
+    tail: usize,
+    number: usize,
+    buffer: &mut Vec<u8>,
+) -> io::Result<Option<SlotHeader>>
+    ensures same { F.held file.new ≡ F.held file.old }
+    ensures few { IfOk result (λ found. IfSome found (λ header. 32 + header.count ≤ length buffer.new.items)) }
+    ensures ok { IfOk result (λ found. IsTrue F.is_known → file_length ≡ length (F.held file.old) → IsSlotFound tail (F.held file.old) number buffer.new.items found) }
+{
+    let at = place_of_slot(tail, number)?;
+    if file_length <= at {
+        return Ok(None);
+    }
+    let count = (file_length - at).min(SLOT);
+    file.read(at, count, buffer)?;
+    Ok(read_slot(tail, buffer))
+}
+
+// Writes the bytes of each slot at their old offset.
+fn put_slots<F: Bytes>(
+    file: &mut F,
+    file_length: usize,
+    tail: usize,
+    buffer: &mut Vec<u8>,
+) -> io::Result<()>
+    ensures stands { IsTrue F.is_known → (old : List ℕ) → file_length ≡ length (F.held file.old) → IsUndone old tail (F.held file.old)
+        → IsUndone old tail (F.held file.new) }
+    ensures ok { OnOk result (IsTrue F.is_known → (old : List ℕ) → file_length ≡ length (F.held file.old) → IsUndone old tail (F.held file.old)
+        → IsPutBack old (F.held file.new)) }
+{
+    for number in 0..usize::MAX {
+        let Some(slot) = read_slot_at(file, file_length, tail, number, buffer)? else {
+            return Ok(());
+        };
+        let end = SLOT_HEADER + slot.count;
+        file.put(slot.place, &buffer[SLOT_HEADER..end])?;
+    }
+    Err(Error::from(ErrorKind::FileTooLarge))
+}
+
+// Removes the slots of a file whose old bytes are restored, and makes the file represent those bytes by a cut mark.
+fn release<F: Bytes>(file: &mut F, tail: usize, first: &Record) -> io::Result<()>
+    ensures ok { OnOk result (IsTrue F.is_known → (old : List ℕ) → IsUndone old tail (F.held file.old) → IsPutBack old (F.held file.old) → record_at (F.held file.old) tail ≡ Some first.now
+        → IsToCut old (F.held file.new)) }
+    ensures err { OnErr result (IsTrue F.is_known → (old : List ℕ) → IsUndone old tail (F.held file.old) → IsPutBack old (F.held file.old) → record_at (F.held file.old) tail ≡ Some first.now
+        → settled (F.held file.new) ≡ old) }
+{
+    let shape = Shape::for_length(first.length);
+    let Some(end) = tail.checked_add(shape.size()) else {
+        return Err(Error::from(ErrorKind::FileTooLarge));
+    };
+    file.set_len(end)?;
+    file.sync()?;
+    file.put_whole(0, &cut_front(shape, &first.first))?;
+    file.sync()
+}
+
+// Takes back a change whose old bytes are in the tail.
+fn undo<F: Bytes>(
+    file: &mut F,
+    file_length: usize,
+    tail: usize,
+    first: &Record,
+    buffer: &mut Vec<u8>,
+) -> io::Result<()>
+    ensures stands { IsTrue F.is_known → (old : List ℕ) → file_length ≡ length (F.held file.old) → IsUndone old tail (F.held file.old) → record_at (F.held file.old) tail ≡ Some first.now
+        → settled (F.held file.new) ≡ old }
+    ensures ok { OnOk result (IsTrue F.is_known → (old : List ℕ) → file_length ≡ length (F.held file.old) → IsUndone old tail (F.held file.old) → record_at (F.held file.old) tail ≡ Some first.now
+        → F.held file.new ≡ old) }
+{
+    put_slots(file, file_length, tail, buffer)?;
+    file.sync()?;
+    release(file, tail, first)?;
+    finish(file, first.length, Syncs::Ordered)
+}
+
+// Settles a file with an undo mark.
+fn settle_undo<F: Bytes>(
+    file: &mut F,
+    file_length: usize,
+    tail: usize,
+    buffer: &mut Vec<u8>,
+) -> io::Result<Settled>
+    ensures stands { IsTrue F.is_known → file_length ≡ length (F.held file.old) → mark_of (F.held file.old) ≡ Some (Mark.Undo tail)
+        → settled (F.held file.new) ≡ settled (F.held file.old) }
+    ensures ok { OnOk result (IsTrue F.is_known → file_length ≡ length (F.held file.old) → mark_of (F.held file.old) ≡ Some (Mark.Undo tail)
+        → F.held file.new ≡ settled (F.held file.old)) }
+{
+    let Some(first) = read_record(file, file_length, tail, buffer)? else {
+        return Ok(Settled::AsItWas);
+    };
+    undo(file, file_length, tail, &first, buffer)?;
+    Ok(Settled::TakenBack)
+}
+
+/// Makes a file have the bytes that the file represents.
+///
+/// If a change was interrupted, `settle` ends the change or takes the change back. `buffer` receives the bytes that are
+/// read.
+///
+/// # Errors
+///
+/// A call of the file failed, or memory ran out. The file then still represents the same bytes.
+pub fn settle<F: Bytes>(file: &mut F, buffer: &mut Vec<u8>) -> io::Result<Settled>
+    ensures stands { IsTrue F.is_known → settled (F.held file.new) ≡ settled (F.held file.old) }
+    ensures ok { OnOk result (IsTrue F.is_known → F.held file.new ≡ settled (F.held file.old)) }
+{
+    let file_length = file.len()?;
+    file.read(0, file_length.min(LEAST), buffer)?;
+    match read_mark(buffer) {
+        None => Ok(Settled::AsItWas),
+        Some(Mark::Cut(shape)) => settle_cut(file, file_length, shape, buffer),
+        Some(Mark::Undo(tail)) => settle_undo(file, file_length, tail, buffer),
+    }
+}

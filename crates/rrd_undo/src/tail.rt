@@ -1,0 +1,243 @@
+//! The tail of a file that is being changed: a record of the old database, and a slot for each old page that a new
+//! page replaces.
+ghost use Rattle.std.specs.Prelude.{◌≡◌, ◌⊎◌, ℕ, ◌+◌, ◌-◌, ◌%◌, ◌<◌, ◌≤◌, ◌++◌, min, List, length, take, drop, IsTrue, IfOk, OnErr, OnOk};
+ghost use Rattle.rrd_tail.specs.Marks.{cut_mark, undo_mark};
+ghost use Rattle.rrd_tail.specs.Records.{shaped_bytes};
+ghost use Rattle.rrd_tail.specs.Settled.{settled};
+ghost use Rattle.rrd_tail.specs.Slots.{slot_place};
+ghost use Rattle.rrd_undo.specs.Calls.{AreAt, ArePut, AreWholeOrNot};
+ghost use Rattle.rrd_undo.specs.Undoing.{IsOldPage, IsReady, IsTail, IsToCut, Keeps, Paged, Turns, Undoing};
+ghost use Rattle.rrd_undo.specs.Databases.{IsDatabase};
+
+use crate::Bytes;
+use crate::page::page_from;
+use rrd_tail::{DATABASE_MARK, Record, Shape, slot_header, undo_mark};
+use std::io::{self, Error, ErrorKind};
+
+/// The distance between the starts of two slots, in bytes.
+pub(crate) const SLOT: usize = 4_128;
+
+// The size of a long record, in bytes.
+const LONG_RECORD: usize = 128;
+
+/// The size of a slot's header, in bytes.
+pub(crate) const SLOT_HEADER: usize = 32;
+
+/// When a change calls [`Bytes::sync`].
+#[derive(Clone, Copy, PartialEq, Eq, Debug, Drop)]
+pub enum Syncs {
+    /// Never: a kill loses nothing, but a power failure may.
+    Never,
+    /// Between calls whose order matters, so that a power failure loses nothing either.
+    Ordered,
+}
+
+// Syncs the file, if `syncs` asks for syncs.
+pub(crate) fn sync<F: Bytes>(file: &mut F, syncs: Syncs) -> io::Result<()>
+    ensures { F.held file.new ≡ F.held file.old }
+{
+    match syncs {
+        Syncs::Never => Ok(()),
+        Syncs::Ordered => file.sync(),
+    }
+}
+
+// Returns the first 16 bytes of `bytes`.
+fn sixteen(bytes: &[u8]) -> [u8; 16]
+    requires { 16 ≤ length bytes.now }
+    ensures { result ≡ take 16 bytes.now }
+{
+    let mut first = [0; 16];
+    first.copy_from_slice(&bytes[..16]);
+    first
+}
+
+// Writes a record at its offset.
+fn put_record<F: Bytes>(file: &mut F, shape: Shape, entry: &Record) -> io::Result<()>
+    requires { entry.now.place % 4096 ≡ 0 }
+    ensures ok { OnOk result (IsTrue F.is_known → ArePut entry.now.place (shaped_bytes shape entry.now) (F.held file.old) (F.held file.new)) }
+    ensures err { OnErr result (IsTrue F.is_known → AreWholeOrNot entry.now.place (shaped_bytes shape entry.now) (F.held file.old) (F.held file.new)) }
+{
+    match shape {
+        Shape::Short => file.put_whole(entry.place, &entry.bytes()),
+        Shape::Long => {
+            let mut bytes = [0; 128];
+            bytes[..64].copy_from_slice(&entry.bytes());
+            file.put_whole(entry.place, &bytes)
+        }
+    }
+}
+
+// Returns the first 16 bytes of a file that represents new bytes: a cut mark, and the new bytes after the mark.
+pub(crate) fn cut_front(shape: Shape, first: &[u8]) -> [u8; 16]
+    requires { 16 ≤ length first.now }
+    ensures { result ≡ cut_mark shape ++ drop 4 (take 16 first.now) }
+{
+    let mut front = sixteen(first);
+    front[..4].copy_from_slice(&shape.cut_mark());
+    front
+}
+
+/// Cuts a file with a cut mark to its new length, and writes the mark of a database.
+pub(crate) fn finish<F: Bytes>(file: &mut F, new_length: usize, syncs: Syncs) -> io::Result<()>
+    ensures stands { IsTrue F.is_known → (bytes : List ℕ) → new_length ≡ length bytes → IsToCut bytes (F.held file.old) → settled (F.held file.new) ≡ bytes }
+    ensures ok { OnOk result (IsTrue F.is_known → (bytes : List ℕ) → new_length ≡ length bytes → IsToCut bytes (F.held file.old) → F.held file.new ≡ bytes) }
+{
+    file.set_len(new_length)?;
+    sync(file, syncs)?;
+    file.put_whole(0, &DATABASE_MARK)?;
+    sync(file, syncs)
+}
+
+/// Returns the offset of the slot with this number.
+pub(crate) fn place_of_slot(tail: usize, number: usize) -> io::Result<usize>
+    ensures { IfOk result (λ place. place ≡ slot_place tail number) }
+{
+    let Some(behind) = number.checked_mul(SLOT) else {
+        return Err(Error::from(ErrorKind::FileTooLarge));
+    };
+    match tail.checked_add(LONG_RECORD) {
+        Some(first) => match first.checked_add(behind) {
+            Some(place) => Ok(place),
+            None => Err(Error::from(ErrorKind::FileTooLarge)),
+        },
+        None => Err(Error::from(ErrorKind::FileTooLarge)),
+    }
+}
+
+/// The tail of a file that is being changed.
+#[derive(Drop)]
+pub(crate) struct Tail {
+    /// The offset of the tail: the start of a page, after the old bytes and after the new bytes.
+    pub(crate) place: usize,
+    /// The number of slots.
+    pub(crate) slots: usize,
+    /// The bytes of a slot to be written, or zeros.
+    pub(crate) buffer: Vec<u8>,
+    /// The setting for syncs of the file.
+    pub(crate) syncs: Syncs,
+}
+
+impl Tail {
+    /// Marks a file, so that the old bytes can be restored from the tail.
+    pub(crate) fn mark<F: Bytes>(
+        &mut self,
+        file: &mut F,
+        old_length: usize,
+        first: &[u8],
+    ) -> io::Result<()>
+        requires page { self.old.place % 4096 ≡ 0 }
+        requires enough { 16 ≤ length first.now }
+        ensures frame { self.new ≡ record self.old { slots = 0 } }
+        ensures ok { OnOk result (IsTrue F.is_known → (old : List ℕ) → IsDatabase old → IsTail old self.old.place → old_length ≡ length old
+            → AreAt old 0 (min 4096 (length old)) first.now → F.held file.old ≡ old → Undoing old self.old.place 0 (F.held file.new)) }
+        ensures err { OnErr result (IsTrue F.is_known → (old : List ℕ) → IsDatabase old → IsTail old self.old.place → old_length ≡ length old
+            → AreAt old 0 (min 4096 (length old)) first.now → F.held file.old ≡ old → settled (F.held file.new) ≡ old) }
+    {
+        self.slots = 0;
+        let shape = Shape::for_length(old_length);
+        file.put_whole(0, &shape.cut_mark())?;
+        sync(file, self.syncs)?;
+        let record = Record {
+            place: self.place,
+            length: old_length,
+            first: sixteen(first),
+        };
+        put_record(file, shape, &record)?;
+        sync(file, self.syncs)?;
+        file.put_whole(0, &undo_mark(self.place))?;
+        sync(file, self.syncs)
+    }
+
+    // Copies the old bytes from byte `at` on to a slot, if there are any.
+    fn keep<F: Bytes>(&mut self, file: &mut F, at: usize, bytes: &[u8]) -> io::Result<()>
+        ensures frame { self.new ≡ record self.old { slots = self.new.slots; buffer = self.new.buffer } }
+        ensures ok { OnOk result (IsTrue F.is_known → (old : List ℕ) → IsDatabase old → IsTail old self.old.place → IsOldPage old at bytes.now
+            → Undoing old self.old.place self.old.slots (F.held file.old)
+            → Keeps old self.old.place self.new.slots at bytes.now (F.held file.old) (F.held file.new)) }
+        ensures err { OnErr result (IsTrue F.is_known → (old : List ℕ) → IsDatabase old → IsTail old self.old.place → IsOldPage old at bytes.now
+            → Undoing old self.old.place self.old.slots (F.held file.old) → settled (F.held file.new) ≡ old) }
+    {
+        if bytes.is_empty() {
+            return Ok(());
+        }
+        let place = place_of_slot(self.place, self.slots)?;
+        self.buffer.clear();
+        self.buffer
+            .extend_from_slice(&slot_header(self.place, at, bytes))?;
+        self.buffer.extend_from_slice(bytes)?;
+        file.append(place, &self.buffer)?;
+        self.slots += 1;
+        sync(file, self.syncs)
+    }
+
+    /// Copies the old bytes from byte `at` on to a slot, and writes new bytes over them.
+    pub(crate) fn turn<F: Bytes>(
+        &mut self,
+        file: &mut F,
+        at: usize,
+        bytes: &[u8],
+        page: &[u8],
+    ) -> io::Result<()>
+        ensures frame { self.new ≡ record self.old { slots = self.new.slots; buffer = self.new.buffer } }
+        ensures ok { OnOk result (IsTrue F.is_known → (old : List ℕ) → IsDatabase old → IsTail old self.old.place → IsOldPage old at bytes.now
+            → length bytes.now ≡ min (length old - at) (length page.now) → at + length page.now ≤ self.old.place
+            → Undoing old self.old.place self.old.slots (F.held file.old)
+            → Turns old self.old.place self.new.slots at page.now (F.held file.old) (F.held file.new)) }
+        ensures err { OnErr result (IsTrue F.is_known → (old : List ℕ) → IsDatabase old → IsTail old self.old.place → IsOldPage old at bytes.now
+            → length bytes.now ≡ min (length old - at) (length page.now) → at + length page.now ≤ self.old.place
+            → Undoing old self.old.place self.old.slots (F.held file.old) → settled (F.held file.new) ≡ old) }
+    {
+        self.keep(file, at, bytes)?;
+        file.put(at, page)
+    }
+
+    /// Writes the record of the new bytes after all slots.
+    pub(crate) fn record_new<F: Bytes>(
+        &self,
+        file: &mut F,
+        new_length: usize,
+        first: &[u8],
+    ) -> io::Result<()>
+        requires { 16 ≤ length first.now }
+        ensures ok { OnOk result (IsTrue F.is_known → (old new : List ℕ) → IsDatabase old → IsDatabase new → IsTail old self.now.place → length new ≤ self.now.place
+            → new_length ≡ length new → AreAt new 0 (min 4096 (length new)) first.now → Paged old new self.now.place self.now.slots (F.held file.old)
+            → IsReady old new self.now.place (F.held file.new)) }
+        ensures err { OnErr result (IsTrue F.is_known → (old new : List ℕ) → IsDatabase old → IsDatabase new → IsTail old self.now.place → length new ≤ self.now.place
+            → new_length ≡ length new → AreAt new 0 (min 4096 (length new)) first.now → Paged old new self.now.place self.now.slots (F.held file.old)
+            → settled (F.held file.new) ≡ old) }
+    {
+        let Some(zeros) = place_of_slot(self.place, self.slots)?.checked_add(SLOT_HEADER) else {
+            return Err(Error::from(ErrorKind::FileTooLarge));
+        };
+        let record = Record {
+            place: page_from(zeros)?,
+            length: new_length,
+            first: sixteen(first),
+        };
+        put_record(file, Shape::for_length(new_length), &record)?;
+        sync(file, self.syncs)
+    }
+
+    /// Makes a file represent its new bytes, by one call.
+    pub(crate) fn commit<F: Bytes>(
+        &self,
+        file: &mut F,
+        new_length: usize,
+        first: &[u8],
+    ) -> io::Result<()>
+        requires { 16 ≤ length first.now }
+        ensures ok { OnOk result (IsTrue F.is_known → (old new : List ℕ) → IsDatabase old → IsDatabase new → new_length ≡ length new
+            → AreAt new 0 (min 4096 (length new)) first.now → IsReady old new self.now.place (F.held file.old) → settled (F.held file.new) ≡ new) }
+        ensures err { OnErr result (IsTrue F.is_known → (old new : List ℕ) → IsDatabase old → IsDatabase new → new_length ≡ length new
+            → AreAt new 0 (min 4096 (length new)) first.now → IsReady old new self.now.place (F.held file.old)
+            → ((settled (F.held file.new) ≡ old) ⊎ (settled (F.held file.new) ≡ new))
+            × ((f : List ℕ) → ArePut 0 (undo_mark self.now.place) (F.held file.new) f → settled f ≡ old)) }
+    {
+        file.put_whole(0, &cut_front(Shape::for_length(new_length), first))?;
+        sync(file, self.syncs)?;
+        // The file represents its new bytes: if a later call fails, the next program that opens the file does the rest.
+        let _finished = finish(file, new_length, self.syncs);
+        Ok(())
+    }
+}

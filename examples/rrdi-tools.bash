@@ -1,0 +1,56 @@
+# Completion of the arguments of rrdi's tools in bash. To have it in a shell, or in every new one from ~/.bashrc:
+#
+#     . examples/rrdi-tools.bash
+
+# Completes options, and else files whose names end in one of the given ways, or directories.
+_rrdi_tool() {
+    local current=${COMP_WORDS[COMP_CWORD]} tool=${COMP_WORDS[0]##*/} options='--help' ends='' end
+    case $tool in
+        rrdi-import)
+            options+=' --journal'
+            [ "${COMP_WORDS[COMP_CWORD - 1]}" != --journal ] || return 0
+            ends='rrd rrdi'
+            ;;
+        rrdi-export) ends='rrdi rrd' ;;
+        rrdi-compare) ends='rrd rrdi' ;;
+        rrdi-plot)
+            case $COMP_CWORD in
+                1) ends='rrdi' ;;
+                2) ends='png svg' ;;
+                3)
+                    mapfile -t COMPREPLY < <(compgen -W 'AVERAGE MIN MAX LAST' -- "$current")
+                    return 0
+                    ;;
+                *) options='--resolution --start --end' ;;
+            esac
+            ;;
+        rrdi-record) ends='rrdi' ;;
+        rrdi-graph)
+            options='--help --start --end --title --vertical-label --width --height'
+            ((COMP_CWORD > 1)) && ends='' || ends='png svg pdf'
+            ;;
+        rrdi-rrdtool)
+            options='--help --exact --rrdi --show --version'
+            if [[ $COMP_CWORD == 1 || $COMP_CWORD == 2 && ${COMP_WORDS[1]} == --* ]]; then
+                [[ $current == -* ]] || options='create update updatev tune resize fetch first last lastupdate info'
+                [[ $current == -* ]] || options+=' graph graphv xport'
+                mapfile -t COMPREPLY < <(compgen -W "$options" -- "$current")
+                return 0
+            fi
+            ends='rrd rrdi'
+            ;;
+    esac
+    COMPREPLY=()
+    if [[ $current == -* ]]; then
+        mapfile -t COMPREPLY < <(compgen -W "$options" -- "$current")
+        return 0
+    fi
+    compopt -o filenames 2>/dev/null
+    for end in $ends; do
+        mapfile -t -O "${#COMPREPLY[@]}" COMPREPLY < <(compgen -f -X "!*.$end" -- "$current")
+    done
+    mapfile -t -O "${#COMPREPLY[@]}" COMPREPLY < <(compgen -d -- "$current")
+    return 0
+}
+
+complete -F _rrdi_tool rrdi-import rrdi-export rrdi-compare rrdi-graph rrdi-plot rrdi-record rrdi-rrdtool

@@ -1,0 +1,293 @@
+/* Functions of RRDtool's library for programs in C that record, such as collectd's plugin rrdtool. They write databases
+ * of rrdi, by the library librrdi. Put this object before RRDtool's own library:
+ *
+ *     LD_PRELOAD=/usr/local/lib/rrdi/librrdi-record.so collectd
+ *
+ * The functions have the names, arguments and results of rrd.h. docs/migrate.md says what differs.
+ *
+ * An update stores each sample that rrdi accepts, and fails if one is refused. Numbers may have an exponent and any
+ * number of digits; they are rounded to millionths, halves upwards. */
+#define _POSIX_C_SOURCE 200809L
+#include "rrdi.h"
+
+#include <errno.h>
+#include <stdarg.h>
+#include <stdio.h>
+#include <stdlib.h>
+#include <string.h>
+#include <strings.h>
+#include <time.h>
+#include <unistd.h>
+
+/* For a lock that another program holds, in milliseconds. */
+#define WAIT 5000
+#define DECIMALS 6
+#define EXPORTED __attribute__((visibility("default")))
+
+/* The error of this thread; empty if there is none. */
+static _Thread_local char error[1024];
+
+EXPORTED char *rrd_get_error(void) { return error; }
+
+EXPORTED void rrd_clear_error(void) { error[0] = '\0'; }
+
+EXPORTED int rrd_test_error(void) { return error[0] != '\0'; }
+
+__attribute__((format(printf, 1, 2))) static int fail(const char *format, ...) {
+    va_list values;
+    va_start(values, format);
+    vsnprintf(error, sizeof error, format, values);
+    va_end(values);
+    return -1;
+}
+
+/* ---- Text that grows */
+
+struct text {
+    char *bytes;
+    size_t length, room;
+    bool has_failed;
+};
+
+static void add(struct text *text, const char *bytes, size_t length) {
+    if (text->has_failed) return;
+    if (text->length + length > text->room) {
+        size_t room = 2 * (text->length + length) + 256;
+        char *grown = realloc(text->bytes, room);
+        if (grown == NULL) {
+            text->has_failed = true;
+            return;
+        }
+        text->bytes = grown;
+        text->room = room;
+    }
+    if (length > 0) memcpy(text->bytes + text->length, bytes, length);
+    text->length += length;
+}
+
+static void add_string(struct text *text, const char *string) { add(text, string, strlen(string)); }
+
+static void add_zeros(struct text *text, long count) {
+    while (count-- > 0) add(text, "0", 1);
+}
+
+/* ---- Numbers */
+
+/* A number in parts: its digits without the point, and how many of them are before the point; that may be negative. */
+struct number {
+    bool is_negative;
+    const char *first, *last; /* the digits, among which there may be a point */
+    long before;
+};
+
+/* Reads a number such as -1.5e-05. Returns whether the whole text is one. */
+static bool read_number(const char *at, const char *end, struct number *number) {
+    long digits = 0, exponent = 0;
+    bool has_point = false, is_below = false;
+    number->is_negative = at < end && *at == '-';
+    if (at < end && (*at == '-' || *at == '+')) at++;
+    number->first = at;
+    number->before = 0;
+    for (; at < end && ((*at >= '0' && *at <= '9') || (*at == '.' && !has_point)); at++) {
+        if (*at == '.') {
+            has_point = true;
+        } else {
+            digits++;
+            number->before += !has_point;
+        }
+    }
+    number->last = at;
+    if (digits == 0) return false;
+    if (at < end && (*at == 'e' || *at == 'E')) {
+        at++;
+        is_below = at < end && *at == '-';
+        if (at < end && (*at == '-' || *at == '+')) at++;
+        if (at == end) return false;
+        for (; at < end && *at >= '0' && *at <= '9'; at++) {
+            if (exponent < 1000) exponent = 10 * exponent + (*at - '0');
+        }
+    }
+    number->before += is_below ? -exponent : exponent;
+    return at == end;
+}
+
+/* Adds one to a number in decimal digits with a point; if all digits are nines, a one comes before them. */
+static void increment(struct text *text, size_t from) {
+    if (text->has_failed) return;
+    size_t at = text->length;
+    while (at > from) {
+        at--;
+        if (text->bytes[at] == '.') continue;
+        if (text->bytes[at] != '9') {
+            text->bytes[at]++;
+            return;
+        }
+        text->bytes[at] = '0';
+    }
+    add(text, "0", 1);
+    if (text->has_failed) return;
+    memmove(text->bytes + from + 1, text->bytes + from, text->length - from - 1);
+    text->bytes[from] = '1';
+}
+
+/* Adds a number as rrdi reads it: without an exponent, and to six decimals. A half is rounded upwards. */
+static void add_rounded(struct text *text, const struct number *number) {
+    long place = number->before; /* the power of ten of the next digit, plus one */
+    int rest = 0;                /* what is cut off: 0 nothing, 1 below a half, 2 a half, 3 above a half */
+    bool is_first_cut = true;
+    if (number->is_negative) add(text, "-", 1);
+    size_t from = text->length;
+    if (place <= 0) {
+        add(text, "0.", 2);
+        add_zeros(text, place < -DECIMALS ? DECIMALS : -place);
+        if (place < -DECIMALS) is_first_cut = false;
+    }
+    for (const char *at = number->first; at < number->last; at++) {
+        if (*at == '.') continue;
+        if (place > -DECIMALS) {
+            add(text, at, 1);
+            place--;
+            if (place == 0) add(text, ".", 1);
+        } else if (is_first_cut) {
+            rest = *at == '0' ? 0 : *at < '5' ? 1 : *at == '5' ? 2 : 3;
+            is_first_cut = false;
+        } else if (*at != '0') {
+            rest = rest == 2 ? 3 : rest == 0 ? 1 : rest;
+        }
+    }
+    if (place > 0) {
+        add_zeros(text, place);
+        add(text, ".", 1);
+        place = 0;
+    }
+    if (place > -DECIMALS) add_zeros(text, DECIMALS + place);
+    if (rest == 3 || (rest == 2 && !number->is_negative)) increment(text, from);
+    while (!text->has_failed && text->bytes[text->length - 1] == '0') text->length--;
+    if (!text->has_failed && text->bytes[text->length - 1] == '.') text->length--;
+}
+
+/* Adds one field of a definition or a sample: a number, or the text as it is, which rrdi refuses if it is none. */
+static void add_field(struct text *text, const char *at, const char *end) {
+    struct number number;
+    bool is_plain = at < end;
+    for (const char *byte = at; byte < end; byte++) {
+        if ((*byte < '0' || *byte > '9') && !(byte == at && *byte == '-' && end - at > 1)) is_plain = false;
+    }
+    size_t length = (size_t)(end - at);
+    if ((length == 3 || (length == 4 && (*at == '-' || *at == '+'))) && strncasecmp(end - 3, "nan", 3) == 0) {
+        add(text, "U", 1);
+    } else if (!is_plain && read_number(at, end, &number)) {
+        add_rounded(text, &number);
+    } else {
+        add(text, at, length);
+    }
+}
+
+/* Adds the fields of a text, of which the ones from `first` on are numbers; colons are between them. */
+static void add_fields(struct text *text, const char *string, int first) {
+    for (int field = 0;; field++) {
+        const char *end = strchr(string, ':');
+        if (end == NULL) end = string + strlen(string);
+        if (field > 0) add(text, ":", 1);
+        if (field >= first) {
+            add_field(text, string, end);
+        } else {
+            add(text, string, (size_t)(end - string));
+        }
+        if (*end == '\0') return;
+        string = end + 1;
+    }
+}
+
+/* ---- The functions */
+
+/* Reports what a call of rrdi says. */
+static int report(const char *path, struct rrdi_answer *answer, const char *output) {
+    bool is_writing = answer->fault == RRDI_CANNOT_WRITE;
+    if ((is_writing || answer->fault == RRDI_CANNOT_OPEN) && answer->system_error != 0) {
+        return fail("%s '%s': %s", is_writing ? "writing" : "opening", path, strerror((int)answer->system_error));
+    }
+    if (answer->fault != RRDI_OK) return fail("%s: %s", path, output);
+    return 0;
+}
+
+EXPORTED int rrd_create_r(const char *path, unsigned long step, time_t start, int count, const char **definitions) {
+    struct text words = {0};
+    struct rrdi_answer answer = {0};
+    char output[512] = "", number[64];
+    rrd_clear_error();
+    add_string(&words, "create");
+    snprintf(number, sizeof number, "--step=%lu", step);
+    add(&words, "", 1);
+    add_string(&words, number);
+    if (start >= 0) {
+        snprintf(number, sizeof number, "--start=%lld", (long long)start);
+        add(&words, "", 1);
+        add_string(&words, number);
+    }
+    for (int at = 0; at < count; at++) {
+        add(&words, "", 1);
+        /* DS:name:type:heartbeat:min:max and RRA:function:xff:steps:rows */
+        add_fields(&words, definitions[at], strncmp(definitions[at], "DS:", 3) == 0 ? 4 : 2);
+    }
+    if (words.has_failed) {
+        free(words.bytes);
+        return fail("out of memory");
+    }
+    rrdi_run_file((const uint8_t *)path, strlen(path), (const uint8_t *)words.bytes, words.length,
+                  (uint64_t)time(NULL), WAIT, false, (uint8_t *)output, sizeof output - 1, &answer);
+    free(words.bytes);
+    return report(path, &answer, output);
+}
+
+/* A line that updates by one sample. Of a time with a fraction the whole seconds stay. */
+static void add_update(struct text *lines, const char *names, const char *sample) {
+    const char *colon = strchr(sample, ':'), *point = strchr(sample, '.');
+    add_string(lines, "update ");
+    if (names != NULL) {
+        add_string(lines, "--template=");
+        add_string(lines, names);
+        add(lines, " ", 1);
+    }
+    if (colon != NULL) {
+        const char *end = point != NULL && point < colon ? point : colon;
+        add(lines, sample, (size_t)(end - sample));
+        add(lines, ":", 1);
+        add_fields(lines, colon + 1, 0);
+    } else {
+        add_string(lines, sample);
+    }
+    add(lines, "\n", 1);
+}
+
+EXPORTED int rrd_update_r(const char *path, const char *names, int count, const char **samples) {
+    struct text lines = {0}, output = {0};
+    struct rrdi_answer answer = {0};
+    uint64_t refused[1] = {0};
+    rrd_clear_error();
+    if (access(path, F_OK) != 0) return fail("opening '%s': %s", path, strerror(errno));
+    for (int at = 0; at < count; at++) add_update(&lines, names, samples[at]);
+    /* Each line prints at most one short message. */
+    add_zeros(&output, 128L * (count > 0 ? count : 1) + 512);
+    if (lines.has_failed || output.has_failed) {
+        free(lines.bytes);
+        free(output.bytes);
+        return fail("out of memory");
+    }
+    rrdi_batch_file((const uint8_t *)path, strlen(path), (const uint8_t *)lines.bytes, lines.length,
+                    (uint64_t)time(NULL), WAIT, false, (uint8_t *)output.bytes, output.length - 1, refused, 1, &answer);
+    output.bytes[answer.output_length < output.length ? answer.output_length : 0] = '\0';
+    /* If the lines were run, the output is theirs, and not the text of the fault. */
+    int status = report(path, &answer, answer.fault == RRDI_NO_MEMORY      ? "out of memory"
+                                       : answer.fault == RRDI_CANNOT_WRITE ? "cannot write"
+                                                                           : output.bytes);
+    if (status == 0 && answer.refused > 0) {
+        char *end = strchr(output.bytes, '\n');
+        if (end != NULL) *end = '\0';
+        const char *reason = strncmp(output.bytes, "ERROR: ", 7) == 0 ? output.bytes + 7 : output.bytes;
+        status = fail("%s: sample %llu of %d: %s", path, (unsigned long long)refused[0], count, reason);
+    }
+    free(lines.bytes);
+    free(output.bytes);
+    return status;
+}

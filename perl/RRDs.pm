@@ -1,0 +1,325 @@
+package RRDs;
+
+# RRDtool's Perl module on rrdi's files. Put the directory of this file before RRDtool's own module:
+#
+#     PERL5LIB=/usr/local/share/rrdi/perl munin-update
+#
+# One process of rrdi-rrdtool in pipe mode serves all calls of a program. The process starts with the first call, and
+# again after a fork, or if a call was broken off. The variable RRDI_RRDTOOL names another program than rrdi-rrdtool.
+# `perldoc RRDs` says which functions there are.
+
+use strict;
+use warnings;
+use Cwd ();
+use Errno qw(EINTR);
+use POSIX ();
+
+our $VERSION = 1.7002;
+
+# The process, its pipes, the process that owns them, its directory, and the environment that it began with.
+my ($child, $to, $from, $owner, $directory, $environment);
+my $is_busy = 0;
+my $error;
+
+sub error { return $error }
+
+# ---- The process
+
+sub _program {
+    # In taint mode the environment chooses no program.
+    return $ENV{RRDI_RRDTOOL} if not ${^TAINT} and defined $ENV{RRDI_RRDTOOL} and length $ENV{RRDI_RRDTOOL};
+    my ($beside) = Cwd::abs_path(__FILE__) =~ m{^(.*/)[^/]*/[^/]*\z}s;
+    $beside .= 'tools/rrdi-rrdtool';
+    return -x $beside ? $beside : 'rrdi-rrdtool';
+}
+
+# The variables that change what a process answers.
+sub _environment {
+    my @names = qw(TZ RRDI RRDI_LIBRARY RRDI_SYNC RRDI_WAIT PATH LANG LC_ALL LC_TIME LC_CTYPE);
+    return join "\0", map { defined $ENV{$_} ? "$_=$ENV{$_}" : $_ } @names;
+}
+
+sub _start {
+    pipe(my $child_reads, my $we_write) or return "pipe: $!";
+    pipe(my $we_read, my $child_writes) or return "pipe: $!";
+    my $program = _program();
+    my $pid = fork;
+    return "fork: $!" unless defined $pid;
+    if ($pid == 0) {
+        # Standard streams may be tied, as under mod_perl, so the numbers of the files are used.
+        $SIG{$_} = 'DEFAULT' for qw(PIPE CHLD ALRM);
+        POSIX::dup2(fileno $child_reads, 0);
+        POSIX::dup2(fileno $child_writes, 1);
+        if (${^TAINT}) {
+            delete @ENV{qw(IFS CDPATH ENV BASH_ENV), grep { /^(RRDI|PYTHON|LD_)/ } keys %ENV};
+            $ENV{PATH} = '/usr/local/bin:/usr/bin:/bin';
+        }
+        no warnings 'exec';
+        exec {$program} $program, '--exact', '-';
+        POSIX::_exit(127);
+    }
+    close $child_reads;
+    close $child_writes;
+    binmode $_ for $we_write, $we_read;
+    ($child, $to, $from, $owner, $environment) = ($pid, $we_write, $we_read, $$, _environment());
+    $directory = Cwd::getcwd();
+    $is_busy = 0;
+    return;
+}
+
+sub _stop {
+    return unless defined $child;
+    my ($pid, $is_ours) = ($child, $owner == $$);
+    undef $child;
+    close $to;
+    close $from;
+    # A process that was broken off may have a call to finish. It gets no more.
+    kill 'TERM', $pid if $is_ours and $is_busy;
+    local ($?, $!);
+    waitpid $pid, 0 if $is_ours;
+    return;
+}
+
+END { _stop() }
+
+# An argument as the pipe mode reads it: in quotes, and each apostrophe in quotes of the other kind.
+sub _quote {
+    my ($word) = @_;
+    $word = '' unless defined $word;
+    utf8::encode($word) if utf8::is_utf8($word);
+    return $word if $word =~ m{^[\w.:/+=\@,~%#-]+\z};
+    $word =~ s/'/'"'"'/g;
+    return "'$word'";
+}
+
+sub _write {
+    my ($text) = @_;
+    local $SIG{PIPE} = 'IGNORE';
+    my $at = 0;
+    while ($at < length $text) {
+        my $count = syswrite $to, $text, length($text) - $at, $at;
+        next if not defined $count and $! == EINTR;
+        return 0 unless defined $count;
+        $at += $count;
+    }
+    return 1;
+}
+
+# Sends a line; returns the lines of its answer, or undef and sets the error.
+sub _answer {
+    my ($line) = @_;
+    $is_busy = 1;
+    my @lines;
+    local $.;  # so that later warnings of the program don't name this pipe
+    if (_write("$line\n")) {
+        while (defined(my $read = readline $from)) {
+            chomp $read;
+            if ($read =~ /^OK u:\d+\.\d\d s:\d+\.\d\d r:\d+\.\d\d\z/) {
+                $is_busy = 0;
+                return \@lines;
+            }
+            if ($read =~ s/^ERROR: //) {
+                $is_busy = 0;
+                $error = $read;
+                return;
+            }
+            push @lines, $read;
+        }
+    }
+    my $program = _program();
+    _stop();
+    $error = "$program ended; is it installed?";
+    return;
+}
+
+# Runs a command; returns the lines that it prints, or undef and sets the error.
+sub _ask {
+    my ($name, @words) = @_;
+    undef $error;
+    # A line of the pipe has no line feed in it.
+    s/\n/ /g for grep { defined } @words;
+    _stop() if defined $child and ($owner != $$ or $is_busy or $environment ne _environment());
+    if (not defined $child) {
+        $error = _start();
+        return if defined $error;
+    }
+    my $here = Cwd::getcwd();
+    if (defined $here and $here ne $directory) {
+        _answer('cd ' . _quote($here)) or return;
+        $directory = $here;
+    }
+    return _answer(join ' ', $name, map { _quote($_) } @words);
+}
+
+# ---- The functions
+
+# Whether a command was run: 1, or undef.
+sub _run {
+    return _ask(@_) ? 1 : undef;
+}
+
+sub create { return _run('create', @_) }
+sub update { return _run('update', @_) }
+sub tune { return _run('tune', @_) }
+sub resize { return _run('resize', @_) }
+
+sub _number {
+    my $lines = _ask(@_) or return undef;
+    return 0 + $lines->[0];
+}
+
+sub first { return _number('first', @_) }
+sub last { return _number('last', @_) }
+
+sub _value {
+    my ($text) = @_;
+    return $text =~ /^-?nan\z/i ? undef : 0 + $text;
+}
+
+# The time of the first row, the seconds between rows, the names of the sources, and the rows.
+sub fetch {
+    my $lines = _ask('rows', @_) or return undef;
+    my ($begin, $head, undef, @rows) = @$lines;
+    my ($start, $step) = split ' ', $begin;
+    my @cells = map { s/^\s*\d+: //; [map { _value($_) } split ' '] } @rows;
+    return ($start + $step, 0 + $step, [split ' ', $head], \@cells);
+}
+
+# The time of the last sample, the names of the sources, and their last values as texts.
+sub lastupdate {
+    my $lines = _ask('lastupdate', @_) or return undef;
+    my ($head, undef, $row) = @$lines;
+    my ($time, @values) = split /:? /, $row =~ s/^\s+//r;
+    return (0 + $time, [split ' ', $head], \@values);
+}
+
+# The lines KEY = VALUE as a hash.
+sub _hash {
+    my ($lines) = @_;
+    return { map { /^(\S+) = (.*)\z/ ? ($1, _typed($2)) : () } @$lines };
+}
+
+sub _typed {
+    my ($text) = @_;
+    return $text =~ /^"(.*)"\z/ ? $1 : _value($text);
+}
+
+sub info {
+    my $lines = _ask('info', @_) or return undef;
+    return _hash($lines);
+}
+
+sub updatev {
+    my $lines = _ask('updatev', @_) or return undef;
+    return _hash($lines);
+}
+
+# A start and an end, as seconds since 1970.
+sub times {
+    my $lines = _ask('times', @_) or return undef;
+    return map { 0 + $_ } split ' ', $lines->[0];
+}
+
+# ---- Pictures
+
+# A picture for standard output is drawn to a file first.
+sub _picture {
+    my ($name, $file, @words) = @_;
+    return (_ask($name, $file, @words), undef) unless defined $file and $file eq '-';
+    require File::Temp;
+    my $drawn = File::Temp->new(SUFFIX => '.rrdi-graph');
+    my $lines = _ask($name, $drawn->filename, @words) or return;
+    binmode $drawn;
+    local $/;
+    return ($lines, scalar readline $drawn);
+}
+
+# The texts of PRINT, and the width and the height.
+sub graph {
+    my ($lines, $image) = _picture('graph', @_);
+    return undef unless $lines;
+    if (defined $image) {
+        binmode STDOUT;
+        print STDOUT $image;
+    }
+    my ($size, @printed) = @$lines;
+    my ($width, $height) = split /x/, $size;
+    return (\@printed, 0 + $width, 0 + $height);
+}
+
+sub graphv {
+    my ($lines, $image) = _picture('graphv', @_);
+    return undef unless $lines;
+    my $found = _hash($lines);
+    $found->{image} = $image if defined $image;
+    return $found;
+}
+
+# The time of the first row and of the last one, the seconds between rows, how many columns, their names, and the rows.
+sub xport {
+    my $lines = _ask('xport', '--json', grep { not /^(-t|--showtime|--json|--enumds)\z/ } @_) or return undef;
+    require JSON::PP;
+    my $found = JSON::PP->new->decode(join "\n", @$lines);
+    my ($meta, $rows) = @$found{qw(meta data)};
+    utf8::encode($_) for @{ $meta->{legend} };
+    my @numbers = map { my $row = $_; [map { defined $_ ? 0 + $_ : undef } @$row] } @$rows;
+    return (@$meta{qw(start end step)}, scalar @{ $meta->{legend} }, $meta->{legend}, \@numbers);
+}
+
+# ---- What rrdi has none of
+
+for my $name (qw(dump restore list flushcached fetch_cb_register)) {
+    no strict 'refs';
+    *{$name} = sub { $error = "$name is not supported on rrdi's files"; return undef };
+}
+
+1;
+
+__END__
+
+=head1 NAME
+
+RRDs - RRDtool's Perl module on rrdi's files
+
+=head1 SYNOPSIS
+
+    PERL5LIB=/usr/local/share/rrdi/perl PROGRAM
+
+    use RRDs;
+    RRDs::create($file, '--step', 300, 'DS:load:GAUGE:600:0:U', 'RRA:AVERAGE:0.5:1:288');
+    RRDs::update($file, 'N:0.25');
+    my ($start, $step, $names, $rows) = RRDs::fetch($file, 'AVERAGE', '--start', 'end-1h');
+    die RRDs::error() if RRDs::error();
+
+=head1 DESCRIPTION
+
+The functions take the arguments of RRDtool's own module and return what it returns: C<create>, C<update>, C<updatev>,
+C<tune>, C<fetch>, C<first>, C<last>, C<info>, C<times>, C<graph>, C<graphv>, C<xport> and C<error>. After an error they
+return undef, and C<RRDs::error()> is the reason. C<graph>, C<graphv> and C<xport> need RRDtool's library, which draws.
+
+Two functions are not in RRDtool's own module: C<resize>, which writes F<resize.rrd>, and C<lastupdate>, which returns
+the time of the last sample, the names of the sources and their last values. C<dump>, C<restore>, C<list>,
+C<flushcached> and C<fetch_cb_register> set an error.
+
+All calls of a program are served by one process of C<rrdi-rrdtool>. Line feeds in arguments become spaces.
+
+=head1 ENVIRONMENT
+
+=over
+
+=item RRDI_RRDTOOL
+
+The program to run instead of rrdi-rrdtool, which is found beside this module or on the PATH.
+
+=item RRDI
+
+The program that rrdi-rrdtool runs. Without it, the C library librrdi runs the commands; if that is not installed, the
+program rrdi on the PATH.
+
+=back
+
+=head1 SEE ALSO
+
+L<rrdi(1)>, L<rrdi-rrdtool(1)>
+
+=cut

@@ -1,0 +1,44 @@
+"""Round-robin databases of rrdi, in this process by the C library librrdi, or read from their files.
+
+    import rrdi
+
+    rrdi.create("room.rrdi", "DS:temp:GAUGE:60:U:U", "RRA:AVERAGE:0.5:1:360", step=10)
+    rrdi.update("room.rrdi", "N:21.5")
+    (start, end, step), names, rows = rrdi.fetch("room.rrdi", "AVERAGE")
+
+The functions have the names, the words and the results of Python's module `rrdtool`. docs/python.md has all of them.
+`rrdi.reader` reads files without the C library; `rrdi.compat.rrdtool` takes RRDtool's own syntax.
+"""
+from __future__ import annotations
+
+from typing import TYPE_CHECKING
+
+from .amounts import Millionths
+from .commands import (Batch, RefusedLine, batch, create, fetch, first, info, last, lastupdate, resize, revert, tune,
+                       update)
+from .database import Database, RefusedLines
+from .errors import (Busy, CannotOpen, CannotRead, CannotWrite, Damaged, Error, NoDatabase, OperationalError,
+                     OutOfMemory, ProgrammingError, Refused, Unreadable, Usage)
+from .library import library_path, load_library
+from .memory import Ran, RanBatch, run, run_batch
+
+if TYPE_CHECKING:
+    from .reader import Fault, Reader, read, read_file
+
+__version__ = "0.2.0"
+
+__all__ = ["Batch", "Busy", "CannotOpen", "CannotRead", "CannotWrite", "Damaged", "Database", "Error", "Fault",
+           "Millionths", "NoDatabase", "OperationalError", "OutOfMemory", "ProgrammingError", "Ran", "RanBatch",
+           "Reader", "Refused", "RefusedLine", "RefusedLines", "Unreadable", "Usage", "batch", "create", "fetch",
+           "first", "info", "last", "lastupdate", "library_path", "load_library", "read", "read_file", "resize",
+           "revert", "run", "run_batch", "tune", "update"]
+
+_OF_THE_READER = frozenset({"Fault", "Reader", "read", "read_file"})
+
+
+def __getattr__(name: str) -> object:
+    """Imports the reader when a program first asks for one of its names."""
+    if name not in _OF_THE_READER:
+        raise AttributeError(f"module {__name__!r} has no attribute {name!r}")
+    from . import reader
+    return getattr(reader, name)

@@ -1,0 +1,11 @@
+"""Amounts in whole millionths."""
+from __future__ import annotations
+
+MILLION = 10**6
+
+
+class Millionths(int):
+    """An amount in whole millionths, which is shown as rrdi prints it."""
+
+    def __str__(self) -> str:
+        return f"{'-' * (self < 0)}{abs(self) // MILLION}.{abs(self) % MILLION:06}"

@@ -1,0 +1,1 @@
+"""Scripts and programs that were written for RRDtool."""

@@ -1,0 +1,216 @@
+"""Python's module `rrdtool` for databases of rrdi: its functions, words, results and exceptions.
+
+    from rrdi.compat import rrdtool
+
+    rrdtool.update("load.rrd", "N:0.42")
+    span, names, rows = rrdtool.fetch("load.rrd", "AVERAGE", "-s", "end-1h", "-e", "now")
+
+A program that says `import rrdtool` gets this module if the folder `compat` beside the package is first on its path.
+The words are in RRDtool's own syntax (docs/rrdtool-words.md). What rrdi lacks, such as `graph`, raises
+`OperationalError` with its name. All that goes wrong raises `OperationalError`, as in RRDtool's module.
+"""
+from __future__ import annotations
+
+import builtins
+import os
+import time
+from typing import List, NoReturn, Optional, Tuple, Union
+
+from .. import commands
+from ..errors import Error, OperationalError, ProgrammingError
+from ..reader import read_bytes
+from ..results import Info, LastUpdate, Table, info_of, last_update
+from .syntax import Untranslatable
+from .translate import Command, translate
+
+__version__ = "0.2.0"
+
+Words = Union[str, List[str]]
+
+__all__ = ["OperationalError", "ProgrammingError", "clear_fetch_cb", "create", "dump", "fetch", "first", "flushcached",
+           "graph", "graphv", "info", "last", "lastupdate", "lib_version", "list", "register_fetch_cb", "resize",
+           "tune", "update", "updatev", "xport"]
+
+
+class _ByLibrary:
+    """Asks the library."""
+
+    def last(self, file: str) -> int:
+        return commands.last(file)
+
+    def info(self, file: str) -> str:
+        try:
+            return commands.run_on(file, ["info"])
+        except Error:
+            return ""
+
+
+def _flat(given: Tuple[object, ...]) -> List[str]:
+    """The words, each of which is text or a list of text."""
+    words: List[str] = []
+    for number, word in enumerate(given):
+        if isinstance(word, str):
+            words.append(word)
+        elif isinstance(word, builtins.list):
+            for at, element in enumerate(word):
+                if not isinstance(element, str):
+                    raise TypeError(f"Element {at} in argument {number} must be str")
+                words.append(element)
+        else:
+            raise TypeError(f"Argument {number} must be str or a list of str")
+    return words
+
+
+def _translated(command: str, words: Tuple[object, ...]) -> List[Command]:
+    try:
+        return translate(command, _flat(words), int(time.time()), _ByLibrary())
+    except Untranslatable as reason:
+        raise OperationalError(str(reason)) from None
+
+
+class _AsRrdtool:
+    """Raises what goes wrong as RRDtool's module does."""
+
+    def __enter__(self) -> None:
+        pass
+
+    def __exit__(self, kind: object, error: Optional[BaseException], trace: object) -> None:
+        if isinstance(error, ProgrammingError):
+            raise OperationalError(error.reason, error.path, error.fault) from None
+
+
+def _change(command: str, words: Tuple[object, ...]) -> None:
+    with _AsRrdtool():
+        for name, file, *others in _translated(command, words):
+            commands.run_on(file, [name, *others])
+
+
+# ---- What rrdi has
+
+def create(*words: Words) -> None:
+    """Creates a database: FILE [-s STEP] [-b START] [-O] DS:.. RRA:.."""
+    _change("create", words)
+
+
+def update(*words: Words) -> None:
+    """Adds samples, all or none: FILE [-t NAME[:NAME..]] [-s] TIME:VALUE[:VALUE..].."""
+    _change("update", words)
+
+
+def tune(*words: Words) -> None:
+    """Changes settings, archives, or numbers of rows: FILE [-h NAME:SECONDS] [-i NAME:MIN] .. [RRA:..] [RRA#0:+10]"""
+    _change("tune", words)
+
+
+def resize(*words: Words) -> None:
+    """Writes FILE with more or fewer rows to resize.rrd in this directory: FILE ARCHIVE GROW|SHRINK ROWS"""
+    with _AsRrdtool():
+        (name, file, *others), = _translated("resize", words)
+        try:
+            data = read_bytes(file)
+            with open("resize.rrd", "wb") as copy:
+                copy.write(data)
+        except OSError as error:
+            raise OperationalError("cannot open", file, 0, None, error.errno or 0) from None
+        try:
+            commands.run_on("resize.rrd", [name, *others])
+        except Error:
+            os.remove("resize.rrd")
+            raise
+
+
+def fetch(*words: Words) -> Table[float]:
+    """Returns rows: FILE FUNCTION [-r SECONDS] [-s START] [-e END] [-a]"""
+    with _AsRrdtool():
+        (_, file, *others), = _translated("fetch", words)
+        if not others:
+            raise OperationalError("fetch needs a FUNCTION", file)
+        return commands.fetch(file, *others)
+
+
+def first(*words: Words) -> int:
+    """Returns the time of an archive's oldest row: FILE [--rraindex ARCHIVE]"""
+    with _AsRrdtool():
+        (_, file, *others), = _translated("first", words)
+        return commands.first(file, *others)
+
+
+def last(*words: Words) -> int:
+    """Returns the time of the last sample: FILE"""
+    return int(_printed("last", words)[1])
+
+
+def lastupdate(*words: Words) -> LastUpdate[float]:
+    """Returns the last raw values: FILE"""
+    if not words:
+        raise ProgrammingError("Missing filename argument")
+    return last_update(_printed("lastupdate", words)[1], float)
+
+
+def info(*words: Words) -> Info:
+    """Returns the settings: FILE"""
+    file, text = _printed("info", words)
+    return info_of(text, file)
+
+
+def _printed(command: str, words: Tuple[object, ...]) -> Tuple[str, str]:
+    """FILE, and what a command without options prints of it."""
+    with _AsRrdtool():
+        (name, file, *others), = _translated(command, words)
+        return file, commands.run_on(file, [name, *others])
+
+
+def lib_version() -> str:
+    """Returns the version of rrdi."""
+    return __version__
+
+
+# ---- What rrdi lacks
+
+def _lacks(command: str) -> NoReturn:
+    raise OperationalError(f"rrdi has no command {command}")
+
+
+def dump(*words: object) -> NoReturn:
+    """Raises `OperationalError`."""
+    _lacks("dump")
+
+
+def flushcached(*words: object) -> NoReturn:
+    """Raises `OperationalError`."""
+    _lacks("flushcached")
+
+
+def graph(*words: object) -> NoReturn:
+    """Raises `OperationalError`."""
+    _lacks("graph")
+
+
+def graphv(*words: object) -> NoReturn:
+    """Raises `OperationalError`."""
+    _lacks("graphv")
+
+
+def list(*words: object) -> NoReturn:
+    """Raises `OperationalError`."""
+    _lacks("list")
+
+
+def register_fetch_cb(*words: object) -> NoReturn:
+    """Raises `OperationalError`."""
+    _lacks("register_fetch_cb")
+
+
+def clear_fetch_cb(*words: object) -> NoReturn:
+    """Raises `OperationalError`."""
+    _lacks("clear_fetch_cb")
+
+
+def updatev(*words: object) -> NoReturn:
+    """Raises `OperationalError`."""
+    _lacks("updatev")
+
+
+def xport(*words: object) -> NoReturn:
+    """Raises `OperationalError`."""
+    _lacks("xport")

@@ -1,0 +1,220 @@
+"""Commands in RRDtool's syntax, as commands of rrdi."""
+from __future__ import annotations
+
+import os
+import re
+from typing import Callable, Dict, List, Optional, Protocol, Tuple
+
+from .syntax import OPTIONS, Options, Untranslatable, read_length, read_number, read_options
+from .times import Moment
+
+# A command's name, FILE, and its other words.
+Command = List[str]
+
+
+class Questions(Protocol):
+    """What the translation of some words has to know of a file."""
+
+    def last(self, file: str) -> int:
+        """The time of the last sample. Where there is none, this ends the translation."""
+
+    def info(self, file: str) -> str:
+        """The text of `rrdi info`; none where there is no database, of which rrdi tells later."""
+
+
+def translate(command: str, words: List[str], now: int, questions: Questions) -> List[Command]:
+    """Returns the commands of rrdi that do what one of RRDtool's does. `resize` is of the file that is resized.
+
+    # Errors
+    `Untranslatable` if rrdi lacks what the words ask for, or one of them can't be read.
+    """
+    if command not in OPTIONS:
+        raise Untranslatable("pipe mode is not supported; use rrdi batch FILE" if command == "-" else
+                             f"rrdi has no command {command}")
+    options, others = read_options(command, words)
+    if not others:
+        raise Untranslatable(f"{command} needs a FILE")
+    if others[0].startswith("-"):
+        others[0] = "./" + others[0]
+    return Translation(now, questions).translate(command, options, others)
+
+
+class Translation:
+    """One translation, at one time."""
+
+    def __init__(self, now: int, questions: Questions):
+        self.now, self.questions = now, questions
+
+    def translate(self, command: str, options: Options, words: List[str]) -> List[Command]:
+        ways: Dict[str, Callable[[Options, List[str]], List[Command]]] = {
+            "create": self.create, "update": self.update, "fetch": self.fetch, "tune": self.tune}
+        if command in ways:
+            return ways[command](options, words)
+        file, *others = words
+        told = [word for name, value in options if name == "--rraindex" for word in (name, value)]
+        return [[command, file, *told, *others]]
+
+    def seconds(self, text: str) -> int:
+        return Moment(text, self.now).seconds()
+
+    # ---- create
+
+    def create(self, options: Options, words: List[str]) -> List[Command]:
+        file, *definitions = words
+        step, told = 300, []
+        for name, value in options:
+            if name == "--step":
+                step = int(read_length(value, "step"))
+                told += ["--step", str(step)]
+            elif name == "--start":
+                told += ["--start", str(self.seconds(value))]
+            elif os.path.exists(file):
+                raise Untranslatable(f"{file} already exists")
+        return [["create", file, *told, *(self.definition(word, step) for word in definitions)]]
+
+    def definition(self, definition: str, step: int) -> str:
+        parts = definition.split(":")
+        if parts[0] == "DS" and len(parts) > 2:
+            if parts[2] in ("COMPUTE", "DCOUNTER", "DDERIVE"):
+                raise Untranslatable(f"rrdi has no type {parts[2]}: {definition}")
+            if "=" in parts[1]:
+                raise Untranslatable(f"a source cannot be filled from another file: {definition}")
+            if len(parts) == 6:
+                parts[3:] = [read_length(parts[3], "heartbeat"), read_number(parts[4]), read_number(parts[5])]
+        elif parts[0] == "RRA" and len(parts) > 1:
+            parts = archive(definition, parts, step)
+        return ":".join(parts)
+
+    # ---- update
+
+    def update(self, options: Options, words: List[str]) -> List[Command]:
+        file, *samples = words
+        told: List[str] = []
+        last: Optional[int] = None
+        for name, value in options:
+            if name == "--template":
+                told += ["--template", value]
+            else:
+                last = self.questions.last(file)
+        taken = []
+        for sample in samples:
+            moment, values = self.time_and_values(sample, last is not None)
+            if last is not None and moment.isdigit():
+                if int(moment) <= last:
+                    continue
+                last = int(moment)
+            taken.append(":".join([moment, *map(read_number, values.split(":"))]))
+        return [["update", file, *told, *taken]] if taken or last is None else []
+
+    def time_and_values(self, sample: str, is_skipping: bool) -> Tuple[str, str]:
+        """The time of a sample, in seconds since 1970 or as it is, and its values."""
+        if "@" in sample:
+            moment, _, values = sample.partition("@")
+            return str(self.seconds(moment)), values
+        moment, _, values = sample.partition(":")
+        if re.fullmatch(r"-?\d{1,12}(\.\d*)?", moment):
+            # A time below 0 is so long ago; of a fraction the whole seconds stay.
+            number = int(moment.split(".")[0]) if "." in moment else int(moment)
+            return str(number if number >= 0 else max(self.now + number, 0)), values
+        return (str(self.now) if moment == "N" and is_skipping else moment), values
+
+    # ---- fetch
+
+    def fetch(self, options: Options, words: List[str]) -> List[Command]:
+        given = dict(options)
+        told = []
+        if "--resolution" in given:
+            told += ["--resolution", read_length(given["--resolution"], "resolution")]
+        if any(name in given for name in ("--start", "--end", "--align-start")):
+            begin, until = self.span(given.get("--start", "end-1d"), given.get("--end", "now"))
+            if "--align-start" in given:
+                before = begin % int(told[1] if told and told[1] != "0" else 1)
+                begin, until = begin - before, until - before
+            told += ["--start", str(begin), "--end", str(until)]
+        file, *function = words
+        return [["fetch", file, *function, *told]]
+
+    def span(self, first: str, second: str) -> Tuple[int, int]:
+        """The start and the end, of which one may be relative to the other."""
+        start, end = Moment(first, self.now), Moment(second, self.now)
+        if start.base and end.base:
+            raise Untranslatable("--start and --end cannot both be relative to each other")
+        if end.base:
+            begin = start.seconds()
+            return begin, end.seconds(start=begin)
+        until = end.seconds()
+        return start.seconds(end=until), until
+
+    # ---- tune
+
+    def tune(self, options: Options, words: List[str]) -> List[Command]:
+        file, *others = words
+        if not options and not others:
+            raise Untranslatable("tune needs an option or an archive")
+        archives = [command for command in (self.tuned_archive(file, word) for word in others) if command]
+        tunes: List[Dict[str, str]] = []
+        for name, value in options:
+            # A name is the one after the rename before it, and rrdi takes an option once.
+            if not tunes or name in tunes[-1] or "--data-source-rename" in tunes[-1]:
+                tunes.append({})
+            tunes[-1][name] = setting(name, value)
+        return [["tune", file, *(word for pair in tune.items() for word in pair)] for tune in tunes] + archives
+
+    def tuned_archive(self, file: str, word: str) -> Optional[Command]:
+        """An archive that is added, removed or gets another number of rows: rrdi takes one at a time."""
+        parts = word.split(":")
+        if word.startswith("RRA#"):
+            return self.resized_archive(file, word)
+        if parts[0] == "RRA" and len(parts) > 1:
+            word = ":".join(archive(word, parts, self.step_of(file)))
+        elif parts[0] != "DELRRA":
+            raise Untranslatable(f"tune cannot add or remove data sources: {word}")
+        return ["tune", file, word]
+
+    def resized_archive(self, file: str, word: str) -> Optional[Command]:
+        """A number of rows that is added, removed or set: RRA#0:+10 is what rrdi resizes by GROW 10."""
+        found = re.fullmatch(r"RRA#(\d{1,3}):([-+=]?)(\d{1,7})", word)
+        if not found:
+            raise Untranslatable(f"cannot parse the number of rows: {word}")
+        number, sign, rows = found[1], found[2], int(found[3])
+        if sign in ("", "="):
+            before = self.rows_of(file, number)
+            # Without such an archive, rrdi says what is wrong.
+            rows -= before or 0
+            if before and rows == 0:
+                return None
+        else:
+            rows *= -1 if sign == "-" else 1
+        return ["resize", file, number, "SHRINK" if rows < 0 else "GROW", str(abs(rows))]
+
+    def step_of(self, file: str) -> int:
+        """The step of a file; where there is no database, rrdi tells why after this."""
+        found = re.match(r"step = (\d+)\n", self.questions.info(file))
+        return int(found[1]) if found else 1
+
+    def rows_of(self, file: str, number: str) -> Optional[int]:
+        """How many rows an archive of a file has; None if rrdi reports no such archive."""
+        found = re.search(rf"^rra\[{number}\]\.rows = (\d+)$", self.questions.info(file), re.MULTILINE)
+        return int(found[1]) if found else None
+
+
+def archive(definition: str, parts: List[str], step: int) -> List[str]:
+    """An archive's definition in parts, its lengths in steps and rows."""
+    if parts[1] not in ("AVERAGE", "MIN", "MAX", "LAST"):
+        raise Untranslatable(f"rrdi has no function {parts[1]}: {definition}")
+    if len(parts) != 5:
+        return parts
+    steps = read_length(parts[3], "steps", step)
+    return [*parts[:2], read_number(parts[2]), steps, read_length(parts[4], "rows", step * int(steps))]
+
+
+def setting(name: str, value: str) -> str:
+    """What an option of tune gives to a source."""
+    source, colon, told = value.partition(":")
+    if name == "--heartbeat":
+        told = read_length(told, "heartbeat")
+    elif name in ("--minimum", "--maximum"):
+        told = read_number(told)
+    elif name == "--data-source-type" and told in ("COMPUTE", "DCOUNTER", "DDERIVE"):
+        raise Untranslatable(f"rrdi has no type {told}")
+    return source + colon + told

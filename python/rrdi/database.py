@@ -1,0 +1,161 @@
+"""Many changes of one file, in one batch."""
+from __future__ import annotations
+
+import os
+from types import TracebackType
+from typing import List, Optional, Tuple, Type, overload
+
+from .commands import RefusedLine, batch, run_on
+from .errors import REFUSED, Refused, error_of_line
+from .fetching import fetched
+from .results import Info, LastUpdate, Table, Value, info_of, last_update
+from .words import FilePath, Words, flat, line_of, options, present
+
+
+class RefusedLines(Refused):
+    """Lines of a `Database` that were refused; `lines` has each with its number and its reason."""
+
+    def __init__(self, path: str, lines: Tuple[RefusedLine, ...]):
+        one = lines[0]
+        more = f" (and {len(lines) - 1} more)" if len(lines) > 1 else ""
+        super().__init__(f"line {one.number}, {one.line}: {one.reason}{more}", path, REFUSED)
+        self.lines = lines
+
+    def __reduce__(self) -> Tuple[object, ...]:
+        return RefusedLines, (self.path, self.lines)
+
+
+class Database:
+    """The database in a file, whose changes wait and are then made together.
+
+        with rrdi.Database("net.rrdi") as database:
+            database.update("10:1")
+            database.update("20:2")
+
+    At the end of the block one call locks the file, reads it, runs what waits, writes it once, and unlocks it. If the
+    block ends by an exception, what waits is dropped. A question, such as `fetch` or `last`, is run in the same call
+    after the changes that wait, which are then in the file.
+
+    Each change is a line, counted from 1. A refused line changes nothing, and the lines around it are run; the refused
+    ones raise `RefusedLines` at the end of the block, or from `flush`. A time `N` is the time at which `update` was
+    called.
+    """
+
+    def __init__(self, path: FilePath, *, now: Optional[int] = None, busy_timeout: Optional[float] = None,
+                 sync: Optional[bool] = None):
+        self.path = os.fsdecode(path)
+        self.now, self.busy_timeout, self.sync = now, busy_timeout, sync
+        self.refused: List[RefusedLine] = []
+        self._waiting: List[str] = []
+        self._count = 0  # the lines that were run
+
+    def __enter__(self) -> Database:
+        return self
+
+    def __exit__(self, kind: Optional[Type[BaseException]], error: Optional[BaseException],
+                 trace: Optional[TracebackType]) -> None:
+        if kind is None:
+            self.flush()
+        else:
+            self._waiting.clear()
+
+    # ---- Changes
+
+    def create(self, *definitions: Words, step: Optional[int] = None, start: Optional[int] = None,
+               journal: Optional[int] = None) -> None:
+        """Creates a database, as `rrdi.create`."""
+        self._add("create", *options(step=step, start=start, journal=journal), *flat(definitions))
+
+    def update(self, *samples: Words, template: Optional[str] = None) -> None:
+        """Adds samples, as `rrdi.update`: those of one call all or none."""
+        time = str(present(self.now))
+        words = [time + word[1:] if word.startswith("N:") else word for word in flat(samples)]
+        self._add("update", *options(template=template), *words)
+
+    def tune(self, *words: Words) -> None:
+        """Changes settings, or adds or removes an archive, as `rrdi.tune`."""
+        self._add("tune", *flat(words))
+
+    def resize(self, *words: Words) -> None:
+        """Gives an archive more or fewer rows, as `rrdi.resize`."""
+        self._add("resize", *flat(words))
+
+    def revert(self) -> None:
+        """Undoes the newest change, as `rrdi.revert`; of a call with many samples, all of them."""
+        self._add("revert")
+
+    def flush(self) -> None:
+        """Makes the changes that wait.
+
+        # Errors
+        - `RefusedLines` if the database refused lines, now or since the last time. The others are in the file.
+        - another `Error` if nothing could be changed; what waited still waits.
+        """
+        if self._waiting:
+            self._run([])
+        refused, self.refused = tuple(self.refused), []
+        if refused:
+            raise RefusedLines(self.path, refused)
+
+    # ---- Questions
+
+    def first(self, rraindex: Optional[int] = None) -> int:
+        """Returns the time of the oldest row of an archive, as `rrdi.first`."""
+        return int(self._ask(["first", *options(rraindex=rraindex)]))
+
+    def last(self) -> int:
+        """Returns the time of the last sample, as `rrdi.last`."""
+        return int(self._ask(["last"]))
+
+    def info(self) -> Info:
+        """Returns the settings, as `rrdi.info`."""
+        return info_of(self._ask(["info"]), self.path)
+
+    @overload
+    def lastupdate(self) -> LastUpdate[float]: ...
+
+    @overload
+    def lastupdate(self, *, values: Type[Value]) -> LastUpdate[Value]: ...
+
+    def lastupdate(self, *, values: type = float) -> object:
+        """Returns the last raw values, as `rrdi.lastupdate`."""
+        return last_update(self._ask(["lastupdate"]), values)
+
+    @overload
+    def fetch(self, function: Words, *words: Words, resolution: Optional[int] = ..., start: Optional[int] = ...,
+              end: Optional[int] = ...) -> Table[float]: ...
+
+    @overload
+    def fetch(self, function: Words, *words: Words, values: Type[Value], resolution: Optional[int] = ...,
+              start: Optional[int] = ..., end: Optional[int] = ...) -> Table[Value]: ...
+
+    def fetch(self, function: Words, *words: Words, values: type = float, resolution: Optional[int] = None,
+              start: Optional[int] = None, end: Optional[int] = None) -> object:
+        """Returns rows of one archive, as `rrdi.fetch`."""
+        asked = [*options(resolution=resolution, start=start, end=end), *flat([function, *words])]
+        return fetched(self._ask, asked, present(self.now), values)
+
+    # ---- Lines
+
+    def _add(self, *words: str) -> None:
+        self._waiting.append(line_of(words))
+
+    def _ask(self, words: List[str]) -> str:
+        """Runs what waits and then a question; returns what the question printed."""
+        if not self._waiting:
+            return run_on(self.path, words, self.now, self.busy_timeout, False)
+        before = len(self.refused)
+        output = self._run([line_of(words)])
+        if len(self.refused) > before and self.refused[-1].number == self._count + 1:
+            raise error_of_line(self.refused.pop().reason, self.path)
+        lines = output.splitlines()
+        return "\n".join(lines[sum(1 for line in lines if line.startswith("ERROR: ")):])
+
+    def _run(self, question: List[str]) -> str:
+        """Runs what waits, and then a question; returns what they printed. Keeps the refused lines."""
+        lines = self._waiting + question
+        ran = batch(self.path, lines, now=self.now, busy_timeout=self.busy_timeout, sync=self.sync)
+        self.refused += [one._replace(number=one.number + self._count) for one in ran.refused]
+        self._count += len(self._waiting)
+        self._waiting.clear()
+        return ran.output

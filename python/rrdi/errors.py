@@ -1,0 +1,118 @@
+"""What can go wrong with a command, by the library's numbers.
+
+`OperationalError` and `ProgrammingError` have the names that Python's module `rrdtool` gives them: with the first one
+the words were right, and the file, its contents or the system stood against the command; the second one is a mistake in
+the words.
+"""
+from __future__ import annotations
+
+import errno
+import os
+from typing import Dict, Optional, Type
+
+# The library's numbers. docs/embedding.md has the table.
+OK, NO_ROOM, NO_MEMORY = 0, 1, 2
+USAGE, BAD_WORD, NO_DATABASE, REFUSED, CANNOT_OPEN, CANNOT_WRITE = 10, 11, 12, 13, 14, 15
+NOT_OURS, VERSION, TRUNCATED, BAD_BLOCK, BAD_ENTRY, TRAILING, READ_FAILED = 20, 21, 22, 23, 24, 25, 26
+
+
+class Error(Exception):
+    """A command that failed.
+
+    `reason` is the program's text after `ERROR: `, `path` the file (None in memory), `fault` the library's number,
+    `at` the byte, or the number of the journal's entry, at which a file is damaged, and `system_error` the number
+    (`errno`) of the system's reason for a file that can't be opened or written.
+    """
+
+    def __init__(self, reason: str, path: Optional[str] = None, fault: int = 0, at: Optional[int] = None,
+                 system_error: int = 0):
+        super().__init__(reason)
+        self.reason, self.path, self.fault, self.at, self.system_error = reason, path, fault, at, system_error
+
+    def __str__(self) -> str:
+        if self.system_error in (errno.EAGAIN, errno.EWOULDBLOCK):
+            why = ": another program holds its lock"
+        else:
+            why = f": {os.strerror(self.system_error)}" if self.system_error else ""
+        return f"{self.path}: {self.reason}{why}" if self.path is not None else self.reason + why
+
+
+class OperationalError(Error):
+    """The file, its contents, memory or the system stood against a command."""
+
+
+class ProgrammingError(Error):
+    """The words are no command, or one of them can't be read."""
+
+
+class Usage(ProgrammingError):
+    """The words are no command: an unknown option, or a word too many or too few."""
+
+
+class Unreadable(ProgrammingError):
+    """A word can't be read; the reason says which."""
+
+
+class Refused(OperationalError):
+    """The database refuses a command, and is as it was. docs/errors.md has the reasons."""
+
+
+class NoDatabase(OperationalError):
+    """There is no file, or, in memory, no database."""
+
+
+class Busy(OperationalError):
+    """Another program held the file's lock for longer than `busy_timeout`."""
+
+
+class CannotOpen(OperationalError):
+    """The system does not open the file."""
+
+
+class CannotRead(OperationalError):
+    """A read of the file failed."""
+
+
+class CannotWrite(OperationalError):
+    """The file cannot be written. It holds the old database, but if undoing the change failed too, the old or the new one."""
+
+
+class Damaged(OperationalError):
+    """The file is no database, or not a whole one; `at` says where its first fault is, unless it is of another kind."""
+
+
+class OutOfMemory(OperationalError, MemoryError):
+    """Memory ran out; nothing was changed."""
+
+
+_KINDS: Dict[int, Type[Error]] = {
+    NO_MEMORY: OutOfMemory, USAGE: Usage, BAD_WORD: Unreadable, NO_DATABASE: NoDatabase, REFUSED: Refused,
+    CANNOT_OPEN: CannotOpen, CANNOT_WRITE: CannotWrite, READ_FAILED: CannotRead,
+    **dict.fromkeys(range(NOT_OURS, READ_FAILED), Damaged)}
+
+
+# The reasons of the faults that a batch may end with after its lines have printed something.
+_REASONS: Dict[int, str] = {NO_MEMORY: "out of memory", CANNOT_OPEN: "cannot open", CANNOT_WRITE: "cannot write"}
+
+
+def reason_of(fault: int, output: bytes) -> str:
+    """The reason of a fault. `output` has the reason, unless the output is what the lines of a batch printed."""
+    return _REASONS.get(fault) or output.decode(errors="replace").rstrip("\n")
+
+
+def error_of(fault: int, reason: str, path: Optional[str] = None, at: int = 0, system_error: int = 0) -> Error:
+    """The exception for one of the library's faults."""
+    kind = _KINDS.get(fault, OperationalError)
+    if fault in (CANNOT_OPEN, CANNOT_WRITE) and system_error in (errno.EAGAIN, errno.EWOULDBLOCK):
+        kind = Busy
+    elif fault == CANNOT_OPEN and system_error == errno.ENOENT:
+        kind = NoDatabase
+    return kind(reason, path, fault, at if TRUNCATED <= fault <= TRAILING else None, system_error)
+
+
+def error_of_line(reason: str, path: Optional[str] = None) -> Error:
+    """The exception for the reason of a refused line of a batch, which has no number."""
+    if reason.startswith("unreadable "):
+        return Unreadable(reason, path, BAD_WORD)
+    faults = {"usage": USAGE, "no database": NO_DATABASE, "out of memory": NO_MEMORY}
+    return error_of(faults.get(reason, REFUSED), reason, path)

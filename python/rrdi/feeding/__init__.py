@@ -1,0 +1,1 @@
+"""Feeds many databases from lines of samples."""

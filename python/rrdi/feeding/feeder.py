@@ -1,0 +1,214 @@
+"""Holds samples by their files, and passes them on."""
+from __future__ import annotations
+
+import os
+import selectors
+import sys
+import time
+from concurrent.futures import ThreadPoolExecutor
+from dataclasses import dataclass
+from queue import Empty, SimpleQueue
+from typing import Dict, List, Optional, Set, Tuple
+
+from .writers import Outcome, Writer, text_of
+
+LONGEST = 65_536  # bytes of a line of a batch
+UPDATE = b"update "
+SHORT = LONGEST - len(UPDATE)  # bytes of a line whose sample can't be too long
+LETTER_N = ord("N")
+FIRST_PAUSE, LONGEST_PAUSE = 0.1, 60.0  # seconds
+SAMPLES_OF_A_LINE = 100
+READ = 1 << 18  # bytes of one read of the input
+
+
+@dataclass
+class Options:
+    seconds: int = 60
+    jobs: int = 4
+    held: int = 1_000_000
+    patience: int = 30
+
+
+@dataclass
+class Waiting:
+    """Samples that no batch took, and why, the pause before the next try, and when that try is due."""
+
+    samples: List[bytes]
+    reason: str
+    pause: float
+    due: float
+
+
+class Feeder:
+    def __init__(self, options: Options, writer: Writer):
+        self.options, self.writer = options, writer
+        # The samples of each file, in the order in which the first one of each arrived, and when that was.
+        self.held: Dict[bytes, List[bytes]] = {}
+        self.since: Dict[bytes, float] = {}
+        self.waiting: Dict[bytes, Waiting] = {}
+        # The files with a running batch; those that have ended come with their samples and what became of these.
+        self.running: Set[bytes] = set()
+        self.ended: SimpleQueue[Tuple[bytes, List[bytes], Outcome]] = SimpleQueue()
+        self.pauses: Dict[bytes, float] = {}
+        self.threads = ThreadPoolExecutor(options.jobs)
+        self.count, self.is_ending, self.is_hurried, self.has_failed = 0, False, False, False
+
+    # ---- Messages
+
+    def say(self, text: str) -> None:
+        self.has_failed = True
+        print(f"feed: {text}", file=sys.stderr, flush=True)
+
+    def say_lost(self, file: bytes, reason: str, samples: List[bytes]) -> None:
+        """Reports samples that may be lost, in lines that feed would read again."""
+        name = text_of(file)
+        self.say(f"{name}: {reason}; {len(samples)} samples may be lost")
+        for at in range(0, len(samples), SAMPLES_OF_A_LINE):
+            self.say(f"may be lost: {name} {text_of(b' '.join(samples[at:at + SAMPLES_OF_A_LINE]))}")
+
+    # ---- Lines
+
+    def take_all(self, lines: List[bytes]) -> None:
+        """Takes lines: one more sample of a held file in a short loop, all others by `take`."""
+        samples_of, count = self.held.get, 0
+        for line in lines:
+            words = line.split()
+            samples = samples_of(words[0]) if len(words) == 2 and len(line) <= SHORT else None
+            if samples is None or words[1][0] == LETTER_N:
+                self.take(words, line)
+            else:
+                samples.append(words[1])
+                count += 1
+        self.count += count
+
+    def take(self, words: List[bytes], line: bytes) -> None:
+        if words and words[0].upper() == b"UPDATE":
+            words = words[1:]
+        if not words:
+            return
+        file, *samples = words
+        if not samples or file.startswith(b"-"):
+            self.say(f"expected FILE SAMPLE.., got: {text_of(line).strip()[:200]}")
+            return
+        now = b"%d" % int(time.time())
+        samples = [now + sample[1:] if sample.startswith(b"N:") else sample for sample in samples]
+        if any(len(UPDATE + sample) > LONGEST for sample in samples):
+            self.say(f"{text_of(file)}: a sample of over {LONGEST} bytes")
+            return
+        if file not in self.held:
+            self.held[file], self.since[file] = [], time.monotonic()
+        self.held[file] += samples
+        self.count += len(samples)
+
+    # ---- Batches
+
+    def run(self, file: bytes, samples: List[bytes]) -> None:
+        """Runs one batch, in a thread of its own."""
+        try:
+            outcome = self.writer.write(file, samples)
+        except Exception as error:  # whatever it is, the samples must not go with the thread
+            outcome = Outcome(lost=f"{type(error).__name__}: {error}")
+        self.ended.put((file, samples, outcome))
+
+    def end_batches(self, seconds: float = 0) -> None:
+        """Takes back what the batches that have ended couldn't give to rrdi; waits some seconds for the first one."""
+        try:
+            ended = self.ended.get(timeout=seconds) if seconds else self.ended.get_nowait()
+            while True:
+                self.end_batch(*ended)
+                ended = self.ended.get_nowait()
+        except Empty:
+            pass
+
+    def end_batch(self, file: bytes, samples: List[bytes], outcome: Outcome) -> None:
+        self.running.discard(file)
+        if outcome.lost:
+            self.say_lost(file, outcome.lost, samples)
+        for sample, reason in outcome.refused:
+            self.say(f"{text_of(file)} {text_of(sample)}: {reason}")
+        if outcome.again:
+            pause = self.pauses.get(file, FIRST_PAUSE)
+            self.pauses[file] = min(2 * pause, LONGEST_PAUSE)
+            self.waiting[file] = Waiting(samples, outcome.again, pause, time.monotonic() + pause)
+            self.count += len(samples)
+        else:
+            self.pauses.pop(file, None)
+
+    def start(self, file: bytes) -> None:
+        waiting = self.waiting.pop(file, None)
+        samples = (waiting.samples if waiting else []) + self.held.pop(file, [])
+        self.since.pop(file, None)
+        self.count -= len(samples)
+        self.running.add(file)
+        self.threads.submit(self.run, file, samples)
+
+    def start_due(self) -> None:
+        """Starts a batch for each file that is due and has no running one."""
+        self.end_batches()
+        now, is_full = time.monotonic(), self.count >= self.options.held
+        if self.is_hurried:
+            # A file with a running batch stays due until that batch has ended.
+            self.since = dict.fromkeys(self.since, now - self.options.seconds)
+        for file in [file for file, waiting in self.waiting.items() if self.is_hurried or now >= waiting.due]:
+            self.start(file)
+        due = []
+        for file, since in self.since.items():
+            if not (self.is_ending or is_full) and now - since < self.options.seconds:
+                break
+            due.append(file)
+        for file in due:
+            if file not in self.running and file not in self.waiting:
+                self.start(file)
+        self.is_hurried = False
+        if is_full and self.waiting and not self.running:
+            # Nothing but files that can't be opened fills the memory.
+            self.give_up(max(self.waiting, key=lambda file: len(self.waiting[file].samples)))
+
+    def give_up(self, file: bytes) -> None:
+        waiting = self.waiting.pop(file)
+        self.count -= len(waiting.samples)
+        self.say_lost(file, waiting.reason, waiting.samples)
+
+    # ---- From the first line to the last
+
+    def feed(self) -> int:
+        source, rest = sys.stdin.fileno(), b""
+        selector: Optional[selectors.BaseSelector] = None
+        try:
+            waiter = selectors.DefaultSelector()
+            waiter.register(source, selectors.EVENT_READ)
+            selector = waiter
+        except PermissionError:  # a plain file can always be read
+            pass
+        while not self.is_ending:
+            self.start_due()
+            # While feed holds too much, it doesn't read, and whoever writes the lines waits.
+            if self.count >= self.options.held or len(self.running) > 10_000:
+                self.end_batches(0.01)
+                continue
+            if selector and not selector.select(0.1 if self.waiting else min(self.options.seconds, 0.5)):
+                continue
+            data = os.read(source, READ)
+            *lines, rest = (rest + data).split(b"\n")
+            self.take_all(lines if data else [rest])
+            if not data:
+                self.is_ending = True
+        self.finish()
+        return 1 if self.has_failed else 0
+
+    def finish(self) -> None:
+        """Passes on all that is held, and gives up the files that can't be opened for too long."""
+        until = time.monotonic() + self.options.patience
+        while self.held or self.waiting or self.running:
+            self.start_due()
+            if time.monotonic() >= until:
+                for file in list(self.waiting):
+                    self.give_up(file)
+            self.end_batches(0.01)
+        self.threads.shutdown()
+
+    def end(self, *_: object) -> None:
+        self.is_ending = True
+
+    def hurry(self, *_: object) -> None:
+        self.is_hurried = True

@@ -1,0 +1,83 @@
+"""Gives the samples of one file to rrdi: in this process by the C library, or by a process of the program."""
+from __future__ import annotations
+
+import os
+import subprocess
+from typing import List, NamedTuple, Optional, Protocol, Tuple
+
+from ..errors import CANNOT_OPEN, NO_MEMORY, OK, reason_of
+from ..library import Library, library_path, load_library
+from ..words import is_synced, milliseconds, present
+
+
+class Outcome(NamedTuple):
+    """What became of a batch. One of the reasons at most has a text."""
+
+    again: str = ""  # why all samples have to be tried again: rrdi has none of them
+    lost: str = ""  # why all samples may be lost
+    refused: Tuple[Tuple[bytes, str], ...] = ()  # each refused sample, and why
+
+
+class Writer(Protocol):
+    def write(self, file: bytes, samples: List[bytes]) -> Outcome:
+        """Gives rrdi the samples of one file, each as an update of its own."""
+
+
+def text_of(data: bytes) -> str:
+    return data.decode(errors="replace")
+
+
+class ByLibrary:
+    def __init__(self, library: Library):
+        self.library = library
+
+    def write(self, file: bytes, samples: List[bytes]) -> Outcome:
+        lines = b"update " + b"\nupdate ".join(samples)
+        answer = self.library.batch_file(file, lines, present(None), milliseconds(None), is_synced(None))
+        if answer.fault in (CANNOT_OPEN, NO_MEMORY):
+            return Outcome(again=reason_of(answer.fault, answer.output))
+        if answer.fault != OK:
+            return Outcome(lost=reason_of(answer.fault, answer.output))
+        reasons = [text_of(line[len(b"ERROR: "):]) for line in answer.output.splitlines()]
+        return Outcome(refused=tuple((samples[number - 1], why) for number, why in zip(answer.refused, reasons)))
+
+
+class ByProgram:
+    def __init__(self, program: str):
+        self.program = program
+
+    def write(self, file: bytes, samples: List[bytes]) -> Outcome:
+        # The time after each update says where the refusals belong.
+        given = b"".join(b"update %b\nlast\n" % sample for sample in samples)
+        try:
+            # In a session of its own, no key that ends feed ends a batch that writes.
+            ran = subprocess.run([os.fsencode(self.program), b"batch", file], input=given, stdout=subprocess.PIPE,
+                                 stderr=subprocess.PIPE, start_new_session=True)
+        except OSError as error:
+            return Outcome(again=f"{self.program}: {error.strerror}")
+        # A further line, `rrdi: FILE: ..`, says why FILE cannot be opened or written.
+        lines = [line for line in text_of(ran.stderr).splitlines() if not line.startswith("rrdi: ")]
+        reason = "\n".join(lines).strip().replace("ERROR: ", "")
+        if reason == "cannot open" and not ran.stdout:
+            return Outcome(again=reason)
+        if reason or ran.returncode not in (0, 1):
+            return Outcome(lost=reason or f"{self.program} ended with {ran.returncode}")
+        answers = iter(text_of(ran.stdout).splitlines())
+        refused = []
+        for sample in samples:
+            answer = next(answers, "ERROR: no result")
+            if answer.startswith("ERROR: "):
+                refused.append((sample, answer[len("ERROR: "):]))
+                next(answers, None)
+        return Outcome(refused=tuple(refused))
+
+
+def chosen_writer() -> Writer:
+    """The program that the variable RRDI names; otherwise the C library, or the program rrdi if there is no library."""
+    named: Optional[str] = os.environ.get("RRDI")
+    if named is None and library_path() is not None:
+        try:
+            return ByLibrary(load_library())
+        except (OSError, AttributeError):
+            pass
+    return ByProgram(named or "rrdi")

@@ -1,0 +1,1 @@
+"""Converts files of RRDtool into batches for rrdi."""

@@ -1,0 +1,53 @@
+"""Amounts in whole millionths, as rrdi has them."""
+from __future__ import annotations
+
+import math
+import re
+from dataclasses import dataclass
+
+MILLION = 10**6
+RATE_LIMIT = 1e18  # the size from which on rrdi takes no value of a gauge
+BOUND_LIMIT = 2.0**64
+
+
+def millionths(value: float) -> int:
+    """Rounds a number to whole millionths."""
+    return int(("%.6f" % value).replace(".", ""))
+
+
+def as_text(amount: int | None) -> str:
+    """Writes an amount of millionths as rrdi reads it, without zeros at its end; U if it is unknown."""
+    if amount is None:
+        return "U"
+    whole, rest = divmod(abs(amount), MILLION)
+    text = f"{'-' * (amount < 0)}{whole}"
+    return text if rest == 0 else f"{text}.{rest:06}".rstrip("0")
+
+
+def raw_value(kind: str, text: str) -> str | None:
+    """Returns the last raw value of a COUNTER or a DERIVE if rrdi takes it."""
+    if not re.fullmatch(r"\d+" if kind == "COUNTER" else r"-?\d+", text):
+        return None
+    if kind == "COUNTER":
+        return text if int(text) < 2**64 else None
+    return text if abs(int(text)) < 2**63 else None
+
+
+@dataclass
+class Losses:
+    """Which numbers became unknown or 0."""
+
+    too_large: bool = False
+    too_small: bool = False
+
+    def amount(self, value: float, limit: float = RATE_LIMIT) -> int | None:
+        """Converts a number of RRDtool to millionths; nan, and a size of `limit` or more, become None."""
+        if math.isnan(value):
+            return None
+        if abs(value) >= limit:
+            self.too_large = True
+            return None
+        amount = millionths(value)
+        if amount == 0 and value != 0:
+            self.too_small = True
+        return amount

@@ -1,0 +1,210 @@
+"""Writes the batch that makes a database out of a file of RRDtool."""
+from __future__ import annotations
+
+import re
+from typing import Callable, Iterable, Iterator, Optional, Tuple
+
+from .amounts import BOUND_LIMIT, MILLION, Losses, as_text, raw_value
+from .dump import Archive, OldFile, Refusal, Source
+from .plan import note_made_up_rows, plan
+from .rates import SourceRates, unfinished_step
+from .steps import Stretches
+
+TYPES = ("GAUGE", "COUNTER", "DERIVE", "ABSOLUTE")
+FUNCTIONS = ("AVERAGE", "MIN", "MAX", "LAST")
+MOST_SOURCES, MOST_ARCHIVES, MOST_CELLS = 64, 128, 8_000_000
+LATEST = 9_999_999_999  # the latest time and the longest heartbeat of rrdi, in seconds
+SAMPLES_OF_A_LINE, BYTES_OF_A_LINE = 200, 65_000
+
+
+def choose_sources(old: OldFile, note: Callable[[str], None]) -> list[Source]:
+    """Returns the data sources that rrdi can have.
+
+    # Errors
+    `Refusal` if no source is left, or more than rrdi takes.
+    """
+    chosen = []
+    for source in old.sources:
+        if source.kind not in TYPES:
+            note(f"skipped data source {source.name}: type {source.kind} is not supported")
+        elif not re.fullmatch(r"[a-zA-Z0-9_]{1,19}", source.name):
+            note(f"skipped data source {source.name}: a name in rrdi has 1 to 19 characters of a-z A-Z 0-9 _")
+        else:
+            chosen.append(source)
+    if not chosen:
+        raise Refusal("no data source can be converted")
+    if len(chosen) > MOST_SOURCES:
+        raise Refusal(f"there are {len(chosen)} sources; rrdi has at most {MOST_SOURCES}")
+    return chosen
+
+
+def choose_archives(old: OldFile, sources: int, note: Callable[[str], None]) -> list[Archive]:
+    """Returns the archives that rrdi can have, each with its place in time.
+
+    # Errors
+    `Refusal` if no archive is left, or more archives or cells than rrdi takes.
+    """
+    chosen = []
+    for archive in old.archives:
+        if archive.function not in FUNCTIONS:
+            why = "this function is not supported"
+        elif archive.steps > MILLION:
+            why = "a row in rrdi has at most 1,000,000 steps"
+        elif archive.row_count > MILLION:
+            why = "an archive in rrdi has at most 1,000,000 rows"
+        else:
+            archive.place(old.step, old.last)
+            chosen.append(archive)
+            continue
+        note(f"skipped archive {archive.number}, {archive.function}: {why}")
+    if not chosen:
+        raise Refusal("no archive can be converted")
+    if len(chosen) > MOST_ARCHIVES:
+        raise Refusal(f"there are {len(chosen)} archives; rrdi has at most {MOST_ARCHIVES}")
+    cells = sources * sum(archive.row_count for archive in chosen)
+    if cells > MOST_CELLS:
+        raise Refusal(f"there are {cells} cells; rrdi has at most 8,000,000")
+    return chosen
+
+
+# ---- The batch
+
+Rates = Tuple[Optional[int], ...]
+
+
+def merge(columns: list[Stretches]) -> Iterator[tuple[int, Rates]]:
+    """Joins the rates of all sources, whose stretches end at the same time; equal rates come as one stretch."""
+    at, pending = [0] * len(columns), None
+    while at[0] < len(columns[0]):
+        end = min(column[number][0] for column, number in zip(columns, at))
+        rates = tuple(column[number][1] for column, number in zip(columns, at))
+        for number, column in enumerate(columns):
+            at[number] += column[at[number]][0] == end
+        if pending is not None and rates != pending[1]:
+            yield pending
+        pending = end, rates
+    if pending is not None:
+        yield pending
+
+
+def as_words(rates: Iterable[int | None]) -> str:
+    return "".join(":" + as_text(rate) for rate in rates)
+
+
+def share_of(archive: Archive) -> str:
+    """The share of unknown steps that a row may have, so that as many may be unknown as in RRDtool."""
+    wanted = archive.allowed_unknown()
+    parts = min(int(archive.share * MILLION + 0.5), MILLION - 1)
+    while parts * archive.steps // MILLION > wanted:
+        parts -= 1
+    while parts * archive.steps // MILLION < wanted:
+        parts += 1
+    return as_text(parts)
+
+
+class Batch:
+    """Writes the lines of a batch."""
+
+    def __init__(self, old: OldFile, journal: str | None, note: Callable[[str], None]):
+        if old.step > MILLION:
+            raise Refusal("a step of rrdi has at most 1,000,000 seconds")
+        if old.last > LATEST:
+            raise Refusal(f"the last time is after {LATEST}")
+        self.old, self.journal, self.note, self.losses = old, journal, note, Losses()
+        self.sources = choose_sources(old, note)
+        self.archives = choose_archives(old, len(self.sources), note)
+        self.raw = [self.raw_of(source) for source in self.sources]
+        self.last_given = old.last - any(raw is not None for raw in self.raw)
+
+    def raw_of(self, source: Source) -> str | None:
+        """The last raw value of a counter.
+
+        It comes as one more sample after the types. Its rate is unknown, so it is given for the last second alone.
+        """
+        if source.kind not in ("COUNTER", "DERIVE") or source.last_raw.startswith("U"):
+            return None
+        raw = raw_value(source.kind, source.last_raw) if self.old.step > 1 else None
+        if raw is None:
+            self.note(f"source {source.name}: cannot convert its last value {source.last_raw}; its next rate will be "
+                      "unknown")
+        return raw
+
+    def rates(self) -> Iterator[tuple[int, Rates]]:
+        old, whole = self.old, self.old.last - self.old.last % self.old.step
+        spans = plan(self.archives, whole)
+        note_made_up_rows(self.archives, spans, self.note)
+        columns = [SourceRates(source.column, old.step, whole, self.losses).all_rates(spans)
+                   + unfinished_step(source, whole, old.last, self.losses) for source in self.sources]
+        self.start = spans[0].begin if spans else whole
+        return merge(columns)
+
+    def lines(self) -> Iterator[str]:
+        stretches = list(self.rates())
+        unknown = (None,) * len(self.sources)
+        # What is unknown at the begin comes before the start.
+        if stretches and stretches[0][1] == unknown:
+            self.start = stretches.pop(0)[0]
+        rates = stretches[-1][1] if stretches else unknown
+        if not stretches:
+            self.start = self.last_given
+        yield self.create()
+        yield from self.updates(stretches)
+        yield from map(self.tune, self.sources)
+        if self.last_given < self.old.last:
+            words = (raw or "U" if source.kind in ("COUNTER", "DERIVE") else as_text(rate)
+                     for source, raw, rate in zip(self.sources, self.raw, rates))
+            yield f"update {self.old.last}:{':'.join(words)}"
+
+    def create(self) -> str:
+        """All sources begin as gauges without bounds that take any interval: the samples are the rates of rows."""
+        words = [f"create --step {self.old.step} --start {self.start}"]
+        if self.journal is not None:
+            words.append(f"--journal {self.journal}")
+        words += [f"DS:{source.name}:GAUGE:{LATEST}:U:U" for source in self.sources]
+        words += [f"RRA:{archive.function}:{share_of(archive)}:{archive.steps}:{archive.row_count}"
+                  for archive in self.archives]
+        return " ".join(words)
+
+    def updates(self, stretches: list[tuple[int, Rates]]) -> Iterator[str]:
+        words: list[str] = []
+        size, before = 0, self.start
+        for number, (time, rates) in enumerate(stretches):
+            if number == len(stretches) - 1:
+                time = self.last_given
+            if time <= before:
+                continue
+            before, word = time, f"{time}{as_words(rates)}"
+            if words and (len(words) == SAMPLES_OF_A_LINE or size + len(word) > BYTES_OF_A_LINE):
+                yield " ".join(["update", *words])
+                words, size = [], 0
+            words.append(word)
+            size += len(word) + 1
+        if words:
+            yield " ".join(["update", *words])
+
+    def tune(self, source: Source) -> str:
+        heartbeat = min(source.heartbeat, LATEST)
+        if heartbeat < source.heartbeat:
+            self.note(f"source {source.name}: its heartbeat becomes {LATEST}, the longest in rrdi")
+        words = [f"tune --heartbeat {source.name}:{heartbeat}"]
+        for option, bound in (("--minimum", source.minimum), ("--maximum", source.maximum)):
+            amount = self.losses.amount(bound, BOUND_LIMIT)
+            if amount is not None:
+                words.append(f"{option} {source.name}:{as_text(amount)}")
+        if source.kind != "GAUGE":
+            words.append(f"--data-source-type {source.name}:{source.kind}")
+        return " ".join(words)
+
+
+def batch_of(old: OldFile, journal: str | None, note: Callable[[str], None]) -> Iterator[str]:
+    """Yields the lines of the batch that makes the database; what can't be converted goes to `note`.
+
+    # Errors
+    `Refusal` if rrdi can't have such a database.
+    """
+    batch = Batch(old, journal, note)
+    yield from batch.lines()
+    if batch.losses.too_large:
+        note("numbers that are too large for rrdi became unknown, or no bound")
+    if batch.losses.too_small:
+        note("numbers below half a millionth became 0")

@@ -1,0 +1,157 @@
+"""Reads a file of RRDtool by `rrdtool dump`."""
+from __future__ import annotations
+
+import subprocess
+import xml.etree.ElementTree as ElementTree
+from array import array
+from dataclasses import dataclass, field
+from typing import IO, Callable
+
+
+class Refusal(Exception):
+    """Why a file can't be converted."""
+
+
+@dataclass
+class Source:
+    """A data source of the old file; `column` is its place in the rows."""
+
+    column: int
+    name: str
+    kind: str
+    heartbeat: int
+    minimum: float
+    maximum: float
+    last_raw: str
+    partial_sum: float
+    unknown_seconds: int
+
+
+@dataclass
+class Archive:
+    """An archive of the old file. Cells are row by row, the oldest row first."""
+
+    number: int
+    function: str
+    steps: int
+    share: float
+    partial: list[float]
+    unknown_steps: list[int]
+    cells: array[float] = field(default_factory=lambda: array("d"))
+    columns: int = 0
+    seconds: int = 0
+    begin: int = 0
+    end: int = 0
+
+    @property
+    def row_count(self) -> int:
+        return len(self.cells) // self.columns if self.columns else 0
+
+    def place(self, step: int, last: int) -> None:
+        """Sets which time the rows cover, in seconds since 1970."""
+        self.seconds = step * self.steps
+        self.end = last - last % self.seconds
+        self.begin = max(self.end - self.row_count * self.seconds, 0)
+
+    def has(self, time: int) -> bool:
+        """Whether the row that ends at `time` is in the archive, or is its unfinished row."""
+        return time - self.seconds >= self.begin
+
+    def cell(self, time: int, column: int) -> float:
+        """Returns a cell of the finished row that ends at `time`."""
+        row = self.row_count - 1 - (self.end - time) // self.seconds
+        return float(self.cells[row * self.columns + column])
+
+    def allowed_unknown(self) -> int:
+        """How many steps of a row may be unknown. RRDtool multiplies in floating point: 0.29 of 100 is less than 29."""
+        return int(self.share * self.steps)
+
+
+@dataclass
+class OldFile:
+    """What a file of RRDtool holds."""
+
+    step: int
+    last: int
+    sources: list[Source]
+    archives: list[Archive]
+
+
+def text_of(element: ElementTree.Element, name: str, default: str = "") -> str:
+    return (element.findtext(name) or default).strip()
+
+
+def read_source(element: ElementTree.Element, column: int) -> Source:
+    return Source(
+        column, text_of(element, "name"), text_of(element, "type"), int(text_of(element, "minimal_heartbeat", "1")),
+        float(text_of(element, "min", "nan")), float(text_of(element, "max", "nan")), text_of(element, "last_ds", "U"),
+        float(text_of(element, "value", "nan")), int(text_of(element, "unknown_sec", "0")))
+
+
+def read_archive(element: ElementTree.Element, number: int, cells: array[float], columns: int) -> Archive:
+    parts = element.findall("cdp_prep/ds")
+    return Archive(
+        number, text_of(element, "cf"), int(text_of(element, "pdp_per_row", "1")),
+        float(text_of(element, "params/xff", "0")), [float(text_of(part, "value", "nan")) for part in parts],
+        [int(text_of(part, "unknown_datapoints", "0")) for part in parts], cells, columns)
+
+
+def read_dump(stream: IO[bytes], progress: Callable[[int], None] = lambda cells: None) -> OldFile:
+    """Reads what `rrdtool dump` prints, and reports to `progress` how many cells were read, every thousand rows.
+
+    # Errors
+    - `ElementTree.ParseError` if the XML is cut off or is none.
+    - `Refusal` if a row has another number of cells than the file has data sources.
+    """
+    step = last = -1
+    sources: list[Source] = []
+    archives: list[Archive] = []
+    cells, total, rows = array("d"), 0, 0
+    for _, element in ElementTree.iterparse(stream):
+        tag = element.tag
+        if tag == "v":
+            continue
+        if tag == "row":
+            if len(element) != len(sources):
+                raise Refusal(f"a row of archive {len(archives)} has {len(element)} cells")
+            cells.extend([float(cell.text or "nan") for cell in element])
+            element.clear()
+            rows += 1
+            if rows % 1_000 == 0:
+                progress(total + len(cells))
+        elif tag == "database":
+            element.clear()
+        elif tag == "step":
+            step = int(element.text or "")
+        elif tag == "lastupdate":
+            last = int(element.text or "")
+        elif tag == "ds" and element.find("name") is not None:
+            sources.append(read_source(element, len(sources)))
+        elif tag == "rra":
+            archives.append(read_archive(element, len(archives), cells, len(sources)))
+            total += len(cells)
+            cells = array("d")
+            element.clear()
+    return OldFile(step, last, sources, archives)
+
+
+def read_file(rrdtool: str, file: str, progress: Callable[[int], None] = lambda cells: None) -> OldFile:
+    """Reads a file by `rrdtool dump`.
+
+    # Errors
+    `Refusal` if rrdtool doesn't read it to its end, or the file changes meanwhile.
+    """
+    with subprocess.Popen([rrdtool, "dump", file], stdout=subprocess.PIPE, stderr=subprocess.PIPE) as dump:
+        assert dump.stdout and dump.stderr
+        try:
+            old = read_dump(dump.stdout, progress)
+        except ElementTree.ParseError:
+            old = None
+        dump.stdout.close()
+        reason = dump.stderr.read().decode(errors="replace").strip()
+    if dump.returncode or old is None:
+        raise Refusal(reason or "rrdtool did not read the file to its end")
+    asked = subprocess.run([rrdtool, "last", file], capture_output=True, text=True)
+    if asked.stdout.strip() != str(old.last):
+        raise Refusal("the file changed while it was read")
+    return old

@@ -1,0 +1,77 @@
+"""Says which archive of a file gives the rates of which time."""
+from __future__ import annotations
+
+from collections.abc import Callable
+
+from .dump import Archive
+
+
+def rank(archive: Archive) -> tuple[int, int]:
+    """Orders archives by how much their rows say: the steps themselves, then averages, then the other functions."""
+    return (0 if archive.steps == 1 else 1 if archive.function == "AVERAGE" else 2, archive.steps)
+
+
+class Span:
+    """A stretch of time whose rates come from the rows of one archive.
+
+    `beside` has the archives with rows of the same length, by their function, each time the one that reaches back
+    farthest. `above` is the next coarser archive of averages that is made of whole rows of this one, `above_beside` has
+    its companions, and `above_twice` is the next coarser one after it.
+    """
+
+    def __init__(self, begin: int, end: int, archive: Archive, archives: list[Archive]):
+        self.begin, self.end, self.archive, self.archives = begin, end, archive, archives
+        self.beside = self.companions(archive, archives)
+        self.above = self.coarser(archive, archives)
+        self.above_twice = self.coarser(self.above, archives) if self.above else None
+        self.above_beside = self.companions(self.above, archives) if self.above else {}
+        # How many steps of a known row may be unknown, and how many of an unknown row may be known, in all archives
+        # with rows of this length.
+        allowed = [other.allowed_unknown() for other in archives if other.steps == archive.steps]
+        self.most_dropped = min(allowed)
+        self.most_hidden = min(archive.steps - most - 1 for most in allowed)
+
+    @staticmethod
+    def coarser(archive: Archive, archives: list[Archive]) -> Archive | None:
+        """The next coarser archive of averages that is made of whole rows of this one."""
+        found = [other for other in archives if other.function == "AVERAGE" and other.seconds > archive.seconds
+                 and other.seconds % archive.seconds == 0]
+        return min(found, key=lambda other: other.seconds) if found else None
+
+    @staticmethod
+    def companions(archive: Archive, archives: list[Archive]) -> dict[str, Archive]:
+        found: dict[str, Archive] = {}
+        for other in archives:
+            if other.steps == archive.steps:
+                before = found.get(other.function)
+                if before is None or other.begin < before.begin:
+                    found[other.function] = other
+        return found
+
+
+def plan(archives: list[Archive], whole: int) -> list[Span]:
+    """Cuts the time up to `whole`, the end of the last whole step, into spans, each with its best archive."""
+    begin, spans = min([whole, *(archive.begin for archive in archives)]), []
+    while begin < whole:
+        best = min((archive for archive in archives if archive.begin <= begin), key=rank)
+        better = [archive.begin for archive in archives if archive.begin > begin and rank(archive) < rank(best)]
+        end = min([whole, *better])
+        spans.append(Span(begin, end, best, archives))
+        begin = end
+    return spans
+
+
+def note_made_up_rows(archives: list[Archive], spans: list[Span], note: Callable[[str], None]) -> None:
+    """Says up to which time the rows of an archive are made of rows of other functions."""
+    for archive in archives:
+        until = 0
+        for span in spans:
+            if span.archive.steps == 1:
+                continue
+            own = span.beside.get(archive.function)
+            end = min(span.end, own.begin) if own else span.end
+            if end > archive.begin and end > span.begin:
+                until = end
+        if spans and until > spans[0].begin:
+            note(f"archive {archive.number}, {archive.function} of {archive.seconds} s: rows up to {until} come from "
+                 "rows of other functions")

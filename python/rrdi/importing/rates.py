@@ -1,0 +1,386 @@
+"""Makes the rates of a data source out of the rows of its archives."""
+from __future__ import annotations
+
+import math
+from dataclasses import dataclass, field
+
+from .amounts import MILLION, Losses
+from .dump import Archive, Source
+from .plan import Span
+from .steps import Row, Stretches, Wanted, lay, sum_of_rest
+
+
+@dataclass
+class Coarser:
+    """What a row of the next coarser averages says about unknown steps in the rows that it is made of."""
+
+    end: int
+    dropped: dict[int, int] = field(default_factory=dict)  # unknown steps of known rows, by the rows' times
+    hidden: int = 0  # known steps of the unknown rows, all together
+    hidden_mean: float = 0.0
+    hidden_minimum: int | None = None
+    hidden_maximum: int | None = None
+    lower: int | None = None  # no hidden step is below
+    upper: int | None = None  # no hidden step is above
+
+
+@dataclass
+class Parts:
+    """The rows that a coarser row is made of.
+
+    `known` has the means of the known rows by their times, and `unknown` how many rows are unknown; `count`, `total`
+    and `size` are the number, the sum and the largest size of all known steps.
+    """
+
+    known: dict[int, float] = field(default_factory=dict)
+    unknown: int = 0
+    count: int = 0
+    total: float = 0.0
+    size: float = 0.0
+
+    def add(self, time: int, mean: float, steps: int) -> None:
+        self.known[time] = mean
+        self.add_rest(steps, steps * mean)
+
+    def add_rest(self, steps: int, total: float) -> None:
+        self.count += steps
+        self.total += total
+        if steps > 0:
+            self.size = max(self.size, abs(total / steps))
+
+
+def is_mean(wanted: float, mean: float, size: float) -> bool:
+    """Whether a mean of numbers up to this size is the wanted one, in the digits that RRDtool prints."""
+    return abs(wanted - mean) <= 1e-7 + size / 5e9
+
+
+class SourceRates:
+    """Makes the rates of one source out of its rows."""
+
+    def __init__(self, column: int, step: int, whole: int, losses: Losses):
+        self.column, self.step, self.whole, self.losses = column, step, whole, losses
+        self.coarser: Coarser | None = None
+
+    def all_rates(self, spans: list[Span]) -> Stretches:
+        """The rates of all spans. The newest come first, since what cuts a row has to be known."""
+        later: Stretches = []
+        for span in reversed(spans):
+            rates = self.rates_of_steps(span) if span.archive.steps == 1 else self.rates_of_rows(span, later)
+            later = rates + later
+        return later
+
+    def amount(self, value: float) -> int | None:
+        return self.losses.amount(value)
+
+    def rates_of_steps(self, span: Span) -> Stretches:
+        archive, column = span.archive, self.column
+        return [(time, self.amount(archive.cell(time, column)))
+                for time in range(span.begin + self.step, span.end + 1, self.step)]
+
+    def exact(self, archive: Archive | None, time: int) -> float:
+        """A cell as rrdtool prints it; of an unfinished row, the mean, minimum, .. of its known steps so far."""
+        if archive is None or not archive.has(time):
+            return math.nan
+        if time <= archive.end:
+            value = archive.cell(time, self.column)
+        else:
+            known = self.known_so_far(archive)
+            value = archive.partial[self.column] if known > 0 else math.nan
+            if archive.function == "AVERAGE" and known > 0:
+                value /= known
+        return value if self.amount(value) is not None else math.nan
+
+    def cell(self, archive: Archive | None, time: int) -> int | None:
+        return self.amount(self.exact(archive, time))
+
+    def known_so_far(self, archive: Archive) -> int:
+        return (self.whole - archive.end) // self.step - archive.unknown_steps[self.column]
+
+    def row(self, beside: dict[str, Archive], time: int) -> Row:
+        average = beside.get("AVERAGE")
+        return Row(average is not None and average.has(time), self.exact(average, time),
+                   self.cell(beside.get("MIN"), time), self.cell(beside.get("MAX"), time),
+                   self.cell(beside.get("LAST"), time))
+
+    def rates_of_rows(self, span: Span, later: Stretches) -> Stretches:
+        rates: Stretches = []
+        self.coarser = None
+        seconds = span.archive.seconds
+        for begin in range(span.begin, span.end, seconds):
+            time = begin + seconds
+            row = self.row(span.beside, time)
+            if not row.has_average:
+                shown = next((cell for cell in (row.latest, row.maximum, row.minimum) if cell is not None), None)
+                row.average = math.nan if shown is None else shown / MILLION
+            if time <= span.end:
+                self.lay_whole_row(rates, span, row, begin, time, later)
+            else:
+                self.lay_part(rates, span, row, begin, time, later)
+        return rates
+
+    def wanted(self, row: Row, steps: int) -> Wanted:
+        """What `steps` steps have to show for a row; without averages any sum is right."""
+        return Wanted(row.average * MILLION * steps, row.slack(steps) if row.has_average else math.inf,
+                      row.minimum, row.maximum, row.latest, row.minimum, row.maximum)
+
+    def lay_part(self, rates: Stretches, span: Span, row: Row, begin: int, time: int, later: Stretches) -> None:
+        """Lays the first part of a row that goes on after the span: where a finer archive begins inside the row, or in
+        an unfinished row. What the rates after the span come to is taken out of the row."""
+        end = span.end
+        rest = sum_of_rest(later, end, min(time, self.whole), self.step)
+        steps = (end - begin) // self.step
+        known = steps + rest.known
+        if time > span.archive.end:
+            known = self.known_so_far(span.archive)
+            steps = min(max(known - rest.known, 0), steps)
+        if not row.is_known or steps == 0:
+            rates.append((end, None))
+            return
+        if end < self.whole:
+            row.latest = None
+        wanted = self.wanted(row, steps)
+        if row.has_average and end < self.whole:
+            wanted.total = row.average * MILLION * (steps + rest.known) - rest.total
+            wanted.slack = row.slack(steps + rest.known)
+            if row.minimum is not None:
+                wanted.total = max(wanted.total, steps * row.minimum)
+            if row.maximum is not None:
+                wanted.total = min(wanted.total, steps * row.maximum)
+        if rest.minimum is not None and row.minimum is not None and rest.minimum <= row.minimum:
+            wanted.minimum = None
+        if rest.maximum is not None and row.maximum is not None and rest.maximum >= row.maximum:
+            wanted.maximum = None
+        first = end - steps * self.step
+        if first > begin:
+            rates.append((first, None))
+        lay(rates, first, end, self.step, wanted)
+
+    def lay_whole_row(self, rates: Stretches, span: Span, row: Row, begin: int, end: int, later: Stretches) -> None:
+        """Lays a row with what the next coarser row says about its unknown steps."""
+        coarser = self.coarser_of(span, begin, later) if row.has_average else None
+        if coarser is not None and not row.is_known:
+            begin = self.lay_hidden(rates, span, coarser, begin)
+        elif coarser is not None and coarser.dropped.get(end):
+            begin += coarser.dropped[end] * self.step
+            rates.append((begin, None))
+        if row.is_known:
+            lay(rates, begin, end, self.step, self.wanted(row, (end - begin) // self.step))
+        else:
+            rates.append((end, None))
+
+    def lay_hidden(self, rates: Stretches, span: Span, coarser: Coarser, begin: int) -> int:
+        """Lays known steps of an unknown row, and returns where they end."""
+        steps = min(coarser.hidden, span.most_hidden)
+        if steps <= 0:
+            return begin
+        coarser.hidden -= steps
+        row = Row(True, coarser.hidden_mean, coarser.hidden_minimum, coarser.hidden_maximum)
+        coarser.hidden_minimum = coarser.hidden_maximum = None
+        end = begin + steps * self.step
+        wanted = self.wanted(row, steps)
+        wanted.lower, wanted.upper = coarser.lower, coarser.upper
+        lay(rates, begin, end, self.step, wanted)
+        return end
+
+    # ---- What only a coarser row says about unknown steps
+
+    def coarser_of(self, span: Span, begin: int, later: Stretches) -> Coarser | None:
+        """What the coarser row says in which a row begins, if it begins in the span and is finished."""
+        above = span.above
+        if above is None:
+            return None
+        end = begin - begin % above.seconds + above.seconds
+        if end - above.seconds < span.begin or end > above.end:
+            return None
+        if self.coarser is None or self.coarser.end != end:
+            self.coarser = Coarser(end)
+            if above.has(end):
+                self.compare_coarser(span, above, self.coarser, later)
+        return self.coarser
+
+    def parts_of(self, span: Span, above: Archive, end: int, later: Stretches) -> Parts:
+        """The rows of the span that a coarser row is made of, and what the rates after the span come to."""
+        parts, seconds = Parts(), span.archive.seconds
+        average = span.beside.get("AVERAGE")
+        for time in range(end - above.seconds + seconds, end + 1, seconds):
+            mean = self.exact(average, time)
+            if time > span.end:
+                # The end of the span cuts this row.
+                before, rest = (sum_of_rest(later, span.end, until, self.step) for until in (time, end))
+                parts.add_rest(rest.known - before.known, (rest.total - before.total) / MILLION)
+                if not math.isnan(mean):
+                    parts.add_rest(span.archive.steps, mean * span.archive.steps)
+                break
+            if math.isnan(mean):
+                parts.unknown += 1
+            else:
+                parts.add(time, mean, span.archive.steps)
+            if time == span.end:
+                rest = sum_of_rest(later, span.end, end, self.step)
+                parts.add_rest(rest.known, rest.total / MILLION)
+                break
+        return parts
+
+    def compare_coarser(self, span: Span, above: Archive, coarser: Coarser, later: Stretches) -> None:
+        """Compares a coarser row with the rows that it is made of.
+
+        If these come to something else, some steps of known rows were unknown, or some of unknown rows known.
+        """
+        parts = self.parts_of(span, above, coarser.end, later)
+        mean = self.exact(above, coarser.end)
+        if math.isnan(mean):
+            excess = parts.count - above.steps + above.allowed_unknown() + 1
+            if not self.find_below_unknown(span, above, coarser, excess, later):
+                self.drop_until_unknown(span, coarser, parts, excess)
+        elif parts.count > 0 and is_mean(mean, parts.total / parts.count, parts.size):
+            return
+        elif not self.find_dropped(span, coarser, parts, mean):
+            self.find_hidden(span, above, coarser, parts, mean)
+
+    def can_drop(self, span: Span, time: int, steps: int) -> bool:
+        """Whether a known row still shows what it shows if so many of its steps are unknown."""
+        if steps == 0:
+            return True
+        left = span.archive.steps - steps
+        return left > 0 and self.wanted(self.row(span.beside, time), left).rate_between(left) is not None
+
+    def drop_until_unknown(self, span: Span, coarser: Coarser, parts: Parts, excess: int) -> None:
+        """Takes `excess` known steps out of the known rows."""
+        for time in parts.known:
+            if excess <= 0:
+                return
+            steps = min(span.most_dropped, excess)
+            while not self.can_drop(span, time, steps):
+                steps -= 1
+            coarser.dropped[time] = steps
+            excess -= steps
+
+    def find_dropped(self, span: Span, coarser: Coarser, parts: Parts, mean: float) -> bool:
+        """Finds a known row, or two consecutive ones, some of whose steps were unknown so that the mean comes out.
+
+        An outage leaves one such row before it and one after it.
+        """
+        rows = list(parts.known.items())
+        for first in range(span.most_dropped + 1):
+            for at in range(1 if first else 0, len(rows)):
+                time, own = rows[at]
+                before_time, before = rows[at - 1]
+                if own == mean:
+                    continue
+                rest, rest_total = parts.count - first, parts.total - first * before
+                second = math.floor((rest_total - mean * rest) / (own - mean) + 0.5)
+                if not 1 <= second <= span.most_dropped or second >= rest:
+                    continue
+                if not is_mean(mean, (rest_total - second * own) / (rest - second), parts.size):
+                    continue
+                if self.can_drop(span, time, second) and (not first or self.can_drop(span, before_time, first)):
+                    if first:
+                        coarser.dropped[before_time] = first
+                    coarser.dropped[time] = second
+                    return True
+        return False
+
+    def find_hidden(self, span: Span, above: Archive, coarser: Coarser, parts: Parts, mean: float) -> None:
+        """Sets how many steps of the unknown rows were known, their mean, and which minimum and maximum they show.
+
+        They are as many as the average above the coarser row says, if there is one; else as many as one row can hide,
+        or more if their mean would else be beyond the minimum or the maximum.
+        """
+        if span.most_hidden == 0:
+            return
+        row = self.row(span.above_beside, coarser.end)
+        least, most = row.minimum, row.maximum
+        is_minimum_shown = any(self.cell(span.beside.get("MIN"), time) == least for time in parts.known)
+        is_maximum_shown = any(self.cell(span.beside.get("MAX"), time) == most for time in parts.known)
+        limit = parts.unknown * span.most_hidden
+        likely = self.known_steps(span, coarser.end, mean) - parts.count
+        fewest = max(above.steps - above.allowed_unknown() - parts.count, span.most_hidden)
+        for steps in (likely, *range(fewest, limit + 1)):
+            if not 1 <= steps <= limit:
+                continue
+            hidden_mean = (mean * (parts.count + steps) - parts.total) / steps
+            if row.may_have(hidden_mean, parts.count + steps):
+                coarser.hidden, coarser.hidden_mean, coarser.lower, coarser.upper = steps, hidden_mean, least, most
+                coarser.hidden_minimum = None if is_minimum_shown else least
+                coarser.hidden_maximum = None if is_maximum_shown else most
+                return
+
+    def find_below_unknown(self, span: Span, above: Archive, coarser: Coarser, excess: int, later: Stretches) -> bool:
+        """Finds unknown steps of known rows, or known steps of unknown ones, in an unknown coarser row.
+
+        There are at least `excess` unknown steps. The row of the archive that is coarser still says how many; only the
+        last unknown row below that one is looked at.
+        """
+        top = span.above_twice
+        if top is None:
+            return False
+        end = coarser.end - 1 - (coarser.end - 1) % top.seconds + top.seconds
+        mean = self.exact(top, end) if end <= top.end else math.nan
+        if math.isnan(mean) or end - top.seconds < span.begin:
+            return False
+        times = range(end - top.seconds + above.seconds, end + 1, above.seconds)
+        parts = self.parts_below(span, above, times, coarser.end, later)
+        if parts is None:
+            return False
+        if parts.count and is_mean(mean, parts.total / parts.count, parts.size):
+            return False
+        if self.find_dropped(span, coarser, parts, mean):
+            if sum(coarser.dropped.values()) >= excess:
+                return True
+            coarser.dropped.clear()
+        row = self.row(Span.companions(top, span.archives), end)
+        for steps in range(min(-excess, span.most_hidden, parts.unknown * span.most_hidden), 0, -1):
+            hidden_mean = (mean * (parts.count + steps) - parts.total) / steps
+            if row.may_have(hidden_mean, parts.count + steps):
+                coarser.hidden, coarser.hidden_mean = steps, hidden_mean
+                coarser.lower, coarser.upper = row.minimum, row.maximum
+                return True
+        return False
+
+    def parts_below(self, span: Span, above: Archive, times: range, last: int, later: Stretches) -> Parts | None:
+        """The coarser rows that end at `times`, and the rows that the one which ends at `last` is made of.
+
+        None if an unknown one comes after it, or if unknown steps of a known one explain the difference.
+        """
+        parts = Parts()
+        for time in times:
+            own = self.exact(above, time)
+            below = self.parts_of(span, above, time, later) if time - above.seconds < span.end else None
+            if math.isnan(own):
+                if time > last or below is None:
+                    return None
+                parts.add_rest(below.count, below.total)
+                if time == last:
+                    parts.known, parts.unknown = below.known, below.unknown
+            elif below is None or below.count == above.steps and is_mean(own, below.total / below.count, below.size):
+                parts.add_rest(above.steps, own * above.steps)
+            else:
+                return None
+        return parts
+
+    def known_steps(self, span: Span, end: int, mean: float) -> int:
+        """How many steps of the coarser row that ends at `end` were known, by the row above it; 0 if that doesn't say.
+
+        All steps of the other known rows count as known.
+        """
+        above, top = span.above, span.above_twice
+        if above is None or top is None:
+            return 0
+        top_end = end - 1 - (end - 1) % top.seconds + top.seconds
+        wanted = self.exact(top, top_end) if top_end <= top.end else math.nan
+        if math.isnan(wanted) or wanted == mean:
+            return 0
+        times = range(top_end - top.seconds + above.seconds, top_end + 1, above.seconds)
+        others = [self.exact(above, time) for time in times if time != end]
+        known = [other for other in others if not math.isnan(other)]
+        count = (sum(known) - wanted * len(known)) * above.steps / (wanted - mean)
+        return round(count) if 0 < count <= above.steps and abs(count - round(count)) < 0.01 else 0
+
+
+def unfinished_step(source: Source, whole: int, last: int, losses: Losses) -> Stretches:
+    """What is known about the unfinished step: its unknown seconds first, then the mean of the known ones."""
+    if last == whole:
+        return []
+    known = last - whole - source.unknown_seconds
+    rates: Stretches = [(whole + source.unknown_seconds, None)] if 0 < source.unknown_seconds < last - whole else []
+    return rates + [(last, losses.amount(source.partial_sum / known) if known > 0 else None)]

@@ -1,0 +1,256 @@
+"""The C library librrdi: where it is, and its four functions.
+
+A call lends the library buffers that belong to the calling thread, so threads may call side by side. During a call the
+interpreter's lock is free. docs/embedding.md has the library's own rules.
+"""
+from __future__ import annotations
+
+import ctypes
+import os
+import threading
+from pathlib import Path
+from typing import List, NamedTuple, Optional, Protocol, Tuple
+
+from .errors import NO_ROOM, OK
+
+NAMES = ("librrdi.so.0", "librrdi.so")
+FIRST_ROOM = 65_536  # bytes of output
+
+
+class Answer(NamedTuple):
+    """What the library says of a call."""
+
+    fault: int
+    system_error: int
+    at: int
+    output: bytes
+    refused: Tuple[int, ...] = ()  # the numbers of a batch's refused lines, the first line is 1
+    data: Optional[bytes] = None  # in memory: the new database, if there is one
+
+
+# A call that changed a file, or found nothing to change.
+DONE = Answer(OK, 0, 0, b"")
+
+
+class Library(Protocol):
+    """One command, or lines of commands, on the file at a path or on a database in memory.
+
+    `words` are the command's name and its words, without FILE, with a zero byte between them. `lines` are what
+    `rrdi batch` reads. `now` is in seconds since 1970, and `wait`, for the file's lock, in milliseconds. `syncs`
+    flushes each change to the disk.
+    """
+
+    def run_file(self, path: bytes, words: bytes, now: int, wait: int, syncs: bool) -> Answer: ...
+
+    def batch_file(self, path: bytes, lines: bytes, now: int, wait: int, syncs: bool) -> Answer: ...
+
+    def run(self, data: Optional[bytes], words: bytes, now: int) -> Answer: ...
+
+    def batch(self, data: Optional[bytes], lines: bytes, now: int) -> Answer: ...
+
+
+class _Answer(ctypes.Structure):
+    """`struct rrdi_answer` of rrdi.h."""
+
+    _fields_ = [("fault", ctypes.c_uint32), ("system_error", ctypes.c_uint32), ("is_changed", ctypes.c_bool),
+                ("is_cut", ctypes.c_bool), ("refused", ctypes.c_uint64), ("file_length", ctypes.c_uint64),
+                ("output_length", ctypes.c_uint64), ("at", ctypes.c_uint64), ("reserved", ctypes.c_uint64 * 32)]
+
+    fault: int
+    system_error: int
+    is_changed: bool
+    is_cut: bool
+    refused: int
+    file_length: int
+    output_length: int
+    at: int
+
+
+class _Room:
+    """Bytes that a thread lends to the library. They grow when a call needs more."""
+
+    def __init__(self, length: int):
+        self.grow(length)
+
+    def grow(self, length: int) -> None:
+        if length > getattr(self, "length", 0):
+            self.buffer = ctypes.create_string_buffer(length)
+            self.at, self.length = ctypes.addressof(self.buffer), length
+
+    def shrink(self) -> None:
+        """Gives back what a call with a large result took."""
+        if self.length > 16 * FIRST_ROOM:
+            self.length = 0
+            self.grow(FIRST_ROOM)
+
+
+class _Rooms(threading.local):
+    """The buffers of one thread."""
+
+    def __init__(self) -> None:
+        self.answer = _Answer()
+        self.answer_at = ctypes.addressof(self.answer)
+        self.output, self.file, self.refused = _Room(FIRST_ROOM), _Room(1), _Room(8)
+
+
+_BYTES, _LENGTH, _ADDRESS = ctypes.c_char_p, ctypes.c_size_t, ctypes.c_void_p
+_IN_MEMORY = [ctypes.c_bool, _BYTES, _LENGTH, _BYTES, _LENGTH, ctypes.c_uint64, _ADDRESS, _LENGTH, _ADDRESS, _LENGTH]
+_AT_PATH = [_BYTES, _LENGTH, _BYTES, _LENGTH, ctypes.c_uint64, ctypes.c_uint64, ctypes.c_bool, _ADDRESS, _LENGTH]
+_REFUSED = [_ADDRESS, _LENGTH]
+
+
+class CLibrary:
+    """librrdi by ctypes.
+
+    # Errors
+    `AttributeError` if the library lacks a function.
+    """
+
+    def __init__(self, loaded: ctypes.CDLL):
+        self._run, self._batch = loaded.rrdi_run, loaded.rrdi_batch
+        self._run_file, self._batch_file = loaded.rrdi_run_file, loaded.rrdi_batch_file
+        self._run.argtypes = [*_IN_MEMORY, _ADDRESS]
+        self._batch.argtypes = [*_IN_MEMORY, *_REFUSED, _ADDRESS]
+        self._run_file.argtypes = [*_AT_PATH, _ADDRESS]
+        self._batch_file.argtypes = [*_AT_PATH, *_REFUSED, _ADDRESS]
+        for function in (self._run, self._batch, self._run_file, self._batch_file):
+            function.restype = None
+        self._rooms = _Rooms()
+
+    def run_file(self, path: bytes, words: bytes, now: int, wait: int, syncs: bool) -> Answer:
+        rooms = self._rooms
+        answer, output = rooms.answer, rooms.output
+        while True:
+            self._run_file(path, len(path), words, len(words), now, wait, syncs, output.at, output.length,
+                           rooms.answer_at)
+            if not answer.is_cut:
+                return _finished(rooms) if answer.fault or answer.output_length else DONE
+            output.grow(answer.output_length)  # only a command that changes nothing prints so much
+
+    def batch_file(self, path: bytes, lines: bytes, now: int, wait: int, syncs: bool) -> Answer:
+        rooms = self._rooms
+        answer, output, refused = rooms.answer, rooms.output, rooms.refused
+        refused.grow(8 * (lines.count(b"\n") + 1))
+        while True:
+            self._batch_file(path, len(path), lines, len(lines), now, wait, syncs, output.at, output.length,
+                             refused.at, refused.length // 8, rooms.answer_at)
+            if answer.fault != NO_ROOM:
+                return _finished(rooms, refused)
+            output.grow(answer.output_length)
+
+    def run(self, data: Optional[bytes], words: bytes, now: int) -> Answer:
+        rooms, given = self._rooms, data or b""
+        answer, output, file = rooms.answer, rooms.output, rooms.file
+        file.grow(len(given) + FIRST_ROOM)
+        while True:
+            self._run(data is not None, given, len(given), words, len(words), now, file.at, file.length, output.at,
+                      output.length, rooms.answer_at)
+            if not _needs_room(rooms):
+                return _finished(rooms, None, file)
+
+    def batch(self, data: Optional[bytes], lines: bytes, now: int) -> Answer:
+        rooms, given = self._rooms, data or b""
+        answer, output, file, refused = rooms.answer, rooms.output, rooms.file, rooms.refused
+        file.grow(len(given) + FIRST_ROOM)
+        refused.grow(8 * (lines.count(b"\n") + 1))
+        while True:
+            self._batch(data is not None, given, len(given), lines, len(lines), now, file.at, file.length, output.at,
+                        output.length, refused.at, refused.length // 8, rooms.answer_at)
+            if not _needs_room(rooms):
+                return _finished(rooms, refused, file)
+
+
+def _needs_room(rooms: _Rooms) -> bool:
+    """Makes the room that the last call in memory had too little of; a call in memory can be made again."""
+    answer = rooms.answer
+    if answer.fault != NO_ROOM and not answer.is_cut:
+        return False
+    rooms.file.grow(answer.file_length)
+    rooms.output.grow(answer.output_length)
+    return True
+
+
+def _finished(rooms: _Rooms, refused: Optional[_Room] = None, file: Optional[_Room] = None) -> Answer:
+    """What the thread's buffers have after a call."""
+    answer, length = rooms.answer, rooms.answer.output_length
+    output = ctypes.string_at(rooms.output.at, length) if length else b""
+    data: Optional[bytes] = None
+    numbers: Tuple[int, ...] = ()
+    if refused is not None and answer.refused:
+        numbers = tuple((ctypes.c_uint64 * answer.refused).from_address(refused.at))
+    if file is not None and answer.is_changed:
+        data = ctypes.string_at(file.at, answer.file_length)
+    if length > FIRST_ROOM or file is not None or refused is not None:
+        for room in (rooms.output, rooms.file, rooms.refused):
+            room.shrink()
+    return Answer(answer.fault, answer.system_error, answer.at, output, numbers, data)
+
+
+# ---- Where the library is
+
+def library_path() -> Optional[str]:
+    """Returns the path or the name of the library that `import rrdi` uses; None if there is none.
+
+    The variable RRDI_LIBRARY names it. Otherwise it is beside the package, in the `lib` of the installation to which
+    the package belongs, where a build of the repository leaves it, or where the system looks for libraries.
+    """
+    named = os.environ.get("RRDI_LIBRARY")
+    if named:
+        return named
+    for folder in _folders():
+        for name in NAMES:
+            if (folder / name).is_file():
+                return str(folder / name)
+    for name in NAMES[:1]:
+        try:
+            ctypes.CDLL(name)
+        except OSError:
+            continue
+        return name
+    return None
+
+
+def _folders() -> List[Path]:
+    """Folders beside this package: of a wheel, of an installation (PREFIX/share/rrdi/python), of a repository."""
+    package = Path(__file__).resolve().parent
+    above = package.parent.parent
+    folders = [package, above / "out"]
+    if package.parent.name == "python" and above.name == "rrdi" and above.parent.name == "share":
+        folders.append(above.parent.parent / "lib")
+    return folders
+
+
+class _Loaded:
+    """The library that all functions of the package call."""
+
+    def __init__(self) -> None:
+        self.library: Optional[Library] = None
+        self.lock = threading.Lock()
+
+
+_loaded = _Loaded()
+
+
+def load_library(path: Optional[str] = None) -> Library:
+    """Loads the library at `path`, or else the one that `library_path` finds, for all functions of this package.
+
+    # Errors
+    - `OSError` if there is none, or it can't be loaded.
+    - `AttributeError` if it lacks a function.
+    """
+    with _loaded.lock:
+        found = path or library_path()
+        if found is None:
+            raise OSError("librrdi.so.0 not found; install it, or name it by the variable RRDI_LIBRARY")
+        _loaded.library = CLibrary(ctypes.CDLL(found))
+        return _loaded.library
+
+
+def use_library(library: Optional[Library]) -> None:
+    """Makes all functions of this package call this one; None means the one that `load_library` finds."""
+    _loaded.library = library
+
+
+def the_library() -> Library:
+    """Returns the library, and loads it at the first call."""
+    return _loaded.library or load_library()

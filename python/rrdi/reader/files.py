@@ -1,0 +1,61 @@
+"""Files, and how one is read while other programs may change it."""
+from __future__ import annotations
+
+import errno
+import fcntl
+import os
+import time
+
+from .pieces import Parts, Reader
+from .undo import settled
+
+
+def read(data: bytes) -> Parts:
+    """Returns the database that these bytes stand for, by names.
+
+    # Errors
+    `Damaged` if they stand for none.
+    """
+    return Reader(settled(data)).database()
+
+
+def lock_shared(file: int) -> None:
+    """Takes a shared lock on an open file, as rrdi does to read. On a file system without locks, takes none.
+
+    # Errors
+    `OSError` if another program holds the lock for longer than RRDI_WAIT seconds, 5 by default.
+    """
+    wait = os.environ.get("RRDI_WAIT", "")
+    until = time.monotonic() + (min(int(wait), 3_600) if wait.isascii() and wait.isdigit() else 5)
+    pause = 0.001
+    while True:
+        try:
+            return fcntl.flock(file, fcntl.LOCK_SH | fcntl.LOCK_NB)
+        except OSError as error:
+            if error.errno != errno.EWOULDBLOCK:
+                return None
+            if time.monotonic() >= until:
+                raise OSError(errno.EWOULDBLOCK, "cannot open: another program holds its lock") from None
+        time.sleep(pause)
+        pause = min(2 * pause, 0.05)
+
+
+def read_bytes(path: str) -> bytes:
+    """Reads a file under a shared lock; - is standard input.
+
+    # Errors
+    `OSError` if the file can't be opened, locked or read.
+    """
+    with open(0 if path == "-" else path, "rb", closefd=path != "-") as file:
+        lock_shared(file.fileno())
+        return file.read()
+
+
+def read_file(path: str) -> Parts:
+    """Returns the database in a file, by names.
+
+    # Errors
+    - `OSError` if the file can't be opened, locked or read.
+    - `Damaged` if it is no database.
+    """
+    return read(read_bytes(path))

@@ -1,0 +1,120 @@
+"""What commands print, as values of Python in the shapes of Python's module `rrdtool`."""
+from __future__ import annotations
+
+import datetime
+from decimal import Decimal
+from typing import (TYPE_CHECKING, Callable, Dict, Generic, List, NamedTuple, Optional, Tuple, Type, TypedDict, TypeVar,
+                    Union)
+
+from .amounts import MILLION, Millionths
+
+Value = TypeVar("Value", float, Decimal, Millionths)
+Row = Tuple[Optional[Value], ...]
+Table = Tuple[Tuple[int, int, int], Tuple[str, ...], List[Tuple[Optional[Value], ...]]]
+Info = Dict[str, Union[str, int, float, None]]
+UNKNOWN = frozenset({"nan", "U"})
+
+if TYPE_CHECKING:
+    class LastUpdate(TypedDict, Generic[Value]):
+        """The time of the last sample, and the last raw value of each source."""
+
+        date: datetime.datetime
+        ds: Dict[str, Optional[Value]]
+else:
+    LastUpdate = dict
+
+
+class Rows(NamedTuple):
+    """What `fetch` prints: the sources' names, and the time and the words of each row."""
+
+    names: Tuple[str, ...]
+    times: List[int]
+    words: List[List[str]]
+
+
+def _millionths(word: str) -> Millionths:
+    """The millionths of a number that rrdi prints: whole, or with six digits after its point."""
+    return Millionths(word.replace(".", "")) if "." in word else Millionths(int(word) * MILLION)
+
+
+_CONVERSIONS: Dict[type, Callable[[str], object]] = {float: float, Decimal: Decimal, Millionths: _millionths}
+
+
+def conversion(values: Type[Value]) -> Callable[[str], Value]:
+    """The function that makes a value of a printed number.
+
+    # Errors
+    `TypeError` if `values` is none of float, Decimal and Millionths.
+    """
+    found = _CONVERSIONS.get(values)
+    if found is None:
+        raise TypeError(f"values must be float, Decimal or Millionths, not {values!r}")
+    return found  # type: ignore[return-value]
+
+
+def rows_of(text: str) -> Rows:
+    head, *lines = text.splitlines()
+    times: List[int] = []
+    words: List[List[str]] = []
+    for line in lines:
+        time, _, cells = line.partition(":")
+        times.append(int(time))
+        words.append(cells.split())
+    return Rows(tuple(head.split()[1:]), times, words)
+
+
+def table(rows: Rows, step: int, values: Type[Value]) -> Table[Value]:
+    """The span and the step of rows, the names, and the cells: None where a cell is unknown."""
+    convert = conversion(values)
+    cells = [tuple([None if word in UNKNOWN else convert(word) for word in words]) for words in rows.words]
+    return (rows.times[0] - step, rows.times[-1], step), rows.names, cells
+
+
+def last_update(text: str, values: Type[Value]) -> LastUpdate[Value]:
+    """The time of the last sample, in the local time zone, and each source's last raw value."""
+    convert, rows = conversion(values), rows_of(text)
+    last = {name: None if word in UNKNOWN else convert(word) for name, word in zip(rows.names, rows.words[0])}
+    return {"date": datetime.datetime.fromtimestamp(rows.times[0]), "ds": last}
+
+
+# ---- info
+
+_OF_A_SOURCE = {"minimal_heartbeat": int, "min": float, "max": float}
+_OF_AN_ARCHIVE = {"rows": "rows", "steps": "pdp_per_row", "xff": "xff", "cf": "cf"}
+
+
+def _shortened(word: str) -> str:
+    """A number without zeros at the end of its fraction, as a sample has it."""
+    return word.rstrip("0").rstrip(".") if "." in word else word
+
+
+def info_of(text: str, filename: str) -> Info:
+    """The settings by RRDtool's names, and the journal's by rrdi's own."""
+    found: Info = {"filename": filename}
+    names: Dict[str, str] = {}
+    for line in text.splitlines():
+        key, _, word = line.partition(" = ")
+        owner, _, name = key.partition(".")
+        if owner.startswith("ds["):
+            number = owner[3:-1]
+            if name == "name":
+                names[number] = word
+                found[f"ds[{word}].index"] = int(number)
+            else:
+                _add_setting(found, f"ds[{names[number]}]", name, word)
+        elif owner.startswith("rra["):
+            kind: Callable[[str], Union[str, int, float]] = {"cf": str, "xff": float}.get(name, int)
+            found[f"{owner}.{_OF_AN_ARCHIVE[name]}"] = kind(word)
+        else:
+            found[key] = int(word)
+    return found
+
+
+def _add_setting(found: Info, owner: str, name: str, word: str) -> None:
+    """Adds one setting of a source."""
+    if name == "last_raw":
+        found[f"{owner}.last_ds"] = _shortened(word)
+    elif name == "type":
+        found[f"{owner}.type"] = word
+    else:
+        found[f"{owner}.{name}"] = None if word == "U" else _OF_A_SOURCE[name](word)

@@ -1,0 +1,1 @@
+"""The tools of rrdi: each is a program with a module of its own."""

@@ -1,0 +1,114 @@
+"""What all tools share: their help, their messages, their exit statuses, and how they report progress."""
+from __future__ import annotations
+
+import os
+import sys
+import time
+from typing import Callable, List, NamedTuple, Optional
+
+
+class Failure(Exception):
+    """Why a tool can't do what it was asked; the text is a line for the user."""
+
+
+class WrongArguments(Exception):
+    """The arguments are wrong; the text is a line for the user, or empty for the usage line."""
+
+
+class Tool(NamedTuple):
+    """A tool: its name after an installation, the line of its arguments, its help, and what it does."""
+
+    name: str
+    usage: str
+    help: Optional[str]
+    run: Callable[[List[str]], int]
+
+
+def called_name(tool: Tool) -> str:
+    """Returns the name by which a tool was started; a link or an old name shows in its messages."""
+    name = os.path.basename(sys.argv[0])
+    return tool.name if name.endswith(".py") or name in ("", "-c", "-m", "__main__") else name
+
+
+def give_up_output() -> None:
+    """Sends the rest of standard output nowhere, so that Python doesn't report at its end what was reported already."""
+    try:
+        os.dup2(os.open(os.devnull, os.O_WRONLY), 1)
+    except OSError:
+        pass
+
+
+def error_text(error: OSError) -> str:
+    """Describes an error of the system, with the file if there is one."""
+    reason = error.strerror or str(error)
+    return f"{error.filename}: {reason}" if error.filename else reason
+
+
+def run(tool: Tool, words: Optional[List[str]] = None) -> int:
+    """Runs a tool and returns its exit status.
+
+    The status is 0 if all went well, 1 and one line on standard error after a failure, and 2 after wrong arguments.
+    """
+    words = sys.argv[1:] if words is None else words
+    name = called_name(tool)
+    try:
+        if words[:1] in (["-h"], ["--help"]):
+            print((tool.help or "").strip())
+            status = 0
+        else:
+            status = tool.run(words)
+        sys.stdout.flush()
+        return status
+    except WrongArguments as wrong:
+        print(f"{name}: {wrong}" if str(wrong) else f"usage: {name} {tool.usage}", file=sys.stderr)
+        return 2
+    except Failure as failure:
+        print(f"{name}: {failure}", file=sys.stderr)
+    except BrokenPipeError:
+        give_up_output()
+        return 1
+    except KeyboardInterrupt:
+        give_up_output()
+        return 130
+    except OSError as error:
+        print(f"{name}: {error_text(error)}", file=sys.stderr)
+    try:
+        sys.stdout.flush()
+    except OSError:
+        give_up_output()
+    return 1
+
+
+def say(tool_name: str, text: str) -> None:
+    """Prints a line of a tool on standard error."""
+    print(f"{tool_name}: {text}", file=sys.stderr, flush=True)
+
+
+class Progress:
+    """Shows on standard error how far a long move is, if standard error is a terminal.
+
+    Nothing is shown in the first second, so short moves print nothing.
+    """
+
+    FIRST, NEXT = 1.0, 0.2  # seconds
+
+    def __init__(self, what: str, clock: Callable[[], float] = time.monotonic):
+        self.what, self.clock = what, clock
+        self.is_on = sys.stderr.isatty()
+        self.due = clock() + self.FIRST
+        self.is_shown = False
+
+    def show(self, done: int, total: Optional[int] = None) -> None:
+        """Shows `done`, or the share of `total` if that is known."""
+        if not self.is_on or self.clock() < self.due:
+            return
+        self.due = self.clock() + self.NEXT
+        count = f"{done:,}" if not total else f"{min(100 * done // total, 100)} %"
+        print(f"\r{self.what}: {count}\x1b[K", end="", file=sys.stderr, flush=True)
+        self.is_shown = True
+
+    def end(self) -> None:
+        """Clears the line."""
+        if self.is_shown:
+            print("\r\x1b[K", end="", file=sys.stderr, flush=True)
+            self.is_shown = False

@@ -1,0 +1,19 @@
+"""Numbers with an exponent, as RRDtool prints them."""
+from __future__ import annotations
+
+from typing import Optional
+
+# Digits after the point. RRDtool prints ten of them; with sixteen a number reads back as the same one.
+PRINTED, EXACT = 10, 16
+_digits = PRINTED
+
+
+def be_exact() -> None:
+    """Makes `exponent` print so many digits that each number reads back as the same one."""
+    global _digits
+    _digits = EXACT
+
+
+def exponent(value: Optional[float], unknown: str) -> str:
+    """Returns a number with an exponent, or `unknown` for None and for nan."""
+    return unknown if value is None or value != value else f"{value:.{_digits}e}"

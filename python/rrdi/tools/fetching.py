@@ -1,0 +1,80 @@
+"""Reads rows as `rrdtool fetch` chooses them."""
+from __future__ import annotations
+
+import math
+from typing import Dict, List, Optional
+
+from . import program
+from .command_line import Failure
+from .program import Rows, Settings
+
+FUNCTIONS = ("AVERAGE", "MIN", "MAX", "LAST")
+NO_ARCHIVE = "the RRD does not contain an RRA matching the chosen CF"
+
+
+def choose(settings: Settings, function: str, start: int, end: int, resolution: int) -> int:
+    """Returns the number of the archive that RRDtool takes.
+
+    RRDtool takes an archive with one step per row for any function. Of the archives that reach back to `start`, the one
+    whose resolution is nearest wins, and else the one that reaches back farthest; of equals, the one with the lowest
+    number.
+
+    # Errors
+    `Failure` if no archive can serve the function.
+    """
+    full: Optional[int] = None
+    part: Optional[int] = None
+    for number, archive in enumerate(settings.archives):
+        if archive.function != function and not (archive.steps == 1 and function in FUNCTIONS):
+            continue
+        apart = abs(resolution - settings.resolution(number))
+        if settings.start(number) <= start:
+            if full is None or apart < abs(resolution - settings.resolution(full)):
+                full = number
+        elif part is None or (settings.start(number), apart) < (
+                settings.start(part), abs(resolution - settings.resolution(part))):
+            part = number
+    if full is None and part is None:
+        raise Failure(NO_ARCHIVE)
+    return full if full is not None else part or 0
+
+
+def rows_of(file: str, settings: Settings, number: int, start: int, end: int) -> Rows:
+    """Returns rows of one archive.
+
+    The rows are those from the first one that ends after `start` to the first one that ends after `end`, which are in
+    seconds since 1970. Rows that the archive does not have are unknown.
+    """
+    step = settings.resolution(number)
+    start -= start % step
+    end += step - end % step
+    names = [source.name for source in settings.sources]
+    unknown: List[Optional[float]] = [None] * len(names)
+    oldest, newest = max(settings.start(number), 0), settings.end(number)
+    first, last = max(start, oldest), min(end, newest)
+    found: Dict[int, List[str]] = {}
+    if first < last:
+        printed = program.ask(["fetch", program.file_argument(file), settings.archives[number].function, "--resolution",
+                               str(step), "--start", str(first), "--end", str(last - 1)])
+        _, found = program.printed_rows(printed)
+    cells = [[as_float(cell) for cell in found[time]] if time in found else list(unknown)
+             for time in range(start + step, end + 1, step)]
+    return Rows(start, end, step, names, cells)
+
+
+def as_float(text: str) -> Optional[float]:
+    value = float(text)
+    return None if math.isnan(value) else value
+
+
+def fetch(file: str, function: str, start: int, end: int, resolution: int = 1) -> Rows:
+    """Returns the rows that `rrdtool fetch` prints.
+
+    # Errors
+    - `program.Refused` if the file is no database.
+    - `Failure` if no archive can serve the function, or if `start` is after `end`.
+    """
+    if start > end:
+        raise Failure(f"start ({start}) should be less than end ({end})")
+    settings = program.settings(file)
+    return rows_of(file, settings, choose(settings, function, start, end, resolution), start, end)

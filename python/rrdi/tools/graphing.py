@@ -1,0 +1,128 @@
+"""Lets RRDtool's own grapher draw rrdi's files: RRDtool asks a callback for the rows of each DEF."""
+from __future__ import annotations
+
+import json
+import locale
+import re
+from typing import List
+
+from .command_line import Failure
+from .exponents import exponent
+from .fetching import fetch
+from .librrd import PREFIX, Exported, Info, Librrd
+from .program import Rows
+
+# The first bytes of a file of rrdi: as it is, and while a change is being made.
+MARKS = (b"RRDI", b"RRDC", b"RRDc", b"RRDU")
+
+
+def is_of_rrdi(file: str) -> bool:
+    """Checks by its first bytes whether a file is one of rrdi's."""
+    try:
+        with open(file, "rb") as opened:
+            return opened.read(4) in MARKS
+    except OSError:
+        return False
+
+
+def rewrite(word: str) -> str:
+    """Returns an argument of a graph. The file of a DEF becomes one for the callback if the file is rrdi's."""
+    found = re.fullmatch(r"(DEF:[^=:]+=)((?:[^:\\]|\\.)+)(:.*)", word, re.DOTALL)
+    if found is None:
+        return word
+    file = re.sub(r"\\(.)", r"\1", found[2], flags=re.DOTALL)
+    if not is_of_rrdi(file):
+        return word
+    return found[1] + PREFIX + re.sub(r"([:\\])", r"\\\1", file) + found[3]
+
+
+def rows_for(file: str, function: str, start: int, end: int, step: int) -> Rows:
+    """Answers RRDtool's question for the rows of a file."""
+    name = file[len(PREFIX):]
+    try:
+        return fetch(name, function, start, end, step)
+    except Failure as failure:
+        raise Failure(f"{name}: {failure}") from None
+
+
+class Grapher:
+    """Runs RRDtool's graph, graphv and xport.
+
+    # Errors
+    `Failure` if RRDtool's library is not installed, or with RRDtool's own message if it draws nothing.
+    """
+
+    def __init__(self) -> None:
+        self.library = Librrd()
+        # As rrdtool's own program does; RRDtool reads numbers in its own way.
+        try:
+            locale.setlocale(locale.LC_ALL, "")
+            locale.setlocale(locale.LC_NUMERIC, "C")
+        except locale.Error:
+            pass
+
+    def draw(self, words: List[str]) -> List[Info]:
+        return self.library.graph([rewrite(word) for word in words], rows_for)
+
+    def graph(self, words: List[str]) -> bytes:
+        """Draws a picture. Returns its size and the texts of PRINT, or the picture itself if the file is `-`."""
+        found = self.draw(words)
+        if words[:1] == ["-"]:
+            return b"".join(info.value for info in found if isinstance(info.value, bytes))
+        sizes = {info.key: info.value for info in found}
+        # Without anything to draw there are no sizes.
+        lines = [f"{sizes.get('image_width', 0)}x{sizes.get('image_height', 0)}",
+                 *(info.value for info in found if info.key.startswith("print[") and isinstance(info.value, str))]
+        return "".join(line + "\n" for line in lines).encode(errors="surrogateescape")
+
+    def graph_with_sizes(self, words: List[str]) -> bytes:
+        """Draws a picture. Returns what RRDtool tells of it, and the picture itself if the file is `-`."""
+        return b"".join(as_line(info) for info in self.draw(words))
+
+    def xport(self, words: List[str]) -> bytes:
+        """Returns rows as XML, or as JSON with --json."""
+        found = self.library.xport([rewrite(word) for word in words], rows_for)
+        has_times = "-t" in words or "--showtime" in words
+        printed = as_json(found, has_times) if "--json" in words else as_xml(found, has_times, "--enumds" in words)
+        return printed.encode(errors="surrogateescape")
+
+
+def as_line(info: Info) -> bytes:
+    """A line as `rrdtool graphv` prints it."""
+    value = info.value
+    if isinstance(value, bytes):
+        return f"{info.key} = BLOB_SIZE:{len(value)}\n".encode() + value
+    if isinstance(value, float):
+        shown = exponent(value, "NaN")
+    else:
+        shown = f'"{value}"' if isinstance(value, str) else str(value)
+    return f"{info.key} = {shown}\n".encode(errors="surrogateescape")
+
+
+def as_xml(found: Exported, has_times: bool, is_numbered: bool) -> str:
+    """The XML that `rrdtool xport` prints."""
+    first = found.start + found.step
+    lines = ['<?xml version="1.0" encoding="ISO-8859-1"?>', "", "<xport>", "  <meta>", f"    <start>{first}</start>",
+             f"    <end>{found.end}</end>", f"    <step>{found.step}</step>", f"    <rows>{len(found.rows)}</rows>",
+             f"    <columns>{len(found.names)}</columns>", "    <legend>",
+             *(f"      <entry>{name}</entry>" for name in found.names), "    </legend>", "  </meta>", "  <data>"]
+    for at, row in enumerate(found.rows):
+        cells = f"<t>{first + at * found.step}</t>" if has_times else ""
+        for number, value in enumerate(row):
+            tag = f"v{number}" if is_numbered else "v"
+            cells += f"<{tag}>{exponent(value, 'NaN')}</{tag}>"
+        lines.append(f"    <row>{cells}</row>")
+    return "\n".join([*lines, "  </data>", "</xport>", ""])
+
+
+def as_json(found: Exported, has_times: bool) -> str:
+    """The JSON that `rrdtool xport --json` prints, with quotes in legends escaped."""
+    first = found.start + found.step
+    names = ",\n".join(f"      {json.dumps(name, ensure_ascii=False)}" for name in found.names)
+    rows = []
+    for at, row in enumerate(found.rows):
+        cells = ", ".join(exponent(value, "null") for value in row)
+        rows.append(f'    [ "{first + at * found.step}",{cells} ]' if has_times else f"    [ {cells} ]")
+    return ('{ "about": "RRDtool graph JSON output",\n  "meta": {\n'
+            f'    "start": {first},\n    "end": {found.end},\n    "step": {found.step},\n    "legend": [\n{names}\n'
+            '          ]\n     },\n  "data": [\n' + ",\n".join(rows) + "\n  ]\n}\n")

@@ -1,0 +1,99 @@
+"""Moves a file of RRDtool to rrdi.
+
+    rrdi-import [--journal DEPTH] OLD.rrd NEW.rrdi
+    rrdi-import [--journal DEPTH] OLD.rrd > moved.batch
+
+The first form makes NEW.rrdi, which must not exist. The second form prints the batch that `rrdi batch NEW.rrdi` takes.
+The batch creates a database with the same step, data sources and archives, and updates it with rates that give the rows
+of the old file again. `rrdtool dump` reads the old file, so rrdtool must be installed. --journal DEPTH sets how many
+changes the new database can revert. docs/from-rrdtool.md says what is converted, and how.
+
+Exit status: 0 if the file was converted; 1 and a line on standard error if the file can't be converted; 2 after wrong
+arguments. Whatever can't be converted is listed on standard error.
+"""
+from __future__ import annotations
+
+import os
+import re
+import sys
+from typing import Iterator, List, NamedTuple, Optional
+
+from ..importing.batch import batch_of
+from ..importing.dump import Refusal, read_file
+from . import program, rrdtool_program
+from .command_line import Failure, Progress, Tool, WrongArguments, called_name, run, say
+
+
+class Arguments(NamedTuple):
+    journal: Optional[str]
+    old: str
+    new: Optional[str]
+
+
+def read_arguments(words: List[str]) -> Arguments:
+    journal = None
+    if words[:1] == ["--journal"]:
+        if len(words) < 2 or not re.fullmatch("[0-9]+", words[1]):
+            raise WrongArguments
+        journal, words = words[1], words[2:]
+    if not 1 <= len(words) <= 2 or any(not word or word.startswith("-") for word in words):
+        raise WrongArguments
+    return Arguments(journal, words[0], words[1] if len(words) == 2 else None)
+
+
+def lines_of(arguments: Arguments) -> Iterator[str]:
+    """Reads the old file and yields the lines of the batch."""
+    progress = Progress(f"reading {arguments.old}")
+    try:
+        size = os.path.getsize(arguments.old)
+    except OSError:
+        size = 0  # rrdtool says what is wrong
+    old = read_file(rrdtool_program.found(), arguments.old, lambda cells: progress.show(8 * cells, size))
+    progress.end()
+    yield from batch_of(old, arguments.journal, lambda text: say(called_name(TOOL), text))
+
+
+def make(new: str, lines: Iterator[str]) -> None:
+    """Makes a database with a batch. It gets its name when it is whole."""
+    if os.path.lexists(new):
+        raise Failure(f"{new} already exists")
+    unfinished = new + ".new"
+    if os.path.lexists(unfinished):
+        raise Failure(f"{unfinished} already exists; another rrdi-import may be making it")
+    given, progress = [], Progress("converting")
+    for line in lines:
+        given.append(line)
+        progress.show(len(given))
+    progress.end()
+    try:
+        program.batch(unfinished, given)
+        os.rename(unfinished, new)
+    except BaseException:
+        if os.path.lexists(unfinished):
+            os.unlink(unfinished)
+        raise
+
+
+def convert(words: List[str]) -> int:
+    arguments = read_arguments(words)
+    try:
+        lines = lines_of(arguments)
+        if arguments.new is not None:
+            make(arguments.new, lines)
+        else:
+            for line in lines:
+                print(line)
+    except Refusal as refusal:
+        raise Failure(str(refusal)) from None
+    return 0
+
+
+TOOL = Tool("rrdi-import", "[--journal DEPTH] OLD.rrd [NEW.rrdi]", __doc__, convert)
+
+
+def main() -> int:
+    return run(TOOL)
+
+
+if __name__ == "__main__":
+    sys.exit(main())

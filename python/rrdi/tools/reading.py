@@ -1,0 +1,21 @@
+"""Reads databases from their files, by the reader of this package."""
+from __future__ import annotations
+
+from typing import Any, Dict
+
+from .. import reader
+from .command_line import Failure, error_text
+
+
+def read_file(file: str) -> Dict[str, Any]:
+    """Returns the database in a file, by names; `-` is standard input.
+
+    # Errors
+    `Failure` if the file can't be opened, locked or read, or is no database.
+    """
+    try:
+        return reader.read_file(file)
+    except OSError as error:
+        raise Failure(f"{file}: {error.strerror or error_text(error)}") from None
+    except reader.Fault as fault:
+        raise Failure(f"{file}: {fault}") from None

@@ -1,0 +1,122 @@
+"""Runs commands in RRDtool's syntax on rrdi's files, and prints what RRDtool prints.
+
+    rrdi-rrdtool COMMAND ARGUMENT..
+    rrdi-rrdtool [--exact] - [DIRECTORY]
+    rrdi-rrdtool [--exact | --rrdi | --show] COMMAND ARGUMENT..
+
+COMMAND is create, update, updatev, tune, resize, fetch, first, last, lastupdate, info, graph, graphv or xport, with
+RRDtool's options, times such as now-1h, durations such as 5m, and exponents. graph, graphv and xport need RRDtool's
+library, which draws; rrdi-graph --help says more.
+
+The second form is RRDtool's pipe mode: it reads a command per line from standard input, and answers each with its
+output and `OK`, or with `ERROR`; cd, mkdir, ls, pwd and quit are there too. With --exact numbers have 17 digits instead
+of RRDtool's 11; with --rrdi the output is rrdi's own; with --show rrdi-rrdtool prints the commands of rrdi and changes
+nothing. The program is rrdi, or the one that the variable RRDI names. docs/migrate.md has more.
+
+Exit status: 0; 1 and `ERROR: REASON` on standard error if the command is refused; 2 after wrong arguments. In pipe mode
+the status is 0 at the end of the input and after quit.
+"""
+from __future__ import annotations
+
+import os
+import shlex
+import sys
+from functools import lru_cache
+from typing import List
+
+from .. import program
+from ..command_line import Failure, Tool, WrongArguments, error_text, give_up_output, run
+from ..exponents import be_exact
+from ..graphing import Grapher
+from .commands import Commands, shown
+from .pipe import Pipe
+from .texts import VERSION
+
+USAGE = "[--exact | --rrdi | --show] COMMAND ARGUMENT.. | [--exact] - [DIRECTORY]"
+HELP = ("usage: rrdi-rrdtool COMMAND ARGUMENT..\n"
+        "commands: create, update, updatev, tune, resize, fetch, first, last, lastupdate, info, graph, graphv, xport\n"
+        "in pipe mode also: quit, ls, cd, mkdir, pwd\n")
+
+
+def run_command(commands: Commands, name: str, words: List[str]) -> bytes:
+    """Runs a command and returns what it prints.
+
+    # Errors
+    `Failure` if the command is refused.
+    """
+    if name in ("-v", "--version"):
+        return (VERSION + "\n").encode()
+    if name == "help":
+        return HELP.encode()
+    if name in ("graph", "graphv", "xport"):
+        grapher = the_grapher()
+        ways = {"graph": grapher.graph, "graphv": grapher.graph_with_sizes, "xport": grapher.xport}
+        return ways[name](words)
+    return commands.run(name, words).encode(errors="surrogateescape")
+
+
+@lru_cache(maxsize=None)
+def the_grapher() -> Grapher:
+    """Loads RRDtool's grapher, once it is needed."""
+    return Grapher()
+
+
+def run_pipe(words: List[str]) -> int:
+    if len(words) > 1:
+        raise WrongArguments
+    if words:
+        try:
+            os.chdir(words[0])
+        except OSError as error:
+            print(f"ERROR: chdir {words[0]} {error.strerror}", file=sys.stderr)
+            return 2
+    commands = Commands()
+    pipe = Pipe(lambda name, others: run_command(commands, name, others), HELP, sys.stdout.buffer)
+    pipe.answer_all(sys.stdin.buffer)
+    return 0
+
+
+def run_as_rrdi(name: str, words: List[str], is_shown: bool) -> int:
+    """Runs the commands of rrdi that a command becomes, with rrdi's own output, or prints them."""
+    for command in shown(name, words):
+        if name == "resize":
+            raise Failure("resize writes resize.rrd; use it without --rrdi and --show, or rrdi resize")
+        if is_shown:
+            print(shlex.join(["rrdi", *command]))
+        else:
+            sys.stdout.write(program.ask(command))
+            sys.stdout.flush()
+    return 0
+
+
+def run_words(words: List[str]) -> int:
+    if words[:1] == ["--exact"]:
+        be_exact()
+        words = words[1:]
+    mode = words[0] if words[:1] in (["--rrdi"], ["--show"]) else ""
+    name, *others = (words[1:] if mode else words) or [""]
+    if not name:
+        raise WrongArguments
+    if name == "-" and not mode:
+        return run_pipe(others)
+    try:
+        if mode:
+            return run_as_rrdi(name, others, mode == "--show")
+        sys.stdout.buffer.write(run_command(Commands(), name, others))
+        sys.stdout.flush()
+        return 0
+    except Failure as failure:
+        print(f"ERROR: {failure}", file=sys.stderr)
+    except BrokenPipeError:
+        give_up_output()
+    except OSError as error:
+        print(f"ERROR: {error_text(error)}", file=sys.stderr)
+        give_up_output()
+    return 1
+
+
+TOOL = Tool("rrdi-rrdtool", USAGE, __doc__, run_words)
+
+
+def main() -> int:
+    return run(TOOL)

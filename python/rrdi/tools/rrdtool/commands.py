@@ -1,0 +1,285 @@
+"""Runs RRDtool's commands on rrdi's files, and returns what RRDtool prints."""
+from __future__ import annotations
+
+import os
+import re
+import shutil
+import time
+from typing import Callable, Dict, List, Tuple
+
+from ...compat.syntax import Untranslatable, read_length, read_options
+from ...compat.translate import Command, Translation, translate
+from .. import program
+from ..command_line import Failure
+from ..fetching import FUNCTIONS, fetch, rows_of
+from ..outline import read_outline
+from ..program import Refused, Rows, Settings
+from .texts import NewCell, fetch_text, info_text, last_update_text, update_text
+
+CHANGES = ("create", "update", "tune", "resize")
+ELSEWHERE = {"dump": "rrdi-export prints the XML", "restore": "use rrdtool restore and rrdi-import",
+             "list": "use ls", "flushcached": "rrdi has no daemon"}
+
+
+class Questions:
+    """What the translation of some arguments needs from a file."""
+
+    def last(self, file: str) -> int:
+        try:
+            return program.last(file)
+        except Refused as refused:
+            raise Failure(explain(file, str(refused))) from None
+
+    def info(self, file: str) -> str:
+        ran = program.run(["info", program.file_argument(file)])
+        return ran.out if ran.status == 0 else ""
+
+
+def explain(file: str, reason: str) -> str:
+    """Returns an error of rrdi in RRDtool's words, if programs look for those."""
+    if not os.path.exists(file):
+        return f"opening '{file}': No such file or directory"
+    if reason == "file: not ours" and is_of_rrdtool(file):
+        return f"'{file}' is a file of RRDtool; move it with rrdi-import"
+    return f"{file}: {reason}"
+
+
+def is_of_rrdtool(file: str) -> bool:
+    """Checks whether a file is one of RRDtool's, by its first bytes."""
+    try:
+        with open(file, "rb") as opened:
+            return opened.read(4) == b"RRD\0"
+    except OSError:
+        return False
+
+
+def explain_update(command: Command, reason: str, now: int) -> str:
+    """Returns why an update was refused. Programs look for RRDtool's words if a sample is too old."""
+    file = command[1]
+    found = re.fullmatch(r"not later than (\d+)", reason)
+    if found is None:
+        return explain(file, reason)
+    before = program.last(file)
+    for sample in command[2:]:
+        text = sample.split(":")[0]
+        if text != "N" and not text.isdigit():
+            continue
+        moment = now if text == "N" else int(text)
+        if moment <= before:
+            return (f"{file}: illegal attempt to update using time {moment} when last update time is {before} "
+                    "(minimum one second step)")
+        before = moment
+    return explain(file, reason)
+
+
+def needed(settings: Settings, option: str, value: str) -> bool:
+    """Checks whether an option of tune changes something. A source that isn't there is left to rrdi to refuse."""
+    name, _, setting = value.partition(":")
+    for source in settings.sources:
+        if source.name == name:
+            return {"--data-source-type": source.type != setting, "--heartbeat": str(source.heartbeat) != setting,
+                    "--minimum": not is_same_bound(source.minimum, setting),
+                    "--maximum": not is_same_bound(source.maximum, setting)}.get(option, True)
+    return True
+
+
+def is_same_bound(old: str, new: str) -> bool:
+    if "U" in (old, new):
+        return old == new
+    return re.fullmatch(r"-?\d+(\.\d+)?", new) is not None and program.as_millionths(old) == program.as_millionths(new)
+
+
+class Commands:
+    """Runs commands. `clock` gives the time now, in seconds since 1970."""
+
+    def __init__(self, clock: Callable[[], float] = time.time):
+        self.clock = clock
+        self.ways: Dict[str, Callable[[List[str]], str]] = {
+            "create": self.create, "update": self.update, "updatev": self.update_with_rows, "tune": self.tune,
+            "resize": self.resize, "fetch": self.fetch, "first": self.first, "last": self.last,
+            "lastupdate": self.last_update, "info": self.info, "times": self.times, "rows": self.rows}
+
+    def run(self, name: str, words: List[str]) -> str:
+        """Runs a command and returns what it prints.
+
+        # Errors
+        `Failure` if the command is refused; the text is what RRDtool prints after `ERROR: `.
+        """
+        if name in ELSEWHERE:
+            raise Failure(f"{name} is not supported: {ELSEWHERE[name]}")
+        if name not in self.ways:
+            raise Failure(f"unknown function '{name}'")
+        try:
+            return self.ways[name](words)
+        except Untranslatable as reason:
+            raise Failure(str(reason)) from None
+
+    def translated(self, name: str, words: List[str]) -> List[Command]:
+        return translate(name, words, int(self.clock()), Questions())
+
+    # ---- Changes
+
+    def create(self, words: List[str]) -> str:
+        for command in self.translated("create", words):
+            try:
+                program.ask(command)
+            except Refused as refused:
+                raise Failure(f"creating '{command[1]}': {refused}") from None
+        return ""
+
+    def update(self, words: List[str]) -> str:
+        self.run_updates(self.translated("update", words))
+        return ""
+
+    def run_updates(self, commands: List[Command]) -> None:
+        for command in commands:
+            now = int(self.clock())
+            try:
+                program.ask(command)
+            except Refused as refused:
+                raise Failure(explain_update(command, str(refused), now)) from None
+
+    def update_with_rows(self, words: List[str]) -> str:
+        """Updates, and returns the rows that the update finished."""
+        commands = self.translated("update", words)
+        if not commands:
+            return update_text([])
+        file = commands[0][1]
+        before = Questions().last(file)
+        self.run_updates(commands)
+        settings = program.settings(file)
+        times = [int(sample.split(":")[0]) for command in commands for sample in command[2:]
+                 if re.fullmatch(r"\d+:.*", sample)]
+        cells, passed = [], before
+        for moment in sorted({*times, settings.last}):
+            if passed < moment <= settings.last:
+                cells += self.new_cells(file, settings, passed, moment)
+                passed = moment
+        return update_text(cells)
+
+    @staticmethod
+    def new_cells(file: str, settings: Settings, before: int, after: int) -> List[NewCell]:
+        """Returns the cells of all rows that end after `before` and not after `after`, archive by archive."""
+        cells = []
+        for number, archive in enumerate(settings.archives):
+            seconds = settings.resolution(number)
+            newest = after - after % seconds
+            oldest = max(before - before % seconds, newest - archive.rows * seconds, settings.start(number), 0)
+            if oldest >= newest:
+                continue
+            rows = rows_of(file, settings, number, oldest, newest - 1)
+            for at, row in enumerate(rows.cells, 1):
+                cells += [NewCell(rows.start + at * seconds, archive.function, archive.steps, name, cell)
+                          for name, cell in zip(rows.names, row)]
+        return cells
+
+    def tune(self, words: List[str]) -> str:
+        """Tunes. What is set already isn't set again, so that it takes no entry of the journal."""
+        for command in self.translated("tune", words):
+            file, *others = command[1:]
+            try:
+                if others[0].startswith("-"):
+                    settings, pairs = program.settings(file), zip(others[::2], others[1::2])
+                    others = [word for pair in pairs if needed(settings, *pair) for word in pair]
+                if others:
+                    program.ask(["tune", program.file_argument(file), *others])
+            except Refused as refused:
+                raise Failure(explain(file, str(refused))) from None
+        return ""
+
+    def resize(self, words: List[str]) -> str:
+        """Leaves the file as it is, and writes the resized database to resize.rrd in this directory."""
+        command = self.translated("resize", words)[0]
+        try:
+            shutil.copyfile(command[1], "resize.rrd")
+        except OSError as error:
+            raise Failure(f"opening '{error.filename}': {error.strerror}") from None
+        try:
+            program.ask(["resize", "resize.rrd", *command[2:]])
+        except Refused as refused:
+            os.unlink("resize.rrd")
+            raise Failure(explain(command[1], str(refused))) from None
+        return ""
+
+    # ---- Reading
+
+    def one_file(self, name: str, words: List[str]) -> Tuple[str, List[Tuple[str, str]]]:
+        """Returns the file that a command reads, and the options."""
+        options, others = read_options(name, words)
+        if len(others) != 1:
+            raise Failure(f"Usage: rrdtool {name} <file>")
+        return others[0], options
+
+    def fetched(self, words: List[str]) -> Rows:
+        options, others = read_options("fetch", words)
+        if len(others) != 2:
+            raise Failure("Usage: rrdtool fetch <file> <CF> [options]")
+        file, function = others
+        if function not in FUNCTIONS:
+            raise Failure(f"unknown consolidation function '{function}'")
+        given = dict(options)
+        start, end = Translation(int(self.clock()), Questions()).span(
+            given.get("--start", "end-1day"), given.get("--end", "now"))
+        resolution = int(read_length(given.get("--resolution", "1"), "resolution")) or 1
+        if "--align-start" in given:
+            start, end = start - start % resolution, end - start % resolution
+        try:
+            return fetch(file, function, start, end, resolution)
+        except Refused as refused:
+            raise Failure(explain(file, str(refused))) from None
+
+    def fetch(self, words: List[str]) -> str:
+        return fetch_text(self.fetched(words))
+
+    def rows(self, words: List[str]) -> str:
+        """Fetches, and prints the time before the first row and the seconds between rows first, for perl/RRDs.pm."""
+        rows = self.fetched(words)
+        return f"{rows.start} {rows.step}\n" + fetch_text(rows)
+
+    def first(self, words: List[str]) -> str:
+        command = self.translated("first", words)[0]
+        return self.ask(command[1], ["first", program.file_argument(command[1]), *command[2:]])
+
+    def last(self, words: List[str]) -> str:
+        file, _ = self.one_file("last", words)
+        return self.ask(file, ["last", program.file_argument(file)])
+
+    def ask(self, file: str, words: List[str]) -> str:
+        try:
+            return program.ask(words)
+        except Refused as refused:
+            raise Failure(explain(file, str(refused))) from None
+
+    def settings(self, file: str) -> Settings:
+        try:
+            return program.settings(file)
+        except Refused as refused:
+            raise Failure(explain(file, str(refused))) from None
+
+    def last_update(self, words: List[str]) -> str:
+        file, _ = self.one_file("lastupdate", words)
+        return last_update_text(self.settings(file))
+
+    def info(self, words: List[str]) -> str:
+        file, _ = self.one_file("info", words)
+        return info_text(file, self.settings(file), read_outline(file))
+
+    def times(self, words: List[str]) -> str:
+        """Returns a start and an end in seconds since 1970, as RRDs::times does."""
+        if len(words) != 2:
+            raise Failure("Usage: times <start> <end>")
+        return "{} {}\n".format(*Translation(int(self.clock()), Questions()).span(*words))
+
+
+def shown(name: str, words: List[str], clock: Callable[[], float] = time.time) -> List[Command]:
+    """Returns the commands of rrdi that a command becomes.
+
+    # Errors
+    `Failure` if rrdi has no such command or lacks what the arguments ask for.
+    """
+    try:
+        return translate(name, words, int(clock()), Questions())
+    except Untranslatable as reason:
+        raise Failure(str(reason)) from None
+
+

@@ -1,0 +1,127 @@
+"""The pipe mode of RRDtool: a command per line, and `OK` or `ERROR` after each."""
+from __future__ import annotations
+
+import os
+import time
+from typing import BinaryIO, Callable, Dict, List
+
+from ..command_line import Failure, error_text
+
+
+class Quit(Exception):
+    """The line `quit`."""
+
+
+def split(line: str) -> List[str]:
+    """Splits a line into arguments as RRDtool does.
+
+    Spaces separate arguments. Quotes of both kinds may be anywhere in an argument; a backslash and a tab are characters
+    like others. Control characters and spaces at both ends of the line are dropped.
+
+    # Errors
+    `Failure` if a quote is not closed.
+    """
+    words: List[str] = []
+    quote, is_inside = "", False
+    for character in line.strip("".join(map(chr, range(33)))):
+        if quote:
+            if character == quote:
+                quote = ""
+                continue
+        elif character == " ":
+            is_inside = False
+            continue
+        if not is_inside:
+            words.append("")
+            is_inside = True
+        if not quote and character in "\"'":
+            quote = character
+        else:
+            words[-1] += character
+    if quote:
+        raise Failure("creating arguments")
+    return words
+
+
+class Pipe:
+    """Answers lines. `run` gets the name and the arguments of a command, and returns the bytes that it prints."""
+
+    def __init__(self, run: Callable[[str, List[str]], bytes], usage: str, output: BinaryIO):
+        self.run_command, self.usage, self.output = run, usage, output
+        self.begun = time.monotonic()
+        self.own: Dict[str, Callable[[List[str]], bytes]] = {
+            "quit": self.quit, "cd": self.change_directory, "mkdir": self.make_directory, "ls": self.list_directory,
+            "pwd": self.print_directory}
+
+    def answer_all(self, lines: BinaryIO) -> None:
+        """Answers lines up to `quit` or the end of the input."""
+        for line in iter(lines.readline, b""):
+            try:
+                self.answer(line.decode(errors="surrogateescape"))
+            except Quit:
+                return
+
+    def answer(self, line: str) -> None:
+        try:
+            words = split(line)
+            printed = self.run(words[0], words[1:]) if words else self.usage.encode()
+            self.output.write(printed + self.times())
+        except Quit:
+            raise
+        except Failure as failure:
+            self.output.write(f"ERROR: {failure}\n".encode(errors="surrogateescape"))
+        except OSError as error:
+            if isinstance(error, BrokenPipeError):
+                raise
+            self.output.write(f"ERROR: {error_text(error)}\n".encode(errors="surrogateescape"))
+        except Exception as error:  # a fault of this program; the other side still needs its answer
+            self.output.write(f"ERROR: internal error: {error!r}\n".encode(errors="backslashreplace"))
+        self.output.flush()
+
+    def times(self) -> bytes:
+        """The line after a command that was run: seconds in the program, in the system, and since the start."""
+        used = os.times()
+        return (f"OK u:{used.user + used.children_user:.2f} s:{used.system + used.children_system:.2f} "
+                f"r:{time.monotonic() - self.begun:.2f}\n").encode()
+
+    def run(self, name: str, words: List[str]) -> bytes:
+        if name in self.own:
+            if len(words) != (1 if name in ("cd", "mkdir") else 0):
+                raise Failure(f"invalid parameter count for {name}")
+            return self.own[name](words)
+        return self.run_command(name, words)
+
+    @staticmethod
+    def quit(_words: List[str]) -> bytes:
+        raise Quit
+
+    @staticmethod
+    def change_directory(words: List[str]) -> bytes:
+        try:
+            os.chdir(words[0])
+        except OSError as error:
+            raise Failure(f"chdir {words[0]} {error.strerror}") from None
+        return b""
+
+    @staticmethod
+    def make_directory(words: List[str]) -> bytes:
+        try:
+            os.mkdir(words[0])
+        except OSError as error:
+            raise Failure(f"mkdir {words[0]}: {error.strerror}") from None
+        return b""
+
+    @staticmethod
+    def list_directory(_words: List[str]) -> bytes:
+        """Lists directories, and files with names that end in .rrd or .rrdi."""
+        lines = []
+        for name in [".", "..", *sorted(os.listdir("."))]:
+            if os.path.isdir(name):
+                lines.append(f"d {name}")
+            elif os.path.isfile(name) and name.endswith((".rrd", ".rrdi")):
+                lines.append(f"- {name}")
+        return "".join(line + "\n" for line in lines).encode(errors="surrogateescape")
+
+    @staticmethod
+    def print_directory(_words: List[str]) -> bytes:
+        return os.fsencode(os.getcwd()) + b"\n"

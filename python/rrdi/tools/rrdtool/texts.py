@@ -1,0 +1,83 @@
+"""RRDtool's texts: what `rrdtool fetch`, `lastupdate`, `info` and `updatev` print."""
+from __future__ import annotations
+
+from typing import List, NamedTuple, Optional
+
+from ..exponents import exponent
+from ..outline import Outline
+from ..program import Rows, Settings
+
+VERSION = "RRDtool 1.7.2 (rrdi-rrdtool, on rrdi's files)"
+
+
+def bound(text: str) -> Optional[float]:
+    """A bound or a raw value as `rrdi info` prints it; U is none."""
+    return None if text == "U" else float(text)
+
+
+def raw_text(text: str) -> str:
+    """A raw value without zeros after its last digit."""
+    return text.rstrip("0").rstrip(".") if "." in text else text
+
+
+def fetch_text(rows: Rows) -> str:
+    lines = ["           " + "".join(f"{name:>20}" for name in rows.names), ""]
+    for number, cells in enumerate(rows.cells, 1):
+        lines.append(f"{rows.start + number * rows.step:10}: " + " ".join(exponent(cell, "-nan") for cell in cells))
+    return "\n".join(lines) + "\n"
+
+
+def last_update_text(settings: Settings) -> str:
+    names = "".join(f" {source.name}" for source in settings.sources)
+    values = "".join(f" {raw_text(source.last_raw)}" for source in settings.sources)
+    return f"{names}\n\n{settings.last:10}:{values}\n"
+
+
+def source_lines(settings: Settings, outline: Outline) -> List[str]:
+    lines = []
+    for number, (source, part) in enumerate(zip(settings.sources, outline.steps)):
+        key = f"ds[{source.name}]"
+        lines += [f"{key}.index = {number}", f'{key}.type = "{source.type}"',
+                  f"{key}.minimal_heartbeat = {source.heartbeat}",
+                  f"{key}.min = {exponent(bound(source.minimum), 'NaN')}",
+                  f"{key}.max = {exponent(bound(source.maximum), 'NaN')}",
+                  f'{key}.last_ds = "{raw_text(source.last_raw)}"', f"{key}.value = {exponent(part.value, 'NaN')}",
+                  f"{key}.unknown_sec = {part.unknown_seconds}"]
+    return lines
+
+
+def archive_lines(settings: Settings, outline: Outline) -> List[str]:
+    lines = []
+    for number, archive in enumerate(settings.archives):
+        key = f"rra[{number}]"
+        newest = settings.last // settings.resolution(number) % archive.rows
+        lines += [f'{key}.cf = "{archive.function}"', f"{key}.rows = {archive.rows}", f"{key}.cur_row = {newest}",
+                  f"{key}.pdp_per_row = {archive.steps}", f"{key}.xff = {exponent(float(archive.xff), 'NaN')}"]
+        for column, part in enumerate(outline.rows[number]):
+            lines += [f"{key}.cdp_prep[{column}].value = {exponent(part.value, 'NaN')}",
+                      f"{key}.cdp_prep[{column}].unknown_datapoints = {part.unknown_steps}"]
+    return lines
+
+
+def info_text(file: str, settings: Settings, outline: Outline) -> str:
+    lines = [f'filename = "{file}"', 'rrd_version = "0003"', f"step = {settings.step}",
+             f"last_update = {settings.last}", f"header_size = {outline.header_size}",
+             *source_lines(settings, outline), *archive_lines(settings, outline)]
+    return "\n".join(lines) + "\n"
+
+
+class NewCell(NamedTuple):
+    """A cell of a row that an update finished."""
+
+    time: int
+    function: str
+    steps: int
+    name: str
+    value: Optional[float]
+
+
+def update_text(cells: List[NewCell]) -> str:
+    lines = ["return_value = 0"]
+    lines += [f"[{cell.time}]RRA[{cell.function}][{cell.steps}]DS[{cell.name}] = {exponent(cell.value, 'NaN')}"
+              for cell in cells]
+    return "\n".join(lines) + "\n"

@@ -1,0 +1,226 @@
+"""Tests of `rrdi.feeding`: lines, batches by a library that is a stub, what is tried again, refused and lost."""
+from __future__ import annotations
+
+import contextlib
+import errno
+import io
+import os
+import tempfile
+import time
+import unittest
+from pathlib import Path
+from typing import Dict, List, Tuple
+from unittest import mock
+
+import doubles
+import rrdi
+from rrdi.errors import CANNOT_OPEN, CANNOT_WRITE, NO_MEMORY
+from rrdi.feeding import writers
+from rrdi.feeding.__main__ import read_options
+from rrdi.feeding.feeder import Feeder, Options
+from rrdi.feeding.writers import ByLibrary, ByProgram, Outcome, chosen_writer
+from rrdi.library import Answer, load_library
+
+
+class Stub:
+    """A writer that keeps what it gets, and answers as it is told."""
+
+    def __init__(self) -> None:
+        self.batches: List[Tuple[bytes, List[bytes]]] = []
+        self.outcomes: Dict[bytes, List[Outcome]] = {}
+
+    def write(self, file: bytes, samples: List[bytes]) -> Outcome:
+        self.batches.append((file, samples))
+        outcomes = self.outcomes.get(file, [])
+        return outcomes.pop(0) if outcomes else Outcome()
+
+
+class Lines(unittest.TestCase):
+    def feeder(self, **options: int) -> Feeder:
+        feeder = Feeder(Options(**options), Stub())
+        self.addCleanup(feeder.threads.shutdown)
+        return feeder
+
+    def taken(self, text: bytes, **options: int) -> Tuple[Feeder, str]:
+        feeder = self.feeder(**options)
+        with contextlib.redirect_stderr(io.StringIO()) as said:
+            feeder.take_all(text.split(b"\n"))
+        return feeder, said.getvalue()
+
+    def test_lines(self) -> None:
+        text = b"a 10:1\n\nUPDATE b 10:5 20:6\n a\t20:2 \nupdate a 30:3\nb 30:1\r\nc/d 5:U 6:1"
+        feeder, said = self.taken(text)
+        self.assertEqual(feeder.held, {b"a": [b"10:1", b"20:2", b"30:3"], b"b": [b"10:5", b"20:6", b"30:1"],
+                                       b"c/d": [b"5:U", b"6:1"]})
+        self.assertEqual((feeder.count, said, feeder.has_failed), (8, "", False))
+
+    def test_now(self) -> None:
+        before = int(time.time())
+        feeder, _ = self.taken(b"a N:1\na N:2\na 5:1 N:3\nNow 5:1")
+        after = int(time.time())
+        for sample in feeder.held[b"a"]:
+            if sample != b"5:1":
+                self.assertTrue(before <= int(sample.split(b":")[0]) <= after, sample)
+        self.assertEqual([sample.split(b":")[1] for sample in feeder.held[b"a"]], [b"1", b"2", b"1", b"3"])
+
+    def test_lines_that_are_wrong(self) -> None:
+        feeder, said = self.taken(b"a\n-a 10:1\nUPDATE\nUPDATE a\nupdate -x 1:2\n\xff 5:1\n\xff \xff")
+        self.assertEqual(said, "feed: expected FILE SAMPLE.., got: a\nfeed: expected FILE SAMPLE.., got: -a 10:1\n"
+                               "feed: expected FILE SAMPLE.., got: UPDATE a\n"
+                               "feed: expected FILE SAMPLE.., got: update -x 1:2\n")
+        self.assertEqual((feeder.held, feeder.count), ({b"\xff": [b"5:1", b"\xff"]}, 2))
+        self.assertTrue(feeder.has_failed)
+
+    def test_long_samples(self) -> None:
+        longest = b"1:" + b"1" * (65_536 - len("update 1:"))
+        for first in (b"", b"a 5:1\n"):
+            feeder, said = self.taken(first + b"a " + longest)
+            self.assertEqual((feeder.held[b"a"][-1], said), (longest, ""))
+            feeder, said = self.taken(first + b"a " + longest + b"1")
+            self.assertEqual(said, "feed: a: a sample of over 65536 bytes\n")
+            self.assertEqual(feeder.count, 1 if first else 0)
+
+    def test_options(self) -> None:
+        self.assertEqual(read_options([]), Options(60, 4, 1_000_000, 30))
+        self.assertEqual(read_options("--jobs 2 --seconds 5 --held 7 --patience 0".split()), Options(5, 2, 7, 0))
+        for wrong in (["--jobs", "0"], ["--seconds"], ["--wrong", "1"], ["jobs", "1"], ["--jobs", "x"], ["-jobs", "1"]):
+            self.assertIsNone(read_options(wrong))
+
+
+class Batches(unittest.TestCase):
+    def fed(self, text: bytes, outcomes: Dict[bytes, List[Outcome]], **options: int) -> Tuple[Stub, Feeder, str]:
+        """Feeds lines to their end."""
+        writer = Stub()
+        writer.outcomes = outcomes
+        feeder = Feeder(Options(**options), writer)
+        with contextlib.redirect_stderr(io.StringIO()) as said:
+            feeder.take_all(text.split(b"\n"))
+            feeder.end()
+            feeder.finish()
+        return writer, feeder, said.getvalue()
+
+    def test_one_batch_a_file(self) -> None:
+        writer, feeder, said = self.fed(b"a 10:1\nb 10:2\na 20:3", {}, jobs=1)
+        self.assertEqual(writer.batches, [(b"a", [b"10:1", b"20:3"]), (b"b", [b"10:2"])])
+        self.assertEqual((feeder.count, said, feeder.has_failed), (0, "", False))
+
+    def test_refused_samples(self) -> None:
+        _, feeder, said = self.fed(b"a 10:1\na 20:3", {b"a": [Outcome(refused=((b"20:3", "bad value"),))]})
+        self.assertEqual((said, feeder.has_failed), ("feed: a 20:3: bad value\n", True))
+
+    def test_again(self) -> None:
+        again = Outcome(again="cannot open")
+        writer, feeder, said = self.fed(b"a 10:1\na 20:3", {b"a": [again, again]})
+        self.assertEqual(writer.batches, [(b"a", [b"10:1", b"20:3"])] * 3)
+        self.assertEqual((feeder.count, said, feeder.pauses), (0, "", {}))
+
+    def test_lost(self) -> None:
+        _, _, said = self.fed(b"a 10:1\na 20:3", {b"a": [Outcome(lost="cannot write")]})
+        self.assertEqual(said, "feed: a: cannot write; 2 samples may be lost\nfeed: may be lost: a 10:1 20:3\n")
+        _, _, said = self.fed(b"a 10:1", {b"a": [Outcome(again="cannot open")] * 9}, patience=0)
+        self.assertEqual(said, "feed: a: cannot open; 1 samples may be lost\nfeed: may be lost: a 10:1\n")
+
+    def test_a_writer_that_fails(self) -> None:
+        feeder = Feeder(Options(), mock.Mock(write=mock.Mock(side_effect=MemoryError("none"))))
+        with contextlib.redirect_stderr(io.StringIO()) as said:
+            feeder.take_all([b"a 10:1"])
+            feeder.end()
+            feeder.finish()
+        self.assertEqual(said.getvalue(),
+                         "feed: a: MemoryError: none; 1 samples may be lost\nfeed: may be lost: a 10:1\n")
+
+    def test_newer_samples_follow_those_that_wait(self) -> None:
+        feeder = Feeder(Options(seconds=60), Stub())
+        assert isinstance(feeder.writer, Stub)
+        feeder.writer.outcomes[b"a"] = [Outcome(again="cannot open")]
+        feeder.take_all([b"a 10:1"])
+        feeder.hurry()
+        feeder.start_due()
+        feeder.end_batches(10)
+        self.assertEqual((list(feeder.waiting), feeder.count), ([b"a"], 1))
+        feeder.take_all([b"a 20:2", b"a 30:3"])
+        feeder.start_due()
+        time.sleep(0.15)
+        feeder.start_due()
+        feeder.end_batches(10)
+        self.assertEqual(feeder.writer.batches[1:], [(b"a", [b"10:1", b"20:2", b"30:3"])])
+        feeder.threads.shutdown()
+
+
+class FakeLibrary:
+    """A library whose batches are all answered alike."""
+
+    def __init__(self, answer: Answer):
+        self.answer = answer
+        self.lines = b""
+
+    def batch_file(self, path: bytes, lines: bytes, now: int, wait: int, syncs: bool) -> Answer:
+        self.lines = lines
+        return self.answer
+
+
+class Writers(unittest.TestCase):
+    def outcome(self, answer: Answer) -> Outcome:
+        library = FakeLibrary(answer)
+        outcome = ByLibrary(library).write(b"a", [b"10:1", b"20:2", b"30:3"])  # type: ignore[arg-type]
+        self.assertEqual(library.lines, b"update 10:1\nupdate 20:2\nupdate 30:3")
+        return outcome
+
+    def test_by_library(self) -> None:
+        self.assertEqual(self.outcome(Answer(0, 0, 0, b"")), Outcome())
+        refused = Answer(0, 0, 0, b"ERROR: bad value\nERROR: not later than 20\n", (1, 3))
+        self.assertEqual(self.outcome(refused),
+                         Outcome(refused=((b"10:1", "bad value"), (b"30:3", "not later than 20"))))
+        for fault, text in ((CANNOT_OPEN, b"cannot open"), (NO_MEMORY, b"out of memory")):
+            self.assertEqual(self.outcome(Answer(fault, errno.EAGAIN, 0, text)), Outcome(again=text.decode()))
+        for fault, text in ((CANNOT_WRITE, b"cannot write"), (20, b"file: not ours")):
+            self.assertEqual(self.outcome(Answer(fault, 0, 0, text)), Outcome(lost=text.decode()))
+
+    def test_the_choice(self) -> None:
+        with mock.patch.dict(os.environ, {"RRDI": "/x/rrdi"}):
+            chosen = chosen_writer()
+            assert isinstance(chosen, ByProgram)
+            self.assertEqual(chosen.program, "/x/rrdi")
+        with mock.patch.dict(os.environ):
+            os.environ.pop("RRDI", None)
+            with mock.patch.object(writers, "library_path", return_value=None):
+                chosen = chosen_writer()
+                assert isinstance(chosen, ByProgram)
+                self.assertEqual(chosen.program, "rrdi")
+            with mock.patch.object(writers, "library_path", return_value="/nowhere/librrdi.so.0"):
+                with mock.patch.object(writers, "load_library", side_effect=OSError):
+                    self.assertIsInstance(chosen_writer(), ByProgram)
+            if doubles.has_library():
+                self.assertIsInstance(chosen_writer(), ByLibrary)
+
+    @unittest.skipUnless(doubles.has_program(), "there is no built program")
+    def test_by_program(self) -> None:
+        self.of_files(ByProgram(doubles.PROGRAM))
+
+    @unittest.skipUnless(doubles.has_library(), "there is no C library")
+    def test_by_the_library_itself(self) -> None:
+        self.of_files(ByLibrary(load_library()))
+
+    def of_files(self, writer: "writers.Writer") -> None:
+        """Both writers do the same to files."""
+        with tempfile.TemporaryDirectory() as folder, mock.patch("rrdi.words.WAIT", 0):
+            file = Path(folder, "f.rrdi")
+            rrdi.library.use_library(None if isinstance(writer, ByLibrary) else doubles.ByProgram())
+            self.addCleanup(rrdi.library.use_library, None)
+            name = os.fsencode(file)
+            self.assertEqual(writer.write(name, [b"10:1"]), Outcome(refused=((b"10:1", "no database"),)))
+            rrdi.create(file, "DS:g:GAUGE:99:U:U", "RRA:LAST:0:1:9", step=10, start=0)
+            wanted = Outcome(refused=((b"10:2", "not later than 10"), (b"x", "unreadable sample 1"),
+                                      (b"\xff", "usage")))
+            self.assertEqual(writer.write(name, [b"10:1", b"10:2", b"20:2", b"x", b"30:3", b"\xff"]), wanted)
+            self.assertEqual((rrdi.last(file), rrdi.info(file)["undoable"]), (30, 3))
+            with open(file, "rb") as other:
+                import fcntl
+                fcntl.flock(other, fcntl.LOCK_EX)
+                self.assertEqual(writer.write(name, [b"40:1"]), Outcome(again="cannot open"))
+            file.write_bytes(b"other")
+            self.assertEqual(writer.write(name, [b"40:1"]), Outcome(lost="file: not ours"))
+
+
+if __name__ == "__main__":
+    unittest.main()

@@ -1,0 +1,221 @@
+"""Tests of rrdi.importing: amounts, dumps, plans, and steps that show the cells of a row. RRDtool is not needed."""
+from __future__ import annotations
+
+import io
+import math
+import unittest
+import xml.etree.ElementTree as ElementTree
+from array import array
+from typing import Any, Dict, List
+
+import doubles  # noqa: F401
+from rrdi.importing.amounts import Losses, as_text, millionths, raw_value
+from rrdi.importing.batch import Batch, batch_of, merge, share_of
+from rrdi.importing.dump import Archive, OldFile, Refusal, Source, read_dump
+from rrdi.importing.plan import plan
+from rrdi.importing.steps import Rest, Wanted, lay, sum_of_rest
+
+NAN = math.nan
+
+
+def source(kind: str = "GAUGE", column: int = 0, **others: object) -> Source:
+    fields: Dict[str, Any] = {"name": f"s{column}", "kind": kind, "heartbeat": 99, "minimum": NAN, "maximum": NAN,
+                    "last_raw": "U", "partial_sum": 0.0, "unknown_seconds": 0}
+    return Source(column, **{**fields, **others})
+
+
+def archive(number: int, function: str, steps: int, cells: list[float], share: float = 0.5, partial: float = NAN,
+            unknown: int = 0) -> Archive:
+    return Archive(number, function, steps, share, [partial], [unknown], array("d", cells), 1)
+
+
+def update_words(lines: list[str]) -> list[str]:
+    return [word for line in lines if line.startswith("update ") for word in line.split()[1:]]
+
+
+class Amounts(unittest.TestCase):
+    def test_numbers_are_rounded_to_a_millionth(self) -> None:
+        for value, amount, text in ((1.5, 1_500_000, "1.5"), (-0.5, -500_000, "-0.5"), (2.0, 2_000_000, "2"),
+                                    (0.0000004, 0, "0"), (0.0000006, 1, "0.000001"), (-1e-6, -1, "-0.000001"),
+                                    (123456789012.0, 123456789012000000, "123456789012")):
+            with self.subTest(value=value):
+                self.assertEqual(millionths(value), amount)
+                self.assertEqual(as_text(amount), text)
+        self.assertEqual(as_text(None), "U")
+
+    def test_losses_are_noted(self) -> None:
+        losses = Losses()
+        self.assertIsNone(losses.amount(NAN))
+        self.assertEqual((losses.too_large, losses.too_small), (False, False))
+        self.assertEqual(losses.amount(1e-9), 0)
+        self.assertTrue(losses.too_small)
+        self.assertIsNone(losses.amount(-1e18))
+        self.assertTrue(losses.too_large)
+        self.assertIsNone(Losses().amount(math.inf))
+
+    def test_raw_values_in_range(self) -> None:
+        for kind, text, taken in (("COUNTER", "18446744073709551615", True), ("COUNTER", "18446744073709551616", False),
+                                  ("COUNTER", "-1", False), ("DERIVE", "-9223372036854775807", True),
+                                  ("DERIVE", "9223372036854775808", False), ("DERIVE", "1.5", False),
+                                  ("COUNTER", "", False)):
+            with self.subTest(kind=kind, text=text):
+                self.assertEqual(raw_value(kind, text), text if taken else None)
+
+
+class Dumps(unittest.TestCase):
+    TEXT = b"""<?xml version="1.0"?><rrd><version>0003</version><step>10</step><lastupdate>1600000033</lastupdate>
+<ds><name> a </name><type> COUNTER </type><minimal_heartbeat>60</minimal_heartbeat>
+<min>0.0000000000e+00</min><max>NaN</max>
+<last_ds>100</last_ds><value>1.32e+01</value><unknown_sec> 2 </unknown_sec></ds>
+<ds><name> b </name><type> COMPUTE </type><cdef> a,2,* </cdef>
+<last_ds>U</last_ds><value>NaN</value><unknown_sec> 3 </unknown_sec></ds>
+<rra><cf>MAX</cf><pdp_per_row>6</pdp_per_row><params><xff>3.0e-01</xff></params><cdp_prep>
+<ds><value>3.5</value><unknown_datapoints>1</unknown_datapoints></ds>
+<ds><value>NaN</value><unknown_datapoints>0</unknown_datapoints></ds>
+</cdp_prep><database><!-- x / 1 --> <row><v>1.5</v><v>NaN</v></row>
+<row><v>-2e3</v><v>4</v></row></database></rra></rrd>"""
+
+    def test_all_is_read(self) -> None:
+        old = read_dump(io.BytesIO(self.TEXT))
+        self.assertEqual((old.step, old.last, len(old.sources), len(old.archives)), (10, 1600000033, 2, 1))
+        first = old.sources[0]
+        self.assertEqual((first.name, first.kind, first.heartbeat, first.minimum, first.last_raw, first.partial_sum,
+                          first.unknown_seconds), ("a", "COUNTER", 60, 0.0, "100", 13.2, 2))
+        self.assertTrue(math.isnan(first.maximum))
+        self.assertEqual((old.sources[1].name, old.sources[1].kind), ("b", "COMPUTE"))
+        rows = old.archives[0]
+        self.assertEqual((rows.function, rows.steps, rows.share, rows.row_count), ("MAX", 6, 0.3, 2))
+        self.assertEqual((rows.partial[0], rows.unknown_steps), (3.5, [1, 0]))
+        rows.place(old.step, old.last)
+        self.assertEqual((rows.seconds, rows.end, rows.begin), (60, 1600000020, 1599999900))
+        found = [rows.cell(time, column) for time, column in ((1599999960, 0), (1600000020, 0), (1600000020, 1))]
+        self.assertEqual(found, [1.5, -2000.0, 4.0])
+
+    def test_a_cut_dump_is_an_error(self) -> None:
+        for size in (0, 100, len(self.TEXT) - 8):
+            with self.assertRaises(ElementTree.ParseError):
+                read_dump(io.BytesIO(self.TEXT[:size]))
+
+    def test_a_row_of_another_width_is_refused(self) -> None:
+        with self.assertRaises(Refusal):
+            read_dump(io.BytesIO(self.TEXT.replace(b"<v>4</v>", b"")))
+
+
+class Plans(unittest.TestCase):
+    def test_the_best_archive_for_each_time(self) -> None:
+        archives = [archive(0, "AVERAGE", 1, [0.0] * 5), archive(1, "AVERAGE", 3, [0.0] * 4),
+                    archive(2, "MAX", 3, [0.0] * 6), archive(3, "AVERAGE", 12, [0.0] * 3)]
+        for each in archives:
+            each.place(10, 1200)
+        spans = plan(archives, 1200)
+        # Of averages and maximums the averages are better, though they are coarser.
+        self.assertEqual([(span.begin, span.end, span.archive.number) for span in spans],
+                         [(840, 1080, 3), (1080, 1150, 1), (1150, 1200, 0)])
+        self.assertEqual(sorted(spans[1].beside), ["AVERAGE", "MAX"])
+        self.assertEqual(spans[1].above, archives[3])
+
+    def test_no_time_no_span(self) -> None:
+        each = archive(0, "MAX", 1, [NAN])
+        each.place(10, 5)
+        self.assertEqual(plan([each], 0), [])
+
+
+class Steps(unittest.TestCase):
+    def laid(self, steps: int, total: float, slack: float, *pins: int | None) -> list[tuple[int, int | None]]:
+        rates: list[tuple[int, int | None]] = []
+        least, greatest, latest = pins
+        lay(rates, 0, steps, 1, Wanted(total, slack, least, greatest, latest, least, greatest))
+        return rates
+
+    def test_minimum_maximum_and_last(self) -> None:
+        for what, steps, total, pins, wanted in (
+                ("all of them", 5, 30, (1, 10, 5), [(1, 1), (2, 10), (4, 7), (5, 5)]),
+                ("the last is the maximum", 4, 25, (1, 10, 10), [(1, 1), (3, 7), (4, 10)]),
+                ("all are equal", 3, 12, (4, 4, 4), [(2, 4), (3, 4)]),
+                ("no rest", 2, 11, (1, 10, None), [(1, 1), (2, 10)]),
+                ("no pins", 3, 10, (None, None, None), [(3, 3)]),
+                ("a rest that a cut digit takes below the minimum", 3, 894_970, (0, 894_976, None),
+                 [(1, 0), (2, 894_976), (3, 0)]),
+                ("a minimum and a last rate that do not fit", 3, 300, (0, 120, 1), [(1, 120), (3, 90)]),
+                ("nothing that fits", 3, 300, (200, 400, 1), [(3, 100)])):
+            with self.subTest(what):
+                self.assertEqual(self.laid(steps, total, 8, *pins), wanted)
+
+    def test_the_rest_of_a_cut_row(self) -> None:
+        later: list[tuple[int, int | None]] = [(20, 5), (40, None), (50, 9), (90, 1)]
+        self.assertEqual(sum_of_rest(later, 0, 60, 10), Rest(4, 20, 1, 9))
+        self.assertEqual(sum_of_rest(later, 0, 20, 10), Rest(2, 10, 5, 5))
+        self.assertEqual(sum_of_rest([], 0, 20, 10), Rest())
+
+
+class Batches(unittest.TestCase):
+    def lines(self, old: OldFile, journal: str | None = None) -> tuple[list[str], list[str]]:
+        notes: list[str] = []
+        return list(batch_of(old, journal, notes.append)), notes
+
+    def test_steps_and_types(self) -> None:
+        old = OldFile(10, 1003, [source("COUNTER", last_raw="77", minimum=0.0, partial_sum=6.0, unknown_seconds=1)],
+                      [archive(0, "AVERAGE", 1, [NAN, 1.25, 1.25, 2.0])])
+        lines, notes = self.lines(old, "9")
+        self.assertEqual(lines, [
+            "create --step 10 --start 970 --journal 9 DS:s0:GAUGE:9999999999:U:U RRA:AVERAGE:0.5:1:4",
+            "update 990:1.25 1000:2 1001:U 1002:3",
+            "tune --heartbeat s0:99 --minimum s0:0 --data-source-type s0:COUNTER",
+            "update 1003:77"])
+        self.assertEqual(notes, [])
+
+    def test_nothing_known(self) -> None:
+        lines, _ = self.lines(OldFile(10, 1000, [source()], [archive(0, "MAX", 1, [NAN, NAN])]))
+        self.assertEqual(lines, ["create --step 10 --start 1000 DS:s0:GAUGE:9999999999:U:U RRA:MAX:0.5:1:2",
+                                 "tune --heartbeat s0:99"])
+
+    def test_two_finer_archives_begin_inside_one_row(self) -> None:
+        steps = [5.0, 10.0] * 36
+        archives = [archive(0, "AVERAGE", 1, steps[-7:]),
+                    archive(1, "AVERAGE", 3, [sum(steps[at:at + 3]) / 3 for at in range(42, 72, 3)]),
+                    archive(2, "AVERAGE", 36, [7.5, 7.5])]
+        begin = 36 * 10 * 100
+        lines, _ = self.lines(OldFile(10, begin + 10 * len(steps), [source()], archives))
+        found, at = [], begin
+        for word in update_words(lines):
+            time, rate = word.split(":")
+            found += [float(rate)] * ((int(time) - at) // 10)
+            at = int(time)
+        self.assertEqual(found[-7:], steps[-7:])
+        self.assertAlmostEqual(sum(found[-36:]) / 36, 7.5, delta=1e-6)
+        self.assertAlmostEqual(sum(found[:36]) / 36, 7.5, delta=1e-6)
+
+    def test_what_is_left_out(self) -> None:
+        old = OldFile(10, 1000, [source(), source("COMPUTE", 1), source("GAUGE", 2, name="a-b")],
+                      [Archive(0, "AVERAGE", 1, 0.5, [NAN] * 3, [0] * 3, array("d", [1.0, 2.0, 3.0]), 3),
+                       Archive(1, "HWPREDICT", 1, 0.0, [], [], array("d", [1.0, 2.0, 3.0]), 3)])
+        lines, notes = self.lines(old)
+        self.assertNotIn("s1", lines[0])
+        self.assertEqual(notes, ["skipped data source s1: type COMPUTE is not supported",
+                                 "skipped data source a-b: a name in rrdi has 1 to 19 characters of a-z A-Z 0-9 _",
+                                 "skipped archive 1, HWPREDICT: this function is not supported"])
+        with self.assertRaisesRegex(Refusal, "no data source can be converted"):
+            Batch(OldFile(10, 1000, [source("COMPUTE")], []), None, print)
+        with self.assertRaisesRegex(Refusal, "no archive can be converted"):
+            Batch(OldFile(10, 1000, [source()], []), None, print)
+        with self.assertRaisesRegex(Refusal, "at most 64"):
+            Batch(OldFile(10, 1000, [source(column=at) for at in range(65)], []), None, print)
+        with self.assertRaisesRegex(Refusal, "at most 1,000,000 seconds"):
+            Batch(OldFile(1_000_001, 1000, [source()], []), None, print)
+
+    def test_a_share_allows_as_many_unknown_steps(self) -> None:
+        # 0.29 of 100 is less than 29 in floating point.
+        self.assertEqual(share_of(archive(0, "AVERAGE", 100, [], 0.29)), "0.289999")
+        self.assertEqual(share_of(archive(0, "AVERAGE", 100, [], 0.5)), "0.5")
+
+    def test_equal_rates_are_one_sample(self) -> None:
+        self.assertEqual(list(merge([[(10, 1), (30, 2)], [(10, 5), (20, 6), (30, 6)]])), [(10, (1, 5)), (30, (2, 6))])
+
+    def test_long_lines_are_cut(self) -> None:
+        cells = [float(at) for at in range(450)]
+        lines, _ = self.lines(OldFile(10, 10_000, [source()], [archive(0, "AVERAGE", 1, cells)]))
+        self.assertEqual([len(line.split()) - 1 for line in lines if line.startswith("update")], [200, 200, 50])
+
+
+if __name__ == "__main__":
+    unittest.main()

@@ -1,0 +1,161 @@
+"""Tests of `rrdi.library`: the rooms that a call lends and how they grow, by functions of Python in the place of those
+in C; and where the library is looked for."""
+from __future__ import annotations
+
+import ctypes
+import os
+import tempfile
+import threading
+import unittest
+from pathlib import Path
+from types import SimpleNamespace
+from typing import Any, Callable, Dict, List, Tuple
+from unittest import mock
+
+import doubles
+import rrdi
+from rrdi import library
+from rrdi.library import FIRST_ROOM, CLibrary, load_library, use_library
+
+POINTER, LENGTH, NUMBER = ctypes.c_void_p, ctypes.c_size_t, ctypes.c_uint64
+IN_MEMORY = [ctypes.c_bool, POINTER, LENGTH, POINTER, LENGTH, NUMBER, POINTER, LENGTH, POINTER, LENGTH]
+AT_PATH = [POINTER, LENGTH, POINTER, LENGTH, NUMBER, NUMBER, ctypes.c_bool, POINTER, LENGTH]
+REFUSED = [POINTER, LENGTH]
+
+
+class Called:
+    """Functions that record their calls, and answer with this output, file and refused lines, if there is room."""
+
+    def __init__(self, output: bytes = b"", file: bytes = b"", refused: Tuple[int, ...] = (), fault: int = 0):
+        self.output, self.file, self.refused, self.fault = output, file, refused, fault
+        self.given: List[Any] = []
+        prototypes: Dict[str, Tuple[List[Any], List[Any]]] = {
+            "rrdi_run": (IN_MEMORY, []), "rrdi_batch": (IN_MEMORY, REFUSED), "rrdi_run_file": (AT_PATH, []),
+            "rrdi_batch_file": (AT_PATH, REFUSED)}
+        functions = {name: ctypes.CFUNCTYPE(None, *first, *refused, POINTER)(self.function(name, len(first) == 10))
+                     for name, (first, refused) in prototypes.items()}
+        self.library = CLibrary(SimpleNamespace(**functions))  # type: ignore[arg-type]
+
+    def function(self, name: str, is_in_memory: bool) -> Callable[..., None]:
+        def called(*words: Any) -> None:
+            answer = library._Answer.from_address(words[-1])
+            if is_in_memory:
+                has_file, data, data_length, text, length, now, file_at, file_room, output_at, room = words[:10]
+                self.given.append((name, ctypes.string_at(data, data_length) if has_file else None,
+                                   ctypes.string_at(text, length), now))
+            else:
+                path, path_length, text, length, now, wait, syncs, output_at, room = words[:9]
+                file_at, file_room = 0, 0
+                self.given.append((name, ctypes.string_at(path, path_length), ctypes.string_at(text, length), now, wait,
+                                   syncs))
+            self.answer(answer, name, file_at, file_room, output_at, room, words)
+        return called
+
+    def answer(self, answer: Any, name: str, file_at: int, file_room: int, output_at: int, room: int,
+               words: Any) -> None:
+        answer.fault, answer.system_error, answer.at, answer.is_changed = self.fault, 11, 7, False
+        answer.output_length, answer.file_length, answer.refused = len(self.output), len(self.file), len(self.refused)
+        answer.is_cut = len(self.output) > room
+        if name in ("rrdi_run", "rrdi_batch") and self.file:
+            if len(self.file) > file_room:
+                answer.fault = 1
+                return
+            answer.is_changed = True
+            ctypes.memmove(file_at, self.file, len(self.file))
+        if answer.is_cut:
+            answer.fault = 1 if name == "rrdi_batch_file" else self.fault
+            return
+        ctypes.memmove(output_at, self.output, len(self.output))
+        if "batch" in name:
+            lines = (ctypes.c_uint64 * min(len(self.refused), words[-2])).from_address(words[-3])
+            lines[:] = self.refused[:len(lines)]
+
+
+class Rooms(unittest.TestCase):
+    def test_words_of_a_call(self) -> None:
+        called = Called(b"text")
+        self.assertEqual(called.library.run_file(b"f", b"first\0--rraindex=1", 2**40, 5_000, True).output, b"text")
+        called.library.batch_file(b"", b"", 0, 0, False)
+        called.library.run(None, b"last", 1)
+        called.library.run(b"", b"last", 1)
+        called.library.batch(b"a\0b", b"last\nlast", 2**64 - 1)
+        self.assertEqual(called.given, [("rrdi_run_file", b"f", b"first\0--rraindex=1", 2**40, 5_000, True),
+                                        ("rrdi_batch_file", b"", b"", 0, 0, False), ("rrdi_run", None, b"last", 1),
+                                        ("rrdi_run", b"", b"last", 1),
+                                        ("rrdi_batch", b"a\0b", b"last\nlast", 2**64 - 1)])
+
+    def test_answers(self) -> None:
+        answer = Called(b"bad value", fault=13).library.run_file(b"f", b"last", 0, 0, False)
+        self.assertEqual((answer.fault, answer.system_error, answer.at, answer.output), (13, 11, 7, b"bad value"))
+        answer = Called(refused=(1, 3)).library.batch_file(b"f", b"1\n2\n3", 0, 0, False)
+        self.assertEqual((answer.fault, answer.refused, answer.data), (0, (1, 3), None))
+        answer = Called(file=b"new", refused=(2,)).library.batch(b"old", b"1\n2", 0)
+        self.assertEqual((answer.refused, answer.data), ((2,), b"new"))
+        self.assertIsNone(Called().library.run(b"old", b"last", 0).data)
+
+    def test_rooms_that_grow(self) -> None:
+        long, data = b"o" * (FIRST_ROOM + 1), b"f" * (3 * FIRST_ROOM)
+        calls: List[Any] = [lambda of: of.run_file(b"f", b"info", 0, 0, False),
+                            lambda of: of.batch_file(b"f", b"info", 0, 0, False),
+                            lambda of: of.run(b"f", b"info", 0), lambda of: of.batch(b"f", b"info", 0)]
+        for call in calls:
+            called = Called(long)
+            self.assertEqual((call(called.library).output, len(called.given)), (long, 2))
+            self.assertEqual(call(called.library).fault, 0)
+            self.assertEqual(len(called.given), 3)  # the room has stayed
+        called = Called(long, data)
+        answer = called.library.run(None, b"create", 0)
+        self.assertEqual((answer.data, answer.output, len(called.given)), (data, long, 2))
+        many = tuple(range(1, 20_001))
+        self.assertEqual(Called(refused=many).library.batch_file(b"f", b"\n" * 19_999, 0, 0, False).refused, many)
+
+    def test_rooms_that_shrink(self) -> None:
+        called = Called(b"o" * (17 * FIRST_ROOM))
+        called.library.run_file(b"f", b"fetch", 0, 0, False)
+        self.assertEqual(called.library._rooms.output.length, FIRST_ROOM)
+
+    def test_rooms_of_threads(self) -> None:
+        called, found = Called(b"text"), []
+
+        def call() -> None:
+            called.library.run_file(b"f", b"last", 0, 0, False)
+            found.append((called.library._rooms.answer_at, called.library._rooms.output.at))
+
+        call()
+        thread = threading.Thread(target=call)
+        thread.start()
+        thread.join()
+        self.assertEqual(len({address for rooms in found for address in rooms}), 4)
+
+
+class Places(unittest.TestCase):
+    def test_the_structure(self) -> None:
+        self.assertEqual((ctypes.sizeof(library._Answer), ctypes.alignment(library._Answer)), (304, 8))
+
+    def test_places(self) -> None:
+        with tempfile.TemporaryDirectory() as name, mock.patch.dict(os.environ):
+            os.environ.pop("RRDI_LIBRARY", None)
+            folder = Path(name)
+            for place, found in (("repository/python/rrdi", "repository/out"), ("site/rrdi", "site/rrdi"),
+                                 ("usr/share/rrdi/python/rrdi", "usr/lib")):
+                (folder / place).mkdir(parents=True)
+                (folder / found).mkdir(exist_ok=True, parents=True)
+                (folder / found / "librrdi.so.0").touch()
+                with mock.patch.object(library, "__file__", str(folder / place / "library.py")):
+                    self.assertEqual(rrdi.library_path(), str(folder.resolve() / found / "librrdi.so.0"))
+                    os.environ["RRDI_LIBRARY"] = "/x/librrdi.so"
+                    self.assertEqual(rrdi.library_path(), "/x/librrdi.so")
+                    os.environ.pop("RRDI_LIBRARY")
+
+    def test_loading(self) -> None:
+        self.addCleanup(use_library, None)
+        with self.assertRaises(OSError):
+            load_library("/nowhere/librrdi.so.0")
+        with self.assertRaises(AttributeError):
+            load_library("libc.so.6")
+        if doubles.has_library():
+            self.assertIs(load_library(), library.the_library())
+
+
+if __name__ == "__main__":
+    unittest.main()

@@ -1,0 +1,109 @@
+"""Tests of rrdi.tools.program: the C library in the process gives what the program gives."""
+from __future__ import annotations
+
+import os
+import unittest
+from typing import List, Optional
+from unittest import mock
+
+from tool_case import NO_RRDI, RRDI, ToolCase
+
+from rrdi.library import CLibrary, library_path
+from rrdi.tools import program
+from rrdi.tools.command_line import Failure
+from rrdi.tools.program import Ran
+
+LIBRARY: Optional[str] = os.environ.get("RRDI_TOOLS_BY") or library_path()
+NO_LIBRARY = "there is no librrdi.so.0: type make library"
+
+
+def library() -> CLibrary:
+    import ctypes
+    assert LIBRARY
+    return CLibrary(ctypes.CDLL(LIBRARY))
+
+
+class Words(ToolCase):
+    def test_millionths(self) -> None:
+        for text, wanted in (("1.500000", 1_500_000), ("-0.5", -500_000), ("7", 7_000_000), ("-0.000001", -1), ("0", 0)):
+            self.assertEqual(program.as_millionths(text), wanted)
+
+    def test_reasons(self) -> None:
+        for text, wanted in (("ERROR: usage\nusage: rrdi", "usage"), ("", ""), ("other\n", "other")):
+            self.assertEqual(program.reason_of(text), wanted)
+
+    def test_zero_bytes(self) -> None:
+        with self.assertRaisesRegex(Failure, "an argument has a zero byte"):
+            program.run(["update", "f.rrdi", "10:1\0--template=x"])
+
+    def test_no_program(self) -> None:
+        with mock.patch.dict(os.environ, {"RRDI": "/nowhere"}), self.assertRaisesRegex(Failure, "cannot run /nowhere: No such"):
+            program.run(["last", "f.rrdi"])
+
+
+@unittest.skipUnless(RRDI, NO_RRDI)
+@unittest.skipUnless(LIBRARY, NO_LIBRARY)
+class InProcess(ToolCase):
+    COMMANDS = ["create {} --step 10 --start 1000000000 DS:g:GAUGE:60:-5:U DS:c:COUNTER:60:0:U RRA:AVERAGE:0.5:1:900 RRA:MAX:0.5:3:4",
+                "update {} 1000000010:1.5:100 1000000025:-2:175", "last {}", "info {}", "lastupdate {}", "first {} --rraindex 1",
+                "fetch {} AVERAGE -s 1000000000 -e 1000000040", "fetch {} AVERAGE -s 1000000000 -e 1000099999",
+                "update {} 5:1:1", "update {} 1000000030:1", "update {} x", "tune {} -a g:1000", "tune {} -a none:1",
+                "resize {} 0 GROW 5", "resize {} 9 GROW 5", "revert {}", "revert {}", "revert {}", "revert {}", "info {}",
+                "frobnicate {}", "fetch {} AVERAGE --wrong", "update {}", "last none.rrdi", "last cut.rrdi", "update none/f 1:1",
+                "create none/f DS:g:GAUGE:9:U:U RRA:MAX:0.5:1:4", "create {} DS:g:GAUGE:9:U:U", "fetch {} FOO", "last {} 5"]
+
+    def both(self, words: List[str], given: str = "") -> "tuple[Ran, Ran]":
+        """The results of the program and of the library, each with a file of its own."""
+        assert RRDI
+        with mock.patch.dict(os.environ, {"RRDI": RRDI}):
+            by_program = program.run([word.replace("{}", "a.rrdi") for word in words], given)
+        by_library = program.run_in_process(library(), [word.replace("{}", "b.rrdi") for word in words], given)
+        return by_program, by_library
+
+    def setUp(self) -> None:
+        super().setUp()
+        here = os.getcwd()
+        self.addCleanup(os.chdir, here)
+        os.chdir(self.folder)
+        self.write("cut.rrdi", b"RRDI\0\2")
+
+    def test_commands(self) -> None:
+        for command in self.COMMANDS:
+            with self.subTest(command=command):
+                by_program, by_library = self.both(command.split())
+                # After a fault of usage the program prints its usage too.
+                self.assertEqual(by_library._replace(err=program.reason_of(by_library.err)),
+                                 by_program._replace(err=program.reason_of(by_program.err)))
+                if os.path.exists("a.rrdi"):
+                    self.assertEqual(self.read("a.rrdi"), self.read("b.rrdi"))
+
+    def test_batches(self) -> None:
+        self.both(self.COMMANDS[0].split())
+        for lines in ("update 1000000010:1:1\nlast\n", "update 5:1:1\nupdate 1000000020:1:1\nfrob\nlast\n", "", "last",
+                      "".join(f"update {1000000030 + at}:{at}:{at}\n" for at in range(5_000)),
+                      "fetch AVERAGE -s 1000000000 -e 1000099999\n" * 3):
+            by_program, by_library = self.both(["batch", "{}"], lines)
+            self.assertEqual(by_library, by_program, lines[:90])
+            self.assertEqual(self.read("a.rrdi"), self.read("b.rrdi"))
+        self.assertEqual(*self.both(["batch", "cut.rrdi"], "last\n"))
+        self.assertEqual(*self.both(["batch", "/nowhere/f.rrdi"], "last\n" + self.COMMANDS[0].replace(" {}", "") + "\nlast\n"))
+        self.assertEqual(*self.both(["batch", str(self.folder)], "last\n"))
+
+    def test_which_one_is_called(self) -> None:
+        """RRDI names a program; otherwise the library runs the command."""
+        shown = self.stub("shown", "echo 7")
+        with mock.patch.dict(os.environ, {"RRDI": shown, "RRDI_LIBRARY": LIBRARY or ""}):
+            self.assertEqual(program.run(["last", "none"]), Ran(0, "7\n", ""))
+            os.environ["RRDI"] = ""
+            program.loaded_library.cache_clear()
+            self.assertEqual(program.run(["last", "none"]), Ran(1, "", "ERROR: cannot open\n"))
+            os.environ["RRDI_LIBRARY"] = "/nowhere/librrdi.so.0"
+            program.loaded_library.cache_clear()
+            os.environ["PATH"] = str(self.bin)
+            self.stub("rrdi", "echo 8")
+            self.assertEqual(program.run(["last", "none"]), Ran(0, "8\n", ""))
+        program.loaded_library.cache_clear()
+
+
+if __name__ == "__main__":
+    unittest.main()

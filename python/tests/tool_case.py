@@ -1,0 +1,116 @@
+"""What the tests of the tools share: a folder, runs of the tools, and small scripts that stand for other programs."""
+from __future__ import annotations
+
+import os
+import resource
+import shutil
+import subprocess
+import sys
+import tempfile
+import unittest
+from pathlib import Path
+from typing import Dict, List, NamedTuple, Optional
+
+TOP = Path(__file__).resolve().parent.parent.parent
+sys.path.insert(0, str(TOP / "python"))
+
+
+def find_rrdi() -> Optional[str]:
+    """Finds the program: the one that the variable RRDI names, the built one, or rrdi on the PATH."""
+    built = TOP / "crates/rrdi/out/rrdi"
+    for path in (os.environ.get("RRDI"), str(built), shutil.which("rrdi")):
+        if path and os.access(path, os.X_OK):
+            return os.path.abspath(path)
+    return None
+
+
+RRDI = find_rrdi()
+NO_RRDI = "there is no program rrdi: build it, or name it by RRDI"
+
+
+def find_rrdtool() -> Optional[str]:
+    from rrdi.tools import rrdtool_program
+    return rrdtool_program.find()
+
+
+RRDTOOL = find_rrdtool()
+NO_RRDTOOL = "rrdtool is not installed"
+
+
+class Ran(NamedTuple):
+    status: int
+    out: str
+    err: str
+
+
+class ToolCase(unittest.TestCase):
+    """Runs tools in a folder of their own. Nothing that the caller's environment sets changes what they do."""
+
+    def setUp(self) -> None:
+        self.folder = Path(tempfile.mkdtemp(prefix="rrdi-tools"))
+        self.addCleanup(shutil.rmtree, self.folder, ignore_errors=True)
+        self.bin = self.folder / "bin"
+        self.bin.mkdir()
+        self.env: Dict[str, str] = {"PATH": f"{self.bin}:{os.environ['PATH']}", "HOME": str(self.folder), "TZ": "UTC",
+                                    "LC_ALL": "C.UTF-8", "RRDI": RRDI or "rrdi", "RRDI_WAIT": "0"}
+        # The same tests by the C library: RRDI_TOOLS_BY names it.
+        if "RRDI_TOOLS_BY" in os.environ:
+            self.env["RRDI_LIBRARY"] = os.environ["RRDI_TOOLS_BY"]
+            del self.env["RRDI"]
+
+    def stub(self, name: str, text: str) -> str:
+        """Writes a shell script that stands for another program."""
+        path = self.bin / name
+        path.write_text(f"#!/bin/sh\n{text}\n")
+        path.chmod(0o755)
+        return str(path)
+
+    def only_path(self) -> Dict[str, str]:
+        """An environment whose PATH has nothing but Python and the stubs."""
+        python = self.bin / "python3"
+        if not python.exists():
+            python.symlink_to(sys.executable)
+        return {"PATH": str(self.bin)}
+
+    def run_command(self, words: List[str], given: str = "", env: Optional[Dict[str, str]] = None,
+                    size: Optional[int] = None, stdout: Optional[str] = None) -> Ran:
+        """Runs a command. `size` is the most bytes that it may write to a file, as on a disk that gets full."""
+        def limit() -> None:
+            if size is not None:
+                resource.setrlimit(resource.RLIMIT_FSIZE, (size, size))
+        with open(stdout or os.devnull, "wb") as out:
+            ran = subprocess.run(words, input=given.encode(), stdout=out if stdout else subprocess.PIPE, cwd=self.folder,
+                                 stderr=subprocess.PIPE, env={**self.env, **(env or {})}, preexec_fn=limit, timeout=120)
+        return Ran(ran.returncode, (ran.stdout or b"").decode(errors="replace"), ran.stderr.decode(errors="replace"))
+
+    def tool(self, name: str, *words: str, given: str = "", env: Optional[Dict[str, str]] = None,
+             size: Optional[int] = None, stdout: Optional[str] = None) -> Ran:
+        return self.run_command([sys.executable, str(TOP / "tools" / name), *words], given, env, size, stdout)
+
+    def rrdi(self, *words: str, given: str = "") -> str:
+        assert RRDI
+        ran = self.run_command([RRDI, *words], given)
+        self.assertEqual((ran.status, ran.err), (0, ""), words)
+        return ran.out
+
+    def create(self, file: str, *definitions: str, start: int = 0, step: int = 10) -> None:
+        self.rrdi("create", file, "--step", str(step), "--start", str(start), *definitions)
+
+    def write(self, name: str, data: "str | bytes") -> str:
+        path = self.folder / name
+        path.write_bytes(data.encode() if isinstance(data, str) else data)
+        return str(path)
+
+    def read(self, name: str) -> bytes:
+        return (self.folder / name).read_bytes()
+
+    def check_usage(self, name: str, usage: str, wrong: List[List[str]]) -> None:
+        """The help is printed, and wrong arguments end with the line of usage and status 2."""
+        for option in ("-h", "--help"):
+            ran = self.tool(name, option)
+            self.assertEqual((ran.status, ran.err), (0, ""))
+            self.assertIn(name, ran.out)
+            self.assertIn("Exit status:", ran.out)
+        for words in wrong:
+            with self.subTest(words=words):
+                self.assertEqual(self.tool(name, *words), Ran(2, "", f"usage: {name} {usage}\n"))
