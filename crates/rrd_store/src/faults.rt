@@ -2,7 +2,7 @@
 ghost use Rattle.std.specs.Prelude.{◌≡◌, ◌≤◌, length};
 ghost use Rattle.rrd_fixed.specs.Written.{Writes};
 ghost use Rattle.rrd_tool.specs.Faults.{error_line};
-ghost use Rattle.rrd_store.specs.Faults.{is_misuse, report_of, stream_text, task_fault_text};
+ghost use Rattle.rrd_store.specs.Faults.{is_usage_error, report_of, stream_text, task_fault_text};
 
 use crate::usage::USAGE;
 use arrayvec::ArrayString;
@@ -69,8 +69,8 @@ impl TaskFault {
     }
 
     /// Checks whether the arguments were no command. The usage text follows the line of such a fault.
-    pub fn is_misuse(self) -> bool
-        ensures { result ≡ is_misuse self }
+    pub fn is_usage_error(self) -> bool
+        ensures { result ≡ is_usage_error self }
     {
         matches!(self, TaskFault::Command(Fault::Line(LineFault::Usage)))
     }
@@ -92,7 +92,7 @@ pub fn write_task_fault<W: Write>(err: &mut W, fault: &TaskFault) -> Result<(), 
     ensures { Writes (W.contents err.old) (W.contents err.new) (report_of USAGE.now fault.now) result }
 {
     write_line(err, fault)?;
-    if fault.is_misuse() {
+    if fault.is_usage_error() {
         return write_bytes(err, USAGE.as_bytes());
     }
     Ok(())

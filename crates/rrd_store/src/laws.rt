@@ -1,7 +1,7 @@
 //! Theorems about the tasks. Each is the contract of a function that does nothing.
 ghost use Rattle.std.specs.Prelude.{ℕ, List, Option};
 ghost use Rattle.rrd_spec.specs.Journal.Survivors.{Stored};
-ghost use Rattle.rrd_store.specs.Places.{Held};
+ghost use Rattle.rrd_store.specs.Storages.{Held};
 ghost use Rattle.rrd_store.specs.Runs as laws;
 ghost use Rattle.rrd_store.specs.declared.faults.TaskFault.{TaskFault};
 
@@ -36,7 +36,7 @@ pub fn runs_are_computed()
 }
 
 /// Theorem: the definitions compute what one run on a storage leaves and prints, if the storage's bytes are known.
-pub(crate) fn place_runs_are_computed()
+pub(crate) fn storage_runs_are_computed()
     ensures { (old : Option Held) (run : laws.Run) (new : Option Held) →
         laws.DidIn old run new → laws.IsComputed old new run }
 {

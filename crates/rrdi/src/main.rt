@@ -8,7 +8,7 @@ mod settings;
 mod tasks;
 
 use crate::tasks::{batch, fail, file_batch, single};
-use rrd_store::{Task, TaskFault, asked_for};
+use rrd_store::{Task, TaskFault, parse_task};
 use rrd_tool::{Fault, LineFault};
 use std::env;
 use std::io::ErrorKind;
@@ -27,7 +27,7 @@ fn run(rt: &HostRuntime) -> u8 {
         Err(error) if error.kind() == ErrorKind::OutOfMemory => return fail(rt, NO_MEMORY),
         Err(_) => return fail(rt, MISUSE),
     };
-    let Ok(task) = asked_for(rt.alloc(), &words) else {
+    let Ok(task) = parse_task(rt.alloc(), &words) else {
         return fail(rt, NO_MEMORY);
     };
     match task {

@@ -1,7 +1,9 @@
 //! What the program tells on standard error, and its status.
 use crate::file::decoding::FILE_FAULTS;
 use rrd_base::Refusal;
-use rrd_store::{TaskFault, USAGE, end_batch, end_file_batch, end_single, write_task_fault};
+use rrd_store::{
+    TaskFault, USAGE, report_batch, report_command, report_file_batch, write_task_fault,
+};
 use rrd_tool::{Fault, LineFault, Part, StreamFault};
 use std::alloc::Global;
 use std::process::Abort;
@@ -90,14 +92,14 @@ fn ends_of_batches(rt: HostRuntime) -> Result<(), Fail> {
     for (refused, stream, unstored, status, text) in ENDS {
         let mut err = Vec::new(alloc);
         assert_eq!(&rt;
-            end_batch(&mut err, *refused, *stream, *unstored),
+            report_batch(&mut err, *refused, *stream, *unstored),
             *status,
             "{text}"
         );
         assert_eq!(&rt; err.as_slice(), text.as_bytes());
     }
     let mut err = Vec::new(alloc);
-    assert_eq!(&rt; end_file_batch(&mut err, Err(TaskFault::CannotOpen)), 1);
+    assert_eq!(&rt; report_file_batch(&mut err, Err(TaskFault::CannotOpen)), 1);
     assert_eq!(&rt; err.as_slice(), b"ERROR: cannot open\n".as_slice());
     Ok(())
 }
@@ -112,7 +114,7 @@ fn ends_of_commands(rt: HostRuntime) -> Result<(), Fail> {
         (Err(NO_SAMPLE_READ), 1, "ERROR: unreadable sample 1\n"),
     ] {
         let mut err = Vec::new(alloc);
-        assert_eq!(&rt; end_single(&mut err, end), status, "{text}");
+        assert_eq!(&rt; report_command(&mut err, end), status, "{text}");
         assert_eq!(&rt; err.as_slice(), text.as_bytes());
     }
     Ok(())

@@ -8,13 +8,13 @@ use Rattle.rrd_spec.specs.Journal.Survivors.{Stored}
 use Rattle.rrd_store.specs.declared.faults.TaskFault.{TaskFault}
 use Rattle.rrd_store.specs.declared.faults.TaskFault.TheVariants.{Command, Stream, File, CannotOpen, CannotWrite}
 
--- what a place stands for, which is what the next open reads: nothing is there, or something with these bytes, which may
+-- what a storage stands for, which is what the next open reads: nothing is there, or something with these bytes, which may
 -- be none
 pub data Held : Type 0 where
   Missing : Held
   Bytes : List ℕ → Held
 
--- ---- the calls of a place, by what it has where that is known
+-- ---- the calls of a storage, by what it has where that is known
 
 -- it has what it had
 abbrev pub Stays : Option Held → Option Held → Type 0

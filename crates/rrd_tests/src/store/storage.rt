@@ -1,8 +1,8 @@
-//! A place in memory that may fail.
+//! A storage in memory that may fail.
 ghost use Rattle.std.specs.Prelude.{Some, if◌then◌else◌};
-ghost use Rattle.rrd_store.specs.Places.{Bytes, Missing};
+ghost use Rattle.rrd_store.specs.Storages.{Bytes, Missing};
 
-use rrd_store::{Access, Place};
+use rrd_store::{Access, Storage};
 use std::alloc::{AllocError, Global};
 use std::io::{self, Cursor, Error, ErrorKind, Write};
 
@@ -83,7 +83,7 @@ impl Write for Waiting {
     }
 }
 
-impl Place for InMemory {
+impl Storage for InMemory {
     ghost contents = { λ s. Some (if s.is_missing then Missing else Bytes s.bytes.items) };
 
     ghost announced = { λ s. s.expected };
@@ -103,7 +103,7 @@ impl Place for InMemory {
         Ok(Some(Cursor::new(self.bytes.clone()?)))
     }
 
-    fn begin(&mut self, length: u64) -> io::Result<Waiting> {
+    fn begin_write(&mut self, length: u64) -> io::Result<Waiting> {
         self.expected = Some(length);
         if !self.begins {
             return Err(Error::from(ErrorKind::PermissionDenied));
@@ -114,7 +114,7 @@ impl Place for InMemory {
         })
     }
 
-    fn end(&mut self, writer: Waiting) -> io::Result<()> {
+    fn commit(&mut self, writer: Waiting) -> io::Result<()> {
         if self.ending == Ending::OldStays {
             return Err(Error::from(ErrorKind::Other));
         }
@@ -126,7 +126,7 @@ impl Place for InMemory {
         Ok(())
     }
 
-    fn give_up(&mut self, writer: Waiting) {
+    fn abort(&mut self, writer: Waiting) {
         if !self.keeps {
             self.is_missing = false;
             self.bytes = writer.bytes;

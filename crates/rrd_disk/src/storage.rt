@@ -5,7 +5,7 @@ use crate::locks::{Held, lock};
 use crate::reader::FileReader;
 use crate::writer::FileWriter;
 use crate::{Disk, DiskFile, Lock, Opening, Settings};
-use rrd_store::{Access, Place};
+use rrd_store::{Access, Storage};
 use std::io::{self, Error, ErrorKind};
 
 /// An open file, after the wait for its lock.
@@ -30,9 +30,9 @@ enum Found<F: DiskFile> {
     Open(FileBytes<F>),
 }
 
-/// The file at a path, as the storage of a database ([`Place`]).
+/// The file at a path, as the storage of a database ([`Storage`]).
 #[derive(Drop)]
-pub struct FileAt<'a, D: Disk> {
+pub struct FileStorage<'a, D: Disk> {
     disk: &'a D,
     path: &'a str,
     settings: Settings,
@@ -41,12 +41,12 @@ pub struct FileAt<'a, D: Disk> {
     cause: Option<Error>,
 }
 
-impl<'a, D: Disk> FileAt<'a, D> {
+impl<'a, D: Disk> FileStorage<'a, D> {
     /// Creates the storage for the file at `path`.
     ///
-    /// Makes no call of the system: [`Place::open`] and [`Place::begin`] do.
-    pub fn new(disk: &'a D, path: &'a str, settings: Settings) -> FileAt<'a, D> {
-        FileAt {
+    /// Makes no call of the system: [`Storage::open`] and [`Storage::begin_write`] do.
+    pub fn new(disk: &'a D, path: &'a str, settings: Settings) -> FileStorage<'a, D> {
+        FileStorage {
             disk,
             path,
             settings,
@@ -55,7 +55,7 @@ impl<'a, D: Disk> FileAt<'a, D> {
         }
     }
 
-    /// Returns the reason why the last failed call failed, or why [`Place::open`] found no file.
+    /// Returns the reason why the last failed call failed, or why [`Storage::open`] found no file.
     ///
     /// The kind `WouldBlock` means that another program held the lock for as long as this run waited.
     pub fn cause(&self) -> Option<Error> {
@@ -213,7 +213,7 @@ fn read_settled<F: DiskFile>(mut bytes: FileBytes<F>) -> FileReader<F> {
     bytes.into_reader()
 }
 
-impl<'a, D: Disk> Place for FileAt<'a, D> {
+impl<'a, D: Disk> Storage for FileStorage<'a, D> {
     type Reader = FileReader<D::File>;
 
     type Writer = FileWriter<D::File>;
@@ -221,22 +221,22 @@ impl<'a, D: Disk> Place for FileAt<'a, D> {
     fn open(&mut self, access: Access) -> io::Result<Option<FileReader<D::File>>> {
         let opened = match access {
             Access::Read => self.open_to_read(Error::from(ErrorKind::PermissionDenied)),
-            Access::Change => self.open_to_change(),
+            Access::ReadWrite => self.open_to_change(),
         };
         self.note(opened)
     }
 
-    fn begin(&mut self, length: u64) -> io::Result<FileWriter<D::File>> {
+    fn begin_write(&mut self, length: u64) -> io::Result<FileWriter<D::File>> {
         let begun = self.begin_writing(length);
         self.note(begun)
     }
 
-    fn end(&mut self, writer: FileWriter<D::File>) -> io::Result<()> {
-        self.note(writer.end())
+    fn commit(&mut self, writer: FileWriter<D::File>) -> io::Result<()> {
+        self.note(writer.commit())
     }
 
-    fn give_up(&mut self, writer: FileWriter<D::File>) {
-        if let Some(error) = writer.give_up() {
+    fn abort(&mut self, writer: FileWriter<D::File>) {
+        if let Some(error) = writer.abort() {
             self.cause = Some(error);
         }
     }
