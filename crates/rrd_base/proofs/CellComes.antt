@@ -216,7 +216,7 @@ cell_keeps d a b cells archive filled is at put there few =
       parts_are = is.parts_are;
       few_archives = omega (arith, count, is.few_archives);
       archives_are = All_set (IsArchiveSoFar d.sources_due d.step d.last) d.archives d.archive b is.archives_are so_far;
-      few_cells = subst (λ n. d.sources_due * n ≤ (limits_of d.version).most_cells) (sym rows) is.few_cells;
+      few_cells = subst (λ n. d.sources_due * n ≤ (limits_of d.version).max_cells) (sym rows) is.few_cells;
       places = is.places;
       few_entries = is.few_entries;
       judge_is = is.judge_is ∙ ap (λ (heads : List Head). let s : Outline = record { last = d.last; sources = map (λ (source : Source). source.def) (sources_of d.sources d.raws d.preps); archives = map (λ (head : Head). head.def) heads } in let j : Judge = record { version = d.version; step = d.step; outline = fold outline_undone s (journal_of d.journal) } in j) (sym same);

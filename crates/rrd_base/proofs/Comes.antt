@@ -340,7 +340,7 @@ head_keeps d a is none rows may =
       parts_are = is.parts_are;
       few_archives = omega (arith, at.few, length-append d.archives (a ∷ []));
       archives_are = All-append (IsArchiveSoFar d.sources_due d.step d.last) d.archives (a ∷ []) is.archives_are (so_far, tt);
-      few_cells = subst (λ n. d.sources_due * n ≤ (limits_of d.version).most_cells) (sym (sum_more d.archives a)) (subst (λ n. d.sources_due * (n + a.def.rows) ≤ (limits_of d.version).most_cells) (rows_all d.archives) may.few_cells);
+      few_cells = subst (λ n. d.sources_due * n ≤ (limits_of d.version).max_cells) (sym (sum_more d.archives a)) (subst (λ n. d.sources_due * (n + a.def.rows) ≤ (limits_of d.version).max_cells) (rows_all d.archives) may.few_cells);
       places = is.places;
       few_entries = is.few_entries;
       judge_is =
@@ -362,8 +362,8 @@ few_less zero n m some few = absurd (omega arith)
 few_less (suc s) n m some few = let p : suc s * n ≡ s * n + n = nat.suc-mul s n in omega (arith, p, few)
 
 -- the rows that came are few
-pub few_rows : (d : Coming) → IsRebuilding d → sum (rows_of_archives d.archives) ≤ present.most_cells
-few_rows d is = omega (arith, few_less d.sources_due (sum (rows_of_archives d.archives)) (limits_of d.version).most_cells is.header_is.some_source is.few_cells, few_cells d.version)
+pub few_rows : (d : Coming) → IsRebuilding d → sum (rows_of_archives d.archives) ≤ present.max_cells
+few_rows d is = omega (arith, few_less d.sources_due (sum (rows_of_archives d.archives)) (limits_of d.version).max_cells is.header_is.some_source is.few_cells, few_cells d.version)
 
 -- so what judges entries can be worked with while none has come
 defs_so_far : (sources step last : ℕ) (archives : List Rra) → AllByRecursion (IsArchiveSoFar sources step last) archives → AllByRecursion (IsArchiveDef present) (map (λ (head : Head). head.def) (map head_of archives))
@@ -382,7 +382,7 @@ plain_good d is none = subst (λ (j : Judge). IsOutline j.outline) (sym (plain_j
 })
 
 -- there is room for a source that is due
-pub room_for_source : (d : Coming) → IsRebuilding d → due (filed_in d) ≡ SourceDue → length d.judge.outline.sources < present.most_sources
+pub room_for_source : (d : Coming) → IsRebuilding d → due (filed_in d) ≡ SourceDue → length d.judge.outline.sources < present.max_sources
 room_for_source d is e =
     let few = few_sources d is e in
     let archive : d.archive ≡ 0 = omega (arith, is.archive_there, no_archives d is few) in
@@ -414,13 +414,13 @@ cells_at_head d def is e =
 pub fits_at_head : (d : Coming) (def : RraDef) → IsRebuilding d → due (filed_in d) ≡ HeadDue → AreRemovedSettings (limits_of d.judge.version) d.judge.outline def → MayHead (filed_in d) def
 fits_at_head d def is e fits =
     let here = subst (λ (j : Judge). AreRemovedSettings (limits_of j.version) j.outline def) (judge_at_head d is e) fits in
-    record { is_due = e; def_is = here.def_is; few_cells = subst (λ n. n ≤ (limits_of d.version).most_cells) (cells_at_head d def is e) here.few_cells }
+    record { is_due = e; def_is = here.def_is; few_cells = subst (λ n. n ≤ (limits_of d.version).max_cells) (cells_at_head d def is e) here.few_cells }
 
 pub head_fits : (d : Coming) (def : RraDef) → IsRebuilding d → MayHead (filed_in d) def → AreRemovedSettings (limits_of d.judge.version) d.judge.outline def
 head_fits d def is may =
     let j = plain d d.sources (map head_of d.archives) in
     let here : AreRemovedSettings (limits_of j.version) j.outline def =
-    record { def_is = may.def_is; few_cells = subst (λ n. n ≤ (limits_of d.version).most_cells) (sym (cells_at_head d def is may.is_due)) may.few_cells } in
+    record { def_is = may.def_is; few_cells = subst (λ n. n ≤ (limits_of d.version).max_cells) (sym (cells_at_head d def is may.is_due)) may.few_cells } in
     subst (λ (j : Judge). AreRemovedSettings (limits_of j.version) j.outline def) (sym (judge_at_head d is may.is_due)) here
 
 -- ---- a preparation
@@ -537,7 +537,7 @@ front_keeps d front x part is later few one =
         rows_are = a.rows_are;
         each_row = a.each_row;
       });
-      few_cells = subst (λ n. d.sources_due * n ≤ (limits_of d.version).most_cells) rows is.few_cells;
+      few_cells = subst (λ n. d.sources_due * n ≤ (limits_of d.version).max_cells) rows is.few_cells;
       places = is.places;
       few_entries = is.few_entries;
       judge_is = is.judge_is ∙ ap (λ (archives : List RraDef). let s : Outline = record { last = d.last; sources = map (λ (source : Source). source.def) (sources_of d.sources d.raws d.preps); archives = archives } in let j : Judge = record { version = d.version; step = d.step; outline = fold outline_undone s (journal_of d.journal) } in j) defs;

@@ -104,7 +104,7 @@ outline_valid : (version : Version) (now : Content) → IsValidWithin (limits_of
 outline_valid version now is = record {
   few_sources = is.few_sources;
   archives_are = defs_valid version (length now.sources) (now.last / now.step) now.archives is.archives_are;
-  few_rows = subst (λ (rows : List ℕ). sum rows ≤ present.most_cells) (sym (rows_by_def now.archives)) (omega (arith, few_less (length now.sources) (sum (rows_of_archives now.archives)) (limits_of version).most_cells is.some_source is.few_cells, few_cells version));
+  few_rows = subst (λ (rows : List ℕ). sum rows ≤ present.max_cells) (sym (rows_by_def now.archives)) (omega (arith, few_less (length now.sources) (sum (rows_of_archives now.archives)) (limits_of version).max_cells is.some_source is.few_cells, few_cells version));
 }
 
 -- where all pieces before the entries came, it is that of a valid content

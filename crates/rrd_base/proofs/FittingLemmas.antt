@@ -144,11 +144,11 @@ rows_put (x ∷ defs) (suc i) rows h = omega (arith, fold_sum x.rows (rows_of (w
 -- as code counts them
 pub record RowsPut (held : RraDef) (defs : List RraDef) (i rows all : ℕ) : Type 0 where
   pub within : held.rows ≤ all
-  pub few : all ≤ present.most_cells
+  pub few : all ≤ present.max_cells
   pub old_is : held.rows ≡ slice_index_or (rows_of defs) i 0
   pub all_is : all - held.rows + rows ≡ sum (rows_of (with_row_number defs i rows))
 
-pub rows_are_put : (items defs : List RraDef) (i rows all : ℕ) (d : RraDef) → items ≡ defs → i < length defs → sum (rows_of defs) ≤ present.most_cells → all ≡ min (sum (rows_of items)) (2 ^ 64 - 1) → RowsPut (get_or items i d) defs i rows all
+pub rows_are_put : (items defs : List RraDef) (i rows all : ℕ) (d : RraDef) → items ≡ defs → i < length defs → sum (rows_of defs) ≤ present.max_cells → all ≡ min (sum (rows_of items)) (2 ^ 64 - 1) → RowsPut (get_or items i d) defs i rows all
 rows_are_put items defs i rows all d same h few e =
     let all_is = e ∙ ap (λ (ds : List RraDef). min (sum (rows_of ds)) (2 ^ 64 - 1)) same in
     let old = rows_at_is defs i d h in

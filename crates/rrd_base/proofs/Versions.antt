@@ -7,18 +7,18 @@ use Rattle.rrd_spec.specs.declared.version.Version.{Version}
 use Rattle.rrd_spec.specs.declared.version.Version.TheVariants.{One, Two}
 use Rattle.rrd_spec.specs.Files.Rebuilding.{IsArchiveDef}
 use Rattle.rrd_spec.specs.Journal.Fitting.{IsSourceBefore}
-use Rattle.rrd_spec.specs.Limits.{deepest_journal_of, limits_of, most_archives_of, most_cells_of, present}
+use Rattle.rrd_spec.specs.Limits.{max_journal_depth_of, limits_of, max_archives_of, max_cells_of, present}
 use Rattle.rrd_spec.specs.Validity.{IsSourceWithin}
 
-pub small_depth : (version : Version) → deepest_journal_of version ≤ present.deepest_journal
+pub small_depth : (version : Version) → max_journal_depth_of version ≤ present.max_journal_depth
 small_depth One = omega arith
 small_depth Two = omega arith
 
-pub few_archives : (version : Version) → most_archives_of version ≤ present.most_archives
+pub few_archives : (version : Version) → max_archives_of version ≤ present.max_archives
 few_archives One = omega arith
 few_archives Two = omega arith
 
-pub few_cells : (version : Version) → most_cells_of version ≤ present.most_cells
+pub few_cells : (version : Version) → max_cells_of version ≤ present.max_cells
 few_cells One = omega arith
 few_cells Two = omega arith
 

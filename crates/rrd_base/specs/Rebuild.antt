@@ -140,7 +140,7 @@ pub record IsRebuilding (d : Coming) : Type 0 where
   pub parts_are : AllByRecursion (IsPart Average (d.last % d.step)) d.preps
   pub few_archives : length d.archives ≤ d.archives_due
   pub archives_are : AllByRecursion (IsArchiveSoFar d.sources_due d.step d.last) d.archives
-  pub few_cells : d.sources_due * sum (rows_of_archives d.archives) ≤ (limits_of d.version).most_cells
+  pub few_cells : d.sources_due * sum (rows_of_archives d.archives) ≤ (limits_of d.version).max_cells
   pub places : d.places ≡ d.depth
   pub few_entries : length d.journal ≤ d.entries_due
   pub judge_is : d.judge ≡ judge (filed_in d)

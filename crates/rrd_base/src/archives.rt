@@ -68,10 +68,10 @@ pub(crate) fn new_all(
     defs: &[RraDef],
     sources: u64,
 ) -> Result<ArchiveList<Rra>, AllocError>
-    requires few { length defs.now ≤ present.most_archives }
-    requires rows { AllByRecursion (λ def. (0 < def.rows) × (def.rows ≤ present.most_rows)) defs.now }
+    requires few { length defs.now ≤ present.max_archives }
+    requires rows { AllByRecursion (λ def. (0 < def.rows) × (def.rows ≤ present.max_rows)) defs.now }
     requires some_sources { 0 < sources }
-    requires few_sources { sources ≤ present.most_sources }
+    requires few_sources { sources ≤ present.max_sources }
     ensures { IfOk result (λ archives. archives ≡ map (new_archive sources) defs.now) }
 {
     let mut archives = ArchiveList::new(alloc)?;
@@ -109,7 +109,7 @@ pub(crate) fn save_all(
 ) -> Result<Vec<SavedArchive>, AllocError>
     requires stepped { AllByRecursion IsStepped archives.now }
     requires some_step { 0 < step }
-    requires small_step { step ≤ present.longest_step }
+    requires small_step { step ≤ present.max_step_seconds }
     ensures { IfOk result (λ all. all.items ≡ map (saved step from to) archives.now) }
 {
     let mut all = Vec::with_capacity(alloc, archives.len())?;

@@ -366,7 +366,7 @@ impl Rebuild {
     pub fn cells_in_row(&self) -> usize
         ensures count { result ≡ self.now.header.sources }
         ensures some { 0 < result }
-        ensures few { result ≤ present.most_sources }
+        ensures few { result ≤ present.max_sources }
     {
         self.header.sources as usize
     }
@@ -466,7 +466,7 @@ impl Rebuild {
     /// Returns how many entries were read, at most 100,000.
     pub fn entries(&self) -> u64
         ensures count { result ≡ length self.now.entries }
-        ensures few { result ≤ present.deepest_journal }
+        ensures few { result ≤ present.max_journal_depth }
     {
         self.journal.len() as u64
     }
@@ -476,7 +476,7 @@ impl Rebuild {
         requires { due self.now ≡ EntryDue }
         ensures count { result ≡ length (outline_left self.now).sources }
         ensures some { 0 < result }
-        ensures few { result ≤ present.most_sources }
+        ensures few { result ≤ present.max_sources }
     {
         laws::cells_stand_in_slots();
         laws::journals_in_pieces();
@@ -560,7 +560,7 @@ fn push_source(
     raw: Raw,
     prep: StepPrep,
 ) -> Result<(), AllocError>
-    requires { length judge.old.outline.sources < present.most_sources }
+    requires { length judge.old.outline.sources < present.max_sources }
     ensures ok { OnOk result ((sources.new.items ≡ sources.old.items ++ def ∷ [])
         × (raws.new.items ≡ raws.old.items ++ raw ∷ [])
         × (preps.new.items ≡ preps.old.items ++ prep ∷ [])

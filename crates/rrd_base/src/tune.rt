@@ -13,7 +13,7 @@ ghost use Rattle.rrd_base.specs.Resize.{HasFewRows, settings};
 ghost use Rattle.rrd_spec.specs.Journal.Entries as entries;
 ghost use Rattle.rrd_spec.specs.History.{raws_under};
 ghost use Rattle.rrd_base.specs.Tune.{IsThere, with_archive_tuned};
-ghost use Rattle.rrd_spec.specs.Limits.{most_tuned, present};
+ghost use Rattle.rrd_spec.specs.Limits.{max_tuned, present};
 ghost use Rattle.rrd_spec.specs.Commands.Verdict as verdict;
 ghost use Rattle.rrd_spec.specs.Validity.{IsValid};
 
@@ -27,7 +27,7 @@ use crate::{ArchiveTune, DsDef, Refusal, RraDef, SourceBefore, Tuning};
 use arrayvec::ArrayVec;
 use rrd_fixed::{Kind, Name, Raw};
 use rrd_spec::laws;
-use rrd_spec::limits::{MOST_ARCHIVES, MOST_CELLS, MOST_TUNED};
+use rrd_spec::limits::{MAX_ARCHIVES, MAX_CELLS, MAX_TUNED};
 use std::alloc::{AllocError, Global};
 
 // ---- the checks
@@ -149,19 +149,19 @@ fn check_options(sources: &[DsDef], tuning: &Tuning) -> Result<(), Refusal>
 // Returns whether the database would be too large with one more archive of `rows` rows, at most 1,000,000.
 fn is_too_large(sources: usize, archives: &[Rra], rows: u64) -> bool
     requires few_rows { AllByRecursion HasFewRows archives.now }
-    requires few_archives { length archives.now ≤ present.most_archives }
-    requires few { rows ≤ present.most_rows }
+    requires few_archives { length archives.now ≤ present.max_archives }
+    requires few { rows ≤ present.max_rows }
     ensures { let all = rows_of_archives archives.now ++ rows ∷ [] in
-        result ≡ nat_lt present.most_archives (length all) || nat_lt present.most_cells (sources * sum all) }
+        result ≡ nat_lt present.max_archives (length all) || nat_lt present.max_cells (sources * sum all) }
 {
-    archives.len() >= MOST_ARCHIVES
-        || has_too_many_cells(MOST_CELLS, sources, all_rows(archives) + rows)
+    archives.len() >= MAX_ARCHIVES
+        || has_too_many_cells(MAX_CELLS, sources, all_rows(archives) + rows)
 }
 
 // Checks whether an archive with these settings can be added.
 fn check_added(sources: usize, archives: &[Rra], def: &RraDef) -> Result<(), Refusal>
     requires few_rows { AllByRecursion HasFewRows archives.now }
-    requires few { length archives.now ≤ present.most_archives }
+    requires few { length archives.now ≤ present.max_archives }
     ensures { (all : List DsDef) → length all ≡ sources → result_err result
         ≡ verdict.first_refusal (verdict.archive_tune_checks present (settings all archives.now) (Some (Add def.now))) }
 {
@@ -189,7 +189,7 @@ fn check_removed(archives: usize, number: u64) -> Result<(), Refusal>
 // Checks whether an archive can be added or removed as requested.
 fn check_archive(sources: &[DsDef], archives: &[Rra], asked: &ArchiveTune) -> Result<(), Refusal>
     requires few_rows { AllByRecursion HasFewRows archives.now }
-    requires few { length archives.now ≤ present.most_archives }
+    requires few { length archives.now ≤ present.max_archives }
     ensures { result_err result ≡ verdict.first_refusal
         (verdict.archive_tune_checks present (settings sources.now archives.now) (Some asked.now)) }
 {
@@ -202,7 +202,7 @@ fn check_archive(sources: &[DsDef], archives: &[Rra], asked: &ArchiveTune) -> Re
 // Checks a tune (rrdtune).
 fn check_tune(sources: &[DsDef], archives: &[Rra], tuning: &Tuning) -> Result<(), Refusal>
     requires few_rows { AllByRecursion HasFewRows archives.now }
-    requires few { length archives.now ≤ present.most_archives }
+    requires few { length archives.now ≤ present.max_archives }
     ensures { result_err result ≡ verdict.first_refusal
         (verdict.tune_checks present (settings sources.now archives.now) tuning.now) }
 {
@@ -303,9 +303,9 @@ fn keep_sources(
     sources: &[DsDef],
     raws: &[Raw],
     tuning: &Tuning,
-) -> ArrayVec<SourceBefore, MOST_TUNED>
+) -> ArrayVec<SourceBefore, MAX_TUNED>
     requires one_each { length raws.now ≡ length sources.now }
-    requires few { length (entries.sources_before tuning.now 0 sources.now raws.now) ≤ most_tuned }
+    requires few { length (entries.sources_before tuning.now 0 sources.now raws.now) ≤ max_tuned }
     ensures { result.items ≡ entries.sources_before tuning.now 0 sources.now raws.now }
 {
     let mut kept = ArrayVec::new();
@@ -388,7 +388,7 @@ impl Content {
     }
 
     // Copies the data sources that an accepted tune names.
-    fn keep_sources(&self, tuning: &Tuning) -> ArrayVec<SourceBefore, MOST_TUNED>
+    fn keep_sources(&self, tuning: &Tuning) -> ArrayVec<SourceBefore, MAX_TUNED>
         requires accepted { verdict.verdict self.now (commands.TuningBy tuning.now) ≡ None }
         requires alone { tuning.now.archive ≡ None }
         ensures { entries.TuneEntry result.items ≡ entries.entry self.now (commands.TuningBy tuning.now) }
@@ -398,7 +398,7 @@ impl Content {
     }
 
     /// Restores the data sources that a tune named.
-    pub(crate) fn undo_tune(&mut self, kept: &ArrayVec<SourceBefore, MOST_TUNED>)
+    pub(crate) fn undo_tune(&mut self, kept: &ArrayVec<SourceBefore, MAX_TUNED>)
         requires { IsValid (entries.undone self.old (entries.TuneEntry kept.now.items)) }
         ensures { self.new ≡ entries.undone self.old (entries.TuneEntry kept.now.items) }
     {

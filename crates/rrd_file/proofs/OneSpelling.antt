@@ -19,7 +19,7 @@ use Rattle.rrd_spec.specs.declared.settings.DsDef.{DsDef}
 use Rattle.rrd_spec.specs.declared.settings.RraDef.{RraDef}
 use Rattle.rrd_spec.specs.declared.outline.Outline.{Outline}
 use Rattle.rrd_spec.specs.declared.entry.SourceBefore.{SourceBefore}
-use Rattle.rrd_spec.specs.Limits.{Limits, deepest_journal_of}
+use Rattle.rrd_spec.specs.Limits.{Limits, max_journal_depth_of}
 use Rattle.rrd_spec.specs.declared.version.Version.{Version}
 use Rattle.rrd_spec.specs.declared.version.Version.TheVariants.{One, Two}
 use Rattle.rrd_spec.specs.Files.Filed.{Filed, Head, Header, Source}
@@ -55,7 +55,7 @@ raw_fits Derive (Raw.Known value) h = omega (arith, ints, h.0, h.1)
 
 bound_fits : (l : Limits) (bound : Option ℤ) → AreSmall l → is_far l bound ≡ false → FitsBound bound
 bound_fits l None small h = tt
-bound_fits l (Some value) small h = omega (arith, small.bound, ltb-false l.greatest_bound (unsigned_abs value) h)
+bound_fits l (Some value) small h = omega (arith, small.bound, ltb-false l.max_bound (unsigned_abs value) h)
 
 letter_small : (c : ℕ) → is_letter c ≡ true → c < 128
 letter_small c h = grind (arith, h)
@@ -72,7 +72,7 @@ name_fits name h =
 pub def_fits : (l : Limits) (def : DsDef) → AreSmall l → IsSourceWithin l def → FitsDef def
 def_fits l def small h = record {
   name = name_fits def.name h.good_name;
-  heartbeat = omega (arith, small.heartbeat, ltb-false l.longest_heartbeat def.heartbeat (or_right (def.heartbeat == 0) _ h.good_heartbeat));
+  heartbeat = omega (arith, small.heartbeat, ltb-false l.max_heartbeat def.heartbeat (or_right (def.heartbeat == 0) _ h.good_heartbeat));
   min = bound_fits l def.min small (or_left (is_far l def.min) (is_far l def.max) (or_left _ (is_crossed def.min def.max) h.good_bounds));
   max = bound_fits l def.max small (or_right (is_far l def.min) (is_far l def.max) (or_left _ (is_crossed def.min def.max) h.good_bounds));
 }
@@ -98,7 +98,7 @@ source_fits f s h m = record {
 pub archive_fits : (l : Limits) (def : RraDef) → AreSmall l → IsArchiveDef l def → FitsArchive def
 archive_fits l def small h = record { steps = omega (arith, h.few_steps, small.steps); xff_low = h.xff_low; xff_high = omega (arith, ints, h.xff_low, h.xff_high, small.share); rows = omega (arith, h.few_rows, small.rows) }
 
-depth_counts : (version : Version) → deepest_journal_of version < counts version
+depth_counts : (version : Version) → max_journal_depth_of version < counts version
 depth_counts One = omega arith
 depth_counts Two = omega arith
 

@@ -11,7 +11,7 @@ use Rattle.rrd_spec.specs.declared.settings.DsDef.{DsDef}
 use Rattle.rrd_spec.specs.declared.settings.RraDef.{RraDef}
 use Rattle.rrd_spec.specs.declared.outline.Outline.{Outline}
 use Rattle.rrd_spec.specs.declared.entry.SourceBefore.{SourceBefore}
-use Rattle.rrd_spec.specs.Limits.{Limits, limits_of, most_archives_of}
+use Rattle.rrd_spec.specs.Limits.{Limits, limits_of, max_archives_of}
 use Rattle.rrd_spec.specs.Journal.Entries.{Entry, UpdateEntry, TuneEntry, ResizeEntry, AddedEntry, RemovedEntry}
 use Rattle.rrd_spec.specs.declared.version.Version.{Version}
 use Rattle.rrd_spec.specs.declared.version.Version.TheVariants.{One, Two}
@@ -27,17 +27,17 @@ use Rattle.rrd_file.proofs.Ways.{Step, ToMark, ToVersion, ToHeader, ToSource, To
 
 -- limits that no version exceeds
 pub record AreSmall (l : Limits) : Type 0 where
-  pub step : l.longest_step ≤ 1000000
-  pub last : l.latest_time ≤ 9999999999
-  pub sources : l.most_sources ≤ 64
-  pub archives : l.most_archives ≤ 128
-  pub heartbeat : l.longest_heartbeat ≤ 9999999999
-  pub bound : l.greatest_bound ≤ top
-  pub share : l.greatest_share ≤ 999999
-  pub steps : l.most_steps ≤ 1000000
-  pub rows : l.most_rows ≤ 1000000
+  pub step : l.max_step_seconds ≤ 1000000
+  pub last : l.max_time ≤ 9999999999
+  pub sources : l.max_sources ≤ 64
+  pub archives : l.max_archives ≤ 128
+  pub heartbeat : l.max_heartbeat ≤ 9999999999
+  pub bound : l.max_bound ≤ top
+  pub share : l.max_xff ≤ 999999
+  pub steps : l.max_steps_per_row ≤ 1000000
+  pub rows : l.max_rows ≤ 1000000
 
-few_archives : (version : Version) → most_archives_of version ≤ 128
+few_archives : (version : Version) → max_archives_of version ≤ 128
 few_archives One = omega arith
 few_archives Two = omega arith
 

@@ -11,7 +11,7 @@ use Rattle.rrd_spec.specs.declared.settings.DsDef.{DsDef}
 use Rattle.rrd_spec.specs.declared.settings.RraDef.{RraDef}
 use Rattle.rrd_spec.specs.declared.version.Version.{Version}
 use Rattle.rrd_spec.specs.Files.Filed.{Filed, Header, Source}
-use Rattle.rrd_spec.specs.Limits.{Limits, most_tuned}
+use Rattle.rrd_spec.specs.Limits.{Limits, max_tuned}
 use Rattle.rrd_spec.specs.Journal.Fitting.{AreOldRows, AreRemovedSettings, IsRemovedNumber, IsSourceBefore}
 use Rattle.rrd_spec.specs.Files.Rebuilding.{IsHeader, IsRowPart, MayCell, MayHead, MayPrep, MaySource, begun, due, limits, outline_left, with_cell, with_head, with_prep, with_source}
 use Rattle.rrd_spec.specs.Validity.{IsPart}
@@ -26,7 +26,7 @@ pub data Way (l : Limits) (step : ℕ) (now : Outline) : DueInEntry → Piece �
   ByRowPrep : (last : ℕ) (def : RraDef) (part : Part) → IsRowPart step last def part → Way l step now (RowPrepDue last def) (OfPrep part)
   ByRows : (rows count : ℕ) → count ≡ rows → Way l step now (RowsDue rows) (OfRows count)
   ByRowCell : (cell : Cell) → IsBounded cell → Way l step now RowCellDue (OfCell cell)
-  ByCount : (count : ℕ) → 0 < count → count ≤ most_tuned → Way l step now CountDue (OfCount count)
+  ByCount : (count : ℕ) → 0 < count → count ≤ max_tuned → Way l step now CountDue (OfCount count)
   ByNamed : (lowest more : ℕ) (old : SourceBefore) → lowest ≤ old.number → old.number < length now.sources → IsSourceBefore l old → Way l step now (NamedDue lowest more) (OfSourceBefore old)
   ByNumber : (archive : ℕ) → archive < length now.archives → Way l step now NumberDue (OfNumber archive)
   ByOldRows : (archive rows : ℕ) → AreOldRows l now archive rows → Way l step now (OldRowsDue archive) (OfRows rows)

@@ -9,7 +9,7 @@ use Rattle.rrd_spec.specs.declared.settings.RraDef.{RraDef}
 use Rattle.rrd_spec.specs.declared.outline.Outline.{Outline}
 use Rattle.rrd_spec.specs.declared.due.Due.{Due}
 use Rattle.rrd_spec.specs.declared.due.Due.TheVariants.{SourceDue, HeadDue, PrepDue, CellDue, EntryDue, NothingDue}
-use Rattle.rrd_spec.specs.Limits.{Limits, most_tuned}
+use Rattle.rrd_spec.specs.Limits.{Limits, max_tuned}
 use Rattle.rrd_spec.specs.Journal.Entries.{Entry, rows_between}
 use Rattle.rrd_spec.specs.declared.version.Version.{Version}
 use Rattle.rrd_spec.specs.declared.version.Version.TheVariants.{One, Two}
@@ -99,7 +99,7 @@ Keeps limits step now (BeforeDue last def) (OfRawAndPart raw part) =
 Keeps limits step now (RowPrepDue last def) (OfPrep part) = IsRowPart step last def part
 Keeps limits step now (RowsDue rows) (OfRows count) = count ≡ rows
 Keeps limits step now RowCellDue (OfCell cell) = IsBounded cell
-Keeps limits step now CountDue (OfCount count) = (0 < count) × (count ≤ most_tuned)
+Keeps limits step now CountDue (OfCount count) = (0 < count) × (count ≤ max_tuned)
 Keeps limits step now (NamedDue lowest more) (OfSourceBefore old) =
     (lowest ≤ old.number) × (old.number < length now.sources) × IsSourceBefore limits old
 Keeps limits step now NumberDue (OfNumber archive) = archive < length now.archives
@@ -160,8 +160,8 @@ abbrev pub IsTagWithin : Limits → Tag → Type 0
 IsTagWithin limits AnUpdate = Unit {0}
 IsTagWithin limits ATune = Unit {0}
 IsTagWithin limits AResize = Unit {0}
-IsTagWithin limits AnAddition = limits.archives_come_and_go ≡ true
-IsTagWithin limits ARemoval = limits.archives_come_and_go ≡ true
+IsTagWithin limits AnAddition = limits.allows_archive_changes ≡ true
+IsTagWithin limits ARemoval = limits.allows_archive_changes ≡ true
 
 pub record MayTag (f : Filed) (tag : Tag) : Type 0 where
   pub is_due : due f ≡ EntryDue

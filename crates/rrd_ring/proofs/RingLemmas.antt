@@ -9,7 +9,7 @@ use Rattle.std.proofs.lemmas.List.FromFn.{length-map-range_with_len, get_or-map-
 use Rattle.std.specs.Vec.{with_items_from}
 use Rattle.rrd_fixed.specs.declared.cell.Cell.{Cell}
 use Rattle.rrd_fixed.specs.declared.cell.Cell.TheVariants.{Unknown}
-use Rattle.rrd_ring.specs.Rows.{nth_row, row_cells, width, HasWidth, unknown_rows, IsArchive, AreDropped, most_rows}
+use Rattle.rrd_ring.specs.Rows.{nth_row, row_cells, width, HasWidth, unknown_rows, IsArchive, AreDropped, max_rows}
 use Rattle.rrd_ring.specs.Ring.{row_of, rows_of, ring_rows, from_place, IsRing, AreRows}
 use Rattle.rrd_ring.specs.Widths.{width_is}
 use Rattle.rrd_ring.proofs.RowLemmas.{IsArchive-from_width, AreDropped-from_width}
@@ -203,7 +203,7 @@ pub IsArchive-ring_rows : (rows w place : ℕ) (xs : List Cell) → IsRing rows 
 IsArchive-ring_rows rows w place xs is =
     let count = length-ring_rows rows w place xs in
     let some : 0 < rows = is.some_rows in
-    let few : rows ≤ most_rows = is.few_rows in
+    let few : rows ≤ max_rows = is.few_rows in
     IsArchive-from_width w (ring_rows rows w place xs) (HasWidth-ring_rows rows w place xs is) (omega arith) (omega arith) is.some_sources is.few_sources
 
 pub ring_len : (rows w place : ℕ) (xs : List Cell) (all : List (List Cell)) → ring_rows rows w place xs ≡ all → length all ≡ rows
@@ -221,7 +221,7 @@ ring_fits rows w place k xs is h = omega (arith, is.whole, row_fits k w rows w h
 pub AreDropped-rows_of : (rows w : ℕ) (xs : List Cell) → AreRows rows w xs → AreDropped (rows_of rows w xs)
 AreDropped-rows_of rows w xs are =
     let count = length-rows_of rows w xs in
-    let few : rows ≤ most_rows = are.few_rows in
+    let few : rows ≤ max_rows = are.few_rows in
     AreDropped-from_width w (rows_of rows w xs) (HasWidth-rows_of rows w xs are.whole) (omega arith)
 
 -- ---- rows that lie together
@@ -447,7 +447,7 @@ ring_unknown rows w place within =
 
 pub AreRows-take : (n rows w place : ℕ) (xs : List Cell) → n ≤ rows → IsRing rows w place xs → AreRows n w (take (n * w) (from_place (place * w) xs))
 AreRows-take n rows w place xs h is =
-    let few : rows ≤ most_rows = is.few_rows in
+    let few : rows ≤ max_rows = is.few_rows in
     record {
       few_rows = omega arith;
       some_sources = is.some_sources;

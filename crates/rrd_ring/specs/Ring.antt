@@ -4,7 +4,7 @@ use Rattle.std.specs.Global.{Global}
 use Rattle.std.specs.List.{range_with_len}
 use Rattle.rrd_fixed.specs.declared.cell.Cell.{Cell}
 use Rattle.rrd_fixed.specs.declared.cell.Cell.TheVariants.{Unknown}
-use Rattle.rrd_ring.specs.Rows.{most_rows, most_sources}
+use Rattle.rrd_ring.specs.Rows.{max_rows, max_sources}
 pub mod Slices
 
 -- row k of a vector whose rows have `sources` cells each
@@ -27,9 +27,9 @@ from_place start cells = drop start cells ++ take start cells
 -- a ring of rows with the same number of cells, in one vector, and the index of its oldest row
 pub record IsRing (rows sources place : ℕ) (cells : List Cell) : Type 0 where
   pub some_rows : 0 < rows
-  pub few_rows : rows ≤ most_rows
+  pub few_rows : rows ≤ max_rows
   pub some_sources : 0 < sources
-  pub few_sources : sources ≤ most_sources
+  pub few_sources : sources ≤ max_sources
   pub whole : length cells ≡ rows * sources
   pub place_within : place < rows
 
@@ -50,9 +50,9 @@ pub record IsPartlyWritten (rows sources place : ℕ) (written : Vec Cell Global
 
 -- rows with the same number of cells, in one vector
 pub record AreRows (rows sources : ℕ) (cells : List Cell) : Type 0 where
-  pub few_rows : rows ≤ most_rows
+  pub few_rows : rows ≤ max_rows
   pub some_sources : 0 < sources
-  pub few_sources : sources ≤ most_sources
+  pub few_sources : sources ≤ max_sources
   pub whole : length cells ≡ rows * sources
 
 -- rows whose vector has whole written rows first, and capacity for the rest

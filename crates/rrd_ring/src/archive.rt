@@ -3,7 +3,7 @@ ghost use Rattle.std.specs.Prelude.{◌≡◌, ◌+◌, ◌-◌, ◌<◌, ◌≤
 ghost use Rattle.std.specs.Borrow.{sem};
 ghost use Rattle.rrd_fixed.specs.declared.cell.Cell.{Cell};
 ghost use Rattle.rrd_fixed.specs.declared.cell.Cell.TheVariants.{Unknown};
-ghost use Rattle.rrd_ring.specs.Rows.{nth_row, row_cells, width, HasWidth, with_row, with_rows, unknown_rows, newest_rows, most_rows, most_sources};
+ghost use Rattle.rrd_ring.specs.Rows.{nth_row, row_cells, width, HasWidth, with_row, with_rows, unknown_rows, newest_rows, max_rows, max_sources};
 
 use crate::dropped::Dropped;
 use crate::ring::{
@@ -56,9 +56,9 @@ impl Archive {
     /// - `AllocError`: memory runs out.
     pub fn new(alloc: Global, rows: u64, sources: u64) -> Result<Archive, AllocError>
         requires some_rows { 0 < rows }
-        requires few_rows { rows ≤ most_rows }
+        requires few_rows { rows ≤ max_rows }
         requires some_sources { 0 < sources }
-        requires few_sources { sources ≤ most_sources }
+        requires few_sources { sources ≤ max_sources }
         ensures { IfOk result (λ archive. archive ≡ unknown_rows rows sources) }
     {
         Archive::new_from(alloc, rows, sources, 0)
@@ -77,9 +77,9 @@ impl Archive {
         sources: u64,
         first: u64,
     ) -> Result<Archive, AllocError>
-        requires few_rows { rows ≤ most_rows }
+        requires few_rows { rows ≤ max_rows }
         requires some_sources { 0 < sources }
-        requires few_sources { sources ≤ most_sources }
+        requires few_sources { sources ≤ max_sources }
         requires there { first < rows }
         ensures { IfOk result (λ archive. archive ≡ unknown_rows rows sources) }
     {
@@ -97,7 +97,7 @@ impl Archive {
     pub fn rows(&self) -> u64
         ensures count { result ≡ length self.now }
         ensures some { 0 < result }
-        ensures few { result ≤ most_rows }
+        ensures few { result ≤ max_rows }
     {
         self.rows as u64
     }
@@ -109,7 +109,7 @@ impl Archive {
         ensures count { result ≡ width self.now }
         ensures each_row { HasWidth result self.now }
         ensures some { 0 < result }
-        ensures few { result ≤ most_sources }
+        ensures few { result ≤ max_sources }
     {
         self.sources as u64
     }
@@ -273,7 +273,7 @@ impl Archive {
     /// - `AllocError`: memory runs out.
     pub fn resized(&self, alloc: Global, rows: u64) -> Result<Archive, AllocError>
         requires some_rows { 0 < rows }
-        requires few_rows { rows ≤ most_rows }
+        requires few_rows { rows ≤ max_rows }
         ensures { IfOk result (λ archive. archive ≡ newest_rows rows self.now) }
     {
         let wanted = rows as usize;

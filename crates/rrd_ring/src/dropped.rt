@@ -2,7 +2,7 @@
 ghost use Rattle.std.specs.Prelude.{◌≡◌, ◌+◌, ◌<◌, ◌≤◌, List, length, take, drop, slice_set, IfOk};
 ghost use Rattle.std.specs.Borrow.{sem};
 ghost use Rattle.rrd_fixed.specs.declared.cell.Cell.{Cell};
-ghost use Rattle.rrd_ring.specs.Rows.{nth_row, row_cells, width, HasWidth, with_row, unknown_rows, most_rows, most_sources};
+ghost use Rattle.rrd_ring.specs.Rows.{nth_row, row_cells, width, HasWidth, with_row, unknown_rows, max_rows, max_sources};
 
 use crate::ring::{cells_of, fill_up, row_from, row_mut, rows_together};
 use rrd_fixed::Cell;
@@ -43,9 +43,9 @@ impl Dropped {
     /// # Errors
     /// - `AllocError`: memory runs out.
     pub fn new(alloc: Global, rows: u64, sources: u64) -> Result<Dropped, AllocError>
-        requires few_rows { rows ≤ most_rows }
+        requires few_rows { rows ≤ max_rows }
         requires some_sources { 0 < sources }
-        requires few_sources { sources ≤ most_sources }
+        requires few_sources { sources ≤ max_sources }
         ensures { IfOk result (λ dropped. dropped ≡ unknown_rows rows sources) }
     {
         let (rows, sources) = (rows as usize, sources as usize);
@@ -61,7 +61,7 @@ impl Dropped {
     pub fn len(&self) -> u64
         ensures count { result ≡ length self.now }
         ensures each_row { HasWidth (width self.now) self.now }
-        ensures few { result ≤ most_rows }
+        ensures few { result ≤ max_rows }
     {
         self.rows as u64
     }

@@ -4,7 +4,7 @@ ghost use Rattle.std.specs.Borrow.{sem};
 ghost use Rattle.rrd_fixed.specs.declared.cell.Cell.TheVariants.{Unknown};
 ghost use Rattle.rrd_ring.specs.Ring.Slices.{LendsPart, LendsAsMany};
 ghost use Rattle.rrd_ring.specs.Ring.{from_place, with_unwritten};
-ghost use Rattle.rrd_ring.specs.Rows.{most_rows, most_sources};
+ghost use Rattle.rrd_ring.specs.Rows.{max_rows, max_sources};
 
 use rrd_fixed::{Cell, Meter};
 use std::alloc::{AllocError, Global};
@@ -23,10 +23,10 @@ pub(crate) fn wrap(place: usize, rows: usize) -> usize
 
 // Returns the number of cells in `rows` rows of `sources` cells each.
 pub(crate) fn cells_of(rows: usize, sources: usize) -> usize
-    requires few_rows { rows ≤ most_rows }
-    requires few_sources { sources ≤ most_sources }
+    requires few_rows { rows ≤ max_rows }
+    requires few_sources { sources ≤ max_sources }
     ensures count { result ≡ rows * sources }
-    ensures few { result ≤ most_rows * most_sources }
+    ensures few { result ≤ max_rows * max_sources }
 {
     rows * sources
 }
@@ -48,8 +48,8 @@ pub(crate) fn unknown_cells(
 // there is no such cell, the `oldest` rows before the oldest row's index if the written cells end there or before, and
 // else all `rows` rows.
 pub(crate) fn rows_written(cells: usize, rows: usize, sources: usize, oldest: usize) -> usize
-    requires few_rows { rows ≤ most_rows }
-    requires few_sources { sources ≤ most_sources }
+    requires few_rows { rows ≤ max_rows }
+    requires few_sources { sources ≤ max_sources }
     requires within { oldest < rows }
     ensures none { cells ≡ 0 → result ≡ 0 }
     ensures part { 0 < cells → cells ≤ oldest * sources → result ≡ oldest }
@@ -82,7 +82,7 @@ pub(crate) fn rows_together(written: usize, place: usize, most: usize) -> usize
 // Returns `count` cells of a ring's vector from cell `start` on. The cells are those of whole rows that are written, or
 // of one row that isn't.
 pub(crate) fn row_from(cells: &[Cell], start: usize, count: usize) -> &[Cell]
-    requires few { length cells.now ≤ start → count ≤ most_sources }
+    requires few { length cells.now ≤ start → count ≤ max_sources }
     requires whole { start < length cells.now → start + count ≤ length cells.now }
     ensures { (all : ℕ) → start + count ≤ all
         → result.now ≡ take count (drop start (with_unwritten all cells.now)) }
@@ -100,8 +100,8 @@ fn push_part(
     start: usize,
     count: usize,
 ) -> Result<(), AllocError>
-    requires few { count ≤ most_rows * most_sources }
-    requires short { vec_len copies.old ≤ 2 * most_rows * most_sources }
+    requires few { count ≤ max_rows * max_sources }
+    requires short { vec_len copies.old ≤ 2 * max_rows * max_sources }
     ensures { (all : ℕ) → length ring.now ≤ all → start + count ≤ all → OnOk result (copies.new.items
         ≡ copies.old.items ++ take count (drop start (with_unwritten all ring.now))) }
 {
@@ -124,8 +124,8 @@ pub(crate) fn push_from(
     requires within { start ≤ all }
     requires written { length ring.now ≤ all }
     requires few { count ≤ all }
-    requires small { all ≤ most_rows * most_sources }
-    requires short { vec_len copies.old ≤ most_rows * most_sources }
+    requires small { all ≤ max_rows * max_sources }
+    requires short { vec_len copies.old ≤ max_rows * max_sources }
     ensures { OnOk result (copies.new.items
         ≡ copies.old.items ++ take count (from_place start (with_unwritten all ring.now))) }
 {

@@ -134,7 +134,7 @@ update_suffices limits now old is may =
         few_sources = is.few_sources;
         some_archive = omega (arith, count, is.some_archive);
         few_archives = omega (arith, count, is.few_archives);
-        few_cells = subst (λ n. n ≤ limits.most_cells) (sym all_cells) is.few_cells;
+        few_cells = subst (λ n. n ≤ limits.max_cells) (sym all_cells) is.few_cells;
         sources_are = is.sources_are;
         names_differ = is.names_differ;
         raws_are = may.raws_are;
@@ -245,7 +245,7 @@ tune_suffices limits now olds is may =
         few_sources = omega (arith, count, is.few_sources);
         some_archive = is.some_archive;
         few_archives = is.few_archives;
-        few_cells = subst (λ n. n * sum (rows_of_archives now.archives) ≤ limits.most_cells) (sym count) is.few_cells;
+        few_cells = subst (λ n. n * sum (rows_of_archives now.archives) ≤ limits.max_cells) (sym count) is.few_cells;
         sources_are = sources_then limits now.sources olds is.sources_are may.each;
         names_differ = may.names_differ;
         raws_are = accepted_then limits now.sources now.raws olds is.raws_are may.each;
@@ -288,7 +288,7 @@ row_count limits sources steps [] index is = refl
 row_count limits sources steps (archive ∷ archives) zero is = is.0.rows_are
 row_count limits sources steps (archive ∷ archives) (suc index) is = row_count limits sources steps archives index is.1
 
-resized_valid : (limits : Limits) (sources steps : ℕ) (archives : List Rra) (index : ℕ) (rows : List (List Cell)) → AllByRecursion (IsValidArchiveWithin limits sources steps) archives → 0 < length rows → length rows ≤ limits.most_rows → AllByRecursion (IsRow sources) rows
+resized_valid : (limits : Limits) (sources steps : ℕ) (archives : List Rra) (index : ℕ) (rows : List (List Cell)) → AllByRecursion (IsValidArchiveWithin limits sources steps) archives → 0 < length rows → length rows ≤ limits.max_rows → AllByRecursion (IsRow sources) rows
     → AllByRecursion (IsValidArchiveWithin limits sources steps) (with_rows_at archives index rows)
 resized_valid limits sources steps [] index rows is some few each = tt
 resized_valid limits sources steps (archive ∷ archives) zero rows is some few each = (
@@ -310,7 +310,7 @@ resized_valid limits sources steps (archive ∷ archives) (suc index) rows is so
 -- the rows of the resized archive
 record AreRows (limits : Limits) (sources : ℕ) (rows : List (List Cell)) : Type 0 where
   pub some : 0 < length rows
-  pub few : length rows ≤ limits.most_rows
+  pub few : length rows ≤ limits.max_rows
   pub each : AllByRecursion (IsRow sources) rows
 
 resized_here : (limits : Limits) (sources steps : ℕ) (archives : List Rra) (index : ℕ) (rows : List (List Cell)) → index < length archives → AllByRecursion (IsValidArchiveWithin limits sources steps) (with_rows_at archives index rows) → AreRows limits sources rows
@@ -338,7 +338,7 @@ resize_suffices limits now archive rows is may =
         few_sources = is.few_sources;
         some_archive = omega (arith, count, is.some_archive);
         few_archives = omega (arith, count, is.few_archives);
-        few_cells = subst (λ all. length now.sources * sum all ≤ limits.most_cells) (resized_rows now.archives archive rows) may.old_rows.few_cells;
+        few_cells = subst (λ all. length now.sources * sum all ≤ limits.max_cells) (resized_rows now.archives archive rows) may.old_rows.few_cells;
         sources_are = is.sources_are;
         names_differ = is.names_differ;
         raws_are = is.raws_are;
@@ -358,7 +358,7 @@ resize_needed limits now archive rows is fits then =
         some = here.some;
         few = here.few;
         another = λ same. fits.another (same ∙ sym was);
-        few_cells = subst (λ all. length now.sources * sum all ≤ limits.most_cells) (sym (resized_rows now.archives archive rows)) then.few_cells;
+        few_cells = subst (λ all. length now.sources * sum all ≤ limits.max_cells) (sym (resized_rows now.archives archive rows)) then.few_cells;
       };
       each_row = here.each;
     }
@@ -372,7 +372,7 @@ added_suffices limits now is may =
     let n = length now.archives - 1 in
     let count = length-take n now.archives in
     let P = IsValidArchiveWithin limits (length now.sources) (now.last / now.step) in
-    ((may.0, two), valid_with limits now (take n now.archives) is (omega (arith, count, two)) (omega (arith, count, is.few_archives)) (fewer_taken (length now.sources) limits.most_cells now.archives n is.few_cells) (All-take P n now.archives is.archives_are))
+    ((may.0, two), valid_with limits now (take n now.archives) is (omega (arith, count, two)) (omega (arith, count, is.few_archives)) (fewer_taken (length now.sources) limits.max_cells now.archives n is.few_cells) (All-take P n now.archives is.archives_are))
 
 added_needed : (limits : Limits) (now : Content) → OutlineIsNeeded limits now AddedEntry
 added_needed limits now is fits then =
@@ -405,7 +405,7 @@ removed_suffices limits now number archive is may =
     } in (
       (may.0, record { there = there; one_part_each = may.1.parts_are.one_each; rows_are = may.1.rows_are; one_cell_each = rows_wide n archive.rows may.1.each_row }),
       valid_with limits now (insert now.archives number archive) is (omega (arith, count)) (omega (arith, count, defs, may.1.number_is.few))
-          (subst (λ (all : ℕ). n * all ≤ limits.most_cells) (rows_inserted now.archives number archive) may.1.settings_are.few_cells)
+          (subst (λ (all : ℕ). n * all ≤ limits.max_cells) (rows_inserted now.archives number archive) may.1.settings_are.few_cells)
           (All-append P (take number now.archives) (archive ∷ drop number now.archives) (All-take P number now.archives is.archives_are) (this, All-drop P number now.archives is.archives_are)),
     )
 
@@ -434,7 +434,7 @@ removed_needed limits now number archive is fits then =
                     xff_high = this.xff_high;
                   };
               few_cells =
-                  subst (λ (all : ℕ). n * all ≤ limits.most_cells) (sym (rows_inserted now.archives number archive)) then.few_cells;
+                  subst (λ (all : ℕ). n * all ≤ limits.max_cells) (sym (rows_inserted now.archives number archive)) then.few_cells;
             };
         parts_are = this.parts_are;
         rows_are = this.rows_are;

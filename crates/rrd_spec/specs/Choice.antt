@@ -68,8 +68,8 @@ taken asked start list = option_or (best (is_nearer asked) (filter (covers start
 -- the checks of a fetch that do not depend on the database
 abbrev pub span_checks : Limits → FetchRequest → List Check
 span_checks limits request =
-    ◌refuses◌ (nat_lt limits.latest_time request.start) BadTime
-    ∷ ◌refuses◌ (nat_lt limits.latest_time request.end) BadTime
+    ◌refuses◌ (nat_lt limits.max_time request.start) BadTime
+    ∷ ◌refuses◌ (nat_lt limits.max_time request.end) BadTime
     ∷ ◌refuses◌ (nat_lt request.end request.start) BadSpan
     ∷ []
 
@@ -90,7 +90,7 @@ span_rows chosen = (chosen.hi - chosen.lo) / chosen.res
 abbrev pub span_of : Limits → FetchRequest → Option Candidate → Result Chosen Refusal
 span_of limits request None = Err NoArchiveForFunction
 span_of limits request (Some one) =
-    if nat_lt limits.longest_span (span_rows (span request one)) then Err SpanTooLong else Ok (span request one)
+    if nat_lt limits.max_span (span_rows (span request one)) then Err SpanTooLong else Ok (span request one)
 
 abbrev pub unless_refused : Option Refusal → Result Chosen Refusal → Result Chosen Refusal
 unless_refused None answer = answer

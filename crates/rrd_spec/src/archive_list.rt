@@ -3,7 +3,7 @@ ghost use Rattle.std.specs.Prelude.{◌≡◌, ◌<◌, ◌≤◌, ◌++◌, ◌
 ghost use Rattle.std.specs.Borrow.{sem};
 ghost use Rattle.rrd_spec.specs.Limits.{present};
 
-use crate::limits::MOST_ARCHIVES;
+use crate::limits::MAX_ARCHIVES;
 use std::alloc::{AllocError, Global};
 use std::marker::Model;
 
@@ -24,7 +24,7 @@ impl<T> Model for ArchiveList<T> {
 
     ghost view = { λ l. l.items.items };
 
-    ghost invariant = { λ l. present.most_archives ≤ vec_capacity l.items };
+    ghost invariant = { λ l. present.max_archives ≤ vec_capacity l.items };
 }
 
 impl<T> ArchiveList<T> {
@@ -38,7 +38,7 @@ impl<T> ArchiveList<T> {
         ensures { IfOk result (λ list. list ≡ []) }
     {
         Ok(ArchiveList {
-            items: Vec::with_capacity(alloc, MOST_ARCHIVES)?,
+            items: Vec::with_capacity(alloc, MAX_ARCHIVES)?,
         })
     }
 
@@ -85,7 +85,7 @@ impl<T> ArchiveList<T> {
 impl<T: Drop> ArchiveList<T> {
     /// Adds an item at the end, of a list with fewer than 128 items. Does not allocate.
     pub fn push(&mut self, item: T)
-        requires { length self.old < present.most_archives }
+        requires { length self.old < present.max_archives }
         ensures { self.new ≡ self.old ++ item ∷ [] }
     {
         self.items.push_reserved(item);
@@ -96,7 +96,7 @@ impl<T: Drop> ArchiveList<T> {
     /// The items after it move up by one number. The list has fewer than 128 items before. Does not allocate.
     pub fn insert(&mut self, number: usize, item: T)
         requires there { number ≤ length self.old }
-        requires room { length self.old < present.most_archives }
+        requires room { length self.old < present.max_archives }
         ensures { self.new ≡ insert self.old number item }
     {
         let _has_room = self.items.insert(number, item);

@@ -10,9 +10,9 @@ ghost use Rattle.rrd_spec.specs.Limits.{present};
 /// after it, up to the newest; the oldest row and the rows after it follow.
 pub fn first_place(resolution: u64, last: u64, rows: u64) -> u64
     requires some_seconds { 0 < resolution }
-    requires in_time { last ≤ present.latest_time }
+    requires in_time { last ≤ present.max_time }
     requires some_rows { 0 < rows }
-    requires few_rows { rows ≤ present.most_rows }
+    requires few_rows { rows ≤ present.max_rows }
     ensures place { result ≡ place_in resolution last rows 0 }
     ensures there { result < rows }
 {

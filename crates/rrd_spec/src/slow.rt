@@ -19,7 +19,7 @@ ghost use Rattle.rrd_spec.specs.Limits.{present};
 ghost use Rattle.rrd_spec.specs.Slow.{AreInOrder, AreNewest, IsGroup, cell_of, event_of, function_of, latest, rule_of, size_of, taken_of};
 ghost use Rattle.rrd_spec.specs.Validity.{AreAccepted, AreParts, IsPart, IsRow};
 
-use crate::limits::LATEST_TIME;
+use crate::limits::MAX_TIME;
 use crate::{CreateSpec, DsDef, List, RraDef, are_accepted};
 use rrd_fixed::{Cell, MILLIONTHS, Raw, near};
 use rrd_fold::Function;
@@ -98,7 +98,7 @@ impl Part {
     // Returns the cell of a step of `step` seconds with this part.
     fn step_cell(self, step: u64) -> Cell
         requires some { 0 < step }
-        requires few { step ≤ present.longest_step }
+        requires few { step ≤ present.max_step_seconds }
         requires part { IsPart Average step self }
         ensures { result ≡ step_cell step self }
     {
@@ -387,7 +387,7 @@ pub fn are_in_order(sources: &[DsDef], start: u64, readings: &[Reading]) -> bool
 {
     let mut last = start;
     for reading in readings {
-        if reading.time <= last || reading.time > LATEST_TIME {
+        if reading.time <= last || reading.time > MAX_TIME {
             return false;
         }
         if !are_accepted(sources, reading.raws.as_slice()) {

@@ -12,8 +12,8 @@ ghost use Rattle.rrd_undo.specs.Databases.{IsDatabase};
 
 use crate::Bytes;
 use crate::page::{
-    LEAST, PAGE, difference_end, first_difference, front_page, is_database, next_page, page_from,
-    read_page,
+    MIN_DATABASE_SIZE, PAGE, difference_end, first_difference, front_page, is_database, next_page,
+    page_from, read_page,
 };
 use crate::recovery::settle;
 use crate::tail::{Syncs, Tail, sync};
@@ -126,7 +126,7 @@ impl Change {
             → Agreeing old new (F.held file.old) done → IsBroken old self.new (F.held file.new)) }
     {
         self.stage = Stage::Unkept;
-        if LEAST <= self.old_length {
+        if MIN_DATABASE_SIZE <= self.old_length {
             make_room(file, self.old_length, self.length, &mut self.tail.buffer)?;
         }
         file.put_whole(0, &SPOILED)?;
@@ -248,7 +248,7 @@ impl Change {
             → settled (F.held file.new) ≡ old) }
     {
         let old = self.old_first.as_slice();
-        if old.len() < LEAST || first.len() < LEAST {
+        if old.len() < MIN_DATABASE_SIZE || first.len() < MIN_DATABASE_SIZE {
             return Err(Error::from(ErrorKind::InvalidData));
         }
         let from = first_difference(old, first);
@@ -395,7 +395,9 @@ impl Change {
                 settle(file, &mut self.old_page)?;
                 Ok(())
             }
-            Stage::Spoiled if LEAST <= self.old_length => self.leave_front(file, first, count),
+            Stage::Spoiled if MIN_DATABASE_SIZE <= self.old_length => self.leave_front(
+                file, first, count,
+            ),
             Stage::Unkept | Stage::Spoiled => self.restore(file),
         }
     }

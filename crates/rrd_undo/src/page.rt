@@ -11,7 +11,7 @@ use std::io::{self, Error, ErrorKind};
 pub const PAGE: usize = 4_096;
 
 /// The minimum length of a database in bytes: the length of an undo mark.
-pub(crate) const LEAST: usize = 16;
+pub(crate) const MIN_DATABASE_SIZE: usize = 16;
 
 /// Returns the offset of the page that follows the page at byte `at`.
 pub(crate) fn next_page(at: usize) -> io::Result<usize>
@@ -73,7 +73,7 @@ pub(crate) fn first_difference(old: &[u8], new: &[u8]) -> usize
     ensures new { result ≤ length new.now }
     ensures same { (k : ℕ) → 16 ≤ k → k < result → slice_index old.now k ≡ slice_index new.now k }
 {
-    let mut at = LEAST;
+    let mut at = MIN_DATABASE_SIZE;
     while at < old.len() && at < new.len() && old[at] == new[at] {
         at += 1;
     }
@@ -100,5 +100,5 @@ pub(crate) fn difference_end(old: &[u8], new: &[u8], from: usize) -> usize
 pub(crate) fn is_database(bytes: &[u8]) -> bool
     ensures { IsTrue result ↔ IsDatabase bytes.now }
 {
-    bytes.len() >= LEAST && &bytes[..4] == &DATABASE_MARK[..]
+    bytes.len() >= MIN_DATABASE_SIZE && &bytes[..4] == &DATABASE_MARK[..]
 }

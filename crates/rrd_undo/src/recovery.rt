@@ -8,7 +8,7 @@ ghost use Rattle.rrd_undo.specs.Settling.{IsPutBack, IsSlotFound, IsUndone};
 ghost use Rattle.rrd_undo.specs.Undoing.{IsToCut};
 
 use crate::Bytes;
-use crate::page::{LEAST, PAGE};
+use crate::page::{MIN_DATABASE_SIZE, PAGE};
 use crate::tail::{SLOT, SLOT_HEADER, Syncs, cut_front, finish, place_of_slot};
 use rrd_tail::{DATABASE_MARK, Mark, Record, Shape, SlotHeader, read_mark, read_slot};
 use std::io::{self, Error, ErrorKind};
@@ -232,7 +232,7 @@ pub fn settle<F: Bytes>(file: &mut F, buffer: &mut Vec<u8>) -> io::Result<Settle
     ensures ok { OnOk result (IsTrue F.is_known → F.held file.new ≡ settled (F.held file.old)) }
 {
     let file_length = file.len()?;
-    file.read(0, file_length.min(LEAST), buffer)?;
+    file.read(0, file_length.min(MIN_DATABASE_SIZE), buffer)?;
     match read_mark(buffer) {
         None => Ok(Settled::AsItWas),
         Some(Mark::Cut(shape)) => settle_cut(file, file_length, shape, buffer),

@@ -17,13 +17,13 @@ use Rattle.rrd_base.specs.Tune.{with_kept}
 -- an outline whose numbers of rows and steps are within the limits: that of a valid content, or of one that is partly
 -- read
 pub record IsOutline (outline : Outline) : Type 0 where
-  pub few_sources : length outline.sources ≤ present.most_sources
+  pub few_sources : length outline.sources ≤ present.max_sources
   pub archives_are : AllByRecursion (IsArchiveDef present) outline.archives
-  pub few_rows : sum (rows_of outline.archives) ≤ present.most_cells
+  pub few_rows : sum (rows_of outline.archives) ≤ present.max_cells
 
 pub record IsJudge (j : Judge) : Type 0 where
   pub some_step : 0 < j.step
-  pub small_step : j.step ≤ present.longest_step
+  pub small_step : j.step ≤ present.max_step_seconds
   pub outline_is : IsOutline j.outline
 
 -- the outline of a content that is valid within the limits of a version

@@ -22,7 +22,7 @@ use rrd_fixed::{Cell, Name};
 use rrd_fold::{RowPrep, StepPrep};
 use rrd_ring::{Archive, Table};
 use rrd_spec::are_accepted;
-use rrd_spec::limits::MOST_SOURCES;
+use rrd_spec::limits::MAX_SOURCES;
 
 // ---- rows
 
@@ -155,8 +155,8 @@ fn are_named(judge: &Judge, olds: &[SourceBefore]) -> bool
 }
 
 // Copies the names of data sources. Does not allocate.
-fn names_of(sources: &[DsDef]) -> ArrayVec<Name, MOST_SOURCES>
-    requires { length sources.now ≤ present.most_sources }
+fn names_of(sources: &[DsDef]) -> ArrayVec<Name, MAX_SOURCES>
+    requires { length sources.now ≤ present.max_sources }
     ensures { result.items ≡ names sources.now }
 {
     let mut all = ArrayVec::new();
@@ -167,8 +167,8 @@ fn names_of(sources: &[DsDef]) -> ArrayVec<Name, MOST_SOURCES>
 }
 
 // Returns the names of data sources after a tune's entry is undone.
-fn names_with(sources: &[DsDef], olds: &[SourceBefore]) -> ArrayVec<Name, MOST_SOURCES>
-    requires { length sources.now ≤ present.most_sources }
+fn names_with(sources: &[DsDef], olds: &[SourceBefore]) -> ArrayVec<Name, MAX_SOURCES>
+    requires { length sources.now ≤ present.max_sources }
     ensures { result.items ≡ names (with_sources sources.now olds.now) }
 {
     let mut all = names_of(sources);
@@ -207,7 +207,7 @@ fn may_add(judge: &Judge) -> bool
     ensures good { result ≡ true → MayUndo (limits_of judge.now.version) 0 judge.now.outline AddedEntry }
     ensures bad { MayUndo (limits_of judge.now.version) 0 judge.now.outline AddedEntry → result ≡ true }
 {
-    judge.archives_come_and_go() && judge.outline().archives.len() > 1
+    judge.allows_archive_changes() && judge.outline().archives.len() > 1
 }
 
 // Returns whether a removal may have left this outline.
@@ -239,7 +239,7 @@ impl Judge {
             Entry::Resize { archive, old } => may_resize(self, *archive, old),
             Entry::Added => may_add(self),
             Entry::Removed { archive, old } => {
-                self.archives_come_and_go() && may_remove(self, *archive, old)
+                self.allows_archive_changes() && may_remove(self, *archive, old)
             }
         }
     }

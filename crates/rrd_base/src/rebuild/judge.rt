@@ -11,7 +11,7 @@ ghost use Rattle.rrd_spec.specs.Files.Rebuilding.{IsRowPart};
 ghost use Rattle.rrd_spec.specs.Journal.Entries.{rows_between};
 ghost use Rattle.rrd_spec.specs.Journal.Fitting.{AreOldRows, AreRemovedSettings, IsArchiveDef, IsRemovedNumber, IsSourceBefore};
 ghost use Rattle.rrd_spec.specs.Journal.Outlines.{outline_undone};
-ghost use Rattle.rrd_spec.specs.Limits.{archives_come_and_go_of, limits_of, most_tuned, present};
+ghost use Rattle.rrd_spec.specs.Limits.{allows_archive_changes_of, limits_of, max_tuned, present};
 ghost use Rattle.rrd_spec.specs.Validity.{IsPart};
 
 use super::outline::undo;
@@ -22,7 +22,7 @@ use crate::rows::{all_rows, rows_between};
 use crate::{ArchiveList, DsDef, List, Outline, RraDef, SourceBefore};
 use rrd_fold::{Function, RowPrep, StepPrep};
 use rrd_spec::Version;
-use rrd_spec::limits::MOST_TUNED;
+use rrd_spec::limits::MAX_TUNED;
 use std::alloc::{AllocError, Global};
 use std::marker::Model;
 
@@ -57,7 +57,7 @@ impl Judge {
         last: u64,
     ) -> Result<Judge, AllocError>
         requires some_step { 0 < step }
-        requires small_step { step ≤ present.longest_step }
+        requires small_step { step ≤ present.max_step_seconds }
         ensures { IfOk result (λ judge. judge ≡ record {
           version = version;
           step = step;
@@ -77,7 +77,7 @@ impl Judge {
 
     /// Adds the settings of one more data source. On error, the judge is unchanged.
     pub(super) fn push_source(&mut self, def: DsDef) -> Result<(), AllocError>
-        requires { length self.old.outline.sources < present.most_sources }
+        requires { length self.old.outline.sources < present.max_sources }
         ensures ok { OnOk result (self.new ≡ record self.old {
           outline = record self.old.outline { sources = self.old.outline.sources ++ def ∷ [] };
         }) }
@@ -88,7 +88,7 @@ impl Judge {
 
     /// Adds the settings of one more archive. Does not allocate.
     pub(super) fn push_archive(&mut self, def: RraDef)
-        requires few { length self.old.outline.archives < present.most_archives }
+        requires few { length self.old.outline.archives < present.max_archives }
         requires good { IsOutline (record self.old.outline { archives = self.old.outline.archives ++ def ∷ [] }) }
         ensures { self.new ≡ record self.old {
           outline = record self.old.outline { archives = self.old.outline.archives ++ def ∷ [] };
@@ -109,7 +109,7 @@ impl Judge {
     /// Returns the outline.
     pub(super) fn outline(&self) -> &Outline
         ensures value { result.now ≡ self.now.outline }
-        ensures few_sources { length result.now.sources ≤ present.most_sources }
+        ensures few_sources { length result.now.sources ≤ present.max_sources }
     {
         &self.outline
     }
@@ -138,7 +138,7 @@ impl Judge {
     /// Returns whether these values can be a data source's partial step at `last`, in seconds since 1970. `known` is
     /// the number of known seconds, and `sum` the sum of their rates in millionths.
     pub(super) fn is_step_part(&self, last: u64, known: u64, sum: i128) -> bool
-        ensures few { result ≡ true → known ≤ present.longest_step }
+        ensures few { result ≡ true → known ≤ present.max_step_seconds }
         ensures good { result ≡ true → IsPart Average (last % self.now.step) (record { known = known; value = sum }) }
         ensures bad { IsPart Average (last % self.now.step) (record { known = known; value = sum }) → result ≡ true }
     {
@@ -166,7 +166,7 @@ impl Judge {
     /// millionths.
     pub(super) fn is_row_part(&self, last: u64, def: &RraDef, known: u64, value: i128) -> bool
         requires some_steps { 0 < def.now.steps }
-        requires few_steps { def.now.steps ≤ present.most_steps }
+        requires few_steps { def.now.steps ≤ present.max_steps_per_row }
         ensures good { result ≡ true
             → IsRowPart self.now.step last def.now (record { known = known; value = value }) }
         ensures bad { IsRowPart self.now.step last def.now (record { known = known; value = value })
@@ -181,7 +181,7 @@ impl Judge {
     /// or last value in millionths. Returns `None` if no partial row can have these values.
     pub fn row_part(&self, last: u64, def: &RraDef, known: u64, value: i128) -> Option<RowPrep>
         requires some_steps { 0 < def.now.steps }
-        requires few_steps { def.now.steps ≤ present.most_steps }
+        requires few_steps { def.now.steps ≤ present.max_steps_per_row }
         ensures some { IfSome result (λ prep. IsRowPart self.now.step last def.now prep.part
             × (prep ≡ record { function = def.now.function; part = record { known = known; value = value } })) }
         ensures none { result ≡ None
@@ -198,7 +198,7 @@ impl Judge {
     /// `last` is in seconds since 1970.
     pub fn rows_replaced(&self, last: u64, def: &RraDef) -> u64
         requires some_steps { 0 < def.now.steps }
-        requires few_steps { def.now.steps ≤ present.most_steps }
+        requires few_steps { def.now.steps ≤ present.max_steps_per_row }
         ensures { result ≡ min (rows_between self.now.step def.now last self.now.outline.last) def.now.rows }
     {
         rows_between(def, self.step, last, self.outline.last).min(def.rows)
@@ -208,17 +208,17 @@ impl Judge {
 
     /// Returns whether a tune can have named `count` data sources: 1 to 5.
     pub fn can_name(count: u64) -> bool
-        ensures good { result ≡ true → (0 < count) × (count ≤ most_tuned) }
-        ensures bad { (0 < count) × (count ≤ most_tuned) → result ≡ true }
+        ensures good { result ≡ true → (0 < count) × (count ≤ max_tuned) }
+        ensures bad { (0 < count) × (count ≤ max_tuned) → result ≡ true }
     {
-        0 < count && count <= MOST_TUNED as u64
+        0 < count && count <= MAX_TUNED as u64
     }
 
     /// Returns whether a tune can have named this data source.
     ///
     /// The number of the data source must be at least `lowest`.
     pub fn is_named(&self, lowest: u64, old: &SourceBefore) -> bool
-        ensures few { result ≡ true → old.now.number < present.most_sources }
+        ensures few { result ≡ true → old.now.number < present.max_sources }
         ensures good { result ≡ true → (lowest ≤ old.now.number) × (old.now.number < length self.now.outline.sources)
             × IsSourceBefore (limits_of self.now.version) old.now }
         ensures bad { (lowest ≤ old.now.number) × (old.now.number < length self.now.outline.sources)
@@ -252,16 +252,16 @@ impl Judge {
             return false;
         }
         let all = all_rows(archives) - held + rows;
-        !has_too_many_cells(self.version.most_cells(), self.outline.sources.len(), all)
+        !has_too_many_cells(self.version.max_cells(), self.outline.sources.len(), all)
     }
 
     // ---- entries of archives that were added or removed
 
     /// Returns whether the version has entries for added and removed archives.
-    pub fn archives_come_and_go(&self) -> bool
-        ensures { result ≡ archives_come_and_go_of self.now.version }
+    pub fn allows_archive_changes(&self) -> bool
+        ensures { result ≡ allows_archive_changes_of self.now.version }
     {
-        self.version.archives_come_and_go()
+        self.version.allows_archive_changes()
     }
 
     /// Returns whether a removed archive can have had this number.
@@ -272,7 +272,7 @@ impl Judge {
         ensures bad { IsRemovedNumber (limits_of self.now.version) self.now.outline number → result ≡ true }
     {
         let archives = self.outline.archives.len();
-        number <= archives as u64 && archives < self.version.most_archives()
+        number <= archives as u64 && archives < self.version.max_archives()
     }
 
     /// Returns whether an archive of these settings may be added to those of the outline.
@@ -286,6 +286,6 @@ impl Judge {
             return false;
         }
         let all = all_rows(self.outline.archives.as_slice()) + def.rows;
-        !has_too_many_cells(self.version.most_cells(), self.outline.sources.len(), all)
+        !has_too_many_cells(self.version.max_cells(), self.outline.sources.len(), all)
     }
 }

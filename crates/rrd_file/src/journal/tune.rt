@@ -2,7 +2,7 @@
 ghost use Rattle.std.specs.Prelude.{◌≡◌, ◌<◌, ◌≤◌, ◌^◌, ◌∷◌, [], ◌≢◌, ◌+◌, ◌++◌, ℕ, IfOk, IfSome, List, None, length, map};
 ghost use Rattle.std.specs.List.{AllByRecursion};
 ghost use Rattle.rrd_spec.specs.Journal.Entries.{TuneEntry};
-ghost use Rattle.rrd_spec.specs.Limits.{most_tuned, present};
+ghost use Rattle.rrd_spec.specs.Limits.{max_tuned, present};
 ghost use Rattle.rrd_spec.specs.declared.entry.SourceBefore.{SourceBefore};
 ghost use Rattle.rrd_spec.specs.Files.Rebuilding.{outline_left};
 ghost use Rattle.rrd_base.specs.Journal.{entry_of};
@@ -29,7 +29,7 @@ use std::io::{Read, Write};
 // Writes the tag of a tune, and the number of data sources that the tune named.
 #[tactic(auto, unfolding(crate::specs::Layout::Pieces::spell))]
 fn write_tuned<W: Write>(out: &mut PieceWriter<'_, W>, count: usize) -> Result<(), WriteFault>
-    requires { count ≤ most_tuned }
+    requires { count ≤ max_tuned }
     ensures { Gathers W.contents out.old out.new
         (spelled (OfTag ATune ∷ OfCount count ∷ [])) result }
 {
@@ -76,7 +76,7 @@ pub(super) fn write_tune<W: Write>(
     out: &mut PieceWriter<'_, W>,
     olds: &[SourceBefore],
 ) -> Result<(), WriteFault>
-    requires few { length olds.now ≤ most_tuned }
+    requires few { length olds.now ≤ max_tuned }
     requires numbers { AllByRecursion HasSmallNumber olds.now }
     ensures { Gathers W.contents out.old out.new
         (spelled (entry_pieces (TuneEntry olds.now))) result }
@@ -111,7 +111,7 @@ fn read_count<R: Read + Drop>(input: &mut PieceReader<R>, build: &Rebuild) -> Re
         → Comes bytes build.now pieces (CountDue ∷ later) input.old
         → Brings bytes build.now (λ count. pieces ++ OfCount count ∷ []) (λ count. named_due 0 count ++ later)
         input.new result }
-    ensures few { IfOk result (λ count. count ≤ most_tuned) }
+    ensures few { IfOk result (λ count. count ≤ max_tuned) }
 {
     let mut piece = [0u8; COUNT_SIZE];
     input.piece(&mut piece)?;
@@ -132,7 +132,7 @@ fn read_named_source<R: Read + Drop>(
         → Comes bytes build.now pieces (NamedDue lowest more ∷ []) input.old
         → Brings bytes build.now (λ old. pieces ++ OfSourceBefore old ∷ []) (λ old. named_due (old.number + 1) more)
         input.new result }
-    ensures few { IfOk result (λ old. old.number < present.most_sources) }
+    ensures few { IfOk result (λ old. old.number < present.max_sources) }
 {
     let mut piece = [0u8; BEFORE_TUNE_SIZE];
     input.piece(&mut piece)?;

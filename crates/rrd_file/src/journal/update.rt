@@ -79,7 +79,7 @@ fn write_raws_and_parts<W: Write>(
 // Writes a number of rows.
 #[tactic(auto, unfolding(crate::specs::Layout::Pieces::spell))]
 fn write_row_count<W: Write>(out: &mut PieceWriter<'_, W>, rows: u64) -> Result<(), WriteFault>
-    requires { rows ≤ present.most_rows }
+    requires { rows ≤ present.max_rows }
     ensures { Gathers W.contents out.old out.new (spell (OfRows rows)) result }
 {
     out.make_room()?;
@@ -210,7 +210,7 @@ fn read_row_count<R: Read + Drop>(
         → Brings bytes build.now (λ rows. pieces ++ OfRows rows ∷ []) (λ rows. later) input.new result }
     ensures value { IfOk result (λ rows. rows
         ≡ min (rows_between build.now.header.step def.now last (outline_left build.now).last) def.now.rows) }
-    ensures few { IfOk result (λ rows. rows ≤ present.most_rows) }
+    ensures few { IfOk result (λ rows. rows ≤ present.max_rows) }
 {
     let mut piece = [0u8; ROWS_SIZE];
     input.piece(&mut piece)?;

@@ -11,8 +11,8 @@ pub overflow_add-all_rows : goal.overflow_add-all_rows
 overflow_add-all_rows c =
     omega (arith, few_sum c.args.archives.now c.requires.few_rows, c.all_rows.ensures, c.requires.few_archives, c.requires.few)
 
-pub returns-else-archives-ge-MOST_ARCHIVES : goal.returns-else-archives-ge-MOST_ARCHIVES
-returns-else-archives-ge-MOST_ARCHIVES c =
+pub returns-else-archives-ge-MAX_ARCHIVES : goal.returns-else-archives-ge-MAX_ARCHIVES
+returns-else-archives-ge-MAX_ARCHIVES c =
     let rows = rows_of_archives c.args.archives.now in
     let all = rows ++ c.args.rows ∷ [] in
     let n = c.args.sources in

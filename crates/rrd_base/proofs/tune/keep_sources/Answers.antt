@@ -1,6 +1,6 @@
 use Rattle.std.proofs.Common.{◌≡◌, refl, sym, ◌∙◌, ap, suc, ◌+◌, ◌<◌, ◌≤◌, true, false, cond, [], ◌∷◌, ◌++◌, take, get_or, length, length-append, append-nil, arith, lit<}
 use Rattle.rrd_fixed.specs.declared.raw.Raw.TheVariants.{Unknown}
-use Rattle.rrd_spec.specs.Limits.{most_tuned}
+use Rattle.rrd_spec.specs.Limits.{max_tuned}
 use Rattle.rrd_spec.specs.declared.settings.DsDef.{DsDef}
 use Rattle.rrd_spec.specs.declared.entry.SourceBefore.{SourceBefore}
 use Rattle.rrd_spec.specs.Journal.Entries as entries
@@ -23,7 +23,7 @@ push-requires c =
     = more ∙ ap (λ b. entries.sources_before tuning 0 (take i sources) (take i raws) ++ cond b (h ∷ []) []) named ∙ ap (λ zs. zs ++ h ∷ []) (sym c.loop-place.invariant) in
     let few = before_few tuning 0 (suc i) sources raws in
     let count : length (c.loop-place.kept.items ++ h ∷ []) ≡ length c.loop-place.kept.items + 1 = omega (arith, length-append c.loop-place.kept.items (h ∷ [])) in
-    let whole : length (c.loop-place.kept.items ++ h ∷ []) ≤ most_tuned = omega (arith, ap length grown, few, c.requires.few) in
+    let whole : length (c.loop-place.kept.items ++ h ∷ []) ≤ max_tuned = omega (arith, ap length grown, few, c.requires.few) in
     (lit< tt, omega arith)
 
 pub loop-place-preserved : goal.loop-place-preserved

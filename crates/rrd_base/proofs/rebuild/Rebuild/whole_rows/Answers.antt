@@ -170,7 +170,7 @@ pass-requires-clause-few_rows c =
     let is_due : due (filed_in d) ≡ CellDue = ap due c.self.view_is ∙ sym c.due.ensures ∙ c.in-CellDue.is in
     let first = c.get.result.now in
     let here = cell_here c.cells_stand_in_slots.ensures.as_many d first cursor is c.self.invariant.cursor_is is_due c.get.ensures refl in
-    subst (λ (def : RraDef). def.rows ≤ present.most_rows) (sym c.def-def.ensures) here.so_far.def_is.few_rows
+    subst (λ (def : RraDef). def.rows ≤ present.max_rows) (sym c.def-def.ensures) here.so_far.def_is.few_rows
 
 pub invariant_of-self : goal.invariant_of-self
 invariant_of-self c =

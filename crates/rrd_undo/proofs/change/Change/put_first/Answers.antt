@@ -4,8 +4,8 @@ use Rattle.rrd_undo.proofs.Stages.{first_old_page, first_same, first_turned}
 use Rattle.rrd_undo.proofs.Undone.{undone_settled}
 use Rattle.rrd_undo.proofs.change.Change.put_first.Goals as goal
 
-pub returns-then-old-lt-LEAST-clause-err : goal.returns-then-old-lt-LEAST-clause-err
-returns-then-old-lt-LEAST-clause-err g c f old new done is knows counts all are t = undone_settled old _ _ knows.tail t.undoing.marked t.undoing.restores
+pub returns-then-old-lt-MIN_DATABASE_SIZE-clause-err : goal.returns-then-old-lt-MIN_DATABASE_SIZE-clause-err
+returns-then-old-lt-MIN_DATABASE_SIZE-clause-err g c f old new done is knows counts all are t = undone_settled old _ _ knows.tail t.undoing.marked t.undoing.restores
 
 pub returns-then-from-end-clause-ok : goal.returns-then-from-end-clause-ok
 returns-then-from-end-clause-ok g c f old new done is knows counts all are t =

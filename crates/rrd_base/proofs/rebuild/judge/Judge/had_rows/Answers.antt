@@ -38,7 +38,7 @@ returns-clause-good c = λ e.
       some = some;
       few = small;
       another = λ k. c.if-rows-held.false (k ∙ sym put.old_is);
-      few_cells = not_past (limits_of c.self.inside.version).most_cells _ (ap not (sym (c.has_too_many_cells.ensures ∙ (λ i. nat_lt (c.most_cells.ensures.value i) (c.len.ensures i * put.all_is i)))) ∙ e);
+      few_cells = not_past (limits_of c.self.inside.version).max_cells _ (ap not (sym (c.has_too_many_cells.ensures ∙ (λ i. nat_lt (c.max_cells.ensures.value i) (c.len.ensures i * put.all_is i)))) ∙ e);
     } in
     subst (λ (j : Judge). AreOldRows (limits_of j.version) j.outline c.args.archive n) c.self.view_is is
 
@@ -49,4 +49,4 @@ returns-clause-bad c = λ may.
     let there : c.args.archive < length now.archives = subst (λ (j : Judge). c.args.archive < length j.outline.archives) (sym c.self.view_is) c.requires in
     let put = rows_are_put c.as_slice-archives.result.now now.archives c.args.archive n c.all_rows.result no_def c.as_slice-archives.ensures there c.self.invariant.outline_is.few_rows c.all_rows.ensures in
     let is = subst (λ (j : Judge). AreOldRows (limits_of j.version) j.outline c.args.archive n) (sym c.self.view_is) may in
-    ap not (c.has_too_many_cells.ensures ∙ (λ i. nat_lt (c.most_cells.ensures.value i) (c.len.ensures i * put.all_is i))) ∙ past_not (limits_of c.self.inside.version).most_cells _ is.few_cells
+    ap not (c.has_too_many_cells.ensures ∙ (λ i. nat_lt (c.max_cells.ensures.value i) (c.len.ensures i * put.all_is i))) ∙ past_not (limits_of c.self.inside.version).max_cells _ is.few_cells
