@@ -7,7 +7,7 @@ ghost use Rattle.rrd_spec.specs.Journal.Entries.{SavedArchive as Saved, cells_sa
 ghost use Rattle.rrd_spec.specs.Limits.{present};
 ghost use Rattle.rrd_spec.specs.Validity.{IsValid};
 
-use crate::SourceBefore;
+use crate::SavedSource;
 use crate::content::Content;
 use crate::rra::Rra;
 use arrayvec::ArrayVec;
@@ -43,7 +43,7 @@ pub enum Entry {
     /// The database before an update.
     Update(BeforeUpdate),
     /// The data sources that a tune named, at most 5, by rising number.
-    Tune(ArrayVec<SourceBefore, MAX_TUNED>),
+    Tune(ArrayVec<SavedSource, MAX_TUNED>),
     /// The number of a resized archive, and its rows before the resize.
     Resize { archive: u64, old: Archive },
     /// An archive was added, as the last one.

@@ -23,7 +23,7 @@ use crate::journal::{Entry, put_back};
 use crate::named::has_source;
 use crate::rows::all_rows;
 use crate::rra::Rra;
-use crate::{ArchiveTune, DsDef, Refusal, RraDef, SourceBefore, Tuning};
+use crate::{ArchiveTune, DsDef, Refusal, RraDef, SavedSource, Tuning};
 use arrayvec::ArrayVec;
 use rrd_fixed::{Kind, Name, Raw};
 use rrd_spec::laws;
@@ -303,16 +303,16 @@ fn keep_sources(
     sources: &[DsDef],
     raws: &[Raw],
     tuning: &Tuning,
-) -> ArrayVec<SourceBefore, MAX_TUNED>
+) -> ArrayVec<SavedSource, MAX_TUNED>
     requires one_each { length raws.now ≡ length sources.now }
-    requires few { length (entries.sources_before tuning.now 0 sources.now raws.now) ≤ max_tuned }
-    ensures { result.items ≡ entries.sources_before tuning.now 0 sources.now raws.now }
+    requires few { length (entries.saved_sources tuning.now 0 sources.now raws.now) ≤ max_tuned }
+    ensures { result.items ≡ entries.saved_sources tuning.now 0 sources.now raws.now }
 {
     let mut kept = ArrayVec::new();
     for place in 0..sources.len() {
         let source = &sources[place];
         if is_named(tuning, source) {
-            kept.push(SourceBefore {
+            kept.push(SavedSource {
                 number: place as u64,
                 source: source.duplicate(),
                 raw: raws[place],
@@ -388,7 +388,7 @@ impl Content {
     }
 
     // Copies the data sources that an accepted tune names.
-    fn keep_sources(&self, tuning: &Tuning) -> ArrayVec<SourceBefore, MAX_TUNED>
+    fn keep_sources(&self, tuning: &Tuning) -> ArrayVec<SavedSource, MAX_TUNED>
         requires accepted { verdict.verdict self.now (commands.TuningBy tuning.now) ≡ None }
         requires alone { tuning.now.archive ≡ None }
         ensures { entries.TuneEntry result.items ≡ entries.entry self.now (commands.TuningBy tuning.now) }
@@ -398,7 +398,7 @@ impl Content {
     }
 
     /// Restores the data sources that a tune named.
-    pub(crate) fn undo_tune(&mut self, kept: &ArrayVec<SourceBefore, MAX_TUNED>)
+    pub(crate) fn undo_tune(&mut self, kept: &ArrayVec<SavedSource, MAX_TUNED>)
         requires { IsValid (entries.undone self.old (entries.TuneEntry kept.now.items)) }
         ensures { self.new ≡ entries.undone self.old (entries.TuneEntry kept.now.items) }
     {

@@ -215,7 +215,7 @@ fn read_row_prep<R: Read + Drop>(
     let mut piece = [0u8; PREP_SIZE];
     input.piece(&mut piece)?;
     let (known, value, _) = part_of(&piece);
-    match build.judge().row_part(last, def, known, value) {
+    match build.validator().row_part(last, def, known, value) {
         Some(prep) => Ok(prep),
         None => Err(bad_entry(build)),
     }

@@ -16,7 +16,7 @@ use crate::layout::{
     NUMBER_SIZE, PREP_SIZE, ROWS_SIZE, SECOND_HEADER_SIZE, SOURCE_SIZE, TAG_SIZE, TIME_SIZE,
     VERSION_SIZE,
 };
-use rrd_base::{BeforeUpdate, Database, Entry, Rra, SavedArchive, SourceBefore, database_is_valid};
+use rrd_base::{BeforeUpdate, Database, Entry, Rra, SavedArchive, SavedSource, database_is_valid};
 use rrd_ring::Archive;
 use rrd_spec::laws::{cells_stand_in_slots, outlines_judge_entries};
 
@@ -102,7 +102,7 @@ fn update_length(before: &BeforeUpdate) -> u64
 }
 
 // Returns the size of a tune's entry: the tag and a number of data sources, then those data sources.
-fn tune_length(olds: &[SourceBefore]) -> u64
+fn tune_length(olds: &[SavedSource]) -> u64
     requires { IsEntryOfSome (TuneEntry olds.now) }
     ensures count { result ≡ length (spelled (entry_pieces (TuneEntry olds.now))) }
     ensures few { result ≤ most_of_entry }

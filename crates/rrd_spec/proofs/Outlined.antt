@@ -9,7 +9,7 @@ use Rattle.rrd_fixed.specs.declared.cell.Cell.{Cell}
 use Rattle.rrd_fixed.specs.declared.raw.Raw.{Raw}
 use Rattle.rrd_fixed.specs.Rate.{IsAccepted}
 use Rattle.rrd_fold.specs.declared.function.Function.TheVariants.{Average}
-use Rattle.rrd_spec.specs.declared.entry.SourceBefore.{SourceBefore}
+use Rattle.rrd_spec.specs.declared.entry.SavedSource.{SavedSource}
 use Rattle.rrd_spec.specs.declared.outline.Outline.{Outline}
 use Rattle.rrd_spec.specs.declared.settings.DsDef.{DsDef}
 use Rattle.rrd_spec.specs.declared.settings.RraDef.{RraDef}
@@ -25,7 +25,7 @@ use Rattle.rrd_spec.specs.Laws.Journal.{JournalLeavesValid, JournalParts, Journa
 use Rattle.rrd_spec.specs.Laws.Outlines.{FiledOutline, JournalTakes, JournalTook, MayUndoEach, OutlineFollows, OutlineIsNeeded, OutlineSuffices, OutlinesAreNeeded, OutlinesSuffice}
 use Rattle.rrd_spec.specs.Lemmas.Lists.{All-append, All-at, All-drop, All-take}
 use Rattle.rrd_spec.specs.Journal.Outlines.{outline_of, outline_undone, rows_of, with_row_number, with_sources}
-use Rattle.rrd_spec.specs.Journal.Fitting.{IsSourceBefore, MaySave, MaySaveEach, MayUndo}
+use Rattle.rrd_spec.specs.Journal.Fitting.{IsSavedSource, MaySave, MaySaveEach, MayUndo}
 use Rattle.rrd_spec.specs.Journal.Survivors.{Stored}
 use Rattle.rrd_spec.proofs.ReadBack.{gives_back}
 use Rattle.rrd_spec.specs.Validity.{AreAccepted, AreParts, FitEach, FitsArchive, IsRow, IsSourceWithin, IsValidArchiveWithin, IsValidWithin, Rise}
@@ -153,18 +153,18 @@ update_needed limits now old is fits then = record {
 
 -- ---- a tune
 
-with_raws : List Raw → List SourceBefore → List Raw
-with_raws raws olds = fold (λ rs (old : SourceBefore). set rs old.number old.raw) raws olds
+with_raws : List Raw → List SavedSource → List Raw
+with_raws raws olds = fold (λ rs (old : SavedSource). set rs old.number old.raw) raws olds
 
 with_both : Content → List DsDef → List Raw → Content
 with_both now sources raws = record now { sources = sources; raws = raws }
 
-sources_undone : (now : Content) (olds : List SourceBefore) → fold with_source now olds ≡ with_both now (with_sources now.sources olds) (with_raws now.raws olds)
+sources_undone : (now : Content) (olds : List SavedSource) → fold with_source now olds ≡ with_both now (with_sources now.sources olds) (with_raws now.raws olds)
 unfolding with_raws with_both
 sources_undone now [] = refl
 sources_undone now (old ∷ olds) = sources_undone (with_source now old) olds
 
-sources_count : (sources : List DsDef) (olds : List SourceBefore) → length (with_sources sources olds) ≡ length sources
+sources_count : (sources : List DsDef) (olds : List SavedSource) → length (with_sources sources olds) ≡ length sources
 sources_count sources [] = refl
 sources_count sources (old ∷ olds) = sources_count (set sources old.number old.source) olds ∙ length-set sources old.number old.source
 
@@ -181,25 +181,25 @@ accepted_at (s ∷ sources) [] i source raw all inside = absurd all
 accepted_at (s ∷ sources) (r ∷ raws) zero source raw all inside = all.0
 accepted_at (s ∷ sources) (r ∷ raws) (suc i) source raw all inside = accepted_at sources raws i source raw all.1 (omega arith)
 
-accepted_then : (limits : Limits) (sources : List DsDef) (raws : List Raw) (olds : List SourceBefore) → AreAccepted sources raws → AllByRecursion (IsSourceBefore limits) olds → AreAccepted (with_sources sources olds) (with_raws raws olds)
+accepted_then : (limits : Limits) (sources : List DsDef) (raws : List Raw) (olds : List SavedSource) → AreAccepted sources raws → AllByRecursion (IsSavedSource limits) olds → AreAccepted (with_sources sources olds) (with_raws raws olds)
 unfolding with_raws
 accepted_then limits sources raws [] all each = all
 accepted_then limits sources raws (old ∷ olds) all each =
     accepted_then limits (set sources old.number old.source) (set raws old.number old.raw) olds (accepted_set sources raws old.number old.source old.raw all each.0.1) each.1
 
-sources_then : (limits : Limits) (sources : List DsDef) (olds : List SourceBefore) → AllByRecursion (IsSourceWithin limits) sources → AllByRecursion (IsSourceBefore limits) olds → AllByRecursion (IsSourceWithin limits) (with_sources sources olds)
+sources_then : (limits : Limits) (sources : List DsDef) (olds : List SavedSource) → AllByRecursion (IsSourceWithin limits) sources → AllByRecursion (IsSavedSource limits) olds → AllByRecursion (IsSourceWithin limits) (with_sources sources olds)
 sources_then limits sources [] all each = all
 sources_then limits sources (old ∷ olds) all each =
     sources_then limits (set sources old.number old.source) olds (All-set (IsSourceWithin limits) sources old.number old.source all each.0.0) each.1
 
 -- numbers rise, so those below the lowest keep their source and raw value
-source_below : (lowest limit i : ℕ) (sources : List DsDef) (olds : List SourceBefore) (d : DsDef) → Rise lowest limit olds → i < lowest → get_or (with_sources sources olds) i d ≡ get_or sources i d
+source_below : (lowest limit i : ℕ) (sources : List DsDef) (olds : List SavedSource) (d : DsDef) → Rise lowest limit olds → i < lowest → get_or (with_sources sources olds) i d ≡ get_or sources i d
 source_below lowest limit i sources [] d rise below = refl
 source_below lowest limit i sources (old ∷ olds) d rise below =
     source_below (old.number + 1) limit i (set sources old.number old.source) olds d rise.2 (omega (arith, rise.0, below))
     ∙ get_or-set_other sources old.number i old.source d (λ e. omega (arith, rise.0, below, e))
 
-raw_below : (lowest limit i : ℕ) (raws : List Raw) (olds : List SourceBefore) (d : Raw) → Rise lowest limit olds → i < lowest → get_or (with_raws raws olds) i d ≡ get_or raws i d
+raw_below : (lowest limit i : ℕ) (raws : List Raw) (olds : List SavedSource) (d : Raw) → Rise lowest limit olds → i < lowest → get_or (with_raws raws olds) i d ≡ get_or raws i d
 unfolding with_raws
 raw_below lowest limit i raws [] d rise below = refl
 raw_below lowest limit i raws (old ∷ olds) d rise below =
@@ -207,8 +207,8 @@ raw_below lowest limit i raws (old ∷ olds) d rise below =
     ∙ get_or-set_other raws old.number i old.raw d (λ e. omega (arith, rise.0, below, e))
 
 -- each source that comes back stands among all in the end
-each_source : (limits : Limits) (lowest : ℕ) (sources : List DsDef) (raws : List Raw) (olds : List SourceBefore) → length raws ≡ length sources → Rise lowest (length sources) olds
-    → AllByRecursion (IsSourceWithin limits) (with_sources sources olds) → AreAccepted (with_sources sources olds) (with_raws raws olds) → AllByRecursion (IsSourceBefore limits) olds
+each_source : (limits : Limits) (lowest : ℕ) (sources : List DsDef) (raws : List Raw) (olds : List SavedSource) → length raws ≡ length sources → Rise lowest (length sources) olds
+    → AllByRecursion (IsSourceWithin limits) (with_sources sources olds) → AreAccepted (with_sources sources olds) (with_raws raws olds) → AllByRecursion (IsSavedSource limits) olds
 unfolding with_raws
 each_source limits lowest sources raws [] same rise all accepted = tt
 each_source limits lowest sources raws (old ∷ olds) same rise all accepted =
@@ -229,7 +229,7 @@ each_source limits lowest sources raws (old ∷ olds) same rise all accepted =
     subst (λ r. IsAccepted old.source.kind r) raw (subst (λ (s : DsDef). IsAccepted s.kind (get_or (with_raws next_raws olds) i old.raw)) source takes) in
     ((is, took), each_source limits (i + 1) next next_raws olds (omega (arith, same, count, raw_count)) after all accepted)
 
-tune_suffices : (limits : Limits) (now : Content) (olds : List SourceBefore) → OutlineSuffices limits now (TuneEntry olds)
+tune_suffices : (limits : Limits) (now : Content) (olds : List SavedSource) → OutlineSuffices limits now (TuneEntry olds)
 unfolding with_both
 tune_suffices limits now olds is may =
     let sources = with_sources now.sources olds in
@@ -254,7 +254,7 @@ tune_suffices limits now olds is may =
       }),
     )
 
-tune_needed : (limits : Limits) (now : Content) (olds : List SourceBefore) → OutlineIsNeeded limits now (TuneEntry olds)
+tune_needed : (limits : Limits) (now : Content) (olds : List SavedSource) → OutlineIsNeeded limits now (TuneEntry olds)
 unfolding with_both
 tune_needed limits now olds is fits then =
     let valid : IsValidWithin limits (with_both now (with_sources now.sources olds) (with_raws now.raws olds)) = subst (IsValidWithin limits) (sources_undone now olds) then in

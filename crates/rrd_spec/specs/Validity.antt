@@ -5,7 +5,7 @@ use Rattle.rrd_fixed.specs.declared.cell.Cell.{Cell}
 use Rattle.rrd_fixed.specs.declared.raw.Raw.{Raw}
 use Rattle.rrd_fixed.specs.Rate.{top, IsAccepted, IsBounded}
 use Rattle.rrd_spec.specs.declared.settings.DsDef.{DsDef}
-use Rattle.rrd_spec.specs.declared.entry.SourceBefore.{SourceBefore}
+use Rattle.rrd_spec.specs.declared.entry.SavedSource.{SavedSource}
 use Rattle.rrd_fold.specs.declared.function.Function.{Function}
 use Rattle.rrd_fold.specs.declared.function.Function.TheVariants.{Average}
 use Rattle.rrd_fold.specs.Parts.{Part}
@@ -113,11 +113,11 @@ pub record FitsUpdate (now : Content) (old : BeforeUpdate) : Type 0 where
   pub archives_fit : FitEach now.step (length now.sources) old.last now.last now.archives old.archives
 
 -- numbers that rise, from `lowest` on, below `limit`
-abbrev pub Rise : ℕ → ℕ → List SourceBefore → Type 0
+abbrev pub Rise : ℕ → ℕ → List SavedSource → Type 0
 Rise lowest limit [] = Unit {0}
 Rise lowest limit (old ∷ olds) = (lowest ≤ old.number) × (old.number < limit) × Rise (old.number + 1) limit olds
 
-pub record FitsTune (now : Content) (olds : List SourceBefore) : Type 0 where
+pub record FitsTune (now : Content) (olds : List SavedSource) : Type 0 where
   pub some : 0 < length olds
   pub few : length olds ≤ max_tuned
   pub rise : Rise 0 (length now.sources) olds

@@ -20,7 +20,7 @@ mod version;
 
 pub use archive_list::ArchiveList;
 pub use due::Due;
-pub use entry::SourceBefore;
+pub use entry::SavedSource;
 pub use list::List;
 pub use outline::Outline;
 pub use refusal::Refusal;

@@ -373,8 +373,8 @@ first_of held (Some d) is = Some (record { version = is.2.version; state = begun
 
 -- the headline: after any list of runs, batches and single commands, with any outcome of memory, with failed writes and
 -- kills, the file has the bytes, and the outputs have the texts, that the definitions compute from the first file
-abbrev pub RunsAreComputed : Held → Option Stored → List Event → Held → Type 0
-RunsAreComputed old first events new =
+abbrev pub RunsFollowSpecification : Held → Option Stored → List Event → Held → Type 0
+RunsFollowSpecification old first events new =
     (is : IsFirst old first) → HappenedAll old events new
     → (last : Standing) × LeadsAll (Keeping (first_of old first is)) events last × IsFileOf new last
 

@@ -2,7 +2,7 @@
 ghost use Rattle.rrd_store.specs.Batch.{IsFileBatch};
 ghost use Rattle.rrd_store.specs.Runs.{ByBatch, IsComputed};
 
-use crate::laws::storage_runs_are_computed;
+use crate::laws::storage_runs_follow_specification;
 use crate::stored::{load, store};
 use crate::{Access, Storage, TaskFault};
 use rrd_tool::{StreamFault, run_batch};
@@ -77,6 +77,6 @@ pub fn run_file_batch<P: Storage, R: Read, W: Write>(
           end = result;
         })) }
 {
-    storage_runs_are_computed();
+    storage_runs_follow_specification();
     run_over(alloc, now, numbered, storage, reader, out)
 }

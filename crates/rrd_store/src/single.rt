@@ -7,7 +7,7 @@ ghost use Rattle.rrd_tool.specs.Lines.{is_empty};
 ghost use Rattle.rrd_store.specs.Runs.{ByCommand, IsComputed};
 ghost use Rattle.rrd_store.specs.Single.{Ends, IsSingle, StartsFrom, access_for};
 
-use crate::laws::storage_runs_are_computed;
+use crate::laws::storage_runs_follow_specification;
 use crate::stored::{load, store};
 use crate::{Access, Storage, TaskFault};
 use rrd_base::Database;
@@ -120,6 +120,6 @@ pub fn run_file_command<P: Storage, W: Write>(
           end = result;
         })) }
 {
-    storage_runs_are_computed();
+    storage_runs_follow_specification();
     run_words(alloc, words, now, storage, out)
 }

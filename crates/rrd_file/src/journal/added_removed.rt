@@ -87,7 +87,7 @@ fn read_removed_number<R: Read + Drop>(
     let mut piece = [0u8; NUMBER_SIZE];
     input.piece(&mut piece)?;
     let (number, _) = two_of(&piece);
-    if !build.judge().had_number(number) {
+    if !build.validator().is_valid_removed_number(number) {
         return Err(bad_entry(build));
     }
     Ok(number)
@@ -110,7 +110,7 @@ fn read_removed_settings<R: Read + Drop>(
     let Some(def) = archive_of(&piece) else {
         return Err(bad_entry(build));
     };
-    if !build.judge().may_have(&def) {
+    if !build.validator().accepts_archive(&def) {
         return Err(bad_entry(build));
     }
     Ok(def)

@@ -73,7 +73,7 @@ fn read_number<R: Read + Drop>(
     let mut piece = [0u8; NUMBER_SIZE];
     input.piece(&mut piece)?;
     let (archive, _) = two_of(&piece);
-    if !build.judge().has_archive(archive) {
+    if !build.validator().has_archive(archive) {
         return Err(bad_entry(build));
     }
     Ok(archive)
@@ -96,7 +96,10 @@ fn read_old_row_count<R: Read + Drop>(
     let mut piece = [0u8; ROWS_SIZE];
     input.piece(&mut piece)?;
     let (rows, _) = four_of(&piece);
-    if !build.judge().had_rows(archive as usize, rows) {
+    if !build
+        .validator()
+        .is_valid_old_row_count(archive as usize, rows)
+    {
         return Err(bad_entry(build));
     }
     Ok(rows)

@@ -4,7 +4,7 @@ use Rattle.std.specs.List.{AllByRecursion}
 use Rattle.rrd_fixed.specs.declared.cell.Cell.{Cell}
 use Rattle.rrd_fixed.specs.Rate.{IsAccepted}
 use Rattle.rrd_fold.specs.declared.function.Function.TheVariants.{Average}
-use Rattle.rrd_spec.specs.declared.entry.SourceBefore.{SourceBefore}
+use Rattle.rrd_spec.specs.declared.entry.SavedSource.{SavedSource}
 use Rattle.rrd_spec.specs.declared.outline.Outline.{Outline}
 use Rattle.rrd_spec.specs.declared.settings.RraDef.{RraDef}
 use Rattle.rrd_spec.specs.Limits.{Limits, max_tuned}
@@ -35,14 +35,14 @@ pub record MayUpdate (step : ℕ) (now : Outline) (old : BeforeUpdate) : Type 0 
   pub archives_are : MaySaveEach step old.last now.last (length now.sources) now.archives old.archives
 
 -- a data source before a tune, checked without the others
-abbrev pub IsSourceBefore : Limits → SourceBefore → Type 0
-IsSourceBefore limits old = IsSourceWithin limits old.source × IsAccepted old.source.kind old.raw
+abbrev pub IsSavedSource : Limits → SavedSource → Type 0
+IsSavedSource limits old = IsSourceWithin limits old.source × IsAccepted old.source.kind old.raw
 
-pub record MayTune (limits : Limits) (now : Outline) (olds : List SourceBefore) : Type 0 where
+pub record MayTune (limits : Limits) (now : Outline) (olds : List SavedSource) : Type 0 where
   pub some : 0 < length olds
   pub few : length olds ≤ max_tuned
   pub rise : Rise 0 (length now.sources) olds
-  pub each : AllByRecursion (IsSourceBefore limits) olds
+  pub each : AllByRecursion (IsSavedSource limits) olds
   pub names_differ : is_double (names (with_sources now.sources olds)) ≡ false
 
 -- the old number of rows of a resized archive

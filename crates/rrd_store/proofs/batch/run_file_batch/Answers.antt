@@ -3,7 +3,7 @@ use Rattle.rrd_store.proofs.batch.run_file_batch.Goals as goal
 
 pub returns-clause-computed : goal.returns-clause-computed
 returns-clause-computed g c =
-    c.storage_runs_are_computed.ensures (g.P.Storage.contents c.args.storage.now) (ByBatch (record {
+    c.storage_runs_follow_specification.ensures (g.P.Storage.contents c.args.storage.now) (ByBatch (record {
       now = c.args.now;
       numbered = c.args.numbered;
       in_before = g.R.Read.remaining c.args.reader.now;

@@ -1,5 +1,5 @@
 use Rattle.rrd_fold.proofs.SummaryLemmas.{sum_more, least, greatest, last}
-use Rattle.rrd_fold.proofs.laws.values_are_meant.Goals as goal
+use Rattle.rrd_fold.proofs.laws.values_have_meaning.Goals as goal
 
 pub returns-clause-sum : goal.returns-clause-sum
 returns-clause-sum c = sum_more

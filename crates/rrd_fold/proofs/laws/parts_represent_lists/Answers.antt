@@ -1,6 +1,6 @@
 use Rattle.rrd_fold.proofs.PartLemmas.{fold-with_cell, stands_more}
 use Rattle.std.proofs.Common.{◌∷◌, [], replicate}
-use Rattle.rrd_fold.proofs.laws.parts_stand.Goals as goal
+use Rattle.rrd_fold.proofs.laws.parts_represent_lists.Goals as goal
 
 pub returns-clause-from_nothing : goal.returns-clause-from_nothing
 returns-clause-from_nothing c = fold-with_cell

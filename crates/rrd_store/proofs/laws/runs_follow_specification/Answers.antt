@@ -1,5 +1,5 @@
 use Rattle.rrd_store.proofs.Standings.{run_computed, runs_computed}
-use Rattle.rrd_store.proofs.laws.runs_are_computed.Goals as goal
+use Rattle.rrd_store.proofs.laws.runs_follow_specification.Goals as goal
 
 pub returns-clause-all : goal.returns-clause-all
 returns-clause-all c =

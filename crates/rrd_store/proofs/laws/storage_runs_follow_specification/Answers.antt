@@ -1,5 +1,5 @@
 use Rattle.rrd_store.proofs.StorageRuns.{storage_computed}
-use Rattle.rrd_store.proofs.laws.storage_runs_are_computed.Goals as goal
+use Rattle.rrd_store.proofs.laws.storage_runs_follow_specification.Goals as goal
 
 pub returns : goal.returns
 returns c =

@@ -5,11 +5,11 @@
 ghost use Rattle.std.specs.Prelude.{◌≡◌, ◌++◌, ◌∷◌, [], ◌%◌, ◌<◌, ◌≤◌, IfOk, IfSome, None, OnErr, OnOk, Some, length, min, slice_get, true};
 ghost use Rattle.rrd_base.specs.Journal.{entry_of};
 ghost use Rattle.rrd_base.specs.Rebuild.EntryChecks.{HasPlace, IsOutline};
-ghost use Rattle.rrd_base.specs.Rebuild.Judges.{Judge};
+ghost use Rattle.rrd_base.specs.Rebuild.Validators.{EntryValidator};
 ghost use Rattle.rrd_fold.specs.declared.function.Function.TheVariants.{Average};
 ghost use Rattle.rrd_spec.specs.Files.Rebuilding.{IsRowPart};
 ghost use Rattle.rrd_spec.specs.Journal.Entries.{rows_between};
-ghost use Rattle.rrd_spec.specs.Journal.Fitting.{AreOldRows, AreRemovedSettings, IsArchiveDef, IsRemovedNumber, IsSourceBefore};
+ghost use Rattle.rrd_spec.specs.Journal.Fitting.{AreOldRows, AreRemovedSettings, IsArchiveDef, IsRemovedNumber, IsSavedSource};
 ghost use Rattle.rrd_spec.specs.Journal.Outlines.{outline_undone};
 ghost use Rattle.rrd_spec.specs.Limits.{allows_archive_changes_of, limits_of, max_tuned, present};
 ghost use Rattle.rrd_spec.specs.Validity.{IsPart};
@@ -19,7 +19,7 @@ use super::piece_checks::{is_archive, is_part, is_source};
 use crate::create::{has_too_many_cells, is_bad_rows};
 use crate::journal::Entry;
 use crate::rows::{all_rows, rows_between};
-use crate::{ArchiveList, DsDef, List, Outline, RraDef, SourceBefore};
+use crate::{ArchiveList, DsDef, List, Outline, RraDef, SavedSource};
 use rrd_fold::{Function, RowPrep, StepPrep};
 use rrd_spec::Version;
 use rrd_spec::limits::MAX_TUNED;
@@ -31,40 +31,40 @@ use std::marker::Model;
 /// A value has the version whose limits hold, the seconds in a step, and the outline that is left after all newer
 /// entries are undone.
 #[derive(Drop)]
-pub struct Judge {
+pub struct EntryValidator {
     version: Version,
     step: u64,
     outline: Outline,
 }
 
-impl Model for Judge {
-    ghost use Rattle.rrd_base.specs.Rebuild.EntryChecks.{IsJudge};
-    ghost use Rattle.rrd_base.specs.Rebuild.Judges.{Judge};
+impl Model for EntryValidator {
+    ghost use Rattle.rrd_base.specs.Rebuild.EntryChecks.{IsEntryValidator};
+    ghost use Rattle.rrd_base.specs.Rebuild.Validators.{EntryValidator};
 
-    ghost Value = { Judge };
+    ghost Value = { EntryValidator };
 
     ghost view = { λ j. record { version = j.version; step = j.step; outline = j.outline } };
 
-    ghost invariant = { λ j. IsJudge (record { version = j.version; step = j.step; outline = j.outline }) };
+    ghost invariant = { λ j. IsEntryValidator (record { version = j.version; step = j.step; outline = j.outline }) };
 }
 
-impl Judge {
-    /// Creates a judge with the last time, in seconds since 1970, and no settings.
+impl EntryValidator {
+    /// Creates a validator with the last time, in seconds since 1970, and no settings.
     pub(super) fn new(
         alloc: Global,
         version: Version,
         step: u64,
         last: u64,
-    ) -> Result<Judge, AllocError>
+    ) -> Result<EntryValidator, AllocError>
         requires some_step { 0 < step }
         requires small_step { step ≤ present.max_step_seconds }
-        ensures { IfOk result (λ judge. judge ≡ record {
+        ensures { IfOk result (λ validator. validator ≡ record {
           version = version;
           step = step;
           outline = record { last = last; sources = []; archives = [] };
         }) }
     {
-        Ok(Judge {
+        Ok(EntryValidator {
             version,
             step,
             outline: Outline {
@@ -75,7 +75,7 @@ impl Judge {
         })
     }
 
-    /// Adds the settings of one more data source. On error, the judge is unchanged.
+    /// Adds the settings of one more data source. On error, the validator is unchanged.
     pub(super) fn push_source(&mut self, def: DsDef) -> Result<(), AllocError>
         requires { length self.old.outline.sources < present.max_sources }
         ensures ok { OnOk result (self.new ≡ record self.old {
@@ -128,7 +128,7 @@ impl Judge {
     /// Returns whether an update can have started at `last`, in seconds since 1970.
     ///
     /// An update starts before the last time of the outline.
-    pub fn is_earlier(&self, last: u64) -> bool
+    pub fn is_before_last_time(&self, last: u64) -> bool
         ensures good { result ≡ true → last < self.now.outline.last }
         ensures bad { last < self.now.outline.last → result ≡ true }
     {
@@ -196,7 +196,7 @@ impl Judge {
     /// Returns how many rows of an archive an update from `last` replaced: at most all.
     ///
     /// `last` is in seconds since 1970.
-    pub fn rows_replaced(&self, last: u64, def: &RraDef) -> u64
+    pub fn replaced_row_count(&self, last: u64, def: &RraDef) -> u64
         requires some_steps { 0 < def.now.steps }
         requires few_steps { def.now.steps ≤ present.max_steps_per_row }
         ensures { result ≡ min (rows_between self.now.step def.now last self.now.outline.last) def.now.rows }
@@ -207,7 +207,7 @@ impl Judge {
     // ---- entries of tunes
 
     /// Returns whether a tune can have named `count` data sources: 1 to 5.
-    pub fn can_name(count: u64) -> bool
+    pub fn is_valid_tune_count(count: u64) -> bool
         ensures good { result ≡ true → (0 < count) × (count ≤ max_tuned) }
         ensures bad { (0 < count) × (count ≤ max_tuned) → result ≡ true }
     {
@@ -217,12 +217,12 @@ impl Judge {
     /// Returns whether a tune can have named this data source.
     ///
     /// The number of the data source must be at least `lowest`.
-    pub fn is_named(&self, lowest: u64, old: &SourceBefore) -> bool
+    pub fn is_valid_saved_source(&self, lowest: u64, old: &SavedSource) -> bool
         ensures few { result ≡ true → old.now.number < present.max_sources }
         ensures good { result ≡ true → (lowest ≤ old.now.number) × (old.now.number < length self.now.outline.sources)
-            × IsSourceBefore (limits_of self.now.version) old.now }
+            × IsSavedSource (limits_of self.now.version) old.now }
         ensures bad { (lowest ≤ old.now.number) × (old.now.number < length self.now.outline.sources)
-            × IsSourceBefore (limits_of self.now.version) old.now → result ≡ true }
+            × IsSavedSource (limits_of self.now.version) old.now → result ≡ true }
     {
         lowest <= old.number
             && old.number < self.outline.sources.len() as u64
@@ -241,7 +241,7 @@ impl Judge {
     }
 
     /// Returns whether an archive can have had `rows` rows before a resize.
-    pub fn had_rows(&self, archive: usize, rows: u64) -> bool
+    pub fn is_valid_old_row_count(&self, archive: usize, rows: u64) -> bool
         requires { archive < length self.now.outline.archives }
         ensures good { result ≡ true → AreOldRows (limits_of self.now.version) self.now.outline archive rows }
         ensures bad { AreOldRows (limits_of self.now.version) self.now.outline archive rows → result ≡ true }
@@ -267,7 +267,7 @@ impl Judge {
     /// Returns whether a removed archive can have had this number.
     ///
     /// There must be room for one more archive.
-    pub fn had_number(&self, number: u64) -> bool
+    pub fn is_valid_removed_number(&self, number: u64) -> bool
         ensures good { result ≡ true → IsRemovedNumber (limits_of self.now.version) self.now.outline number }
         ensures bad { IsRemovedNumber (limits_of self.now.version) self.now.outline number → result ≡ true }
     {
@@ -278,7 +278,7 @@ impl Judge {
     /// Returns whether an archive of these settings may be added to those of the outline.
     ///
     /// Each setting must be within its range, and all cells must be few enough.
-    pub fn may_have(&self, def: &RraDef) -> bool
+    pub fn accepts_archive(&self, def: &RraDef) -> bool
         ensures good { result ≡ true → AreRemovedSettings (limits_of self.now.version) self.now.outline def.now }
         ensures bad { AreRemovedSettings (limits_of self.now.version) self.now.outline def.now → result ≡ true }
     {

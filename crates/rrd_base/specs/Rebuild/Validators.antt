@@ -1,4 +1,4 @@
--- Definition: the judge of an entry of a journal.
+-- Definition: the validator of the entries of a journal.
 use Rattle.std.specs.Prelude.{ℕ}
 use Rattle.rrd_spec.specs.declared.outline.Outline.{Outline}
 use Rattle.rrd_spec.specs.declared.version.Version.{Version}
@@ -6,11 +6,11 @@ use Rattle.rrd_spec.specs.Files.Filed.{Filed}
 use Rattle.rrd_spec.specs.Files.Rebuilding.{outline_left}
 
 -- the version whose limits hold, the seconds in a step, and the outline
-pub record Judge : Type 0 where
+pub record EntryValidator : Type 0 where
   pub version : Version
   pub step : ℕ
   pub outline : Outline
 
--- the judge after some records of a file were read
-abbrev pub judge : Filed → Judge
-judge f = record { version = f.header.version; step = f.header.step; outline = outline_left f }
+-- the validator after some records of a file were read
+abbrev pub validator : Filed → EntryValidator
+validator f = record { version = f.header.version; step = f.header.step; outline = outline_left f }
