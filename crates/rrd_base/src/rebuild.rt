@@ -431,7 +431,7 @@ impl Rebuild {
         let taken = count * sources;
         let place = self.cursor.place(&def, self.header.step, self.header.last);
         let rra = self.archives.get_mut(self.cursor.archive);
-        rra.put_rows(place, count as u64, cells.front(taken));
+        rra.write_rows(place, count as u64, cells.front(taken));
         self.cursor.pass(place, count as u64, def.rows);
         taken
     }

@@ -104,7 +104,7 @@ impl Rra {
         ensures { IfOk result (λ s. s
             ≡ record { def = def; parts = []; rows = replicate def.rows (replicate sources Unknown) }) }
     {
-        let rows = Archive::new_from(alloc, def.rows, sources, first)?;
+        let rows = Archive::new_filled_from(alloc, def.rows, sources, first)?;
         Ok(Rra {
             def,
             preps: Vec::new(alloc),
@@ -142,7 +142,7 @@ impl Rra {
     /// Writes `count` rows, starting at `row` (0 is the oldest) and wrapping from the newest row to the oldest.
     ///
     /// `cells` holds the rows one after another. `count` is at most the number of rows in the archive.
-    pub(crate) fn put_rows(&mut self, row: u64, count: u64, cells: CellRun)
+    pub(crate) fn write_rows(&mut self, row: u64, count: u64, cells: CellRun)
         requires there { row < length self.old.rows }
         requires few { count ≤ length self.old.rows }
         requires one_each { length (run_cells cells) ≡ count * width self.old.rows }
@@ -150,8 +150,8 @@ impl Rra {
             self.new ≡ record self.old { rows = rows } }
     {
         match cells {
-            CellRun::Given(cells) => self.rows.put_rows(row, count, cells),
-            CellRun::Unknown(_) => self.rows.put_unknown(row, count),
+            CellRun::Given(cells) => self.rows.write_rows_wrapping(row, count, cells),
+            CellRun::Unknown(_) => self.rows.clear_rows_wrapping(row, count),
         }
     }
 
@@ -178,11 +178,11 @@ impl Rra {
     }
 
     /// Returns how many of the oldest rows were certainly never written, so that all their cells are unknown.
-    pub(crate) fn unwritten_rows(&self) -> u64
+    pub(crate) fn never_written_rows(&self) -> u64
         ensures few { result ≤ length self.now.rows }
         ensures unknown { first result self.now.rows ≡ unknown_rows result (width self.now.rows) }
     {
-        self.rows.unwritten()
+        self.rows.never_written_count()
     }
 
     /// Returns the cells of the row with an age, 0 for the newest; `None` if there is no such row.

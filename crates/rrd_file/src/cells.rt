@@ -144,7 +144,7 @@ fn write_run<W: Write>(
     // The prover needs that the number of cells is small.
     database_is_valid(database);
     let unwritten = database
-        .unwritten_rows(archive)
+        .never_written_rows(archive)
         .min(to)
         .saturating_sub(from);
     write_unknown(out, unwritten * database.sources())?;

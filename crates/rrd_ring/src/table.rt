@@ -47,7 +47,7 @@ impl Table for Archive {
     }
 
     fn together(&self, first: u64, most: u64) -> (u64, &[Cell]) {
-        self.run(first, most)
+        self.contiguous_rows(first, most)
     }
 }
 
@@ -63,6 +63,6 @@ impl Table for Dropped {
     }
 
     fn together(&self, first: u64, most: u64) -> (u64, &[Cell]) {
-        self.run(first, most)
+        self.contiguous_rows(first, most)
     }
 }

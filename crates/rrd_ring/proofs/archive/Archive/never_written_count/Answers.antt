@@ -3,7 +3,7 @@ use Rattle.rrd_ring.specs.Rows.{unknown_rows}
 use Rattle.rrd_ring.specs.Ring.{with_unwritten}
 use Rattle.rrd_ring.proofs.RingLemmas.{ring_len, ring_width}
 use Rattle.rrd_ring.proofs.WrittenLemmas.{AreWritten, unwritten_rows}
-use Rattle.rrd_ring.proofs.archive.Archive.unwritten.Goals as goal
+use Rattle.rrd_ring.proofs.archive.Archive.never_written_count.Goals as goal
 
 pub returns-clause-few : goal.returns-clause-few
 returns-clause-few c =

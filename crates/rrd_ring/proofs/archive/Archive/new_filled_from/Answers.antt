@@ -4,7 +4,7 @@ use Rattle.rrd_fixed.specs.declared.cell.Cell.{Cell}
 use Rattle.rrd_fixed.specs.declared.cell.Cell.TheVariants.{Unknown}
 use Rattle.rrd_ring.specs.Ring.{ring_rows, with_unwritten}
 use Rattle.rrd_ring.proofs.RingLemmas.{ring_unknown}
-use Rattle.rrd_ring.proofs.archive.Archive.new_from.Goals as goal
+use Rattle.rrd_ring.proofs.archive.Archive.new_filled_from.Goals as goal
 
 pub returns : goal.returns
 returns c =
@@ -13,8 +13,8 @@ returns c =
     let all = rows * sources in
     let empty : List Cell = [] in
     let none : all - length empty ≡ all = omega arith in
-    let place = (rows - c.args.first) % rows in
+    let index = (rows - c.args.first) % rows in
     ap (λ n. ring_rows rows sources n (with_unwritten all c.in_ok-cells.cells.items)) c.wrap.ensures
-    ∙ ap (λ (xs : List Cell). ring_rows rows sources place (with_unwritten all xs)) c.in_ok-cells.ensures.items
-    ∙ ap (λ n. ring_rows rows sources place (replicate n Unknown)) none
-    ∙ ring_unknown rows sources place (mod_below (rows - c.args.first) rows (omega (arith, c.requires.there)))
+    ∙ ap (λ (xs : List Cell). ring_rows rows sources index (with_unwritten all xs)) c.in_ok-cells.ensures.items
+    ∙ ap (λ n. ring_rows rows sources index (replicate n Unknown)) none
+    ∙ ring_unknown rows sources index (mod_below (rows - c.args.first) rows (omega (arith, c.requires.there)))
