@@ -45,7 +45,7 @@ use cursor::Cursor;
 use piece_checks::{is_part, is_source};
 use rrd_fixed::{Cell, Raw};
 use rrd_fold::{Function, RowPrep, StepPrep};
-use rrd_spec::{Version, first_place, laws};
+use rrd_spec::{Version, first_slot_row, laws};
 use std::alloc::{AllocError, Global};
 use std::marker::Model;
 
@@ -317,7 +317,7 @@ impl Rebuild {
         if !self.may_head(&def) {
             return Err(PieceFault::Bad);
         }
-        let first = first_place(def.resolution(self.header.step), self.header.last, def.rows);
+        let first = first_slot_row(def.resolution(self.header.step), self.header.last, def.rows);
         let rra = Rra::unprepared(self.alloc, def, self.header.sources, first)?;
         self.archives.push(rra);
         self.validator.push_archive(def);

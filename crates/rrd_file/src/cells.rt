@@ -27,13 +27,13 @@ use crate::writer::{BLOCK_SIZE, Block, PieceWriter};
 use rrd_base::{Database, Due, Rebuild, database_is_valid, is_bounded};
 use rrd_fixed::{Cell, WriteFault};
 use rrd_ring::Table;
-use rrd_spec::first_place;
+use rrd_spec::first_slot_row;
 use rrd_spec::laws::rows_stand_in_slots;
 use std::io::{Read, Write};
 
 /// The maximum number of cells that are read at once: enough for the widest row, and few enough to be copied while the
 /// processor still has them at hand.
-const AT_ONCE: usize = 127;
+const MAX_CELLS_AT_ONCE: usize = 127;
 
 // The halves of the number that is written for an unknown cell.
 const UNKNOWN: Halves = Halves {
@@ -166,7 +166,7 @@ fn write_slots<W: Write>(
     // The prover needs that times and numbers of rows are small.
     database_is_valid(database);
     let def = database.archive(archive);
-    let first = first_place(def.resolution(database.step()), database.last(), def.rows);
+    let first = first_slot_row(def.resolution(database.step()), database.last(), def.rows);
     write_run(out, database, archive, first, def.rows)?;
     write_run(out, database, archive, 0, first)
 }
@@ -373,7 +373,7 @@ pub(crate) fn read_cells<R: Read + Drop>(
     ensures advanced { OnOk result (Advances input.old input.new) }
 {
     input.wait_for(CELL_SIZE)?;
-    let mut room = [Cell::Unknown; AT_ONCE];
+    let mut room = [Cell::Unknown; MAX_CELLS_AT_ONCE];
     while let Due::CellDue = build.due() {
         gather_row(input, build.cells_in_row())?;
         if input.waiting() < CELL_SIZE {

@@ -7,8 +7,8 @@ ghost use Rattle.rrd_ring.specs.Rows.{nth_row, row_cells, width, HasWidth, with_
 
 use crate::dropped::Dropped;
 use crate::ring::{
-    cells_of, fill_up, forget, push_from, write_cells, write_row_at, row_from, row_mut, contiguous_count,
-    rows_written, unknown_cells, wrap, write_from,
+    cells_of, contiguous_count, fill_up, forget, push_from, row_from, row_mut, rows_written,
+    unknown_cells, wrap, write_cells, write_from, write_row_at,
 };
 use rrd_fixed::{Cell, Meter};
 use std::alloc::{AllocError, Global};

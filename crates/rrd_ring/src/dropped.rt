@@ -4,7 +4,7 @@ ghost use Rattle.std.specs.Borrow.{sem};
 ghost use Rattle.rrd_fixed.specs.declared.cell.Cell.{Cell};
 ghost use Rattle.rrd_ring.specs.Rows.{nth_row, row_cells, width, HasWidth, with_row, unknown_rows, max_rows, max_sources};
 
-use crate::ring::{cells_of, fill_up, row_from, row_mut, contiguous_count};
+use crate::ring::{cells_of, contiguous_count, fill_up, row_from, row_mut};
 use rrd_fixed::Cell;
 use std::alloc::{AllocError, Global};
 use std::marker::Model;

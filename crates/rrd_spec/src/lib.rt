@@ -29,5 +29,5 @@ pub use requests::{
     Tuning, Update,
 };
 pub use settings::{DsDef, RraDef, are_accepted};
-pub use slots::first_place;
+pub use slots::first_slot_row;
 pub use version::Version;

@@ -7,7 +7,7 @@ ghost use Rattle.rrd_store.specs.Faults.{is_usage_error, report_of, stream_text,
 use crate::usage::USAGE;
 use arrayvec::ArrayString;
 use rrd_file::FileFault;
-use rrd_fixed::{WriteFault, short_text, write_bytes};
+use rrd_fixed::{WriteFault, message, write_bytes};
 use rrd_tool::{Fault, LineFault, StreamFault, write_error};
 use std::io::Write;
 use thiserror::Error;
@@ -47,9 +47,9 @@ fn stream_string(fault: StreamFault) -> ArrayString<96>
     ensures short { length result.bytes ≤ 60 }
 {
     match fault {
-        StreamFault::Write => short_text("write failed"),
-        StreamFault::Read => short_text("read failed"),
-        StreamFault::OutOfMemory => short_text("out of memory"),
+        StreamFault::Write => message("write failed"),
+        StreamFault::Read => message("read failed"),
+        StreamFault::OutOfMemory => message("out of memory"),
     }
 }
 
@@ -63,8 +63,8 @@ impl TaskFault {
             TaskFault::Command(fault) => fault.text(),
             TaskFault::Stream(fault) => stream_string(fault),
             TaskFault::File(fault) => fault.text(),
-            TaskFault::CannotOpen => short_text("cannot open"),
-            TaskFault::CannotWrite => short_text("cannot write"),
+            TaskFault::CannotOpen => message("cannot open"),
+            TaskFault::CannotWrite => message("cannot write"),
         }
     }
 

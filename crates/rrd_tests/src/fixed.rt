@@ -3,7 +3,7 @@ ghost use Rattle.rrd_fixed.specs.Rate.{IsAccepted};
 
 use crate::shared::streams::{Manner, PLAIN, Taker};
 use rrd_fixed::{
-    Cell, Kind, Meter, Name, Number, Raw, admit, cell_string, near, numbered_text, rate,
+    Cell, Kind, Meter, Name, Number, Raw, admit, cell_string, near, numbered_message, rate,
     raw_string, read_number, read_whole, rise, time_string, write_bytes, write_cell, write_raw,
     write_time,
 };
@@ -215,7 +215,7 @@ fn accepted_raw_values(rt: HostRuntime) {
 
 #[test]
 fn texts_with_a_number(rt: HostRuntime) {
-    let text = numbered_text("not later than ", 18_446_744_073_709_551_615);
+    let text = numbered_message("not later than ", 18_446_744_073_709_551_615);
     assert_eq!(rt; text.as_str(), "not later than 18446744073709551615");
 }
 

@@ -7,7 +7,7 @@ use Rattle.rrd_undo.specs.Databases.{IsDatabase}
 use Rattle.rrd_undo.specs.Undoing.{IsTail, Turning}
 use Rattle.rrd_undo.specs.declared.change.Change.{Change}
 use Rattle.rrd_undo.specs.declared.change.Stage.{Stage}
-use Rattle.rrd_undo.specs.declared.change.Stage.TheVariants.{Untouched, Marked, Committing, Unkept, Spoiled}
+use Rattle.rrd_undo.specs.declared.change.Stage.TheVariants.{Untouched, Marked, Committing, Unkept, Invalid}
 
 -- the bytes of a new page
 pub record IsPage (new : List ℕ) (at : ℕ) (page : List ℕ) : Type 0 where
@@ -34,7 +34,7 @@ Holds Untouched old new tail slots file done = Agreeing old new file done
 Holds Marked old new tail slots file done = IsDatabase old × Turning old new tail slots file done
 Holds Committing old new tail slots file done = ⊥
 Holds Unkept old new tail slots file done = ⊥
-Holds Spoiled old new tail slots file done = (IsDatabase old → ⊥) × ArePutBelow done new file
+Holds Invalid old new tail slots file done = (IsDatabase old → ⊥) × ArePutBelow done new file
 
 -- the file is as it was, or its first page alone was put, and the file has this length
 abbrev pub IsFirstPut : List ℕ → ℕ → List ℕ → Type 0
@@ -46,7 +46,7 @@ IsLeft Untouched old tail count file = IsFirstPut old count file
 IsLeft Marked old tail count file = settled file ≡ old
 IsLeft Committing old tail count file = (f : List ℕ) → ArePut 0 (undo_mark tail) file f → settled f ≡ old
 IsLeft Unkept old tail count file = (IsDatabase old → ⊥) × StaysBehind old file
-IsLeft Spoiled old tail count file = (IsDatabase old → ⊥)
+IsLeft Invalid old tail count file = (IsDatabase old → ⊥)
 
 -- a file that is changed is marked or spoiled
 abbrev pub IsStarted : Stage → Type 0
@@ -54,7 +54,7 @@ IsStarted Untouched = ⊥
 IsStarted Marked = ⊤
 IsStarted Committing = ⊥
 IsStarted Unkept = ⊥
-IsStarted Spoiled = ⊤
+IsStarted Invalid = ⊤
 
 -- what is known of the old bytes in memory
 pub record Knows (old : List ℕ) (c : Change) : Type 0 where

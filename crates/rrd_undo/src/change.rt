@@ -22,7 +22,7 @@ use std::alloc::Global;
 use std::io::{self, Error, ErrorKind};
 
 /// The invalid mark: four bytes with which no database begins.
-const SPOILED: [u8; 4] = [0; 4];
+const INVALID_MARK: [u8; 4] = [0; 4];
 
 /// The progress of a change of a file.
 #[derive(Clone, Copy)]
@@ -36,7 +36,7 @@ pub(crate) enum Stage {
     /// The file is no database, and may have been extended for more bytes.
     Unkept,
     /// The file is no database, and its first bytes are the invalid mark.
-    Spoiled,
+    Invalid,
 }
 
 /// A change of a file to new bytes.
@@ -117,7 +117,7 @@ impl Change {
     }
 
     // Marks a file that is no database as invalid. A file of 16 bytes or more is first extended for the new bytes.
-    fn spoil<F: Bytes>(&mut self, file: &mut F) -> io::Result<()>
+    fn write_invalid_mark<F: Bytes>(&mut self, file: &mut F) -> io::Result<()>
         ensures frame { self.new ≡ record self.old { stage = self.new.stage; tail = record self.old.tail { buffer = self.new.tail.buffer } } }
         ensures started { OnOk result (IsStarted self.new.stage) }
         ensures ok { OnOk result (IsTrue F.is_known → (old new : List ℕ) (done : ℕ) → (IsDatabase old → ⊥) → Knows old self.old
@@ -129,8 +129,8 @@ impl Change {
         if MIN_DATABASE_SIZE <= self.old_length {
             make_room(file, self.old_length, self.length, &mut self.tail.buffer)?;
         }
-        file.put_whole(0, &SPOILED)?;
-        self.stage = Stage::Spoiled;
+        file.put_whole(0, &INVALID_MARK)?;
+        self.stage = Stage::Invalid;
         Ok(())
     }
 
@@ -168,9 +168,9 @@ impl Change {
             → IsBroken old self.new (F.held file.new) × StandsForOld old (F.held file.new)) }
     {
         match self.stage {
-            Stage::Marked | Stage::Spoiled => Ok(()),
+            Stage::Marked | Stage::Invalid => Ok(()),
             Stage::Untouched if self.can_mark() => self.mark(file),
-            Stage::Untouched => self.spoil(file),
+            Stage::Untouched => self.write_invalid_mark(file),
             Stage::Committing | Stage::Unkept => Err(Error::from(ErrorKind::InvalidInput)),
         }
     }
@@ -278,7 +278,7 @@ impl Change {
     }
 
     // Ends a change of a file that is marked invalid.
-    fn end_spoiled<F: Bytes>(&mut self, file: &mut F, first: &[u8]) -> io::Result<()>
+    fn end_invalid<F: Bytes>(&mut self, file: &mut F, first: &[u8]) -> io::Result<()>
         requires { length first.now ≤ 4096 }
         ensures frame { self.new ≡ self.old }
         ensures ok { OnOk result (IsTrue F.is_known → (new : List ℕ) (done : ℕ) → self.old.length ≡ length new → length new ≤ done
@@ -303,7 +303,7 @@ impl Change {
         self.start(file)?;
         match self.stage {
             Stage::Marked => self.end_marked(file, first),
-            _ => self.end_spoiled(file, first),
+            _ => self.end_invalid(file, first),
         }
     }
 
@@ -395,10 +395,10 @@ impl Change {
                 settle(file, &mut self.old_page)?;
                 Ok(())
             }
-            Stage::Spoiled if MIN_DATABASE_SIZE <= self.old_length => self.leave_front(
+            Stage::Invalid if MIN_DATABASE_SIZE <= self.old_length => self.leave_front(
                 file, first, count,
             ),
-            Stage::Unkept | Stage::Spoiled => self.restore(file),
+            Stage::Unkept | Stage::Invalid => self.restore(file),
         }
     }
 }

@@ -7,7 +7,7 @@ ghost use Rattle.rrd_spec.specs.Settings.{resolution};
 ghost use Rattle.rrd_spec.specs.Files.Places.{place_in};
 
 use crate::RraDef;
-use rrd_spec::first_place;
+use rrd_spec::first_slot_row;
 
 /// The position of the next cell: its archive, the slot of its row in a file, the index of the row (0 is the oldest),
 /// and its data source.
@@ -55,7 +55,7 @@ impl Cursor {
         ensures { result ≡ place_in (resolution step def.now) last def.now.rows self.now.slot }
     {
         if self.slot == 0 && self.source == 0 {
-            return first_place(def.resolution(step), last, def.rows);
+            return first_slot_row(def.resolution(step), last, def.rows);
         }
         self.place
     }

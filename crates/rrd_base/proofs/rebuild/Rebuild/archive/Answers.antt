@@ -10,7 +10,7 @@ use Rattle.rrd_base.proofs.rebuild.Rebuild.archive.Goals as goal
 pub unprepared-requires : goal.unprepared-requires
 unprepared-requires c =
     let may : MayHead (filed_in (coming c.self.inside)) c.args.def = subst (λ f. MayHead f c.args.def) (sym c.self.view_is) (c.may_head.ensures.good c.if-not-may_head.false) in
-    record { few_rows = may.def_is.few_rows; some_sources = c.self.invariant.came.header_is.some_source; few_sources = c.self.invariant.came.header_is.few_sources; there = c.first_place-first.ensures.there }
+    record { few_rows = may.def_is.few_rows; some_sources = c.self.invariant.came.header_is.some_source; few_sources = c.self.invariant.came.header_is.few_sources; there = c.first_slot_row-first.ensures.there }
 
 pub push-requires : goal.push-requires
 push-requires c =

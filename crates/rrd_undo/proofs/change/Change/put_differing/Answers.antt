@@ -1,7 +1,7 @@
 use Rattle.std.proofs.Common.{◌≡◌, ◌≤◌, ◌+◌, length, arith}
 use Rattle.rrd_undo.specs.Changing.{Holds}
 use Rattle.rrd_undo.proofs.Laid.{always_err, on_err, on_ok}
-use Rattle.rrd_undo.proofs.Stages.{other_holds, other_left, other_spoiled, page_of, put_below, turned_turning}
+use Rattle.rrd_undo.proofs.Stages.{other_holds, other_left, other_invalid, page_of, put_below, turned_turning}
 use Rattle.rrd_undo.proofs.change.Change.put_differing.Goals as goal
 
 pub returns-in-Marked-clause-ok : goal.returns-in-Marked-clause-ok
@@ -33,13 +33,13 @@ returns-in-Marked-clause-err g c = on_err c.turn.result _ _ (λ h f old new is w
 pub returns-in_default : goal.returns-in_default
 returns-in_default g c = record {
   ok = on_ok c.put.result _ _ (λ put f old new is within started pages is_at.
-      let other = other_spoiled c.args.self.now.stage old new _ _ _ c.args.at c.in_default.not-Marked started is_at.holds in
+      let other = other_invalid c.args.self.now.stage old new _ _ _ c.args.at c.in_default.not-Marked started is_at.holds in
       record {
         knows = is_at.knows;
         holds = other_holds c.args.self.now.stage old new _ _ _ _ c.in_default.not-Marked started other.0 (put_below new _ _ c.args.at c.args.page.now is (put f) other.1);
       }) c.put.ensures.ok;
   err = always_err c.put.result _ (λ f old new is within started pages is_at.
-      let other = other_spoiled c.args.self.now.stage old new _ _ _ c.args.at c.in_default.not-Marked started is_at.holds in (
+      let other = other_invalid c.args.self.now.stage old new _ _ _ c.args.at c.in_default.not-Marked started is_at.holds in (
         record { knows = is_at.knows; left = other_left c.args.self.now.stage old _ _ _ c.in_default.not-Marked started other.0 },
         λ is_db. absurd (other.0 is_db),
       ));
