@@ -1,5 +1,5 @@
 //! The checks of a new database.
-ghost use Rattle.std.specs.Prelude.{◌≡◌, ◌*◌, ◌≤◌, nat_lt, not};
+ghost use Rattle.std.specs.Prelude.{◌≡◌, ◌*◌, ◌≤◌, ◌||◌, nat_lt, not};
 ghost use Rattle.std.specs.List.{list_any};
 ghost use Rattle.std.specs.Result.{result_err};
 ghost use Rattle.rrd_fixed.specs.Names.{is_good};
@@ -213,10 +213,15 @@ fn is_too_large(spec: &CreateSpec) -> bool
     ensures { result ≡ creating.is_too_large present spec.now }
 {
     let sources = spec.sources.len();
-    let archives = spec.archives.len();
-    sources > MAX_SOURCES
-        || archives > MAX_ARCHIVES
-        || has_too_many_cells(MAX_CELLS, sources, all_rows(spec.archives.as_slice()))
+    let rows = all_rows(spec.archives.as_slice());
+    sources > MAX_SOURCES || is_beyond_limits(sources, spec.archives.len(), rows)
+}
+
+/// Returns whether `archives` archives, or the cells of `sources` data sources with `rows` rows, are too many.
+pub(crate) fn is_beyond_limits(sources: usize, archives: usize, rows: u64) -> bool
+    ensures { result ≡ nat_lt present.max_archives archives || nat_lt present.max_cells (sources * rows) }
+{
+    archives > MAX_ARCHIVES || has_too_many_cells(MAX_CELLS, sources, rows)
 }
 
 /// Returns whether `sources` data sources with `rows` rows have more than `most` cells.

@@ -18,7 +18,7 @@ ghost use Rattle.rrd_spec.specs.Commands.Verdict as verdict;
 ghost use Rattle.rrd_spec.specs.Validity.{IsValid};
 
 use crate::content::Content;
-use crate::create::{check_archives, has_bad_bounds, has_too_many_cells, is_bad_heartbeat};
+use crate::create::{check_archives, has_bad_bounds, is_bad_heartbeat, is_beyond_limits};
 use crate::journal::{Entry, put_back};
 use crate::named::has_source;
 use crate::rows::all_rows;
@@ -27,7 +27,7 @@ use crate::{ArchiveTune, DsDef, Refusal, RraDef, SavedSource, Tuning};
 use arrayvec::ArrayVec;
 use rrd_fixed::{Kind, Name, Raw};
 use rrd_spec::laws;
-use rrd_spec::limits::{MAX_ARCHIVES, MAX_CELLS, MAX_TUNED};
+use rrd_spec::limits::MAX_TUNED;
 use std::alloc::{AllocError, Global};
 
 // ---- the checks
@@ -154,8 +154,7 @@ fn is_too_large(sources: usize, archives: &[Rra], rows: u64) -> bool
     ensures { let all = rows_of_archives archives.now ++ rows ∷ [] in
         result ≡ nat_lt present.max_archives (length all) || nat_lt present.max_cells (sources * sum all) }
 {
-    archives.len() >= MAX_ARCHIVES
-        || has_too_many_cells(MAX_CELLS, sources, all_rows(archives) + rows)
+    is_beyond_limits(sources, archives.len() + 1, all_rows(archives) + rows)
 }
 
 // Checks whether an archive with these settings can be added.
