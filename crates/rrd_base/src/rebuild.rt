@@ -4,8 +4,8 @@
 //! `finish`. Each rule of the layout is checked at the first record that can break it, so the first record that is
 //! refused is the file's first error, and `decode` need not check again. A new rule belongs in the definition of its
 //! record (`MaySource`, `MayHead`, ..) and in the check of that name; the contract of `finish` shows if a rule is
-//! missing. A rule of an entry belongs in `EntryValidator`: a reader checks each record of an entry by it, and this module
-//! checks the complete entry.
+//! missing. A rule of an entry belongs in `EntryValidator`: a reader checks each record of an entry by it, and this
+//! module checks the complete entry.
 //!
 //! Pitfalls:
 //!

@@ -217,8 +217,8 @@ impl Archive {
         ensures turns { meter.new ≡ meter.old + length cells.now }
     {
         let start = cells_of(self.oldest, self.sources);
-        // The rows before `start` are written, except in an archive of `new_filled_from` that was not filled up to the newest
-        // row.
+        // The rows before `start` are written, except in an archive of `new_filled_from` that was not filled up to the
+        // newest row.
         fill_up(&mut self.cells, start);
         write_row_at(&mut self.cells, start, cells, meter);
         self.oldest = wrap(self.oldest + 1, self.rows);

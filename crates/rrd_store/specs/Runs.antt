@@ -342,8 +342,8 @@ abbrev pub EndsUnread : Run → Type 0
 EndsUnread run = (fault : TaskFault) × IsOfPlace fault × (fault_of run ≡ Some fault) × OutputStays run
 
 -- the run does what is computed from what the file stands for, and leaves the file of that. Where it isn't known what
--- the storage has, as of a file of the program, it does what is computed from some valid state, or from none, or it ends
--- unread
+-- the storage has, as of a file of the program, it does what is computed from some valid state, or from none, or it
+-- ends unread
 abbrev pub IsComputed : Option Held → Option Held → Run → Type 0
 IsComputed None new run =
     ((s : Option Filing) × IsValidFiling s × (t1 : Standing) × Leads (Keeping s) run t1) ⊎ EndsUnread run

@@ -42,8 +42,8 @@ StartsFrom command held start = StartsBy (effect command) held start
 
 -- ---- what is left of it
 
--- after a refused command and one that printed the storage is as it was; a change is written. What was printed, which is
--- some text, may fail to be handed on
+-- after a refused command and one that printed the storage is as it was; a change is written. What was printed, which
+-- is some text, may fail to be handed on
 abbrev pub EndsBy : Option Fault → Bool → Option Stored → List ℕ → Option Held → Option Held
     → Result (Unit {0}) TaskFault → Type 0
 EndsBy (Some fault) changed database text old new end = (end ≡ Err (task.Command fault)) × Stays old new

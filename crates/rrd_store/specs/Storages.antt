@@ -8,8 +8,8 @@ use Rattle.rrd_spec.specs.Journal.Survivors.{Stored}
 use Rattle.rrd_store.specs.declared.faults.TaskFault.{TaskFault}
 use Rattle.rrd_store.specs.declared.faults.TaskFault.TheVariants.{Command, Stream, File, CannotOpen, CannotWrite}
 
--- what a storage stands for, which is what the next open reads: nothing is there, or something with these bytes, which may
--- be none
+-- what a storage stands for, which is what the next open reads: nothing is there, or something with these bytes, which
+-- may be none
 pub data Held : Type 0 where
   Missing : Held
   Bytes : List ℕ → Held

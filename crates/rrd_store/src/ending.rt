@@ -87,8 +87,8 @@ pub fn report_batch<W: Write>(
 
 /// Reports the faults of a batch on a file, and returns the status of the program.
 ///
-/// If the lines were run, the report and the status are those of [`report_batch`]. If no database could be read from the
-/// file, they are those of [`report_command`].
+/// If the lines were run, the report and the status are those of [`report_batch`]. If no database could be read from
+/// the file, they are those of [`report_command`].
 pub fn report_file_batch<W: Write>(err: &mut W, end: Result<FileBatchEnd, TaskFault>) -> u8
     ensures status { result ≡ file_batch_status end }
     ensures told { Tells (W.contents err.old) (W.contents err.new) (file_batch_report USAGE.now end) }

@@ -92,14 +92,15 @@ fn run_words<P: Storage, W: Write>(
 /// Runs one command on the database in `storage`, and writes the command's output to `out`.
 ///
 /// The arguments are parsed first. Then the database is read from `storage`, unless the command is a create. Then the
-/// command runs, and if the command changed the database, the database is written to `storage`. `now` is the present time
-/// in seconds since 1970.
+/// command runs, and if the command changed the database, the database is written to `storage`. `now` is the present
+/// time in seconds since 1970.
 ///
 /// # Errors
 ///
 /// - `Command` if the arguments are no command. `storage` was not read.
 /// - `CannotOpen` or `File` if no database can be read from `storage`.
-/// - `Command` if the command is refused, or a write of its output failed. `storage` is unchanged, as in the cases above.
+/// - `Command` if the command is refused, or a write of its output failed. `storage` is unchanged, as in the cases
+///   above.
 /// - `CannotWrite` if an accepted change could not be written: `storage` has its old bytes, or the new bytes, or the
 ///   first part of the new bytes.
 pub fn run_file_command<P: Storage, W: Write>(

@@ -34,7 +34,8 @@ pub trait Storage {
     /// Returns a reader of the bytes, from the first byte on. Returns `None` if nothing is stored.
     ///
     /// If a change was interrupted before, `open` may end the change or take the change back. Nobody else changes the
-    /// bytes while they are read; after an `open` for [`Access::ReadWrite`] nobody else does until the change is written.
+    /// bytes while they are read; after an `open` for [`Access::ReadWrite`] nobody else does until the change is
+    /// written.
     ///
     /// # Errors
     ///
@@ -45,7 +46,8 @@ pub trait Storage {
 
     /// Begins to replace the bytes by exactly `length` new bytes, and returns a writer of the new bytes.
     ///
-    /// If nothing is stored, `begin_write` may create a storage without bytes. The new bytes count only after [`Storage::commit`].
+    /// If nothing is stored, `begin_write` may create a storage without bytes. The new bytes count only after
+    /// [`Storage::commit`].
     ///
     /// # Errors
     ///
