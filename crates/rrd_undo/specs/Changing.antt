@@ -48,7 +48,7 @@ IsLeft Committing old tail count file = (f : List ℕ) → ArePut 0 (undo_mark t
 IsLeft Unkept old tail count file = (IsDatabase old → ⊥) × StaysBehind old file
 IsLeft Invalid old tail count file = (IsDatabase old → ⊥)
 
--- a file that is changed is marked or spoiled
+-- a file that is changed is marked, or marked invalid
 abbrev pub IsStarted : Stage → Type 0
 IsStarted Untouched = ⊥
 IsStarted Marked = ⊤

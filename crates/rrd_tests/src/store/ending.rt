@@ -9,7 +9,7 @@ use std::alloc::Global;
 use std::process::Abort;
 use std::test::Fail;
 
-const MISUSE: TaskFault = TaskFault::Command(Fault::Line(LineFault::Usage));
+const USAGE_ERROR: TaskFault = TaskFault::Command(Fault::Line(LineFault::Usage));
 
 const NO_SAMPLE_READ: TaskFault = TaskFault::Command(Fault::Line(LineFault::BadWord {
     part: Part::Sample,
@@ -33,7 +33,7 @@ const OTHER_FAULTS: &[(TaskFault, &str, &str)] = &[
         "bad step",
         "",
     ),
-    (MISUSE, "usage", USAGE),
+    (USAGE_ERROR, "usage", USAGE),
 ];
 
 // A fault shows its text, and its line has it; the usage text follows where the words were no command.
@@ -110,7 +110,7 @@ fn ends_of_commands(rt: HostRuntime) -> Result<(), Fail> {
     let misused = format!(in alloc; "ERROR: usage\n{USAGE}")?;
     for (end, status, text) in [
         (Ok(()), 0, ""),
-        (Err(MISUSE), 2, misused.as_str()),
+        (Err(USAGE_ERROR), 2, misused.as_str()),
         (Err(NO_SAMPLE_READ), 1, "ERROR: unreadable sample 1\n"),
     ] {
         let mut err = Vec::new(alloc);
