@@ -400,8 +400,8 @@ not_true false e t = cc
 
 pub at_left : (old new : List ℕ) (done : ℕ) (c : Change) (f : List ℕ) → IsAt old new done c f → IsBroken old c f × StandsForOld old f
 at_left old new done c f is_at = (
-  record { knows = is_at.knows; left = holds_left c.stage old new c.tail.place c.tail.slots c.length f done is_at.knows.tail is_at.holds },
-  λ is. holds_stands c.stage old new c.tail.place c.tail.slots f done is_at.knows.tail is_at.holds is,
+  record { knows = is_at.knows; left = holds_left c.stage old new c.tail.offset c.tail.slots c.length f done is_at.knows.tail is_at.holds },
+  λ is. holds_stands c.stage old new c.tail.offset c.tail.slots f done is_at.knows.tail is_at.holds is,
 )
 
 knows_page : (old : List ℕ) (c d : Change) → d ≡ record c { old_page = d.old_page } → Knows old c → Knows old d
@@ -410,7 +410,7 @@ knows_page old c d frame knows = rw frame (record { old_length = knows.old_lengt
 pub at_same : (old new : List ℕ) (done : ℕ) (c d : Change) (f g : List ℕ) → d ≡ record c { old_page = d.old_page } → g ≡ f → IsAt old new done c f → IsAt old new done d g
 at_same old new done c d f g frame same is_at =
     let knows : Knows old d = knows_page old c d frame is_at.knows in
-    let holds : Holds d.stage old new d.tail.place d.tail.slots g done = rw (frame, same) is_at.holds in
+    let holds : Holds d.stage old new d.tail.offset d.tail.slots g done = rw (frame, same) is_at.holds in
     record { knows = knows; holds = holds }
 
 pub at_page_same : (old new : List ℕ) (at : ℕ) (page : List ℕ) (c d : Change) (f g : List ℕ) → 4096 ≤ at → d ≡ record c { old_page = d.old_page } → g ≡ f → IsPage new at page
@@ -421,8 +421,8 @@ at_page_same old new at page c d f g high frame same is page_is are is_at =
       each = λ i low. ap (λ (b : List ℕ). slice_index b i) page_is ∙ are.each i low;
     }) in
     let knows : Knows old d = knows_page old c d frame is_at.knows in
-    let more : Holds c.stage old new c.tail.place c.tail.slots f (at + 4096) = same_holds c.stage old new c.tail.place c.tail.slots f at page high is are_page is_at.holds in
-    let holds : Holds d.stage old new d.tail.place d.tail.slots g (at + 4096) = rw (frame, same) more in
+    let more : Holds c.stage old new c.tail.offset c.tail.slots f (at + 4096) = same_holds c.stage old new c.tail.offset c.tail.slots f at page high is are_page is_at.holds in
+    let holds : Holds d.stage old new d.tail.offset d.tail.slots g (at + 4096) = rw (frame, same) more in
     record { knows = knows; holds = holds }
 
 -- the old page at hand
@@ -430,7 +430,7 @@ pub at_old_page : (old new : List ℕ) (at : ℕ) (page bytes kept : List ℕ) (
     → kept ≡ bytes → IsDatabase old → AreAt old at (min (length old - at) (length page)) kept
 at_old_page old new at page bytes kept c f high are is_at same is =
     let are_old : AreAt f at (min (length old - at) (length page)) bytes = rw (← is_at.knows.old_length) are in
-    rw same (old_page c.stage old new c.tail.place c.tail.slots f at (min (length old - at) (length page)) bytes high (omega arith) are_old is_at.holds is)
+    rw same (old_page c.stage old new c.tail.offset c.tail.slots f at (min (length old - at) (length page)) bytes high (omega arith) are_old is_at.holds is)
 
 pub page_of : (old : List ℕ) (at : ℕ) (page bytes taken : List ℕ) → 16 ≤ at → length page ≤ 4096 → AreAt old at (min (length old - at) (length page)) bytes → taken ≡ bytes
     → IsOldPage old at taken × (length taken ≡ min (length old - at) (length page))

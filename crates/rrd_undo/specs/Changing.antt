@@ -60,18 +60,18 @@ IsStarted Invalid = ⊤
 pub record Knows (old : List ℕ) (c : Change) : Type 0 where
   pub old_length : c.old_length ≡ length old
   pub old_first : AreAt old 0 (min 4096 (length old)) c.old_first.items
-  pub tail : IsTail old c.tail.place
-  pub below : c.length ≤ c.tail.place
+  pub tail : IsTail old c.tail.offset
+  pub below : c.length ≤ c.tail.offset
 
 -- the new pages below `done`, but for the first, are in the file
 pub record IsAt (old new : List ℕ) (done : ℕ) (c : Change) (file : List ℕ) : Type 0 where
   pub knows : Knows old c
-  pub holds : Holds c.stage old new c.tail.place c.tail.slots file done
+  pub holds : Holds c.stage old new c.tail.offset c.tail.slots file done
 
 -- a call has failed
 pub record IsBroken (old : List ℕ) (c : Change) (file : List ℕ) : Type 0 where
   pub knows : Knows old c
-  pub left : IsLeft c.stage old c.tail.place c.length file
+  pub left : IsLeft c.stage old c.tail.offset c.length file
 
 -- the next one who opens the file has the old bytes, if they were a database
 abbrev pub StandsForOld : List ℕ → List ℕ → Type 0

@@ -79,7 +79,7 @@ impl Change {
         Change {
             stage: Stage::Untouched,
             tail: Tail {
-                place: 0,
+                offset: 0,
                 slots: 0,
                 buffer: Vec::new(alloc),
                 syncs,
@@ -98,7 +98,7 @@ impl Change {
     {
         self.stage = Stage::Untouched;
         self.old_length = file.len()?;
-        self.tail.place = page_from(self.old_length.max(self.length))?;
+        self.tail.offset = page_from(self.old_length.max(self.length))?;
         let count = self.old_length.min(PAGE);
         read_page(file, 0, count, &mut self.old_first)
     }
@@ -136,7 +136,7 @@ impl Change {
 
     // Marks a file that is a database, so that a kill leaves the old bytes.
     fn mark<F: Bytes>(&mut self, file: &mut F) -> io::Result<()>
-        requires page { self.old.tail.place % 4096 ≡ 0 }
+        requires page { self.old.tail.offset % 4096 ≡ 0 }
         requires enough { 16 ≤ length self.old.old_first.items }
         ensures frame { self.new ≡ record self.old { stage = self.new.stage; tail = record self.old.tail { slots = 0 } } }
         ensures started { IsStarted self.new.stage }
@@ -151,10 +151,10 @@ impl Change {
 
     // Checks whether a file is a database and can be marked.
     fn can_mark(&self) -> bool
-        ensures yes { IsTrue result → IsDatabase self.now.old_first.items × (self.now.tail.place % 4096 ≡ 0) }
-        ensures no { IsDatabase self.now.old_first.items → self.now.tail.place % 4096 ≡ 0 → IsTrue result }
+        ensures yes { IsTrue result → IsDatabase self.now.old_first.items × (self.now.tail.offset % 4096 ≡ 0) }
+        ensures no { IsDatabase self.now.old_first.items → self.now.tail.offset % 4096 ≡ 0 → IsTrue result }
     {
-        is_database(&self.old_first) && self.tail.place % PAGE == 0
+        is_database(&self.old_first) && self.tail.offset % PAGE == 0
     }
 
     // Prepares a file for its first replaced page, unless the file is prepared: marks the file as changing or invalid.
@@ -241,10 +241,10 @@ impl Change {
     fn put_first<F: Bytes>(&mut self, file: &mut F, first: &[u8]) -> io::Result<()>
         ensures frame { self.new ≡ record self.old { tail = record self.old.tail { slots = self.new.tail.slots; buffer = self.new.tail.buffer } } }
         ensures ok { OnOk result (IsTrue F.is_known → (old new : List ℕ) (done : ℕ) → IsDatabase old → Knows old self.old → self.old.length ≡ length new → length new ≤ done
-            → AreAt new 0 (min 4096 (length new)) first.now → Turning old new self.old.tail.place self.old.tail.slots (F.held file.old) done
-            → Paged old new self.new.tail.place self.new.tail.slots (F.held file.new)) }
+            → AreAt new 0 (min 4096 (length new)) first.now → Turning old new self.old.tail.offset self.old.tail.slots (F.held file.old) done
+            → Paged old new self.new.tail.offset self.new.tail.slots (F.held file.new)) }
         ensures err { OnErr result (IsTrue F.is_known → (old new : List ℕ) (done : ℕ) → IsDatabase old → Knows old self.old → self.old.length ≡ length new → length new ≤ done
-            → AreAt new 0 (min 4096 (length new)) first.now → Turning old new self.old.tail.place self.old.tail.slots (F.held file.old) done
+            → AreAt new 0 (min 4096 (length new)) first.now → Turning old new self.old.tail.offset self.old.tail.slots (F.held file.old) done
             → settled (F.held file.new) ≡ old) }
     {
         let old = self.old_first.as_slice();
@@ -265,10 +265,10 @@ impl Change {
     fn end_marked<F: Bytes>(&mut self, file: &mut F, first: &[u8]) -> io::Result<()>
         requires { 16 ≤ length first.now }
         ensures ok { OnOk result (IsTrue F.is_known → (old new : List ℕ) (done : ℕ) → IsDatabase old → IsDatabase new → Knows old self.old → self.old.length ≡ length new → length new ≤ done
-            → AreAt new 0 (min 4096 (length new)) first.now → Turning old new self.old.tail.place self.old.tail.slots (F.held file.old) done
+            → AreAt new 0 (min 4096 (length new)) first.now → Turning old new self.old.tail.offset self.old.tail.slots (F.held file.old) done
             → settled (F.held file.new) ≡ new) }
         ensures err { self.old.stage ≡ Stage.Marked → OnErr result (IsTrue F.is_known → (old new : List ℕ) (done : ℕ) → IsDatabase old → IsDatabase new → Knows old self.old → self.old.length ≡ length new → length new ≤ done
-            → AreAt new 0 (min 4096 (length new)) first.now → Turning old new self.old.tail.place self.old.tail.slots (F.held file.old) done
+            → AreAt new 0 (min 4096 (length new)) first.now → Turning old new self.old.tail.offset self.old.tail.slots (F.held file.old) done
             → IsBroken old self.new (F.held file.new) × StandsForEither old new (F.held file.new)) }
     {
         self.put_first(file, first)?;
@@ -358,10 +358,10 @@ impl Change {
 
     // Marks a file again, after the call that makes the file represent its new bytes failed.
     fn mark_again<F: Bytes>(&self, file: &mut F) -> io::Result<()>
-        ensures ok { OnOk result (IsTrue F.is_known → ArePut 0 (undo_mark self.now.tail.place) (F.held file.old) (F.held file.new)) }
-        ensures err { OnErr result (IsTrue F.is_known → AreWholeOrNot 0 (undo_mark self.now.tail.place) (F.held file.old) (F.held file.new)) }
+        ensures ok { OnOk result (IsTrue F.is_known → ArePut 0 (undo_mark self.now.tail.offset) (F.held file.old) (F.held file.new)) }
+        ensures err { OnErr result (IsTrue F.is_known → AreWholeOrNot 0 (undo_mark self.now.tail.offset) (F.held file.old) (F.held file.new)) }
     {
-        file.put_whole(0, &undo_mark(self.tail.place))
+        file.put_whole(0, &undo_mark(self.tail.offset))
     }
 
     // Leaves the first `count` of the new bytes in the file.

@@ -9,7 +9,7 @@ ghost use Rattle.rrd_undo.specs.Undoing.{IsToCut};
 
 use crate::Bytes;
 use crate::page::{MIN_DATABASE_SIZE, PAGE};
-use crate::tail::{SLOT, SLOT_HEADER, Syncs, cut_front, finish, place_of_slot};
+use crate::tail::{SLOT, SLOT_HEADER, Syncs, cut_front, finish, offset_of_slot};
 use rrd_tail::{DATABASE_MARK, Mark, Record, Shape, SlotHeader, read_mark, read_slot};
 use std::io::{self, Error, ErrorKind};
 
@@ -133,7 +133,7 @@ fn read_slot_at<F: Bytes>(
     ensures few { IfOk result (λ found. IfSome found (λ header. 32 + header.count ≤ length buffer.new.items)) }
     ensures ok { IfOk result (λ found. IsTrue F.is_known → file_length ≡ length (F.held file.old) → IsSlotFound tail (F.held file.old) number buffer.new.items found) }
 {
-    let at = place_of_slot(tail, number)?;
+    let at = offset_of_slot(tail, number)?;
     if file_length <= at {
         return Ok(None);
     }
@@ -159,7 +159,7 @@ fn put_slots<F: Bytes>(
             return Ok(());
         };
         let end = SLOT_HEADER + slot.count;
-        file.put(slot.place, &buffer[SLOT_HEADER..end])?;
+        file.put(slot.offset, &buffer[SLOT_HEADER..end])?;
     }
     Err(Error::from(ErrorKind::FileTooLarge))
 }

@@ -7,11 +7,11 @@ use Rattle.std.proofs.lemmas.List.{same_lists, get_or_append_left, length_push, 
 use Rattle.std.proofs.lemmas.List.Prefix.{front_from_reads}
 use Rattle.std.proofs.lemmas.Nat.{from_be_bytes-to_be_bytes_8}
 use Rattle.rrd_tail.specs.Bytes.{StandsAt, begins_with}
-use Rattle.rrd_tail.specs.Slots.{Slot, slot_header, slot_bytes, spelled_slot, is_right_slot, IsRightSlot, read_slot, slot_place, slot_at, slots_from, slots_in}
-use Rattle.rrd_tail.specs.Laws.{AreSlots, Continues, next_place}
+use Rattle.rrd_tail.specs.Slots.{Slot, slot_header, slot_bytes, spelled_slot, is_right_slot, IsRightSlot, read_slot, slot_offset, slot_at, slots_from, slots_in}
+use Rattle.rrd_tail.specs.Laws.{AreSlots, Continues, next_offset}
 use Rattle.rrd_tail.proofs.Fronts.{front_of, begins_from}
 use Rattle.rrd_tail.proofs.Options.{same_value, no_value}
-use Rattle.rrd_tail.proofs.Slotted.{right_from, right_is, length-header, length-slot, header_says, place_in, count_in, bytes_in, read_by, read_found, read_unless, read_short}
+use Rattle.rrd_tail.proofs.Slotted.{right_from, right_is, length-header, length-slot, header_says, offset_in, count_in, bytes_in, read_by, read_found, read_unless, read_short}
 use Rattle.rrd_tail.proofs.Words.{from_be-same}
 use Rattle.rrd_tail.proofs.Standing.{length-part, get_or-part, stands_from, drop_same}
 
@@ -45,40 +45,40 @@ slot_of tail bytes s e =
       ]
     ]
 
--- a slot's place is what its bytes spell
-abbrev pub SpellsPlace : Slot → Type 0
-SpellsPlace s = from_be_bytes w64 (to_be_bytes w64 s.place) ≡ s.place
+-- a slot's offset is what its bytes spell
+abbrev pub SpellsOffset : Slot → Type 0
+SpellsOffset s = from_be_bytes w64 (to_be_bytes w64 s.offset) ≡ s.offset
 
-pub slot_is : (tail : ℕ) (s : Slot) (bytes rest : List ℕ) → SpellsPlace s → IsRightSlot tail s → bytes ≡ slot_bytes tail s ++ rest → read_slot tail bytes ≡ Some s
-slot_is tail s bytes rest place right e =
-    let p = place_in tail s bytes rest e ∙ place in
+pub slot_is : (tail : ℕ) (s : Slot) (bytes rest : List ℕ) → SpellsOffset s → IsRightSlot tail s → bytes ≡ slot_bytes tail s ++ rest → read_slot tail bytes ≡ Some s
+slot_is tail s bytes rest offset right e =
+    let p = offset_in tail s bytes rest e ∙ offset in
     let n = count_in tail s bytes rest e (omega (arith, right.most)) in
     let b : slice_range bytes 32 (32 + from_be_bytes w64 (slice_range bytes 8 16)) ≡ s.bytes = ap (λ m. slice_range bytes 32 (32 + m)) n ∙ bytes_in tail s bytes rest e in
-    let A : ℕ → Slot = λ x. record { place = x; bytes = slice_range bytes 32 (32 + from_be_bytes w64 (slice_range bytes 8 16)) } in
-    let B : List ℕ → Slot = λ x. record { place = s.place; bytes = x } in
+    let A : ℕ → Slot = λ x. record { offset = x; bytes = slice_range bytes 32 (32 + from_be_bytes w64 (slice_range bytes 8 16)) } in
+    let B : List ℕ → Slot = λ x. record { offset = s.offset; bytes = x } in
     let spelled : spelled_slot bytes ≡ s = ap A p ∙ ap B b in
     let begins = ap (λ x. begins_with bytes (slot_bytes tail x)) spelled ∙ begins_from bytes (slot_bytes tail s) rest e in
     let P : Slot → Type 0 = λ x. IsRightSlot tail x in
     read_found tail bytes begins (subst P (sym spelled) right) ∙ ap Some spelled
 
--- a slot that is read spells its place
-slot_spells : (tail : ℕ) (bytes : List ℕ) (s : Slot) → read_slot tail bytes ≡ Some s → SpellsPlace s
+-- a slot that is read spells its offset
+slot_spells : (tail : ℕ) (bytes : List ℕ) (s : Slot) → read_slot tail bytes ≡ Some s → SpellsOffset s
 slot_spells tail bytes s e =
     let is = slot_of tail bytes s e in
     let found = read_is tail bytes s e in
-    sym (place_in tail s bytes (drop (length (slot_bytes tail s)) bytes) is.0) ∙ ap (λ t. t.place) found
+    sym (offset_in tail s bytes (drop (length (slot_bytes tail s)) bytes) is.0) ∙ ap (λ t. t.offset) found
 
-pub slot_stands : (tail i : ℕ) (s : Slot) (file : List ℕ) → slot_at tail file i ≡ Some s → StandsAt file (slot_place tail i) (slot_bytes tail s) × IsRightSlot tail s
+pub slot_stands : (tail i : ℕ) (s : Slot) (file : List ℕ) → slot_at tail file i ≡ Some s → StandsAt file (slot_offset tail i) (slot_bytes tail s) × IsRightSlot tail s
 slot_stands tail i s file e =
-    let at = slot_place tail i in
+    let at = slot_offset tail i in
     let part = slice_range file at (at + 4128) in
     let is = slot_of tail part s e in
     let size = length-slot tail s in
     (stands_from file at (at + 4128) (slot_bytes tail s) (drop (length (slot_bytes tail s)) part) is.0 (omega (arith, size)), is.1)
 
-slot_there : (tail i : ℕ) (s : Slot) (file : List ℕ) → SpellsPlace s → IsRightSlot tail s → StandsAt file (slot_place tail i) (slot_bytes tail s) → slot_at tail file i ≡ Some s
-slot_there tail i s file place right stands =
-    let at = slot_place tail i in
+slot_there : (tail i : ℕ) (s : Slot) (file : List ℕ) → SpellsOffset s → IsRightSlot tail s → StandsAt file (slot_offset tail i) (slot_bytes tail s) → slot_at tail file i ≡ Some s
+slot_there tail i s file offset right stands =
+    let at = slot_offset tail i in
     let part = slice_range file at (at + 4128) in
     let bytes = slot_bytes tail s in
     let size = length-slot tail s in
@@ -87,17 +87,17 @@ slot_there tail i s file place right stands =
     let within = stands.within in
     let front = front_from_reads 0 part bytes (omega (arith, size, size_part, most, within))
     (λ k h. get_or-part file at (at + 4128) k (omega (arith, size, most, h)) ∙ stands.each k h) in
-    slot_is tail s part (drop (length bytes) part) place right front
+    slot_is tail s part (drop (length bytes) part) offset right front
 
-pub slot_reads : (tail i : ℕ) (s : Slot) (file : List ℕ) → tail < 2 ^ 64 → IsRightSlot tail s → StandsAt file (slot_place tail i) (slot_bytes tail s) → slot_at tail file i ≡ Some s
+pub slot_reads : (tail i : ℕ) (s : Slot) (file : List ℕ) → tail < 2 ^ 64 → IsRightSlot tail s → StandsAt file (slot_offset tail i) (slot_bytes tail s) → slot_at tail file i ≡ Some s
 slot_reads tail i s file fits right stands =
     let below = right.below in
-    slot_there tail i s file (from_be_bytes-to_be_bytes_8 s.place (omega (arith, fits, below))) right stands
+    slot_there tail i s file (from_be_bytes-to_be_bytes_8 s.offset (omega (arith, fits, below))) right stands
 
 -- a file that ends before a slot's header does has none there
-pub slot_past : (tail i : ℕ) (file : List ℕ) → length file < slot_place tail i + 32 → slot_at tail file i ≡ None
+pub slot_past : (tail i : ℕ) (file : List ℕ) → length file < slot_offset tail i + 32 → slot_at tail file i ≡ None
 slot_past tail i file short =
-    let at = slot_place tail i in
+    let at = slot_offset tail i in
     let size = length-part file at (at + 4128) in
     read_short tail (slice_range file at (at + 4128)) (omega (arith, size, short))
 
@@ -171,7 +171,7 @@ in_order tail file = record {
 
 no_more : (tail : ℕ) (file : List ℕ) (xs ys : List Slot) → AreSlots tail file xs → AreSlots tail file ys → length ys ≤ length xs
 no_more tail file xs ys a b = elim (cases_lt (length xs) (length ys)) [
-  | inl h ↦ absurd (no_value (sym a.end ∙ b.each (length xs) (record { place = 0; bytes = [] }) h))
+  | inl h ↦ absurd (no_value (sym a.end ∙ b.each (length xs) (record { offset = 0; bytes = [] }) h))
   | inr h ↦ h
 ]
 
@@ -189,7 +189,7 @@ continued : (tail : ℕ) (file new : List ℕ) → length file ≤ length new �
     slot_at tail new i ≡ Some (get_or (slots_in tail file) i d)
 continued tail file new longer same i d h =
     let s = get_or (slots_in tail file) i d in
-    let at = slot_place tail i in
+    let at = slot_offset tail i in
     let found = in_each tail file i d h in
     let old = slot_stands tail i s file found in
     let within = old.0.within in
@@ -211,8 +211,8 @@ counts_same tail s t right_s right_t h =
     sym (header_says tail s t.bytes (omega (arith, right_s.most))) ∙ ap (λ xs. from_be_bytes w64 (slice_range xs 8 16)) all
     ∙ count_in tail t (slot_bytes tail t ++ []) [] refl (omega (arith, right_t.most))
 
-pub appended : (tail : ℕ) (s : Slot) (file new : List ℕ) → tail < 2 ^ 64 → IsRightSlot tail s → length file ≤ next_place tail file → Continues file new →
-    StandsAt new (next_place tail file) (slot_bytes tail s) → length new ≡ next_place tail file + length (slot_bytes tail s) →
+pub appended : (tail : ℕ) (s : Slot) (file new : List ℕ) → tail < 2 ^ 64 → IsRightSlot tail s → length file ≤ next_offset tail file → Continues file new →
+    StandsAt new (next_offset tail file) (slot_bytes tail s) → length new ≡ next_offset tail file + length (slot_bytes tail s) →
     slots_in tail new ≡ slots_in tail file ++ s ∷ []
 appended tail s file new fits right low same stands len =
     let olds = slots_in tail file in
@@ -250,8 +250,8 @@ none_added tail file new longer same none =
     })
 
 pub cut_short : (tail : ℕ) (s : Slot) (file new : List ℕ) → tail < 2 ^ 64 → IsRightSlot tail s → length file ≤ length new → Continues file new →
-    length new < next_place tail file + length (slot_bytes tail s) →
-    ((i : ℕ) → next_place tail file + i < length new → get_or new (next_place tail file + i) 0 ≡ get_or (slot_bytes tail s) i 0) →
+    length new < next_offset tail file + length (slot_bytes tail s) →
+    ((i : ℕ) → next_offset tail file + i < length new → get_or new (next_offset tail file + i) 0 ≡ get_or (slot_bytes tail s) i 0) →
     slots_in tail new ≡ slots_in tail file
 cut_short tail s file new fits right longer same short front = none_added tail file new longer same (λ t e.
     let there = slot_stands tail (length (slots_in tail file)) t new e in
@@ -272,8 +272,8 @@ no_zeros tail t right zeros =
     let none : length t.bytes ≡ 0 = sym count ∙ nothing in
     omega (arith, right.some, none)
 
-pub zeros_end : (tail : ℕ) (file new : List ℕ) → length file ≤ length new → length file ≤ next_place tail file → Continues file new →
-    ((i : ℕ) → i < 32 → get_or new (next_place tail file + i) 0 ≡ 0) → slots_in tail new ≡ slots_in tail file
+pub zeros_end : (tail : ℕ) (file new : List ℕ) → length file ≤ length new → length file ≤ next_offset tail file → Continues file new →
+    ((i : ℕ) → i < 32 → get_or new (next_offset tail file + i) 0 ≡ 0) → slots_in tail new ≡ slots_in tail file
 zeros_end tail file new longer low same zeros = none_added tail file new longer same (λ t e.
     let there = slot_stands tail (length (slots_in tail file)) t new e in
     let size = length-slot tail t in
@@ -283,7 +283,7 @@ pub slots_stay : (tail : ℕ) (file new : List ℕ) → length new ≡ length fi
 slots_stay tail file new len h =
     let olds = in_order tail file in
     let at : (i : ℕ) → slot_at tail new i ≡ slot_at tail file i =
-    λ i. ap (λ xs. read_slot tail (take (slot_place tail i + 4128 - slot_place tail i) xs)) (drop_same file new (slot_place tail i) len (λ k j. h k (omega (arith, j)))) in
+    λ i. ap (λ xs. read_slot tail (take (slot_offset tail i + 4128 - slot_offset tail i) xs)) (drop_same file new (slot_offset tail i) len (λ k j. h k (omega (arith, j)))) in
     only_slots tail new (slots_in tail new) (slots_in tail file) (in_order tail new) (record {
       each = λ i d j. at i ∙ olds.each i d j;
       right = λ i d j. olds.right i d j;
