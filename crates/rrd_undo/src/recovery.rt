@@ -106,19 +106,9 @@ fn settle_cut<F: Bytes>(
 {
     match read_last(file, file_length, shape, buffer)? {
         None => unmark(file)?,
-        Some(record) => end_cut(file, shape, &record)?,
+        Some(last) => finish(file, last.length, Syncs::Ordered)?,
     }
     Ok(Settled::Ended)
-}
-
-// Cuts a file with a cut mark to the length in its last record.
-fn end_cut<F: Bytes>(file: &mut F, shape: Shape, last: &Record) -> io::Result<()>
-    ensures stands { IsTrue F.is_known → mark_of (F.held file.old) ≡ Some (Mark.Cut shape) → last_record shape (F.held file.old) ≡ Some last.now
-        → settled (F.held file.new) ≡ settled (F.held file.old) }
-    ensures ok { OnOk result (IsTrue F.is_known → mark_of (F.held file.old) ≡ Some (Mark.Cut shape) → last_record shape (F.held file.old) ≡ Some last.now
-        → F.held file.new ≡ settled (F.held file.old)) }
-{
-    finish(file, last.length, Syncs::Ordered)
 }
 
 // Reads the slot with this number, if the file has that slot.
