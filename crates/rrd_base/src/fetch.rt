@@ -63,19 +63,19 @@ impl Search {
     }
 
     /// Offers the next archive.
-    pub(crate) fn offer(&mut self, number: u64, def: &RraDef)
+    pub(crate) fn offer(&mut self, archive: u64, def: &RraDef)
         requires some_steps { 0 < def.now.steps }
         requires few_steps { def.now.steps ≤ present.max_steps_per_row }
         requires few_rows { def.now.rows ≤ present.max_rows }
         ensures { (step last : ℕ) (request : FetchRequest) (defs : List RraDef) →
-            number ≡ length defs →
+            archive ≡ length defs →
             self.old ≡ searched step last request defs →
             self.new ≡ searched step last request (defs ++ def.now ∷ []) }
     {
         if !is_same_function(def.function, self.request.function) {
             return;
         }
-        let next = candidate(self.step, self.last, number, def);
+        let next = candidate(self.step, self.last, archive, def);
         let is_taken = match &self.best {
             Some(best) => is_preferred(self.request, &next, best),
             None => true,
@@ -125,14 +125,14 @@ fn is_same_function(one: Function, other: Function) -> bool
 }
 
 // Returns the number, the resolution and the reach of an archive.
-fn candidate(step: u64, last: u64, number: u64, def: &RraDef) -> Candidate
+fn candidate(step: u64, last: u64, archive: u64, def: &RraDef) -> Candidate
     requires some_step { 0 < step }
     requires small_step { step ≤ present.max_step_seconds }
     requires good_last { last ≤ present.max_time }
     requires some_steps { 0 < def.now.steps }
     requires few_steps { def.now.steps ≤ present.max_steps_per_row }
     requires few_rows { def.now.rows ≤ present.max_rows }
-    ensures value { result ≡ choice.candidate step last (number, def.now) }
+    ensures value { result ≡ choice.candidate step last (archive, def.now) }
     ensures some_resolution { 0 < result.resolution }
     ensures small_resolution { result.resolution ≤ 10 ^ 12 }
 {
@@ -140,7 +140,7 @@ fn candidate(step: u64, last: u64, number: u64, def: &RraDef) -> Candidate
     let newest = last / resolution * resolution;
     let reach = newest as i64 - (def.rows * resolution) as i64;
     Candidate {
-        number,
+        archive,
         resolution,
         reach,
     }
@@ -190,7 +190,7 @@ fn span(request: FetchRequest, one: &Candidate) -> Chosen
 {
     let res = one.resolution;
     Chosen {
-        archive: one.number,
+        archive: one.archive,
         res,
         lo: request.start / res * res,
         hi: (request.end / res + 1) * res,
@@ -204,8 +204,8 @@ impl Content {
             ≡ choice.choice_of present self.now.step self.now.last (definitions self.now.archives) request }
     {
         let mut search = Search::new(self.step, self.last, request)?;
-        for (number, rra) in self.archives.as_slice().iter().enumerate() {
-            search.offer(number as u64, &rra.def());
+        for (archive, rra) in self.archives.as_slice().iter().enumerate() {
+            search.offer(archive as u64, &rra.def());
         }
         search.finish()
     }

@@ -171,12 +171,12 @@ fn check_added(sources: usize, archives: &[Rra], def: &RraDef) -> Result<(), Ref
     Ok(())
 }
 
-// Checks whether archive `number` of `archives` archives can be removed.
-fn check_removed(archives: usize, number: u64) -> Result<(), Refusal>
+// Checks whether archive number `archive` of `archives` archives can be removed.
+fn check_removed(archives: usize, archive: u64) -> Result<(), Refusal>
     ensures { (all : Settings) → length all.rows ≡ archives → result_err result
-        ≡ verdict.first_refusal (verdict.archive_tune_checks present all (Some (Remove number))) }
+        ≡ verdict.first_refusal (verdict.archive_tune_checks present all (Some (Remove archive))) }
 {
-    if number >= archives as u64 {
+    if archive >= archives as u64 {
         return Err(Refusal::NoSuchArchive);
     }
     if archives <= 1 {
@@ -194,7 +194,7 @@ fn check_archive(sources: &[DsDef], archives: &[Rra], asked: &ArchiveTune) -> Re
 {
     match asked {
         ArchiveTune::Add(def) => check_added(sources.len(), archives, def),
-        ArchiveTune::Remove(number) => check_removed(archives.len(), *number),
+        ArchiveTune::Remove(archive) => check_removed(archives.len(), *archive),
     }
 }
 
@@ -367,8 +367,8 @@ impl Content {
                 self.add_archive(alloc, *def)?;
                 Ok(Entry::Added)
             }
-            ArchiveTune::Remove(number) => {
-                let archive = *number;
+            ArchiveTune::Remove(archive) => {
+                let archive = *archive;
                 let old = self.remove_archive(archive as usize);
                 Ok(Entry::Removed { archive, old })
             }

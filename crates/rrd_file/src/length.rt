@@ -169,8 +169,8 @@ fn rows_in_all(database: &Database) -> u64
     // The prover needs that each archive has at most 1,000,000 rows.
     database_is_valid(database);
     let mut rows = 0;
-    for number in 0..database.archives() {
-        rows += database.archive(number).rows;
+    for archive in 0..database.archives() {
+        rows += database.archive(archive).rows;
     }
     rows
 }

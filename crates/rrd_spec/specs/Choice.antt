@@ -31,7 +31,7 @@ same_function _ _ = false
 -- an archive with its number, its resolution, and the time after which all its rows end
 abbrev pub candidate : ℕ → ℕ → ℕ × RraDef → Candidate
 candidate step last (number, def) =
-    record { number = number; resolution = resolution step def; reach = reach (resolution step def) def.rows last }
+    record { archive = number; resolution = resolution step def; reach = reach (resolution step def) def.rows last }
 
 -- the archives with this consolidation function, in the order of their numbers
 abbrev pub candidates : ℕ → ℕ → Function → List RraDef → List Candidate
@@ -77,7 +77,7 @@ span_checks limits request =
 -- first multiple after the end
 abbrev pub span : FetchRequest → Candidate → Chosen
 span request one = record {
-  archive = one.number;
+  archive = one.archive;
   res = one.resolution;
   lo = request.start / one.resolution * one.resolution;
   hi = (request.end / one.resolution + 1) * one.resolution;

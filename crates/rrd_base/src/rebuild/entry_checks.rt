@@ -211,14 +211,14 @@ fn may_add(validator: &EntryValidator) -> bool
 }
 
 // Returns whether a removal may have left this outline.
-fn may_remove(validator: &EntryValidator, number: u64, old: &Rra) -> bool
+fn may_remove(validator: &EntryValidator, archive: u64, old: &Rra) -> bool
     ensures good { result ≡ true
-        → MayRemove (limits_of validator.now.version) validator.now.step validator.now.outline number old.now }
-    ensures bad { MayRemove (limits_of validator.now.version) validator.now.step validator.now.outline number old.now
+        → MayRemove (limits_of validator.now.version) validator.now.step validator.now.outline archive old.now }
+    ensures bad { MayRemove (limits_of validator.now.version) validator.now.step validator.now.outline archive old.now
         → result ≡ true }
 {
     let def = old.def();
-    validator.is_valid_removed_number(number)
+    validator.is_valid_removed_number(archive)
         && validator.accepts_archive(&def)
         && are_preps(validator, validator.outline().last, &def, old.preps())
         && old.rows() == def.rows

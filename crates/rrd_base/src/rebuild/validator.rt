@@ -233,11 +233,11 @@ impl EntryValidator {
     // ---- entries of resizes
 
     /// Returns whether there is an archive with this number.
-    pub fn has_archive(&self, number: u64) -> bool
-        ensures good { result ≡ true → number < length self.now.outline.archives }
-        ensures bad { number < length self.now.outline.archives → result ≡ true }
+    pub fn has_archive(&self, archive: u64) -> bool
+        ensures good { result ≡ true → archive < length self.now.outline.archives }
+        ensures bad { archive < length self.now.outline.archives → result ≡ true }
     {
-        number < self.outline.archives.len() as u64
+        archive < self.outline.archives.len() as u64
     }
 
     /// Returns whether an archive can have had `rows` rows before a resize.
@@ -267,12 +267,12 @@ impl EntryValidator {
     /// Returns whether a removed archive can have had this number.
     ///
     /// There must be room for one more archive.
-    pub fn is_valid_removed_number(&self, number: u64) -> bool
-        ensures good { result ≡ true → IsRemovedNumber (limits_of self.now.version) self.now.outline number }
-        ensures bad { IsRemovedNumber (limits_of self.now.version) self.now.outline number → result ≡ true }
+    pub fn is_valid_removed_number(&self, archive: u64) -> bool
+        ensures good { result ≡ true → IsRemovedNumber (limits_of self.now.version) self.now.outline archive }
+        ensures bad { IsRemovedNumber (limits_of self.now.version) self.now.outline archive → result ≡ true }
     {
         let archives = self.outline.archives.len();
-        number <= archives as u64 && archives < self.version.max_archives()
+        archive <= archives as u64 && archives < self.version.max_archives()
     }
 
     /// Returns whether an archive of these settings may be added to those of the outline.
