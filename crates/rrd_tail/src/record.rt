@@ -3,7 +3,7 @@ ghost use Rattle.std.specs.Prelude.{◌≡◌, length};
 ghost use Rattle.rrd_tail.specs.Records as records;
 
 use crate::checksum::{SEED, mix_bytes};
-use crate::mark::{DATABASE_MARK, number_at};
+use crate::mark::{DATABASE_MARK, PAGE, number_at};
 
 // The first eight bytes of a record.
 const RECORD_WORD: [u8; 8] = [b'R', b'R', b'D', b'T', b'a', b'i', b'l', 0];
@@ -64,7 +64,7 @@ impl Record {
         ensures { result ≡ records.is_right_at at self.now }
     {
         self.offset == at
-            && at % 4_096 == 0
+            && at % PAGE == 0
             && 16 <= self.length
             && self.length <= at
             && self.first.starts_with(&DATABASE_MARK)

@@ -4,7 +4,7 @@ ghost use Rattle.rrd_tail.specs.Slots as slots;
 ghost use Rattle.rrd_tail.specs.Reads.{IsSlotRead};
 
 use crate::checksum::{SEED, mix, mix_bytes};
-use crate::mark::number_at;
+use crate::mark::{PAGE, number_at};
 
 /// The header of a slot.
 #[derive(Clone, Copy, PartialEq, Eq, Debug, Drop)]
@@ -46,7 +46,7 @@ fn is_right(tail: usize, offset: usize, bytes: &[u8]) -> bool
 {
     16 <= offset
         && !bytes.is_empty()
-        && bytes.len() <= 4_096
+        && bytes.len() <= PAGE
         && offset <= tail
         && bytes.len() <= tail - offset
 }

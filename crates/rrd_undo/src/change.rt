@@ -12,12 +12,12 @@ ghost use Rattle.rrd_undo.specs.Databases.{IsDatabase};
 
 use crate::Bytes;
 use crate::page::{
-    MIN_DATABASE_SIZE, PAGE, difference_end, first_difference, front_page, is_database, next_page,
+    MIN_DATABASE_SIZE, difference_end, first_difference, front_page, is_database, next_page,
     page_from, read_page,
 };
 use crate::recovery::settle;
 use crate::tail::{Syncs, Tail, sync};
-use rrd_tail::undo_mark;
+use rrd_tail::{PAGE, undo_mark};
 use std::alloc::Global;
 use std::io::{self, Error, ErrorKind};
 

@@ -4,11 +4,8 @@ ghost use Rattle.rrd_undo.specs.Calls.{AreAt};
 ghost use Rattle.rrd_undo.specs.Databases.{IsDatabase};
 
 use crate::Bytes;
-use rrd_tail::DATABASE_MARK;
+use rrd_tail::{DATABASE_MARK, PAGE};
 use std::io::{self, Error, ErrorKind};
-
-/// The length of a page in bytes. The system stores files in memory in such pages.
-pub const PAGE: usize = 4_096;
 
 /// The minimum length of a database in bytes: the length of an undo mark.
 pub(crate) const MIN_DATABASE_SIZE: usize = 16;

@@ -8,9 +8,9 @@ ghost use Rattle.rrd_undo.specs.Settling.{IsPutBack, IsSlotFound, IsUndone};
 ghost use Rattle.rrd_undo.specs.Undoing.{IsToCut};
 
 use crate::Bytes;
-use crate::page::{MIN_DATABASE_SIZE, PAGE};
+use crate::page::MIN_DATABASE_SIZE;
 use crate::tail::{SLOT, SLOT_HEADER, Syncs, cut_front, finish, offset_of_slot};
-use rrd_tail::{DATABASE_MARK, Mark, Record, Shape, SlotHeader, read_mark, read_slot};
+use rrd_tail::{DATABASE_MARK, Mark, PAGE, Record, Shape, SlotHeader, read_mark, read_slot};
 use std::io::{self, Error, ErrorKind};
 
 // The number of bytes of a record that are read.

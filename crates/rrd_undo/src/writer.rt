@@ -6,8 +6,9 @@ ghost use Rattle.rrd_undo.specs.Changing.{IsBroken, StandsForEither};
 ghost use Rattle.rrd_undo.specs.Writing.{IsTaken};
 
 use crate::change::Change;
-use crate::page::{PAGE, front_page, next_page};
+use crate::page::{front_page, next_page};
 use crate::{Bytes, Syncs};
+use rrd_tail::PAGE;
 use std::alloc::Global;
 use std::io::{self, Error, ErrorKind};
 
