@@ -15,7 +15,7 @@ use rrd_spec::limits::{
     MAX_STEP_SECONDS, MAX_STEPS_PER_ROW, MAX_TIME, MAX_XFF,
 };
 
-/// Checks whether a database can be created.
+/// Checks whether a database can be created. A caller of `rrd_spec::slow::rows` must have checked this.
 ///
 /// # Errors
 /// The first check that fails, each over all data sources or archives before the next, in the order of

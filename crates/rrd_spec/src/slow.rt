@@ -378,7 +378,7 @@ pub fn rows(
 
 // ---- the check of the input
 
-/// Returns whether the samples of a new database are valid input for `rows`.
+/// Returns whether the samples of a new database are valid input for `rows`. A caller of `rows` must have checked this.
 ///
 /// The times must rise, after the start and up to 9,999,999,999, and each sample must have an accepted raw value for
 /// each data source.

@@ -4,8 +4,9 @@ ghost use Rattle.std.specs.Result.{result_err};
 ghost use Rattle.rrd_fixed.specs.Written.{Writes};
 ghost use Rattle.rrd_store.specs.Ending.{Tells, batch_report, batch_status, file_batch_report, file_batch_status, report_if, single_status};
 
+use crate::faults::write_task_fault;
 use crate::usage::USAGE;
-use crate::{FileBatchEnd, TaskFault, write_task_fault};
+use crate::{FileBatchEnd, TaskFault};
 use rrd_fixed::WriteFault;
 use rrd_tool::StreamFault;
 use std::io::Write;

@@ -69,7 +69,7 @@ impl TaskFault {
     }
 
     /// Checks whether the arguments were no command. The usage text follows the line of such a fault.
-    pub fn is_usage_error(self) -> bool
+    pub(crate) fn is_usage_error(self) -> bool
         ensures { result ≡ is_usage_error self }
     {
         matches!(self, TaskFault::Command(Fault::Line(LineFault::Usage)))
@@ -88,7 +88,7 @@ fn write_line<W: Write>(err: &mut W, fault: &TaskFault) -> Result<(), WriteFault
 /// # Errors
 ///
 /// A write failed. A first part of the line and the text is written.
-pub fn write_task_fault<W: Write>(err: &mut W, fault: &TaskFault) -> Result<(), WriteFault>
+pub(crate) fn write_task_fault<W: Write>(err: &mut W, fault: &TaskFault) -> Result<(), WriteFault>
     ensures { Writes (W.contents err.old) (W.contents err.new) (report_of USAGE.now fault.now) result }
 {
     write_line(err, fault)?;

@@ -13,7 +13,7 @@ mod usage;
 
 pub use batch::{FileBatchEnd, run_file_batch};
 pub use ending::{report_batch, report_command, report_file_batch};
-pub use faults::{TaskFault, write_task_fault};
+pub use faults::TaskFault;
 pub use single::run_file_command;
 pub use storage::{Access, Storage};
 pub use task::{Task, parse_task};

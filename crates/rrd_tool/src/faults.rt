@@ -76,8 +76,8 @@ impl Part {
         }
     }
 
-    /// Whether a command may have several of these parts, so that faults print the number too.
-    pub fn is_numbered(self) -> bool
+    // Whether a command may have several of these parts, so that faults print the number too.
+    fn is_numbered(self) -> bool
         ensures { result ≡ is_numbered self }
     {
         matches!(self, Part::Definition | Part::Sample)

@@ -198,7 +198,7 @@ impl<F: Bytes + Drop> PageWriter<F> {
         self.pages.take_back(&mut self.file)
     }
 
-    /// Returns the file.
+    /// Returns the file. Only tests call this function: the tests compare the bytes of the file after a change.
     pub fn into_file(self) -> F
         ensures { F.held result ≡ held_by F.held self }
     {

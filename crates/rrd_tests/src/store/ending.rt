@@ -2,7 +2,7 @@
 use crate::file::decoding::FILE_FAULTS;
 use rrd_base::Refusal;
 use rrd_store::{
-    TaskFault, USAGE, report_batch, report_command, report_file_batch, write_task_fault,
+    TaskFault, USAGE, report_batch, report_command, report_file_batch,
 };
 use rrd_tool::{Fault, LineFault, Part, StreamFault};
 use std::alloc::Global;
@@ -47,7 +47,8 @@ fn assert_told(
     let shown = format!(in alloc; "{fault}")?;
     assert_eq!(rt; shown.as_str(), text);
     let mut err = Vec::new(alloc);
-    assert!(rt; write_task_fault(&mut err, &fault).is_ok(), "{text}");
+    let status = if behind.is_empty() { 1 } else { 2 };
+    assert_eq!(rt; report_command(&mut err, Err(fault)), status, "{text}");
     let told = format!(in alloc; "ERROR: {text}\n{behind}")?;
     assert_eq!(rt; err.as_slice(), told.as_bytes(), "{text}");
     Ok(())
