@@ -3,6 +3,8 @@
 //! The program computes the rows of a new database for given samples as a reader of the definitions would by hand: no
 //! state passes from one group to the next, no gap is skipped, and there is no ring. Tests compare the program with the
 //! real database.
+//!
+//! The module is public only for readers of the contracts and for tests: no other crate calls these functions.
 ghost use Rattle.std.specs.Prelude.{◌≡◌, ◌^◌, ◌<◌, ◌≤◌, length, map, replicate, IfOk, IsTrue, ◌↔◌, None, Some, slice_get};
 ghost use Rattle.std.specs.List.{AllByRecursion, fold};
 ghost use Rattle.rrd_fixed.specs.Rate.{IsBounded};

@@ -1,4 +1,6 @@
 //! Theorems about the tasks. Each is the contract of a function that does nothing.
+//!
+//! The module is public only for readers of the contracts: no other crate calls these functions.
 ghost use Rattle.std.specs.Prelude.{ℕ, List, Option};
 ghost use Rattle.rrd_spec.specs.Journal.Survivors.{Stored};
 ghost use Rattle.rrd_store.specs.Storages.{Held};
