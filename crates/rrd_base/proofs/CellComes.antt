@@ -26,7 +26,7 @@ use Rattle.rrd_spec.specs.Files.Places.{place_in}
 use Rattle.rrd_spec.specs.Validity.{IsRow, IsValidJournalWithin}
 use Rattle.rrd_base.specs.declared.journal.Entry.{Entry}
 use Rattle.rrd_base.specs.declared.rebuild.cursor.Cursor.{Cursor}
-use Rattle.rrd_base.specs.Rebuild.Judges.{Judge}
+use Rattle.rrd_base.specs.Rebuild.Validators.{EntryValidator}
 use Rattle.rrd_base.specs.Rebuild.Cursors.{Advances, AreFewer, KnowsPlace, KnowsPlaceIn, filled_by}
 use Rattle.rrd_base.specs.Journal.{journal_of}
 use Rattle.rrd_base.specs.Rebuild.{ArePrepared, Coming, HeadsCame, IsArchiveSoFar, IsCursor, IsRebuilding, content_so_far, filed_in}
@@ -216,10 +216,10 @@ cell_keeps d a b cells archive filled is at put there few =
       parts_are = is.parts_are;
       few_archives = omega (arith, count, is.few_archives);
       archives_are = All_set (IsArchiveSoFar d.sources_due d.step d.last) d.archives d.archive b is.archives_are so_far;
-      few_cells = subst (λ n. d.sources_due * n ≤ (limits_of d.version).most_cells) (sym rows) is.few_cells;
+      few_cells = subst (λ n. d.sources_due * n ≤ (limits_of d.version).max_cells) (sym rows) is.few_cells;
       places = is.places;
       few_entries = is.few_entries;
-      judge_is = is.judge_is ∙ ap (λ (heads : List Head). let s : Outline = record { last = d.last; sources = map (λ (source : Source). source.def) (sources_of d.sources d.raws d.preps); archives = map (λ (head : Head). head.def) heads } in let j : Judge = record { version = d.version; step = d.step; outline = fold outline_undone s (journal_of d.journal) } in j) (sym same);
+      validator_is = is.validator_is ∙ ap (λ (heads : List Head). let s : Outline = record { last = d.last; sources = map (λ (source : Source). source.def) (sources_of d.sources d.raws d.preps); archives = map (λ (head : Head). head.def) heads } in let j : EntryValidator = record { version = d.version; step = d.step; outline = fold outline_undone s (journal_of d.journal) } in j) (sym same);
       journal_is = subst (λ (j : List Entry). IsValidJournalWithin (limits_of d.version) (content_so_far new) (journal_of j)) (sym at.none) tt;
       sources_first = λ some. is.sources_first (omega (arith, some, count));
       archives_prepared = prepared_set d.sources_due d.archives d.archive a b at.there put.is put.parts_same is.archives_prepared;

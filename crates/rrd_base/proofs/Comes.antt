@@ -28,7 +28,7 @@ use Rattle.rrd_spec.specs.Files.Filed.{Filed, Head, Source, head_of, sources_of}
 use Rattle.rrd_spec.specs.History.{Rra}
 use Rattle.rrd_base.specs.Rebuild.{ArePrepared, Coming, IsArchiveSoFar, IsRebuilding, cells_before, content_so_far, filed_in, IsCursor}
 use Rattle.rrd_base.specs.Rebuild.EntryChecks.{IsOutline}
-use Rattle.rrd_base.specs.Rebuild.Judges.{Judge, judge}
+use Rattle.rrd_base.specs.Rebuild.Validators.{EntryValidator, validator}
 use Rattle.rrd_base.specs.Rebuild.Cursors.{AreFewer, KnowsPlaceIn, filled_by}
 use Rattle.rrd_base.specs.Journal.{journal_of}
 use Rattle.rrd_spec.specs.Validity.{AreAccepted, IsPart, IsRow, IsSourceWithin, IsValidJournalWithin}
@@ -99,24 +99,24 @@ no_archives d is few = elim (cases_zero (length d.archives)) [
 ]
 
 -- the settings, where no entry came
-abbrev plain : Coming → List DsDef → List Head → Judge
+abbrev plain : Coming → List DsDef → List Head → EntryValidator
 plain d defs heads = record {
   version = d.version;
   step = d.step;
   outline = record { last = d.last; sources = defs; archives = map (λ (head : Head). head.def) heads };
 }
 
-plain_judge : (d : Coming) → IsRebuilding d → d.journal ≡ [] → d.judge ≡ plain d d.sources (map head_of d.archives)
-plain_judge d is none =
+plain_validator : (d : Coming) → IsRebuilding d → d.journal ≡ [] → d.validator ≡ plain d d.sources (map head_of d.archives)
+plain_validator d is none =
     let base = λ (defs : List DsDef). plain d defs (map head_of d.archives) in
-    is.judge_is
-    ∙ ap (λ (j : List Entry). judge (filed_in (record d { journal = j }))) none
+    is.validator_is
+    ∙ ap (λ (j : List Entry). validator (filed_in (record d { journal = j }))) none
     ∙ ap base (defs_of d.sources d.raws d.preps (lengths_same d.sources d.raws is.raws_are) is.one_part_each)
 
 -- while no entry has come it has the archives that came
-pub outlines_lengths : (d : Coming) → IsRebuilding d → d.journal ≡ [] → length d.judge.outline.archives ≡ length d.archives
+pub outlines_lengths : (d : Coming) → IsRebuilding d → d.journal ≡ [] → length d.validator.outline.archives ≡ length d.archives
 outlines_lengths d is none =
-    ap (λ (j : Judge). length j.outline.archives) (plain_judge d is none) ∙ length-map (map head_of d.archives) (λ (head : Head). head.def) ∙ length-map d.archives head_of
+    ap (λ (j : EntryValidator). length j.outline.archives) (plain_validator d is none) ∙ length-map (map head_of d.archives) (λ (head : Head). head.def) ∙ length-map d.archives head_of
 
 pub knows_nothing : (step last : ℕ) (archives : List Rra) (sources : ℕ) (cursor : Cursor) → cursor.source < sources → filled_by sources cursor ≡ 0 → KnowsPlaceIn step last archives cursor
 knows_nothing step last [] sources cursor there none = tt
@@ -163,7 +163,7 @@ source_came d def raw part = record d {
   sources = d.sources ++ def ∷ [];
   raws = d.raws ++ raw ∷ [];
   preps = d.preps ++ part ∷ [];
-  judge = record d.judge { outline = record d.judge.outline { sources = d.judge.outline.sources ++ def ∷ [] } };
+  validator = record d.validator { outline = record d.validator.outline { sources = d.validator.outline.sources ++ def ∷ [] } };
 }
 
 pub source_is : (d : Coming) (def : DsDef) (raw : Raw) (part : Part) → IsRebuilding d → filed_in (source_came d def raw part) ≡ with_source (filed_in d) (record { def = def; raw = raw; part = part })
@@ -178,7 +178,7 @@ source_keeps d def raw part is may =
     let journal : d.journal ≡ [] = no_entries d is archive in
     let lengths = lengths_same d.sources d.raws is.raws_are in
     let same = defs_of d.sources d.raws d.preps lengths is.one_part_each in
-    let settled = plain_judge d is journal in
+    let settled = plain_validator d is journal in
     let defs_now = defs_of new.sources new.raws new.preps (omega (arith, length-append d.sources (def ∷ []), length-append d.raws (raw ∷ []), lengths)) (omega (arith, length-append d.sources (def ∷ []), length-append d.preps (part ∷ []), is.one_part_each)) in
     record {
       header_is = is.header_is;
@@ -193,10 +193,10 @@ source_keeps d def raw part is may =
       few_cells = is.few_cells;
       places = is.places;
       few_entries = is.few_entries;
-      judge_is =
-          ap (λ (s : Judge). let t : Judge = record s { outline = record s.outline { sources = s.outline.sources ++ def ∷ [] } } in t) settled
+      validator_is =
+          ap (λ (s : EntryValidator). let t : EntryValidator = record s { outline = record s.outline { sources = s.outline.sources ++ def ∷ [] } } in t) settled
           ∙ (ap (λ (defs : List DsDef). plain d defs (map head_of d.archives)) (sym defs_now)
-          ∙ ap (λ (j : List Entry). judge (filed_in (record new { journal = j }))) (sym journal));
+          ∙ ap (λ (j : List Entry). validator (filed_in (record new { journal = j }))) (sym journal));
       journal_is = subst (λ (j : List Entry). IsValidJournalWithin (limits_of d.version) (content_so_far new) (journal_of j)) (sym journal) tt;
       sources_first = λ some. absurd (omega (arith, some, no_archives d is few));
       archives_prepared = is.archives_prepared;
@@ -247,7 +247,7 @@ prepared_more sources (b ∷ []) a is few none = elim (cases_lt (length b.parts)
 prepared_more sources (b ∷ x ∷ archives) a is few none = (is.0, prepared_more sources (x ∷ archives) a is.1 few.1 (rw (le-ltb (length b.parts) sources (omega (arith, is.0))) at none))
 
 abbrev pub archive_came : Coming → Rra → Coming
-archive_came d a = record d { archives = d.archives ++ a ∷ []; judge = record d.judge { outline = record d.judge.outline { archives = d.judge.outline.archives ++ a.def ∷ [] } } }
+archive_came d a = record d { archives = d.archives ++ a ∷ []; validator = record d.validator { outline = record d.validator.outline { archives = d.validator.outline.archives ++ a.def ∷ [] } } }
 
 -- what is due at a head
 pub record AtHead (d : Coming) : Type 0 where
@@ -319,7 +319,7 @@ head_keeps d a is none rows may =
     let at = at_head d is may.is_due in
     let later = none_later d is at.few in
     let new = archive_came d a in
-    let settled = plain_judge d is later.journal in
+    let settled = plain_validator d is later.journal in
     let so_far : IsArchiveSoFar d.sources_due d.step d.last a = record {
       def_is = archive_def_in d.version newest a.def may.def_is;
       few_parts = omega (arith, ap length none);
@@ -328,7 +328,7 @@ head_keeps d a is none rows may =
       each_row = subst (λ (rs : List (List Cell)). AllByRecursion (IsRow d.sources_due) rs) (sym rows) (All-replicate (IsRow d.sources_due) a.def.rows (replicate d.sources_due Cell.Unknown) (record { one_each = length-replicate d.sources_due Cell.Unknown; each = All-replicate IsBounded d.sources_due Cell.Unknown tt }));
     } in
     let defs_now : map (λ (head : Head). head.def) (map head_of (d.archives ++ a ∷ [])) ≡ map (λ (head : Head). head.def) (map head_of d.archives) ++ a.def ∷ [] = ap (map (λ (head : Head). head.def)) (heads_more d.archives a) ∙ defs_more (map head_of d.archives) (head_of a) in
-    let base = λ (archives : List RraDef). let s : Judge = record { version = d.version; step = d.step; outline = record { last = d.last; sources = d.sources; archives = archives } } in s in
+    let base = λ (archives : List RraDef). let s : EntryValidator = record { version = d.version; step = d.step; outline = record { last = d.last; sources = d.sources; archives = archives } } in s in
     let defs = defs_of d.sources d.raws d.preps (lengths_same d.sources d.raws is.raws_are) is.one_part_each in
     record {
       header_is = is.header_is;
@@ -340,14 +340,14 @@ head_keeps d a is none rows may =
       parts_are = is.parts_are;
       few_archives = omega (arith, at.few, length-append d.archives (a ∷ []));
       archives_are = All-append (IsArchiveSoFar d.sources_due d.step d.last) d.archives (a ∷ []) is.archives_are (so_far, tt);
-      few_cells = subst (λ n. d.sources_due * n ≤ (limits_of d.version).most_cells) (sym (sum_more d.archives a)) (subst (λ n. d.sources_due * (n + a.def.rows) ≤ (limits_of d.version).most_cells) (rows_all d.archives) may.few_cells);
+      few_cells = subst (λ n. d.sources_due * n ≤ (limits_of d.version).max_cells) (sym (sum_more d.archives a)) (subst (λ n. d.sources_due * (n + a.def.rows) ≤ (limits_of d.version).max_cells) (rows_all d.archives) may.few_cells);
       places = is.places;
       few_entries = is.few_entries;
-      judge_is =
-          ap (λ (s : Judge). let t : Judge = record s { outline = record s.outline { archives = s.outline.archives ++ a.def ∷ [] } } in t) settled
+      validator_is =
+          ap (λ (s : EntryValidator). let t : EntryValidator = record s { outline = record s.outline { archives = s.outline.archives ++ a.def ∷ [] } } in t) settled
           ∙ (ap base (sym defs_now)
           ∙ (ap (λ (sources : List DsDef). plain d sources (map head_of new.archives)) (sym defs)
-          ∙ ap (λ (j : List Entry). judge (filed_in (record new { journal = j }))) (sym later.journal)));
+          ∙ ap (λ (j : List Entry). validator (filed_in (record new { journal = j }))) (sym later.journal)));
       journal_is = subst (λ (j : List Entry). IsValidJournalWithin (limits_of d.version) (content_so_far new) (journal_of j)) (sym later.journal) tt;
       sources_first = λ some. omega (arith, at.sources, is.few_sources);
       archives_prepared = prepared_more d.sources_due d.archives a is.archives_prepared (few_each d.sources_due d.step d.last d.archives is.archives_are) at.prepared;
@@ -362,10 +362,10 @@ few_less zero n m some few = absurd (omega arith)
 few_less (suc s) n m some few = let p : suc s * n ≡ s * n + n = nat.suc-mul s n in omega (arith, p, few)
 
 -- the rows that came are few
-pub few_rows : (d : Coming) → IsRebuilding d → sum (rows_of_archives d.archives) ≤ present.most_cells
-few_rows d is = omega (arith, few_less d.sources_due (sum (rows_of_archives d.archives)) (limits_of d.version).most_cells is.header_is.some_source is.few_cells, few_cells d.version)
+pub few_rows : (d : Coming) → IsRebuilding d → sum (rows_of_archives d.archives) ≤ present.max_cells
+few_rows d is = omega (arith, few_less d.sources_due (sum (rows_of_archives d.archives)) (limits_of d.version).max_cells is.header_is.some_source is.few_cells, few_cells d.version)
 
--- so what judges entries can be worked with while none has come
+-- so the validator of entries can be worked with while none has come
 defs_so_far : (sources step last : ℕ) (archives : List Rra) → AllByRecursion (IsArchiveSoFar sources step last) archives → AllByRecursion (IsArchiveDef present) (map (λ (head : Head). head.def) (map head_of archives))
 defs_so_far sources step last [] all = tt
 defs_so_far sources step last (a ∷ archives) all = (all.0.def_is, defs_so_far sources step last archives all.1)
@@ -374,19 +374,19 @@ rows_by_head : (archives : List Rra) → rows_of (map (λ (head : Head). head.de
 rows_by_head [] = refl
 rows_by_head (a ∷ archives) = ap (λ (rows : List ℕ). a.def.rows ∷ rows) (rows_by_head archives)
 
-pub plain_good : (d : Coming) → IsRebuilding d → d.journal ≡ [] → IsOutline d.judge.outline
-plain_good d is none = subst (λ (j : Judge). IsOutline j.outline) (sym (plain_judge d is none)) (record {
+pub plain_good : (d : Coming) → IsRebuilding d → d.journal ≡ [] → IsOutline d.validator.outline
+plain_good d is none = subst (λ (j : EntryValidator). IsOutline j.outline) (sym (plain_validator d is none)) (record {
   few_sources = omega (arith, is.few_sources, is.header_is.few_sources);
   archives_are = defs_so_far d.sources_due d.step d.last d.archives is.archives_are;
   few_rows = omega (arith, few_rows d is, ap sum (rows_by_head d.archives));
 })
 
 -- there is room for a source that is due
-pub room_for_source : (d : Coming) → IsRebuilding d → due (filed_in d) ≡ SourceDue → length d.judge.outline.sources < present.most_sources
+pub room_for_source : (d : Coming) → IsRebuilding d → due (filed_in d) ≡ SourceDue → length d.validator.outline.sources < present.max_sources
 room_for_source d is e =
     let few = few_sources d is e in
     let archive : d.archive ≡ 0 = omega (arith, is.archive_there, no_archives d is few) in
-    omega (arith, few, is.header_is.few_sources, ap (λ (j : Judge). length j.outline.sources) (plain_judge d is (no_entries d is archive)))
+    omega (arith, few, is.header_is.few_sources, ap (λ (j : EntryValidator). length j.outline.sources) (plain_validator d is (no_entries d is archive)))
 
 -- what isn't past a limit
 pub not_past : (limit n : ℕ) → not (nat_lt limit n) ≡ true → n ≤ limit
@@ -398,10 +398,10 @@ not_past limit n e = elim (cases_lt limit n) [
 pub past_not : (limit n : ℕ) → n ≤ limit → not (nat_lt limit n) ≡ true
 past_not limit n le = rw (le-ltb limit n le) refl
 
--- ---- an archive, by what judges entries
+-- ---- an archive, by the validator of entries
 
-judge_at_head : (d : Coming) → IsRebuilding d → due (filed_in d) ≡ HeadDue → d.judge ≡ plain d d.sources (map head_of d.archives)
-judge_at_head d is e = plain_judge d is (none_later d is (at_head d is e).few).journal
+validator_at_head : (d : Coming) → IsRebuilding d → due (filed_in d) ≡ HeadDue → d.validator ≡ plain d d.sources (map head_of d.archives)
+validator_at_head d is e = plain_validator d is (none_later d is (at_head d is e).few).journal
 
 cells_at_head : (d : Coming) (def : RraDef) → IsRebuilding d → due (filed_in d) ≡ HeadDue
     → length d.sources * (sum (rows_of (map (λ (head : Head). head.def) (map head_of d.archives))) + def.rows) ≡ d.sources_due * (rows_in_all (map head_of d.archives) + def.rows)
@@ -410,18 +410,18 @@ cells_at_head d def is e =
     let rows : sum (rows_of (map (λ (head : Head). head.def) (map head_of d.archives))) ≡ rows_in_all (map head_of d.archives) = ap sum (rows_by_head d.archives) ∙ sym (rows_all d.archives) in
     (λ i. sources i * (rows i + def.rows))
 
--- as no entry has come, what judges entries knows the sources and archives that came
-pub fits_at_head : (d : Coming) (def : RraDef) → IsRebuilding d → due (filed_in d) ≡ HeadDue → AreRemovedSettings (limits_of d.judge.version) d.judge.outline def → MayHead (filed_in d) def
+-- as no entry has come, the validator of entries knows the sources and archives that came
+pub fits_at_head : (d : Coming) (def : RraDef) → IsRebuilding d → due (filed_in d) ≡ HeadDue → AreRemovedSettings (limits_of d.validator.version) d.validator.outline def → MayHead (filed_in d) def
 fits_at_head d def is e fits =
-    let here = subst (λ (j : Judge). AreRemovedSettings (limits_of j.version) j.outline def) (judge_at_head d is e) fits in
-    record { is_due = e; def_is = here.def_is; few_cells = subst (λ n. n ≤ (limits_of d.version).most_cells) (cells_at_head d def is e) here.few_cells }
+    let here = subst (λ (j : EntryValidator). AreRemovedSettings (limits_of j.version) j.outline def) (validator_at_head d is e) fits in
+    record { is_due = e; def_is = here.def_is; few_cells = subst (λ n. n ≤ (limits_of d.version).max_cells) (cells_at_head d def is e) here.few_cells }
 
-pub head_fits : (d : Coming) (def : RraDef) → IsRebuilding d → MayHead (filed_in d) def → AreRemovedSettings (limits_of d.judge.version) d.judge.outline def
+pub head_fits : (d : Coming) (def : RraDef) → IsRebuilding d → MayHead (filed_in d) def → AreRemovedSettings (limits_of d.validator.version) d.validator.outline def
 head_fits d def is may =
     let j = plain d d.sources (map head_of d.archives) in
     let here : AreRemovedSettings (limits_of j.version) j.outline def =
-    record { def_is = may.def_is; few_cells = subst (λ n. n ≤ (limits_of d.version).most_cells) (sym (cells_at_head d def is may.is_due)) may.few_cells } in
-    subst (λ (j : Judge). AreRemovedSettings (limits_of j.version) j.outline def) (sym (judge_at_head d is may.is_due)) here
+    record { def_is = may.def_is; few_cells = subst (λ n. n ≤ (limits_of d.version).max_cells) (sym (cells_at_head d def is may.is_due)) may.few_cells } in
+    subst (λ (j : EntryValidator). AreRemovedSettings (limits_of j.version) j.outline def) (sym (validator_at_head d is may.is_due)) here
 
 -- ---- a preparation
 
@@ -537,10 +537,10 @@ front_keeps d front x part is later few one =
         rows_are = a.rows_are;
         each_row = a.each_row;
       });
-      few_cells = subst (λ n. d.sources_due * n ≤ (limits_of d.version).most_cells) rows is.few_cells;
+      few_cells = subst (λ n. d.sources_due * n ≤ (limits_of d.version).max_cells) rows is.few_cells;
       places = is.places;
       few_entries = is.few_entries;
-      judge_is = is.judge_is ∙ ap (λ (archives : List RraDef). let s : Outline = record { last = d.last; sources = map (λ (source : Source). source.def) (sources_of d.sources d.raws d.preps); archives = archives } in let j : Judge = record { version = d.version; step = d.step; outline = fold outline_undone s (journal_of d.journal) } in j) defs;
+      validator_is = is.validator_is ∙ ap (λ (archives : List RraDef). let s : Outline = record { last = d.last; sources = map (λ (source : Source). source.def) (sources_of d.sources d.raws d.preps); archives = archives } in let j : EntryValidator = record { version = d.version; step = d.step; outline = fold outline_undone s (journal_of d.journal) } in j) defs;
       journal_is = subst (λ (j : List Entry). IsValidJournalWithin (limits_of d.version) (content_so_far new) (journal_of j)) (sym later.journal) tt;
       sources_first = λ some. is.sources_first (omega (arith, some, counts));
       archives_prepared = prepared_front d.sources_due front x y is.archives_prepared;

@@ -9,8 +9,8 @@ use Rattle.rrd_base.specs.Rebuild.EntryChecks.{IsValidOutline}
 use Rattle.rrd_base.proofs.Dues.{AllAsMany}
 use Rattle.rrd_base.proofs.EntryComes.{AllFiled, AllFollow, AllLeave, at_entry, left_valid}
 
-pub some_left : AllAsMany → AllFollow → AllFiled → AllLeave → (d : Coming) (f : Filed) → IsRebuilding d → filed_in d ≡ f → due f ≡ EntryDue → 0 < length d.judge.outline.sources
+pub some_left : AllAsMany → AllFollow → AllFiled → AllLeave → (d : Coming) (f : Filed) → IsRebuilding d → filed_in d ≡ f → due f ≡ EntryDue → 0 < length d.validator.outline.sources
 some_left as_many follow filed leave d f is same e =
     let at = at_entry as_many d is (ap due same ∙ e) in
-    let left : IsValidOutline d.version d.judge.outline = left_valid follow filed leave d is at.sources at.heads in
+    let left : IsValidOutline d.version d.validator.outline = left_valid follow filed leave d is at.sources at.heads in
     subst (λ (o : Outline). 0 < length o.sources) (sym left.outline_is) left.valid.some_source

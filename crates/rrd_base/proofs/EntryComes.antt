@@ -25,7 +25,7 @@ use Rattle.rrd_spec.specs.Journal.Survivors.{Stored}
 use Rattle.rrd_spec.specs.Validity.{IsValidArchiveWithin, IsValidJournalWithin, IsValidWithin}
 use Rattle.rrd_base.specs.declared.journal.Entry.{Entry}
 use Rattle.rrd_base.specs.Rebuild.EntryChecks.{IsOutline, IsValidOutline}
-use Rattle.rrd_base.specs.Rebuild.Judges.{Judge}
+use Rattle.rrd_base.specs.Rebuild.Validators.{EntryValidator}
 use Rattle.rrd_base.specs.Journal.{entry_of, journal_of}
 use Rattle.rrd_base.specs.Rebuild.{Coming, HeadsCame, IsRebuilding, content_so_far, filed_in}
 use Rattle.rrd_base.proofs.Comes.{few_less}
@@ -86,10 +86,10 @@ at_entry_valid : (d : Coming) → IsRebuilding d → AtEntry d → IsValidWithin
 at_entry_valid d is at = content_is_valid d is at.sources at.heads.all at.heads.prepared
 
 -- that of the content before all changes, said by its outline now
-outline_by : AllFiled → (d : Coming) → IsRebuilding d → d.judge.outline ≡ fold outline_undone (outline_of (content_so_far d)) (journal_of d.journal)
+outline_by : AllFiled → (d : Coming) → IsRebuilding d → d.validator.outline ≡ fold outline_undone (outline_of (content_so_far d)) (journal_of d.journal)
 outline_by filed d is =
     let lists : outline_filed (filed_in d) ≡ outline_of (content_so_far d) = filed d.version (record { content = content_so_far d; journal = journal_of d.journal }) (lengths_same d.sources d.raws is.raws_are) is.one_part_each in
-    ap (λ (j : Judge). j.outline) is.judge_is ∙ ap (λ (o : Outline). fold outline_undone o (journal_of d.journal)) lists
+    ap (λ (j : EntryValidator). j.outline) is.validator_is ∙ ap (λ (o : Outline). fold outline_undone o (journal_of d.journal)) lists
 
 defs_valid : (version : Version) (sources steps : ℕ) (archives : List Rra) → AllByRecursion (IsValidArchiveWithin (limits_of version) sources steps) archives → AllByRecursion (IsArchiveDef present) (definitions archives)
 defs_valid version sources steps [] all = tt
@@ -104,11 +104,11 @@ outline_valid : (version : Version) (now : Content) → IsValidWithin (limits_of
 outline_valid version now is = record {
   few_sources = is.few_sources;
   archives_are = defs_valid version (length now.sources) (now.last / now.step) now.archives is.archives_are;
-  few_rows = subst (λ (rows : List ℕ). sum rows ≤ present.most_cells) (sym (rows_by_def now.archives)) (omega (arith, few_less (length now.sources) (sum (rows_of_archives now.archives)) (limits_of version).most_cells is.some_source is.few_cells, few_cells version));
+  few_rows = subst (λ (rows : List ℕ). sum rows ≤ present.max_cells) (sym (rows_by_def now.archives)) (omega (arith, few_less (length now.sources) (sum (rows_of_archives now.archives)) (limits_of version).max_cells is.some_source is.few_cells, few_cells version));
 }
 
 -- where all pieces before the entries came, it is that of a valid content
-pub left_valid : AllFollow → AllFiled → AllLeave → (d : Coming) → IsRebuilding d → length d.sources ≡ d.sources_due → HeadsCame d → IsValidOutline d.version d.judge.outline
+pub left_valid : AllFollow → AllFiled → AllLeave → (d : Coming) → IsRebuilding d → length d.sources ≡ d.sources_due → HeadsCame d → IsValidOutline d.version d.validator.outline
 left_valid follow filed leave d is sources heads =
     let now = content_so_far d in
     let journal = journal_of d.journal in
@@ -124,16 +124,16 @@ fits version outline left = subst IsOutline (sym left.outline_is) (outline_valid
 -- ---- the entry
 
 abbrev pub entry_came : Coming → Entry → Outline → Coming
-entry_came d e outline = record d { journal = e ∷ d.journal; judge = record d.judge { outline = outline } }
+entry_came d e outline = record d { journal = e ∷ d.journal; validator = record d.validator { outline = outline } }
 
 journal_more : (e : Entry) (journal : List Entry) → journal_of (e ∷ journal) ≡ journal_of journal ++ entry_of e ∷ []
 journal_more e journal = reverse-append (entry_of e ∷ []) (map entry_of journal)
 
-pub entry_keeps : AllTake → AllFiled → (d : Coming) (e : Entry) → IsRebuilding d → AtEntry d → MayUndo (limits_of d.version) d.step d.judge.outline (entry_of e) → IsRebuilding (entry_came d e (outline_undone d.judge.outline (entry_of e)))
+pub entry_keeps : AllTake → AllFiled → (d : Coming) (e : Entry) → IsRebuilding d → AtEntry d → MayUndo (limits_of d.version) d.step d.validator.outline (entry_of e) → IsRebuilding (entry_came d e (outline_undone d.validator.outline (entry_of e)))
 entry_keeps take filed d e is at fits =
     let now = content_so_far d in
     let journal = journal_of d.journal in
-    let new = entry_came d e (outline_undone d.judge.outline (entry_of e)) in
+    let new = entry_came d e (outline_undone d.validator.outline (entry_of e)) in
     let more = journal_more e d.journal in
     let valid : IsValidJournalWithin (limits_of d.version) now (journal ++ entry_of e ∷ []) = take (limits_of d.version) now journal (entry_of e) (at_entry_valid d is at) is.journal_is (subst (λ (o : Outline). MayUndo (limits_of d.version) d.step o (entry_of e)) (outline_by filed d is) fits) in
     record {
@@ -149,9 +149,9 @@ entry_keeps take filed d e is at fits =
       few_cells = is.few_cells;
       places = is.places;
       few_entries = omega (arith, at.more);
-      judge_is =
-          let with_outline = λ (o : Outline). let j : Judge = record { version = d.version; step = d.step; outline = o } in j in
-          ap (λ (s : Judge). let j : Judge = record s { outline = outline_undone s.outline (entry_of e) } in j) is.judge_is
+      validator_is =
+          let with_outline = λ (o : Outline). let j : EntryValidator = record { version = d.version; step = d.step; outline = o } in j in
+          ap (λ (s : EntryValidator). let j : EntryValidator = record s { outline = outline_undone s.outline (entry_of e) } in j) is.validator_is
           ∙ (ap with_outline (sym (fold-append outline_undone (outline_filed (filed_in d)) journal (entry_of e ∷ [])))
           ∙ ap (λ (j : List entries.Entry). with_outline (fold outline_undone (outline_filed (filed_in d)) j)) (sym more));
       journal_is = subst (IsValidJournalWithin (limits_of d.version) now) (sym more) valid;

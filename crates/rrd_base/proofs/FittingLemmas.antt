@@ -7,7 +7,7 @@ use Rattle.rrd_fixed.specs.declared.name.Name.{Name}
 use Rattle.rrd_fold.specs.Bounds.{Consolidating}
 use Rattle.rrd_fold.specs.Parts.{Part}
 use Rattle.rrd_spec.specs.Preparations.{parts_in}
-use Rattle.rrd_spec.specs.declared.entry.SourceBefore.{SourceBefore}
+use Rattle.rrd_spec.specs.declared.entry.SavedSource.{SavedSource}
 use Rattle.rrd_spec.specs.declared.settings.DsDef.{DsDef}
 use Rattle.rrd_spec.specs.declared.settings.RraDef.{RraDef}
 use Rattle.rrd_spec.specs.Journal.Entries.{SavedArchive}
@@ -81,14 +81,14 @@ saves_whole step from to sources defs olds i h k all =
 -- ---- numbers that rise
 
 -- those that are left rise from a number if all do from another, and back
-pub record RiseLeft (from limit to : ℕ) (all left : List SourceBefore) : Type 0 where
+pub record RiseLeft (from limit to : ℕ) (all left : List SavedSource) : Type 0 where
   pub back : Rise to limit left → Rise from limit all
   pub forth : Rise from limit all → Rise to limit left
 
-pub rise_start : (from limit : ℕ) (all : List SourceBefore) → RiseLeft from limit from all (drop 0 all)
+pub rise_start : (from limit : ℕ) (all : List SavedSource) → RiseLeft from limit from all (drop 0 all)
 rise_start from limit all = record { back = λ h. h; forth = λ h. h }
 
-pub rise_on : (from limit to i : ℕ) (all : List SourceBefore) (old : SourceBefore) → i < length all → old ≡ get_or all i old → to ≤ old.number → old.number < limit → RiseLeft from limit to all (drop i all)
+pub rise_on : (from limit to i : ℕ) (all : List SavedSource) (old : SavedSource) → i < length all → old ≡ get_or all i old → to ≤ old.number → old.number < limit → RiseLeft from limit to all (drop i all)
     → RiseLeft from limit (old.number + 1) all (drop (i + 1) all)
 rise_on from limit to i all old h e low high left =
     let here = drop_here all i old h e in
@@ -97,7 +97,7 @@ rise_on from limit to i all old h e low high left =
       forth = λ whole. let now = subst (Rise to limit) here (left.forth whole) in now.2;
     }
 
-pub rise_here : (from limit to i : ℕ) (all : List SourceBefore) (old : SourceBefore) → i < length all → old ≡ get_or all i old → RiseLeft from limit to all (drop i all) → Rise from limit all → (to ≤ old.number) × (old.number < limit)
+pub rise_here : (from limit to i : ℕ) (all : List SavedSource) (old : SavedSource) → i < length all → old ≡ get_or all i old → RiseLeft from limit to all (drop i all) → Rise from limit all → (to ≤ old.number) × (old.number < limit)
 rise_here from limit to i all old h e left whole = let now = subst (Rise to limit) (drop_here all i old h e) (left.forth whole) in (now.0, now.1)
 
 none_left : {A : Type 0} (xs : List A) (i : ℕ) → length xs ≤ i → drop i xs ≡ []
@@ -106,12 +106,12 @@ none_left [] (suc i) h = refl
 none_left (x ∷ xs) zero h = absurd (omega arith)
 none_left (x ∷ xs) (suc i) h = none_left xs i (omega arith)
 
-pub rise_whole : (from limit to i : ℕ) (all : List SourceBefore) → length all ≤ i → RiseLeft from limit to all (drop i all) → Rise from limit all
+pub rise_whole : (from limit to i : ℕ) (all : List SavedSource) → length all ≤ i → RiseLeft from limit to all (drop i all) → Rise from limit all
 rise_whole from limit to i all h left = left.back (subst (Rise to limit) (sym (none_left all i h)) tt)
 
 -- ---- names
 
-pub names_put : (sources : List DsDef) (olds : List SourceBefore) → with_names (names sources) olds ≡ names (with_sources sources olds)
+pub names_put : (sources : List DsDef) (olds : List SavedSource) → with_names (names sources) olds ≡ names (with_sources sources olds)
 names_put sources [] = refl
 names_put sources (old ∷ olds) =
     ap (λ (ns : List Name). with_names ns olds) (sym (map-set (λ (source : DsDef). source.name) sources old.number old.source)) ∙ names_put (slice_set sources old.number old.source) olds
@@ -120,11 +120,11 @@ pub map_same : {A : Type 0} (xs : List A) → map (λ (x : A). x) xs ≡ xs
 map_same [] = refl
 map_same (x ∷ xs) = ap (λ ys. x ∷ ys) (map_same xs)
 
-kept_length : {A : Type 0} (kept : SourceBefore → A) (items : List A) (olds : List SourceBefore) → length (with_kept kept items olds) ≡ length items
+kept_length : {A : Type 0} (kept : SavedSource → A) (items : List A) (olds : List SavedSource) → length (with_kept kept items olds) ≡ length items
 kept_length kept items [] = refl
 kept_length kept items (old ∷ olds) = kept_length kept (slice_set items old.number (kept old)) olds ∙ length-set items old.number (kept old)
 
-pub kept_refills : {A : Type 0} (kept : SourceBefore → A) (items : List A) (olds : List SourceBefore) → refill (length items) items (with_kept kept items olds) ≡ with_kept kept items olds
+pub kept_refills : {A : Type 0} (kept : SavedSource → A) (items : List A) (olds : List SavedSource) → refill (length items) items (with_kept kept items olds) ≡ with_kept kept items olds
 kept_refills kept items olds =
     let all = with_kept kept items olds in
     rw (drop_all (length all) items (omega (arith, kept_length kept items olds)), append-nil) (take_all (length items) all (omega (arith, kept_length kept items olds)))
@@ -144,11 +144,11 @@ rows_put (x ∷ defs) (suc i) rows h = omega (arith, fold_sum x.rows (rows_of (w
 -- as code counts them
 pub record RowsPut (held : RraDef) (defs : List RraDef) (i rows all : ℕ) : Type 0 where
   pub within : held.rows ≤ all
-  pub few : all ≤ present.most_cells
+  pub few : all ≤ present.max_cells
   pub old_is : held.rows ≡ slice_index_or (rows_of defs) i 0
   pub all_is : all - held.rows + rows ≡ sum (rows_of (with_row_number defs i rows))
 
-pub rows_are_put : (items defs : List RraDef) (i rows all : ℕ) (d : RraDef) → items ≡ defs → i < length defs → sum (rows_of defs) ≤ present.most_cells → all ≡ min (sum (rows_of items)) (2 ^ 64 - 1) → RowsPut (get_or items i d) defs i rows all
+pub rows_are_put : (items defs : List RraDef) (i rows all : ℕ) (d : RraDef) → items ≡ defs → i < length defs → sum (rows_of defs) ≤ present.max_cells → all ≡ min (sum (rows_of items)) (2 ^ 64 - 1) → RowsPut (get_or items i d) defs i rows all
 rows_are_put items defs i rows all d same h few e =
     let all_is = e ∙ ap (λ (ds : List RraDef). min (sum (rows_of ds)) (2 ^ 64 - 1)) same in
     let old = rows_at_is defs i d h in

@@ -4,12 +4,12 @@ use Rattle.std.proofs.lemmas.List.{drop_all, length-take}
 use Rattle.std.specs.List.{AllByRecursion, fold, insert, refill}
 use Rattle.rrd_fixed.specs.declared.raw.Raw.{Raw}
 use Rattle.rrd_spec.specs.declared.settings.DsDef.{DsDef}
-use Rattle.rrd_spec.specs.declared.entry.SourceBefore.{SourceBefore}
+use Rattle.rrd_spec.specs.declared.entry.SavedSource.{SavedSource}
 use Rattle.rrd_spec.specs.declared.requests.tune.Tuning.{Tuning}
 use Rattle.rrd_fixed.specs.declared.cell.Cell.{Cell}
 use Rattle.rrd_spec.specs.History.{Rra, Content, raws_under}
 use Rattle.rrd_spec.specs.Commands.{TuningBy, moved, raw_under}
-use Rattle.rrd_spec.specs.Journal.Entries.{sources_before, is_named, with_source, with_rows_at}
+use Rattle.rrd_spec.specs.Journal.Entries.{saved_sources, is_named, with_source, with_rows_at}
 use Rattle.rrd_base.specs.Tune.{IsThere, with_archive_tuned, with_raws}
 use Rattle.rrd_spec.specs.declared.requests.tune.ArchiveTune.{ArchiveTune}
 use Rattle.rrd_spec.specs.declared.requests.tune.ArchiveTune.TheVariants.{Add, Remove}
@@ -43,34 +43,34 @@ raws_all f (s ∷ ss) (x ∷ xs) (suc i) h = ap (λ zs. raw_under s.kind (f s).k
 
 -- ---- what is kept of the sources
 
-before_rest : (b : Bool) (h : SourceBefore) (xs ys : List SourceBefore) → cond b (h ∷ (xs ++ ys)) (xs ++ ys) ≡ cond b (h ∷ xs) xs ++ ys
+before_rest : (b : Bool) (h : SavedSource) (xs ys : List SavedSource) → cond b (h ∷ (xs ++ ys)) (xs ++ ys) ≡ cond b (h ∷ xs) xs ++ ys
 before_rest true h xs ys = refl
 before_rest false h xs ys = refl
 
 -- one source more
-pub before_more : (tuning : Tuning) (n i m : ℕ) (sources : List DsDef) (raws : List Raw) (d : DsDef) (r : Raw) → i < length sources → length raws ≡ length sources → m ≡ n + i → sources_before tuning n (take (suc i) sources) (take (suc i) raws) ≡ sources_before tuning n (take i sources) (take i raws) ++ (let h : SourceBefore = record { number = m; source = get_or sources i d; raw = get_or raws i r } in cond (is_named tuning (get_or sources i d)) (h ∷ []) [])
+pub before_more : (tuning : Tuning) (n i m : ℕ) (sources : List DsDef) (raws : List Raw) (d : DsDef) (r : Raw) → i < length sources → length raws ≡ length sources → m ≡ n + i → saved_sources tuning n (take (suc i) sources) (take (suc i) raws) ≡ saved_sources tuning n (take i sources) (take i raws) ++ (let h : SavedSource = record { number = m; source = get_or sources i d; raw = get_or raws i r } in cond (is_named tuning (get_or sources i d)) (h ∷ []) [])
 before_more tuning n i m [] raws d r h k e = absurd (omega arith)
 before_more tuning n i m (s ∷ ss) [] d r h k e = absurd (omega arith)
-before_more tuning n zero m (s ∷ ss) (x ∷ xs) d r h k e = ap (λ z. let w : SourceBefore = record { number = z; source = s; raw = x } in cond (is_named tuning s) (w ∷ []) []) {x = n} {y = m} (omega arith)
+before_more tuning n zero m (s ∷ ss) (x ∷ xs) d r h k e = ap (λ z. let w : SavedSource = record { number = z; source = s; raw = x } in cond (is_named tuning s) (w ∷ []) []) {x = n} {y = m} (omega arith)
 before_more tuning n (suc i) m (s ∷ ss) (x ∷ xs) d r h k e =
-    let w : SourceBefore = record { number = n; source = s; raw = x } in
+    let w : SavedSource = record { number = n; source = s; raw = x } in
     ap (λ zs. cond (is_named tuning s) (w ∷ zs) zs) (before_more tuning (n + 1) i m ss xs d r (omega arith) (omega arith) (omega arith))
-    ∙ before_rest (is_named tuning s) w (sources_before tuning (n + 1) (take i ss) (take i xs)) _
+    ∙ before_rest (is_named tuning s) w (saved_sources tuning (n + 1) (take i ss) (take i xs)) _
 
-shorter : (b : Bool) (h : SourceBefore) (xs ys : List SourceBefore) → length xs ≤ length ys → length (cond b (h ∷ xs) xs) ≤ length (cond b (h ∷ ys) ys)
+shorter : (b : Bool) (h : SavedSource) (xs ys : List SavedSource) → length xs ≤ length ys → length (cond b (h ∷ xs) xs) ≤ length (cond b (h ∷ ys) ys)
 shorter true h xs ys k = omega arith
 shorter false h xs ys k = k
 
 -- no more than of all
-pub before_few : (tuning : Tuning) (n i : ℕ) (sources : List DsDef) (raws : List Raw) → length (sources_before tuning n (take i sources) (take i raws)) ≤ length (sources_before tuning n sources raws)
+pub before_few : (tuning : Tuning) (n i : ℕ) (sources : List DsDef) (raws : List Raw) → length (saved_sources tuning n (take i sources) (take i raws)) ≤ length (saved_sources tuning n sources raws)
 before_few tuning n zero sources raws = omega arith
 before_few tuning n (suc i) [] raws = omega arith
 before_few tuning n (suc i) (s ∷ ss) [] = omega arith
-before_few tuning n (suc i) (s ∷ ss) (x ∷ xs) = shorter (is_named tuning s) (record { number = n; source = s; raw = x }) (sources_before tuning (n + 1) (take i ss) (take i xs)) (sources_before tuning (n + 1) ss xs) (before_few tuning (n + 1) i ss xs)
+before_few tuning n (suc i) (s ∷ ss) (x ∷ xs) = shorter (is_named tuning s) (record { number = n; source = s; raw = x }) (saved_sources tuning (n + 1) (take i ss) (take i xs)) (saved_sources tuning (n + 1) ss xs) (before_few tuning (n + 1) i ss xs)
 
 -- ---- what is put back
 
-pub sources_put_back : (now : Content) (olds : List SourceBefore) → fold with_source now olds ≡ (let x : Content = record now { sources = with_sources now.sources olds; raws = with_raws now.raws olds } in x)
+pub sources_put_back : (now : Content) (olds : List SavedSource) → fold with_source now olds ≡ (let x : Content = record now { sources = with_sources now.sources olds; raws = with_raws now.raws olds } in x)
 sources_put_back now [] = refl
 sources_put_back now (old ∷ olds) = sources_put_back (with_source now old) olds
 

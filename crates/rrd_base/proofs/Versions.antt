@@ -1,24 +1,24 @@
 -- What differs from version to version stays below the present limits, and what is the same.
 use Rattle.std.proofs.Common.{◌≤◌, arith}
-use Rattle.rrd_spec.specs.declared.entry.SourceBefore.{SourceBefore}
+use Rattle.rrd_spec.specs.declared.entry.SavedSource.{SavedSource}
 use Rattle.rrd_spec.specs.declared.settings.DsDef.{DsDef}
 use Rattle.rrd_spec.specs.declared.settings.RraDef.{RraDef}
 use Rattle.rrd_spec.specs.declared.version.Version.{Version}
 use Rattle.rrd_spec.specs.declared.version.Version.TheVariants.{One, Two}
 use Rattle.rrd_spec.specs.Files.Rebuilding.{IsArchiveDef}
-use Rattle.rrd_spec.specs.Journal.Fitting.{IsSourceBefore}
-use Rattle.rrd_spec.specs.Limits.{deepest_journal_of, limits_of, most_archives_of, most_cells_of, present}
+use Rattle.rrd_spec.specs.Journal.Fitting.{IsSavedSource}
+use Rattle.rrd_spec.specs.Limits.{max_journal_depth_of, limits_of, max_archives_of, max_cells_of, present}
 use Rattle.rrd_spec.specs.Validity.{IsSourceWithin}
 
-pub small_depth : (version : Version) → deepest_journal_of version ≤ present.deepest_journal
+pub small_depth : (version : Version) → max_journal_depth_of version ≤ present.max_journal_depth
 small_depth One = omega arith
 small_depth Two = omega arith
 
-pub few_archives : (version : Version) → most_archives_of version ≤ present.most_archives
+pub few_archives : (version : Version) → max_archives_of version ≤ present.max_archives
 few_archives One = omega arith
 few_archives Two = omega arith
 
-pub few_cells : (version : Version) → most_cells_of version ≤ present.most_cells
+pub few_cells : (version : Version) → max_cells_of version ≤ present.max_cells
 few_cells One = omega arith
 few_cells Two = omega arith
 
@@ -26,8 +26,8 @@ pub source_in : (from to : Version) (source : DsDef) → IsSourceWithin (limits_
 source_in from to source h =
     record { good_name = h.good_name; good_heartbeat = h.good_heartbeat; good_bounds = h.good_bounds }
 
-pub source_before_in : (from to : Version) (old : SourceBefore) → IsSourceBefore (limits_of from) old → IsSourceBefore (limits_of to) old
-source_before_in from to old h = (source_in from to old.source h.0, h.1)
+pub saved_source_in : (from to : Version) (old : SavedSource) → IsSavedSource (limits_of from) old → IsSavedSource (limits_of to) old
+saved_source_in from to old h = (source_in from to old.source h.0, h.1)
 
 pub archive_def_in : (from to : Version) (def : RraDef) → IsArchiveDef (limits_of from) def → IsArchiveDef (limits_of to) def
 archive_def_in from to def h = record {

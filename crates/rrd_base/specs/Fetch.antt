@@ -24,10 +24,10 @@ searched step last request defs = record {
 -- the limits that keep all sums within 64 bits
 pub record IsSearch (step last : ℕ) (request : FetchRequest) (best : Option Candidate) : Type 0 where
   pub some_step : 0 < step
-  pub small_step : step ≤ present.longest_step
-  pub good_last : last ≤ present.latest_time
+  pub small_step : step ≤ present.max_step_seconds
+  pub good_last : last ≤ present.max_time
   pub in_order : request.start ≤ request.end
-  pub good_end : request.end ≤ present.latest_time
+  pub good_end : request.end ≤ present.max_time
   pub usable : IfSome best (λ (one : Candidate). (0 < one.resolution) × (one.resolution ≤ 10 ^ 12))
 
 -- whether an archive is preferred to one with a lower number

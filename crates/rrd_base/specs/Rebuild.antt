@@ -16,14 +16,14 @@ use Rattle.rrd_spec.specs.Settings.{is_double, names}
 use Rattle.rrd_spec.specs.Files.Slots.{cells_by_slot}
 use Rattle.rrd_spec.specs.Validity.{AreAccepted, IsPart, IsRow, IsSourceWithin, IsValidJournalWithin}
 use Rattle.rrd_base.specs.Rebuild.Cursors.{AreFewer, KnowsPlaceIn, filled_by}
-use Rattle.rrd_base.specs.Rebuild.Judges.{Judge, judge}
+use Rattle.rrd_base.specs.Rebuild.Validators.{EntryValidator, validator}
 use Rattle.rrd_base.specs.Journal.{journal_of}
 use Rattle.rrd_base.specs.declared.journal.Entry.{Entry}
 use Rattle.rrd_base.specs.declared.rebuild.Rebuild.TheInside.{Inside}
 use Rattle.rrd_base.specs.declared.rebuild.cursor.Cursor.{Cursor}
 pub mod Begins
 pub mod Cursors
-pub mod Judges
+pub mod Validators
 pub mod Runs
 pub mod CellRun
 pub mod EntryChecks
@@ -52,7 +52,7 @@ pub record Coming : Type 0 where
   pub filled : ℕ
   pub places : ℕ
   pub journal : List Entry
-  pub judge : Judge
+  pub validator : EntryValidator
 
 abbrev pub coming : Inside → Coming
 coming d = record {
@@ -71,7 +71,7 @@ coming d = record {
   filled = filled_by d.header.sources d.cursor;
   places = d.journal.capacity;
   journal = d.journal.items;
-  judge = d.judge;
+  validator = d.validator;
 }
 
 -- the records that were read
@@ -140,10 +140,10 @@ pub record IsRebuilding (d : Coming) : Type 0 where
   pub parts_are : AllByRecursion (IsPart Average (d.last % d.step)) d.preps
   pub few_archives : length d.archives ≤ d.archives_due
   pub archives_are : AllByRecursion (IsArchiveSoFar d.sources_due d.step d.last) d.archives
-  pub few_cells : d.sources_due * sum (rows_of_archives d.archives) ≤ (limits_of d.version).most_cells
+  pub few_cells : d.sources_due * sum (rows_of_archives d.archives) ≤ (limits_of d.version).max_cells
   pub places : d.places ≡ d.depth
   pub few_entries : length d.journal ≤ d.entries_due
-  pub judge_is : d.judge ≡ judge (filed_in d)
+  pub validator_is : d.validator ≡ validator (filed_in d)
   pub journal_is : IsValidJournalWithin (limits_of d.version) (content_so_far d) (journal_of d.journal)
   pub sources_first : 0 < length d.archives → length d.sources ≡ d.sources_due
   pub archives_prepared : ArePrepared d.sources_due d.archives

@@ -11,4 +11,4 @@ abbrev pub settings : List DsDef → List Rra → Settings
 settings sources archives = record { sources = sources; rows = rows_of_archives archives }
 
 pub record HasFewRows (archive : Rra) : Type 0 where
-  pub few : archive.def.rows ≤ present.most_rows
+  pub few : archive.def.rows ≤ present.max_rows

@@ -8,7 +8,7 @@ use Rattle.rrd_spec.specs.Journal.Entries.{SavedArchive}
 -- the steps in a row, and so the resolution, are within the limits
 pub record IsStepped (archive : Rra) : Type 0 where
   pub some_steps : 0 < archive.def.steps
-  pub few_steps : archive.def.steps ≤ present.most_steps
+  pub few_steps : archive.def.steps ≤ present.max_steps_per_row
 
 -- saved values that can be put back: they have the archive's function, at most as many rows as the archive, and as many
 -- cells in each row

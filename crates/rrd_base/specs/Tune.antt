@@ -2,19 +2,19 @@
 use Rattle.std.specs.Prelude.{◌<◌, List, [], ◌∷◌, ◌++◌, length, slice_set}
 use Rattle.std.specs.List.{fold, remove}
 use Rattle.rrd_fixed.specs.declared.raw.Raw.{Raw}
-use Rattle.rrd_spec.specs.declared.entry.SourceBefore.{SourceBefore}
+use Rattle.rrd_spec.specs.declared.entry.SavedSource.{SavedSource}
 use Rattle.rrd_spec.specs.declared.requests.tune.ArchiveTune.{ArchiveTune}
 use Rattle.rrd_spec.specs.declared.requests.tune.ArchiveTune.TheVariants.{Add, Remove}
 use Rattle.rrd_spec.specs.History.{Content}
 use Rattle.rrd_spec.specs.History.Lives.{new_archive}
 
 -- what is kept of each data source, after that of the entry is restored
-abbrev pub with_kept : {A : Type 0} → (SourceBefore → A) → List A → List SourceBefore → List A
-with_kept kept items olds = fold (λ xs (old : SourceBefore). slice_set xs old.number (kept old)) items olds
+abbrev pub with_kept : {A : Type 0} → (SavedSource → A) → List A → List SavedSource → List A
+with_kept kept items olds = fold (λ xs (old : SavedSource). slice_set xs old.number (kept old)) items olds
 
 -- the raw values after those of the entry are restored
-abbrev pub with_raws : List Raw → List SourceBefore → List Raw
-with_raws raws olds = with_kept (λ (old : SourceBefore). old.raw) raws olds
+abbrev pub with_raws : List Raw → List SavedSource → List Raw
+with_raws raws olds = with_kept (λ (old : SavedSource). old.raw) raws olds
 
 -- the archive to remove exists
 abbrev pub IsThere : Content → ArchiveTune → Type 0

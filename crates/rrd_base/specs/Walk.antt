@@ -35,6 +35,6 @@ cells_of steps = steps.first.now ∷ replicate steps.count steps.others.now
 
 -- the number of steps that have ended is at most the maximum time, and the cells are bounded
 pub record AreSteps (steps : Steps) : Type 0 where
-  pub in_time : steps.before + count_of steps ≤ present.latest_time
+  pub in_time : steps.before + count_of steps ≤ present.max_time
   pub first : IsRow (sources_of steps) steps.first.now
   pub others : IsRow (sources_of steps) steps.others.now

@@ -32,14 +32,14 @@ impl Content {
         Ok(())
     }
 
-    /// Removes archive `number`. The higher numbers are then one lower. Does not allocate.
-    pub(crate) fn remove_archive(&mut self, number: usize) -> Rra
-        requires there { number < length self.old.archives }
-        requires valid { IsValid (record self.old { archives = remove self.old.archives number }) }
-        ensures content { self.new ≡ record self.old { archives = remove self.old.archives number } }
-        ensures old { result ≡ archive_at self.old.archives number }
+    /// Removes archive number `archive`. The higher numbers are then one lower. Does not allocate.
+    pub(crate) fn remove_archive(&mut self, archive: usize) -> Rra
+        requires there { archive < length self.old.archives }
+        requires valid { IsValid (record self.old { archives = remove self.old.archives archive }) }
+        ensures content { self.new ≡ record self.old { archives = remove self.old.archives archive } }
+        ensures old { result ≡ archive_at self.old.archives archive }
     {
-        self.archives.remove(number)
+        self.archives.remove(archive)
     }
 
     /// Removes the last archive, which was added.
@@ -51,12 +51,12 @@ impl Content {
     }
 
     /// Puts a removed archive back at its old number. Does not allocate.
-    pub(crate) fn undo_removed(&mut self, number: usize, old: Rra)
-        requires there { number ≤ length self.old.archives }
-        requires valid { IsValid (undone self.old (RemovedEntry number old)) }
-        ensures { self.new ≡ undone self.old (RemovedEntry number old) }
+    pub(crate) fn undo_removed(&mut self, archive: usize, old: Rra)
+        requires there { archive ≤ length self.old.archives }
+        requires valid { IsValid (undone self.old (RemovedEntry archive old)) }
+        ensures { self.new ≡ undone self.old (RemovedEntry archive old) }
     {
-        self.archives.insert(number, old);
+        self.archives.insert(archive, old);
     }
 }
 
@@ -68,10 +68,10 @@ pub(crate) fn new_all(
     defs: &[RraDef],
     sources: u64,
 ) -> Result<ArchiveList<Rra>, AllocError>
-    requires few { length defs.now ≤ present.most_archives }
-    requires rows { AllByRecursion (λ def. (0 < def.rows) × (def.rows ≤ present.most_rows)) defs.now }
+    requires few { length defs.now ≤ present.max_archives }
+    requires rows { AllByRecursion (λ def. (0 < def.rows) × (def.rows ≤ present.max_rows)) defs.now }
     requires some_sources { 0 < sources }
-    requires few_sources { sources ≤ present.most_sources }
+    requires few_sources { sources ≤ present.max_sources }
     ensures { IfOk result (λ archives. archives ≡ map (new_archive sources) defs.now) }
 {
     let mut archives = ArchiveList::new(alloc)?;
@@ -109,7 +109,7 @@ pub(crate) fn save_all(
 ) -> Result<Vec<SavedArchive>, AllocError>
     requires stepped { AllByRecursion IsStepped archives.now }
     requires some_step { 0 < step }
-    requires small_step { step ≤ present.longest_step }
+    requires small_step { step ≤ present.max_step_seconds }
     ensures { IfOk result (λ all. all.items ≡ map (saved step from to) archives.now) }
 {
     let mut all = Vec::with_capacity(alloc, archives.len())?;

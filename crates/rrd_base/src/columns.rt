@@ -10,7 +10,7 @@ ghost use Rattle.rrd_base.specs.Update.{AreColumns, template_of, value_in};
 use crate::{DsDef, Given, List};
 use arrayvec::ArrayVec;
 use rrd_fixed::Name;
-use rrd_spec::limits::MOST_SOURCES;
+use rrd_spec::limits::MAX_SOURCES;
 
 /// The index in an update's samples of each data source's value.
 ///
@@ -20,7 +20,7 @@ pub(crate) struct Columns<'a> {
     /// The template.
     pub(crate) template: &'a Option<List<Name>>,
     /// The index of each data source's value; `None` if the template does not name the data source.
-    pub(crate) places: ArrayVec<Option<usize>, MOST_SOURCES>,
+    pub(crate) places: ArrayVec<Option<usize>, MAX_SOURCES>,
 }
 
 // Returns the index of a data source's name; `None` if there is no such name.
@@ -53,7 +53,7 @@ impl<'a> Columns<'a> {
     /// Finds the indexes of the values of these data sources.
     pub(crate) fn new(template: &'a Option<List<Name>>, sources: &[DsDef]) -> Columns<'a>
         requires names_differ { is_double (names sources.now) ≡ false }
-        requires few { length sources.now ≤ present.most_sources }
+        requires few { length sources.now ≤ present.max_sources }
         ensures places { AreColumns sources.now result }
         ensures template { result.template.now ≡ template.now }
     {

@@ -1,5 +1,5 @@
 //! The checks of a new database.
-ghost use Rattle.std.specs.Prelude.{◌≡◌, ◌*◌, ◌≤◌, nat_lt, not};
+ghost use Rattle.std.specs.Prelude.{◌≡◌, ◌*◌, ◌≤◌, ◌||◌, nat_lt, not};
 ghost use Rattle.std.specs.List.{list_any};
 ghost use Rattle.std.specs.Result.{result_err};
 ghost use Rattle.rrd_fixed.specs.Names.{is_good};
@@ -11,11 +11,11 @@ use crate::named::has_double_name;
 use crate::rows::all_rows;
 use crate::{CreateSpec, DsDef, Refusal, RraDef};
 use rrd_spec::limits::{
-    DEEPEST_JOURNAL, GREATEST_BOUND, GREATEST_SHARE, LATEST_TIME, LONGEST_HEARTBEAT, LONGEST_STEP,
-    MOST_ARCHIVES, MOST_CELLS, MOST_ROWS, MOST_SOURCES, MOST_STEPS,
+    MAX_ARCHIVES, MAX_BOUND, MAX_CELLS, MAX_HEARTBEAT, MAX_JOURNAL_DEPTH, MAX_ROWS, MAX_SOURCES,
+    MAX_STEP_SECONDS, MAX_STEPS_PER_ROW, MAX_TIME, MAX_XFF,
 };
 
-/// Checks whether a database can be created.
+/// Checks whether a database can be created. A caller of `rrd_spec::slow::rows` must have checked this.
 ///
 /// # Errors
 /// The first check that fails, each over all data sources or archives before the next, in the order of
@@ -35,7 +35,7 @@ fn check_first(spec: &CreateSpec) -> Result<(), Refusal>
     if is_bad_step(spec.step) {
         return Err(Refusal::BadStep);
     }
-    if spec.start > LATEST_TIME {
+    if spec.start > MAX_TIME {
         return Err(Refusal::BadStart);
     }
     if spec.sources.len() == 0 {
@@ -101,14 +101,14 @@ fn check_size(spec: &CreateSpec) -> Result<(), Refusal>
 pub(crate) fn is_bad_step(seconds: u64) -> bool
     ensures { result ≡ creating.is_bad_step present seconds }
 {
-    seconds == 0 || seconds > LONGEST_STEP
+    seconds == 0 || seconds > MAX_STEP_SECONDS
 }
 
 /// Returns whether the depth of a journal is not 1 to 100,000.
 fn is_bad_depth(depth: u64) -> bool
     ensures { result ≡ creating.is_bad_depth present depth }
 {
-    depth == 0 || depth > DEEPEST_JOURNAL
+    depth == 0 || depth > MAX_JOURNAL_DEPTH
 }
 
 // ---- checks of data sources
@@ -137,7 +137,7 @@ fn any_bad_bounds(sources: &[DsDef]) -> bool
 pub(crate) fn is_bad_heartbeat(seconds: u64) -> bool
     ensures { result ≡ verdict.is_bad_heartbeat present seconds }
 {
-    seconds == 0 || seconds > LONGEST_HEARTBEAT
+    seconds == 0 || seconds > MAX_HEARTBEAT
 }
 
 /// Returns whether a bound is larger in size than the maximum rate, or the minimum is above the maximum.
@@ -151,7 +151,7 @@ fn is_far(bound: Option<i128>) -> bool
     ensures { result ≡ verdict.is_far present bound }
 {
     match bound {
-        Some(bound) => bound.unsigned_abs() > GREATEST_BOUND,
+        Some(bound) => bound.unsigned_abs() > MAX_BOUND,
         None => false,
     }
 }
@@ -189,21 +189,21 @@ fn any_bad_rows(archives: &[RraDef]) -> bool
 pub(crate) fn is_bad_xff(xff: i128) -> bool
     ensures { result ≡ creating.is_bad_xff present xff }
 {
-    xff < 0 || xff > GREATEST_SHARE
+    xff < 0 || xff > MAX_XFF
 }
 
 /// Returns whether the number of steps in a row is not 1 to 1,000,000.
 pub(crate) fn is_bad_steps(steps: u64) -> bool
     ensures { result ≡ creating.is_bad_steps present steps }
 {
-    steps == 0 || steps > MOST_STEPS
+    steps == 0 || steps > MAX_STEPS_PER_ROW
 }
 
 /// Returns whether a number of rows is not 1 to 1,000,000.
 pub(crate) fn is_bad_rows(rows: u64) -> bool
     ensures { result ≡ verdict.is_bad_rows present rows }
 {
-    rows == 0 || rows > MOST_ROWS
+    rows == 0 || rows > MAX_ROWS
 }
 
 // ---- checks of the size
@@ -213,15 +213,20 @@ fn is_too_large(spec: &CreateSpec) -> bool
     ensures { result ≡ creating.is_too_large present spec.now }
 {
     let sources = spec.sources.len();
-    let archives = spec.archives.len();
-    sources > MOST_SOURCES
-        || archives > MOST_ARCHIVES
-        || has_too_many_cells(MOST_CELLS, sources, all_rows(spec.archives.as_slice()))
+    let rows = all_rows(spec.archives.as_slice());
+    sources > MAX_SOURCES || is_beyond_limits(sources, spec.archives.len(), rows)
+}
+
+/// Returns whether `archives` archives, or the cells of `sources` data sources with `rows` rows, are too many.
+pub(crate) fn is_beyond_limits(sources: usize, archives: usize, rows: u64) -> bool
+    ensures { result ≡ nat_lt present.max_archives archives || nat_lt present.max_cells (sources * rows) }
+{
+    archives > MAX_ARCHIVES || has_too_many_cells(MAX_CELLS, sources, rows)
 }
 
 /// Returns whether `sources` data sources with `rows` rows have more than `most` cells.
 pub(crate) fn has_too_many_cells(most: u64, sources: usize, rows: u64) -> bool
-    requires { most ≤ present.most_cells }
+    requires { most ≤ present.max_cells }
     ensures { result ≡ nat_lt most (sources * rows) }
 {
     (sources as u64).saturating_mul(rows) > most

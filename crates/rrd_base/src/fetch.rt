@@ -18,7 +18,7 @@ use crate::content::Content;
 use crate::{Chosen, Refusal, RraDef};
 use rrd_fixed::Cell;
 use rrd_fold::Function;
-use rrd_spec::limits::{LATEST_TIME, LONGEST_SPAN};
+use rrd_spec::limits::{MAX_SPAN, MAX_TIME};
 use rrd_spec::{Candidate, FetchRequest};
 use std::marker::Model;
 
@@ -47,8 +47,8 @@ impl Search {
     /// Starts without an archive, and checks the request without the database.
     pub(crate) fn new(step: u64, last: u64, request: FetchRequest) -> Result<Search, Refusal>
         requires some_step { 0 < step }
-        requires small_step { step ≤ present.longest_step }
-        requires good_last { last ≤ present.latest_time }
+        requires small_step { step ≤ present.max_step_seconds }
+        requires good_last { last ≤ present.max_time }
         ensures { MatchResult result
             (λ search. search ≡ searched step last request [])
             (λ refusal. (defs : List RraDef) → choice.choice_of present step last defs request ≡ Err refusal) }
@@ -63,19 +63,19 @@ impl Search {
     }
 
     /// Offers the next archive.
-    pub(crate) fn offer(&mut self, number: u64, def: &RraDef)
+    pub(crate) fn offer(&mut self, archive: u64, def: &RraDef)
         requires some_steps { 0 < def.now.steps }
-        requires few_steps { def.now.steps ≤ present.most_steps }
-        requires few_rows { def.now.rows ≤ present.most_rows }
+        requires few_steps { def.now.steps ≤ present.max_steps_per_row }
+        requires few_rows { def.now.rows ≤ present.max_rows }
         ensures { (step last : ℕ) (request : FetchRequest) (defs : List RraDef) →
-            number ≡ length defs →
+            archive ≡ length defs →
             self.old ≡ searched step last request defs →
             self.new ≡ searched step last request (defs ++ def.now ∷ []) }
     {
         if !is_same_function(def.function, self.request.function) {
             return;
         }
-        let next = candidate(self.step, self.last, number, def);
+        let next = candidate(self.step, self.last, archive, def);
         let is_taken = match &self.best {
             Some(best) => is_preferred(self.request, &next, best),
             None => true,
@@ -95,7 +95,7 @@ impl Search {
             return Err(Refusal::NoArchiveForFunction);
         };
         let chosen = span(self.request, &best);
-        if (chosen.hi - chosen.lo) / chosen.res > LONGEST_SPAN {
+        if (chosen.hi - chosen.lo) / chosen.res > MAX_SPAN {
             return Err(Refusal::SpanTooLong);
         }
         Ok(chosen)
@@ -106,10 +106,10 @@ impl Search {
 fn check_span(request: FetchRequest) -> Result<(), Refusal>
     ensures { result_err result ≡ first_refusal (choice.span_checks present request) }
 {
-    if request.start > LATEST_TIME {
+    if request.start > MAX_TIME {
         return Err(Refusal::BadTime);
     }
-    if request.end > LATEST_TIME {
+    if request.end > MAX_TIME {
         return Err(Refusal::BadTime);
     }
     if request.start > request.end {
@@ -125,14 +125,14 @@ fn is_same_function(one: Function, other: Function) -> bool
 }
 
 // Returns the number, the resolution and the reach of an archive.
-fn candidate(step: u64, last: u64, number: u64, def: &RraDef) -> Candidate
+fn candidate(step: u64, last: u64, archive: u64, def: &RraDef) -> Candidate
     requires some_step { 0 < step }
-    requires small_step { step ≤ present.longest_step }
-    requires good_last { last ≤ present.latest_time }
+    requires small_step { step ≤ present.max_step_seconds }
+    requires good_last { last ≤ present.max_time }
     requires some_steps { 0 < def.now.steps }
-    requires few_steps { def.now.steps ≤ present.most_steps }
-    requires few_rows { def.now.rows ≤ present.most_rows }
-    ensures value { result ≡ choice.candidate step last (number, def.now) }
+    requires few_steps { def.now.steps ≤ present.max_steps_per_row }
+    requires few_rows { def.now.rows ≤ present.max_rows }
+    ensures value { result ≡ choice.candidate step last (archive, def.now) }
     ensures some_resolution { 0 < result.resolution }
     ensures small_resolution { result.resolution ≤ 10 ^ 12 }
 {
@@ -140,7 +140,7 @@ fn candidate(step: u64, last: u64, number: u64, def: &RraDef) -> Candidate
     let newest = last / resolution * resolution;
     let reach = newest as i64 - (def.rows * resolution) as i64;
     Candidate {
-        number,
+        archive,
         resolution,
         reach,
     }
@@ -183,14 +183,14 @@ fn span(request: FetchRequest, one: &Candidate) -> Chosen
     requires some_resolution { 0 < one.now.resolution }
     requires small_resolution { one.now.resolution ≤ 10 ^ 12 }
     requires in_order { request.start ≤ request.end }
-    requires good_end { request.end ≤ present.latest_time }
+    requires good_end { request.end ≤ present.max_time }
     ensures value { result ≡ choice.span request one.now }
     ensures some { 0 < result.res }
     ensures in_order { result.lo ≤ result.hi }
 {
     let res = one.resolution;
     Chosen {
-        archive: one.number,
+        archive: one.archive,
         res,
         lo: request.start / res * res,
         hi: (request.end / res + 1) * res,
@@ -204,8 +204,8 @@ impl Content {
             ≡ choice.choice_of present self.now.step self.now.last (definitions self.now.archives) request }
     {
         let mut search = Search::new(self.step, self.last, request)?;
-        for (number, rra) in self.archives.as_slice().iter().enumerate() {
-            search.offer(number as u64, &rra.def());
+        for (archive, rra) in self.archives.as_slice().iter().enumerate() {
+            search.offer(archive as u64, &rra.def());
         }
         search.finish()
     }
@@ -249,12 +249,12 @@ fn age(last: u64, resolution: u64, time: i64) -> i128
 /// Returns the time of an archive's oldest row.
 fn oldest(step: u64, last: u64, def: &RraDef) -> i64
     requires some_step { 0 < step }
-    requires small_step { step ≤ present.longest_step }
-    requires good_last { last ≤ present.latest_time }
+    requires small_step { step ≤ present.max_step_seconds }
+    requires good_last { last ≤ present.max_time }
     requires some_steps { 0 < def.now.steps }
-    requires few_steps { def.now.steps ≤ present.most_steps }
+    requires few_steps { def.now.steps ≤ present.max_steps_per_row }
     requires some_rows { 0 < def.now.rows }
-    requires few_rows { def.now.rows ≤ present.most_rows }
+    requires few_rows { def.now.rows ≤ present.max_rows }
     ensures { result ≡ oldest step last def.now }
 {
     let resolution = def.resolution(step);

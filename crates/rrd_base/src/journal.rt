@@ -7,14 +7,14 @@ ghost use Rattle.rrd_spec.specs.Journal.Entries.{SavedArchive as Saved, cells_sa
 ghost use Rattle.rrd_spec.specs.Limits.{present};
 ghost use Rattle.rrd_spec.specs.Validity.{IsValid};
 
-use crate::SourceBefore;
+use crate::SavedSource;
 use crate::content::Content;
 use crate::rra::Rra;
 use arrayvec::ArrayVec;
 use rrd_fixed::Raw;
 use rrd_fold::StepPrep;
 use rrd_ring::Archive;
-use rrd_spec::limits::MOST_TUNED;
+use rrd_spec::limits::MAX_TUNED;
 
 mod put_back;
 mod saved_archive;
@@ -43,7 +43,7 @@ pub enum Entry {
     /// The database before an update.
     Update(BeforeUpdate),
     /// The data sources that a tune named, at most 5, by rising number.
-    Tune(ArrayVec<SourceBefore, MOST_TUNED>),
+    Tune(ArrayVec<SavedSource, MAX_TUNED>),
     /// The number of a resized archive, and its rows before the resize.
     Resize { archive: u64, old: Archive },
     /// An archive was added, as the last one.
@@ -54,8 +54,8 @@ pub enum Entry {
 
 /// Returns the number of cells that are saved of all archives, in a database with `sources` data sources.
 pub(crate) fn count_cells(archives: &[SavedArchive], sources: u64) -> u64
-    requires few_archives { length archives.now ≤ present.most_archives }
-    requires few_sources { sources ≤ present.most_sources }
+    requires few_archives { length archives.now ≤ present.max_archives }
+    requires few_sources { sources ≤ present.max_sources }
     requires one_each { AllByRecursion (λ (old : Saved). HasWidth sources old.rows) archives.now }
     ensures { result ≡ cells_saved archives.now }
 {

@@ -23,9 +23,9 @@ mod walk;
 pub use create::check_create;
 pub use database::{Database, database_is_valid};
 pub use journal::{BeforeUpdate, Entry, SavedArchive};
-pub use rebuild::{Header, Judge, PieceFault, Rebuild, is_bounded};
+pub use rebuild::{EntryValidator, Header, PieceFault, Rebuild, is_bounded};
 pub use rra::Rra;
 pub use rrd_spec::{
     ArchiveList, ArchiveTune, Change, Chosen, CreateSpec, DsDef, Due, Given, List, Outline,
-    Receipt, Refusal, RraDef, Sample, SourceBefore, Tuning, Update, Version,
+    Receipt, Refusal, RraDef, Sample, SavedSource, Tuning, Update, Version,
 };

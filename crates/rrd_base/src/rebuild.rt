@@ -4,8 +4,8 @@
 //! `finish`. Each rule of the layout is checked at the first record that can break it, so the first record that is
 //! refused is the file's first error, and `decode` need not check again. A new rule belongs in the definition of its
 //! record (`MaySource`, `MayHead`, ..) and in the check of that name; the contract of `finish` shows if a rule is
-//! missing. A rule of an entry belongs in `Judge`: a reader checks each record of an entry by it, and this module
-//! checks the complete entry.
+//! missing. A rule of an entry belongs in `EntryValidator`: a reader checks each record of an entry by it, and this
+//! module checks the complete entry.
 //!
 //! Pitfalls:
 //!
@@ -28,7 +28,7 @@ ghost use Rattle.rrd_base.specs.Journal.{entry_of};
 ghost use Rattle.rrd_fold.specs.Parts.{Part};
 ghost use Rattle.rrd_base.specs.declared.rebuild.PieceFault.TheVariants.{Bad, OutOfMemory};
 ghost use Rattle.rrd_spec.specs.declared.due.Due.TheVariants.{EntryDue, NothingDue};
-ghost use Rattle.rrd_base.specs.Rebuild.Judges.{judge};
+ghost use Rattle.rrd_base.specs.Rebuild.Validators.{validator};
 ghost use Rattle.rrd_spec.specs.Files.Filed.{Header as FiledHeader, Source, filed};
 ghost use Rattle.rrd_spec.specs.Files.Rebuilding.{MayCell, MayEntry, MayHead, MayPrep, MaySource, due, limits, outline_left, unprepared, with_cell, with_entry, with_head, with_prep, with_source};
 ghost use Rattle.rrd_spec.specs.Limits.{present};
@@ -45,20 +45,20 @@ use cursor::Cursor;
 use piece_checks::{is_part, is_source};
 use rrd_fixed::{Cell, Raw};
 use rrd_fold::{Function, RowPrep, StepPrep};
-use rrd_spec::{Version, first_place, laws};
+use rrd_spec::{Version, first_slot_row, laws};
 use std::alloc::{AllocError, Global};
 use std::marker::Model;
 
 mod cursor;
 mod entry_checks;
 mod header;
-mod judge;
 mod outline;
 mod piece_checks;
+mod validator;
 
 pub use header::Header;
-pub use judge::Judge;
 pub use piece_checks::is_bounded;
+pub use validator::EntryValidator;
 
 /// The reason for which a record is not taken.
 #[derive(Clone, Copy, Debug, PartialEq, Eq)]
@@ -88,8 +88,8 @@ pub struct Rebuild {
     archives: ArchiveList<Rra>,
     cursor: Cursor,
     journal: HeapCircularBuffer<Entry>,
-    // The judge has the outline that is left after the entries that were read are undone.
-    judge: Judge,
+    // The validator has the outline that is left after the entries that were read are undone.
+    validator: EntryValidator,
 }
 
 impl Model for Rebuild {
@@ -157,7 +157,7 @@ impl Rebuild {
         }
         let journal = HeapCircularBuffer::with_capacity(alloc, header.depth as usize)?;
         let archives = ArchiveList::new(alloc)?;
-        let judge = Judge::new(alloc, header.version, header.step, header.last)?;
+        let validator = EntryValidator::new(alloc, header.version, header.step, header.last)?;
         Ok(Rebuild {
             alloc,
             header,
@@ -167,7 +167,7 @@ impl Rebuild {
             archives,
             cursor: Cursor::new(),
             journal,
-            judge,
+            validator,
         })
     }
 
@@ -216,14 +216,14 @@ impl Rebuild {
     pub fn undone(&self) -> &Outline
         ensures { result.now ≡ outline_left self.now }
     {
-        self.judge.outline()
+        self.validator.outline()
     }
 
-    /// Returns the judge of the next entry, which has that outline.
-    pub fn judge(&self) -> &Judge
-        ensures { result.now ≡ judge self.now }
+    /// Returns the validator of the next entry, which has that outline.
+    pub fn validator(&self) -> &EntryValidator
+        ensures { result.now ≡ validator self.now }
     {
-        &self.judge
+        &self.validator
     }
 
     // Returns whether a data source may come.
@@ -280,7 +280,7 @@ impl Rebuild {
             &mut self.sources,
             &mut self.raws,
             &mut self.preps,
-            &mut self.judge,
+            &mut self.validator,
             def,
             raw,
             prep,
@@ -296,7 +296,7 @@ impl Rebuild {
         let Due::HeadDue = self.due() else {
             return false;
         };
-        self.judge.may_have(def)
+        self.validator.accepts_archive(def)
     }
 
     /// Adds the next archive, with its settings.
@@ -317,10 +317,10 @@ impl Rebuild {
         if !self.may_head(&def) {
             return Err(PieceFault::Bad);
         }
-        let first = first_place(def.resolution(self.header.step), self.header.last, def.rows);
+        let first = first_slot_row(def.resolution(self.header.step), self.header.last, def.rows);
         let rra = Rra::unprepared(self.alloc, def, self.header.sources, first)?;
         self.archives.push(rra);
-        self.judge.push_archive(def);
+        self.validator.push_archive(def);
         Ok(())
     }
 
@@ -366,7 +366,7 @@ impl Rebuild {
     pub fn cells_in_row(&self) -> usize
         ensures count { result ≡ self.now.header.sources }
         ensures some { 0 < result }
-        ensures few { result ≤ present.most_sources }
+        ensures few { result ≤ present.max_sources }
     {
         self.header.sources as usize
     }
@@ -431,7 +431,7 @@ impl Rebuild {
         let taken = count * sources;
         let place = self.cursor.place(&def, self.header.step, self.header.last);
         let rra = self.archives.get_mut(self.cursor.archive);
-        rra.put_rows(place, count as u64, cells.front(taken));
+        rra.write_rows(place, count as u64, cells.front(taken));
         self.cursor.pass(place, count as u64, def.rows);
         taken
     }
@@ -466,7 +466,7 @@ impl Rebuild {
     /// Returns how many entries were read, at most 100,000.
     pub fn entries(&self) -> u64
         ensures count { result ≡ length self.now.entries }
-        ensures few { result ≤ present.deepest_journal }
+        ensures few { result ≤ present.max_journal_depth }
     {
         self.journal.len() as u64
     }
@@ -476,12 +476,12 @@ impl Rebuild {
         requires { due self.now ≡ EntryDue }
         ensures count { result ≡ length (outline_left self.now).sources }
         ensures some { 0 < result }
-        ensures few { result ≤ present.most_sources }
+        ensures few { result ≤ present.max_sources }
     {
         laws::cells_stand_in_slots();
         laws::journals_in_pieces();
         laws::outlines_follow();
-        self.judge.outline().sources.len() as u64
+        self.validator.outline().sources.len() as u64
     }
 
     // Returns whether an entry may come.
@@ -492,7 +492,7 @@ impl Rebuild {
         let Due::EntryDue = self.due() else {
             return false;
         };
-        self.judge().may_undo(entry)
+        self.validator().may_undo(entry)
     }
 
     /// Adds the next entry, newest first.
@@ -516,7 +516,7 @@ impl Rebuild {
         if !self.may_entry(&entry) {
             return Err(PieceFault::Bad);
         }
-        self.judge.undo(&entry);
+        self.validator.undo(&entry);
         let _oldest = self.journal.push_front(entry);
         Ok(())
     }
@@ -555,27 +555,27 @@ fn push_source(
     sources: &mut Vec<DsDef>,
     raws: &mut Vec<Raw>,
     preps: &mut Vec<StepPrep>,
-    judge: &mut Judge,
+    validator: &mut EntryValidator,
     def: DsDef,
     raw: Raw,
     prep: StepPrep,
 ) -> Result<(), AllocError>
-    requires { length judge.old.outline.sources < present.most_sources }
+    requires { length validator.old.outline.sources < present.max_sources }
     ensures ok { OnOk result ((sources.new.items ≡ sources.old.items ++ def ∷ [])
         × (raws.new.items ≡ raws.old.items ++ raw ∷ [])
         × (preps.new.items ≡ preps.old.items ++ prep ∷ [])
-        × (judge.new ≡ record judge.old {
-          outline = record judge.old.outline { sources = judge.old.outline.sources ++ def ∷ [] };
+        × (validator.new ≡ record validator.old {
+          outline = record validator.old.outline { sources = validator.old.outline.sources ++ def ∷ [] };
         })) }
     ensures err { OnErr result ((sources.new.items ≡ sources.old.items)
         × (raws.new.items ≡ raws.old.items)
         × (preps.new.items ≡ preps.old.items)
-        × (judge.new ≡ judge.old)) }
+        × (validator.new ≡ validator.old)) }
 {
     sources.reserve(1)?;
     raws.reserve(1)?;
     preps.reserve(1)?;
-    judge.push_source(def.duplicate())?;
+    validator.push_source(def.duplicate())?;
     sources.push_reserved(def);
     raws.push_reserved(raw);
     preps.push_reserved(prep);

@@ -18,17 +18,17 @@ use crate::rra::Rra;
 use crate::{Change, DsDef, Refusal};
 use rrd_ring::Archive;
 use rrd_spec::laws;
-use rrd_spec::limits::{MOST_CELLS, MOST_ROWS};
+use rrd_spec::limits::{MAX_CELLS, MAX_ROWS};
 use std::alloc::{AllocError, Global};
 
 // Returns whether the archive would have too many rows.
 fn grows_too_far(change: Change, old: u64, rows: u64) -> bool
-    requires small { old ≤ present.most_rows }
-    requires few { rows ≤ present.most_rows }
+    requires small { old ≤ present.max_rows }
+    requires few { rows ≤ present.max_rows }
     ensures { result ≡ verdict.grows_too_far present change old rows }
 {
     match change {
-        Change::Grow => old + rows > MOST_ROWS,
+        Change::Grow => old + rows > MAX_ROWS,
         Change::Shrink => false,
     }
 }
@@ -45,8 +45,8 @@ fn shrinks_too_far(change: Change, old: u64, rows: u64) -> bool
 
 // Returns the number of rows that the archive would have.
 fn rows_changed(change: Change, old: u64, rows: u64) -> u64
-    requires small { old ≤ present.most_rows }
-    requires few { rows ≤ present.most_rows }
+    requires small { old ≤ present.max_rows }
+    requires few { rows ≤ present.max_rows }
     ensures { result ≡ rows_changed change old rows }
 {
     match change {
@@ -59,8 +59,8 @@ fn rows_changed(change: Change, old: u64, rows: u64) -> u64
 fn all_rows_then(archives: &[Rra], archive: usize, change: Change, rows: u64) -> u64
     requires there { archive < length archives.now }
     requires few_rows { AllByRecursion HasFewRows archives.now }
-    requires few_archives { length archives.now ≤ present.most_archives }
-    requires few { rows ≤ present.most_rows }
+    requires few_archives { length archives.now ≤ present.max_archives }
+    requires few { rows ≤ present.max_rows }
     ensures rows { result ≡ sum
         (all_rows_after (Resized archive (rows_changed change (slice_index_or
         (rows_of_archives archives.now) archive 0) rows))
@@ -79,9 +79,9 @@ fn check_resize(
     change: Change,
     rows: u64,
 ) -> Result<(), Refusal>
-    requires few_sources { length sources.now ≤ present.most_sources }
+    requires few_sources { length sources.now ≤ present.max_sources }
     requires few_rows { AllByRecursion HasFewRows archives.now }
-    requires few { length archives.now ≤ present.most_archives }
+    requires few { length archives.now ≤ present.max_archives }
     ensures { result_err result ≡ verdict.first_refusal
         (verdict.resize_checks present (settings sources.now archives.now) archive change rows) }
 {
@@ -96,7 +96,7 @@ fn check_resize(
         return Err(Refusal::ShrinkTooFar);
     }
     let all = all_rows_then(archives, archive as usize, change, rows);
-    if has_too_many_cells(MOST_CELLS, sources.len(), all) {
+    if has_too_many_cells(MAX_CELLS, sources.len(), all) {
         return Err(Refusal::TooLarge);
     }
     Ok(())

@@ -37,9 +37,9 @@ pub(crate) fn all_rows<T: HasRows>(archives: &[T]) -> u64
 /// Returns how many rows of an archive end after `from`, up to `to`, in steps of `step` seconds.
 pub(crate) fn rows_between(def: &RraDef, step: u64, from: u64, to: u64) -> u64
     requires some_step { 0 < step }
-    requires small_step { step ≤ present.longest_step }
+    requires small_step { step ≤ present.max_step_seconds }
     requires some_steps { 0 < def.now.steps }
-    requires few_steps { def.now.steps ≤ present.most_steps }
+    requires few_steps { def.now.steps ≤ present.max_steps_per_row }
     ensures { result ≡ rows_between step def.now from to }
 {
     let resolution = def.resolution(step);

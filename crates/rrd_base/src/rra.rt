@@ -74,9 +74,9 @@ impl Rra {
     /// Creates an archive for `sources` data sources, in which all rows are unknown.
     pub(crate) fn new(alloc: Global, def: RraDef, sources: u64) -> Result<Rra, AllocError>
         requires some_rows { 0 < def.rows }
-        requires few_rows { def.rows ≤ present.most_rows }
+        requires few_rows { def.rows ≤ present.max_rows }
         requires some_sources { 0 < sources }
-        requires few_sources { sources ≤ present.most_sources }
+        requires few_sources { sources ≤ present.max_sources }
         ensures { IfOk result (λ s. s
             ≡ record {
               def = def;
@@ -97,14 +97,14 @@ impl Rra {
         sources: u64,
         first: u64,
     ) -> Result<Rra, AllocError>
-        requires few_rows { def.rows ≤ present.most_rows }
+        requires few_rows { def.rows ≤ present.max_rows }
         requires some_sources { 0 < sources }
-        requires few_sources { sources ≤ present.most_sources }
+        requires few_sources { sources ≤ present.max_sources }
         requires there { first < def.rows }
         ensures { IfOk result (λ s. s
             ≡ record { def = def; parts = []; rows = replicate def.rows (replicate sources Unknown) }) }
     {
-        let rows = Archive::new_from(alloc, def.rows, sources, first)?;
+        let rows = Archive::new_filled_from(alloc, def.rows, sources, first)?;
         Ok(Rra {
             def,
             preps: Vec::new(alloc),
@@ -142,7 +142,7 @@ impl Rra {
     /// Writes `count` rows, starting at `row` (0 is the oldest) and wrapping from the newest row to the oldest.
     ///
     /// `cells` holds the rows one after another. `count` is at most the number of rows in the archive.
-    pub(crate) fn put_rows(&mut self, row: u64, count: u64, cells: CellRun)
+    pub(crate) fn write_rows(&mut self, row: u64, count: u64, cells: CellRun)
         requires there { row < length self.old.rows }
         requires few { count ≤ length self.old.rows }
         requires one_each { length (run_cells cells) ≡ count * width self.old.rows }
@@ -150,8 +150,8 @@ impl Rra {
             self.new ≡ record self.old { rows = rows } }
     {
         match cells {
-            CellRun::Given(cells) => self.rows.put_rows(row, count, cells),
-            CellRun::Unknown(_) => self.rows.put_unknown(row, count),
+            CellRun::Given(cells) => self.rows.write_rows_wrapping(row, count, cells),
+            CellRun::Unknown(_) => self.rows.clear_rows_wrapping(row, count),
         }
     }
 
@@ -178,11 +178,11 @@ impl Rra {
     }
 
     /// Returns how many of the oldest rows were certainly never written, so that all their cells are unknown.
-    pub(crate) fn unwritten_rows(&self) -> u64
+    pub(crate) fn never_written_rows(&self) -> u64
         ensures few { result ≤ length self.now.rows }
         ensures unknown { first result self.now.rows ≡ unknown_rows result (width self.now.rows) }
     {
-        self.rows.unwritten()
+        self.rows.never_written_count()
     }
 
     /// Returns the cells of the row with an age, 0 for the newest; `None` if there is no such row.
@@ -239,9 +239,9 @@ impl Rra {
     fn close_row(&mut self, row: &mut [Cell], meter: &mut Meter)
         requires places { length row.old ≡ length self.old.parts }
         requires some_steps { 0 < self.old.def.steps }
-        requires few_steps { self.old.def.steps ≤ present.most_steps }
+        requires few_steps { self.old.def.steps ≤ present.max_steps_per_row }
         requires xff_low { pos 0 ≤ℤ self.old.def.xff }
-        requires xff_high { self.old.def.xff ≤ℤ pos present.greatest_share }
+        requires xff_high { self.old.def.xff ≤ℤ pos present.max_xff }
         requires fits { AllByRecursion (λ (p : Part). p.known ≤ self.old.def.steps) self.old.parts }
         requires turns { meter.old + length row.old < 2 ^ 64 }
         ensures cells { let def = self.old.def in
@@ -320,7 +320,7 @@ impl Rra {
     ) -> Result<SavedArchive, AllocError>
         requires stepped { IsStepped self.now }
         requires some_step { 0 < step }
-        requires small_step { step ≤ present.longest_step }
+        requires small_step { step ≤ present.max_step_seconds }
         ensures { IfOk result (λ s. s ≡ saved step from to self.now) }
     {
         let ended = rows_between(&self.def, step, from, to);
@@ -340,7 +340,7 @@ impl Rra {
     /// Copies the newest `rows` rows (1 to 1,000,000), or all rows after unknown ones (rrdresize).
     pub(crate) fn resized(&self, alloc: Global, rows: u64) -> Result<Archive, AllocError>
         requires some_rows { 0 < rows }
-        requires few_rows { rows ≤ present.most_rows }
+        requires few_rows { rows ≤ present.max_rows }
         ensures { IfOk result (λ new. new ≡ newest_rows rows self.now.rows) }
     {
         self.rows.resized(alloc, rows)

@@ -13,21 +13,21 @@ ghost use Rattle.rrd_base.specs.Resize.{HasFewRows, settings};
 ghost use Rattle.rrd_spec.specs.Journal.Entries as entries;
 ghost use Rattle.rrd_spec.specs.History.{raws_under};
 ghost use Rattle.rrd_base.specs.Tune.{IsThere, with_archive_tuned};
-ghost use Rattle.rrd_spec.specs.Limits.{most_tuned, present};
+ghost use Rattle.rrd_spec.specs.Limits.{max_tuned, present};
 ghost use Rattle.rrd_spec.specs.Commands.Verdict as verdict;
 ghost use Rattle.rrd_spec.specs.Validity.{IsValid};
 
 use crate::content::Content;
-use crate::create::{check_archives, has_bad_bounds, has_too_many_cells, is_bad_heartbeat};
+use crate::create::{check_archives, has_bad_bounds, is_bad_heartbeat, is_beyond_limits};
 use crate::journal::{Entry, put_back};
 use crate::named::has_source;
 use crate::rows::all_rows;
 use crate::rra::Rra;
-use crate::{ArchiveTune, DsDef, Refusal, RraDef, SourceBefore, Tuning};
+use crate::{ArchiveTune, DsDef, Refusal, RraDef, SavedSource, Tuning};
 use arrayvec::ArrayVec;
 use rrd_fixed::{Kind, Name, Raw};
 use rrd_spec::laws;
-use rrd_spec::limits::{MOST_ARCHIVES, MOST_CELLS, MOST_TUNED};
+use rrd_spec::limits::MAX_TUNED;
 use std::alloc::{AllocError, Global};
 
 // ---- the checks
@@ -149,19 +149,18 @@ fn check_options(sources: &[DsDef], tuning: &Tuning) -> Result<(), Refusal>
 // Returns whether the database would be too large with one more archive of `rows` rows, at most 1,000,000.
 fn is_too_large(sources: usize, archives: &[Rra], rows: u64) -> bool
     requires few_rows { AllByRecursion HasFewRows archives.now }
-    requires few_archives { length archives.now ≤ present.most_archives }
-    requires few { rows ≤ present.most_rows }
+    requires few_archives { length archives.now ≤ present.max_archives }
+    requires few { rows ≤ present.max_rows }
     ensures { let all = rows_of_archives archives.now ++ rows ∷ [] in
-        result ≡ nat_lt present.most_archives (length all) || nat_lt present.most_cells (sources * sum all) }
+        result ≡ nat_lt present.max_archives (length all) || nat_lt present.max_cells (sources * sum all) }
 {
-    archives.len() >= MOST_ARCHIVES
-        || has_too_many_cells(MOST_CELLS, sources, all_rows(archives) + rows)
+    is_beyond_limits(sources, archives.len() + 1, all_rows(archives) + rows)
 }
 
 // Checks whether an archive with these settings can be added.
 fn check_added(sources: usize, archives: &[Rra], def: &RraDef) -> Result<(), Refusal>
     requires few_rows { AllByRecursion HasFewRows archives.now }
-    requires few { length archives.now ≤ present.most_archives }
+    requires few { length archives.now ≤ present.max_archives }
     ensures { (all : List DsDef) → length all ≡ sources → result_err result
         ≡ verdict.first_refusal (verdict.archive_tune_checks present (settings all archives.now) (Some (Add def.now))) }
 {
@@ -172,12 +171,12 @@ fn check_added(sources: usize, archives: &[Rra], def: &RraDef) -> Result<(), Ref
     Ok(())
 }
 
-// Checks whether archive `number` of `archives` archives can be removed.
-fn check_removed(archives: usize, number: u64) -> Result<(), Refusal>
+// Checks whether archive number `archive` of `archives` archives can be removed.
+fn check_removed(archives: usize, archive: u64) -> Result<(), Refusal>
     ensures { (all : Settings) → length all.rows ≡ archives → result_err result
-        ≡ verdict.first_refusal (verdict.archive_tune_checks present all (Some (Remove number))) }
+        ≡ verdict.first_refusal (verdict.archive_tune_checks present all (Some (Remove archive))) }
 {
-    if number >= archives as u64 {
+    if archive >= archives as u64 {
         return Err(Refusal::NoSuchArchive);
     }
     if archives <= 1 {
@@ -189,20 +188,20 @@ fn check_removed(archives: usize, number: u64) -> Result<(), Refusal>
 // Checks whether an archive can be added or removed as requested.
 fn check_archive(sources: &[DsDef], archives: &[Rra], asked: &ArchiveTune) -> Result<(), Refusal>
     requires few_rows { AllByRecursion HasFewRows archives.now }
-    requires few { length archives.now ≤ present.most_archives }
+    requires few { length archives.now ≤ present.max_archives }
     ensures { result_err result ≡ verdict.first_refusal
         (verdict.archive_tune_checks present (settings sources.now archives.now) (Some asked.now)) }
 {
     match asked {
         ArchiveTune::Add(def) => check_added(sources.len(), archives, def),
-        ArchiveTune::Remove(number) => check_removed(archives.len(), *number),
+        ArchiveTune::Remove(archive) => check_removed(archives.len(), *archive),
     }
 }
 
 // Checks a tune (rrdtune).
 fn check_tune(sources: &[DsDef], archives: &[Rra], tuning: &Tuning) -> Result<(), Refusal>
     requires few_rows { AllByRecursion HasFewRows archives.now }
-    requires few { length archives.now ≤ present.most_archives }
+    requires few { length archives.now ≤ present.max_archives }
     ensures { result_err result ≡ verdict.first_refusal
         (verdict.tune_checks present (settings sources.now archives.now) tuning.now) }
 {
@@ -303,16 +302,16 @@ fn keep_sources(
     sources: &[DsDef],
     raws: &[Raw],
     tuning: &Tuning,
-) -> ArrayVec<SourceBefore, MOST_TUNED>
+) -> ArrayVec<SavedSource, MAX_TUNED>
     requires one_each { length raws.now ≡ length sources.now }
-    requires few { length (entries.sources_before tuning.now 0 sources.now raws.now) ≤ most_tuned }
-    ensures { result.items ≡ entries.sources_before tuning.now 0 sources.now raws.now }
+    requires few { length (entries.saved_sources tuning.now 0 sources.now raws.now) ≤ max_tuned }
+    ensures { result.items ≡ entries.saved_sources tuning.now 0 sources.now raws.now }
 {
     let mut kept = ArrayVec::new();
     for place in 0..sources.len() {
         let source = &sources[place];
         if is_named(tuning, source) {
-            kept.push(SourceBefore {
+            kept.push(SavedSource {
                 number: place as u64,
                 source: source.duplicate(),
                 raw: raws[place],
@@ -368,8 +367,8 @@ impl Content {
                 self.add_archive(alloc, *def)?;
                 Ok(Entry::Added)
             }
-            ArchiveTune::Remove(number) => {
-                let archive = *number;
+            ArchiveTune::Remove(archive) => {
+                let archive = *archive;
                 let old = self.remove_archive(archive as usize);
                 Ok(Entry::Removed { archive, old })
             }
@@ -388,7 +387,7 @@ impl Content {
     }
 
     // Copies the data sources that an accepted tune names.
-    fn keep_sources(&self, tuning: &Tuning) -> ArrayVec<SourceBefore, MOST_TUNED>
+    fn keep_sources(&self, tuning: &Tuning) -> ArrayVec<SavedSource, MAX_TUNED>
         requires accepted { verdict.verdict self.now (commands.TuningBy tuning.now) ≡ None }
         requires alone { tuning.now.archive ≡ None }
         ensures { entries.TuneEntry result.items ≡ entries.entry self.now (commands.TuningBy tuning.now) }
@@ -398,7 +397,7 @@ impl Content {
     }
 
     /// Restores the data sources that a tune named.
-    pub(crate) fn undo_tune(&mut self, kept: &ArrayVec<SourceBefore, MOST_TUNED>)
+    pub(crate) fn undo_tune(&mut self, kept: &ArrayVec<SavedSource, MAX_TUNED>)
         requires { IsValid (entries.undone self.old (entries.TuneEntry kept.now.items)) }
         ensures { self.new ≡ entries.undone self.old (entries.TuneEntry kept.now.items) }
     {

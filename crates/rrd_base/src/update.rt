@@ -20,7 +20,7 @@ use crate::content::Content;
 use crate::named::{has_double_name, has_source};
 use crate::{BeforeUpdate, DsDef, Given, List, Refusal, Sample, Update};
 use rrd_fixed::{Name, Raw, admit};
-use rrd_spec::limits::LATEST_TIME;
+use rrd_spec::limits::MAX_TIME;
 use std::alloc::{AllocError, Global};
 
 // Returns the number of values that each sample must have.
@@ -68,7 +68,7 @@ fn check_sample(
     ensures { let template = template_of sources.now columns.now.template.now in
         result_err result ≡ first_refusal (sample_checks present sources.now template last (sample.now ∷ [])) }
 {
-    if sample.time > LATEST_TIME {
+    if sample.time > MAX_TIME {
         return Err(Refusal::BadTime);
     }
     if sample.time <= last {
@@ -132,7 +132,7 @@ fn check_update<'a>(
     update: &'a Update,
 ) -> Result<Columns<'a>, Refusal>
     requires names_differ { is_double (names sources.now) ≡ false }
-    requires few { length sources.now ≤ present.most_sources }
+    requires few { length sources.now ≤ present.max_sources }
     ensures refusal { result_err result ≡ first_refusal (update_checks present sources.now last update.now) }
     ensures columns { IfOk result (λ columns. AreColumns sources.now columns
         × (columns.template.now ≡ update.now.template)) }

@@ -116,7 +116,7 @@ impl Content {
     // Passes `seconds` seconds that do not finish the step. The meter counts one unit of work for each data source.
     fn pass_within_step(&mut self, seconds: u64, walk: &mut Walk)
         requires within { self.old.last + seconds < (self.old.last / self.old.step + 1) * self.old.step }
-        requires in_time { self.old.last + seconds ≤ present.latest_time }
+        requires in_time { self.old.last + seconds ≤ present.max_time }
         requires rates_are { IsRow (length self.old.sources) walk.old.rates.items }
         requires turns { walk.old.meter + length self.old.sources < 2 ^ 64 }
         ensures value { self.new ≡ passed self.old (replicate seconds walk.old.rates.items) }
@@ -132,7 +132,7 @@ impl Content {
     // of these steps are the rates.
     fn end_steps(&mut self, seconds: u64, count: u64, walk: &mut Walk)
         requires fills { self.old.last + seconds ≡ (self.old.last / self.old.step + 1) * self.old.step }
-        requires in_time { self.old.last + (seconds + count * self.old.step) ≤ present.latest_time }
+        requires in_time { self.old.last + (seconds + count * self.old.step) ≤ present.max_time }
         requires places { HasPlaces walk.old (length self.old.sources) }
         requires rates_are { IsRow (length self.old.sources) walk.old.rates.items }
         requires turns { walk.old.meter + most_of_ends self.old count < 2 ^ 64 }
@@ -163,7 +163,7 @@ impl Content {
     // the next step.
     fn catch_up(&mut self, time: u64, walk: &mut Walk)
         requires later { self.old.last < time }
-        requires in_time { time ≤ present.latest_time }
+        requires in_time { time ≤ present.max_time }
         requires places { HasPlaces walk.old (length self.old.sources) }
         requires rates_are { IsRow (length self.old.sources) walk.old.rates.items }
         requires turns { walk.old.meter + most_to self.old time < 2 ^ 64 }
@@ -188,7 +188,7 @@ impl Content {
     // Adds the sample at a time after the last one. The walk holds its raw values.
     fn take_sample(&mut self, time: u64, walk: &mut Walk)
         requires later { self.old.last < time }
-        requires in_time { time ≤ present.latest_time }
+        requires in_time { time ≤ present.max_time }
         requires accepted { AreAccepted self.old.sources walk.old.raws.items }
         requires places { HasPlaces walk.old (length self.old.sources) }
         requires turns { walk.old.meter + most_to self.old time < 2 ^ 64 }

@@ -6,15 +6,15 @@ mod disk;
 mod file_bytes;
 mod locks;
 mod once;
-mod place;
 mod reader;
 mod settings;
+mod storage;
 mod window;
 mod writer;
 
 pub use disk::{Disk, DiskFile, Facts, Lock, Opening};
-pub use place::FileAt;
 pub use reader::FileReader;
 pub use rrd_undo::Syncs;
 pub use settings::Settings;
+pub use storage::FileStorage;
 pub use writer::FileWriter;

@@ -6,10 +6,10 @@ use crate::{Disk, DiskFile, Lock};
 use std::io::{self, Error, ErrorKind};
 
 /// The maximum time in milliseconds for which a run waits.
-const MOST: u64 = 3_600_000;
+const MAX_WAIT: u64 = 3_600_000;
 
 /// The longest pause between two tries, in milliseconds.
-const LONGEST: u64 = 50;
+const MAX_PAUSE: u64 = 50;
 
 /// The result of a try to lock a file.
 #[derive(Clone, Copy, Debug, PartialEq, Eq)]
@@ -45,7 +45,7 @@ impl Pauses {
         }
         let pause = self.next.min(self.left);
         self.left -= pause;
-        self.next = self.next.saturating_mul(2).min(LONGEST);
+        self.next = self.next.saturating_mul(2).min(MAX_PAUSE);
         Some(pause)
     }
 }
@@ -58,7 +58,7 @@ impl Pauses {
 ///
 /// `WouldBlock` if another program held a lock at each try.
 pub(crate) fn lock<D: Disk>(disk: &D, file: &D::File, lock: Lock, wait: u64) -> io::Result<Held> {
-    let wait = wait.min(MOST);
+    let wait = wait.min(MAX_WAIT);
     let mut pauses = Pauses::within(wait);
     for _ in 0..=wait {
         match file.try_lock(lock) {

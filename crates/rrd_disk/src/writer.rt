@@ -32,7 +32,7 @@ impl<F: DiskFile> FileWriter<F> {
     /// # Errors
     ///
     /// A call failed. The file represents its old bytes, if the change could be taken back.
-    pub(crate) fn end(mut self) -> io::Result<()> {
+    pub(crate) fn commit(mut self) -> io::Result<()> {
         let ended = self.pages.end();
         if ended.is_err() {
             let _taken = self.pages.take_back();
@@ -41,7 +41,7 @@ impl<F: DiskFile> FileWriter<F> {
     }
 
     /// Takes the change back, and returns why a write failed.
-    pub(crate) fn give_up(mut self) -> Option<Error> {
+    pub(crate) fn abort(mut self) -> Option<Error> {
         let _taken = self.pages.take_back();
         self.cause
     }

@@ -165,7 +165,7 @@ parts_run h sources heads def ps (q ∷ qs) parts e all are many is =
     let more : length ps < h.sources = omega (arith, many, ap length e, length-append ps (q ∷ qs)) in
     (Body (body h sources (heads ++ head_with def (ps ++ q ∷ []) ∷ []) [] []), part_taken h sources heads def ps q all are more is.0, parts_run h sources heads def (ps ++ q ∷ []) qs parts (append_assoc ps (q ∷ []) qs ∙ e) all are many is.1)
 
-head_taken : (h : Header) (sources : List Source) (heads : List Head) (def : RraDef) → h.sources ≤ length sources → AllByRecursion (IsFiledHead h) heads → length heads < h.archives → IsArchiveDef (limits_of h.version) def → h.sources * (rows_in_all heads + def.rows) ≤ (limits_of h.version).most_cells → Takes (Body (body h sources heads [] [])) (OfArchive def) (Body (body h sources (heads ++ head_with def [] ∷ []) [] []))
+head_taken : (h : Header) (sources : List Source) (heads : List Head) (def : RraDef) → h.sources ≤ length sources → AllByRecursion (IsFiledHead h) heads → length heads < h.archives → IsArchiveDef (limits_of h.version) def → h.sources * (rows_in_all heads + def.rows) ≤ (limits_of h.version).max_cells → Takes (Body (body h sources heads [] [])) (OfArchive def) (Body (body h sources (heads ++ head_with def [] ∷ []) [] []))
 unfolding Takes
 head_taken h sources heads def all are more is few =
     (record { is_due = head_due (body h sources heads [] []) all (all_prepared h heads are) more; def_is = is; few_cells = few }, refl)
@@ -186,12 +186,12 @@ all_filed : (h : Header) (xs ys : List Head) → AllByRecursion (IsFiledHead h) 
 all_filed h [] ys a b = b
 all_filed h (x ∷ xs) ys a b = (a.0, all_filed h xs ys a.1 b)
 
-pub heads_run : (h : Header) (sources : List Source) (xs ys all : List Head) → xs ++ ys ≡ all → h.sources ≤ length sources → length all ≡ h.archives → h.sources * rows_in_all all ≤ (limits_of h.version).most_cells → AllByRecursion (IsFiledHead h) xs → AllByRecursion (IsFiledHead h) ys → Runs (Body (body h sources xs [] [])) (flat_map head_pieces ys) (Body (body h sources all [] []))
+pub heads_run : (h : Header) (sources : List Source) (xs ys all : List Head) → xs ++ ys ≡ all → h.sources ≤ length sources → length all ≡ h.archives → h.sources * rows_in_all all ≤ (limits_of h.version).max_cells → AllByRecursion (IsFiledHead h) xs → AllByRecursion (IsFiledHead h) ys → Runs (Body (body h sources xs [] [])) (flat_map head_pieces ys) (Body (body h sources all [] []))
 heads_run h sources xs [] all e are many few before is = ap (λ l. Body (body h sources l [] [])) (sym (append-nil xs) ∙ e)
 heads_run h sources xs (y ∷ ys) all e are many few before is =
     let more : length xs < h.archives = omega (arith, many, ap length e, length-append xs (y ∷ ys)) in
     let rows : rows_in_all xs + y.def.rows ≤ rows_in_all all = omega (arith, ap rows_in_all e, rows_joined xs (y ∷ ys), rows_first y ys) in
-    let few_here : h.sources * (rows_in_all xs + y.def.rows) ≤ (limits_of h.version).most_cells = omega (arith, few, mul-le h.sources (rows_in_all xs + y.def.rows) h.sources (rows_in_all all) (omega arith) rows) in
+    let few_here : h.sources * (rows_in_all xs + y.def.rows) ≤ (limits_of h.version).max_cells = omega (arith, few, mul-le h.sources (rows_in_all xs + y.def.rows) h.sources (rows_in_all all) (omega arith) rows) in
     let parts = parts_run h sources xs y.def [] y.parts y.parts refl are before is.0.parts_are.one_each is.0.parts_are.each in
     let first : Runs (Body (body h sources xs [] [])) (head_pieces y) (Body (body h sources (xs ++ y ∷ []) [] [])) = (Body (body h sources (xs ++ head_with y.def [] ∷ []) [] []), head_taken h sources xs y.def are before more is.0.def_is few_here, parts) in
     let later = heads_run h sources (xs ++ y ∷ []) ys all (append_assoc xs (y ∷ []) ys ∙ e) are many few (all_filed h xs (y ∷ []) before (is.0, tt)) is.1 in

@@ -15,7 +15,7 @@ use Rattle.rrd_file.specs.Faults.{IsWhole}
 use Rattle.rrd_file.specs.Layout.{entry_pieces, head_pieces, pieces_filed, spelled}
 use Rattle.rrd_file.specs.Layout.Pieces.{Piece, Mark, OfVersion, OfHeader, OfSource, OfArchive, OfPrep, OfCell, OfTag, spell}
 use Rattle.rrd_file.specs.Stages.{Stage, Start, Marked, Versioned, Body, Within, DueInEntry, GoesOn, Runs}
-use Rattle.rrd_file.proofs.Order.{before_cell, before_entry, before_head, prep_before, source_before}
+use Rattle.rrd_file.proofs.Order.{before_cell, before_entry, before_head, prep_before, saved_source}
 use Rattle.rrd_file.proofs.Ways.{Step, ToMark, ToVersion, ToHeader, ToSource, ToHead, ToPrep, ToCell, ToEntry, ToPiece, step_of}
 
 -- ---- the order of a body's pieces
@@ -57,7 +57,7 @@ step_ordered h ToMark = tt
 step_ordered h (ToVersion version) = tt
 step_ordered h (ToHeader version header same is) = record { heads_late = λ some. absurd (omega (arith, some)); cells_late = λ some. absurd (omega (arith, some)); entries_late = λ some. absurd (omega (arith, some)) }
 step_ordered h (ToSource f s may) =
-    let more = source_before f may.is_due in
+    let more = saved_source f may.is_due in
     record {
       heads_late = λ some. absurd (omega (arith, more, h.heads_late some));
       cells_late = λ some. absurd (omega (arith, more, (h.cells_late some).sources));
@@ -191,7 +191,7 @@ step_came h ToMark = refl
 step_came h (ToVersion version) = refl
 step_came h (ToHeader version header same is) = ap (λ v. Mark ∷ OfVersion v ∷ OfHeader header ∷ []) same
 step_came h (ToSource f s may) =
-    let more = source_before f may.is_due in
+    let more = saved_source f may.is_due in
     source_came f s (none_of f.heads (λ some. absurd (omega (arith, more, h.heads_late some)))) (none_of f.cells (λ some. absurd (omega (arith, more, (h.cells_late some).sources)))) (none_of f.entries (λ some. absurd (omega (arith, more, (h.entries_late some).0.sources))))
 step_came h (ToHead f def may) =
     let before = before_head f may.is_due in

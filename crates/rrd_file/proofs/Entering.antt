@@ -2,7 +2,7 @@
 use Rattle.std.proofs.Common.{◌≡◌, ◌<◌, ◌≤◌, ◌^◌, ◌+◌, ◌/◌, ℕ, zero, suc, List, [], ◌∷◌, Some, ap, subst, length, get_or, arith}
 use Rattle.std.specs.Prelude.{slice_get}
 use Rattle.std.specs.List.{AllByRecursion, insert}
-use Rattle.rrd_spec.specs.declared.entry.SourceBefore.{SourceBefore}
+use Rattle.rrd_spec.specs.declared.entry.SavedSource.{SavedSource}
 use Rattle.rrd_spec.specs.History.{Rra, Content}
 use Rattle.rrd_spec.specs.Journal.Entries.{Entry, RemovedEntry, undone}
 use Rattle.rrd_spec.specs.Validity.{IsValid, IsValidArchive, IsValidJournal, IsValidDatabase, Fits, Rise}
@@ -13,13 +13,13 @@ use Rattle.rrd_file.proofs.Sound.{small_limits}
 use Rattle.rrd_file.proofs.Told.{some_is}
 use Rattle.rrd_file.specs.Journal.{HasSmallNumber, IsEntryOfSome}
 
-small_in : (olds : List SourceBefore) (i : ℕ) (x : SourceBefore) → AllByRecursion HasSmallNumber olds → i < length olds → (get_or olds i x).number < 2 ^ 16
+small_in : (olds : List SavedSource) (i : ℕ) (x : SavedSource) → AllByRecursion HasSmallNumber olds → i < length olds → (get_or olds i x).number < 2 ^ 16
 small_in [] i x all h = absurd (omega arith)
 small_in (y ∷ olds) zero x all h = all.0
 small_in (y ∷ olds) (suc i) x all h = small_in olds i x all.1 (omega arith)
 
-pub small_at : (olds : List SourceBefore) (i : ℕ) (x : SourceBefore) → AllByRecursion HasSmallNumber olds → i < length olds → x ≡ get_or olds i x → x.number < 2 ^ 16
-small_at olds i x all h is = omega (arith, small_in olds i x all h, ap (λ (y : SourceBefore). y.number) is)
+pub small_at : (olds : List SavedSource) (i : ℕ) (x : SavedSource) → AllByRecursion HasSmallNumber olds → i < length olds → x ≡ get_or olds i x → x.number < 2 ^ 16
+small_at olds i x all h is = omega (arith, small_in olds i x all h, ap (λ (y : SavedSource). y.number) is)
 
 some_entry : (now : Content) (journal : List Entry) (i : ℕ) (e : Entry) → IsValid now → IsValidJournal now journal → slice_get journal i ≡ Some e → IsEntryOfSome e
 some_entry now [] i e v j is = absurd cc
@@ -30,7 +30,7 @@ pub entry_of_some : (now : Content) (journal : List Entry) (i : ℕ) (e : Entry)
 entry_of_some now journal i e v is = some_entry now journal i e v.content_is v.journal_is is
 
 -- numbers that rise below a small limit
-pub small_numbers : (lowest limit : ℕ) (olds : List SourceBefore) → limit ≤ 64 → Rise lowest limit olds → AllByRecursion HasSmallNumber olds
+pub small_numbers : (lowest limit : ℕ) (olds : List SavedSource) → limit ≤ 64 → Rise lowest limit olds → AllByRecursion HasSmallNumber olds
 small_numbers lowest limit [] few r = tt
 small_numbers lowest limit (old ∷ olds) few r = (omega (arith, r.1), small_numbers (old.number + 1) limit olds few r.2)
 

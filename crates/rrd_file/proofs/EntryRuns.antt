@@ -9,7 +9,7 @@ use Rattle.rrd_fixed.specs.declared.raw.Raw.{Raw}
 use Rattle.rrd_fixed.specs.Rate.{IsBounded}
 use Rattle.rrd_fold.specs.declared.function.Function.TheVariants.{Average}
 use Rattle.rrd_fold.specs.Parts.{Part}
-use Rattle.rrd_spec.specs.declared.entry.SourceBefore.{SourceBefore}
+use Rattle.rrd_spec.specs.declared.entry.SavedSource.{SavedSource}
 use Rattle.rrd_spec.specs.declared.outline.Outline.{Outline}
 use Rattle.rrd_spec.specs.declared.settings.DsDef.{DsDef}
 use Rattle.rrd_spec.specs.declared.settings.RraDef.{RraDef}
@@ -17,11 +17,11 @@ use Rattle.rrd_spec.specs.Journal.Entries.{BeforeUpdate, Entry, SavedArchive, Up
 use Rattle.rrd_spec.specs.History.{Rra}
 use Rattle.rrd_spec.specs.Files.Filed.{Filed}
 use Rattle.rrd_spec.specs.Limits.{Limits}
-use Rattle.rrd_spec.specs.Journal.Fitting.{IsSourceBefore, MayRemove, MayResize, MaySaveEach, MayTune, MayUpdate}
+use Rattle.rrd_spec.specs.Journal.Fitting.{IsSavedSource, MayRemove, MayResize, MaySaveEach, MayTune, MayUpdate}
 use Rattle.rrd_spec.specs.Files.Rebuilding.{MayEntry, limits, outline_left, with_entry}
 use Rattle.rrd_spec.specs.Validity.{AreAccepted, IsPart, IsRow, Rise}
 use Rattle.rrd_file.specs.Layout.{entry_pieces, raws_and_parts, row_pieces, saved_pieces}
-use Rattle.rrd_file.specs.Layout.Pieces.{Piece, OfArchive, OfCell, OfCount, OfNumber, OfPrep, OfRows, OfSourceBefore, Tag, OfTag, OfTime, AnUpdate, ATune, AResize, AnAddition, ARemoval}
+use Rattle.rrd_file.specs.Layout.Pieces.{Piece, OfArchive, OfCell, OfCount, OfNumber, OfPrep, OfRows, OfSavedSource, Tag, OfTag, OfTime, AnUpdate, ATune, AResize, AnAddition, ARemoval}
 use Rattle.rrd_file.specs.Stages.{Stage, Body, Within, DueInEntry, BeforeDue, RowPrepDue, RowCellDue, GoesOn, IsTagWithin, Keeps, Runs, Takes, archive_due, behind, cells_due, first_due, named_due}
 
 -- ---- what is due is what comes
@@ -82,10 +82,10 @@ raws_meet l step now last (def ∷ defs) [] parts h e k = absurd h
 raws_meet l step now last (def ∷ defs) (raw ∷ raws) [] h e k = absurd (omega (arith, e))
 raws_meet l step now last (def ∷ defs) (raw ∷ raws) (part ∷ parts) h e k = ((h.0, k.0), raws_meet l step now last defs raws parts h.1 (omega (arith, e)) k.1)
 
-named_meet : (l : Limits) (step : ℕ) (now : Outline) (lowest : ℕ) (olds : List SourceBefore) → Rise lowest (length now.sources) olds → AllByRecursion (IsSourceBefore l) olds → Meets l step now (named_due lowest (length olds)) (map OfSourceBefore olds)
+named_meet : (l : Limits) (step : ℕ) (now : Outline) (lowest : ℕ) (olds : List SavedSource) → Rise lowest (length now.sources) olds → AllByRecursion (IsSavedSource l) olds → Meets l step now (named_due lowest (length olds)) (map OfSavedSource olds)
 named_meet l step now lowest [] r h = tt
 named_meet l step now lowest (old ∷ olds) r h =
-    ((r.0, r.1, h.0), alone l step now (named_due (old.number + 1) (length olds)) (map OfSourceBefore olds) (named_meet l step now (old.number + 1) olds r.2 h.1))
+    ((r.0, r.1, h.0), alone l step now (named_due (old.number + 1) (length olds)) (map OfSavedSource olds) (named_meet l step now (old.number + 1) olds r.2 h.1))
 
 saved_meet : (l : Limits) (step : ℕ) (now : Outline) (last : ℕ) (defs : List RraDef) (olds : List SavedArchive) → MaySaveEach step last now.last (length now.sources) defs olds → Meets l step now (flat_map (archive_due step now last) defs) (flat_map saved_pieces olds)
 saved_meet l step now last [] [] h = tt
@@ -107,7 +107,7 @@ saved_meet l step now last (def ∷ defs) (old ∷ olds) h =
 -- an entry's pieces behind its tag
 abbrev pieces_behind : Entry → List Piece
 pieces_behind (UpdateEntry old) = OfTime old.last ∷ raws_and_parts old.raws old.parts ++ flat_map saved_pieces old.archives
-pieces_behind (TuneEntry olds) = OfCount (length olds) ∷ map OfSourceBefore olds
+pieces_behind (TuneEntry olds) = OfCount (length olds) ∷ map OfSavedSource olds
 pieces_behind (ResizeEntry archive rows) = OfNumber archive ∷ OfRows (length rows) ∷ row_pieces rows
 pieces_behind AddedEntry = []
 pieces_behind (RemovedEntry number archive) = OfNumber number ∷ OfArchive archive.def ∷ (map OfPrep archive.parts ++ row_pieces archive.rows)
@@ -119,8 +119,8 @@ update_meets l step now old h =
     let due = map (BeforeDue old.last) now.sources ++ flat_map (archive_due step now old.last) now.archives in
     (h.earlier, alone l step now due (raws_and_parts old.raws old.parts ++ flat_map saved_pieces old.archives) (both_meet l step now (map (BeforeDue old.last) now.sources) (flat_map (archive_due step now old.last) now.archives) (raws_and_parts old.raws old.parts) (flat_map saved_pieces old.archives) raws archives))
 
-tune_meets : (l : Limits) (step : ℕ) (now : Outline) (olds : List SourceBefore) → MayTune l now olds → Meets l step now (first_due ATune) (OfCount (length olds) ∷ map OfSourceBefore olds)
-tune_meets l step now olds h = ((h.some, h.few), alone l step now (named_due 0 (length olds)) (map OfSourceBefore olds) (named_meet l step now 0 olds h.rise h.each))
+tune_meets : (l : Limits) (step : ℕ) (now : Outline) (olds : List SavedSource) → MayTune l now olds → Meets l step now (first_due ATune) (OfCount (length olds) ∷ map OfSavedSource olds)
+tune_meets l step now olds h = ((h.some, h.few), alone l step now (named_due 0 (length olds)) (map OfSavedSource olds) (named_meet l step now 0 olds h.rise h.each))
 
 resize_meets : (l : Limits) (step : ℕ) (now : Outline) (archive : ℕ) (rows : List (List Cell)) → MayResize l now archive rows → Meets l step now (first_due AResize) (OfNumber archive ∷ OfRows (length rows) ∷ row_pieces rows)
 resize_meets l step now archive rows h = (h.there, (h.old_rows, alone l step now (cells_due (length rows) now) (row_pieces rows) (rows_meet l step now rows h.each_row)))

@@ -5,27 +5,27 @@ use Rattle.rrd_fixed.specs.declared.cell.Cell.{Cell}
 use Rattle.rrd_fixed.specs.declared.raw.Raw.{Raw}
 use Rattle.rrd_fold.specs.declared.function.Function.TheVariants.{Average}
 use Rattle.rrd_fold.specs.Parts.{Part}
-use Rattle.rrd_spec.specs.declared.entry.SourceBefore.{SourceBefore}
+use Rattle.rrd_spec.specs.declared.entry.SavedSource.{SavedSource}
 use Rattle.rrd_spec.specs.declared.outline.Outline.{Outline}
 use Rattle.rrd_spec.specs.declared.settings.DsDef.{DsDef}
 use Rattle.rrd_spec.specs.declared.settings.RraDef.{RraDef}
 use Rattle.rrd_spec.specs.Files.Filed.{Filed}
 use Rattle.rrd_spec.specs.Limits.{Limits, limits_of}
-use Rattle.rrd_spec.specs.Journal.Fitting.{IsSourceBefore}
+use Rattle.rrd_spec.specs.Journal.Fitting.{IsSavedSource}
 use Rattle.rrd_spec.specs.Validity.{IsPart}
 use Rattle.rrd_spec.specs.Files.Rebuilding.{limits, outline_left}
-use Rattle.rrd_base.specs.Rebuild.Judges.{Judge, judge}
+use Rattle.rrd_base.specs.Rebuild.Validators.{EntryValidator, validator}
 use Rattle.rrd_file.specs.declared.fault.FileFault.TheVariants.{BadEntry}
 use Rattle.rrd_file.specs.Faults.{IsBad}
 use Rattle.rrd_file.specs.Reader.{Gives, Input}
-use Rattle.rrd_file.specs.Layout.Pieces.{OfArchive, OfCell, OfCount, OfNumber, OfPrep, OfRawAndPart, OfRows, OfSourceBefore, OfTime, Piece, spell}
+use Rattle.rrd_file.specs.Layout.Pieces.{OfArchive, OfCell, OfCount, OfNumber, OfPrep, OfRawAndPart, OfRows, OfSavedSource, OfTime, Piece, spell}
 use Rattle.rrd_file.specs.Stages.{BeforeDue, CountDue, DueInEntry, Keeps, NamedDue, NumberDue, OldRowsDue, RemovedHeadDue, RemovedNumberDue, RowCellDue, RowPrepDue, RowsDue, TimeDue, Within, behind, size_due}
 use Rattle.rrd_file.specs.Progress.{Comes}
-use Rattle.rrd_file.specs.Layout.Fitting.{FitsArchive, FitsCell, FitsPart, FitsRaw, FitsSourceBefore}
+use Rattle.rrd_file.specs.Layout.Fitting.{FitsArchive, FitsCell, FitsPart, FitsRaw, FitsSavedSource}
 use Rattle.rrd_file.proofs.Coming.{came, inside, wrong}
 use Rattle.rrd_file.proofs.OneSpelling.{archive_fits, cell_fits, def_fits, part_fits, raw_fits}
 use Rattle.rrd_file.proofs.Sound.{AreSmall, AreSound, HasSomeSteps, IsSound, IsSoundDue, reached_sound, small_limits}
-use Rattle.rrd_file.proofs.Spelled.{archive_one, cell_one, eight_one, four_one, part_one, raw_and_part_one, source_before_one, two_one}
+use Rattle.rrd_file.proofs.Spelled.{archive_one, cell_one, eight_one, four_one, part_one, raw_and_part_one, saved_source_one, two_one}
 use Rattle.rrd_file.proofs.Ways.{Way, ByTime, ByRawAndPart, ByRowPrep, ByRows, ByRowCell, ByCount, ByNamed, ByNumber, ByOldRows, ByRemovedNumber, ByRemovedHead, way}
 
 -- a piece of the kind that is due, whose values fit their bytes
@@ -36,7 +36,7 @@ pub data Read : DueInEntry → Piece → Type 0 where
   ReadRows : (rows count : ℕ) → rows < 2 ^ 32 → count < 2 ^ 32 → Read (RowsDue rows) (OfRows count)
   ReadRowCell : (cell : Cell) → FitsCell cell → Read RowCellDue (OfCell cell)
   ReadCount : (count : ℕ) → count < 2 ^ 16 → Read CountDue (OfCount count)
-  ReadNamed : (lowest more : ℕ) (old : SourceBefore) → FitsSourceBefore old → Read (NamedDue lowest more) (OfSourceBefore old)
+  ReadNamed : (lowest more : ℕ) (old : SavedSource) → FitsSavedSource old → Read (NamedDue lowest more) (OfSavedSource old)
   ReadNumber : (archive : ℕ) → archive < 2 ^ 16 → Read NumberDue (OfNumber archive)
   ReadOldRows : (archive rows : ℕ) → rows < 2 ^ 32 → Read (OldRowsDue archive) (OfRows rows)
   ReadRemovedNumber : (number : ℕ) → number < 2 ^ 16 → Read RemovedNumberDue (OfNumber number)
@@ -57,8 +57,8 @@ here f h =
 row_part_fits : (step last : ℕ) (def : RraDef) (part : Part) → HasSomeSteps def → IsPart def.function (last / step % def.steps) part → FitsPart part
 row_part_fits step last def part h p = part_fits def.function (last / step % def.steps) part (omega (arith, nat.mod-lt (last / step) h.some, h.few)) p
 
-source_before_fits : (l : Limits) (old : SourceBefore) (now : Outline) → AreSmall l → AreSound now → old.number < length now.sources → IsSourceBefore l old → FitsSourceBefore old
-source_before_fits l old now small h n k = record { number = omega (arith, n, h.sources); source = def_fits l old.source small k.0; raw = raw_fits old.source.kind old.raw k.1 }
+saved_source_fits : (l : Limits) (old : SavedSource) (now : Outline) → AreSmall l → AreSound now → old.number < length now.sources → IsSavedSource l old → FitsSavedSource old
+saved_source_fits l old now small h n k = record { number = omega (arith, n, h.sources); source = def_fits l old.source small k.0; raw = raw_fits old.source.kind old.raw k.1 }
 
 -- no other piece that keeps to the rule is spelled so
 read_one : (l : Limits) (step : ℕ) (now : Outline) {d : DueInEntry} {p q : Piece} → IsHere l step now → IsSoundDue d → Read d p → Way l step now d q → spell q ≡ spell p → q ≡ p
@@ -72,7 +72,7 @@ read_one l step now h s (ReadRowPrep last def x f) (ByRowPrep _ _ y k) e = ap Of
 read_one l step now h s (ReadRows rows x small f) (ByRows _ y k) e = ap OfRows (four_one y x (omega (arith, k, small)) f e)
 read_one l step now h s (ReadRowCell x f) (ByRowCell y k) e = ap OfCell (cell_one y x (cell_fits y k) f e)
 read_one l step now h s (ReadCount x f) (ByCount y some few) e = ap OfCount (two_one y x (omega (arith, few)) f e)
-read_one l step now h s (ReadNamed lowest more x f) (ByNamed _ _ y low there is) e = ap OfSourceBefore (source_before_one y x (source_before_fits l y now h.small h.sound there is) f e)
+read_one l step now h s (ReadNamed lowest more x f) (ByNamed _ _ y low there is) e = ap OfSavedSource (saved_source_one y x (saved_source_fits l y now h.small h.sound there is) f e)
 read_one l step now h s (ReadNumber x f) (ByNumber y k) e = ap OfNumber (two_one y x (omega (arith, k, h.sound.archives)) f e)
 read_one l step now h s (ReadOldRows archive x f) (ByOldRows _ y k) e = ap OfRows (four_one y x (omega (arith, k.few, h.small.rows)) f e)
 read_one l step now h s (ReadRemovedNumber x f) (ByRemovedNumber y k) e = ap OfNumber (two_one y x (omega (arith, k.there, h.sound.archives)) f e)
@@ -88,12 +88,12 @@ sound_within bytes f pieces d later input c =
     let sound = reached_sound front.pieces (Within f pieces (d ∷ later)) front.runs in
     record { here_is = here f sound.0; due_is = sound.1.0 }
 
--- it keeps to its rule by what judges entries of the file
-pub judged : (f : Filed) (j : Judge) (d : DueInEntry) (p : Piece) → j ≡ judge f → Keeps (limits_of j.version) j.step j.outline d p → Keeps (limits f) f.header.step (outline_left f) d p
-judged f j d p e keeps = subst (λ (k : Judge). Keeps (limits_of k.version) k.step k.outline d p) e keeps
+-- it keeps to its rule by the validator of entries of the file
+pub validated : (f : Filed) (j : EntryValidator) (d : DueInEntry) (p : Piece) → j ≡ validator f → Keeps (limits_of j.version) j.step j.outline d p → Keeps (limits f) f.header.step (outline_left f) d p
+validated f j d p e keeps = subst (λ (k : EntryValidator). Keeps (limits_of k.version) k.step k.outline d p) e keeps
 
-pub judges : (f : Filed) (j : Judge) (d : DueInEntry) (p : Piece) → j ≡ judge f → Keeps (limits f) f.header.step (outline_left f) d p → Keeps (limits_of j.version) j.step j.outline d p
-judges f j d p e keeps = subst (λ (k : Judge). Keeps (limits_of k.version) k.step k.outline d p) (sym e) keeps
+pub validates : (f : Filed) (j : EntryValidator) (d : DueInEntry) (p : Piece) → j ≡ validator f → Keeps (limits f) f.header.step (outline_left f) d p → Keeps (limits_of j.version) j.step j.outline d p
+validates f j d p e keeps = subst (λ (k : EntryValidator). Keeps (limits_of k.version) k.step k.outline d p) (sym e) keeps
 
 -- it keeps to its rule
 pub kept : (bytes : List ℕ) (f : Filed) (pieces : List Piece) (d : DueInEntry) (later : List DueInEntry) (old new : Input) (p : Piece) (piece : List ℕ)
@@ -114,11 +114,11 @@ broken bytes f pieces d later old new p piece c g e len r never =
     (λ q m same. never (subst (Keeps (limits f) f.header.step (outline_left f) d) (read_one (limits f) f.header.step (outline_left f) s.here_is s.due_is r (way (limits f) f.header.step (outline_left f) d q m) (same ∙ sym e)) m))
 
 -- a source before a tune that can't be read
-named_way : (l : Limits) (step : ℕ) (now : Outline) {lowest more : ℕ} {q : Piece} → IsHere l step now → Way l step now (NamedDue lowest more) q → (old : SourceBefore) × (q ≡ OfSourceBefore old) × FitsSourceBefore old
-named_way l step now h (ByNamed lowest more old low there is) = (old, refl, source_before_fits l old now h.small h.sound there is)
+named_way : (l : Limits) (step : ℕ) (now : Outline) {lowest more : ℕ} {q : Piece} → IsHere l step now → Way l step now (NamedDue lowest more) q → (old : SavedSource) × (q ≡ OfSavedSource old) × FitsSavedSource old
+named_way l step now h (ByNamed lowest more old low there is) = (old, refl, saved_source_fits l old now h.small h.sound there is)
 
 pub unread : (bytes : List ℕ) (f : Filed) (pieces : List Piece) (lowest more : ℕ) (later : List DueInEntry) (old new : Input) (piece : List ℕ)
-    → Comes bytes f pieces (NamedDue lowest more ∷ later) old → Gives old piece new → 79 ≡ length piece → ((source : SourceBefore) → FitsSourceBefore source → spell (OfSourceBefore source) ≢ piece)
+    → Comes bytes f pieces (NamedDue lowest more ∷ later) old → Gives old piece new → 79 ≡ length piece → ((source : SavedSource) → FitsSavedSource source → spell (OfSavedSource source) ≢ piece)
     → IsBad bytes (BadEntry (suc (length f.entries)))
 unread bytes f pieces lowest more later old new piece c g len none =
     let s = sound_within bytes f pieces (NamedDue lowest more) later old c in

@@ -16,7 +16,7 @@ use Rattle.rrd_spec.specs.Journal.Survivors.{Stored}
 use Rattle.rrd_file.specs.declared.fault.FileFault.{FileFault}
 use Rattle.rrd_file.specs.declared.fault.FileFault.TheVariants.{NotOurs, Version as WrongVersion, Truncated, BadBlock, BadEntry, Trailing, Read, OutOfMemory}
 use Rattle.rrd_file.specs.Faults.{Front, IsAnswer, IsBad, IsFault, IsFile, IsTrailing, IsTruncated, IsWhole, bad_at}
-use Rattle.rrd_file.specs.Laws.{BytesComeBack, BytesComeBackButOldest, IsOfFile, IsValidIn}
+use Rattle.rrd_file.specs.Laws.{RevertRestoresBytes, RevertRestoresBytesButOldest, IsOfFile, IsValidIn}
 use Rattle.rrd_file.specs.Layout.{layout, layout_in}
 use Rattle.rrd_file.specs.Stages.{Stage, Start, Body, size}
 use Rattle.rrd_file.proofs.Came.{whole_is_layout}
@@ -136,10 +136,10 @@ layouts_differ laws one v w d e more a b same =
 
 -- ---- reverts
 
-pub bytes_come_back_but_oldest : ((now : Content) (journal : List Entry) (command : DatabaseChange) → RevertTakesBack now journal command) → (d : Stored) (command : DatabaseChange) → BytesComeBackButOldest d command
-bytes_come_back_but_oldest back d command v accepted = ap layout (back d.content d.journal command v accepted)
+pub revert_restores_bytes_but_oldest : ((now : Content) (journal : List Entry) (command : DatabaseChange) → RevertTakesBack now journal command) → (d : Stored) (command : DatabaseChange) → RevertRestoresBytesButOldest d command
+revert_restores_bytes_but_oldest back d command v accepted = ap layout (back d.content d.journal command v accepted)
 
-pub bytes_come_back : ((now : Content) (journal : List Entry) (command : DatabaseChange) → RevertTakesBack now journal command) → (d : Stored) (command : DatabaseChange) → BytesComeBack d command
-bytes_come_back back d command v accepted room =
+pub revert_restores_bytes : ((now : Content) (journal : List Entry) (command : DatabaseChange) → RevertTakesBack now journal command) → (d : Stored) (command : DatabaseChange) → RevertRestoresBytes d command
+revert_restores_bytes back d command v accepted room =
     let all : take (d.content.depth - 1) d.journal ≡ d.journal = take_all (d.content.depth - 1) d.journal (omega (arith, room)) in
-    bytes_come_back_but_oldest back d command v accepted ∙ (λ i. layout (record d { journal = all i }))
+    revert_restores_bytes_but_oldest back d command v accepted ∙ (λ i. layout (record d { journal = all i }))

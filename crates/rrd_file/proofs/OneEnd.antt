@@ -6,7 +6,7 @@ use Rattle.std.proofs.lemmas.List.Concat.{flat_map-cons}
 use Rattle.rrd_spec.specs.Files.Filed.{Filed}
 use Rattle.rrd_file.specs.Faults.{Front, IsWhole}
 use Rattle.rrd_file.specs.Layout.{spelled}
-use Rattle.rrd_file.specs.Layout.Pieces.{Piece, Mark, OfVersion, OfHeader, OfSource, OfArchive, OfPrep, OfCell, OfTag, OfTime, OfRawAndPart, OfRows, OfCount, OfSourceBefore, OfNumber, spell}
+use Rattle.rrd_file.specs.Layout.Pieces.{Piece, Mark, OfVersion, OfHeader, OfSource, OfArchive, OfPrep, OfCell, OfTag, OfTime, OfRawAndPart, OfRows, OfCount, OfSavedSource, OfNumber, spell}
 use Rattle.rrd_file.specs.Layout.Values.{cell_number, raw_bytes, part_bytes}
 use Rattle.rrd_file.specs.Stages.{Stage, Start, Body, Runs, Takes, size}
 use Rattle.rrd_file.proofs.Lengths.{header_length, part_length}
@@ -37,7 +37,7 @@ some_bytes (OfTime x) = omega arith
 some_bytes (OfRawAndPart x y) = omega (arith, length-append (raw_bytes x) (part_bytes y), part_length y)
 some_bytes (OfRows x) = omega arith
 some_bytes (OfCount x) = omega arith
-some_bytes (OfSourceBefore x) = omega arith
+some_bytes (OfSavedSource x) = omega arith
 some_bytes (OfNumber x) = omega arith
 
 -- where no piece is due

@@ -7,7 +7,7 @@ use Rattle.rrd_fixed.specs.declared.cell.Cell.{Cell}
 use Rattle.rrd_fixed.specs.declared.raw.Raw.{Raw}
 use Rattle.rrd_fold.specs.Parts.{Part}
 use Rattle.rrd_ring.specs.Rows.{HasWidth}
-use Rattle.rrd_spec.specs.declared.entry.SourceBefore.{SourceBefore}
+use Rattle.rrd_spec.specs.declared.entry.SavedSource.{SavedSource}
 use Rattle.rrd_spec.specs.declared.outline.Outline.{Outline}
 use Rattle.rrd_spec.specs.declared.settings.RraDef.{RraDef}
 use Rattle.rrd_spec.specs.Journal.Entries.{BeforeUpdate, Entry, SavedArchive, UpdateEntry, TuneEntry, ResizeEntry, AddedEntry, RemovedEntry}
@@ -18,7 +18,7 @@ use Rattle.rrd_spec.specs.Journal.Fitting.{MaySaveEach, MayUndo}
 use Rattle.rrd_spec.specs.Files.Rebuilding.{MayEntry, limits, outline_left}
 use Rattle.rrd_spec.specs.Validity.{IsRow}
 use Rattle.rrd_file.specs.Layout.{entry_pieces, raws_and_parts, row_pieces, saved_pieces}
-use Rattle.rrd_file.specs.Layout.Pieces.{Piece, Mark, OfArchive, OfCell, OfCount, OfNumber, OfPrep, OfRawAndPart, OfRows, OfSourceBefore, OfTag, OfTime, AnUpdate, ATune, AResize, AnAddition, ARemoval}
+use Rattle.rrd_file.specs.Layout.Pieces.{Piece, Mark, OfArchive, OfCell, OfCount, OfNumber, OfPrep, OfRawAndPart, OfRows, OfSavedSource, OfTag, OfTime, AnUpdate, ATune, AResize, AnAddition, ARemoval}
 use Rattle.rrd_file.specs.Journal.{AreSavedShaped, IsRemovedShaped, IsShaped, IsUpdateShaped}
 use Rattle.rrd_file.proofs.Spelled.{append_same}
 use Rattle.rrd_file.proofs.Told.{accepted_length, length_before}
@@ -41,7 +41,7 @@ prep_same x y e = cc
 cell_same : (x y : Cell) → OfCell x ≡ OfCell y → x ≡ y
 cell_same x y e = cc
 
-before_same : (x y : SourceBefore) → OfSourceBefore x ≡ OfSourceBefore y → x ≡ y
+before_same : (x y : SavedSource) → OfSavedSource x ≡ OfSavedSource y → x ≡ y
 before_same x y e = cc
 
 raws_one : (r s : List Raw) (a b : List Part) → length r ≡ length a → length s ≡ length b → raws_and_parts r a ≡ raws_and_parts s b → (r ≡ s) × (a ≡ b)
@@ -126,11 +126,11 @@ resize_one width x y rows olds h k e =
     let both = rows_one width rows olds [] [] h k count (ap (λ l. l ++ []) rest) in
     λ i. ResizeEntry (number i) (both.0 i)
 
-tune_one : (x y : List SourceBefore) → entry_pieces (TuneEntry x) ≡ entry_pieces (TuneEntry y) → TuneEntry x ≡ TuneEntry y
+tune_one : (x y : List SavedSource) → entry_pieces (TuneEntry x) ≡ entry_pieces (TuneEntry y) → TuneEntry x ≡ TuneEntry y
 tune_one x y e =
-    let whole : OfTag ATune ∷ OfCount (length x) ∷ map OfSourceBefore x ≡ OfTag ATune ∷ OfCount (length y) ∷ map OfSourceBefore y = e in
-    let rest : map OfSourceBefore x ≡ map OfSourceBefore y = cc in
-    ap TuneEntry (map_one OfSourceBefore before_same x y rest)
+    let whole : OfTag ATune ∷ OfCount (length x) ∷ map OfSavedSource x ≡ OfTag ATune ∷ OfCount (length y) ∷ map OfSavedSource y = e in
+    let rest : map OfSavedSource x ≡ map OfSavedSource y = cc in
+    ap TuneEntry (map_one OfSavedSource before_same x y rest)
 
 removed_one : (now : Outline) (x y : ℕ) (a b : Rra) → IsRemovedShaped now a → IsRemovedShaped now b → entry_pieces (RemovedEntry x a) ≡ entry_pieces (RemovedEntry y b) → RemovedEntry x a ≡ RemovedEntry y b
 removed_one now x y a b h k e =

@@ -18,23 +18,23 @@ use Rattle.rrd_fold.specs.Parts.{Part}
 use Rattle.rrd_spec.specs.declared.settings.DsDef.{DsDef}
 use Rattle.rrd_spec.specs.declared.settings.RraDef.{RraDef}
 use Rattle.rrd_spec.specs.declared.outline.Outline.{Outline}
-use Rattle.rrd_spec.specs.declared.entry.SourceBefore.{SourceBefore}
-use Rattle.rrd_spec.specs.Limits.{Limits, deepest_journal_of}
+use Rattle.rrd_spec.specs.declared.entry.SavedSource.{SavedSource}
+use Rattle.rrd_spec.specs.Limits.{Limits, max_journal_depth_of}
 use Rattle.rrd_spec.specs.declared.version.Version.{Version}
 use Rattle.rrd_spec.specs.declared.version.Version.TheVariants.{One, Two}
 use Rattle.rrd_spec.specs.Files.Filed.{Filed, Head, Header, Source}
 use Rattle.rrd_spec.specs.Files.Rebuilding.{IsArchiveDef, IsHeader, MaySource, MayPrep, due, limits, outline_left, unprepared}
 use Rattle.rrd_spec.specs.Validity.{IsPart, IsSourceWithin}
-use Rattle.rrd_spec.specs.Journal.Fitting.{IsSourceBefore}
+use Rattle.rrd_spec.specs.Journal.Fitting.{IsSavedSource}
 use Rattle.rrd_spec.specs.Commands.Verdict.{is_crossed, is_far}
-use Rattle.rrd_file.specs.Layout.Pieces.{Piece, OfVersion, OfHeader, OfSource, OfArchive, OfPrep, OfCell, Tag, OfTag, AnUpdate, ATune, AResize, AnAddition, ARemoval, OfTime, OfRawAndPart, OfRows, OfCount, OfSourceBefore, OfNumber, header_bytes, spell, tag_byte, version_number}
+use Rattle.rrd_file.specs.Layout.Pieces.{Piece, OfVersion, OfHeader, OfSource, OfArchive, OfPrep, OfCell, Tag, OfTag, AnUpdate, ATune, AResize, AnAddition, ARemoval, OfTime, OfRawAndPart, OfRows, OfCount, OfSavedSource, OfNumber, header_bytes, spell, tag_byte, version_number}
 use Rattle.rrd_file.specs.Layout.Values.{two_bytes}
 use Rattle.rrd_file.specs.Stages.{Stage, Start, DueInEntry, Runs, Takes}
-use Rattle.rrd_file.specs.Layout.Fitting.{counts, FitsArchive, FitsBound, FitsCell, FitsDef, FitsHeader, FitsSourceBefore, FitsPart, FitsRaw, FitsSource}
+use Rattle.rrd_file.specs.Layout.Fitting.{counts, FitsArchive, FitsBound, FitsCell, FitsDef, FitsHeader, FitsSavedSource, FitsPart, FitsRaw, FitsSource}
 use Rattle.rrd_file.proofs.Order.{prep_before}
 use Rattle.rrd_file.proofs.Ways.{Step, ToMark, ToVersion, ToHeader, ToSource, ToHead, ToPrep, ToCell, ToEntry, ToPiece, Way, ByTime, ByRawAndPart, ByRowPrep, ByRows, ByRowCell, ByCount, ByNamed, ByNumber, ByOldRows, ByRemovedNumber, ByRemovedHead, step_of}
 use Rattle.rrd_file.proofs.Sound.{AreSmall, AreSound, HasSomeSteps, IsSound, IsSoundDue, IsSoundStage, reached_sound, small_limits}
-use Rattle.rrd_file.proofs.Spelled.{archive_one, raw_and_part_one, cell_one, eight_one, four_one, header_one, source_before_one, head_same, part_one, source_one, two_one}
+use Rattle.rrd_file.proofs.Spelled.{archive_one, raw_and_part_one, cell_one, eight_one, four_one, header_one, saved_source_one, head_same, part_one, source_one, two_one}
 use Rattle.rrd_file.proofs.Tests.{and_left, and_right, or_left, or_right}
 
 -- ---- what keeps to its rule fits its bytes
@@ -55,7 +55,7 @@ raw_fits Derive (Raw.Known value) h = omega (arith, ints, h.0, h.1)
 
 bound_fits : (l : Limits) (bound : Option ℤ) → AreSmall l → is_far l bound ≡ false → FitsBound bound
 bound_fits l None small h = tt
-bound_fits l (Some value) small h = omega (arith, small.bound, ltb-false l.greatest_bound (unsigned_abs value) h)
+bound_fits l (Some value) small h = omega (arith, small.bound, ltb-false l.max_bound (unsigned_abs value) h)
 
 letter_small : (c : ℕ) → is_letter c ≡ true → c < 128
 letter_small c h = grind (arith, h)
@@ -72,7 +72,7 @@ name_fits name h =
 pub def_fits : (l : Limits) (def : DsDef) → AreSmall l → IsSourceWithin l def → FitsDef def
 def_fits l def small h = record {
   name = name_fits def.name h.good_name;
-  heartbeat = omega (arith, small.heartbeat, ltb-false l.longest_heartbeat def.heartbeat (or_right (def.heartbeat == 0) _ h.good_heartbeat));
+  heartbeat = omega (arith, small.heartbeat, ltb-false l.max_heartbeat def.heartbeat (or_right (def.heartbeat == 0) _ h.good_heartbeat));
   min = bound_fits l def.min small (or_left (is_far l def.min) (is_far l def.max) (or_left _ (is_crossed def.min def.max) h.good_bounds));
   max = bound_fits l def.max small (or_right (is_far l def.min) (is_far l def.max) (or_left _ (is_crossed def.min def.max) h.good_bounds));
 }
@@ -98,7 +98,7 @@ source_fits f s h m = record {
 pub archive_fits : (l : Limits) (def : RraDef) → AreSmall l → IsArchiveDef l def → FitsArchive def
 archive_fits l def small h = record { steps = omega (arith, h.few_steps, small.steps); xff_low = h.xff_low; xff_high = omega (arith, ints, h.xff_low, h.xff_high, small.share); rows = omega (arith, h.few_rows, small.rows) }
 
-depth_counts : (version : Version) → deepest_journal_of version < counts version
+depth_counts : (version : Version) → max_journal_depth_of version < counts version
 depth_counts One = omega arith
 depth_counts Two = omega arith
 
@@ -142,8 +142,8 @@ tag_one t u e = absurd (omega (arith, e))
 
 -- ---- within an entry
 
-source_before_fits : (l : Limits) (old : SourceBefore) (now : Outline) → AreSmall l → AreSound now → old.number < length now.sources → IsSourceBefore l old → FitsSourceBefore old
-source_before_fits l old now small h n k = record { number = omega (arith, n, h.sources); source = def_fits l old.source small k.0; raw = raw_fits old.source.kind old.raw k.1 }
+saved_source_fits : (l : Limits) (old : SavedSource) (now : Outline) → AreSmall l → AreSound now → old.number < length now.sources → IsSavedSource l old → FitsSavedSource old
+saved_source_fits l old now small h n k = record { number = omega (arith, n, h.sources); source = def_fits l old.source small k.0; raw = raw_fits old.source.kind old.raw k.1 }
 
 -- the limits, the step and the outline at a stage that a file reaches
 record IsHere (l : Limits) (step : ℕ) (now : Outline) : Type 0 where
@@ -165,7 +165,7 @@ one_way l step now h d (ByRows rows x k) (ByRows _ y m) e = ap OfRows (k ∙ sym
 one_way l step now h d (ByRowCell x k) (ByRowCell y m) e = ap OfCell (cell_one x y (cell_fits x k) (cell_fits y m) e)
 one_way l step now h d (ByCount x kx k) (ByCount y my m) e = ap OfCount (two_one x y (omega (arith, k)) (omega (arith, m)) e)
 one_way l step now h d (ByNamed lowest more x kl k kx) (ByNamed _ _ y ml m my) e =
-    ap OfSourceBefore (source_before_one x y (source_before_fits l x now h.small h.sound k kx) (source_before_fits l y now h.small h.sound m my) e)
+    ap OfSavedSource (saved_source_one x y (saved_source_fits l x now h.small h.sound k kx) (saved_source_fits l y now h.small h.sound m my) e)
 one_way l step now h d (ByNumber x k) (ByNumber y m) e = ap OfNumber (two_one x y (omega (arith, k, h.sound.archives)) (omega (arith, m, h.sound.archives)) e)
 one_way l step now h d (ByOldRows archive x k) (ByOldRows _ y m) e = ap OfRows (four_one x y (omega (arith, k.few, h.small.rows)) (omega (arith, m.few, h.small.rows)) e)
 one_way l step now h d (ByRemovedNumber x k) (ByRemovedNumber y m) e = ap OfNumber (two_one x y (omega (arith, k.there, h.sound.archives)) (omega (arith, m.there, h.sound.archives)) e)

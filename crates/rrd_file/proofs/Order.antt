@@ -52,9 +52,9 @@ entry_order Bool.false None Bool.false Bool.true d e = absurd cc
 entry_order Bool.false None Bool.false Bool.false Bool.true e = (refl, refl, refl, refl, refl)
 entry_order Bool.false None Bool.false Bool.false Bool.false e = absurd cc
 
-pub source_before : (f : Filed) → due f ≡ SourceDue → length f.sources < f.header.sources
+pub saved_source : (f : Filed) → due f ≡ SourceDue → length f.sources < f.header.sources
 unfolding due
-source_before f e = ltb-true (length f.sources) f.header.sources (source_order (nat_lt (length f.sources) f.header.sources) (unprepared f.header.sources f.heads) (nat_lt (length f.heads) f.header.archives) (nat_lt (length f.cells) (f.header.sources * rows_in_all f.heads)) (nat_lt (length f.entries) f.header.entries) e)
+saved_source f e = ltb-true (length f.sources) f.header.sources (source_order (nat_lt (length f.sources) f.header.sources) (unprepared f.header.sources f.heads) (nat_lt (length f.heads) f.header.archives) (nat_lt (length f.cells) (f.header.sources * rows_in_all f.heads)) (nat_lt (length f.entries) f.header.entries) e)
 
 -- where a head is due
 pub record BeforeHead (f : Filed) : Type 0 where

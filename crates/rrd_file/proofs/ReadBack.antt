@@ -6,10 +6,10 @@ use Rattle.rrd_fixed.specs.declared.name.Name.{Name}
 use Rattle.rrd_fixed.specs.Names.{fits}
 use Rattle.rrd_fold.specs.declared.function.Function.{Function}
 use Rattle.rrd_spec.specs.declared.settings.RraDef.{RraDef}
-use Rattle.rrd_spec.specs.declared.entry.SourceBefore.{SourceBefore}
-use Rattle.rrd_file.specs.Layout.Pieces.{OfSourceBefore, OfArchive, OfHeader, OfSource, OfRawAndPart, count_bytes, spell}
+use Rattle.rrd_spec.specs.declared.entry.SavedSource.{SavedSource}
+use Rattle.rrd_file.specs.Layout.Pieces.{OfSavedSource, OfArchive, OfHeader, OfSource, OfRawAndPart, count_bytes, spell}
 use Rattle.rrd_file.specs.Stages.{header_size}
-use Rattle.rrd_file.specs.Layout.Fitting.{FitsSourceBefore, FitsArchive, FitsDef, FitsNumber, FitsSource}
+use Rattle.rrd_file.specs.Layout.Fitting.{FitsSavedSource, FitsArchive, FitsDef, FitsNumber, FitsSource}
 use Rattle.rrd_spec.specs.declared.version.Version.{Version}
 use Rattle.rrd_spec.specs.Files.Filed.{Source}
 use Rattle.rrd_file.proofs.Spelled.{append_same, header_parts, short_fit}
@@ -180,16 +180,16 @@ source_said bs y l fit e =
     let long : length (source_bytes y.def) ≡ length (take 61 bs) = source_length y.def (short_fit y.def.name fit.def.name) ∙ sym (length-take-le 61 bs (omega (arith, l))) in
     (append_same (source_bytes y.def) (raw_bytes y.raw ++ part_bytes y.part) (take 61 bs) (drop 61 bs) long (sym (append_assoc (source_bytes y.def) (raw_bytes y.raw) (part_bytes y.part)) ∙ e ∙ sym (take-append-drop 61 bs))).0
 
-pub source_before_back : (bs more front rest last : List ℕ) (old : SourceBefore) → length bs ≡ 79 → bs ≡ two_bytes old.number ++ more → length more + 2 ≡ length bs → front ≡ take 61 more → rest ≡ drop 61 more → source_bytes old.source ≡ front → rest ≡ raw_bytes old.raw ++ last → length last + 16 ≡ length rest → spell (OfSourceBefore old) ≡ bs
+pub saved_source_back : (bs more front rest last : List ℕ) (old : SavedSource) → length bs ≡ 79 → bs ≡ two_bytes old.number ++ more → length more + 2 ≡ length bs → front ≡ take 61 more → rest ≡ drop 61 more → source_bytes old.source ≡ front → rest ≡ raw_bytes old.raw ++ last → length last + 16 ≡ length rest → spell (OfSavedSource old) ≡ bs
 unfolding spell
-source_before_back bs more front rest last old l n s f d p q m =
+saved_source_back bs more front rest last old l n s f d p q m =
     let none : last ≡ [] = nothing_left last (omega (arith, l, s, m, ap length d, length-drop 61 more)) in
     let tail : raw_bytes old.raw ≡ rest = sym (append-nil (raw_bytes old.raw)) ∙ ap (λ m. raw_bytes old.raw ++ m) (sym none) ∙ sym q in
     ap (λ m. two_bytes old.number ++ m) ((λ i. (p ∙ f) i ++ (tail ∙ d) i) ∙ take-append-drop 61 more) ∙ sym n
 
-pub source_before_said : (bs more : List ℕ) (number : ℕ) (y : SourceBefore) → length bs ≡ 79 → bs ≡ two_bytes number ++ more → FitsSourceBefore y → spell (OfSourceBefore y) ≡ bs → source_bytes y.source ≡ take 61 more
+pub saved_source_said : (bs more : List ℕ) (number : ℕ) (y : SavedSource) → length bs ≡ 79 → bs ≡ two_bytes number ++ more → FitsSavedSource y → spell (OfSavedSource y) ≡ bs → source_bytes y.source ≡ take 61 more
 unfolding spell
-source_before_said bs more number y l n fit e =
+saved_source_said bs more number y l n fit e =
     let after : source_bytes y.source ++ raw_bytes y.raw ≡ more = (append_same (two_bytes y.number) (source_bytes y.source ++ raw_bytes y.raw) (two_bytes number) more refl (e ∙ n)).1 in
     let long : 61 ≤ length more = omega (arith, l, ap length n) in
     let same : length (source_bytes y.source) ≡ length (take 61 more) = source_length y.source (short_fit y.source.name fit.source.name) ∙ sym (length-take-le 61 more long) in

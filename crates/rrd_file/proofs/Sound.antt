@@ -10,8 +10,8 @@ use Rattle.rrd_fold.specs.Parts.{Part}
 use Rattle.rrd_spec.specs.declared.settings.DsDef.{DsDef}
 use Rattle.rrd_spec.specs.declared.settings.RraDef.{RraDef}
 use Rattle.rrd_spec.specs.declared.outline.Outline.{Outline}
-use Rattle.rrd_spec.specs.declared.entry.SourceBefore.{SourceBefore}
-use Rattle.rrd_spec.specs.Limits.{Limits, limits_of, most_archives_of}
+use Rattle.rrd_spec.specs.declared.entry.SavedSource.{SavedSource}
+use Rattle.rrd_spec.specs.Limits.{Limits, limits_of, max_archives_of}
 use Rattle.rrd_spec.specs.Journal.Entries.{Entry, UpdateEntry, TuneEntry, ResizeEntry, AddedEntry, RemovedEntry}
 use Rattle.rrd_spec.specs.declared.version.Version.{Version}
 use Rattle.rrd_spec.specs.declared.version.Version.TheVariants.{One, Two}
@@ -22,22 +22,22 @@ use Rattle.rrd_spec.specs.Journal.Fitting.{MayUndo}
 use Rattle.rrd_spec.specs.Journal.Outlines.{outline_undone, with_row_number, with_sources}
 use Rattle.rrd_file.specs.Layout.Pieces.{Piece, Tag, OfTag, AnUpdate, ATune, AResize, AnAddition, ARemoval}
 use Rattle.rrd_file.specs.Stages.{Stage, Start, Marked, Versioned, Body, Within, DueInEntry, TimeDue, BeforeDue, RowPrepDue, RowsDue, RowCellDue, CountDue, NamedDue, NumberDue, OldRowsDue, RemovedNumberDue, RemovedHeadDue, GoesOn, Runs, Takes, archive_due, behind, first_due, named_due}
-use Rattle.rrd_file.proofs.Order.{before_entry, before_head, source_before}
+use Rattle.rrd_file.proofs.Order.{before_entry, before_head, saved_source}
 use Rattle.rrd_file.proofs.Ways.{Step, ToMark, ToVersion, ToHeader, ToSource, ToHead, ToPrep, ToCell, ToEntry, ToPiece, Way, ByTime, ByRawAndPart, ByRowPrep, ByRows, ByRowCell, ByCount, ByNamed, ByNumber, ByOldRows, ByRemovedNumber, ByRemovedHead, step_of}
 
 -- limits that no version exceeds
 pub record AreSmall (l : Limits) : Type 0 where
-  pub step : l.longest_step ≤ 1000000
-  pub last : l.latest_time ≤ 9999999999
-  pub sources : l.most_sources ≤ 64
-  pub archives : l.most_archives ≤ 128
-  pub heartbeat : l.longest_heartbeat ≤ 9999999999
-  pub bound : l.greatest_bound ≤ top
-  pub share : l.greatest_share ≤ 999999
-  pub steps : l.most_steps ≤ 1000000
-  pub rows : l.most_rows ≤ 1000000
+  pub step : l.max_step_seconds ≤ 1000000
+  pub last : l.max_time ≤ 9999999999
+  pub sources : l.max_sources ≤ 64
+  pub archives : l.max_archives ≤ 128
+  pub heartbeat : l.max_heartbeat ≤ 9999999999
+  pub bound : l.max_bound ≤ top
+  pub share : l.max_xff ≤ 999999
+  pub steps : l.max_steps_per_row ≤ 1000000
+  pub rows : l.max_rows ≤ 1000000
 
-few_archives : (version : Version) → most_archives_of version ≤ 128
+few_archives : (version : Version) → max_archives_of version ≤ 128
 few_archives One = omega arith
 few_archives Two = omega arith
 
@@ -99,7 +99,7 @@ set_length [] i def = refl
 set_length (x ∷ sources) zero def = refl
 set_length (x ∷ sources) (suc i) def = ap suc (set_length sources i def)
 
-tuned_length : (sources : List DsDef) (olds : List SourceBefore) → length (with_sources sources olds) ≡ length sources
+tuned_length : (sources : List DsDef) (olds : List SavedSource) → length (with_sources sources olds) ≡ length sources
 tuned_length sources [] = refl
 tuned_length sources (old ∷ olds) = tuned_length (slice_set sources old.number old.source) olds ∙ set_length sources old.number old.source
 
@@ -231,7 +231,7 @@ step_sound h (ToHeader version header same is) =
     let none : 0 ≤ header.archives = omega arith in
     record { header = is; sources = few; heads = none; steps = tt; late = λ some. absurd (omega (arith, some)); left = filed_sound (begun header) is few none tt }
 step_sound h (ToSource f s may) =
-    let more = source_before f may.is_due in
+    let more = saved_source f may.is_due in
     let new = with_source f s in
     let sources : length new.sources ≤ f.header.sources = omega (arith, more, length-append f.sources (s ∷ [])) in
     let none = none_of f.entries (λ some. absurd (omega (arith, more, (h.late some).0))) in

@@ -18,13 +18,13 @@ use Rattle.rrd_fold.specs.declared.function.Function.TheVariants.{Average, Min, 
 use Rattle.rrd_fold.specs.Parts.{Part}
 use Rattle.rrd_spec.specs.declared.settings.DsDef.{DsDef}
 use Rattle.rrd_spec.specs.declared.settings.RraDef.{RraDef}
-use Rattle.rrd_spec.specs.declared.entry.SourceBefore.{SourceBefore}
+use Rattle.rrd_spec.specs.declared.entry.SavedSource.{SavedSource}
 use Rattle.rrd_spec.specs.declared.version.Version.{Version}
 use Rattle.rrd_spec.specs.declared.version.Version.TheVariants.{One, Two}
 use Rattle.rrd_spec.specs.Files.Filed.{Header, Source}
 use Rattle.rrd_file.specs.Layout.Pieces.{count_bytes, header_bytes}
 use Rattle.rrd_file.specs.Layout.Values.{archive_bytes, bound_bytes, bound_number, cell_bytes, eight_bytes, four_bytes, function_byte, kind_byte, least, name_bytes, part_bytes, raw_bytes, raw_number, signed_bytes, source_bytes, two_bytes}
-use Rattle.rrd_file.specs.Layout.Fitting.{counts, FitsArchive, FitsBound, FitsCell, FitsDef, FitsHeader, FitsSourceBefore, FitsNumber, FitsPart, FitsRaw, FitsSource}
+use Rattle.rrd_file.specs.Layout.Fitting.{counts, FitsArchive, FitsBound, FitsCell, FitsDef, FitsHeader, FitsSavedSource, FitsNumber, FitsPart, FitsRaw, FitsSource}
 use Rattle.rrd_file.proofs.SignedBytes.{signed_length, signed_one}
 use Rattle.rrd_file.proofs.Lengths.{name_length, source_length}
 use Rattle.rrd_file.proofs.Tests.{and_left}
@@ -158,8 +158,8 @@ raw_and_part_one r s c d fr fs fc fd e =
     let t = append_same (raw_bytes r) (part_bytes c) (raw_bytes s) (part_bytes d) (same_length (raw_number r) (raw_number s)) e in
     (raw_one r s fr fs t.0, part_one c d fc fd t.1)
 
-pub source_before_one : (a b : SourceBefore) → FitsSourceBefore a → FitsSourceBefore b → two_bytes a.number ++ source_bytes a.source ++ raw_bytes a.raw ≡ two_bytes b.number ++ source_bytes b.source ++ raw_bytes b.raw → a ≡ b
-source_before_one a b fa fb e =
+pub saved_source_one : (a b : SavedSource) → FitsSavedSource a → FitsSavedSource b → two_bytes a.number ++ source_bytes a.source ++ raw_bytes a.raw ≡ two_bytes b.number ++ source_bytes b.source ++ raw_bytes b.raw → a ≡ b
+saved_source_one a b fa fb e =
     let la = source_length a.source (short_fit a.source.name fa.source.name) in
     let lb = source_length b.source (short_fit b.source.name fb.source.name) in
     let s = append_same (two_bytes a.number) (source_bytes a.source ++ raw_bytes a.raw) (two_bytes b.number) (source_bytes b.source ++ raw_bytes b.raw) refl e in

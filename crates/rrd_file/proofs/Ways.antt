@@ -5,17 +5,17 @@ use Rattle.rrd_fixed.specs.declared.raw.Raw.{Raw}
 use Rattle.rrd_fixed.specs.Rate.{IsAccepted, IsBounded}
 use Rattle.rrd_fold.specs.declared.function.Function.TheVariants.{Average}
 use Rattle.rrd_fold.specs.Parts.{Part}
-use Rattle.rrd_spec.specs.declared.entry.SourceBefore.{SourceBefore}
+use Rattle.rrd_spec.specs.declared.entry.SavedSource.{SavedSource}
 use Rattle.rrd_spec.specs.declared.outline.Outline.{Outline}
 use Rattle.rrd_spec.specs.declared.settings.DsDef.{DsDef}
 use Rattle.rrd_spec.specs.declared.settings.RraDef.{RraDef}
 use Rattle.rrd_spec.specs.declared.version.Version.{Version}
 use Rattle.rrd_spec.specs.Files.Filed.{Filed, Header, Source}
-use Rattle.rrd_spec.specs.Limits.{Limits, most_tuned}
-use Rattle.rrd_spec.specs.Journal.Fitting.{AreOldRows, AreRemovedSettings, IsRemovedNumber, IsSourceBefore}
+use Rattle.rrd_spec.specs.Limits.{Limits, max_tuned}
+use Rattle.rrd_spec.specs.Journal.Fitting.{AreOldRows, AreRemovedSettings, IsRemovedNumber, IsSavedSource}
 use Rattle.rrd_spec.specs.Files.Rebuilding.{IsHeader, IsRowPart, MayCell, MayHead, MayPrep, MaySource, begun, due, limits, outline_left, with_cell, with_head, with_prep, with_source}
 use Rattle.rrd_spec.specs.Validity.{IsPart}
-use Rattle.rrd_file.specs.Layout.Pieces.{Piece, Mark, OfVersion, OfHeader, OfSource, OfArchive, OfPrep, OfCell, Tag, OfTag, OfTime, OfRawAndPart, OfRows, OfCount, OfSourceBefore, OfNumber}
+use Rattle.rrd_file.specs.Layout.Pieces.{Piece, Mark, OfVersion, OfHeader, OfSource, OfArchive, OfPrep, OfCell, Tag, OfTag, OfTime, OfRawAndPart, OfRows, OfCount, OfSavedSource, OfNumber}
 use Rattle.rrd_file.specs.Stages.{Stage, Start, Marked, Versioned, Body, Within, DueInEntry, TimeDue, BeforeDue, RowPrepDue, RowsDue, RowCellDue, CountDue, NamedDue, NumberDue, OldRowsDue, RemovedNumberDue, RemovedHeadDue, GoesOn, Keeps, MayTag, Takes, behind, first_due}
 
 -- ---- within an entry
@@ -26,8 +26,8 @@ pub data Way (l : Limits) (step : ℕ) (now : Outline) : DueInEntry → Piece �
   ByRowPrep : (last : ℕ) (def : RraDef) (part : Part) → IsRowPart step last def part → Way l step now (RowPrepDue last def) (OfPrep part)
   ByRows : (rows count : ℕ) → count ≡ rows → Way l step now (RowsDue rows) (OfRows count)
   ByRowCell : (cell : Cell) → IsBounded cell → Way l step now RowCellDue (OfCell cell)
-  ByCount : (count : ℕ) → 0 < count → count ≤ most_tuned → Way l step now CountDue (OfCount count)
-  ByNamed : (lowest more : ℕ) (old : SourceBefore) → lowest ≤ old.number → old.number < length now.sources → IsSourceBefore l old → Way l step now (NamedDue lowest more) (OfSourceBefore old)
+  ByCount : (count : ℕ) → 0 < count → count ≤ max_tuned → Way l step now CountDue (OfCount count)
+  ByNamed : (lowest more : ℕ) (old : SavedSource) → lowest ≤ old.number → old.number < length now.sources → IsSavedSource l old → Way l step now (NamedDue lowest more) (OfSavedSource old)
   ByNumber : (archive : ℕ) → archive < length now.archives → Way l step now NumberDue (OfNumber archive)
   ByOldRows : (archive rows : ℕ) → AreOldRows l now archive rows → Way l step now (OldRowsDue archive) (OfRows rows)
   ByRemovedNumber : (number : ℕ) → IsRemovedNumber l now number → Way l step now RemovedNumberDue (OfNumber number)
@@ -40,7 +40,7 @@ way l step now (RowPrepDue u v) (OfPrep x) k = ByRowPrep u v x k
 way l step now (RowsDue u) (OfRows x) k = ByRows u x k
 way l step now RowCellDue (OfCell x) k = ByRowCell x k
 way l step now CountDue (OfCount x) k = ByCount x k.0 k.1
-way l step now (NamedDue u v) (OfSourceBefore x) k = ByNamed u v x k.0 k.1 k.2
+way l step now (NamedDue u v) (OfSavedSource x) k = ByNamed u v x k.0 k.1 k.2
 way l step now NumberDue (OfNumber x) k = ByNumber x k
 way l step now (OldRowsDue u) (OfRows x) k = ByOldRows u x k
 way l step now RemovedNumberDue (OfNumber x) k = ByRemovedNumber x k

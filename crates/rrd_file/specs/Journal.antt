@@ -2,7 +2,7 @@
 use Rattle.std.specs.Prelude.{◌≡◌, ◌<◌, ℕ, List, [], ◌∷◌, length, ◌^◌}
 use Rattle.rrd_fixed.specs.declared.cell.Cell.{Cell}
 use Rattle.rrd_ring.specs.Rows.{HasWidth}
-use Rattle.rrd_spec.specs.declared.entry.SourceBefore.{SourceBefore}
+use Rattle.rrd_spec.specs.declared.entry.SavedSource.{SavedSource}
 use Rattle.rrd_spec.specs.declared.outline.Outline.{Outline}
 use Rattle.rrd_spec.specs.declared.settings.RraDef.{RraDef}
 use Rattle.rrd_spec.specs.Journal.Entries.{Entry, BeforeUpdate, SavedArchive, UpdateEntry, TuneEntry, ResizeEntry, AddedEntry, RemovedEntry, undone}
@@ -24,7 +24,7 @@ pub record IsEntryOfSome (entry : Entry) : Type 0 where
   pub before : IsValid (undone now entry)
 
 -- the number of a data source fits two bytes
-abbrev pub HasSmallNumber : SourceBefore → Type 0
+abbrev pub HasSmallNumber : SavedSource → Type 0
 HasSmallNumber old = old.number < 2 ^ 16
 
 -- ---- entries that were read

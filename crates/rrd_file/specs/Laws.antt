@@ -4,7 +4,7 @@ use Rattle.rrd_fixed.specs.declared.cell.Cell.{Cell}
 use Rattle.rrd_fixed.specs.declared.raw.Raw.{Raw}
 use Rattle.rrd_fold.specs.Parts.{Part}
 use Rattle.rrd_spec.specs.declared.settings.RraDef.{RraDef}
-use Rattle.rrd_spec.specs.declared.entry.SourceBefore.{SourceBefore}
+use Rattle.rrd_spec.specs.declared.entry.SavedSource.{SavedSource}
 use Rattle.rrd_spec.specs.Commands.{DatabaseChange}
 use Rattle.rrd_spec.specs.Journal.Entries.{Entry}
 use Rattle.rrd_spec.specs.Files.Filed.{Filed, Source}
@@ -15,8 +15,8 @@ use Rattle.rrd_spec.specs.Commands.Verdict.{verdict}
 use Rattle.rrd_file.specs.declared.fault.FileFault.{FileFault}
 pub use Rattle.rrd_file.specs.Faults.{IsAnswer, IsFile, IsOfFile, IsValidIn, IsValidStored}
 use Rattle.rrd_file.specs.Layout.{entry_pieces, layout, layout_in}
-use Rattle.rrd_file.specs.Layout.Pieces.{Piece, OfSource, OfArchive, OfPrep, OfCell, OfRawAndPart, OfSourceBefore, spell}
-use Rattle.rrd_file.specs.Layout.Fitting.{FitsArchive, FitsCell, FitsSourceBefore, FitsPart, FitsRaw, FitsSource}
+use Rattle.rrd_file.specs.Layout.Pieces.{Piece, OfSource, OfArchive, OfPrep, OfCell, OfRawAndPart, OfSavedSource, spell}
+use Rattle.rrd_file.specs.Layout.Fitting.{FitsArchive, FitsCell, FitsSavedSource, FitsPart, FitsRaw, FitsSource}
 use Rattle.rrd_file.specs.Stages.{Runs, Stage, Start, Takes, size}
 
 -- a record that may come has as many bytes as are due
@@ -39,9 +39,9 @@ pub record ValuesHaveOneSpelling : Type 0 where
   pub raw_and_part :
       (r s : Raw) (a b : Part) → FitsRaw r → FitsRaw s → FitsPart a → FitsPart b
       → spell (OfRawAndPart r a) ≡ spell (OfRawAndPart s b) → (r ≡ s) × (a ≡ b)
-  pub source_before :
-      (a b : SourceBefore) → FitsSourceBefore a → FitsSourceBefore b
-      → spell (OfSourceBefore a) ≡ spell (OfSourceBefore b) → a ≡ b
+  pub saved_source :
+      (a b : SavedSource) → FitsSavedSource a → FitsSavedSource b
+      → spell (OfSavedSource a) ≡ spell (OfSavedSource b) → a ≡ b
 
 -- no two entries that may come after the same records have the same records
 abbrev pub EntriesHaveOneSpelling : Type 0
@@ -74,14 +74,14 @@ NoFrontOfAnother v w d e more =
     IsValidIn v d → IsValidIn w e → layout_in v d ++ more ≡ layout_in w e → (v ≡ w) × (d ≡ e) × (more ≡ [])
 
 -- a revert of an accepted command restores the file, byte by byte, except the oldest entry of a full journal
-abbrev pub BytesComeBack : Stored → DatabaseChange → Type 0
-BytesComeBack d command =
+abbrev pub RevertRestoresBytes : Stored → DatabaseChange → Type 0
+RevertRestoresBytes d command =
     let after = changed d command in
     let back = reverted after.content after.journal in
     IsValidStored d → verdict d.content command ≡ None → length d.journal < d.content.depth → layout back ≡ layout d
 
-abbrev pub BytesComeBackButOldest : Stored → DatabaseChange → Type 0
-BytesComeBackButOldest d command =
+abbrev pub RevertRestoresBytesButOldest : Stored → DatabaseChange → Type 0
+RevertRestoresBytesButOldest d command =
     let after = changed d command in
     let back = reverted after.content after.journal in
     IsValidStored d → verdict d.content command ≡ None

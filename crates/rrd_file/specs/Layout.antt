@@ -9,7 +9,7 @@ use Rattle.rrd_spec.specs.declared.version.Version.{Version}
 use Rattle.rrd_spec.specs.Files.Filed.{Filed, Head, filed}
 use Rattle.rrd_spec.specs.Journal.Survivors.{Stored}
 use Rattle.rrd_spec.specs.Limits.{newest}
-use Rattle.rrd_file.specs.Layout.Pieces.{Piece, Mark, OfVersion, OfHeader, OfSource, OfArchive, OfPrep, OfCell, OfTag, OfTime, OfRawAndPart, OfRows, OfCount, OfSourceBefore, OfNumber, AnUpdate, ATune, AResize, AnAddition, ARemoval, spell}
+use Rattle.rrd_file.specs.Layout.Pieces.{Piece, Mark, OfVersion, OfHeader, OfSource, OfArchive, OfPrep, OfCell, OfTag, OfTime, OfRawAndPart, OfRows, OfCount, OfSavedSource, OfNumber, AnUpdate, ATune, AResize, AnAddition, ARemoval, spell}
 pub mod Values
 pub mod Pieces
 pub mod Fitting
@@ -41,7 +41,7 @@ saved_pieces old = map OfPrep old.parts ++ OfRows (length old.rows) ∷ row_piec
 abbrev pub entry_pieces : Entry → List Piece
 entry_pieces (UpdateEntry old) =
     OfTag AnUpdate ∷ OfTime old.last ∷ raws_and_parts old.raws old.parts ++ flat_map saved_pieces old.archives
-entry_pieces (TuneEntry olds) = OfTag ATune ∷ OfCount (length olds) ∷ map OfSourceBefore olds
+entry_pieces (TuneEntry olds) = OfTag ATune ∷ OfCount (length olds) ∷ map OfSavedSource olds
 entry_pieces (ResizeEntry archive rows) = OfTag AResize ∷ OfNumber archive ∷ OfRows (length rows) ∷ row_pieces rows
 entry_pieces AddedEntry = OfTag AnAddition ∷ []
 -- the settings of the archive have its number of rows

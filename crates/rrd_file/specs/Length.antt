@@ -33,8 +33,8 @@ abbrev pub most_of_entries : ℕ
 most_of_entries = 13200000000000000
 
 -- rows of all archives, and bytes of the records between the header and the entries
-abbrev pub most_rows_in_all : ℕ
-most_rows_in_all = 128000000
+abbrev pub max_rows_in_all : ℕ
+max_rows_in_all = 128000000
 
 abbrev pub most_of_body : ℕ
 most_of_body = 132000000000

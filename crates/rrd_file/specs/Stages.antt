@@ -9,15 +9,15 @@ use Rattle.rrd_spec.specs.declared.settings.RraDef.{RraDef}
 use Rattle.rrd_spec.specs.declared.outline.Outline.{Outline}
 use Rattle.rrd_spec.specs.declared.due.Due.{Due}
 use Rattle.rrd_spec.specs.declared.due.Due.TheVariants.{SourceDue, HeadDue, PrepDue, CellDue, EntryDue, NothingDue}
-use Rattle.rrd_spec.specs.Limits.{Limits, most_tuned}
+use Rattle.rrd_spec.specs.Limits.{Limits, max_tuned}
 use Rattle.rrd_spec.specs.Journal.Entries.{Entry, rows_between}
 use Rattle.rrd_spec.specs.declared.version.Version.{Version}
 use Rattle.rrd_spec.specs.declared.version.Version.TheVariants.{One, Two}
 use Rattle.rrd_spec.specs.Files.Filed.{Filed}
-use Rattle.rrd_spec.specs.Journal.Fitting.{AreOldRows, AreRemovedSettings, IsRemovedNumber, IsSourceBefore}
+use Rattle.rrd_spec.specs.Journal.Fitting.{AreOldRows, AreRemovedSettings, IsRemovedNumber, IsSavedSource}
 use Rattle.rrd_spec.specs.Files.Rebuilding.{IsHeader, MaySource, MayHead, MayPrep, MayCell, MayEntry, IsRowPart, begun, due, limits, outline_left, with_source, with_head, with_prep, with_cell, with_entry}
 use Rattle.rrd_spec.specs.Validity.{IsPart}
-use Rattle.rrd_file.specs.Layout.Pieces.{Piece, Mark, OfVersion, OfHeader, OfSource, OfArchive, OfPrep, OfCell, Tag, OfTag, OfTime, OfRawAndPart, OfRows, OfCount, OfSourceBefore, OfNumber, AnUpdate, ATune, AResize, AnAddition, ARemoval}
+use Rattle.rrd_file.specs.Layout.Pieces.{Piece, Mark, OfVersion, OfHeader, OfSource, OfArchive, OfPrep, OfCell, Tag, OfTag, OfTime, OfRawAndPart, OfRows, OfCount, OfSavedSource, OfNumber, AnUpdate, ATune, AResize, AnAddition, ARemoval}
 use Rattle.rrd_file.specs.Layout.{entry_pieces}
 
 -- ---- stages within an entry
@@ -83,7 +83,7 @@ abbrev pub behind : ℕ → Outline → DueInEntry → Piece → List DueInEntry
 behind step now TimeDue (OfTime last) =
     map (BeforeDue last) now.sources ++ flat_map (archive_due step now last) now.archives
 behind step now CountDue (OfCount count) = named_due 0 count
-behind step now (NamedDue lowest more) (OfSourceBefore old) = named_due (old.number + 1) more
+behind step now (NamedDue lowest more) (OfSavedSource old) = named_due (old.number + 1) more
 behind step now NumberDue (OfNumber archive) = OldRowsDue archive ∷ []
 behind step now (OldRowsDue archive) (OfRows rows) = cells_due rows now
 behind step now RemovedNumberDue (OfNumber number) = RemovedHeadDue ∷ []
@@ -99,9 +99,9 @@ Keeps limits step now (BeforeDue last def) (OfRawAndPart raw part) =
 Keeps limits step now (RowPrepDue last def) (OfPrep part) = IsRowPart step last def part
 Keeps limits step now (RowsDue rows) (OfRows count) = count ≡ rows
 Keeps limits step now RowCellDue (OfCell cell) = IsBounded cell
-Keeps limits step now CountDue (OfCount count) = (0 < count) × (count ≤ most_tuned)
-Keeps limits step now (NamedDue lowest more) (OfSourceBefore old) =
-    (lowest ≤ old.number) × (old.number < length now.sources) × IsSourceBefore limits old
+Keeps limits step now CountDue (OfCount count) = (0 < count) × (count ≤ max_tuned)
+Keeps limits step now (NamedDue lowest more) (OfSavedSource old) =
+    (lowest ≤ old.number) × (old.number < length now.sources) × IsSavedSource limits old
 Keeps limits step now NumberDue (OfNumber archive) = archive < length now.archives
 Keeps limits step now (OldRowsDue archive) (OfRows rows) = AreOldRows limits now archive rows
 Keeps limits step now RemovedNumberDue (OfNumber number) = IsRemovedNumber limits now number
@@ -160,8 +160,8 @@ abbrev pub IsTagWithin : Limits → Tag → Type 0
 IsTagWithin limits AnUpdate = Unit {0}
 IsTagWithin limits ATune = Unit {0}
 IsTagWithin limits AResize = Unit {0}
-IsTagWithin limits AnAddition = limits.archives_come_and_go ≡ true
-IsTagWithin limits ARemoval = limits.archives_come_and_go ≡ true
+IsTagWithin limits AnAddition = limits.allows_archive_changes ≡ true
+IsTagWithin limits ARemoval = limits.allows_archive_changes ≡ true
 
 pub record MayTag (f : Filed) (tag : Tag) : Type 0 where
   pub is_due : due f ≡ EntryDue

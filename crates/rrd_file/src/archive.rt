@@ -206,7 +206,7 @@ fn read_row_prep<R: Read + Drop>(
     def: &RraDef,
 ) -> Result<RowPrep, FileFault>
     requires some_steps { 0 < def.now.steps }
-    requires few_steps { def.now.steps ≤ present.most_steps }
+    requires few_steps { def.now.steps ≤ present.max_steps_per_row }
     ensures brings { (bytes : List ℕ) (pieces : List Piece) (later : List DueInEntry)
         → Comes bytes build.now pieces (RowPrepDue last def.now ∷ later) input.old
         → Brings bytes build.now (λ prep. pieces ++ OfPrep prep.part ∷ []) (λ prep. later) input.new result }
@@ -215,7 +215,7 @@ fn read_row_prep<R: Read + Drop>(
     let mut piece = [0u8; PREP_SIZE];
     input.piece(&mut piece)?;
     let (known, value, _) = part_of(&piece);
-    match build.judge().row_part(last, def, known, value) {
+    match build.validator().row_part(last, def, known, value) {
         Some(prep) => Ok(prep),
         None => Err(bad_entry(build)),
     }
@@ -231,7 +231,7 @@ pub(crate) fn read_row_preps<R: Read + Drop>(
 ) -> Result<Vec<RowPrep>, FileFault>
     requires is_due { due build.now ≡ EntryDue }
     requires some_steps { 0 < def.now.steps }
-    requires few_steps { def.now.steps ≤ present.most_steps }
+    requires few_steps { def.now.steps ≤ present.max_steps_per_row }
     ensures brings { (bytes : List ℕ) (pieces : List Piece) (later : List DueInEntry)
         → Comes bytes build.now pieces
         (replicate (length (outline_left build.now).sources) (RowPrepDue last def.now) ++ later)

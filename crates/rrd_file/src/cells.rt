@@ -20,20 +20,20 @@ ghost use Rattle.rrd_file.specs.Layout.Values as spelling;
 
 use crate::FileFault;
 use crate::fault::block_fault;
-use crate::layout::{ABSENT, ABSENT_HIGH, ABSENT_LOW, CELL_SIZE, WIDEST, unknown_bytes};
+use crate::layout::{ABSENT, ABSENT_HIGH, ABSENT_LOW, CELL_SIZE, MAX_ROW_CELLS, unknown_bytes};
 use crate::reader::PieceReader;
 use crate::values::{Halves, halves_of, signed_of};
 use crate::writer::{BLOCK_SIZE, Block, PieceWriter};
 use rrd_base::{Database, Due, Rebuild, database_is_valid, is_bounded};
 use rrd_fixed::{Cell, WriteFault};
 use rrd_ring::Table;
-use rrd_spec::first_place;
+use rrd_spec::first_slot_row;
 use rrd_spec::laws::rows_stand_in_slots;
 use std::io::{Read, Write};
 
 /// The maximum number of cells that are read at once: enough for the widest row, and few enough to be copied while the
 /// processor still has them at hand.
-const AT_ONCE: usize = 127;
+const MAX_CELLS_AT_ONCE: usize = 127;
 
 // The halves of the number that is written for an unknown cell.
 const UNKNOWN: Halves = Halves {
@@ -56,7 +56,7 @@ pub(crate) fn cell_halves(cell: Cell) -> Halves
 impl Block {
     /// Adds unknown cells, at most 64.
     fn unknown(&mut self, count: usize)
-        requires few { count ≤ WIDEST }
+        requires few { count ≤ MAX_ROW_CELLS }
         requires room { length self.old + CELL_SIZE * count ≤ BLOCK_SIZE }
         ensures { self.new ≡ self.old ++ flat_map spelling.cell_bytes (replicate count Unknown) }
     {
@@ -71,7 +71,7 @@ fn write_each<W: Write>(out: &mut PieceWriter<'_, W>, cells: &[Cell]) -> Result<
 {
     let mut done = 0;
     while done < cells.len() {
-        let more = (cells.len() - done).min(WIDEST);
+        let more = (cells.len() - done).min(MAX_ROW_CELLS);
         out.make_room()?;
         out.block.cells(&cells[done..done + more]);
         done += more;
@@ -117,7 +117,7 @@ fn write_unknown<W: Write>(out: &mut PieceWriter<'_, W>, count: u64) -> Result<(
 {
     let mut done = 0;
     while done < count {
-        let more = (count - done).min(WIDEST as u64);
+        let more = (count - done).min(MAX_ROW_CELLS as u64);
         out.make_room()?;
         out.block.unknown(more as usize);
         done += more;
@@ -144,7 +144,7 @@ fn write_run<W: Write>(
     // The prover needs that the number of cells is small.
     database_is_valid(database);
     let unwritten = database
-        .unwritten_rows(archive)
+        .never_written_rows(archive)
         .min(to)
         .saturating_sub(from);
     write_unknown(out, unwritten * database.sources())?;
@@ -166,7 +166,7 @@ fn write_slots<W: Write>(
     // The prover needs that times and numbers of rows are small.
     database_is_valid(database);
     let def = database.archive(archive);
-    let first = first_place(def.resolution(database.step()), database.last(), def.rows);
+    let first = first_slot_row(def.resolution(database.step()), database.last(), def.rows);
     write_run(out, database, archive, first, def.rows)?;
     write_run(out, database, archive, 0, first)
 }
@@ -243,7 +243,7 @@ fn unknown_front(bytes: &[u8]) -> usize
     let mut count = 0;
     let mut rest = bytes;
     while rest.len() >= CELL_SIZE {
-        let some = (rest.len() / CELL_SIZE).min(WIDEST);
+        let some = (rest.len() / CELL_SIZE).min(MAX_ROW_CELLS);
         let (front, more) = rest.split_at(some * CELL_SIZE);
         if front != unknown_bytes(some) {
             return count;
@@ -318,7 +318,7 @@ fn gather_row<R: Read + Drop>(
     input: &mut PieceReader<R>,
     cells_in_row: usize,
 ) -> Result<(), FileFault>
-    requires { cells_in_row ≤ WIDEST }
+    requires { cells_in_row ≤ MAX_ROW_CELLS }
     ensures keeps { OnOk result (Keeps (left input.old) (left input.new)) }
     ensures at { OnOk result (input.new.at ≡ input.old.at) }
     ensures more { OnOk result (length input.old.waiting ≤ length input.new.waiting) }
@@ -373,7 +373,7 @@ pub(crate) fn read_cells<R: Read + Drop>(
     ensures advanced { OnOk result (Advances input.old input.new) }
 {
     input.wait_for(CELL_SIZE)?;
-    let mut room = [Cell::Unknown; AT_ONCE];
+    let mut room = [Cell::Unknown; MAX_CELLS_AT_ONCE];
     while let Due::CellDue = build.due() {
         gather_row(input, build.cells_in_row())?;
         if input.waiting() < CELL_SIZE {

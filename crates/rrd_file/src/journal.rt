@@ -69,7 +69,7 @@ fn is_within(tag: Tag, build: &Rebuild) -> bool
 {
     match tag {
         Tag::AnUpdate | Tag::ATune | Tag::AResize => true,
-        Tag::AnAddition | Tag::ARemoval => build.judge().archives_come_and_go(),
+        Tag::AnAddition | Tag::ARemoval => build.validator().allows_archive_changes(),
     }
 }
 

@@ -77,9 +77,9 @@ pub fn layouts_differ()
 /// Theorem: a revert of an accepted command restores the file, byte by byte.
 ///
 /// The oldest entry of a full journal is lost.
-pub fn bytes_come_back()
-    ensures whole { (d : Stored) (command : DatabaseChange) → laws.BytesComeBack d command }
-    ensures full { (d : Stored) (command : DatabaseChange) → laws.BytesComeBackButOldest d command }
+pub fn revert_restores_bytes()
+    ensures whole { (d : Stored) (command : DatabaseChange) → laws.RevertRestoresBytes d command }
+    ensures full { (d : Stored) (command : DatabaseChange) → laws.RevertRestoresBytesButOldest d command }
 {
     revert_takes_back();
 }

@@ -10,7 +10,7 @@ ghost use Rattle.rrd_file.specs.Layout.Pieces as pieces;
 ghost use Rattle.rrd_file.specs.Layout.Values as spelling;
 
 use rrd_base::Version;
-use rrd_spec::limits::MOST_SOURCES;
+use rrd_spec::limits::MAX_SOURCES;
 
 /// The letters at the start of a file.
 pub(crate) const MARK: [u8; MARK_SIZE] = *b"RRDI";
@@ -84,14 +84,14 @@ const ABSENT_BYTES: [u8; CELL_SIZE] = [
 ];
 
 /// The maximum number of cells in a row.
-pub(crate) const WIDEST: usize = MOST_SOURCES;
+pub(crate) const MAX_ROW_CELLS: usize = MAX_SOURCES;
 
 /// The bytes of a row of unknown cells.
-static UNKNOWN: [[u8; CELL_SIZE]; WIDEST] = [ABSENT_BYTES; WIDEST];
+static UNKNOWN: [[u8; CELL_SIZE]; MAX_ROW_CELLS] = [ABSENT_BYTES; MAX_ROW_CELLS];
 
 /// Returns the bytes of `count` unknown cells, at most 64.
 pub(crate) fn unknown_bytes(count: usize) -> &'static [u8]
-    requires { count ≤ WIDEST }
+    requires { count ≤ MAX_ROW_CELLS }
     ensures bytes { result.now ≡ flat_map spelling.cell_bytes (replicate count Unknown) }
     ensures size { length result.now ≡ CELL_SIZE * count }
 {

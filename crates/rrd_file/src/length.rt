@@ -5,8 +5,8 @@ ghost use Rattle.std.specs.List.{AllByRecursion, flat_map, sum_by};
 ghost use Rattle.rrd_base.specs.Journal.{entry_of, update_of};
 ghost use Rattle.rrd_file.specs.Journal.{IsEntryOfSome};
 ghost use Rattle.rrd_file.specs.Layout.{body_pieces, entry_pieces, layout, saved_pieces, spelled};
-ghost use Rattle.rrd_file.specs.Length.{IsWide, most_of_all_saved, most_of_body, most_of_entries, most_of_entry, most_of_rows, most_of_saved, most_rows_in_all, rows_of};
-ghost use Rattle.rrd_ring.specs.Rows.{most_rows, most_sources};
+ghost use Rattle.rrd_file.specs.Length.{IsWide, most_of_all_saved, most_of_body, most_of_entries, most_of_entry, most_of_rows, most_of_saved, max_rows_in_all, rows_of};
+ghost use Rattle.rrd_ring.specs.Rows.{max_rows, max_sources};
 ghost use Rattle.rrd_spec.specs.Files.Filed.{filed};
 ghost use Rattle.rrd_spec.specs.Journal.Entries.{RemovedEntry, ResizeEntry, TuneEntry, UpdateEntry};
 ghost use Rattle.rrd_spec.specs.Limits.{newest, present};
@@ -16,7 +16,7 @@ use crate::layout::{
     NUMBER_SIZE, PREP_SIZE, ROWS_SIZE, SECOND_HEADER_SIZE, SOURCE_SIZE, TAG_SIZE, TIME_SIZE,
     VERSION_SIZE,
 };
-use rrd_base::{BeforeUpdate, Database, Entry, Rra, SavedArchive, SourceBefore, database_is_valid};
+use rrd_base::{BeforeUpdate, Database, Entry, Rra, SavedArchive, SavedSource, database_is_valid};
 use rrd_ring::Archive;
 use rrd_spec::laws::{cells_stand_in_slots, outlines_judge_entries};
 
@@ -58,8 +58,8 @@ const ADDITION: u64 = TAG_SIZE as u64;
 
 // Returns the size of `rows` rows with a cell for each of `sources` data sources.
 fn rows_length(rows: u64, sources: u64) -> u64
-    requires few_rows { rows ≤ most_rows }
-    requires few_sources { sources ≤ most_sources }
+    requires few_rows { rows ≤ max_rows }
+    requires few_sources { sources ≤ max_sources }
     ensures count { result ≡ rows * sources * 16 }
     ensures few { result ≤ most_of_rows }
 {
@@ -68,7 +68,7 @@ fn rows_length(rows: u64, sources: u64) -> u64
 
 // Returns the size of the values that an update replaced in an archive: partial rows, a number of rows, and those rows.
 fn saved_length(saved: &SavedArchive, sources: u64) -> u64
-    requires few_sources { sources ≤ most_sources }
+    requires few_sources { sources ≤ max_sources }
     requires wide { IsWide sources saved.now }
     ensures count { result ≡ length (spelled (saved_pieces saved.now)) }
     ensures few { result ≤ most_of_saved }
@@ -78,8 +78,8 @@ fn saved_length(saved: &SavedArchive, sources: u64) -> u64
 
 // Returns the size of the values that an update replaced in all archives.
 fn all_saved_length(saved: &[SavedArchive], sources: u64) -> u64
-    requires few_archives { length saved.now ≤ present.most_archives }
-    requires few_sources { sources ≤ most_sources }
+    requires few_archives { length saved.now ≤ present.max_archives }
+    requires few_sources { sources ≤ max_sources }
     requires wide { AllByRecursion (IsWide sources) saved.now }
     ensures count { result ≡ length (spelled (flat_map saved_pieces saved.now)) }
     ensures few { result ≤ most_of_all_saved }
@@ -102,7 +102,7 @@ fn update_length(before: &BeforeUpdate) -> u64
 }
 
 // Returns the size of a tune's entry: the tag and a number of data sources, then those data sources.
-fn tune_length(olds: &[SourceBefore]) -> u64
+fn tune_length(olds: &[SavedSource]) -> u64
     requires { IsEntryOfSome (TuneEntry olds.now) }
     ensures count { result ≡ length (spelled (entry_pieces (TuneEntry olds.now))) }
     ensures few { result ≤ most_of_entry }
@@ -123,7 +123,7 @@ fn resize_length(old: &Archive) -> u64
 // Returns the size of the entry of a removed archive: the tag, the archive's number and settings, then the partial rows
 // and the rows.
 fn removed_length(old: &Rra) -> u64
-    requires { length old.now.parts ≤ most_sources }
+    requires { length old.now.parts ≤ max_sources }
     ensures count { (number : ℕ) → result ≡ length (spelled (entry_pieces (RemovedEntry number old.now))) }
     ensures few { result ≤ most_of_entry }
 {
@@ -164,13 +164,13 @@ fn entries_length(database: &Database) -> u64
 // Returns the number of rows in all archives.
 fn rows_in_all(database: &Database) -> u64
     ensures count { result ≡ sum_by rows_of database.now.content.archives }
-    ensures few { result ≤ most_rows_in_all }
+    ensures few { result ≤ max_rows_in_all }
 {
     // The prover needs that each archive has at most 1,000,000 rows.
     database_is_valid(database);
     let mut rows = 0;
-    for number in 0..database.archives() {
-        rows += database.archive(number).rows;
+    for archive in 0..database.archives() {
+        rows += database.archive(archive).rows;
     }
     rows
 }

@@ -6,7 +6,7 @@ ghost use Rattle.rrd_file.specs.Reader.{FindsEnd, IsCut, ReadsPiece, left};
 
 use crate::FileFault;
 use crate::layout::SOURCE_SIZE;
-use crate::writer::LONGEST;
+use crate::writer::MAX_PIECE_SIZE;
 use std::alloc::{AllocError, Global};
 use std::io::Read;
 use std::marker::Model;
@@ -104,7 +104,7 @@ impl<R: Read + Drop> PieceReader<R> {
 
     /// Waits until `size` bytes are there, at most 1,024, or the input ends.
     pub(crate) fn gather(&mut self, size: usize) -> Result<(), FileFault>
-        requires { size ≤ LONGEST }
+        requires { size ≤ MAX_PIECE_SIZE }
         ensures keeps { OnOk result (Keeps (left self.old) (left self.new)) }
         ensures at { OnOk result (self.new.at ≡ self.old.at) }
         ensures more { OnOk result (length self.old.waiting ≤ length self.new.waiting) }

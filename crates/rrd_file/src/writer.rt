@@ -8,7 +8,7 @@ use std::io::Write;
 
 mod block;
 
-pub(crate) use block::{BLOCK_SIZE, Block, LONGEST};
+pub(crate) use block::{BLOCK_SIZE, Block, MAX_PIECE_SIZE};
 
 /// A writer behind a block of 4,096 bytes, in which records wait until many go out in one write. Does not allocate. What
 /// waits is lost if `write_rest` is not called.
@@ -35,7 +35,7 @@ impl<'a, W: Write> PieceWriter<'a, W> {
     /// Makes room for a record or a row. If there may be too little room, writes all waiting bytes.
     pub(crate) fn make_room(&mut self) -> Result<(), WriteFault>
         ensures added { Gathers W.contents self.old self.new [] result }
-        ensures room { OnOk result (length self.new.block + LONGEST ≤ BLOCK_SIZE) }
+        ensures room { OnOk result (length self.new.block + MAX_PIECE_SIZE ≤ BLOCK_SIZE) }
     {
         if !self.block.has_room() {
             write_bytes(self.out, self.block.as_slice())?;

@@ -18,7 +18,7 @@ pub enum Kind {
 }
 
 // The maximum size of a value of a GAUGE or an ABSOLUTE, in millionths: below 10^18 units.
-const GREATEST_MILLIONTHS: i128 = 999_999_999_999_999_999_999_999;
+const MAX_MILLIONTHS: i128 = 999_999_999_999_999_999_999_999;
 
 impl Kind {
     // Returns the minimum and the maximum value that a data source of this type accepts, in units for COUNTER and
@@ -30,7 +30,7 @@ impl Kind {
         match self {
             Kind::Counter => (0, u64::MAX as i128),
             Kind::Derive => (i64::MIN as i128, i64::MAX as i128),
-            Kind::Gauge | Kind::Absolute => (-GREATEST_MILLIONTHS, GREATEST_MILLIONTHS),
+            Kind::Gauge | Kind::Absolute => (-MAX_MILLIONTHS, MAX_MILLIONTHS),
         }
     }
 

@@ -1,5 +1,7 @@
 //! Theorems on texts.
 //!
+//! The theorem is public only for readers of the contracts: no other crate calls the function.
+//!
 //! A theorem is a function without a body: a call gives the prover the theorem at the call site, and does nothing at
 //! run time.
 ghost use Rattle.std.specs.Prelude.{◌≡◌, ◌^◌, ◌<◌, ℕ, ℤ, pos, ◌*ℤ◌, unsigned_abs, true, false, decimal};

@@ -28,6 +28,6 @@ pub use raw::Raw;
 pub use rounding::near;
 pub use streams::{ReadFault, TRIES, WriteFault, flush, read_some, write_bytes};
 pub use text::{
-    MILLIONTHS, cell_string, numbered_text, raw_string, short_text, time_string, write_cell,
+    MILLIONTHS, cell_string, message, numbered_message, raw_string, time_string, write_cell,
     write_raw, write_time,
 };

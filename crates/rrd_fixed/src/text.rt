@@ -117,7 +117,7 @@ pub fn write_time<W: Write>(out: &mut W, seconds: i64) -> Result<(), WriteFault>
 }
 
 /// Returns a text of at most 40 bytes as a string. Does not allocate.
-pub fn short_text(letters: &str) -> ArrayString<96>
+pub fn message(letters: &str) -> ArrayString<96>
     requires { length letters.now ≤ 40 }
     ensures text { result.bytes ≡ letters.now }
     ensures short { length result.bytes ≤ 60 }
@@ -130,12 +130,12 @@ pub fn short_text(letters: &str) -> ArrayString<96>
 /// Returns a text of at most 40 bytes with a number after it.
 ///
 /// Does not allocate.
-pub fn numbered_text(letters: &str, number: u64) -> ArrayString<96>
+pub fn numbered_message(letters: &str, number: u64) -> ArrayString<96>
     requires { length letters.now ≤ 40 }
     ensures text { result.bytes ≡ letters.now ++ decimal number }
     ensures short { length result.bytes ≤ 60 }
 {
-    let mut text = short_text(letters);
+    let mut text = message(letters);
     let mut digits = Buffer::new();
     text.push_str(digits.format(number));
     text

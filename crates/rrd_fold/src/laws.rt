@@ -18,7 +18,7 @@ ghost use Rattle.rrd_fold.specs.Summaries.{IsLeast, IsGreatest};
 ///
 /// The part of a list has the number of its known cells and their sum, minimum, maximum or last value, 0 if none is
 /// known.
-pub fn parts_stand()
+pub fn parts_represent_lists()
     ensures from_nothing { (function : Function) (cells : List Cell) →
         fold (with_cell function) nothing cells ≡ part_of function cells }
     ensures no_cell { (function : Function) → nothing ≡ part_of function [] }
@@ -31,7 +31,7 @@ pub fn parts_stand()
 {}
 
 /// Theorem: the value of a list of known cells is their sum, minimum, maximum or last value.
-pub fn values_are_meant()
+pub fn values_have_meaning()
     ensures sum { (value : ℤ) (more : List ℤ) →
         summary Average (value ∷ more) ≡ value +ℤ summary Average more }
     ensures least { (value : ℤ) (more : List ℤ) → IsLeast (summary Min (value ∷ more)) (value ∷ more) }

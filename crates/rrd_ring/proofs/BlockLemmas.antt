@@ -48,11 +48,11 @@ block_more w k n xs cells fits has =
     ∙ ap (λ (ys : List Cell). front ++ (ys ++ drop w rest)) next
     ∙ ap (λ (ys : List Cell). front ++ (take ((n + 1) * w) cells ++ ys)) later
 
-IsRing-same : (rows w place : ℕ) (xs ys : List Cell) → IsRing rows w place xs → length ys ≡ length xs → IsRing rows w place ys
-IsRing-same rows w place xs ys is e = record { some_rows = is.some_rows; few_rows = is.few_rows; some_sources = is.some_sources; few_sources = is.few_sources; whole = e ∙ is.whole; place_within = is.place_within }
+IsRing-same : (rows w index : ℕ) (xs ys : List Cell) → IsRing rows w index xs → length ys ≡ length xs → IsRing rows w index ys
+IsRing-same rows w index xs ys is e = record { some_rows = is.some_rows; few_rows = is.few_rows; some_sources = is.some_sources; few_sources = is.few_sources; whole = e ∙ is.whole; index_within = is.index_within }
 
-pub block_ring : (rows w place k n : ℕ) (xs cells : List Cell) → IsRing rows w place xs → k + n ≤ rows → n * w ≤ length cells → IsRing rows w place (with_block w k n xs cells)
-block_ring rows w place k n xs cells is fits has = IsRing-same rows w place xs (with_block w k n xs cells) is (length-with_block w k n xs cells (omega (arith, is.whole, cells_le (k + n) rows w fits)) has)
+pub block_ring : (rows w index k n : ℕ) (xs cells : List Cell) → IsRing rows w index xs → k + n ≤ rows → n * w ≤ length cells → IsRing rows w index (with_block w k n xs cells)
+block_ring rows w index k n xs cells is fits has = IsRing-same rows w index xs (with_block w k n xs cells) is (length-with_block w k n xs cells (omega (arith, is.whole, cells_le (k + n) rows w fits)) has)
 
 mod_right : (a b m : ℕ) → (a + b % m) % m ≡ (a + b) % m
 mod_right a b m =
@@ -65,21 +65,21 @@ mod_left a b m =
     sym (ap (λ (n : ℕ). n % m) is ∙ add-mul-mod_self_right (a % m + b) (a / m) m)
 
 -- so many places after a row's are in the vector so many rows after its own
-places_on : (rows place i n : ℕ) → (place + i) % rows + n < rows → (place + (i + n) % rows) % rows ≡ (place + i) % rows + n
-places_on rows place i n h =
-    let sum : place + (i + n) ≡ (place + i) + n = omega arith in
-    mod_right place (i + n) rows ∙ ap (λ (m : ℕ). m % rows) sum ∙ sym (mod_left (place + i) n rows) ∙ mod-eq_of_lt h
+indexes_on : (rows index i n : ℕ) → (index + i) % rows + n < rows → (index + (i + n) % rows) % rows ≡ (index + i) % rows + n
+indexes_on rows index i n h =
+    let sum : index + (i + n) ≡ (index + i) + n = omega arith in
+    mod_right index (i + n) rows ∙ ap (λ (m : ℕ). m % rows) sum ∙ sym (mod_left (index + i) n rows) ∙ mod-eq_of_lt h
 
 -- rows from one on, as far as the vector goes on
-pub block_written : (rows w place i n : ℕ) (xs cells : List Cell) → IsRing rows w place xs → (place + i) % rows + n ≤ rows → n * w ≤ length cells
-    → ring_rows rows w place (with_block w ((place + i) % rows) n xs cells) ≡ with_rows n w (ring_rows rows w place xs) i cells
-block_written rows w place i zero xs cells is fits has =
-    let k = (place + i) % rows in
+pub block_written : (rows w index i n : ℕ) (xs cells : List Cell) → IsRing rows w index xs → (index + i) % rows + n ≤ rows → n * w ≤ length cells
+    → ring_rows rows w index (with_block w ((index + i) % rows) n xs cells) ≡ with_rows n w (ring_rows rows w index xs) i cells
+block_written rows w index i zero xs cells is fits has =
+    let k = (index + i) % rows in
     let none : 0 * w ≡ 0 = omega arith in
-    ap (ring_rows rows w place) (ap (λ (m : ℕ). take (k * w) xs ++ (take m cells ++ drop m (drop (k * w) xs))) none ∙ take-append-drop (k * w) xs)
-block_written rows w place i (suc n) xs cells is fits has =
-    let k = (place + i) % rows in
-    let all = ring_rows rows w place xs in
+    ap (ring_rows rows w index) (ap (λ (m : ℕ). take (k * w) xs ++ (take m cells ++ drop m (drop (k * w) xs))) none ∙ take-append-drop (k * w) xs)
+block_written rows w index i (suc n) xs cells is fits has =
+    let k = (index + i) % rows in
+    let all = ring_rows rows w index xs in
     let before = with_block w k n xs cells in
     let row = row_of w cells n in
     let next = (i + n) % rows in
@@ -87,16 +87,16 @@ block_written rows w place i (suc n) xs cells is fits has =
     let named : n + 1 ≡ suc n = omega arith in
     let enough : (n + 1) * w ≤ length cells = subst (λ (m : ℕ). m * w ≤ length cells) (sym named) has in
     let less : n * w ≤ length cells = omega (arith, one, enough) in
-    let ring = block_ring rows w place k n xs cells is (omega (arith, fits)) less in
-    let at : (place + next) % rows ≡ k + n = places_on rows place i n (omega (arith, fits)) in
+    let ring = block_ring rows w index k n xs cells is (omega (arith, fits)) less in
+    let at : (index + next) % rows ≡ k + n = indexes_on rows index i n (omega (arith, fits)) in
     let sum : k + n + 1 ≡ k + suc n = omega arith in
     let top : (k + n) * w + w ≤ length xs = omega (arith, is.whole, one_more (k + n) w, cells_le (k + n + 1) rows w (omega (arith, fits))) in
-    ap (λ (m : ℕ). ring_rows rows w place (with_block w k m xs cells)) (sym named)
-    ∙ ap (ring_rows rows w place) (sym (block_more w k n xs cells top enough))
-    ∙ ap (λ (m : ℕ). ring_rows rows w place (with_cells w m before row)) (sym at)
-    ∙ ring_written rows w place next before row ring (mod_below (i + n) rows is.some_rows) (length-row_of w cells n (omega (arith, one, enough)))
-    ∙ ap (λ (rs : List (List Cell)). set rs next row) (block_written rows w place i n xs cells is (omega (arith, fits)) less)
-    ∙ ap (λ (m : ℕ). set (with_rows n w all i cells) ((i + n) % m) row) (sym (length-ring_rows rows w place xs))
+    ap (λ (m : ℕ). ring_rows rows w index (with_block w k m xs cells)) (sym named)
+    ∙ ap (ring_rows rows w index) (sym (block_more w k n xs cells top enough))
+    ∙ ap (λ (m : ℕ). ring_rows rows w index (with_cells w m before row)) (sym at)
+    ∙ ring_written rows w index next before row ring (mod_below (i + n) rows is.some_rows) (length-row_of w cells n (omega (arith, one, enough)))
+    ∙ ap (λ (rs : List (List Cell)). set rs next row) (block_written rows w index i n xs cells is (omega (arith, fits)) less)
+    ∙ ap (λ (m : ℕ). set (with_rows n w all i cells) ((i + n) % m) row) (sym (length-ring_rows rows w index xs))
 
 length-with_rows : (n w : ℕ) (rows : List (List Cell)) (i : ℕ) (cells : List Cell) → length (with_rows n w rows i cells) ≡ length rows
 length-with_rows zero w rows i cells = refl
@@ -111,23 +111,23 @@ rows_on m (suc n) w rows i cells =
     let rest = drop (m * w) cells in
     let sum : i + m + n ≡ i + (m + n) = omega arith in
     let named : suc (m + n) ≡ m + suc n = omega arith in
-    let place : (at + n) % length front ≡ (i + (m + n)) % length rows = ap (λ (k : ℕ). (at + n) % k) (length-with_rows m w rows i cells) ∙ mod_left (i + m) n (length rows) ∙ ap (λ (k : ℕ). k % length rows) sum in
+    let index : (at + n) % length front ≡ (i + (m + n)) % length rows = ap (λ (k : ℕ). (at + n) % k) (length-with_rows m w rows i cells) ∙ mod_left (i + m) n (length rows) ∙ ap (λ (k : ℕ). k % length rows) sum in
     let row : row_of w rest n ≡ row_of w cells (m + n) = ap (take w) (drop-drop (n * w) (m * w) cells ∙ ap (λ (k : ℕ). drop k cells) (sym (add-mul m n w))) in
-    ap (λ (k : ℕ). set (with_rows n w front at rest) k (row_of w rest n)) place
+    ap (λ (k : ℕ). set (with_rows n w front at rest) k (row_of w rest n)) index
     ∙ ap (λ (r : List Cell). set (with_rows n w front at rest) ((i + (m + n)) % length rows) r) row
     ∙ ap (λ (rs : List (List Cell)). set rs ((i + (m + n)) % length rows) (row_of w cells (m + n))) (rows_on m n w rows i cells)
     ∙ ap (λ (k : ℕ). with_rows k w rows i cells) named
 
 -- ---- a vector with such rows
 
-pub record IsPutInto (rows w place k n : ℕ) (v new : Vec Cell Global) (cells : List Cell) : Type 0 where
-  pub is : IsPartlyWritten rows w place new
+pub record IsPutInto (rows w index k n : ℕ) (v new : Vec Cell Global) (cells : List Cell) : Type 0 where
+  pub is : IsPartlyWritten rows w index new
   pub items : with_unwritten (rows * w) new.items ≡ with_block w k n (with_unwritten (rows * w) v.items) cells
 
-pub block_put : (rows w place k n : ℕ) (v new : Vec Cell Global) (cells part : List Cell) (start : ℕ) → IsPartlyWritten rows w place v → k + n ≤ rows → n * w ≤ length cells → part ≡ take (n * w) cells → start ≡ k * w
+pub block_put : (rows w index k n : ℕ) (v new : Vec Cell Global) (cells part : List Cell) (start : ℕ) → IsPartlyWritten rows w index v → k + n ≤ rows → n * w ≤ length cells → part ≡ take (n * w) cells → start ≡ k * w
     → new.items ≡ take start (with_unwritten (start + length part) v.items) ++ (part ++ drop (length part) (drop start (with_unwritten (start + length part) v.items)))
-    → vec_capacity v ≤ vec_capacity new → IsPutInto rows w place k n v new cells
-block_put rows w place k n v new cells part start is fits has part_is start_is items room =
+    → vec_capacity v ≤ vec_capacity new → IsPutInto rows w index k n v new cells
+block_put rows w index k n v new cells part start is fits has part_is start_is items room =
     let all = rows * w in
     let count : length part ≡ n * w = ap length part_is ∙ length-take-le (n * w) cells has in
     let end : start + length part ≡ (k + n) * w = omega (arith, count, start_is, add-mul k n w) in
@@ -150,7 +150,7 @@ block_put rows w place k n v new cells part start is fits has part_is start_is i
     let had : all ≤ vec_capacity v = is.room in
     record {
       is = record {
-        ring = subst (IsRing rows w place) (sym cells_are) (block_ring rows w place k n xs cells is.ring fits has);
+        ring = subst (IsRing rows w index) (sym cells_are) (block_ring rows w index k n xs cells is.ring fits has);
         room = omega (arith, had, room);
         ends = record { count = whole.count; whole = as_long ∙ whole.whole };
       };
@@ -163,62 +163,62 @@ no_block w xs cells =
     ap (λ (m : ℕ). take m xs ++ (take m cells ++ drop m (drop m xs))) none
 
 -- rows up to the vector's end, and the others from its first row on
-pub record ArePut (rows w place i count : ℕ) (v new : Vec Cell Global) (cells : List Cell) : Type 0 where
-  pub is : IsPartlyWritten rows w place new
-  pub rows_are : ring_rows rows w place (with_unwritten (rows * w) new.items) ≡ with_rows count w (ring_rows rows w place (with_unwritten (rows * w) v.items)) i cells
+pub record ArePut (rows w index i count : ℕ) (v new : Vec Cell Global) (cells : List Cell) : Type 0 where
+  pub is : IsPartlyWritten rows w index new
+  pub rows_are : ring_rows rows w index (with_unwritten (rows * w) new.items) ≡ with_rows count w (ring_rows rows w index (with_unwritten (rows * w) v.items)) i cells
 
-pub rows_put : (rows w place i first rest : ℕ) (v one two : Vec Cell Global) (cells : List Cell) → i < rows → (place + i) % rows + first ≤ rows → rest ≤ rows → (0 < rest → (place + i) % rows + first ≡ rows) → (first + rest) * w ≤ length cells
-    → IsPutInto rows w place ((place + i) % rows) first v one cells → IsPutInto rows w place 0 rest one two (drop (first * w) cells) → IsPartlyWritten rows w place v → ArePut rows w place i (first + rest) v two cells
-rows_put rows w place i first rest v one two cells there fits few turns has a b is =
+pub rows_put : (rows w index i first rest : ℕ) (v one two : Vec Cell Global) (cells : List Cell) → i < rows → (index + i) % rows + first ≤ rows → rest ≤ rows → (0 < rest → (index + i) % rows + first ≡ rows) → (first + rest) * w ≤ length cells
+    → IsPutInto rows w index ((index + i) % rows) first v one cells → IsPutInto rows w index 0 rest one two (drop (first * w) cells) → IsPartlyWritten rows w index v → ArePut rows w index i (first + rest) v two cells
+rows_put rows w index i first rest v one two cells there fits few turns has a b is =
     let all = rows * w in
     let xs = with_unwritten all v.items in
     let ys = with_unwritten all one.items in
     let later = drop (first * w) cells in
-    let at = (place + i) % rows in
+    let at = (index + i) % rows in
     let next = (i + first) % rows in
-    let ring = ring_rows rows w place xs in
+    let ring = ring_rows rows w index xs in
     let sum = add-mul first rest w in
-    let front : ring_rows rows w place ys ≡ with_rows first w ring i cells = ap (ring_rows rows w place) a.items ∙ block_written rows w place i first xs cells is.ring fits (omega (arith, has, sum)) in
-    let back : ring_rows rows w place (with_unwritten all two.items) ≡ with_rows rest w (ring_rows rows w place ys) next later =
+    let front : ring_rows rows w index ys ≡ with_rows first w ring i cells = ap (ring_rows rows w index) a.items ∙ block_written rows w index i first xs cells is.ring fits (omega (arith, has, sum)) in
+    let back : ring_rows rows w index (with_unwritten all two.items) ≡ with_rows rest w (ring_rows rows w index ys) next later =
     ⊎_elim (λ (some : 0 < rest).
-    let sum_of : place + (i + first) ≡ (place + i) + first = omega arith in
-    let zeroth : (place + next) % rows ≡ 0 = mod_right place (i + first) rows ∙ ap (λ (m : ℕ). m % rows) sum_of ∙ sym (mod_left (place + i) first rows) ∙ ap (λ (m : ℕ). m % rows) (turns some) ∙ mod_self rows in
-    ap (ring_rows rows w place) (b.items ∙ ap (λ (m : ℕ). with_block w m rest ys later) (sym zeroth))
-    ∙ block_written rows w place next rest ys later a.is.ring (omega (arith, zeroth, few)) (omega (arith, has, sum, length-drop (first * w) cells)))
+    let sum_of : index + (i + first) ≡ (index + i) + first = omega arith in
+    let zeroth : (index + next) % rows ≡ 0 = mod_right index (i + first) rows ∙ ap (λ (m : ℕ). m % rows) sum_of ∙ sym (mod_left (index + i) first rows) ∙ ap (λ (m : ℕ). m % rows) (turns some) ∙ mod_self rows in
+    ap (ring_rows rows w index) (b.items ∙ ap (λ (m : ℕ). with_block w m rest ys later) (sym zeroth))
+    ∙ block_written rows w index next rest ys later a.is.ring (omega (arith, zeroth, few)) (omega (arith, has, sum, length-drop (first * w) cells)))
     (λ (none : rest ≤ 0).
     let zero_rest : rest ≡ 0 = omega (arith, none) in
-    ap (ring_rows rows w place) (b.items ∙ ap (λ (m : ℕ). with_block w 0 m ys later) zero_rest ∙ no_block w ys later)
-    ∙ ap (λ (m : ℕ). with_rows m w (ring_rows rows w place ys) next later) (sym zero_rest))
+    ap (ring_rows rows w index) (b.items ∙ ap (λ (m : ℕ). with_block w 0 m ys later) zero_rest ∙ no_block w ys later)
+    ∙ ap (λ (m : ℕ). with_rows m w (ring_rows rows w index ys) next later) (sym zero_rest))
     (cases_lt 0 rest) in
     record {
       is = b.is;
       rows_are = back
           ∙ ap (λ (rs : List (List Cell)). with_rows rest w rs next later) front
-          ∙ ap (λ (m : ℕ). with_rows rest w (with_rows first w ring i cells) ((i + first) % m) later) (sym (length-ring_rows rows w place xs))
+          ∙ ap (λ (m : ℕ). with_rows rest w (with_rows first w ring i cells) ((i + first) % m) later) (sym (length-ring_rows rows w index xs))
           ∙ rows_on first rest w ring i cells;
     }
 
--- what a vector is once cells were put from a place on
+-- what a vector is once cells were put from an index on
 pub record Puts (start : ℕ) (part : List Cell) (v new : Vec Cell Global) : Type 0 where
   pub items : let filled = with_unwritten (start + length part) v.items in
       new.items ≡ take start filled ++ (part ++ drop (length part) (drop start filled))
   pub room : vec_capacity v ≤ vec_capacity new
 
-pub are_put : (rows w place i count first start : ℕ) (v one two : Vec Cell Global) (cells front later : List Cell) → IsPartlyWritten rows w place v → i < rows → count ≤ rows → length cells ≡ count * w → first ≡ min (rows - (place + i) % rows) count
-    → start ≡ ((place + i) % rows) * w → front ≡ take (first * w) cells → later ≡ drop (first * w) cells → Puts start front v one → Puts 0 later one two → ArePut rows w place i count v two cells
-are_put rows w place i count first start v one two cells front later is there few long least start_is front_is later_is a b =
-    let at = (place + i) % rows in
+pub are_put : (rows w index i count first start : ℕ) (v one two : Vec Cell Global) (cells front later : List Cell) → IsPartlyWritten rows w index v → i < rows → count ≤ rows → length cells ≡ count * w → first ≡ min (rows - (index + i) % rows) count
+    → start ≡ ((index + i) % rows) * w → front ≡ take (first * w) cells → later ≡ drop (first * w) cells → Puts start front v one → Puts 0 later one two → ArePut rows w index i count v two cells
+are_put rows w index i count first start v one two cells front later is there few long least start_is front_is later_is a b =
+    let at = (index + i) % rows in
     let rest = count - first in
     let behind = drop (first * w) cells in
-    let below : at < rows = mod_below (place + i) rows is.ring.some_rows in
+    let below : at < rows = mod_below (index + i) rows is.ring.some_rows in
     let sum : first + rest ≡ count = omega (arith, least) in
     let both : count * w ≡ first * w + rest * w = ap (λ (n : ℕ). n * w) (sym sum) ∙ add-mul first rest w in
     let left : length behind ≡ rest * w = omega (arith, length-drop (first * w) cells, long, both) in
     let whole : later ≡ take (rest * w) behind = later_is ∙ sym (take_all (rest * w) behind (omega (arith, left))) in
-    let x = block_put rows w place at first v one cells front start is (omega (arith, least, below)) (omega (arith, long, both)) front_is start_is a.items a.room in
-    let y = block_put rows w place 0 rest one two behind later 0 x.is (omega (arith, few)) (omega (arith, left)) whole (omega arith) b.items b.room in
-    subst (λ (n : ℕ). ArePut rows w place i n v two cells) sum
-    (rows_put rows w place i first rest v one two cells there (omega (arith, least, below)) (omega (arith, few)) (λ some. omega (arith, some, least, below)) (omega (arith, long, ap (λ (n : ℕ). n * w) sum)) x y is)
+    let x = block_put rows w index at first v one cells front start is (omega (arith, least, below)) (omega (arith, long, both)) front_is start_is a.items a.room in
+    let y = block_put rows w index 0 rest one two behind later 0 x.is (omega (arith, few)) (omega (arith, left)) whole (omega arith) b.items b.room in
+    subst (λ (n : ℕ). ArePut rows w index i n v two cells) sum
+    (rows_put rows w index i first rest v one two cells there (omega (arith, least, below)) (omega (arith, few)) (λ some. omega (arith, some, least, below)) (omega (arith, long, ap (λ (n : ℕ). n * w) sum)) x y is)
 
 -- ---- rows are made unknown
 
@@ -228,48 +228,48 @@ pub record Forgets (start count : ℕ) (v new : Vec Cell Global) : Type 0 where
   pub as_many : length new.items ≡ length v.items
   pub room : vec_capacity v ≤ vec_capacity new
 
-block_forgotten : (rows w place k n start count : ℕ) (v new : Vec Cell Global) (cells : List Cell) → IsPartlyWritten rows w place v → k + n ≤ rows → n * w ≤ length cells → take (n * w) cells ≡ replicate (n * w) Unknown → start ≡ k * w → count ≡ n * w
-    → Forgets start count v new → IsPutInto rows w place k n v new cells
-block_forgotten rows w place k n start count v new cells is fits has unknown start_is count_is gone =
+block_forgotten : (rows w index k n start count : ℕ) (v new : Vec Cell Global) (cells : List Cell) → IsPartlyWritten rows w index v → k + n ≤ rows → n * w ≤ length cells → take (n * w) cells ≡ replicate (n * w) Unknown → start ≡ k * w → count ≡ n * w
+    → Forgets start count v new → IsPutInto rows w index k n v new cells
+block_forgotten rows w index k n start count v new cells is fits has unknown start_is count_is gone =
     let all = rows * w in
     let xs = with_unwritten all v.items in
     let had : all ≤ vec_capacity v = is.room in
     let cells_are : with_unwritten all new.items ≡ with_block w k n xs cells =
-    gone.cells all (ring_le rows w place v is) (omega (arith, start_is, count_is, add-mul k n w, cells_le (k + n) rows w fits))
+    gone.cells all (ring_le rows w index v is) (omega (arith, start_is, count_is, add-mul k n w, cells_le (k + n) rows w fits))
     ∙ ap (λ (m : ℕ). take m xs ++ (replicate count Unknown ++ drop count (drop m xs))) start_is
     ∙ ap (λ (m : ℕ). take (k * w) xs ++ (replicate m Unknown ++ drop m (drop (k * w) xs))) count_is
     ∙ ap (λ (ys : List Cell). take (k * w) xs ++ (ys ++ drop (n * w) (drop (k * w) xs))) (sym unknown) in
     record {
       is = record {
-        ring = subst (IsRing rows w place) (sym cells_are) (block_ring rows w place k n xs cells is.ring fits has);
+        ring = subst (IsRing rows w index) (sym cells_are) (block_ring rows w index k n xs cells is.ring fits has);
         room = omega (arith, had, gone.room);
         ends = record { count = is.ends.count; whole = gone.as_many ∙ is.ends.whole };
       };
       items = cells_are;
     }
 
-pub are_forgotten : (rows w place i count first start many others : ℕ) (v one two : Vec Cell Global) → IsPartlyWritten rows w place v → i < rows → count ≤ rows → first ≡ min (rows - (place + i) % rows) count
-    → start ≡ ((place + i) % rows) * w → many ≡ first * w → others ≡ (count - first) * w → Forgets start many v one → Forgets 0 others one two → ArePut rows w place i count v two (replicate (count * w) Unknown)
-are_forgotten rows w place i count first start many others v one two is there few least start_is many_is others_is a b =
-    let at = (place + i) % rows in
+pub are_forgotten : (rows w index i count first start many others : ℕ) (v one two : Vec Cell Global) → IsPartlyWritten rows w index v → i < rows → count ≤ rows → first ≡ min (rows - (index + i) % rows) count
+    → start ≡ ((index + i) % rows) * w → many ≡ first * w → others ≡ (count - first) * w → Forgets start many v one → Forgets 0 others one two → ArePut rows w index i count v two (replicate (count * w) Unknown)
+are_forgotten rows w index i count first start many others v one two is there few least start_is many_is others_is a b =
+    let at = (index + i) % rows in
     let rest = count - first in
     let cells = replicate (count * w) Unknown in
     let later = drop (first * w) cells in
-    let below : at < rows = mod_below (place + i) rows is.ring.some_rows in
+    let below : at < rows = mod_below (index + i) rows is.ring.some_rows in
     let sum : first + rest ≡ count = omega (arith, least) in
     let both : count * w ≡ first * w + rest * w = ap (λ (n : ℕ). n * w) (sym sum) ∙ add-mul first rest w in
     let long = length-replicate (count * w) Unknown in
     let left : later ≡ replicate (count * w - first * w) Unknown = drop-replicate (first * w) (count * w) Unknown in
     let has : rest * w ≤ length later = omega (arith, both, long, length-drop (first * w) cells) in
-    let x = block_forgotten rows w place at first start many v one cells is (omega (arith, least, below)) (omega (arith, both, long)) (take-replicate (first * w) (count * w) Unknown (omega (arith, both))) start_is many_is a in
-    let y = block_forgotten rows w place 0 rest 0 others one two later x.is (omega (arith, few)) has (ap (take (rest * w)) left ∙ take-replicate (rest * w) (count * w - first * w) Unknown (omega (arith, both))) (omega arith) others_is b in
-    subst (λ (n : ℕ). ArePut rows w place i n v two cells) sum
-    (rows_put rows w place i first rest v one two cells there (omega (arith, least, below)) (omega (arith, few)) (λ some. omega (arith, some, least, below)) (omega (arith, long, ap (λ (n : ℕ). n * w) sum)) x y is)
+    let x = block_forgotten rows w index at first start many v one cells is (omega (arith, least, below)) (omega (arith, both, long)) (take-replicate (first * w) (count * w) Unknown (omega (arith, both))) start_is many_is a in
+    let y = block_forgotten rows w index 0 rest 0 others one two later x.is (omega (arith, few)) has (ap (take (rest * w)) left ∙ take-replicate (rest * w) (count * w - first * w) Unknown (omega (arith, both))) (omega arith) others_is b in
+    subst (λ (n : ℕ). ArePut rows w index i n v two cells) sum
+    (rows_put rows w index i first rest v one two cells there (omega (arith, least, below)) (omega (arith, few)) (λ some. omega (arith, some, least, below)) (omega (arith, long, ap (λ (n : ℕ). n * w) sum)) x y is)
 
 -- ---- a row that was lent has come back with as many cells
 
-pub record HasCameBack (rows w place at : ℕ) (v new : Vec Cell Global) (row : List Cell) : Type 0 where
-  pub is : IsPartlyWritten rows w place new
+pub record HasCameBack (rows w index at : ℕ) (v new : Vec Cell Global) (row : List Cell) : Type 0 where
+  pub is : IsPartlyWritten rows w index new
   pub items : with_unwritten (rows * w) new.items ≡ with_cells w at (with_unwritten (rows * w) v.items) row
 
 pub record HasDroppedBack (rows w at : ℕ) (v new : Vec Cell Global) (row : List Cell) : Type 0 where
@@ -288,15 +288,15 @@ whole_back : (w at start : ℕ) (v : Vec Cell Global) (row : List Cell) → AreW
 whole_back w at start v row ends fits e start_is =
     record { count = ends.count; whole = ap length (vec_written v w at start row start_is fits e) ∙ length-with_cells w at v.items row fits e ∙ ends.whole }
 
-pub row_back : (rows w place at start : ℕ) (v : Vec Cell Global) (row : List Cell) → IsPartlyWritten rows w place v → at < rows → at * w + w ≤ length v.items → length row ≡ w → start ≡ at * w
-    → HasCameBack rows w place at v (with_items_from v start row) row
-row_back rows w place at start v row is below fits e start_is =
+pub row_back : (rows w index at start : ℕ) (v : Vec Cell Global) (row : List Cell) → IsPartlyWritten rows w index v → at < rows → at * w + w ≤ length v.items → length row ≡ w → start ≡ at * w
+    → HasCameBack rows w index at v (with_items_from v start row) row
+row_back rows w index at start v row is below fits e start_is =
     let all = rows * w in
     let ys = with_unwritten all v.items in
     let over = came_back all w at start v row fits e start_is in
     record {
       is = record {
-        ring = IsRing-same rows w place ys (with_unwritten all (with_items_from v start row).items) is.ring (ap length over ∙ length-with_cells w at ys row (ring_fits rows w place at ys is.ring below) e);
+        ring = IsRing-same rows w index ys (with_unwritten all (with_items_from v start row).items) is.ring (ap length over ∙ length-with_cells w at ys row (ring_fits rows w index at ys is.ring below) e);
         room = is.room;
         ends = whole_back w at start v row is.ends fits e start_is;
       };

@@ -9,56 +9,56 @@ use Rattle.std.proofs.lemmas.List.FromFn.{length-map-range_with_len, get_or-map-
 use Rattle.std.specs.Vec.{with_items_from}
 use Rattle.rrd_fixed.specs.declared.cell.Cell.{Cell}
 use Rattle.rrd_fixed.specs.declared.cell.Cell.TheVariants.{Unknown}
-use Rattle.rrd_ring.specs.Rows.{nth_row, row_cells, width, HasWidth, unknown_rows, IsArchive, AreDropped, most_rows}
-use Rattle.rrd_ring.specs.Ring.{row_of, rows_of, ring_rows, from_place, IsRing, AreRows}
+use Rattle.rrd_ring.specs.Rows.{nth_row, row_cells, width, HasWidth, unknown_rows, IsArchive, AreDropped, max_rows}
+use Rattle.rrd_ring.specs.Ring.{row_of, rows_of, ring_rows, from_index, IsRing, AreRows}
 use Rattle.rrd_ring.specs.Widths.{width_is}
 use Rattle.rrd_ring.proofs.RowLemmas.{IsArchive-from_width, AreDropped-from_width}
 
 -- ---- places
 
--- a place past the last row goes on from the first
-pub mod_wrapped : (place rows : ℕ) → rows ≤ place → place < 2 * rows → place % rows ≡ place - rows
-mod_wrapped place rows h k = let below : place - rows < rows = omega arith in mod-eq-sub-mod h ∙ mod-eq_of_lt below
+-- an index past the last row goes on from the first
+pub mod_wrapped : (index rows : ℕ) → rows ≤ index → index < 2 * rows → index % rows ≡ index - rows
+mod_wrapped index rows h k = let below : index - rows < rows = omega arith in mod-eq-sub-mod h ∙ mod-eq_of_lt below
 
 -- so many rows have no more cells than more rows
 pub cells_le : (a b w : ℕ) → a ≤ b → a * w ≤ b * w
 cells_le a b w h = mul-le a w b w h (omega arith)
 
--- ---- the cells of a ring from a place on
+-- ---- the cells of a ring from an index on
 
-from_place_at : (a b : List Cell) (n : ℕ) → length a ≡ n → from_place n (a ++ b) ≡ b ++ a
-from_place_at a b n e = rw (drop_at a b n e, take_at a b n e)
+from_index_at : (a b : List Cell) (n : ℕ) → length a ≡ n → from_index n (a ++ b) ≡ b ++ a
+from_index_at a b n e = rw (drop_at a b n e, take_at a b n e)
 
 three_parts : (xs : List Cell) (m n : ℕ) → xs ≡ take m xs ++ (take n (drop m xs) ++ drop n (drop m xs))
 three_parts xs m n = sym (ap (λ (ys : List Cell). take m xs ++ ys) (take-append-drop n (drop m xs)) ∙ take-append-drop m xs)
 
-further : (a b c : List Cell) (q s r : ℕ) → length a ≡ q → length b ≡ s → q + s ≡ r → from_place s (from_place q (a ++ (b ++ c))) ≡ from_place r (a ++ (b ++ c))
+further : (a b c : List Cell) (q s r : ℕ) → length a ≡ q → length b ≡ s → q + s ≡ r → from_index s (from_index q (a ++ (b ++ c))) ≡ from_index r (a ++ (b ++ c))
 further a b c q s r la lb e =
     let lab : length (a ++ b) ≡ r = omega (arith, length-append a b) in
-    ap (from_place s) (from_place_at a (b ++ c) q la ∙ append_assoc b c a)
-    ∙ from_place_at b (c ++ a) s lb
+    ap (from_index s) (from_index_at a (b ++ c) q la ∙ append_assoc b c a)
+    ∙ from_index_at b (c ++ a) s lb
     ∙ append_assoc c a b
-    ∙ sym (from_place_at (a ++ b) c r lab)
-    ∙ ap (from_place r) (append_assoc a b c)
+    ∙ sym (from_index_at (a ++ b) c r lab)
+    ∙ ap (from_index r) (append_assoc a b c)
 
-around : (a b c : List Cell) (q s r : ℕ) → length a ≡ r → length (a ++ b) ≡ q → length c + r ≡ s → from_place s (from_place q (a ++ (b ++ c))) ≡ from_place r (a ++ (b ++ c))
+around : (a b c : List Cell) (q s r : ℕ) → length a ≡ r → length (a ++ b) ≡ q → length c + r ≡ s → from_index s (from_index q (a ++ (b ++ c))) ≡ from_index r (a ++ (b ++ c))
 around a b c q s r la lab e =
     let lca : length (c ++ a) ≡ s = omega (arith, length-append c a) in
-    ap (from_place s) (ap (from_place q) (sym (append_assoc a b c)) ∙ from_place_at (a ++ b) c q lab ∙ sym (append_assoc c a b))
-    ∙ from_place_at (c ++ a) b s lca
+    ap (from_index s) (ap (from_index q) (sym (append_assoc a b c)) ∙ from_index_at (a ++ b) c q lab ∙ sym (append_assoc c a b))
+    ∙ from_index_at (c ++ a) b s lca
     ∙ sym (append_assoc b c a)
-    ∙ sym (from_place_at a (b ++ c) r la)
+    ∙ sym (from_index_at a (b ++ c) r la)
 
-from_place-further : (xs : List Cell) (q s r : ℕ) → q + s ≡ r → r ≤ length xs → from_place s (from_place q xs) ≡ from_place r xs
-from_place-further xs q s r e h =
+from_index-further : (xs : List Cell) (q s r : ℕ) → q + s ≡ r → r ≤ length xs → from_index s (from_index q xs) ≡ from_index r xs
+from_index-further xs q s r e h =
     let a = take q xs in
     let b = take s (drop q xs) in
     let la : length a ≡ q = length-take-le q xs (omega arith) in
     let lb : length b ≡ s = length-take-le s (drop q xs) (omega (arith, length-drop q xs)) in
-    subst (λ (ys : List Cell). from_place s (from_place q ys) ≡ from_place r ys) (sym (three_parts xs q s)) (further a b (drop s (drop q xs)) q s r la lb e)
+    subst (λ (ys : List Cell). from_index s (from_index q ys) ≡ from_index r ys) (sym (three_parts xs q s)) (further a b (drop s (drop q xs)) q s r la lb e)
 
-from_place-around : (xs : List Cell) (q s r : ℕ) → q + s ≡ r + length xs → r ≤ q → q ≤ length xs → from_place s (from_place q xs) ≡ from_place r xs
-from_place-around xs q s r e h k =
+from_index-around : (xs : List Cell) (q s r : ℕ) → q + s ≡ r + length xs → r ≤ q → q ≤ length xs → from_index s (from_index q xs) ≡ from_index r xs
+from_index-around xs q s r e h k =
     let a = take r xs in
     let b = take (q - r) (drop r xs) in
     let c = drop (q - r) (drop r xs) in
@@ -66,25 +66,25 @@ from_place-around xs q s r e h k =
     let lb : length b ≡ q - r = length-take-le (q - r) (drop r xs) (omega (arith, length-drop r xs)) in
     let lab : length (a ++ b) ≡ q = omega (arith, length-append a b, la, lb) in
     let lca : length c + r ≡ s = omega (arith, length-drop (q - r) (drop r xs), length-drop r xs) in
-    subst (λ (ys : List Cell). from_place s (from_place q ys) ≡ from_place r ys) (sym (three_parts xs r (q - r))) (around a b c q s r la lab lca)
+    subst (λ (ys : List Cell). from_index s (from_index q ys) ≡ from_index r ys) (sym (three_parts xs r (q - r))) (around a b c q s r la lab lca)
 
 -- so many rows after the oldest one
-pub from_place-rows : (rows w place more : ℕ) (xs : List Cell) → length xs ≡ rows * w → place < rows → more ≤ rows → from_place (more * w) (from_place (place * w) xs) ≡ from_place (((place + more) % rows) * w) xs
-from_place-rows rows w place more xs e h k =
-    let sum = add-mul place more w in
-    ⊎_elim (λ (below : place + more < rows).
+pub from_index-rows : (rows w index more : ℕ) (xs : List Cell) → length xs ≡ rows * w → index < rows → more ≤ rows → from_index (more * w) (from_index (index * w) xs) ≡ from_index (((index + more) % rows) * w) xs
+from_index-rows rows w index more xs e h k =
+    let sum = add-mul index more w in
+    ⊎_elim (λ (below : index + more < rows).
     rw (mod-eq_of_lt below)
-    (from_place-further xs (place * w) (more * w) ((place + more) * w) (sym sum) (omega (arith, cells_le (place + more) rows w (omega arith)))))
-    (λ (past : rows ≤ place + more).
-    let left = place + more - rows in
-    let all : place + more ≡ left + rows = omega arith in
+    (from_index-further xs (index * w) (more * w) ((index + more) * w) (sym sum) (omega (arith, cells_le (index + more) rows w (omega arith)))))
+    (λ (past : rows ≤ index + more).
+    let left = index + more - rows in
+    let all : index + more ≡ left + rows = omega arith in
     let again = ap (λ (n : ℕ). n * w) all ∙ add-mul left rows w in
-    rw (mod_wrapped (place + more) rows past (omega arith))
-    (from_place-around xs (place * w) (more * w) (left * w) (omega (arith, sum, again)) (cells_le left place w (omega arith)) (omega (arith, cells_le place rows w (omega arith)))))
-    (cases_lt (place + more) rows)
+    rw (mod_wrapped (index + more) rows past (omega arith))
+    (from_index-around xs (index * w) (more * w) (left * w) (omega (arith, sum, again)) (cells_le left index w (omega arith)) (omega (arith, cells_le index rows w (omega arith)))))
+    (cases_lt (index + more) rows)
 
-pub length-from_place : (start : ℕ) (xs : List Cell) → start ≤ length xs → length (from_place start xs) ≡ length xs
-length-from_place start xs h = omega (arith, length-append (drop start xs) (take start xs), length-drop start xs, length-take-le start xs h)
+pub length-from_index : (start : ℕ) (xs : List Cell) → start ≤ length xs → length (from_index start xs) ≡ length xs
+length-from_index start xs h = omega (arith, length-append (drop start xs) (take start xs), length-drop start xs, length-take-le start xs h)
 
 -- ---- the rows of a vector
 
@@ -94,12 +94,12 @@ length-rows_of rows w xs = length-map-range_with_len (λ i. row_of w xs i) 0 row
 pub nth_row-rows_of : (rows w : ℕ) (xs : List Cell) (i : ℕ) → i < rows → nth_row (rows_of rows w xs) i ≡ row_of w xs i
 nth_row-rows_of rows w xs i h = get_or-map-range_with_len (λ i. row_of w xs i) 0 rows i i [] h (omega arith)
 
-pub length-ring_rows : (rows w place : ℕ) (xs : List Cell) → length (ring_rows rows w place xs) ≡ rows
-length-ring_rows rows w place xs = length-map-range_with_len (λ i. row_of w xs ((place + i) % rows)) 0 rows
+pub length-ring_rows : (rows w index : ℕ) (xs : List Cell) → length (ring_rows rows w index xs) ≡ rows
+length-ring_rows rows w index xs = length-map-range_with_len (λ i. row_of w xs ((index + i) % rows)) 0 rows
 
-pub nth_row-ring_rows : (rows w place : ℕ) (xs : List Cell) (i : ℕ) → i < rows → nth_row (ring_rows rows w place xs) i ≡ row_of w xs ((place + i) % rows)
-nth_row-ring_rows rows w place xs i h =
-    get_or-map-range_with_len (λ i. row_of w xs ((place + i) % rows)) 0 rows i i [] h (omega arith)
+pub nth_row-ring_rows : (rows w index : ℕ) (xs : List Cell) (i : ℕ) → i < rows → nth_row (ring_rows rows w index xs) i ≡ row_of w xs ((index + i) % rows)
+nth_row-ring_rows rows w index xs i h =
+    get_or-map-range_with_len (λ i. row_of w xs ((index + i) % rows)) 0 rows i i [] h (omega arith)
 
 pub length-row_of : (w : ℕ) (xs : List Cell) (i : ℕ) → i * w + w ≤ length xs → length (row_of w xs i) ≡ w
 length-row_of w xs i h = length-take-le w (drop (i * w) xs) (omega (arith, length-drop (i * w) xs))
@@ -171,57 +171,57 @@ rows_of_unknown rows w =
 
 -- ---- the rows of a ring
 
-row_first : (w : ℕ) (xs : List Cell) (i : ℕ) → i * w + w ≤ length xs → take w (from_place (i * w) xs) ≡ row_of w xs i
+row_first : (w : ℕ) (xs : List Cell) (i : ℕ) → i * w + w ≤ length xs → take w (from_index (i * w) xs) ≡ row_of w xs i
 row_first w xs i h = take-append-le w (drop (i * w) xs) (take (i * w) xs) (omega (arith, length-drop (i * w) xs))
 
 -- they are the rows of its cells from the oldest row on
-pub ring_rows-from_place : (rows w place : ℕ) (xs : List Cell) → place < rows → length xs ≡ rows * w → ring_rows rows w place xs ≡ rows_of rows w (from_place (place * w) xs)
-ring_rows-from_place rows w place xs h e =
-    let turned = from_place (place * w) xs in
-    let lt : length turned ≡ rows * w = length-from_place (place * w) xs (omega (arith, cells_le place rows w (omega arith))) ∙ e in
-    fill_by_all (λ i. row_of w turned i) (ring_rows rows w place xs) rows [] (length-ring_rows rows w place xs)
+pub ring_rows-from_index : (rows w index : ℕ) (xs : List Cell) → index < rows → length xs ≡ rows * w → ring_rows rows w index xs ≡ rows_of rows w (from_index (index * w) xs)
+ring_rows-from_index rows w index xs h e =
+    let turned = from_index (index * w) xs in
+    let lt : length turned ≡ rows * w = length-from_index (index * w) xs (omega (arith, cells_le index rows w (omega arith))) ∙ e in
+    fill_by_all (λ i. row_of w turned i) (ring_rows rows w index xs) rows [] (length-ring_rows rows w index xs)
     (λ k below.
-    let at = (place + k) % rows in
-    let at_below : at < rows = mod_below (place + k) rows (omega arith) in
-    nth_row-ring_rows rows w place xs k below
+    let at = (index + k) % rows in
+    let at_below : at < rows = mod_below (index + k) rows (omega arith) in
+    nth_row-ring_rows rows w index xs k below
     ∙ sym (row_first w xs at (omega (arith, row_fits at w rows w at_below (omega arith))))
-    ∙ ap (take w) (sym (from_place-rows rows w place k xs e h (omega arith)))
+    ∙ ap (take w) (sym (from_index-rows rows w index k xs e h (omega arith)))
     ∙ row_first w turned k (omega (arith, row_fits k w rows w below (omega arith))))
 
 -- what is known of a ring's cells
-pub length-turned : (rows w place : ℕ) (xs : List Cell) → IsRing rows w place xs → length (from_place (place * w) xs) ≡ rows * w
-length-turned rows w place xs is =
-    let within : place < rows = is.place_within in
-    length-from_place (place * w) xs (omega (arith, is.whole, cells_le place rows w (omega arith))) ∙ is.whole
+pub length-turned : (rows w index : ℕ) (xs : List Cell) → IsRing rows w index xs → length (from_index (index * w) xs) ≡ rows * w
+length-turned rows w index xs is =
+    let within : index < rows = is.index_within in
+    length-from_index (index * w) xs (omega (arith, is.whole, cells_le index rows w (omega arith))) ∙ is.whole
 
-pub HasWidth-ring_rows : (rows w place : ℕ) (xs : List Cell) → IsRing rows w place xs → HasWidth w (ring_rows rows w place xs)
-HasWidth-ring_rows rows w place xs is =
-    subst (λ (all : List (List Cell)). HasWidth w all) (sym (ring_rows-from_place rows w place xs is.place_within is.whole))
-    (HasWidth-rows_of rows w (from_place (place * w) xs) (length-turned rows w place xs is))
+pub HasWidth-ring_rows : (rows w index : ℕ) (xs : List Cell) → IsRing rows w index xs → HasWidth w (ring_rows rows w index xs)
+HasWidth-ring_rows rows w index xs is =
+    subst (λ (all : List (List Cell)). HasWidth w all) (sym (ring_rows-from_index rows w index xs is.index_within is.whole))
+    (HasWidth-rows_of rows w (from_index (index * w) xs) (length-turned rows w index xs is))
 
-pub IsArchive-ring_rows : (rows w place : ℕ) (xs : List Cell) → IsRing rows w place xs → IsArchive (ring_rows rows w place xs)
-IsArchive-ring_rows rows w place xs is =
-    let count = length-ring_rows rows w place xs in
+pub IsArchive-ring_rows : (rows w index : ℕ) (xs : List Cell) → IsRing rows w index xs → IsArchive (ring_rows rows w index xs)
+IsArchive-ring_rows rows w index xs is =
+    let count = length-ring_rows rows w index xs in
     let some : 0 < rows = is.some_rows in
-    let few : rows ≤ most_rows = is.few_rows in
-    IsArchive-from_width w (ring_rows rows w place xs) (HasWidth-ring_rows rows w place xs is) (omega arith) (omega arith) is.some_sources is.few_sources
+    let few : rows ≤ max_rows = is.few_rows in
+    IsArchive-from_width w (ring_rows rows w index xs) (HasWidth-ring_rows rows w index xs is) (omega arith) (omega arith) is.some_sources is.few_sources
 
-pub ring_len : (rows w place : ℕ) (xs : List Cell) (all : List (List Cell)) → ring_rows rows w place xs ≡ all → length all ≡ rows
-ring_len rows w place xs all e = ap length (sym e) ∙ length-ring_rows rows w place xs
+pub ring_len : (rows w index : ℕ) (xs : List Cell) (all : List (List Cell)) → ring_rows rows w index xs ≡ all → length all ≡ rows
+ring_len rows w index xs all e = ap length (sym e) ∙ length-ring_rows rows w index xs
 
-pub ring_width : (rows w place : ℕ) (xs : List Cell) (all : List (List Cell)) → IsRing rows w place xs → ring_rows rows w place xs ≡ all → width all ≡ w
-ring_width rows w place xs all is e =
-    let count = length-ring_rows rows w place xs in
+pub ring_width : (rows w index : ℕ) (xs : List Cell) (all : List (List Cell)) → IsRing rows w index xs → ring_rows rows w index xs ≡ all → width all ≡ w
+ring_width rows w index xs all is e =
+    let count = length-ring_rows rows w index xs in
     let some : 0 < rows = is.some_rows in
-    ap width (sym e) ∙ width_is w (ring_rows rows w place xs) (HasWidth-ring_rows rows w place xs is) (omega arith)
+    ap width (sym e) ∙ width_is w (ring_rows rows w index xs) (HasWidth-ring_rows rows w index xs is) (omega arith)
 
-pub ring_fits : (rows w place k : ℕ) (xs : List Cell) → IsRing rows w place xs → k < rows → k * w + w ≤ length xs
-ring_fits rows w place k xs is h = omega (arith, is.whole, row_fits k w rows w h (omega arith))
+pub ring_fits : (rows w index k : ℕ) (xs : List Cell) → IsRing rows w index xs → k < rows → k * w + w ≤ length xs
+ring_fits rows w index k xs is h = omega (arith, is.whole, row_fits k w rows w h (omega arith))
 
 pub AreDropped-rows_of : (rows w : ℕ) (xs : List Cell) → AreRows rows w xs → AreDropped (rows_of rows w xs)
 AreDropped-rows_of rows w xs are =
     let count = length-rows_of rows w xs in
-    let few : rows ≤ most_rows = are.few_rows in
+    let few : rows ≤ max_rows = are.few_rows in
     AreDropped-from_width w (rows_of rows w xs) (HasWidth-rows_of rows w xs are.whole) (omega arith)
 
 -- ---- rows that lie together
@@ -254,18 +254,18 @@ rows_run rows w i n xs e h =
     ∙ row_cells-rows_of n w (take (n * w) back) (length-take-le (n * w) back (omega (arith, long, cells_le n (rows - i) w (omega arith))))
 
 -- where they don't go on from the vector's first row
-pub ring_run : (rows w place i n : ℕ) (xs : List Cell) → IsRing rows w place xs → i + n ≤ rows → (place + i) % rows + n ≤ rows
-    → row_cells (take n (drop i (ring_rows rows w place xs))) ≡ take (n * w) (drop (((place + i) % rows) * w) xs)
-ring_run rows w place i n xs is h k =
-    let at = (place + i) % rows in
-    let turned = from_place (place * w) xs in
-    let lt = length-turned rows w place xs is in
+pub ring_run : (rows w index i n : ℕ) (xs : List Cell) → IsRing rows w index xs → i + n ≤ rows → (index + i) % rows + n ≤ rows
+    → row_cells (take n (drop i (ring_rows rows w index xs))) ≡ take (n * w) (drop (((index + i) % rows) * w) xs)
+ring_run rows w index i n xs is h k =
+    let at = (index + i) % rows in
+    let turned = from_index (index * w) xs in
+    let lt = length-turned rows w index xs is in
     let here = add-mul i n w in
     let there = add-mul at n w in
-    ap (λ (rs : List (List Cell)). row_cells (take n (drop i rs))) (ring_rows-from_place rows w place xs is.place_within is.whole)
+    ap (λ (rs : List (List Cell)). row_cells (take n (drop i rs))) (ring_rows-from_index rows w index xs is.index_within is.whole)
     ∙ rows_run rows w i n turned lt h
     ∙ sym (take-append-le (n * w) (drop (i * w) turned) (take (i * w) turned) (omega (arith, length-drop (i * w) turned, lt, here, cells_le (i + n) rows w h)))
-    ∙ ap (take (n * w)) (from_place-rows rows w place i xs is.whole is.place_within (omega arith))
+    ∙ ap (take (n * w)) (from_index-rows rows w index i xs is.whole is.index_within (omega arith))
     ∙ take-append-le (n * w) (drop (at * w) xs) (take (at * w) xs) (omega (arith, length-drop (at * w) xs, is.whole, there, cells_le (at + n) rows w k))
 
 -- ---- a row is pushed
@@ -279,36 +279,36 @@ length-with_cells w k xs row fits e =
     let rest = drop w (drop (k * w) xs) in
     omega (arith, length-append (take (k * w) xs) (row ++ rest), length-append row rest, length-take-le (k * w) xs (omega arith), length-drop w (drop (k * w) xs), length-drop (k * w) xs)
 
-pub ring_push : (rows w place : ℕ) (xs row : List Cell) → IsRing rows w place xs → length row ≡ w
-    → ring_rows rows w ((place + 1) % rows) (with_cells w place xs row) ≡ drop 1 (ring_rows rows w place xs ++ row ∷ [])
-ring_push rows w place xs row is e =
+pub ring_push : (rows w index : ℕ) (xs row : List Cell) → IsRing rows w index xs → length row ≡ w
+    → ring_rows rows w ((index + 1) % rows) (with_cells w index xs row) ≡ drop 1 (ring_rows rows w index xs ++ row ∷ [])
+ring_push rows w index xs row is e =
     let some : 0 < rows = is.some_rows in
-    let within : place < rows = is.place_within in
-    let fits : place * w + w ≤ length xs = ring_fits rows w place place xs is within in
-    let front = take (place * w) xs in
-    let rest = drop w (drop (place * w) xs) in
+    let within : index < rows = is.index_within in
+    let fits : index * w + w ≤ length xs = ring_fits rows w index index xs is within in
+    let front = take (index * w) xs in
+    let rest = drop w (drop (index * w) xs) in
     let ys = front ++ (row ++ rest) in
-    let turned = from_place (place * w) xs in
-    let next = (place + 1) % rows in
-    let long : length ys ≡ rows * w = length-with_cells w place xs row fits e ∙ is.whole in
-    let lf : length front ≡ place * w = length-take-le (place * w) xs (omega arith) in
+    let turned = from_index (index * w) xs in
+    let next = (index + 1) % rows in
+    let long : length ys ≡ rows * w = length-with_cells w index xs row fits e ∙ is.whole in
+    let lf : length front ≡ index * w = length-take-le (index * w) xs (omega arith) in
     let one : 1 * w ≡ w = omega arith in
     let all_rows : rows ≡ rows - 1 + 1 = omega arith in
-    let others : rest ++ front ≡ drop (1 * w) turned = sym (ap (λ (n : ℕ). drop n turned) one ∙ drop-append-le w (drop (place * w) xs) front (omega (arith, length-drop (place * w) xs))) in
-    let same : from_place (next * w) ys ≡ drop (1 * w) turned ++ row =
-    sym (from_place-rows rows w place 1 ys long within (omega arith))
-    ∙ ap (from_place (1 * w)) (from_place_at front (row ++ rest) (place * w) lf ∙ append_assoc row rest front)
-    ∙ from_place_at row (rest ++ front) (1 * w) (e ∙ sym one)
+    let others : rest ++ front ≡ drop (1 * w) turned = sym (ap (λ (n : ℕ). drop n turned) one ∙ drop-append-le w (drop (index * w) xs) front (omega (arith, length-drop (index * w) xs))) in
+    let same : from_index (next * w) ys ≡ drop (1 * w) turned ++ row =
+    sym (from_index-rows rows w index 1 ys long within (omega arith))
+    ∙ ap (from_index (1 * w)) (from_index_at front (row ++ rest) (index * w) lf ∙ append_assoc row rest front)
+    ∙ from_index_at row (rest ++ front) (1 * w) (e ∙ sym one)
     ∙ ap (λ (zs : List Cell). zs ++ row) others in
-    let lt = length-turned rows w place xs is in
+    let lt = length-turned rows w index xs is in
     let count : rows * w ≡ (rows - 1) * w + 1 * w = ap (λ (n : ℕ). n * w) all_rows ∙ add-mul (rows - 1) 1 w in
-    ring_rows-from_place rows w next ys (mod_below (place + 1) rows some) long
+    ring_rows-from_index rows w next ys (mod_below (index + 1) rows some) long
     ∙ ap (rows_of rows w) same
     ∙ ap (λ (n : ℕ). rows_of n w (drop (1 * w) turned ++ row)) all_rows
     ∙ rows_of-append (rows - 1) 1 w (drop (1 * w) turned) row (omega (arith, length-drop (1 * w) turned))
-    ∙ ap (λ (zs : List (List Cell)). zs ++ rows_of 1 w row) (rows_of-drop 1 rows w turned (omega arith) lt ∙ ap (drop 1) (sym (ring_rows-from_place rows w place xs within is.whole)))
-    ∙ ap (λ (zs : List (List Cell)). drop 1 (ring_rows rows w place xs) ++ zs) (rows_of_one w row e)
-    ∙ sym (drop-append-le 1 (ring_rows rows w place xs) (row ∷ []) (omega (arith, length-ring_rows rows w place xs)))
+    ∙ ap (λ (zs : List (List Cell)). zs ++ rows_of 1 w row) (rows_of-drop 1 rows w turned (omega arith) lt ∙ ap (drop 1) (sym (ring_rows-from_index rows w index xs within is.whole)))
+    ∙ ap (λ (zs : List (List Cell)). drop 1 (ring_rows rows w index xs) ++ zs) (rows_of_one w row e)
+    ∙ sym (drop-append-le 1 (ring_rows rows w index xs) (row ∷ []) (omega (arith, length-ring_rows rows w index xs)))
 
 -- ---- rows come back, and the oldest and the newest are copied
 
@@ -326,70 +326,70 @@ pub same_rows : (n v w : ℕ) (ys : List Cell) → length ys ≡ n * v → HasWi
 same_rows zero v w ys e h = refl
 same_rows (suc n) v w ys e h = ap (λ (k : ℕ). rows_of (suc n) k ys) (same_width (suc n) v w ys (omega arith) e h)
 
-pub ring_take : (n rows w place : ℕ) (xs : List Cell) → n ≤ rows → IsRing rows w place xs → rows_of n w (take (n * w) (from_place (place * w) xs)) ≡ take n (ring_rows rows w place xs)
-ring_take n rows w place xs h is =
-    rows_of-take n rows w (from_place (place * w) xs) h (length-turned rows w place xs is) ∙ ap (take n) (sym (ring_rows-from_place rows w place xs is.place_within is.whole))
+pub ring_take : (n rows w index : ℕ) (xs : List Cell) → n ≤ rows → IsRing rows w index xs → rows_of n w (take (n * w) (from_index (index * w) xs)) ≡ take n (ring_rows rows w index xs)
+ring_take n rows w index xs h is =
+    rows_of-take n rows w (from_index (index * w) xs) h (length-turned rows w index xs is) ∙ ap (take n) (sym (ring_rows-from_index rows w index xs is.index_within is.whole))
 
-pub ring_drop : (n rows w place : ℕ) (xs : List Cell) → n ≤ rows → IsRing rows w place xs → rows_of (rows - n) w (drop (n * w) (from_place (place * w) xs)) ≡ drop n (ring_rows rows w place xs)
-ring_drop n rows w place xs h is =
-    rows_of-drop n rows w (from_place (place * w) xs) h (length-turned rows w place xs is) ∙ ap (drop n) (sym (ring_rows-from_place rows w place xs is.place_within is.whole))
+pub ring_drop : (n rows w index : ℕ) (xs : List Cell) → n ≤ rows → IsRing rows w index xs → rows_of (rows - n) w (drop (n * w) (from_index (index * w) xs)) ≡ drop n (ring_rows rows w index xs)
+ring_drop n rows w index xs h is =
+    rows_of-drop n rows w (from_index (index * w) xs) h (length-turned rows w index xs is) ∙ ap (drop n) (sym (ring_rows-from_index rows w index xs is.index_within is.whole))
 
-pub ring_put_back : (n rows w place : ℕ) (xs new ds : List Cell) → n ≤ rows → IsRing rows w place xs → length new ≡ length xs → length ds ≡ n * w
-    → from_place (((place + (rows - n)) % rows) * w) new ≡ ds ++ drop (length ds) (from_place (((place + (rows - n)) % rows) * w) xs)
-    → ring_rows rows w ((place + (rows - n)) % rows) new ≡ rows_of n w ds ++ take (rows - n) (ring_rows rows w place xs)
-ring_put_back n rows w place xs new ds h is l ld e =
+pub ring_put_back : (n rows w index : ℕ) (xs new ds : List Cell) → n ≤ rows → IsRing rows w index xs → length new ≡ length xs → length ds ≡ n * w
+    → from_index (((index + (rows - n)) % rows) * w) new ≡ ds ++ drop (length ds) (from_index (((index + (rows - n)) % rows) * w) xs)
+    → ring_rows rows w ((index + (rows - n)) % rows) new ≡ rows_of n w ds ++ take (rows - n) (ring_rows rows w index xs)
+ring_put_back n rows w index xs new ds h is l ld e =
     let some : 0 < rows = is.some_rows in
     let kept = rows - n in
-    let back = (place + kept) % rows in
-    let turned = from_place (place * w) xs in
-    let lt = length-turned rows w place xs is in
+    let back = (index + kept) % rows in
+    let turned = from_index (index * w) xs in
+    let lt = length-turned rows w index xs is in
     let all_rows : rows ≡ n + kept = omega arith in
     let count : rows * w ≡ n * w + kept * w = ap (λ (k : ℕ). k * w) all_rows ∙ add-mul n kept w in
     let ending : length (drop (kept * w) turned) ≡ length ds = omega (arith, length-drop (kept * w) turned) in
-    let others : drop (length ds) (from_place (back * w) xs) ≡ take (kept * w) turned =
-    ap (drop (length ds)) (sym (from_place-rows rows w place kept xs is.whole is.place_within (omega arith))) ∙ drop_at (drop (kept * w) turned) (take (kept * w) turned) (length ds) ending in
-    ring_rows-from_place rows w back new (mod_below (place + kept) rows some) (l ∙ is.whole)
+    let others : drop (length ds) (from_index (back * w) xs) ≡ take (kept * w) turned =
+    ap (drop (length ds)) (sym (from_index-rows rows w index kept xs is.whole is.index_within (omega arith))) ∙ drop_at (drop (kept * w) turned) (take (kept * w) turned) (length ds) ending in
+    ring_rows-from_index rows w back new (mod_below (index + kept) rows some) (l ∙ is.whole)
     ∙ ap (rows_of rows w) (e ∙ ap (λ (zs : List Cell). ds ++ zs) others)
     ∙ ap (λ (k : ℕ). rows_of k w (ds ++ take (kept * w) turned)) all_rows
     ∙ rows_of-append n kept w ds (take (kept * w) turned) ld
-    ∙ ap (λ (zs : List (List Cell)). rows_of n w ds ++ zs) (ring_take kept rows w place xs (omega arith) is)
+    ∙ ap (λ (zs : List (List Cell)). rows_of n w ds ++ zs) (ring_take kept rows w index xs (omega arith) is)
 
 -- the newest rows, in as many cells as they have
-pub ring_newest : (kept rows w place : ℕ) (xs : List Cell) → kept ≤ rows → IsRing rows w place xs
-    → rows_of kept w (take (kept * w) (from_place (((place + (rows - kept)) % rows) * w) xs)) ≡ drop (rows - kept) (ring_rows rows w place xs)
-ring_newest kept rows w place xs h is =
+pub ring_newest : (kept rows w index : ℕ) (xs : List Cell) → kept ≤ rows → IsRing rows w index xs
+    → rows_of kept w (take (kept * w) (from_index (((index + (rows - kept)) % rows) * w) xs)) ≡ drop (rows - kept) (ring_rows rows w index xs)
+ring_newest kept rows w index xs h is =
     let gone = rows - kept in
-    let turned = from_place (place * w) xs in
-    let lt = length-turned rows w place xs is in
+    let turned = from_index (index * w) xs in
+    let lt = length-turned rows w index xs is in
     let all_rows : rows ≡ gone + kept = omega arith in
     let left : rows - gone ≡ kept = omega arith in
     let count : rows * w ≡ gone * w + kept * w = ap (λ (k : ℕ). k * w) all_rows ∙ add-mul gone kept w in
     let ending : length (drop (gone * w) turned) ≡ kept * w = omega (arith, length-drop (gone * w) turned) in
-    ap (λ (zs : List Cell). rows_of kept w (take (kept * w) zs)) (sym (from_place-rows rows w place gone xs is.whole is.place_within (omega arith)))
+    ap (λ (zs : List Cell). rows_of kept w (take (kept * w) zs)) (sym (from_index-rows rows w index gone xs is.whole is.index_within (omega arith)))
     ∙ ap (rows_of kept w) (take_at (drop (gone * w) turned) (take (gone * w) turned) (kept * w) ending)
     ∙ ap (λ (k : ℕ). rows_of k w (drop (gone * w) turned)) (sym left)
-    ∙ ring_drop gone rows w place xs (omega arith) is
+    ∙ ring_drop gone rows w index xs (omega arith) is
 
 -- ---- two pieces of a vector
 
 -- the cells before the end, and those that are left from the front
-pub copied_from : (xs : List Cell) (s f g : ℕ) → s ≤ length xs → f ≤ length xs - s → g ≤ s → (g ≡ 0) ⊎ (length xs - s ≤ f) → take f (drop s xs) ++ take g xs ≡ take (f + g) (from_place s xs)
+pub copied_from : (xs : List Cell) (s f g : ℕ) → s ≤ length xs → f ≤ length xs - s → g ≤ s → (g ≡ 0) ⊎ (length xs - s ≤ f) → take f (drop s xs) ++ take g xs ≡ take (f + g) (from_index s xs)
 copied_from xs s f g hs hf hg which =
     let lb = length-drop s xs in
     ⊎_elim (λ (none : g ≡ 0).
     let all : f + g ≡ f = omega arith in
     ap (λ (k : ℕ). take f (drop s xs) ++ take k xs) none
     ∙ append-nil (take f (drop s xs))
-    ∙ sym (ap (λ (k : ℕ). take k (from_place s xs)) all ∙ take-append-le f (drop s xs) (take s xs) (omega arith)))
+    ∙ sym (ap (λ (k : ℕ). take k (from_index s xs)) all ∙ take-append-le f (drop s xs) (take s xs) (omega arith)))
     (λ (full : length xs - s ≤ f).
     let end : f + g ≡ length (drop s xs) + g = omega arith in
     ap (λ (zs : List Cell). zs ++ take g xs) (take_all f (drop s xs) (omega arith))
     ∙ ap (λ (zs : List Cell). drop s xs ++ zs) (sym (take-take g s xs hg))
-    ∙ sym (ap (λ (k : ℕ). take k (from_place s xs)) end ∙ take-append-add (drop s xs) (take s xs) g))
+    ∙ sym (ap (λ (k : ℕ). take k (from_index s xs)) end ∙ take-append-add (drop s xs) (take s xs) g))
     which
 
 pub written_from : (xs ds : List Cell) (s f g : ℕ) → s ≤ length xs → f + g ≡ length ds → f ≤ length xs - s → g ≤ s → (g ≡ 0) ⊎ (length xs - s ≤ f)
-    → from_place s (drop f ds ++ drop g (take s xs ++ (take f ds ++ drop f (drop s xs)))) ≡ ds ++ drop (length ds) (from_place s xs)
+    → from_index s (drop f ds ++ drop g (take s xs ++ (take f ds ++ drop f (drop s xs)))) ≡ ds ++ drop (length ds) (from_index s xs)
 written_from xs ds s f g hs sum hf hg which =
     let front = take s xs in
     let back = drop s xs in
@@ -398,9 +398,9 @@ written_from xs ds s f g hs sum hf hg which =
     let first = take f ds ++ drop f back in
     let second = drop f ds ++ drop g front in
     let ls : length second ≡ s = omega (arith, length-append (drop f ds) (drop g front), length-drop f ds, length-drop g front) in
-    ap (λ (zs : List Cell). from_place s (drop f ds ++ zs)) (drop-append-le g front first (omega arith))
-    ∙ ap (from_place s) (sym (append_assoc (drop f ds) (drop g front) first))
-    ∙ from_place_at second first s ls
+    ap (λ (zs : List Cell). from_index s (drop f ds ++ zs)) (drop-append-le g front first (omega arith))
+    ∙ ap (from_index s) (sym (append_assoc (drop f ds) (drop g front) first))
+    ∙ from_index_at second first s ls
     ∙ ⊎_elim (λ (none : g ≡ 0).
     let all : length ds ≡ f = omega arith in
     ap (λ (zs : List Cell). (zs ++ drop f back) ++ second) (take_all f ds (omega arith))
@@ -428,57 +428,57 @@ rows_fit rows w k xs are h = omega (arith, are.whole, row_fits k w rows w h (ome
 pub ring_at_front : (rows w : ℕ) (xs : List Cell) → 0 < rows → length xs ≡ rows * w → ring_rows rows w 0 xs ≡ rows_of rows w xs
 ring_at_front rows w xs some e =
     let none : 0 * w ≡ 0 = omega arith in
-    ring_rows-from_place rows w 0 xs some e
-    ∙ ap (λ (k : ℕ). rows_of rows w (from_place k xs)) none
+    ring_rows-from_index rows w 0 xs some e
+    ∙ ap (λ (k : ℕ). rows_of rows w (from_index k xs)) none
     ∙ ap (rows_of rows w) (append-nil xs)
 
-pub ring_unknown : (rows w place : ℕ) → place < rows → ring_rows rows w place (replicate (rows * w) Unknown) ≡ unknown_rows rows w
-ring_unknown rows w place within =
+pub ring_unknown : (rows w index : ℕ) → index < rows → ring_rows rows w index (replicate (rows * w) Unknown) ≡ unknown_rows rows w
+ring_unknown rows w index within =
     let all = rows * w in
-    let start = place * w in
-    let le : start ≤ all = cells_le place rows w (omega arith) in
+    let start = index * w in
+    let le : start ≤ all = cells_le index rows w (omega arith) in
     let sum : all - start + start ≡ all = omega (arith, le) in
-    let same : from_place start (replicate all Unknown) ≡ replicate all Unknown =
+    let same : from_index start (replicate all Unknown) ≡ replicate all Unknown =
     ap (λ (zs : List Cell). zs ++ take start (replicate all Unknown)) (drop-replicate start all Unknown)
     ∙ ap (λ (zs : List Cell). replicate (all - start) Unknown ++ zs) (take-replicate start all Unknown le)
     ∙ replicate-append-replicate (all - start) start Unknown
     ∙ ap (λ (n : ℕ). replicate n Unknown) sum in
-    ring_rows-from_place rows w place (replicate all Unknown) within (length-replicate all Unknown) ∙ ap (rows_of rows w) same ∙ rows_of_unknown rows w
+    ring_rows-from_index rows w index (replicate all Unknown) within (length-replicate all Unknown) ∙ ap (rows_of rows w) same ∙ rows_of_unknown rows w
 
-pub AreRows-take : (n rows w place : ℕ) (xs : List Cell) → n ≤ rows → IsRing rows w place xs → AreRows n w (take (n * w) (from_place (place * w) xs))
-AreRows-take n rows w place xs h is =
-    let few : rows ≤ most_rows = is.few_rows in
+pub AreRows-take : (n rows w index : ℕ) (xs : List Cell) → n ≤ rows → IsRing rows w index xs → AreRows n w (take (n * w) (from_index (index * w) xs))
+AreRows-take n rows w index xs h is =
+    let few : rows ≤ max_rows = is.few_rows in
     record {
       few_rows = omega arith;
       some_sources = is.some_sources;
       few_sources = is.few_sources;
-      whole = length-take-le (n * w) (from_place (place * w) xs) (omega (arith, length-turned rows w place xs is, cells_le n rows w h));
+      whole = length-take-le (n * w) (from_index (index * w) xs) (omega (arith, length-turned rows w index xs is, cells_le n rows w h));
     }
 
 -- the cells of the newest rows, after unknown ones
-pub length-resized : (n kept rows w place : ℕ) (xs : List Cell) → kept ≤ n → kept ≤ rows → IsRing rows w place xs
-    → length (replicate ((n - kept) * w) Unknown ++ take (kept * w) (from_place (((place + (rows - kept)) % rows) * w) xs)) ≡ n * w
-length-resized n kept rows w place xs h k is =
+pub length-resized : (n kept rows w index : ℕ) (xs : List Cell) → kept ≤ n → kept ≤ rows → IsRing rows w index xs
+    → length (replicate ((n - kept) * w) Unknown ++ take (kept * w) (from_index (((index + (rows - kept)) % rows) * w) xs)) ≡ n * w
+length-resized n kept rows w index xs h k is =
     let some : 0 < rows = is.some_rows in
-    let start = ((place + (rows - kept)) % rows) * w in
-    let below : (place + (rows - kept)) % rows < rows = mod_below (place + (rows - kept)) rows some in
-    let within : start ≤ length xs = omega (arith, is.whole, cells_le ((place + (rows - kept)) % rows) rows w (omega arith)) in
-    let part : length (take (kept * w) (from_place start xs)) ≡ kept * w = length-take-le (kept * w) (from_place start xs) (omega (arith, length-from_place start xs within, is.whole, cells_le kept rows w k)) in
+    let start = ((index + (rows - kept)) % rows) * w in
+    let below : (index + (rows - kept)) % rows < rows = mod_below (index + (rows - kept)) rows some in
+    let within : start ≤ length xs = omega (arith, is.whole, cells_le ((index + (rows - kept)) % rows) rows w (omega arith)) in
+    let part : length (take (kept * w) (from_index start xs)) ≡ kept * w = length-take-le (kept * w) (from_index start xs) (omega (arith, length-from_index start xs within, is.whole, cells_le kept rows w k)) in
     let all_rows : n ≡ n - kept + kept = omega arith in
     let count : n * w ≡ (n - kept) * w + kept * w = ap (λ (m : ℕ). m * w) all_rows ∙ add-mul (n - kept) kept w in
-    omega (arith, length-append (replicate ((n - kept) * w) Unknown) (take (kept * w) (from_place start xs)), length-replicate ((n - kept) * w) Unknown, part, count)
+    omega (arith, length-append (replicate ((n - kept) * w) Unknown) (take (kept * w) (from_index start xs)), length-replicate ((n - kept) * w) Unknown, part, count)
 
-pub ring_resized : (n kept rows w place : ℕ) (xs : List Cell) (all : List (List Cell)) → 0 < n → kept ≤ n → kept ≤ rows → IsRing rows w place xs → ring_rows rows w place xs ≡ all
-    → ring_rows n w 0 (replicate ((n - kept) * w) Unknown ++ take (kept * w) (from_place (((place + (rows - kept)) % rows) * w) xs)) ≡ unknown_rows (n - kept) w ++ drop (rows - kept) all
-ring_resized n kept rows w place xs all some fewer within is e =
+pub ring_resized : (n kept rows w index : ℕ) (xs : List Cell) (all : List (List Cell)) → 0 < n → kept ≤ n → kept ≤ rows → IsRing rows w index xs → ring_rows rows w index xs ≡ all
+    → ring_rows n w 0 (replicate ((n - kept) * w) Unknown ++ take (kept * w) (from_index (((index + (rows - kept)) % rows) * w) xs)) ≡ unknown_rows (n - kept) w ++ drop (rows - kept) all
+ring_resized n kept rows w index xs all some fewer within is e =
     let unknown = replicate ((n - kept) * w) Unknown in
-    let part = take (kept * w) (from_place (((place + (rows - kept)) % rows) * w) xs) in
+    let part = take (kept * w) (from_index (((index + (rows - kept)) % rows) * w) xs) in
     let all_rows : n ≡ n - kept + kept = omega arith in
-    ring_at_front n w (unknown ++ part) some (length-resized n kept rows w place xs fewer within is)
+    ring_at_front n w (unknown ++ part) some (length-resized n kept rows w index xs fewer within is)
     ∙ ap (λ (k : ℕ). rows_of k w (unknown ++ part)) all_rows
     ∙ rows_of-append (n - kept) kept w unknown part (length-replicate ((n - kept) * w) Unknown)
     ∙ ap (λ (zs : List (List Cell)). zs ++ rows_of kept w part) (rows_of_unknown (n - kept) w)
-    ∙ ap (λ (zs : List (List Cell)). unknown_rows (n - kept) w ++ zs) (ring_newest kept rows w place xs within is ∙ ap (drop (rows - kept)) e)
+    ∙ ap (λ (zs : List (List Cell)). unknown_rows (n - kept) w ++ zs) (ring_newest kept rows w index xs within is ∙ ap (drop (rows - kept)) e)
 
 -- ---- a row is written over
 
@@ -537,38 +537,38 @@ rows_written rows w i xs row are h e =
     get_or-set_other was i j row [] other ∙ nth_row-rows_of rows w xs j k ∙ sym (row_of-others w i j xs row fits e other))
     (same_or_not j i)))
 
--- two rows at one place are one
-wrapped_same : (rows place i j : ℕ) → place < rows → i < rows → j < rows → (place + j) % rows ≡ (place + i) % rows → j ≡ i
-wrapped_same rows place i j h hi hj e =
-    ⊎_elim (λ (i_below : place + i < rows).
-    let ei : (place + i) % rows ≡ place + i = mod-eq_of_lt i_below in
-    ⊎_elim (λ (j_below : place + j < rows). let ej : (place + j) % rows ≡ place + j = mod-eq_of_lt j_below in omega arith)
-    (λ (j_past : rows ≤ place + j). let ej = mod_wrapped (place + j) rows j_past (omega arith) in omega arith)
-    (cases_lt (place + j) rows))
-    (λ (i_past : rows ≤ place + i).
-    let ei = mod_wrapped (place + i) rows i_past (omega arith) in
-    ⊎_elim (λ (j_below : place + j < rows). let ej : (place + j) % rows ≡ place + j = mod-eq_of_lt j_below in omega arith)
-    (λ (j_past : rows ≤ place + j). let ej = mod_wrapped (place + j) rows j_past (omega arith) in omega arith)
-    (cases_lt (place + j) rows))
-    (cases_lt (place + i) rows)
+-- two rows at one index are one
+wrapped_same : (rows index i j : ℕ) → index < rows → i < rows → j < rows → (index + j) % rows ≡ (index + i) % rows → j ≡ i
+wrapped_same rows index i j h hi hj e =
+    ⊎_elim (λ (i_below : index + i < rows).
+    let ei : (index + i) % rows ≡ index + i = mod-eq_of_lt i_below in
+    ⊎_elim (λ (j_below : index + j < rows). let ej : (index + j) % rows ≡ index + j = mod-eq_of_lt j_below in omega arith)
+    (λ (j_past : rows ≤ index + j). let ej = mod_wrapped (index + j) rows j_past (omega arith) in omega arith)
+    (cases_lt (index + j) rows))
+    (λ (i_past : rows ≤ index + i).
+    let ei = mod_wrapped (index + i) rows i_past (omega arith) in
+    ⊎_elim (λ (j_below : index + j < rows). let ej : (index + j) % rows ≡ index + j = mod-eq_of_lt j_below in omega arith)
+    (λ (j_past : rows ≤ index + j). let ej = mod_wrapped (index + j) rows j_past (omega arith) in omega arith)
+    (cases_lt (index + j) rows))
+    (cases_lt (index + i) rows)
 
-pub ring_written : (rows w place i : ℕ) (xs row : List Cell) → IsRing rows w place xs → i < rows → length row ≡ w → ring_rows rows w place (with_cells w ((place + i) % rows) xs row) ≡ set (ring_rows rows w place xs) i row
-ring_written rows w place i xs row is h e =
+pub ring_written : (rows w index i : ℕ) (xs row : List Cell) → IsRing rows w index xs → i < rows → length row ≡ w → ring_rows rows w index (with_cells w ((index + i) % rows) xs row) ≡ set (ring_rows rows w index xs) i row
+ring_written rows w index i xs row is h e =
     let some : 0 < rows = is.some_rows in
-    let at = (place + i) % rows in
-    let fits = ring_fits rows w place at xs is (mod_below (place + i) rows some) in
-    let was = ring_rows rows w place xs in
-    let count = length-ring_rows rows w place xs in
-    sym (fill_by_all (λ j. row_of w (with_cells w at xs row) ((place + j) % rows)) (set was i row) rows [] (length-set was i row ∙ count)
+    let at = (index + i) % rows in
+    let fits = ring_fits rows w index at xs is (mod_below (index + i) rows some) in
+    let was = ring_rows rows w index xs in
+    let count = length-ring_rows rows w index xs in
+    sym (fill_by_all (λ j. row_of w (with_cells w at xs row) ((index + j) % rows)) (set was i row) rows [] (length-set was i row ∙ count)
     (λ j k. ⊎_elim (λ (same : j ≡ i).
     ap (λ (n : ℕ). get_or (set was i row) n []) same
     ∙ get_or-set_same was i row [] (omega arith)
     ∙ sym (row_of-written w at xs row fits e)
-    ∙ ap (λ (n : ℕ). row_of w (with_cells w at xs row) ((place + n) % rows)) (sym same))
+    ∙ ap (λ (n : ℕ). row_of w (with_cells w at xs row) ((index + n) % rows)) (sym same))
     (λ (other : j ≡ i → ⊥).
     get_or-set_other was i j row [] other
-    ∙ nth_row-ring_rows rows w place xs j k
-    ∙ sym (row_of-others w at ((place + j) % rows) xs row fits e (λ same. other (wrapped_same rows place i j is.place_within h k same))))
+    ∙ nth_row-ring_rows rows w index xs j k
+    ∙ sym (row_of-others w at ((index + j) % rows) xs row fits e (λ same. other (wrapped_same rows index i j is.index_within h k same))))
     (same_or_not j i)))
 
 -- what a vector ends as, once a row that was lent has come back with as many cells

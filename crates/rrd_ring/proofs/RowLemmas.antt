@@ -5,7 +5,7 @@ use Rattle.std.specs.List.{refill, length_refill}
 use Rattle.rrd_fixed.specs.declared.cell.Cell.{Cell}
 use Rattle.rrd_fixed.specs.declared.cell.Cell.TheVariants.{Unknown}
 use Rattle.rrd_ring.specs.Widths.{HasWidth-append, HasWidth-drop, width_is}
-use Rattle.rrd_ring.specs.Rows.{nth_row, with_row, width, HasWidth, unknown_rows, newest_rows, IsArchive, AreDropped, most_rows, most_sources}
+use Rattle.rrd_ring.specs.Rows.{nth_row, with_row, width, HasWidth, unknown_rows, newest_rows, IsArchive, AreDropped, max_rows, max_sources}
 
 -- ---- the width of rows
 
@@ -29,7 +29,7 @@ length-row w (x ∷ xs) (suc i) d h k = length-row w xs i d h.1 (omega arith)
 
 -- ---- what an archive and dropped rows may hold
 
-pub IsArchive-from_width : (w : ℕ) (xs : List (List Cell)) → HasWidth w xs → 0 < length xs → length xs ≤ most_rows → 0 < w → w ≤ most_sources → IsArchive xs
+pub IsArchive-from_width : (w : ℕ) (xs : List (List Cell)) → HasWidth w xs → 0 < length xs → length xs ≤ max_rows → 0 < w → w ≤ max_sources → IsArchive xs
 IsArchive-from_width w xs h some few some_cells few_cells =
     let e = width_is w xs h some in
     record {
@@ -40,7 +40,7 @@ IsArchive-from_width w xs h some few some_cells few_cells =
       one_width = subst (λ (v : ℕ). HasWidth v xs) (sym e) h;
     }
 
-pub AreDropped-from_width : (w : ℕ) (xs : List (List Cell)) → HasWidth w xs → length xs ≤ most_rows → AreDropped xs
+pub AreDropped-from_width : (w : ℕ) (xs : List (List Cell)) → HasWidth w xs → length xs ≤ max_rows → AreDropped xs
 AreDropped-from_width w [] h few = record { few_rows = few; one_width = tt }
 AreDropped-from_width w (x ∷ xs) h few = record { few_rows = few; one_width = subst (λ (v : ℕ). HasWidth v (x ∷ xs)) (sym h.0) h }
 
@@ -66,7 +66,7 @@ IsArchive-with_row xs i cells is k =
     let new = refill (length (nth_row xs i)) (nth_row xs i) cells in
     let count = length-set xs i new in
     let some : 0 < length xs = is.some_rows in
-    let few : length xs ≤ most_rows = is.few_rows in
+    let few : length xs ≤ max_rows = is.few_rows in
     IsArchive-from_width (width xs) (with_row xs i cells) (HasWidth-with_row (width xs) xs i cells is.one_width k)
     (omega arith) (omega arith) is.some_sources is.few_sources
 
@@ -74,7 +74,7 @@ pub AreDropped-with_row : (xs : List (List Cell)) (i : ℕ) (cells : List Cell) 
 AreDropped-with_row xs i cells are k =
     let new = refill (length (nth_row xs i)) (nth_row xs i) cells in
     let count = length-set xs i new in
-    let few : length xs ≤ most_rows = are.few_rows in
+    let few : length xs ≤ max_rows = are.few_rows in
     AreDropped-from_width (width xs) (with_row xs i cells) (HasWidth-with_row (width xs) xs i cells are.one_width k) (omega arith)
 
 -- the oldest row goes, and a new one comes
@@ -84,12 +84,12 @@ IsArchive-push xs cells is e =
     let count = length-drop 1 all in
     let both = length-append xs (cells ∷ []) in
     let some : 0 < length xs = is.some_rows in
-    let few : length xs ≤ most_rows = is.few_rows in
+    let few : length xs ≤ max_rows = is.few_rows in
     IsArchive-from_width (width xs) (drop 1 all) (HasWidth-drop (width xs) 1 all (HasWidth-append (width xs) xs (cells ∷ []) is.one_width (e, tt)))
     (omega arith) (omega arith) is.some_sources is.few_sources
 
 -- another number of rows
-pub IsArchive-newest_rows : (n : ℕ) (xs : List (List Cell)) → 0 < n → n ≤ most_rows → IsArchive xs → IsArchive (newest_rows n xs)
+pub IsArchive-newest_rows : (n : ℕ) (xs : List (List Cell)) → 0 < n → n ≤ max_rows → IsArchive xs → IsArchive (newest_rows n xs)
 IsArchive-newest_rows n xs some few is =
     let w = width xs in
     let unknown = unknown_rows (n - length xs) w in
@@ -107,13 +107,13 @@ IsArchive-put_back old xs is fits wide =
     let count = length-append old (take n xs) in
     let rest = length-take n xs in
     let some : 0 < length xs = is.some_rows in
-    let few : length xs ≤ most_rows = is.few_rows in
+    let few : length xs ≤ max_rows = is.few_rows in
     IsArchive-from_width (width xs) (old ++ take n xs) (HasWidth-append (width xs) old (take n xs) wide (HasWidth-take (width xs) n xs is.one_width))
     (omega arith) (omega arith) is.some_sources is.few_sources
 
 pub AreDropped-take : (n : ℕ) (xs : List (List Cell)) → IsArchive xs → AreDropped (take n xs)
 AreDropped-take n xs is =
-    let few : length xs ≤ most_rows = is.few_rows in
+    let few : length xs ≤ max_rows = is.few_rows in
     AreDropped-from_width (width xs) (take n xs) (HasWidth-take (width xs) n xs is.one_width) (omega (arith, length-take n xs))
 
 -- ---- a row written cell by cell

@@ -7,7 +7,7 @@ use Rattle.std.proofs.lemmas.List.{append_assoc, append-nil, take-append-drop, r
 use Rattle.rrd_fixed.specs.declared.cell.Cell.{Cell}
 use Rattle.rrd_fixed.specs.declared.cell.Cell.TheVariants.{Unknown}
 use Rattle.rrd_ring.specs.Rows.{width, newest_rows, unknown_rows}
-use Rattle.rrd_ring.specs.Ring.{from_place, ring_rows, rows_of, with_unwritten, AreRows, AreWhole, ArePartlyWritten, IsRing, IsPartlyWritten}
+use Rattle.rrd_ring.specs.Ring.{from_index, ring_rows, rows_of, with_unwritten, AreRows, AreWhole, ArePartlyWritten, IsRing, IsPartlyWritten}
 use Rattle.rrd_ring.proofs.RingLemmas.{cells_le, with_cells, length-with_cells, ring_fits, ring_take, ring_unknown, rows_of_unknown}
 
 -- ---- the cells
@@ -162,8 +162,8 @@ forgotten all start n end xs new fits is some items =
 
 -- ---- the invariant
 
-pub ring_le : (rows w place : ℕ) (v : Vec Cell Global) → IsPartlyWritten rows w place v → length v.items ≤ rows * w
-ring_le rows w place v is = written_le (rows * w) v.items is.ring.whole
+pub ring_le : (rows w index : ℕ) (v : Vec Cell Global) → IsPartlyWritten rows w index v → length v.items ≤ rows * w
+ring_le rows w index v is = written_le (rows * w) v.items is.ring.whole
 
 -- what is written are whole rows
 pub whole_row : (w k : ℕ) (xs : List Cell) → AreWhole w xs → k * w < length xs → k * w + w ≤ length xs
@@ -186,44 +186,44 @@ rows_in w len xs some is e =
     ap (λ (n : ℕ). n * w) count ∙ sym is.whole
 
 -- of rows that lie together, as far as they are written or one that isn't, there are no more than all
-pub run_fits : (rows w place n written : ℕ) (xs : List Cell) → 0 < w → written * w ≡ length xs → length xs ≤ rows * w → place < rows → (place < written → place + n ≤ written) → (written ≤ place → n ≡ 1) → place + n ≤ rows
-run_fits rows w place n written xs some is few within before behind = ⊎_elim
-    (λ (there : place < written). ⊎_elim (λ (more : rows < written). absurd (omega (arith, is, few, some, add-mul rows 1 w, cells_le (rows + 1) written w (omega arith)))) (λ (all : written ≤ rows). omega (arith, before there)) (cases_lt rows written))
-    (λ (past : written ≤ place). omega (arith, behind past))
-    (cases_lt place written)
+pub run_fits : (rows w index n written : ℕ) (xs : List Cell) → 0 < w → written * w ≡ length xs → length xs ≤ rows * w → index < rows → (index < written → index + n ≤ written) → (written ≤ index → n ≡ 1) → index + n ≤ rows
+run_fits rows w index n written xs some is few within before behind = ⊎_elim
+    (λ (there : index < written). ⊎_elim (λ (more : rows < written). absurd (omega (arith, is, few, some, add-mul rows 1 w, cells_le (rows + 1) written w (omega arith)))) (λ (all : written ≤ rows). omega (arith, before there)) (cases_lt rows written))
+    (λ (past : written ≤ index). omega (arith, behind past))
+    (cases_lt index written)
 
-pub run_whole : (w place n written : ℕ) (xs : List Cell) → written * w ≡ length xs → (place < written → place + n ≤ written) → place * w < length xs → place * w + n * w ≤ length xs
-run_whole w place n written xs is before below = ⊎_elim
-    (λ (there : place < written). omega (arith, is, add-mul place n w, cells_le (place + n) written w (before there)))
-    (λ (past : written ≤ place). absurd (omega (arith, is, below, cells_le written place w past)))
-    (cases_lt place written)
+pub run_whole : (w index n written : ℕ) (xs : List Cell) → written * w ≡ length xs → (index < written → index + n ≤ written) → index * w < length xs → index * w + n * w ≤ length xs
+run_whole w index n written xs is before below = ⊎_elim
+    (λ (there : index < written). omega (arith, is, add-mul index n w, cells_le (index + n) written w (before there)))
+    (λ (past : written ≤ index). absurd (omega (arith, is, below, cells_le written index w past)))
+    (cases_lt index written)
 
-pub run_one : (w place n written : ℕ) (xs : List Cell) → 0 < w → written * w ≡ length xs → (written ≤ place → n ≡ 1) → length xs ≤ place * w → n * w ≡ w
-run_one w place n written xs some is behind past = ⊎_elim
-    (λ (there : place < written). absurd (omega (arith, is, past, some, add-mul place 1 w, cells_le (place + 1) written w (omega arith))))
-    (λ (after : written ≤ place). let one : 1 * w ≡ w = omega arith in ap (λ (k : ℕ). k * w) (behind after) ∙ one)
-    (cases_lt place written)
+pub run_one : (w index n written : ℕ) (xs : List Cell) → 0 < w → written * w ≡ length xs → (written ≤ index → n ≡ 1) → length xs ≤ index * w → n * w ≡ w
+run_one w index n written xs some is behind past = ⊎_elim
+    (λ (there : index < written). absurd (omega (arith, is, past, some, add-mul index 1 w, cells_le (index + 1) written w (omega arith))))
+    (λ (after : written ≤ index). let one : 1 * w ≡ w = omega arith in ap (λ (k : ℕ). k * w) (behind after) ∙ one)
+    (cases_lt index written)
 
 -- filled up as far as some row, it is the same ring
-pub filled_ring : (rows w place k : ℕ) (v new : Vec Cell Global) → IsPartlyWritten rows w place v → k ≤ rows → new.items ≡ with_unwritten (k * w) v.items → vec_capacity v ≤ vec_capacity new
-    → IsPartlyWritten rows w place new
-filled_ring rows w place k v new is h items room =
+pub filled_ring : (rows w index k : ℕ) (v new : Vec Cell Global) → IsPartlyWritten rows w index v → k ≤ rows → new.items ≡ with_unwritten (k * w) v.items → vec_capacity v ≤ vec_capacity new
+    → IsPartlyWritten rows w index new
+filled_ring rows w index k v new is h items room =
     let same : with_unwritten (rows * w) new.items ≡ with_unwritten (rows * w) v.items = ap (with_unwritten (rows * w)) items ∙ filled_further (rows * w) (k * w) v.items (cells_le k rows w h) in
     let had : rows * w ≤ vec_capacity v = is.room in
     record {
-      ring = subst (IsRing rows w place) (sym same) is.ring;
+      ring = subst (IsRing rows w index) (sym same) is.ring;
       room = omega (arith, had, room);
       ends = subst (AreWhole w) (sym items) (whole_filled w k v.items is.ends);
     }
 
 -- the ring with a row in the place of its oldest one
-pub pushed_cells : (rows w place : ℕ) (v : Vec Cell Global) (row : List Cell) → IsPartlyWritten rows w place v → place * w ≤ length v.items → length row ≡ w
-    → with_unwritten (rows * w) (take (place * w) v.items ++ (row ++ drop (length row) (drop (place * w) v.items))) ≡ with_cells w place (with_unwritten (rows * w) v.items) row
-pushed_cells rows w place v row is le e =
-    let within : place < rows = is.ring.place_within in
-    ⊎_elim (λ (over : place * w + w ≤ length v.items). written_over (rows * w) w (place * w) v.items row over e)
-    (λ (behind : place * w ≡ length v.items). written_behind (rows * w) w place v.items row behind (row_fits place w rows w within (omega arith)) e)
-    (next_row w place v.items is.ends le)
+pub pushed_cells : (rows w index : ℕ) (v : Vec Cell Global) (row : List Cell) → IsPartlyWritten rows w index v → index * w ≤ length v.items → length row ≡ w
+    → with_unwritten (rows * w) (take (index * w) v.items ++ (row ++ drop (length row) (drop (index * w) v.items))) ≡ with_cells w index (with_unwritten (rows * w) v.items) row
+pushed_cells rows w index v row is le e =
+    let within : index < rows = is.ring.index_within in
+    ⊎_elim (λ (over : index * w + w ≤ length v.items). written_over (rows * w) w (index * w) v.items row over e)
+    (λ (behind : index * w ≡ length v.items). written_behind (rows * w) w index v.items row behind (row_fits index w rows w within (omega arith)) e)
+    (next_row w index v.items is.ends le)
 
 pub length-put : (start w : ℕ) (ys row : List Cell) → length row ≡ w → start + w ≤ length ys → length (take start ys ++ (row ++ drop (length row) (drop start ys))) ≡ length ys
 length-put start w ys row e h =
@@ -236,18 +236,18 @@ length-put_behind start w ys row e h =
     omega (arith, length-append (take start ys) (row ++ back), length-append row back, length-take-le start ys (omega arith), length-drop (length row) (drop start ys), length-drop start ys)
 
 -- after a row was written over another or behind the last one, whole rows are written
-pushed_ends : (w place : ℕ) (ys row : List Cell) → AreWhole w ys → place * w ≤ length ys → length row ≡ w → AreWhole w (take (place * w) ys ++ (row ++ drop (length row) (drop (place * w) ys)))
-pushed_ends w place ys row is le e =
-    let new = take (place * w) ys ++ (row ++ drop (length row) (drop (place * w) ys)) in
-    let next : (place + 1) * w ≡ place * w + w = add-mul place 1 w ∙ (let one : place * w + 1 * w ≡ place * w + w = omega arith in one) in
-    ⊎_elim (λ (over : place * w + w ≤ length ys). let it : AreWhole w new = record { count = is.count; whole = length-put (place * w) w ys row e over ∙ is.whole } in it)
-    (λ (behind : place * w ≡ length ys). let it : AreWhole w new = record { count = place + 1; whole = length-put_behind (place * w) w ys row e behind ∙ sym next } in it)
-    (next_row w place ys is le)
+pushed_ends : (w index : ℕ) (ys row : List Cell) → AreWhole w ys → index * w ≤ length ys → length row ≡ w → AreWhole w (take (index * w) ys ++ (row ++ drop (length row) (drop (index * w) ys)))
+pushed_ends w index ys row is le e =
+    let new = take (index * w) ys ++ (row ++ drop (length row) (drop (index * w) ys)) in
+    let next : (index + 1) * w ≡ index * w + w = add-mul index 1 w ∙ (let one : index * w + 1 * w ≡ index * w + w = omega arith in one) in
+    ⊎_elim (λ (over : index * w + w ≤ length ys). let it : AreWhole w new = record { count = is.count; whole = length-put (index * w) w ys row e over ∙ is.whole } in it)
+    (λ (behind : index * w ≡ length ys). let it : AreWhole w new = record { count = index + 1; whole = length-put_behind (index * w) w ys row e behind ∙ sym next } in it)
+    (next_row w index ys is le)
 
-pub pushed : (rows w place : ℕ) (v new : Vec Cell Global) (row : List Cell) → IsPartlyWritten rows w place v → place * w ≤ length v.items → length row ≡ w
-    → new.items ≡ take (place * w) v.items ++ (row ++ drop (length row) (drop (place * w) v.items)) → vec_capacity new ≡ vec_capacity v
-    → IsPartlyWritten rows w ((place + 1) % rows) new
-pushed rows w place v new row is le e items room =
+pub pushed : (rows w index : ℕ) (v new : Vec Cell Global) (row : List Cell) → IsPartlyWritten rows w index v → index * w ≤ length v.items → length row ≡ w
+    → new.items ≡ take (index * w) v.items ++ (row ++ drop (length row) (drop (index * w) v.items)) → vec_capacity new ≡ vec_capacity v
+    → IsPartlyWritten rows w ((index + 1) % rows) new
+pushed rows w index v new row is le e items room =
     let xs = with_unwritten (rows * w) v.items in
     record {
       ring = record {
@@ -256,77 +256,77 @@ pushed rows w place v new row is le e items room =
         some_sources = is.ring.some_sources;
         few_sources = is.ring.few_sources;
         whole = ap (λ (ys : List Cell). length (with_unwritten (rows * w) ys)) items
-            ∙ ap length (pushed_cells rows w place v row is le e)
-            ∙ length-with_cells w place xs row (ring_fits rows w place place xs is.ring is.ring.place_within) e
+            ∙ ap length (pushed_cells rows w index v row is le e)
+            ∙ length-with_cells w index xs row (ring_fits rows w index index xs is.ring is.ring.index_within) e
             ∙ is.ring.whole;
-        place_within = mod_below (place + 1) rows is.ring.some_rows;
+        index_within = mod_below (index + 1) rows is.ring.some_rows;
       };
       room = subst (λ (n : ℕ). rows * w ≤ n) (sym room) is.room;
-      ends = subst (AreWhole w) (sym items) (pushed_ends w place v.items row is.ends le e);
+      ends = subst (AreWhole w) (sym items) (pushed_ends w index v.items row is.ends le e);
     }
 
 -- all of it is written
-pub wholly : (rows w place : ℕ) (v : Vec Cell Global) → IsRing rows w place v.items → IsPartlyWritten rows w place v
-wholly rows w place v is = record {
-  ring = subst (λ (ys : List Cell). IsRing rows w place ys) (sym (all_written (rows * w) v.items is.whole)) is;
+pub wholly : (rows w index : ℕ) (v : Vec Cell Global) → IsRing rows w index v.items → IsPartlyWritten rows w index v
+wholly rows w index v is = record {
+  ring = subst (λ (ys : List Cell). IsRing rows w index ys) (sym (all_written (rows * w) v.items is.whole)) is;
   room = let within : vec_len v ≤ vec_capacity v = v.ok.1 in omega (arith, within, v.ok.0, is.whole);
   ends = record { count = rows; whole = is.whole };
 }
 
 -- ---- what isn't written
 
--- so many of the newest rows can be written: none where no cell is, those before the oldest one's place where what is
+-- so many of the newest rows can be written: none where no cell is, those before the oldest one's index where what is
 -- written ends there or before it, and else all
 abbrev pub AreWritten : ℕ → ℕ → ℕ → ℕ → ℕ → Type 0
-AreWritten rows w place len written = (len ≡ 0 → written ≡ 0) × (0 < len → len ≤ place * w → written ≡ place) × (place * w < len → written ≡ rows)
+AreWritten rows w index len written = (len ≡ 0 → written ≡ 0) × (0 < len → len ≤ index * w → written ≡ index) × (index * w < len → written ≡ rows)
 
-which : (rows w place written : ℕ) (v : Vec Cell Global) → AreWritten rows w place (vec_len v) written → (written ≡ rows) ⊎ (((written ≡ place) × (length v.items ≤ place * w)) ⊎ ((written ≡ 0) × (length v.items ≡ 0)))
-which rows w place written v are =
+which : (rows w index written : ℕ) (v : Vec Cell Global) → AreWritten rows w index (vec_len v) written → (written ≡ rows) ⊎ (((written ≡ index) × (length v.items ≤ index * w)) ⊎ ((written ≡ 0) × (length v.items ≡ 0)))
+which rows w index written v are =
     let len = v.ok.0 in
-    ⊎_elim (λ (behind : place * w < vec_len v). inl (are.2 behind))
-    (λ (within : vec_len v ≤ place * w). inr (⊎_elim (λ (some : 0 < vec_len v). inl (are.1 some within, omega (arith, len, within)))
+    ⊎_elim (λ (behind : index * w < vec_len v). inl (are.2 behind))
+    (λ (within : vec_len v ≤ index * w). inr (⊎_elim (λ (some : 0 < vec_len v). inl (are.1 some within, omega (arith, len, within)))
     (λ (least : vec_len v ≤ 0). let none : vec_len v ≡ 0 = omega (arith, least) in inr (are.0 none, omega (arith, len, none)))
     (cases_lt 0 (vec_len v))))
-    (cases_lt (place * w) (vec_len v))
+    (cases_lt (index * w) (vec_len v))
 
-pub are_few : (rows w place written : ℕ) (v : Vec Cell Global) → IsPartlyWritten rows w place v → AreWritten rows w place (vec_len v) written → written ≤ rows
-are_few rows w place written v is are =
-    let within : place < rows = is.ring.place_within in
+pub are_few : (rows w index written : ℕ) (v : Vec Cell Global) → IsPartlyWritten rows w index v → AreWritten rows w index (vec_len v) written → written ≤ rows
+are_few rows w index written v is are =
+    let within : index < rows = is.ring.index_within in
     ⊎_elim (λ (all : written ≡ rows). omega (arith, all))
-    (λ (fewer : ((written ≡ place) × (length v.items ≤ place * w)) ⊎ ((written ≡ 0) × (length v.items ≡ 0))).
-    ⊎_elim (λ (part : (written ≡ place) × (length v.items ≤ place * w)). omega (arith, part.0)) (λ (none : (written ≡ 0) × (length v.items ≡ 0)). omega (arith, none.0)) fewer)
-    (which rows w place written v are)
+    (λ (fewer : ((written ≡ index) × (length v.items ≤ index * w)) ⊎ ((written ≡ 0) × (length v.items ≡ 0))).
+    ⊎_elim (λ (part : (written ≡ index) × (length v.items ≤ index * w)). omega (arith, part.0)) (λ (none : (written ≡ 0) × (length v.items ≡ 0)). omega (arith, none.0)) fewer)
+    (which rows w index written v are)
 
 -- the others are the oldest, and unknown
-pub unwritten_rows : (rows w place written : ℕ) (v : Vec Cell Global) → IsPartlyWritten rows w place v → AreWritten rows w place (vec_len v) written
-    → take (rows - written) (ring_rows rows w place (with_unwritten (rows * w) v.items)) ≡ unknown_rows (rows - written) w
-unwritten_rows rows w place written v is are =
+pub unwritten_rows : (rows w index written : ℕ) (v : Vec Cell Global) → IsPartlyWritten rows w index v → AreWritten rows w index (vec_len v) written
+    → take (rows - written) (ring_rows rows w index (with_unwritten (rows * w) v.items)) ≡ unknown_rows (rows - written) w
+unwritten_rows rows w index written v is are =
     let xs = v.items in
     let all = rows * w in
     let ys = with_unwritten all xs in
-    let ring = ring_rows rows w place ys in
+    let ring = ring_rows rows w index ys in
     let n = rows - written in
     let long : length ys ≡ all = is.ring.whole in
-    let within : place < rows = is.ring.place_within in
+    let within : index < rows = is.ring.index_within in
     ⊎_elim (λ (full : written ≡ rows).
     let none : n ≡ 0 = omega (arith, full) in
     ap (λ (k : ℕ). take k ring) none ∙ sym (ap (λ (k : ℕ). unknown_rows k w) none))
-    (λ (fewer : ((written ≡ place) × (length xs ≤ place * w)) ⊎ ((written ≡ 0) × (length xs ≡ 0))). ⊎_elim (λ (part : (written ≡ place) × (length xs ≤ place * w)).
-    let sum : rows ≡ place + n = omega (arith, part.0) in
-    let count : all ≡ place * w + n * w = ap (λ (k : ℕ). k * w) sum ∙ add-mul place n w in
-    let back = drop (place * w) ys in
-    let unknown : take (n * w) (from_place (place * w) ys) ≡ replicate (n * w) Unknown =
-    take-append-le (n * w) back (take (place * w) ys) (omega (arith, length-drop (place * w) ys, long, count)) ∙ unknown_there all (place * w) (n * w) xs part.1 (omega (arith, count)) in
-    sym (ring_take n rows w place ys (omega arith) is.ring)
+    (λ (fewer : ((written ≡ index) × (length xs ≤ index * w)) ⊎ ((written ≡ 0) × (length xs ≡ 0))). ⊎_elim (λ (part : (written ≡ index) × (length xs ≤ index * w)).
+    let sum : rows ≡ index + n = omega (arith, part.0) in
+    let count : all ≡ index * w + n * w = ap (λ (k : ℕ). k * w) sum ∙ add-mul index n w in
+    let back = drop (index * w) ys in
+    let unknown : take (n * w) (from_index (index * w) ys) ≡ replicate (n * w) Unknown =
+    take-append-le (n * w) back (take (index * w) ys) (omega (arith, length-drop (index * w) ys, long, count)) ∙ unknown_there all (index * w) (n * w) xs part.1 (omega (arith, count)) in
+    sym (ring_take n rows w index ys (omega arith) is.ring)
     ∙ ap (rows_of n w) unknown
     ∙ rows_of_unknown n w)
     (λ (none : (written ≡ 0) × (length xs ≡ 0)).
     let every : ys ≡ replicate all Unknown = sym (take_all all ys (omega (arith, long))) ∙ unknown_there all 0 all xs (omega (arith, none.1)) (omega arith) in
-    ap (λ (zs : List Cell). take n (ring_rows rows w place zs)) every
-    ∙ ap (take n) (ring_unknown rows w place within)
+    ap (λ (zs : List Cell). take n (ring_rows rows w index zs)) every
+    ∙ ap (take n) (ring_unknown rows w index within)
     ∙ take-replicate n rows (replicate w Unknown) (omega arith))
     fewer)
-    (which rows w place written v are)
+    (which rows w index written v are)
 
 -- the newest rows, where the oldest of them are unknown: as many as there are of the others, after unknown ones
 pub newest_of_known : (n known w : ℕ) (rows : List (List Cell)) → known ≤ length rows → width rows ≡ w → take (length rows - known) rows ≡ unknown_rows (length rows - known) w

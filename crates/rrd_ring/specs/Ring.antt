@@ -4,7 +4,7 @@ use Rattle.std.specs.Global.{Global}
 use Rattle.std.specs.List.{range_with_len}
 use Rattle.rrd_fixed.specs.declared.cell.Cell.{Cell}
 use Rattle.rrd_fixed.specs.declared.cell.Cell.TheVariants.{Unknown}
-use Rattle.rrd_ring.specs.Rows.{most_rows, most_sources}
+use Rattle.rrd_ring.specs.Rows.{max_rows, max_sources}
 pub mod Slices
 
 -- row k of a vector whose rows have `sources` cells each
@@ -15,23 +15,23 @@ row_of sources cells k = take sources (drop (k * sources) cells)
 abbrev pub rows_of : ℕ → ℕ → List Cell → List (List Cell)
 rows_of rows sources cells = map (λ i. row_of sources cells i) (range_with_len 0 rows)
 
--- the rows of a ring: row i is the vector's row (place + i) mod rows, so the vector's row at index `place` is the
+-- the rows of a ring: row i is the vector's row (index + i) mod rows, so the vector's row at index `index` is the
 -- oldest
 abbrev pub ring_rows : ℕ → ℕ → ℕ → List Cell → List (List Cell)
-ring_rows rows sources place cells = map (λ i. row_of sources cells ((place + i) % rows)) (range_with_len 0 rows)
+ring_rows rows sources index cells = map (λ i. row_of sources cells ((index + i) % rows)) (range_with_len 0 rows)
 
 -- the cells of a ring's vector from cell `start` on, and then the cells before it
-abbrev pub from_place : ℕ → List Cell → List Cell
-from_place start cells = drop start cells ++ take start cells
+abbrev pub from_index : ℕ → List Cell → List Cell
+from_index start cells = drop start cells ++ take start cells
 
 -- a ring of rows with the same number of cells, in one vector, and the index of its oldest row
-pub record IsRing (rows sources place : ℕ) (cells : List Cell) : Type 0 where
+pub record IsRing (rows sources index : ℕ) (cells : List Cell) : Type 0 where
   pub some_rows : 0 < rows
-  pub few_rows : rows ≤ most_rows
+  pub few_rows : rows ≤ max_rows
   pub some_sources : 0 < sources
-  pub few_sources : sources ≤ most_sources
+  pub few_sources : sources ≤ max_sources
   pub whole : length cells ≡ rows * sources
-  pub place_within : place < rows
+  pub index_within : index < rows
 
 -- all cells of a ring's vector: the written ones, and unknown ones after them
 abbrev pub with_unwritten : ℕ → List Cell → List Cell
@@ -43,16 +43,16 @@ pub record AreWhole (sources : ℕ) (written : List Cell) : Type 0 where
   pub whole : length written ≡ count * sources
 
 -- a ring whose vector has whole written rows first, and capacity for the rest
-pub record IsPartlyWritten (rows sources place : ℕ) (written : Vec Cell Global) : Type 0 where
-  pub ring : IsRing rows sources place (with_unwritten (rows * sources) written.items)
+pub record IsPartlyWritten (rows sources index : ℕ) (written : Vec Cell Global) : Type 0 where
+  pub ring : IsRing rows sources index (with_unwritten (rows * sources) written.items)
   pub room : rows * sources ≤ vec_capacity written
   pub ends : AreWhole sources written.items
 
 -- rows with the same number of cells, in one vector
 pub record AreRows (rows sources : ℕ) (cells : List Cell) : Type 0 where
-  pub few_rows : rows ≤ most_rows
+  pub few_rows : rows ≤ max_rows
   pub some_sources : 0 < sources
-  pub few_sources : sources ≤ most_sources
+  pub few_sources : sources ≤ max_sources
   pub whole : length cells ≡ rows * sources
 
 -- rows whose vector has whole written rows first, and capacity for the rest

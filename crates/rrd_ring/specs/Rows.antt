@@ -40,21 +40,21 @@ abbrev pub newest_rows : ℕ → List (List Cell) → List (List Cell)
 newest_rows n rows = unknown_rows (n - length rows) (width rows) ++ drop (length rows - n) rows
 
 -- the maximum number of rows in an archive, and of cells in a row
-abbrev pub most_rows : ℕ
-most_rows = 1000000
+abbrev pub max_rows : ℕ
+max_rows = 1000000
 
-abbrev pub most_sources : ℕ
-most_sources = 64
+abbrev pub max_sources : ℕ
+max_sources = 64
 
 -- the rows of an archive, which all have the same number of cells
 pub record IsArchive (rows : List (List Cell)) : Type 0 where
   pub some_rows : 0 < length rows
-  pub few_rows : length rows ≤ most_rows
+  pub few_rows : length rows ≤ max_rows
   pub some_sources : 0 < width rows
-  pub few_sources : width rows ≤ most_sources
+  pub few_sources : width rows ≤ max_sources
   pub one_width : HasWidth (width rows) rows
 
 -- rows that an archive dropped, which all have the same number of cells
 pub record AreDropped (rows : List (List Cell)) : Type 0 where
-  pub few_rows : length rows ≤ most_rows
+  pub few_rows : length rows ≤ max_rows
   pub one_width : HasWidth (width rows) rows

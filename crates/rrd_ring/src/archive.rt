@@ -3,12 +3,12 @@ ghost use Rattle.std.specs.Prelude.{◌≡◌, ◌+◌, ◌-◌, ◌<◌, ◌≤
 ghost use Rattle.std.specs.Borrow.{sem};
 ghost use Rattle.rrd_fixed.specs.declared.cell.Cell.{Cell};
 ghost use Rattle.rrd_fixed.specs.declared.cell.Cell.TheVariants.{Unknown};
-ghost use Rattle.rrd_ring.specs.Rows.{nth_row, row_cells, width, HasWidth, with_row, with_rows, unknown_rows, newest_rows, most_rows, most_sources};
+ghost use Rattle.rrd_ring.specs.Rows.{nth_row, row_cells, width, HasWidth, with_row, with_rows, unknown_rows, newest_rows, max_rows, max_sources};
 
 use crate::dropped::Dropped;
 use crate::ring::{
-    cells_of, fill_up, forget, push_from, put_cells, put_row, row_from, row_mut, rows_together,
-    rows_written, unknown_cells, wrap, write_from,
+    cells_of, contiguous_count, fill_up, forget, push_from, row_from, row_mut, rows_written,
+    unknown_cells, wrap, write_cells, write_from, write_row_at,
 };
 use rrd_fixed::{Cell, Meter};
 use std::alloc::{AllocError, Global};
@@ -56,12 +56,12 @@ impl Archive {
     /// - `AllocError`: memory runs out.
     pub fn new(alloc: Global, rows: u64, sources: u64) -> Result<Archive, AllocError>
         requires some_rows { 0 < rows }
-        requires few_rows { rows ≤ most_rows }
+        requires few_rows { rows ≤ max_rows }
         requires some_sources { 0 < sources }
-        requires few_sources { sources ≤ most_sources }
+        requires few_sources { sources ≤ max_sources }
         ensures { IfOk result (λ archive. archive ≡ unknown_rows rows sources) }
     {
-        Archive::new_from(alloc, rows, sources, 0)
+        Archive::new_filled_from(alloc, rows, sources, 0)
     }
 
     /// Creates an archive whose rows will be written from row `first` on.
@@ -71,15 +71,15 @@ impl Archive {
     ///
     /// # Errors
     /// - `AllocError`: memory runs out.
-    pub fn new_from(
+    pub fn new_filled_from(
         alloc: Global,
         rows: u64,
         sources: u64,
         first: u64,
     ) -> Result<Archive, AllocError>
-        requires few_rows { rows ≤ most_rows }
+        requires few_rows { rows ≤ max_rows }
         requires some_sources { 0 < sources }
-        requires few_sources { sources ≤ most_sources }
+        requires few_sources { sources ≤ max_sources }
         requires there { first < rows }
         ensures { IfOk result (λ archive. archive ≡ unknown_rows rows sources) }
     {
@@ -97,7 +97,7 @@ impl Archive {
     pub fn rows(&self) -> u64
         ensures count { result ≡ length self.now }
         ensures some { 0 < result }
-        ensures few { result ≤ most_rows }
+        ensures few { result ≤ max_rows }
     {
         self.rows as u64
     }
@@ -109,7 +109,7 @@ impl Archive {
         ensures count { result ≡ width self.now }
         ensures each_row { HasWidth result self.now }
         ensures some { 0 < result }
-        ensures few { result ≤ most_sources }
+        ensures few { result ≤ max_sources }
     {
         self.sources as u64
     }
@@ -117,7 +117,7 @@ impl Archive {
     /// Returns how many of the oldest rows were certainly never written.
     ///
     /// All cells of these rows are unknown. More rows may be unwritten.
-    pub fn unwritten(&self) -> u64
+    pub fn never_written_count(&self) -> u64
         ensures few { result ≤ length self.now }
         ensures unknown { take result self.now ≡ unknown_rows result (width self.now) }
     {
@@ -130,8 +130,8 @@ impl Archive {
         requires { i < length self.now }
         ensures { result.now ≡ nth_row self.now i }
     {
-        let place = wrap(self.oldest + i as usize, self.rows);
-        let start = cells_of(place, self.sources);
+        let index = wrap(self.oldest + i as usize, self.rows);
+        let start = cells_of(index, self.sources);
         row_from(&self.cells, start, self.sources)
     }
 
@@ -139,16 +139,16 @@ impl Archive {
     ///
     /// The result is their number, from 1 to `most`, and their cells, one row after another. Row 0 is the oldest. Rows
     /// that were never written may be returned one at a time.
-    pub fn run(&self, first: u64, most: u64) -> (u64, &[Cell])
+    pub fn contiguous_rows(&self, first: u64, most: u64) -> (u64, &[Cell])
         requires some { 0 < most }
         requires there { first + most ≤ length self.now }
         ensures some { 0 < result.0 }
         ensures few { result.0 ≤ most }
         ensures cells { result.1.now ≡ row_cells (take result.0 (drop first self.now)) }
     {
-        let place = wrap(self.oldest + first as usize, self.rows);
-        let count = rows_together(self.cells.len() / self.sources, place, most as usize);
-        let start = cells_of(place, self.sources);
+        let index = wrap(self.oldest + first as usize, self.rows);
+        let count = contiguous_count(self.cells.len() / self.sources, index, most as usize);
+        let start = cells_of(index, self.sources);
         let cells = row_from(&self.cells, start, cells_of(count, self.sources));
         (count as u64, cells)
     }
@@ -163,8 +163,8 @@ impl Archive {
         ensures same_width { (cells : List Cell) → length cells ≡ length (nth_row self.old i)
             → with_row self.old i cells ≡ slice_set self.old i cells }
     {
-        let place = wrap(self.oldest + i as usize, self.rows);
-        let start = cells_of(place, self.sources);
+        let index = wrap(self.oldest + i as usize, self.rows);
+        let start = cells_of(index, self.sources);
         fill_up(&mut self.cells, start + self.sources);
         row_mut(&mut self.cells, start, start + self.sources)
     }
@@ -173,35 +173,35 @@ impl Archive {
     ///
     /// Row 0 is the oldest, and `count` is at most the number of rows. `cells` holds the rows one after another. Does
     /// not allocate.
-    pub fn put_rows(&mut self, i: u64, count: u64, cells: &[Cell])
+    pub fn write_rows_wrapping(&mut self, i: u64, count: u64, cells: &[Cell])
         requires there { i < length self.old }
         requires few { count ≤ length self.old }
         requires one_each { length cells.now ≡ count * width self.old }
         ensures { self.new ≡ with_rows count (width self.old) self.old i cells.now }
     {
-        let place = wrap(self.oldest + i as usize, self.rows);
-        let first = (self.rows - place).min(count as usize);
+        let index = wrap(self.oldest + i as usize, self.rows);
+        let first = (self.rows - index).min(count as usize);
         let (front, rest) = cells.split_at(cells_of(first, self.sources));
-        put_cells(&mut self.cells, cells_of(place, self.sources), front);
-        put_cells(&mut self.cells, 0, rest);
+        write_cells(&mut self.cells, cells_of(index, self.sources), front);
+        write_cells(&mut self.cells, 0, rest);
     }
 
     /// Makes `count` rows unknown, from row `i` on.
     ///
     /// The rows wrap from the newest row to the oldest. Row 0 is the oldest, and `count` is at most the number of rows.
     /// Does not allocate, and touches only the memory of written rows.
-    pub fn put_unknown(&mut self, i: u64, count: u64)
+    pub fn clear_rows_wrapping(&mut self, i: u64, count: u64)
         requires there { i < length self.old }
         requires few { count ≤ length self.old }
         ensures { let cells = replicate (count * width self.old) Unknown in
             self.new ≡ with_rows count (width self.old) self.old i cells }
     {
-        let place = wrap(self.oldest + i as usize, self.rows);
-        let first = (self.rows - place).min(count as usize);
+        let index = wrap(self.oldest + i as usize, self.rows);
+        let first = (self.rows - index).min(count as usize);
         let rest = count as usize - first;
         forget(
             &mut self.cells,
-            cells_of(place, self.sources),
+            cells_of(index, self.sources),
             cells_of(first, self.sources),
         );
         forget(&mut self.cells, 0, cells_of(rest, self.sources));
@@ -217,10 +217,10 @@ impl Archive {
         ensures turns { meter.new ≡ meter.old + length cells.now }
     {
         let start = cells_of(self.oldest, self.sources);
-        // The rows before `start` are written, except in an archive of `new_from` that was not filled up to the newest
-        // row.
+        // The rows before `start` are written, except in an archive of `new_filled_from` that was not filled up to the
+        // newest row.
         fill_up(&mut self.cells, start);
-        put_row(&mut self.cells, start, cells, meter);
+        write_row_at(&mut self.cells, start, cells, meter);
         self.oldest = wrap(self.oldest + 1, self.rows);
     }
 
@@ -273,7 +273,7 @@ impl Archive {
     /// - `AllocError`: memory runs out.
     pub fn resized(&self, alloc: Global, rows: u64) -> Result<Archive, AllocError>
         requires some_rows { 0 < rows }
-        requires few_rows { rows ≤ most_rows }
+        requires few_rows { rows ≤ max_rows }
         ensures { IfOk result (λ archive. archive ≡ newest_rows rows self.now) }
     {
         let wanted = rows as usize;

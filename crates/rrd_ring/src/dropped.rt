@@ -2,9 +2,9 @@
 ghost use Rattle.std.specs.Prelude.{◌≡◌, ◌+◌, ◌<◌, ◌≤◌, List, length, take, drop, slice_set, IfOk};
 ghost use Rattle.std.specs.Borrow.{sem};
 ghost use Rattle.rrd_fixed.specs.declared.cell.Cell.{Cell};
-ghost use Rattle.rrd_ring.specs.Rows.{nth_row, row_cells, width, HasWidth, with_row, unknown_rows, most_rows, most_sources};
+ghost use Rattle.rrd_ring.specs.Rows.{nth_row, row_cells, width, HasWidth, with_row, unknown_rows, max_rows, max_sources};
 
-use crate::ring::{cells_of, fill_up, row_from, row_mut, rows_together};
+use crate::ring::{cells_of, contiguous_count, fill_up, row_from, row_mut};
 use rrd_fixed::Cell;
 use std::alloc::{AllocError, Global};
 use std::marker::Model;
@@ -43,9 +43,9 @@ impl Dropped {
     /// # Errors
     /// - `AllocError`: memory runs out.
     pub fn new(alloc: Global, rows: u64, sources: u64) -> Result<Dropped, AllocError>
-        requires few_rows { rows ≤ most_rows }
+        requires few_rows { rows ≤ max_rows }
         requires some_sources { 0 < sources }
-        requires few_sources { sources ≤ most_sources }
+        requires few_sources { sources ≤ max_sources }
         ensures { IfOk result (λ dropped. dropped ≡ unknown_rows rows sources) }
     {
         let (rows, sources) = (rows as usize, sources as usize);
@@ -61,7 +61,7 @@ impl Dropped {
     pub fn len(&self) -> u64
         ensures count { result ≡ length self.now }
         ensures each_row { HasWidth (width self.now) self.now }
-        ensures few { result ≤ most_rows }
+        ensures few { result ≤ max_rows }
     {
         self.rows as u64
     }
@@ -79,7 +79,7 @@ impl Dropped {
     ///
     /// The result is their number, from 1 to `most`, and their cells, one row after another. Row 0 is the oldest. Rows
     /// that were never written may be returned one at a time.
-    pub fn run(&self, first: u64, most: u64) -> (u64, &[Cell])
+    pub fn contiguous_rows(&self, first: u64, most: u64) -> (u64, &[Cell])
         requires some { 0 < most }
         requires there { first + most ≤ length self.now }
         ensures some { 0 < result.0 }
@@ -87,7 +87,7 @@ impl Dropped {
         ensures cells { result.1.now ≡ row_cells (take result.0 (drop first self.now)) }
     {
         let first = first as usize;
-        let count = rows_together(self.cells.len() / self.sources, first, most as usize);
+        let count = contiguous_count(self.cells.len() / self.sources, first, most as usize);
         let start = cells_of(first, self.sources);
         let cells = row_from(&self.cells, start, cells_of(count, self.sources));
         (count as u64, cells)

@@ -3,30 +3,30 @@ ghost use Rattle.std.specs.Prelude.{ℕ, ◌≡◌, ◌+◌, ◌*◌, ◌%◌, �
 ghost use Rattle.std.specs.Borrow.{sem};
 ghost use Rattle.rrd_fixed.specs.declared.cell.Cell.TheVariants.{Unknown};
 ghost use Rattle.rrd_ring.specs.Ring.Slices.{LendsPart, LendsAsMany};
-ghost use Rattle.rrd_ring.specs.Ring.{from_place, with_unwritten};
-ghost use Rattle.rrd_ring.specs.Rows.{most_rows, most_sources};
+ghost use Rattle.rrd_ring.specs.Ring.{from_index, with_unwritten};
+ghost use Rattle.rrd_ring.specs.Rows.{max_rows, max_sources};
 
 use rrd_fixed::{Cell, Meter};
 use std::alloc::{AllocError, Global};
 
-// The cells of an unwritten row. An archive has at most 64 data sources.
+// The cells of a row that was never written. 64 is the maximum number of data sources, as in `rrd_spec::limits`.
 static UNWRITTEN: [Cell; 64] = [Cell::Unknown; 64];
 
-// Returns `place` modulo `rows`: the row after a ring's last one is its first. A comparison is faster than a division.
-pub(crate) fn wrap(place: usize, rows: usize) -> usize
+// Returns `index` modulo `rows`: the row after a ring's last one is its first. A comparison is faster than a division.
+pub(crate) fn wrap(index: usize, rows: usize) -> usize
     requires some { 0 < rows }
-    requires once { place < 2 * rows }
-    ensures { result ≡ place % rows }
+    requires once { index < 2 * rows }
+    ensures { result ≡ index % rows }
 {
-    if place < rows { place } else { place - rows }
+    if index < rows { index } else { index - rows }
 }
 
 // Returns the number of cells in `rows` rows of `sources` cells each.
 pub(crate) fn cells_of(rows: usize, sources: usize) -> usize
-    requires few_rows { rows ≤ most_rows }
-    requires few_sources { sources ≤ most_sources }
+    requires few_rows { rows ≤ max_rows }
+    requires few_sources { sources ≤ max_sources }
     ensures count { result ≡ rows * sources }
-    ensures few { result ≤ most_rows * most_sources }
+    ensures few { result ≤ max_rows * max_sources }
 {
     rows * sources
 }
@@ -48,8 +48,8 @@ pub(crate) fn unknown_cells(
 // there is no such cell, the `oldest` rows before the oldest row's index if the written cells end there or before, and
 // else all `rows` rows.
 pub(crate) fn rows_written(cells: usize, rows: usize, sources: usize, oldest: usize) -> usize
-    requires few_rows { rows ≤ most_rows }
-    requires few_sources { sources ≤ most_sources }
+    requires few_rows { rows ≤ max_rows }
+    requires few_sources { sources ≤ max_sources }
     requires within { oldest < rows }
     ensures none { cells ≡ 0 → result ≡ 0 }
     ensures part { 0 < cells → cells ≤ oldest * sources → result ≡ oldest }
@@ -64,17 +64,17 @@ pub(crate) fn rows_written(cells: usize, rows: usize, sources: usize, oldest: us
     rows
 }
 
-// Returns how many of `most` rows from row `place` of the vector on are consecutive: as far as the `written` rows of
+// Returns how many of `most` rows from row `index` of the vector on are consecutive: as far as the `written` rows of
 // the vector go, or the first row alone if it isn't written.
-pub(crate) fn rows_together(written: usize, place: usize, most: usize) -> usize
+pub(crate) fn contiguous_count(written: usize, index: usize, most: usize) -> usize
     requires { 0 < most }
     ensures some { 0 < result }
     ensures few { result ≤ most }
-    ensures within { place < written → place + result ≤ written }
-    ensures behind { written ≤ place → result ≡ 1 }
+    ensures within { index < written → index + result ≤ written }
+    ensures behind { written ≤ index → result ≡ 1 }
 {
-    if place < written {
-        return most.min(written - place);
+    if index < written {
+        return most.min(written - index);
     }
     1
 }
@@ -82,7 +82,7 @@ pub(crate) fn rows_together(written: usize, place: usize, most: usize) -> usize
 // Returns `count` cells of a ring's vector from cell `start` on. The cells are those of whole rows that are written, or
 // of one row that isn't.
 pub(crate) fn row_from(cells: &[Cell], start: usize, count: usize) -> &[Cell]
-    requires few { length cells.now ≤ start → count ≤ most_sources }
+    requires few { length cells.now ≤ start → count ≤ max_sources }
     requires whole { start < length cells.now → start + count ≤ length cells.now }
     ensures { (all : ℕ) → start + count ≤ all
         → result.now ≡ take count (drop start (with_unwritten all cells.now)) }
@@ -100,8 +100,8 @@ fn push_part(
     start: usize,
     count: usize,
 ) -> Result<(), AllocError>
-    requires few { count ≤ most_rows * most_sources }
-    requires short { vec_len copies.old ≤ 2 * most_rows * most_sources }
+    requires few { count ≤ max_rows * max_sources }
+    requires short { vec_len copies.old ≤ 2 * max_rows * max_sources }
     ensures { (all : ℕ) → length ring.now ≤ all → start + count ≤ all → OnOk result (copies.new.items
         ≡ copies.old.items ++ take count (drop start (with_unwritten all ring.now))) }
 {
@@ -124,10 +124,10 @@ pub(crate) fn push_from(
     requires within { start ≤ all }
     requires written { length ring.now ≤ all }
     requires few { count ≤ all }
-    requires small { all ≤ most_rows * most_sources }
-    requires short { vec_len copies.old ≤ most_rows * most_sources }
+    requires small { all ≤ max_rows * max_sources }
+    requires short { vec_len copies.old ≤ max_rows * max_sources }
     ensures { OnOk result (copies.new.items
-        ≡ copies.old.items ++ take count (from_place start (with_unwritten all ring.now))) }
+        ≡ copies.old.items ++ take count (from_index start (with_unwritten all ring.now))) }
 {
     let first = count.min(all - start);
     push_part(copies, ring, start, first)?;
@@ -147,7 +147,7 @@ pub(crate) fn fill_up(cells: &mut Vec<Cell>, end: usize)
 }
 
 // Writes `part` into a ring's vector from cell `start` on. Does not allocate.
-pub(crate) fn put_cells(cells: &mut Vec<Cell>, start: usize, part: &[Cell])
+pub(crate) fn write_cells(cells: &mut Vec<Cell>, start: usize, part: &[Cell])
     requires { start + length part.now ≤ vec_capacity cells.old }
     ensures items { let filled = with_unwritten (start + length part.now) cells.old.items in
         cells.new.items ≡ take start filled ++ (part.now ++ drop (length part.now) (drop start filled)) }
@@ -195,7 +195,7 @@ pub(crate) fn forget(cells: &mut Vec<Cell>, start: usize, count: usize)
 pub(crate) fn write_from(ring: &mut [Cell], start: usize, cells: &[Cell])
     requires within { start ≤ length ring.old }
     requires few { length cells.now ≤ length ring.old }
-    ensures { from_place start ring.new ≡ cells.now ++ drop (length cells.now) (from_place start ring.old) }
+    ensures { from_index start ring.new ≡ cells.now ++ drop (length cells.now) (from_index start ring.old) }
 {
     let first = cells.len().min(ring.len() - start);
     ring[start..start + first].copy_from_slice(&cells[..first]);
@@ -232,7 +232,7 @@ fn push_each(cells: &mut Vec<Cell>, row: &[Cell], meter: &mut Meter)
 
 // Writes the cells of a row from cell `start` on: over a written row, or after the last one. The meter counts the cells
 // as in `write_row`.
-pub(crate) fn put_row(cells: &mut Vec<Cell>, start: usize, row: &[Cell], meter: &mut Meter)
+pub(crate) fn write_row_at(cells: &mut Vec<Cell>, start: usize, row: &[Cell], meter: &mut Meter)
     requires within { start ≤ vec_len cells.old }
     requires whole { start < vec_len cells.old → start + length row.now ≤ vec_len cells.old }
     requires room { start + length row.now ≤ vec_capacity cells.old }

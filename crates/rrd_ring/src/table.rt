@@ -9,7 +9,7 @@ use rrd_fixed::Cell;
 pub trait Table {
     ghost use Rattle.std.specs.Prelude.{◌≡◌, ◌+◌, ◌<◌, ◌≤◌, List, length, take, drop};
     ghost use Rattle.rrd_fixed.specs.declared.cell.Cell.{Cell};
-    ghost use Rattle.rrd_ring.specs.Rows.{nth_row, row_cells, most_rows};
+    ghost use Rattle.rrd_ring.specs.Rows.{nth_row, row_cells, max_rows};
 
     // The rows that contracts see.
     ghost table: { Self → List (List Cell) };
@@ -17,7 +17,7 @@ pub trait Table {
     /// Returns the number of rows, at most 1,000,000.
     fn count(&self) -> u64
         ensures count { result ≡ length (table self.now) }
-        ensures few { result ≤ most_rows };
+        ensures few { result ≤ max_rows };
 
     /// Returns the cells of row `number`. Row 0 is the oldest.
     fn at(&self, number: u64) -> &[Cell]
@@ -47,7 +47,7 @@ impl Table for Archive {
     }
 
     fn together(&self, first: u64, most: u64) -> (u64, &[Cell]) {
-        self.run(first, most)
+        self.contiguous_rows(first, most)
     }
 }
 
@@ -63,6 +63,6 @@ impl Table for Dropped {
     }
 
     fn together(&self, first: u64, most: u64) -> (u64, &[Cell]) {
-        self.run(first, most)
+        self.contiguous_rows(first, most)
     }
 }

@@ -87,7 +87,7 @@ fewer_taken sources most archives n h =
 
 -- ---- a content with other archives
 
-pub valid_with : (limits : Limits) (now : Content) (archives : List Rra) → IsValidWithin limits now → 0 < length archives → length archives ≤ limits.most_archives → length now.sources * sum (rows_of_archives archives) ≤ limits.most_cells → AllByRecursion (IsValidArchiveWithin limits (length now.sources) (now.last / now.step)) archives → IsValidWithin limits (record now { archives = archives })
+pub valid_with : (limits : Limits) (now : Content) (archives : List Rra) → IsValidWithin limits now → 0 < length archives → length archives ≤ limits.max_archives → length now.sources * sum (rows_of_archives archives) ≤ limits.max_cells → AllByRecursion (IsValidArchiveWithin limits (length now.sources) (now.last / now.step)) archives → IsValidWithin limits (record now { archives = archives })
 valid_with limits now archives is some few cells each = record {
   some_step = is.some_step;
   small_step = is.small_step;

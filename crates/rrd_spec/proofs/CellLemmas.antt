@@ -58,21 +58,21 @@ multiple_at size (negsuc t) some h =
 less_rows : (a b size : ℕ) → 0 < size → a < b → a * size < b * size
 less_rows a b size some h = omega (arith, mul-le (a + 1) size b size (omega arith) (omega arith))
 
-most_rows : (a b size : ℕ) → a ≤ b → a * size ≤ b * size
-most_rows a b size h = mul-le a size b size h (omega arith)
+max_rows : (a b size : ℕ) → a ≤ b → a * size ≤ b * size
+max_rows a b size h = mul-le a size b size h (omega arith)
 
 -- so many rows, the newest being row e, lie after the time, or don't
 reach_under : (size e r n m : ℕ) (time : ℤ) → 0 < size → IsAt size time n m → e + m < n + r → (pos (e * size) -ℤ pos (r * size)) <ℤ time
 reach_under size e r n m time some at h = omega (arith, ints, less_rows (e + m) (n + r) size some h, at.time_is)
 
 reach_over : (size e r n m : ℕ) (time : ℤ) → IsAt size time n m → n + r ≤ e + m → time ≤ℤ (pos (e * size) -ℤ pos (r * size))
-reach_over size e r n m time at h = omega (arith, ints, most_rows (n + r) (e + m) size h, at.time_is)
+reach_over size e r n m time at h = omega (arith, ints, max_rows (n + r) (e + m) size h, at.time_is)
 
 ends_under : (size e n m : ℕ) (time : ℤ) → 0 < size → IsAt size time n m → e + m < n → pos (e * size) <ℤ time
 ends_under size e n m time some at h = omega (arith, ints, less_rows (e + m) n size some h, at.time_is)
 
 ends_over : (size e n m : ℕ) (time : ℤ) → IsAt size time n m → n ≤ e + m → time ≤ℤ pos (e * size)
-ends_over size e n m time at h = omega (arith, ints, most_rows n (e + m) size h, at.time_is)
+ends_over size e n m time at h = omega (arith, ints, max_rows n (e + m) size h, at.time_is)
 
 -- ---- the greatest of a list
 

@@ -7,7 +7,7 @@ use Rattle.std.specs.List.{fold, enumerate_from, list_any, AllByRecursion}
 use Rattle.rrd_fixed.specs.declared.raw.Raw.{Raw}
 use Rattle.rrd_fixed.specs.declared.name.Name.{Name}
 use Rattle.rrd_spec.specs.declared.settings.DsDef.{DsDef}
-use Rattle.rrd_spec.specs.declared.entry.SourceBefore.{SourceBefore}
+use Rattle.rrd_spec.specs.declared.entry.SavedSource.{SavedSource}
 use Rattle.rrd_spec.specs.History.{Rra, Content, Reading, Sampled, Tuned, Moment, moment_after, moment_of, moment_at_end, IsHistory, IsArchive}
 use Rattle.rrd_spec.specs.Laws.ListedContent.{archive_of, content_listed, moved_listed}
 use Rattle.rrd_spec.proofs.HistoryLemmas.{last_rises, length-sources}
@@ -15,7 +15,7 @@ use Rattle.rrd_spec.proofs.SampleLemmas.{rows_of_samples}
 use Rattle.rrd_spec.specs.Commands.{Asked, DatabaseChange, Updating, TuningBy, Resizing, settings_of, rows_of_archives, sample_of, samples_of, tuned, rows_changed, events, moved}
 use Rattle.rrd_spec.specs.Settings.{Settings, names, has_source, is_double}
 use Rattle.rrd_spec.specs.Commands.Verdict.{is_bad_rows, grows_too_far, shrinks_too_far, no_sample, asks_nothing, names_no_source, verdict, is_accepted}
-use Rattle.rrd_spec.specs.Journal.Entries.{Entry, AddedEntry, RemovedEntry, TuneEntry, archive_at, archive_entry, rows_between, saved, is_asked, is_named, sources_before, rows_at, entry, undone}
+use Rattle.rrd_spec.specs.Journal.Entries.{Entry, AddedEntry, RemovedEntry, TuneEntry, archive_at, archive_entry, rows_between, saved, is_asked, is_named, saved_sources, rows_at, entry, undone}
 use Rattle.rrd_spec.specs.Journal.Survivors.{Action, Changed, Reverted, Stored, changed, reverted, stored_after, AllUndo}
 use Rattle.rrd_spec.proofs.Accepted.{accepted_passes, accepted_history, tune_passes}
 use Rattle.rrd_spec.proofs.ArchiveTunes.{tune_added, tune_alone, tune_removed}
@@ -86,15 +86,15 @@ update_fits base update is h =
 
 -- ---- a tune's entry
 
-before_rise : (tuning : Tuning) (lowest number : ℕ) (sources : List DsDef) (raws : List Raw) → lowest ≤ number → Rise lowest (number + length sources) (sources_before tuning number sources raws)
+before_rise : (tuning : Tuning) (lowest number : ℕ) (sources : List DsDef) (raws : List Raw) → lowest ≤ number → Rise lowest (number + length sources) (saved_sources tuning number sources raws)
 before_rise tuning lowest number [] raws h = tt
 before_rise tuning lowest number (source ∷ sources) [] h = tt
 before_rise tuning lowest number (source ∷ sources) (raw ∷ raws) h =
-    let P : ℕ → List SourceBefore → Type 0 = λ limit olds. Rise lowest limit olds in
+    let P : ℕ → List SavedSource → Type 0 = λ limit olds. Rise lowest limit olds in
     let same : number + 1 + length sources ≡ number + suc (length sources) = omega arith in
-    let rest : (low : ℕ) → low ≤ number + 1 → Rise low (number + suc (length sources)) (sources_before tuning (number + 1) sources raws)
-    = λ low k. subst (λ limit. Rise low limit (sources_before tuning (number + 1) sources raws)) same (before_rise tuning low (number + 1) sources raws k) in
-    cond_both (is_named tuning source) (record { number = number; source = source; raw = raw } ∷ sources_before tuning (number + 1) sources raws) (sources_before tuning (number + 1) sources raws) (λ olds. Rise lowest (number + suc (length sources)) olds)
+    let rest : (low : ℕ) → low ≤ number + 1 → Rise low (number + suc (length sources)) (saved_sources tuning (number + 1) sources raws)
+    = λ low k. subst (λ limit. Rise low limit (saved_sources tuning (number + 1) sources raws)) same (before_rise tuning low (number + 1) sources raws k) in
+    cond_both (is_named tuning source) (record { number = number; source = source; raw = raw } ∷ saved_sources tuning (number + 1) sources raws) (saved_sources tuning (number + 1) sources raws) (λ olds. Rise lowest (number + suc (length sources)) olds)
     (λ e. (h, omega arith, rest (number + 1) (omega arith)))
     (λ e. rest lowest (omega arith))
 
@@ -107,16 +107,16 @@ or_count : (a b : Bool) → cond (a || b) 1 0 ≤ cond a 1 0 + cond b 1 0
 or_count true b = omega arith
 or_count false b = omega arith
 
-before_count : (tuning : Tuning) (number : ℕ) (sources : List DsDef) (raws : List Raw) → length (sources_before tuning number sources raws) ≤ how_many (is_named tuning) sources
+before_count : (tuning : Tuning) (number : ℕ) (sources : List DsDef) (raws : List Raw) → length (saved_sources tuning number sources raws) ≤ how_many (is_named tuning) sources
 before_count tuning number [] raws = omega arith
 before_count tuning number (source ∷ sources) [] = omega arith
 before_count tuning number (source ∷ sources) (raw ∷ raws) =
     let rest = before_count tuning (number + 1) sources raws in
-    let olds = sources_before tuning (number + 1) sources raws in
-    let here : SourceBefore = record { number = number; source = source; raw = raw } in
+    let olds = saved_sources tuning (number + 1) sources raws in
+    let here : SavedSource = record { number = number; source = source; raw = raw } in
     each (is_named tuning source) here olds (how_many (is_named tuning) sources) rest
   where
-    each : (b : Bool) (here : SourceBefore) (olds : List SourceBefore) (n : ℕ) → length olds ≤ n → length (cond b (here ∷ olds) olds) ≤ cond b 1 0 + n
+    each : (b : Bool) (here : SavedSource) (olds : List SavedSource) (n : ℕ) → length olds ≤ n → length (cond b (here ∷ olds) olds) ≤ cond b 1 0 + n
     each true here olds n h = omega arith
     each false here olds n h = omega arith
 
@@ -201,19 +201,19 @@ some_named sources tuning alone h k =
     (λ (s : list_any (is_asked tuning.heartbeat) sources ≡ true). list_any_more (is_asked tuning.heartbeat) (is_named tuning) sources (λ source is. or_here _ (is_asked tuning.rename source) (or_here _ (is_asked tuning.kind source) (or_here _ (is_asked tuning.maximum source) (or_here _ (is_asked tuning.minimum source) is)))) s)
     (option_named sources tuning.heartbeat b.0)
 
-some_before : (tuning : Tuning) (number : ℕ) (sources : List DsDef) (raws : List Raw) → length raws ≡ length sources → list_any (is_named tuning) sources ≡ true → 0 < length (sources_before tuning number sources raws)
+some_before : (tuning : Tuning) (number : ℕ) (sources : List DsDef) (raws : List Raw) → length raws ≡ length sources → list_any (is_named tuning) sources ≡ true → 0 < length (saved_sources tuning number sources raws)
 some_before tuning number [] raws e h = absurd cc
 some_before tuning number (source ∷ sources) [] e h = absurd (omega arith)
 some_before tuning number (source ∷ sources) (raw ∷ raws) e h =
-    cond_both (is_named tuning source) (record { number = number; source = source; raw = raw } ∷ sources_before tuning (number + 1) sources raws) (sources_before tuning (number + 1) sources raws) (λ olds. 0 < length olds)
+    cond_both (is_named tuning source) (record { number = number; source = source; raw = raw } ∷ saved_sources tuning (number + 1) sources raws) (saved_sources tuning (number + 1) sources raws) (λ olds. 0 < length olds)
     (λ here. omega arith)
     (λ there. some_before tuning (number + 1) sources raws (omega arith) (sym (ap (λ b. b || list_any (is_named tuning) sources) there) ∙ h))
 
-tuned_fits : (base : Content) (tuning : Tuning) → tuning.archive ≡ None → IsValid base → verdict base (TuningBy tuning) ≡ None → FitsTune (content_listed base (Tuned (map (tuned tuning) base.sources) ∷ [])) (sources_before tuning 0 base.sources base.raws)
+tuned_fits : (base : Content) (tuning : Tuning) → tuning.archive ≡ None → IsValid base → verdict base (TuningBy tuning) ≡ None → FitsTune (content_listed base (Tuned (map (tuned tuning) base.sources) ∷ [])) (saved_sources tuning 0 base.sources base.raws)
 unfolding content_listed
 tuned_fits base tuning alone is h =
     let p = accepted_passes base (TuningBy tuning) h in
-    let P : ℕ → Type 0 = λ limit. Rise 0 limit (sources_before tuning 0 base.sources base.raws) in
+    let P : ℕ → Type 0 = λ limit. Rise 0 limit (saved_sources tuning 0 base.sources base.raws) in
     record {
       some = some_before tuning 0 base.sources base.raws (length-accepted base.sources base.raws is.raws_are) (some_named base.sources tuning alone p.0 p.1.1.0);
       few = omega (arith, before_count tuning 0 base.sources base.raws, named_count tuning base.sources, asked_once tuning.heartbeat base.sources is.names_differ, asked_once tuning.minimum base.sources is.names_differ, asked_once tuning.maximum base.sources is.names_differ, asked_once tuning.kind base.sources is.names_differ, asked_once tuning.rename base.sources is.names_differ);
@@ -221,9 +221,9 @@ tuned_fits base tuning alone is h =
     }
 
 -- a tune's entry, or that of an archive that comes or goes
-tune_fits : (base : Content) (tuning : Tuning) (archive : Option ArchiveTune) → tuning.archive ≡ archive → IsValid base → verdict base (TuningBy tuning) ≡ None → Fits (moved base (TuningBy tuning)) (option_map_or (archive_entry base) archive (TuneEntry (sources_before tuning 0 base.sources base.raws)))
+tune_fits : (base : Content) (tuning : Tuning) (archive : Option ArchiveTune) → tuning.archive ≡ archive → IsValid base → verdict base (TuningBy tuning) ≡ None → Fits (moved base (TuningBy tuning)) (option_map_or (archive_entry base) archive (TuneEntry (saved_sources tuning 0 base.sources base.raws)))
 tune_fits base tuning None e is h =
-    let olds = sources_before tuning 0 base.sources base.raws in
+    let olds = saved_sources tuning 0 base.sources base.raws in
     let es = Tuned (map (tuned tuning) base.sources) ∷ [] in
     subst (λ now. FitsTune now olds) (is_listed base es (base_of_valid base is) (length-map base.sources (tuned tuning), tt) tt ∙ sym (tune_alone base tuning e)) (tuned_fits base tuning e is h)
 tune_fits base tuning (Some (Add def)) e is h =

@@ -6,21 +6,21 @@ use Rattle.rrd_spec.specs.Journal.Entries.{AddedEntry, Entry, RemovedEntry, Resi
 use Rattle.rrd_spec.specs.Laws.Versions.{ContentIsWithin, DatabaseIsWithin, EntryIsWithin, FirstTellsNoArchive, JournalIsWithin}
 use Rattle.rrd_spec.specs.Files.Filed.{Filed}
 use Rattle.rrd_spec.specs.Lemmas.Lists.{All-weaker}
-use Rattle.rrd_spec.specs.Limits.{archives_come_and_go_of, deepest_journal_of, limits_of, most_archives_of, most_cells_of, present}
+use Rattle.rrd_spec.specs.Limits.{allows_archive_changes_of, max_journal_depth_of, limits_of, max_archives_of, max_cells_of, present}
 use Rattle.rrd_spec.specs.Validity.{IsSource, IsSourceWithin, IsValidArchive, IsValidArchiveWithin}
 use Rattle.rrd_spec.specs.declared.settings.DsDef.{DsDef}
 use Rattle.rrd_spec.specs.declared.version.Version.{Version}
 use Rattle.rrd_spec.specs.declared.version.Version.TheVariants.{One, Two}
 
-small_depth : (version : Version) (n : ℕ) → n ≤ deepest_journal_of version → n ≤ present.deepest_journal
+small_depth : (version : Version) (n : ℕ) → n ≤ max_journal_depth_of version → n ≤ present.max_journal_depth
 small_depth One n h = omega (arith, h)
 small_depth Two n h = h
 
-few_archives : (version : Version) (n : ℕ) → n ≤ most_archives_of version → n ≤ present.most_archives
+few_archives : (version : Version) (n : ℕ) → n ≤ max_archives_of version → n ≤ present.max_archives
 few_archives One n h = omega (arith, h)
 few_archives Two n h = h
 
-few_cells : (version : Version) (n : ℕ) → n ≤ most_cells_of version → n ≤ present.most_cells
+few_cells : (version : Version) (n : ℕ) → n ≤ max_cells_of version → n ≤ present.max_cells
 few_cells One n h = omega (arith, h)
 few_cells Two n h = h
 
@@ -81,8 +81,8 @@ database_is_within version now journal h = record {
 
 -- ---- archives that came or went
 
-none_in_first : (version : Version) → version ≡ One → (limits_of version).archives_come_and_go ≡ true → ⊥
-none_in_first version e h = both_ways (limits_of version).archives_come_and_go (ap archives_come_and_go_of e) h
+none_in_first : (version : Version) → version ≡ One → (limits_of version).allows_archive_changes ≡ true → ⊥
+none_in_first version e h = both_ways (limits_of version).allows_archive_changes (ap allows_archive_changes_of e) h
 
 pub first_tells_none : (f : Filed) → FirstTellsNoArchive f
 first_tells_none f e =

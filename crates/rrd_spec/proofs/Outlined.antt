@@ -9,7 +9,7 @@ use Rattle.rrd_fixed.specs.declared.cell.Cell.{Cell}
 use Rattle.rrd_fixed.specs.declared.raw.Raw.{Raw}
 use Rattle.rrd_fixed.specs.Rate.{IsAccepted}
 use Rattle.rrd_fold.specs.declared.function.Function.TheVariants.{Average}
-use Rattle.rrd_spec.specs.declared.entry.SourceBefore.{SourceBefore}
+use Rattle.rrd_spec.specs.declared.entry.SavedSource.{SavedSource}
 use Rattle.rrd_spec.specs.declared.outline.Outline.{Outline}
 use Rattle.rrd_spec.specs.declared.settings.DsDef.{DsDef}
 use Rattle.rrd_spec.specs.declared.settings.RraDef.{RraDef}
@@ -25,7 +25,7 @@ use Rattle.rrd_spec.specs.Laws.Journal.{JournalLeavesValid, JournalParts, Journa
 use Rattle.rrd_spec.specs.Laws.Outlines.{FiledOutline, JournalTakes, JournalTook, MayUndoEach, OutlineFollows, OutlineIsNeeded, OutlineSuffices, OutlinesAreNeeded, OutlinesSuffice}
 use Rattle.rrd_spec.specs.Lemmas.Lists.{All-append, All-at, All-drop, All-take}
 use Rattle.rrd_spec.specs.Journal.Outlines.{outline_of, outline_undone, rows_of, with_row_number, with_sources}
-use Rattle.rrd_spec.specs.Journal.Fitting.{IsSourceBefore, MaySave, MaySaveEach, MayUndo}
+use Rattle.rrd_spec.specs.Journal.Fitting.{IsSavedSource, MaySave, MaySaveEach, MayUndo}
 use Rattle.rrd_spec.specs.Journal.Survivors.{Stored}
 use Rattle.rrd_spec.proofs.ReadBack.{gives_back}
 use Rattle.rrd_spec.specs.Validity.{AreAccepted, AreParts, FitEach, FitsArchive, IsRow, IsSourceWithin, IsValidArchiveWithin, IsValidWithin, Rise}
@@ -134,7 +134,7 @@ update_suffices limits now old is may =
         few_sources = is.few_sources;
         some_archive = omega (arith, count, is.some_archive);
         few_archives = omega (arith, count, is.few_archives);
-        few_cells = subst (λ n. n ≤ limits.most_cells) (sym all_cells) is.few_cells;
+        few_cells = subst (λ n. n ≤ limits.max_cells) (sym all_cells) is.few_cells;
         sources_are = is.sources_are;
         names_differ = is.names_differ;
         raws_are = may.raws_are;
@@ -153,18 +153,18 @@ update_needed limits now old is fits then = record {
 
 -- ---- a tune
 
-with_raws : List Raw → List SourceBefore → List Raw
-with_raws raws olds = fold (λ rs (old : SourceBefore). set rs old.number old.raw) raws olds
+with_raws : List Raw → List SavedSource → List Raw
+with_raws raws olds = fold (λ rs (old : SavedSource). set rs old.number old.raw) raws olds
 
 with_both : Content → List DsDef → List Raw → Content
 with_both now sources raws = record now { sources = sources; raws = raws }
 
-sources_undone : (now : Content) (olds : List SourceBefore) → fold with_source now olds ≡ with_both now (with_sources now.sources olds) (with_raws now.raws olds)
+sources_undone : (now : Content) (olds : List SavedSource) → fold with_source now olds ≡ with_both now (with_sources now.sources olds) (with_raws now.raws olds)
 unfolding with_raws with_both
 sources_undone now [] = refl
 sources_undone now (old ∷ olds) = sources_undone (with_source now old) olds
 
-sources_count : (sources : List DsDef) (olds : List SourceBefore) → length (with_sources sources olds) ≡ length sources
+sources_count : (sources : List DsDef) (olds : List SavedSource) → length (with_sources sources olds) ≡ length sources
 sources_count sources [] = refl
 sources_count sources (old ∷ olds) = sources_count (set sources old.number old.source) olds ∙ length-set sources old.number old.source
 
@@ -181,25 +181,25 @@ accepted_at (s ∷ sources) [] i source raw all inside = absurd all
 accepted_at (s ∷ sources) (r ∷ raws) zero source raw all inside = all.0
 accepted_at (s ∷ sources) (r ∷ raws) (suc i) source raw all inside = accepted_at sources raws i source raw all.1 (omega arith)
 
-accepted_then : (limits : Limits) (sources : List DsDef) (raws : List Raw) (olds : List SourceBefore) → AreAccepted sources raws → AllByRecursion (IsSourceBefore limits) olds → AreAccepted (with_sources sources olds) (with_raws raws olds)
+accepted_then : (limits : Limits) (sources : List DsDef) (raws : List Raw) (olds : List SavedSource) → AreAccepted sources raws → AllByRecursion (IsSavedSource limits) olds → AreAccepted (with_sources sources olds) (with_raws raws olds)
 unfolding with_raws
 accepted_then limits sources raws [] all each = all
 accepted_then limits sources raws (old ∷ olds) all each =
     accepted_then limits (set sources old.number old.source) (set raws old.number old.raw) olds (accepted_set sources raws old.number old.source old.raw all each.0.1) each.1
 
-sources_then : (limits : Limits) (sources : List DsDef) (olds : List SourceBefore) → AllByRecursion (IsSourceWithin limits) sources → AllByRecursion (IsSourceBefore limits) olds → AllByRecursion (IsSourceWithin limits) (with_sources sources olds)
+sources_then : (limits : Limits) (sources : List DsDef) (olds : List SavedSource) → AllByRecursion (IsSourceWithin limits) sources → AllByRecursion (IsSavedSource limits) olds → AllByRecursion (IsSourceWithin limits) (with_sources sources olds)
 sources_then limits sources [] all each = all
 sources_then limits sources (old ∷ olds) all each =
     sources_then limits (set sources old.number old.source) olds (All-set (IsSourceWithin limits) sources old.number old.source all each.0.0) each.1
 
 -- numbers rise, so those below the lowest keep their source and raw value
-source_below : (lowest limit i : ℕ) (sources : List DsDef) (olds : List SourceBefore) (d : DsDef) → Rise lowest limit olds → i < lowest → get_or (with_sources sources olds) i d ≡ get_or sources i d
+source_below : (lowest limit i : ℕ) (sources : List DsDef) (olds : List SavedSource) (d : DsDef) → Rise lowest limit olds → i < lowest → get_or (with_sources sources olds) i d ≡ get_or sources i d
 source_below lowest limit i sources [] d rise below = refl
 source_below lowest limit i sources (old ∷ olds) d rise below =
     source_below (old.number + 1) limit i (set sources old.number old.source) olds d rise.2 (omega (arith, rise.0, below))
     ∙ get_or-set_other sources old.number i old.source d (λ e. omega (arith, rise.0, below, e))
 
-raw_below : (lowest limit i : ℕ) (raws : List Raw) (olds : List SourceBefore) (d : Raw) → Rise lowest limit olds → i < lowest → get_or (with_raws raws olds) i d ≡ get_or raws i d
+raw_below : (lowest limit i : ℕ) (raws : List Raw) (olds : List SavedSource) (d : Raw) → Rise lowest limit olds → i < lowest → get_or (with_raws raws olds) i d ≡ get_or raws i d
 unfolding with_raws
 raw_below lowest limit i raws [] d rise below = refl
 raw_below lowest limit i raws (old ∷ olds) d rise below =
@@ -207,8 +207,8 @@ raw_below lowest limit i raws (old ∷ olds) d rise below =
     ∙ get_or-set_other raws old.number i old.raw d (λ e. omega (arith, rise.0, below, e))
 
 -- each source that comes back stands among all in the end
-each_source : (limits : Limits) (lowest : ℕ) (sources : List DsDef) (raws : List Raw) (olds : List SourceBefore) → length raws ≡ length sources → Rise lowest (length sources) olds
-    → AllByRecursion (IsSourceWithin limits) (with_sources sources olds) → AreAccepted (with_sources sources olds) (with_raws raws olds) → AllByRecursion (IsSourceBefore limits) olds
+each_source : (limits : Limits) (lowest : ℕ) (sources : List DsDef) (raws : List Raw) (olds : List SavedSource) → length raws ≡ length sources → Rise lowest (length sources) olds
+    → AllByRecursion (IsSourceWithin limits) (with_sources sources olds) → AreAccepted (with_sources sources olds) (with_raws raws olds) → AllByRecursion (IsSavedSource limits) olds
 unfolding with_raws
 each_source limits lowest sources raws [] same rise all accepted = tt
 each_source limits lowest sources raws (old ∷ olds) same rise all accepted =
@@ -229,7 +229,7 @@ each_source limits lowest sources raws (old ∷ olds) same rise all accepted =
     subst (λ r. IsAccepted old.source.kind r) raw (subst (λ (s : DsDef). IsAccepted s.kind (get_or (with_raws next_raws olds) i old.raw)) source takes) in
     ((is, took), each_source limits (i + 1) next next_raws olds (omega (arith, same, count, raw_count)) after all accepted)
 
-tune_suffices : (limits : Limits) (now : Content) (olds : List SourceBefore) → OutlineSuffices limits now (TuneEntry olds)
+tune_suffices : (limits : Limits) (now : Content) (olds : List SavedSource) → OutlineSuffices limits now (TuneEntry olds)
 unfolding with_both
 tune_suffices limits now olds is may =
     let sources = with_sources now.sources olds in
@@ -245,7 +245,7 @@ tune_suffices limits now olds is may =
         few_sources = omega (arith, count, is.few_sources);
         some_archive = is.some_archive;
         few_archives = is.few_archives;
-        few_cells = subst (λ n. n * sum (rows_of_archives now.archives) ≤ limits.most_cells) (sym count) is.few_cells;
+        few_cells = subst (λ n. n * sum (rows_of_archives now.archives) ≤ limits.max_cells) (sym count) is.few_cells;
         sources_are = sources_then limits now.sources olds is.sources_are may.each;
         names_differ = may.names_differ;
         raws_are = accepted_then limits now.sources now.raws olds is.raws_are may.each;
@@ -254,7 +254,7 @@ tune_suffices limits now olds is may =
       }),
     )
 
-tune_needed : (limits : Limits) (now : Content) (olds : List SourceBefore) → OutlineIsNeeded limits now (TuneEntry olds)
+tune_needed : (limits : Limits) (now : Content) (olds : List SavedSource) → OutlineIsNeeded limits now (TuneEntry olds)
 unfolding with_both
 tune_needed limits now olds is fits then =
     let valid : IsValidWithin limits (with_both now (with_sources now.sources olds) (with_raws now.raws olds)) = subst (IsValidWithin limits) (sources_undone now olds) then in
@@ -288,7 +288,7 @@ row_count limits sources steps [] index is = refl
 row_count limits sources steps (archive ∷ archives) zero is = is.0.rows_are
 row_count limits sources steps (archive ∷ archives) (suc index) is = row_count limits sources steps archives index is.1
 
-resized_valid : (limits : Limits) (sources steps : ℕ) (archives : List Rra) (index : ℕ) (rows : List (List Cell)) → AllByRecursion (IsValidArchiveWithin limits sources steps) archives → 0 < length rows → length rows ≤ limits.most_rows → AllByRecursion (IsRow sources) rows
+resized_valid : (limits : Limits) (sources steps : ℕ) (archives : List Rra) (index : ℕ) (rows : List (List Cell)) → AllByRecursion (IsValidArchiveWithin limits sources steps) archives → 0 < length rows → length rows ≤ limits.max_rows → AllByRecursion (IsRow sources) rows
     → AllByRecursion (IsValidArchiveWithin limits sources steps) (with_rows_at archives index rows)
 resized_valid limits sources steps [] index rows is some few each = tt
 resized_valid limits sources steps (archive ∷ archives) zero rows is some few each = (
@@ -310,7 +310,7 @@ resized_valid limits sources steps (archive ∷ archives) (suc index) rows is so
 -- the rows of the resized archive
 record AreRows (limits : Limits) (sources : ℕ) (rows : List (List Cell)) : Type 0 where
   pub some : 0 < length rows
-  pub few : length rows ≤ limits.most_rows
+  pub few : length rows ≤ limits.max_rows
   pub each : AllByRecursion (IsRow sources) rows
 
 resized_here : (limits : Limits) (sources steps : ℕ) (archives : List Rra) (index : ℕ) (rows : List (List Cell)) → index < length archives → AllByRecursion (IsValidArchiveWithin limits sources steps) (with_rows_at archives index rows) → AreRows limits sources rows
@@ -338,7 +338,7 @@ resize_suffices limits now archive rows is may =
         few_sources = is.few_sources;
         some_archive = omega (arith, count, is.some_archive);
         few_archives = omega (arith, count, is.few_archives);
-        few_cells = subst (λ all. length now.sources * sum all ≤ limits.most_cells) (resized_rows now.archives archive rows) may.old_rows.few_cells;
+        few_cells = subst (λ all. length now.sources * sum all ≤ limits.max_cells) (resized_rows now.archives archive rows) may.old_rows.few_cells;
         sources_are = is.sources_are;
         names_differ = is.names_differ;
         raws_are = is.raws_are;
@@ -358,7 +358,7 @@ resize_needed limits now archive rows is fits then =
         some = here.some;
         few = here.few;
         another = λ same. fits.another (same ∙ sym was);
-        few_cells = subst (λ all. length now.sources * sum all ≤ limits.most_cells) (sym (resized_rows now.archives archive rows)) then.few_cells;
+        few_cells = subst (λ all. length now.sources * sum all ≤ limits.max_cells) (sym (resized_rows now.archives archive rows)) then.few_cells;
       };
       each_row = here.each;
     }
@@ -372,7 +372,7 @@ added_suffices limits now is may =
     let n = length now.archives - 1 in
     let count = length-take n now.archives in
     let P = IsValidArchiveWithin limits (length now.sources) (now.last / now.step) in
-    ((may.0, two), valid_with limits now (take n now.archives) is (omega (arith, count, two)) (omega (arith, count, is.few_archives)) (fewer_taken (length now.sources) limits.most_cells now.archives n is.few_cells) (All-take P n now.archives is.archives_are))
+    ((may.0, two), valid_with limits now (take n now.archives) is (omega (arith, count, two)) (omega (arith, count, is.few_archives)) (fewer_taken (length now.sources) limits.max_cells now.archives n is.few_cells) (All-take P n now.archives is.archives_are))
 
 added_needed : (limits : Limits) (now : Content) → OutlineIsNeeded limits now AddedEntry
 added_needed limits now is fits then =
@@ -405,7 +405,7 @@ removed_suffices limits now number archive is may =
     } in (
       (may.0, record { there = there; one_part_each = may.1.parts_are.one_each; rows_are = may.1.rows_are; one_cell_each = rows_wide n archive.rows may.1.each_row }),
       valid_with limits now (insert now.archives number archive) is (omega (arith, count)) (omega (arith, count, defs, may.1.number_is.few))
-          (subst (λ (all : ℕ). n * all ≤ limits.most_cells) (rows_inserted now.archives number archive) may.1.settings_are.few_cells)
+          (subst (λ (all : ℕ). n * all ≤ limits.max_cells) (rows_inserted now.archives number archive) may.1.settings_are.few_cells)
           (All-append P (take number now.archives) (archive ∷ drop number now.archives) (All-take P number now.archives is.archives_are) (this, All-drop P number now.archives is.archives_are)),
     )
 
@@ -434,7 +434,7 @@ removed_needed limits now number archive is fits then =
                     xff_high = this.xff_high;
                   };
               few_cells =
-                  subst (λ (all : ℕ). n * all ≤ limits.most_cells) (sym (rows_inserted now.archives number archive)) then.few_cells;
+                  subst (λ (all : ℕ). n * all ≤ limits.max_cells) (sym (rows_inserted now.archives number archive)) then.few_cells;
             };
         parts_are = this.parts_are;
         rows_are = this.rows_are;

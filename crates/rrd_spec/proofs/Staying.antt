@@ -127,7 +127,7 @@ record Leaves (base : Content) (es : List Event) : Type 0 where
   raws_are : AreAccepted (moment_at_end base es).sources (moment_at_end base es).raws
   seconds_are : AllByRecursion (IsRow (length base.sources)) (seconds_of base es)
   good_rows : LeavesGoodRows es
-  few_cells : length (moment_at_end base es).sources * sum (rows_of_archives (map (archive_of base es) (enumerate_from 0 base.archives))) ≤ present.most_cells
+  few_cells : length (moment_at_end base es).sources * sum (rows_of_archives (map (archive_of base es) (enumerate_from 0 base.archives))) ≤ present.max_cells
 
 left_valid : (base : Content) (es : List Event) → IsValid base → Leaves base es → IsValid (content_listed base es)
 unfolding content_listed
@@ -155,7 +155,7 @@ left_valid base es is left =
       archives_are = subst AP (sym as_many) (archives_valid base es 0 base.archives is left.history left.good_rows left.seconds_are is.archives_are);
     }
 
-below : (n : ℕ) (m : ℕ) → m ≡ n → n ≤ present.most_cells → m ≤ present.most_cells
+below : (n : ℕ) (m : ℕ) → m ≡ n → n ≤ present.max_cells → m ≤ present.max_cells
 below n m e h = omega arith
 
 -- ---- an update
@@ -271,7 +271,7 @@ resize_leaves base archive change rows is h =
       raws_are = is.raws_are;
       seconds_are = subst SP (sym (seconds_none base es refl)) tt;
       good_rows = λ index there some few. cond_both (eqb archive index) new there (λ n. (0 < n) × (n ≤ 1000000)) (λ e. (history.0, few_new)) (λ e. (some, few));
-      few_cells = below (cells (fold settings_after settings es)) _ (ap cells (ap settings_of (is_listed base es (base_of_valid base is) history tt) ∙ settings_by_time base es)) (ltb-false present.most_cells (cells (fold settings_after settings es)) p.1.1.1.0);
+      few_cells = below (cells (fold settings_after settings es)) _ (ap cells (ap settings_of (is_listed base es (base_of_valid base is) history tt) ∙ settings_by_time base es)) (ltb-false present.max_cells (cells (fold settings_after settings es)) p.1.1.1.0);
     }
 
 -- ---- what is valid stays so
@@ -290,15 +290,15 @@ tuned_valid base tuning (Some (Add def)) e is h =
     let rows = rows_of_archives base.archives in
     let new = new_archive n def in
     let p = tune_passes base tuning (Some (Add def)) e h in
-    let small = or_parts (ltb present.most_archives (length (rows ++ def.rows ∷ []))) (ltb present.most_cells (n * sum (rows ++ def.rows ∷ []))) p.1.1.1.0 in
-    let few = ltb-false present.most_archives (length (rows ++ def.rows ∷ [])) small.0 in
+    let small = or_parts (ltb present.max_archives (length (rows ++ def.rows ∷ []))) (ltb present.max_cells (n * sum (rows ++ def.rows ∷ []))) p.1.1.1.0 in
+    let few = ltb-false present.max_archives (length (rows ++ def.rows ∷ [])) small.0 in
     let as_many : length rows ≡ length base.archives = length-map base.archives (λ (a : Rra). a.def.rows) in
     let same : rows_of_archives (base.archives ++ new ∷ []) ≡ rows ++ def.rows ∷ [] = map-append (λ (a : Rra). a.def.rows) base.archives (new ∷ []) in
     subst IsValid (sym (tune_added base tuning def (base_of_valid base is) e h))
     (valid_with present base (base.archives ++ new ∷ []) is
     (omega (arith, length_push base.archives new))
     (omega (arith, length_push base.archives new, length_push rows def.rows, few, as_many))
-    (subst (λ (all : List ℕ). n * sum all ≤ present.most_cells) (sym same) (ltb-false present.most_cells (n * sum (rows ++ def.rows ∷ [])) small.1))
+    (subst (λ (all : List ℕ). n * sum all ≤ present.max_cells) (sym same) (ltb-false present.max_cells (n * sum (rows ++ def.rows ∷ [])) small.1))
     (All-append (IsValidArchive n (base.last / base.step)) base.archives (new ∷ []) is.archives_are (archive_valid n (base.last / base.step) def p.0 p.1.0 p.1.1.0, tt)))
 tuned_valid base tuning (Some (Remove number)) e is h =
     let n = length base.sources in
@@ -313,7 +313,7 @@ tuned_valid base tuning (Some (Remove number)) e is h =
     (valid_with present base (remove base.archives number) is
     (omega (arith, count, two))
     (omega (arith, count, is.few_archives))
-    (fewer_removed n present.most_cells base.archives number is.few_cells)
+    (fewer_removed n present.max_cells base.archives number is.few_cells)
     (All-append P (take number base.archives) (drop (suc number) base.archives) (All-take P number base.archives is.archives_are) (All-drop P (suc number) base.archives is.archives_are)))
 
 pub stays_valid : (base : Content) (command : DatabaseChange) → StaysValid base command

@@ -8,7 +8,7 @@ use Rattle.rrd_fixed.specs.declared.kind.Kind.{Kind}
 use Rattle.rrd_fixed.specs.declared.kind.Kind.TheVariants.{Gauge, Counter, Derive, Absolute}
 use Rattle.rrd_fixed.specs.declared.name.Name.{Name}
 use Rattle.rrd_spec.specs.declared.settings.DsDef.{DsDef}
-use Rattle.rrd_spec.specs.declared.entry.SourceBefore.{SourceBefore}
+use Rattle.rrd_spec.specs.declared.entry.SavedSource.{SavedSource}
 use Rattle.rrd_spec.specs.History.{Rra, Reading, Sampled, Resized, Moment, moment_after, moment_of, moment_at_end, same_kind, raws_under, rows_after, IsHistory, IsArchive}
 use Rattle.rrd_spec.specs.History.Rows.{rows_of, row_parts_of}
 use Rattle.rrd_spec.specs.Laws.ListedContent.{kept_rows, archive_of, content_listed, moved_listed}
@@ -16,7 +16,7 @@ use Rattle.rrd_spec.proofs.ContentLemmas.{length-rows_of, length-kept_rows}
 use Rattle.rrd_spec.proofs.SampleLemmas.{rows_of_samples, update_undone}
 use Rattle.rrd_spec.specs.Commands.{Asked, DatabaseChange, Updating, TuningBy, Resizing, settings_of, samples_of, asked, tuned, rows_changed}
 use Rattle.rrd_spec.specs.Commands.Verdict.{verdict}
-use Rattle.rrd_spec.specs.Journal.Entries.{AddedEntry, RemovedEntry, ResizeEntry, TuneEntry, archive_at, archive_entry, rows_between, saved, is_asked, is_named, sources_before, rows_at, put_back, put_back_each, with_source, with_rows_at, entry, undone, IsSound}
+use Rattle.rrd_spec.specs.Journal.Entries.{AddedEntry, RemovedEntry, ResizeEntry, TuneEntry, archive_at, archive_entry, rows_between, saved, is_asked, is_named, saved_sources, rows_at, put_back, put_back_each, with_source, with_rows_at, entry, undone, IsSound}
 use Rattle.rrd_spec.specs.Laws.Journal.{ComesBack}
 use Rattle.rrd_spec.proofs.Accepted.{accepted_passes, accepted_history, tune_passes}
 use Rattle.rrd_spec.proofs.ArchiveTunes.{put_in_again, tune_added, tune_removed, without_added}
@@ -112,7 +112,7 @@ kind_itself Absolute = refl
 with_sources : Content → List DsDef → List Raw → Content
 with_sources base sources raws = record base { sources = sources; raws = raws }
 
-sources_back : (base : Content) (tuning : Tuning) (number : ℕ) (done : List DsDef) (done_raws : List Raw) (sources : List DsDef) (raws : List Raw) → length done ≡ number → length done_raws ≡ number → length raws ≡ length sources → fold with_source (with_sources base (done ++ map (tuned tuning) sources) (done_raws ++ raws_under sources (map (tuned tuning) sources) raws)) (sources_before tuning number sources raws) ≡ with_sources base (done ++ sources) (done_raws ++ raws)
+sources_back : (base : Content) (tuning : Tuning) (number : ℕ) (done : List DsDef) (done_raws : List Raw) (sources : List DsDef) (raws : List Raw) → length done ≡ number → length done_raws ≡ number → length raws ≡ length sources → fold with_source (with_sources base (done ++ map (tuned tuning) sources) (done_raws ++ raws_under sources (map (tuned tuning) sources) raws)) (saved_sources tuning number sources raws) ≡ with_sources base (done ++ sources) (done_raws ++ raws)
 unfolding with_sources
 sources_back base tuning number done done_raws [] raws d r e = refl
 sources_back base tuning number done done_raws (source ∷ sources) [] d r e = absurd (omega arith)
@@ -121,7 +121,7 @@ sources_back base tuning number done done_raws (source ∷ sources) (raw ∷ raw
     let new_raws = raws_under sources news raws in
     let source_now = tuned tuning source in
     let raw_now = cond (same_kind source.kind source_now.kind) raw Raw.Unknown in
-    let rest = sources_before tuning (number + 1) sources raws in
+    let rest = saved_sources tuning (number + 1) sources raws in
     let on = sources_back base tuning (number + 1) (done ++ source ∷ []) (done_raws ++ raw ∷ []) sources raws (length_push done source ∙ ap (λ n. n + 1) d) (length_push done_raws raw ∙ ap (λ n. n + 1) r) (omega arith) in
     let before : with_sources base (done ++ source ∷ news) (done_raws ++ raw ∷ new_raws) ≡ with_sources base ((done ++ source ∷ []) ++ news) ((done_raws ++ raw ∷ []) ++ new_raws)
     = ap (λ s. with_sources base s (done_raws ++ raw ∷ new_raws)) (sym (append_assoc done (source ∷ []) news)) ∙ ap (with_sources base ((done ++ source ∷ []) ++ news)) (sym (append_assoc done_raws (raw ∷ []) new_raws)) in
@@ -129,7 +129,7 @@ sources_back base tuning number done done_raws (source ∷ sources) (raw ∷ raw
     = ap (λ s. with_sources base s ((done_raws ++ raw ∷ []) ++ raws)) (append_assoc done (source ∷ []) sources) ∙ ap (with_sources base (done ++ source ∷ sources)) (append_assoc done_raws (raw ∷ []) raws) in
     let go_on : fold with_source (with_sources base (done ++ source ∷ news) (done_raws ++ raw ∷ new_raws)) rest ≡ with_sources base (done ++ source ∷ sources) (done_raws ++ raw ∷ raws)
     = ap (λ now. fold with_source now rest) before ∙ on ∙ after in
-    let here : SourceBefore = record { number = number; source = source; raw = raw } in
+    let here : SavedSource = record { number = number; source = source; raw = raw } in
     let now = with_sources base (done ++ source_now ∷ news) (done_raws ++ raw_now ∷ new_raws) in
     ⊎_elim
     (λ (named : is_named tuning source ≡ true).
@@ -147,10 +147,10 @@ sources_back base tuning number done done_raws (source ∷ sources) (raw ∷ raw
     (cases_Bool (is_named tuning source))
 
 -- other settings, or an archive that comes or goes
-tuned_back : (base : Content) (tuning : Tuning) (archive : Option ArchiveTune) → tuning.archive ≡ archive → IsSound base → verdict base (TuningBy tuning) ≡ None → undone (moved base (TuningBy tuning)) (option_map_or (archive_entry base) archive (TuneEntry (sources_before tuning 0 base.sources base.raws))) ≡ base
+tuned_back : (base : Content) (tuning : Tuning) (archive : Option ArchiveTune) → tuning.archive ≡ archive → IsSound base → verdict base (TuningBy tuning) ≡ None → undone (moved base (TuningBy tuning)) (option_map_or (archive_entry base) archive (TuneEntry (saved_sources tuning 0 base.sources base.raws))) ≡ base
 unfolding with_sources
 tuned_back base tuning None e sound h =
-    ap (λ now. fold with_source now (sources_before tuning 0 base.sources base.raws)) (tune_changes base tuning sound.is_base e)
+    ap (λ now. fold with_source now (saved_sources tuning 0 base.sources base.raws)) (tune_changes base tuning sound.is_base e)
     ∙ sources_back base tuning 0 [] [] base.sources base.raws refl refl sound.one_raw_each
 tuned_back base tuning (Some (Add def)) e sound h =
     let new = new_archive (length base.sources) def in

@@ -31,7 +31,7 @@ same_function _ _ = false
 -- an archive with its number, its resolution, and the time after which all its rows end
 abbrev pub candidate : ℕ → ℕ → ℕ × RraDef → Candidate
 candidate step last (number, def) =
-    record { number = number; resolution = resolution step def; reach = reach (resolution step def) def.rows last }
+    record { archive = number; resolution = resolution step def; reach = reach (resolution step def) def.rows last }
 
 -- the archives with this consolidation function, in the order of their numbers
 abbrev pub candidates : ℕ → ℕ → Function → List RraDef → List Candidate
@@ -68,8 +68,8 @@ taken asked start list = option_or (best (is_nearer asked) (filter (covers start
 -- the checks of a fetch that do not depend on the database
 abbrev pub span_checks : Limits → FetchRequest → List Check
 span_checks limits request =
-    ◌refuses◌ (nat_lt limits.latest_time request.start) BadTime
-    ∷ ◌refuses◌ (nat_lt limits.latest_time request.end) BadTime
+    ◌refuses◌ (nat_lt limits.max_time request.start) BadTime
+    ∷ ◌refuses◌ (nat_lt limits.max_time request.end) BadTime
     ∷ ◌refuses◌ (nat_lt request.end request.start) BadSpan
     ∷ []
 
@@ -77,7 +77,7 @@ span_checks limits request =
 -- first multiple after the end
 abbrev pub span : FetchRequest → Candidate → Chosen
 span request one = record {
-  archive = one.number;
+  archive = one.archive;
   res = one.resolution;
   lo = request.start / one.resolution * one.resolution;
   hi = (request.end / one.resolution + 1) * one.resolution;
@@ -90,7 +90,7 @@ span_rows chosen = (chosen.hi - chosen.lo) / chosen.res
 abbrev pub span_of : Limits → FetchRequest → Option Candidate → Result Chosen Refusal
 span_of limits request None = Err NoArchiveForFunction
 span_of limits request (Some one) =
-    if nat_lt limits.longest_span (span_rows (span request one)) then Err SpanTooLong else Ok (span request one)
+    if nat_lt limits.max_span (span_rows (span request one)) then Err SpanTooLong else Ok (span request one)
 
 abbrev pub unless_refused : Option Refusal → Result Chosen Refusal → Result Chosen Refusal
 unless_refused None answer = answer

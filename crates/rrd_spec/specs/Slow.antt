@@ -34,7 +34,7 @@ taken_of sample = record { time = sample.time; rates = sample.rates }
 abbrev pub AreInOrder : List DsDef → ℕ → List given.Reading → Type 0
 AreInOrder sources last [] = Unit {0}
 AreInOrder sources last (reading ∷ readings) =
-    (last < reading.time) × (reading.time ≤ present.latest_time) × AreAccepted sources reading.raws
+    (last < reading.time) × (reading.time ≤ present.max_time) × AreAccepted sources reading.raws
     × AreInOrder sources reading.time readings
 
 -- the time of the last sample, or the start
@@ -69,10 +69,10 @@ rule_of group sources =
 
 -- a group within the limits of rrdcreate
 abbrev pub IsGroup : Group → Type 0
-IsGroup (Step seconds) = (0 < seconds) × (seconds ≤ present.longest_step)
+IsGroup (Step seconds) = (0 < seconds) × (seconds ≤ present.max_step_seconds)
 IsGroup (Row def) =
-    (0 < def.steps) × (def.steps ≤ present.most_steps) × (pos 0 ≤ℤ def.xff)
-    × (def.xff ≤ℤ pos present.greatest_share)
+    (0 < def.steps) × (def.steps ≤ present.max_steps_per_row) × (pos 0 ≤ℤ def.xff)
+    × (def.xff ≤ℤ pos present.max_xff)
 
 -- ---- the rows that an archive then shows
 

@@ -5,12 +5,12 @@ use Rattle.rrd_fixed.specs.declared.cell.Cell.{Cell}
 use Rattle.rrd_fixed.specs.declared.raw.Raw.{Raw}
 use Rattle.rrd_fixed.specs.Rate.{top, IsAccepted, IsBounded}
 use Rattle.rrd_spec.specs.declared.settings.DsDef.{DsDef}
-use Rattle.rrd_spec.specs.declared.entry.SourceBefore.{SourceBefore}
+use Rattle.rrd_spec.specs.declared.entry.SavedSource.{SavedSource}
 use Rattle.rrd_fold.specs.declared.function.Function.{Function}
 use Rattle.rrd_fold.specs.declared.function.Function.TheVariants.{Average}
 use Rattle.rrd_fold.specs.Parts.{Part}
 pub use Rattle.rrd_fold.specs.Bounds.{weight}
-use Rattle.rrd_spec.specs.Limits.{Limits, most_tuned, present}
+use Rattle.rrd_spec.specs.Limits.{Limits, max_tuned, present}
 use Rattle.rrd_spec.specs.History.{Rra, Content}
 use Rattle.rrd_spec.specs.Commands.{settings_of}
 use Rattle.rrd_spec.specs.Settings.{names, is_double, cells}
@@ -51,26 +51,26 @@ pub record IsRow (sources : ℕ) (row : List Cell) : Type 0 where
 -- an archive after `steps` steps have ended
 pub record IsValidArchiveWithin (limits : Limits) (sources steps : ℕ) (archive : Rra) : Type 0 where
   pub some_steps : 0 < archive.def.steps
-  pub few_steps : archive.def.steps ≤ limits.most_steps
+  pub few_steps : archive.def.steps ≤ limits.max_steps_per_row
   pub some_rows : 0 < archive.def.rows
-  pub few_rows : archive.def.rows ≤ limits.most_rows
+  pub few_rows : archive.def.rows ≤ limits.max_rows
   pub xff_low : pos 0 ≤ℤ archive.def.xff
-  pub xff_high : archive.def.xff ≤ℤ pos limits.greatest_share
+  pub xff_high : archive.def.xff ≤ℤ pos limits.max_xff
   pub parts_are : AreParts archive.def.function sources (steps % archive.def.steps) archive.parts
   pub rows_are : length archive.rows ≡ archive.def.rows
   pub each_row : AllByRecursion (IsRow sources) archive.rows
 
 pub record IsValidWithin (limits : Limits) (content : Content) : Type 0 where
   pub some_step : 0 < content.step
-  pub small_step : content.step ≤ limits.longest_step
-  pub good_time : content.last ≤ limits.latest_time
+  pub small_step : content.step ≤ limits.max_step_seconds
+  pub good_time : content.last ≤ limits.max_time
   pub some_depth : 0 < content.depth
-  pub small_depth : content.depth ≤ limits.deepest_journal
+  pub small_depth : content.depth ≤ limits.max_journal_depth
   pub some_source : 0 < length content.sources
-  pub few_sources : length content.sources ≤ limits.most_sources
+  pub few_sources : length content.sources ≤ limits.max_sources
   pub some_archive : 0 < length content.archives
-  pub few_archives : length content.archives ≤ limits.most_archives
-  pub few_cells : cells (settings_of content) ≤ limits.most_cells
+  pub few_archives : length content.archives ≤ limits.max_archives
+  pub few_cells : cells (settings_of content) ≤ limits.max_cells
   pub sources_are : AllByRecursion (IsSourceWithin limits) content.sources
   pub names_differ : is_double (names content.sources) ≡ false
   pub raws_are : AreAccepted content.sources content.raws
@@ -113,13 +113,13 @@ pub record FitsUpdate (now : Content) (old : BeforeUpdate) : Type 0 where
   pub archives_fit : FitEach now.step (length now.sources) old.last now.last now.archives old.archives
 
 -- numbers that rise, from `lowest` on, below `limit`
-abbrev pub Rise : ℕ → ℕ → List SourceBefore → Type 0
+abbrev pub Rise : ℕ → ℕ → List SavedSource → Type 0
 Rise lowest limit [] = Unit {0}
 Rise lowest limit (old ∷ olds) = (lowest ≤ old.number) × (old.number < limit) × Rise (old.number + 1) limit olds
 
-pub record FitsTune (now : Content) (olds : List SourceBefore) : Type 0 where
+pub record FitsTune (now : Content) (olds : List SavedSource) : Type 0 where
   pub some : 0 < length olds
-  pub few : length olds ≤ most_tuned
+  pub few : length olds ≤ max_tuned
   pub rise : Rise 0 (length now.sources) olds
 
 pub record FitsResize (now : Content) (archive : ℕ) (rows : List (List Cell)) : Type 0 where
@@ -140,9 +140,9 @@ abbrev pub FitsWithin : Limits → Content → Entry → Type 0
 FitsWithin limits now (UpdateEntry old) = FitsUpdate now old
 FitsWithin limits now (TuneEntry olds) = FitsTune now olds
 FitsWithin limits now (ResizeEntry archive rows) = FitsResize now archive rows
-FitsWithin limits now AddedEntry = (limits.archives_come_and_go ≡ true) × (1 < length now.archives)
+FitsWithin limits now AddedEntry = (limits.allows_archive_changes ≡ true) × (1 < length now.archives)
 FitsWithin limits now (RemovedEntry number archive) =
-    (limits.archives_come_and_go ≡ true) × FitsRemoved now number archive
+    (limits.allows_archive_changes ≡ true) × FitsRemoved now number archive
 
 abbrev pub Fits : Content → Entry → Type 0
 Fits = FitsWithin present

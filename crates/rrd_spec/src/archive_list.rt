@@ -3,7 +3,7 @@ ghost use Rattle.std.specs.Prelude.{◌≡◌, ◌<◌, ◌≤◌, ◌++◌, ◌
 ghost use Rattle.std.specs.Borrow.{sem};
 ghost use Rattle.rrd_spec.specs.Limits.{present};
 
-use crate::limits::MOST_ARCHIVES;
+use crate::limits::MAX_ARCHIVES;
 use std::alloc::{AllocError, Global};
 use std::marker::Model;
 
@@ -24,7 +24,7 @@ impl<T> Model for ArchiveList<T> {
 
     ghost view = { λ l. l.items.items };
 
-    ghost invariant = { λ l. present.most_archives ≤ vec_capacity l.items };
+    ghost invariant = { λ l. present.max_archives ≤ vec_capacity l.items };
 }
 
 impl<T> ArchiveList<T> {
@@ -38,7 +38,7 @@ impl<T> ArchiveList<T> {
         ensures { IfOk result (λ list. list ≡ []) }
     {
         Ok(ArchiveList {
-            items: Vec::with_capacity(alloc, MOST_ARCHIVES)?,
+            items: Vec::with_capacity(alloc, MAX_ARCHIVES)?,
         })
     }
 
@@ -49,21 +49,21 @@ impl<T> ArchiveList<T> {
         self.items.len()
     }
 
-    /// Returns the item of archive `number`.
-    pub fn get(&self, number: usize) -> &T
-        requires { number < length self.now }
-        ensures { result.now ≡ slice_index_or self.now number result.now }
+    /// Returns the item of archive number `archive`.
+    pub fn get(&self, archive: usize) -> &T
+        requires { archive < length self.now }
+        ensures { result.now ≡ slice_index_or self.now archive result.now }
     {
-        &self.items[number]
+        &self.items[archive]
     }
 
-    /// Lends the item of archive `number` for writing.
-    pub fn get_mut(&mut self, number: usize) -> &mut T
-        requires { number < length self.old }
-        ensures* writes_back { sem 𝓛 (LendsItem T.row self.entry number result) }
-        ensures value { result.now ≡ slice_index_or self.old number result.now }
+    /// Lends the item of archive number `archive` for writing.
+    pub fn get_mut(&mut self, archive: usize) -> &mut T
+        requires { archive < length self.old }
+        ensures* writes_back { sem 𝓛 (LendsItem T.row self.entry archive result) }
+        ensures value { result.now ≡ slice_index_or self.old archive result.now }
     {
-        &mut self.items[number]
+        &mut self.items[archive]
     }
 
     /// Returns the items in order.
@@ -85,30 +85,30 @@ impl<T> ArchiveList<T> {
 impl<T: Drop> ArchiveList<T> {
     /// Adds an item at the end, of a list with fewer than 128 items. Does not allocate.
     pub fn push(&mut self, item: T)
-        requires { length self.old < present.most_archives }
+        requires { length self.old < present.max_archives }
         ensures { self.new ≡ self.old ++ item ∷ [] }
     {
         self.items.push_reserved(item);
     }
 
-    /// Inserts an item as that of archive `number`, or at the end.
+    /// Inserts an item as that of archive number `archive`, or at the end.
     ///
     /// The items after it move up by one number. The list has fewer than 128 items before. Does not allocate.
-    pub fn insert(&mut self, number: usize, item: T)
-        requires there { number ≤ length self.old }
-        requires room { length self.old < present.most_archives }
-        ensures { self.new ≡ insert self.old number item }
+    pub fn insert(&mut self, archive: usize, item: T)
+        requires there { archive ≤ length self.old }
+        requires room { length self.old < present.max_archives }
+        ensures { self.new ≡ insert self.old archive item }
     {
-        let _has_room = self.items.insert(number, item);
+        let _has_room = self.items.insert(archive, item);
     }
 
-    /// Removes and returns the item of archive `number`. The items after it move down by one number.
-    pub fn remove(&mut self, number: usize) -> T
-        requires { number < length self.old }
-        ensures item { result ≡ slice_index_or self.old number result }
-        ensures rest { self.new ≡ remove self.old number }
+    /// Removes and returns the item of archive number `archive`. The items after it move down by one number.
+    pub fn remove(&mut self, archive: usize) -> T
+        requires { archive < length self.old }
+        ensures item { result ≡ slice_index_or self.old archive result }
+        ensures rest { self.new ≡ remove self.old archive }
     {
-        self.items.remove(number)
+        self.items.remove(archive)
     }
 
     /// Drops the last item, if there is one.

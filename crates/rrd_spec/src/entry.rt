@@ -8,7 +8,7 @@ use rrd_fixed::{Kind, Name, Raw};
 
 /// A data source as it was before a tune.
 #[derive(Drop)]
-pub struct SourceBefore {
+pub struct SavedSource {
     /// The number of the data source, from 0 on.
     pub number: u64,
     /// The settings of the data source.
@@ -17,7 +17,7 @@ pub struct SourceBefore {
     pub raw: Raw,
 }
 
-impl Default for SourceBefore {
+impl Default for SavedSource {
     // Fixed arrays hold this value in items that are not in use.
     fn default() -> Self
         ensures { result
@@ -27,7 +27,7 @@ impl Default for SourceBefore {
               raw = Unknown;
             } }
     {
-        SourceBefore {
+        SavedSource {
             number: 0,
             source: DsDef {
                 name: Name::default(),

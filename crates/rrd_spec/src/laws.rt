@@ -281,7 +281,7 @@ pub fn versions_stay_within()
 {}
 
 /// Theorem: a file of version 1 has no entry for an archive that was added or removed.
-pub fn first_version_tells_no_archive()
+pub fn version_1_has_no_archive_entries()
     ensures { (f : Filed) → FirstTellsNoArchive f }
 {}
 

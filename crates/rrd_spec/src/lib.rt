@@ -20,7 +20,7 @@ mod version;
 
 pub use archive_list::ArchiveList;
 pub use due::Due;
-pub use entry::SourceBefore;
+pub use entry::SavedSource;
 pub use list::List;
 pub use outline::Outline;
 pub use refusal::Refusal;
@@ -29,5 +29,5 @@ pub use requests::{
     Tuning, Update,
 };
 pub use settings::{DsDef, RraDef, are_accepted};
-pub use slots::first_place;
+pub use slots::first_slot_row;
 pub use version::Version;

@@ -3,7 +3,7 @@ ghost use Rattle.std.specs.Prelude.{◌≡◌, ◌≤◌, length};
 ghost use Rattle.rrd_spec.specs.declared.refusal.Refusal.TheVariants.{OutOfMemory};
 
 use arrayvec::ArrayString;
-use rrd_fixed::{numbered_text, short_text};
+use rrd_fixed::{message, numbered_message};
 use std::alloc::AllocError;
 use thiserror::Error;
 
@@ -78,34 +78,34 @@ impl Refusal {
         ensures short { length result.bytes ≤ 60 }
     {
         match self {
-            Refusal::BadStep => short_text("bad step"),
-            Refusal::BadStart => short_text("bad start"),
-            Refusal::NoSource => short_text("no data source"),
-            Refusal::NoArchive => short_text("no archive"),
-            Refusal::BadName => short_text("bad name"),
-            Refusal::DoubleName => short_text("double name"),
-            Refusal::BadHeartbeat => short_text("bad heartbeat"),
-            Refusal::BadBounds => short_text("bad bounds"),
-            Refusal::BadXff => short_text("bad xff"),
-            Refusal::BadSteps => short_text("bad steps"),
-            Refusal::BadRows => short_text("bad rows"),
-            Refusal::TooLarge => short_text("too large"),
-            Refusal::BadDepth => short_text("bad journal depth"),
-            Refusal::NoSuchSource => short_text("no such data source"),
-            Refusal::WrongCount => short_text("wrong number of values"),
-            Refusal::BadValue => short_text("bad value"),
-            Refusal::NotLater { last } => numbered_text("not later than ", last),
-            Refusal::NoSample => short_text("no sample"),
-            Refusal::NothingToTune => short_text("nothing to tune"),
-            Refusal::NoSuchArchive => short_text("no such archive"),
-            Refusal::ShrinkTooFar => short_text("shrinks too far"),
-            Refusal::NothingToRevert => short_text("nothing to revert"),
-            Refusal::NoArchiveForFunction => short_text("no archive for this function"),
-            Refusal::SpanTooLong => short_text("span too long"),
-            Refusal::BadSpan => short_text("bad span"),
-            Refusal::OutOfMemory => short_text("out of memory"),
-            Refusal::BadTime => short_text("bad time"),
-            Refusal::MixedTune => short_text("mixed tune"),
+            Refusal::BadStep => message("bad step"),
+            Refusal::BadStart => message("bad start"),
+            Refusal::NoSource => message("no data source"),
+            Refusal::NoArchive => message("no archive"),
+            Refusal::BadName => message("bad name"),
+            Refusal::DoubleName => message("double name"),
+            Refusal::BadHeartbeat => message("bad heartbeat"),
+            Refusal::BadBounds => message("bad bounds"),
+            Refusal::BadXff => message("bad xff"),
+            Refusal::BadSteps => message("bad steps"),
+            Refusal::BadRows => message("bad rows"),
+            Refusal::TooLarge => message("too large"),
+            Refusal::BadDepth => message("bad journal depth"),
+            Refusal::NoSuchSource => message("no such data source"),
+            Refusal::WrongCount => message("wrong number of values"),
+            Refusal::BadValue => message("bad value"),
+            Refusal::NotLater { last } => numbered_message("not later than ", last),
+            Refusal::NoSample => message("no sample"),
+            Refusal::NothingToTune => message("nothing to tune"),
+            Refusal::NoSuchArchive => message("no such archive"),
+            Refusal::ShrinkTooFar => message("shrinks too far"),
+            Refusal::NothingToRevert => message("nothing to revert"),
+            Refusal::NoArchiveForFunction => message("no archive for this function"),
+            Refusal::SpanTooLong => message("span too long"),
+            Refusal::BadSpan => message("bad span"),
+            Refusal::OutOfMemory => message("out of memory"),
+            Refusal::BadTime => message("bad time"),
+            Refusal::MixedTune => message("mixed tune"),
         }
     }
 }

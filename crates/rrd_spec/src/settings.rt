@@ -75,7 +75,7 @@ impl RraDef {
     /// Returns `xff` as an unsigned number of millionths.
     pub fn share(&self) -> u64
         requires low { pos 0 ≤ℤ self.now.xff }
-        requires high { self.now.xff ≤ℤ pos present.greatest_share }
+        requires high { self.now.xff ≤ℤ pos present.max_xff }
         ensures { pos result ≡ self.now.xff }
     {
         self.xff as u64
@@ -86,9 +86,9 @@ impl RraDef {
     /// `step` is the number of seconds in a step, 1 to 1,000,000; the steps of a row are 1 to 1,000,000 too.
     pub fn resolution(&self, step: u64) -> u64
         requires some_step { 0 < step }
-        requires small_step { step ≤ present.longest_step }
+        requires small_step { step ≤ present.max_step_seconds }
         requires some_steps { 0 < self.now.steps }
-        requires few_steps { self.now.steps ≤ present.most_steps }
+        requires few_steps { self.now.steps ≤ present.max_steps_per_row }
         ensures value { result ≡ resolution step self.now }
         ensures some { 0 < result }
         ensures small { result ≤ 10 ^ 12 }

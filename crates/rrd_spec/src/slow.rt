@@ -3,6 +3,8 @@
 //! The program computes the rows of a new database for given samples as a reader of the definitions would by hand: no
 //! state passes from one group to the next, no gap is skipped, and there is no ring. Tests compare the program with the
 //! real database.
+//!
+//! The module is public only for readers of the contracts and for tests: no other crate calls these functions.
 ghost use Rattle.std.specs.Prelude.{◌≡◌, ◌^◌, ◌<◌, ◌≤◌, length, map, replicate, IfOk, IsTrue, ◌↔◌, None, Some, slice_get};
 ghost use Rattle.std.specs.List.{AllByRecursion, fold};
 ghost use Rattle.rrd_fixed.specs.Rate.{IsBounded};
@@ -19,7 +21,7 @@ ghost use Rattle.rrd_spec.specs.Limits.{present};
 ghost use Rattle.rrd_spec.specs.Slow.{AreInOrder, AreNewest, IsGroup, cell_of, event_of, function_of, latest, rule_of, size_of, taken_of};
 ghost use Rattle.rrd_spec.specs.Validity.{AreAccepted, AreParts, IsPart, IsRow};
 
-use crate::limits::LATEST_TIME;
+use crate::limits::MAX_TIME;
 use crate::{CreateSpec, DsDef, List, RraDef, are_accepted};
 use rrd_fixed::{Cell, MILLIONTHS, Raw, near};
 use rrd_fold::Function;
@@ -98,7 +100,7 @@ impl Part {
     // Returns the cell of a step of `step` seconds with this part.
     fn step_cell(self, step: u64) -> Cell
         requires some { 0 < step }
-        requires few { step ≤ present.longest_step }
+        requires few { step ≤ present.max_step_seconds }
         requires part { IsPart Average step self }
         ensures { result ≡ step_cell step self }
     {
@@ -378,7 +380,7 @@ pub fn rows(
 
 // ---- the check of the input
 
-/// Returns whether the samples of a new database are valid input for `rows`.
+/// Returns whether the samples of a new database are valid input for `rows`. A caller of `rows` must have checked this.
 ///
 /// The times must rise, after the start and up to 9,999,999,999, and each sample must have an accepted raw value for
 /// each data source.
@@ -387,7 +389,7 @@ pub fn are_in_order(sources: &[DsDef], start: u64, readings: &[Reading]) -> bool
 {
     let mut last = start;
     for reading in readings {
-        if reading.time <= last || reading.time > LATEST_TIME {
+        if reading.time <= last || reading.time > MAX_TIME {
             return false;
         }
         if !are_accepted(sources, reading.raws.as_slice()) {

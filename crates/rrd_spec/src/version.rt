@@ -1,8 +1,8 @@
 //! The versions of the file layout, and the limits in which they differ.
 ghost use Rattle.std.specs.Prelude.{◌≡◌, ◌≤◌};
-ghost use Rattle.rrd_spec.specs.Limits.{deepest_journal_of, most_archives_of, most_cells_of, present, archives_come_and_go_of};
+ghost use Rattle.rrd_spec.specs.Limits.{max_journal_depth_of, max_archives_of, max_cells_of, present, allows_archive_changes_of};
 
-use crate::limits::{DEEPEST_JOURNAL, MOST_ARCHIVES, MOST_CELLS};
+use crate::limits::{MAX_ARCHIVES, MAX_CELLS, MAX_JOURNAL_DEPTH};
 
 /// A version of the file layout.
 ///
@@ -18,41 +18,41 @@ pub enum Version {
 
 impl Version {
     /// Returns the maximum depth of a journal.
-    pub fn deepest_journal(self) -> u64
-        ensures value { result ≡ deepest_journal_of self }
-        ensures few { result ≤ present.deepest_journal }
+    pub fn max_journal_depth(self) -> u64
+        ensures value { result ≡ max_journal_depth_of self }
+        ensures few { result ≤ present.max_journal_depth }
     {
         match self {
             Version::One => 1_000,
-            Version::Two => DEEPEST_JOURNAL,
+            Version::Two => MAX_JOURNAL_DEPTH,
         }
     }
 
     /// Returns the maximum number of archives.
-    pub fn most_archives(self) -> usize
-        ensures value { result ≡ most_archives_of self }
-        ensures few { result ≤ present.most_archives }
+    pub fn max_archives(self) -> usize
+        ensures value { result ≡ max_archives_of self }
+        ensures few { result ≤ present.max_archives }
     {
         match self {
             Version::One => 64,
-            Version::Two => MOST_ARCHIVES,
+            Version::Two => MAX_ARCHIVES,
         }
     }
 
     /// Returns the maximum number of cells: the data sources times the rows of all archives.
-    pub fn most_cells(self) -> u64
-        ensures value { result ≡ most_cells_of self }
-        ensures few { result ≤ present.most_cells }
+    pub fn max_cells(self) -> u64
+        ensures value { result ≡ max_cells_of self }
+        ensures few { result ≤ present.max_cells }
     {
         match self {
             Version::One => 4_000_000,
-            Version::Two => MOST_CELLS,
+            Version::Two => MAX_CELLS,
         }
     }
 
     /// Returns whether archives may be added and removed, with journal entries for both.
-    pub fn archives_come_and_go(self) -> bool
-        ensures { result ≡ archives_come_and_go_of self }
+    pub fn allows_archive_changes(self) -> bool
+        ensures { result ≡ allows_archive_changes_of self }
     {
         match self {
             Version::One => false,

@@ -12,7 +12,7 @@ use Rattle.rrd_tool.specs.declared.commands.Command.{Command}
 use Rattle.rrd_tool.specs.declared.faults.Fault.{Fault}
 use Rattle.rrd_tool.specs.declared.faults.Fault.TheVariants.{Line, NoDatabase, Output, Refused}
 use Rattle.rrd_tool.specs.declared.faults.LineFault.{LineFault}
-use Rattle.rrd_store.specs.Places.{Held, Leaves, Stays}
+use Rattle.rrd_store.specs.Storages.{Held, Leaves, Stays}
 use Rattle.rrd_store.specs.Runs.{Answers, AnswersRead, Filing, Holds, IsDone, MayStop, ReadsFile, as_written, database_in, kept_next, state_in}
 use Rattle.rrd_store.specs.Single.{EndsBy, FindsOne, RunsAs, RunsFrom, StartsBy}
 use Rattle.rrd_store.specs.declared.faults.TaskFault.{TaskFault}
@@ -85,7 +85,7 @@ text_in (Shows show) s found f = ap (λ (k : Option Stored). text_on k (Shows sh
 
 -- ---- what is left of it
 
--- what is known before a command: where it is accepted it leads to a valid state, and if it changes nothing the place
+-- what is known before a command: where it is accepted it leads to a valid state, and if it changes nothing the storage
 -- that stays has what is kept
 pub record Before (old new : Option Held) (s : Option Filing) (e : Effect) : Type 0 where
   pub stands : verdict_on (database_in s) e ≡ None → StandsFor (stored_next (database_in s) e) (next (state_in s) e)

@@ -15,7 +15,7 @@ use Rattle.rrd_file.specs.Layout.Pieces.{Piece, spell}
 use Rattle.rrd_file.specs.Stages.{Body, Runs, Stage, Start, size}
 use Rattle.rrd_tool.specs.Effects.{stored_of}
 use Rattle.rrd_tool.specs.declared.faults.Fault.TheVariants.{Line, NoDatabase, Output, Refused}
-use Rattle.rrd_store.specs.Places.{Held}
+use Rattle.rrd_store.specs.Storages.{Held}
 use Rattle.rrd_store.specs.Runs.{DamagedFileStays, Filing, IsFrontOf, IsNoFile, IsOfBreak, IsOfBytes, IsValidState, Run}
 use Rattle.rrd_store.specs.declared.faults.TaskFault.{TaskFault}
 use Rattle.rrd_store.specs.declared.faults.TaskFault.TheVariants as task

@@ -1,10 +1,10 @@
--- What a place has after a change, whole or not.
+-- What a storage has after a change, whole or not.
 use Rattle.std.proofs.Common.{◌≡◌, ◌∙◌, ◌++◌, ◌∷◌, [], ℕ, List, Option, Some, None, Result, Ok, Err, true, false, length, ap, sym, refl, inl, inr, append_assoc, append-nil, option_map}
 use Rattle.std.specs.Io.KnownBytes.{Appends}
 use Rattle.std.specs.Result.{is_err}
 use Rattle.rrd_fixed.specs.Written.{AppendsFront, Writes}
 use Rattle.rrd_fixed.specs.declared.streams.WriteFault.{WriteFault}
-use Rattle.rrd_store.specs.Places.{AreAll, Becomes, Bytes, Cuts, FallsBack, Held, IsAfterFailure, IsBegun, IsFor, IsReady, Missing, Stays, TakesOver}
+use Rattle.rrd_store.specs.Storages.{AreAll, Becomes, Bytes, Cuts, FallsBack, Held, IsAfterFailure, IsBegun, IsFor, IsReady, Missing, Stays, TakesOver}
 
 -- a front of what stands before a byte has one more behind it
 front_cut : (old new : Option Held) (bytes written front more : List ℕ) (next : ℕ) (rest : List ℕ)
@@ -32,7 +32,7 @@ made_cut : (old new : Option Held) (bytes : List ℕ) → (bytes ≡ [] → ⊥)
 made_cut old new [] some n = absurd (some refl)
 made_cut old new (b ∷ bytes) some n = inr (inr ([], b, bytes, refl, n))
 
--- a place that was readied, and is then as it was or has a front
+-- a storage that was readied, and is then as it was or has a front
 pub ready_cut : (old new : Option Held) (bytes : List ℕ) → (bytes ≡ [] → ⊥) → IsReady old new → IsAfterFailure old new bytes
 ready_cut None new bytes some r = inl tt
 ready_cut (Some Missing) new bytes some r = elim r [ inl same ↦ inl same | inr made ↦ made_cut (Some Missing) new bytes some made ]
@@ -74,7 +74,7 @@ all_announced count None begun written bytes many b a = tt
 all_announced count (Some announced) begun written bytes many b a =
     ap (option_map (λ (x : List ℕ). length x)) (begun_written begun written bytes b.1 a) ∙ ap (λ (n : ℕ). Some n) (sym (b.0 ∙ many))
 
--- all was written, and the place took it over
+-- all was written, and the storage took it over
 pub taken : (old mid new : Option Held) (begun written : Option (List ℕ)) (bytes : List ℕ) → IsReady old mid → IsBegun old begun
     → Appends begun written bytes → TakesOver mid new written → Becomes old new bytes
 taken None mid new begun written bytes r b a t = tt
@@ -83,14 +83,14 @@ taken (Some old) mid new begun written bytes r b a t = elim (ready_from old mid 
   | Made none e ↦ (rw e at t) ∙ ap (option_map Bytes) (begun_written begun written bytes b a)
 ]
 
--- all was written, and the place did not take it over
+-- all was written, and the storage did not take it over
 pub untaken : (old mid new : Option Held) (begun written : Option (List ℕ)) (bytes : List ℕ) → (bytes ≡ [] → ⊥) → IsReady old mid → IsBegun old begun
     → Appends begun written bytes → Cuts mid new written → IsAfterFailure old new bytes
 untaken None mid new begun written bytes some r b a c = inl tt
 untaken (Some old) mid new begun written bytes some r b a c =
     cut_from old mid new bytes some (ready_from old mid r) (rw (begun_written begun written bytes b a) at c)
 
--- a front was written, of which the place has a front if it isn't as it was
+-- a front was written, of which the storage has a front if it isn't as it was
 fallen_from : (old new : Option Held) (bytes written : List ℕ) (next : ℕ) (rest : List ℕ) → bytes ≡ written ++ next ∷ rest → FallsBack old new (Some written) → IsAfterFailure old new bytes
 fallen_from old new bytes written next rest b f = elim f [
   | inl same ↦ inl same

@@ -11,7 +11,7 @@ use Rattle.rrd_tool.specs.declared.faults.Fault.{Fault}
 use Rattle.rrd_tool.specs.declared.faults.Fault.TheVariants.{Line, NoDatabase, Output, Refused}
 use Rattle.rrd_tool.specs.declared.faults.LineFault.{LineFault}
 use Rattle.rrd_store.specs.Batch.{IsFileBatch, written}
-use Rattle.rrd_store.specs.Places.{Held, Leaves}
+use Rattle.rrd_store.specs.Storages.{Held, Leaves}
 use Rattle.rrd_store.specs.Runs.{ByBatch, ByCommand, FaultChangesNothing, Run, fault_of_batch}
 use Rattle.rrd_store.specs.Single.{EndsBy, RunsAs, RunsFrom}
 use Rattle.rrd_store.specs.declared.batch.FileBatchEnd.{FileBatchEnd}

@@ -6,7 +6,7 @@ use Rattle.rrd_file.specs.Layout.{layout_in}
 use Rattle.rrd_file.specs.Laws.{IsValidIn}
 use Rattle.rrd_tool.specs.Effects.{StandsFor, stored_of}
 use Rattle.rrd_store.specs.Batch.{IsFileBatch, RunsLines, written}
-use Rattle.rrd_store.specs.Places.{Bytes, Held, Stays}
+use Rattle.rrd_store.specs.Storages.{Bytes, Held, Stays}
 use Rattle.rrd_store.specs.Single.{IsSingle}
 use Rattle.rrd_store.specs.Runs.{AnswersLines, BatchRun, ByBatch, ByCommand, CommandRun, Computes, Filing, Holds, IsFirst, MayStop, Run, fault_of, fault_of_batch, first_of, as_written, begun, database_in, state_in}
 use Rattle.rrd_store.specs.declared.batch.FileBatchEnd.{FileBatchEnd}
@@ -51,7 +51,7 @@ batch_computed stays laws old new s held now numbered r0 r1 c0 c1 (Ok end) h =
 
 -- ---- any run
 
--- the run leads from this state to another, and the place has what that leaves
+-- the run leads from this state to another, and the storage has what that leaves
 abbrev pub LeadsIn : Option Held → Option Held → Option Filing → Run → Type 0
 LeadsIn old new s run = (s1 : Option Filing) × Computes s run s1 × IsLeftIn old new s1 (fault_of run)
 

@@ -15,7 +15,7 @@ use Rattle.rrd_file.specs.Layout.Pieces.{Piece, Mark, OfHeader, OfVersion, spell
 use Rattle.std.specs.List.{flat_map}
 use Rattle.std.specs.Result.{result_err}
 use Rattle.rrd_tool.specs.Effects.{StandsFor, stored_of}
-use Rattle.rrd_store.specs.Places.{Bytes, Finds, Held, Leaves, Missing, Reads, Stays}
+use Rattle.rrd_store.specs.Storages.{Bytes, Finds, Held, Leaves, Missing, Reads, Stays}
 use Rattle.rrd_store.specs.Runs.{Filing, Holds, IsFrontOf, IsUnread, IsValidFiling, IsValidState, MayStop, as_written, database_in, state_in}
 use Rattle.rrd_store.specs.declared.faults.TaskFault.{TaskFault}
 use Rattle.rrd_store.specs.declared.faults.TaskFault.TheVariants.{Command, Stream, File, CannotOpen, CannotWrite}
@@ -108,7 +108,7 @@ IsLeft old new s (Some (File fault)) = new ≡ old
 IsLeft old new s (Some (Command fault)) = new ≡ old
 IsLeft old new s (Some (Stream fault)) = new ≡ old
 
--- so it is of a place, as far as it is known what it has; what was known stays known
+-- so it is of a storage, as far as it is known what it has; what was known stays known
 abbrev pub IsLeftIn : Option Held → Option Held → Option Filing → Option TaskFault → Type 0
 IsLeftIn None new s fault = Unit {0}
 IsLeftIn (Some old) None s fault = ⊥
@@ -119,7 +119,7 @@ abbrev pub NoneIs : Option Held → Type 0
 NoneIs None = Unit {0}
 NoneIs (Some held) = held ≡ Missing
 
--- a place has the file of what is kept; where it isn't known what it has, that is valid
+-- a storage has the file of what is kept; where it isn't known what it has, that is valid
 abbrev pub HoldsIn : Option Held → Option Filing → Type 0
 HoldsIn None s = IsValidFiling s
 HoldsIn (Some held) s = Holds held s
@@ -202,7 +202,7 @@ stays_held old new s (File fault) u h = h
 stays_held old new s (Command fault) u h = h
 stays_held old new s (Stream fault) u h = h
 
--- the place stays
+-- the storage stays
 pub stays_left : (old new : Option Held) (s : Option Filing) (fault : TaskFault) → Stays old new → IsUnwritten fault → IsLeftIn old new s (Some fault)
 stays_left None new s fault k u = tt
 stays_left (Some old) None s fault k u = absurd k

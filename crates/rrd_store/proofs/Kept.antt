@@ -9,7 +9,7 @@ use Rattle.rrd_tool.specs.Effects.{Effect}
 use Rattle.rrd_tool.specs.Execution.{Comes, Executes, fault_left, has_changed}
 use Rattle.rrd_tool.specs.declared.commands.Command.{Command}
 use Rattle.rrd_tool.specs.declared.execution.Outcome.{Outcome}
-use Rattle.rrd_store.specs.Places.{Held, Stays}
+use Rattle.rrd_store.specs.Storages.{Held, Stays}
 use Rattle.rrd_tool.specs.declared.faults.Fault.{Fault}
 use Rattle.rrd_tool.specs.declared.faults.Fault.TheVariants.{Line, NoDatabase, Output, Refused}
 

@@ -3,7 +3,7 @@ use Rattle.std.proofs.Common.{◌≡◌, Option, Some, None, Result, Ok, Err}
 use Rattle.std.specs.Result.{result_err}
 use Rattle.rrd_spec.specs.Journal.Survivors.{Stored}
 use Rattle.rrd_store.specs.Batch.{written}
-use Rattle.rrd_store.specs.Places.{Held, Leaves}
+use Rattle.rrd_store.specs.Storages.{Held, Leaves}
 use Rattle.rrd_store.specs.declared.faults.TaskFault.{TaskFault}
 
 done_leaves : (database : Option Stored) (old new : Option Held) (x : Unit {0})

@@ -8,6 +8,6 @@ pub mod UnknownRuns
 pub mod NoDatabase
 pub mod Damaged
 pub mod Standings
-pub mod PlaceRuns
+pub mod StorageRuns
 pub mod FaultRuns
 pub mod Fallen

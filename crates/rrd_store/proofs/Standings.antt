@@ -2,8 +2,8 @@
 use Rattle.std.proofs.Common.{◌≡◌, ◌∷◌, [], ℕ, List, Option, Some, None, sym, refl, subst, inl, inr}
 use Rattle.rrd_spec.specs.Journal.Survivors.{Stored}
 use Rattle.rrd_tool.specs.Effects.{stored_of}
-use Rattle.rrd_store.specs.Places.{Bytes, Held, Stays}
-use Rattle.rrd_store.specs.Runs.{ByBatch, ByCommand, Damaged, DidIn, Ended, Event, Filing, HappenedAll, HasNone, Holds, IsFileIn, IsFileOf, IsNoFile, Keeping, KeepsNone, Killed, Leads, LeadsAll, LeadsKilled, Run, RunIsComputed, RunsAreComputed, Standing, StandsBy, WasKilled, fault_of, first_of}
+use Rattle.rrd_store.specs.Storages.{Bytes, Held, Stays}
+use Rattle.rrd_store.specs.Runs.{ByBatch, ByCommand, Damaged, DidIn, Ended, Event, Filing, HappenedAll, HasNone, Holds, IsFileIn, IsFileOf, IsNoFile, Keeping, KeepsNone, Killed, Leads, LeadsAll, LeadsKilled, Run, RunIsComputed, RunsFollowSpecification, Standing, StandsBy, WasKilled, fault_of, first_of}
 use Rattle.rrd_store.specs.declared.faults.TaskFault.{TaskFault}
 use Rattle.rrd_store.specs.declared.faults.TaskFault.TheVariants as task
 use Rattle.rrd_store.proofs.Damaged.{Layouts, front_is_none}
@@ -20,7 +20,7 @@ pub record Laws : Type 0 where
 
 -- ---- after one run
 
--- whatever the place has there is a standing
+-- whatever the storage has there is a standing
 pub some_standing : (t : Standing) (s1 : Option Filing) (fault : Option TaskFault) → (t1 : Standing) × StandsBy t s1 fault t1
 some_standing t s1 None = (Keeping s1, refl)
 some_standing t s1 (Some task.CannotWrite) = (t, inl refl)
@@ -118,6 +118,6 @@ module _ (laws : Laws) where
       let more = events_from h.0 one.0 events new one.2 h.2 in
       (more.0, (one.0, one.1, more.1), more.2)
 
-  pub runs_computed : (old : Held) (first : Option Stored) (events : List Event) (new : Held) → RunsAreComputed old first events new
+  pub runs_computed : (old : Held) (first : Option Stored) (events : List Event) (new : Held) → RunsFollowSpecification old first events new
   runs_computed old first events new is h =
       events_from old (Keeping (first_of old first is)) events new (first_held laws.stays laws.reading old first is) h

@@ -1,4 +1,4 @@
--- A run over a place of which it isn't known what it has is one over some valid database, or over none.
+-- A run over a storage of which it isn't known what it has is one over some valid database, or over none.
 use Rattle.std.proofs.Common.{◌≡◌, ◌⊎◌, ℕ, List, Option, Some, None, Result, Ok, Err, inl, inr, sym, ap, refl, subst}
 use Rattle.std.specs.Io.KnownBytes.{Keeps}
 use Rattle.std.specs.Result.{result_err}
@@ -10,7 +10,7 @@ use Rattle.rrd_tool.specs.Effects.{Changes, Effect, Makes, Reverts, Shows}
 use Rattle.rrd_tool.specs.declared.commands.Command.{Command}
 use Rattle.rrd_tool.specs.declared.faults.LineFault.{LineFault}
 use Rattle.rrd_store.specs.Batch.{IsFileBatch, RunsLines}
-use Rattle.rrd_store.specs.Places.{Finds, Held}
+use Rattle.rrd_store.specs.Storages.{Finds, Held}
 use Rattle.rrd_store.specs.Runs.{AnswersLines, AnswersRead, Filing, IsOfPlace, IsValidFiling, begun, database_in, fault_of_batch}
 use Rattle.rrd_store.specs.Single.{RunsAs, RunsFrom, StartsBy}
 use Rattle.rrd_store.specs.declared.batch.FileBatchEnd.{FileBatchEnd}

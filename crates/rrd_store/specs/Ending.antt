@@ -3,7 +3,7 @@ use Rattle.std.specs.Prelude.{◌==◌, ◌++◌, [], ℕ, List, Option, Some, N
 use Rattle.rrd_fixed.specs.Written.{Writes}
 use Rattle.rrd_fixed.specs.declared.streams.WriteFault.{WriteFault}
 use Rattle.rrd_tool.specs.declared.batch.StreamFault.{StreamFault}
-use Rattle.rrd_store.specs.Faults.{is_misuse, report_of}
+use Rattle.rrd_store.specs.Faults.{is_usage_error, report_of}
 use Rattle.rrd_store.specs.declared.batch.FileBatchEnd.{FileBatchEnd}
 use Rattle.rrd_store.specs.declared.faults.TaskFault.{TaskFault}
 use Rattle.rrd_store.specs.declared.faults.TaskFault.TheVariants.{Stream}
@@ -21,7 +21,7 @@ report_if usage (Some fault) = report_of usage fault
 -- 2 if the words were no command, 1 after any other fault
 abbrev pub single_status : Result (Unit {0}) TaskFault → ℕ
 single_status (Ok x) = 0
-single_status (Err fault) = if is_misuse fault then 2 else 1
+single_status (Err fault) = if is_usage_error fault then 2 else 1
 
 -- ---- a batch
 

@@ -24,24 +24,24 @@ task_fault_text CannotOpen = codes "cannot open"
 task_fault_text CannotWrite = codes "cannot write"
 
 -- words that are no command
-abbrev pub is_misuse_line : LineFault → Bool
-is_misuse_line line.Usage = true
-is_misuse_line (line.BadWord part number) = false
-is_misuse_line line.OutOfMemory = false
+abbrev pub is_usage_error_line : LineFault → Bool
+is_usage_error_line line.Usage = true
+is_usage_error_line (line.BadWord part number) = false
+is_usage_error_line line.OutOfMemory = false
 
-abbrev pub is_misuse_command : Fault → Bool
-is_misuse_command (fault.Line f) = is_misuse_line f
-is_misuse_command (fault.Refused refusal) = false
-is_misuse_command fault.NoDatabase = false
-is_misuse_command fault.Output = false
+abbrev pub is_usage_error_command : Fault → Bool
+is_usage_error_command (fault.Line f) = is_usage_error_line f
+is_usage_error_command (fault.Refused refusal) = false
+is_usage_error_command fault.NoDatabase = false
+is_usage_error_command fault.Output = false
 
-abbrev pub is_misuse : TaskFault → Bool
-is_misuse (Command fault) = is_misuse_command fault
-is_misuse (Stream fault) = false
-is_misuse (File fault) = false
-is_misuse CannotOpen = false
-is_misuse CannotWrite = false
+abbrev pub is_usage_error : TaskFault → Bool
+is_usage_error (Command fault) = is_usage_error_command fault
+is_usage_error (Stream fault) = false
+is_usage_error (File fault) = false
+is_usage_error CannotOpen = false
+is_usage_error CannotWrite = false
 
 -- what is written for a fault: its line, and the usage text where the words were no command
 abbrev pub report_of : List ℕ → TaskFault → List ℕ
-report_of usage fault = error_line (task_fault_text fault) ++ (if is_misuse fault then usage else [])
+report_of usage fault = error_line (task_fault_text fault) ++ (if is_usage_error fault then usage else [])

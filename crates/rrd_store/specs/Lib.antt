@@ -1,6 +1,6 @@
 pub mod Tasks
 pub mod Faults
-pub mod Places
+pub mod Storages
 pub mod Single
 pub mod Batch
 pub mod Ending

@@ -25,7 +25,7 @@ use Rattle.rrd_tool.specs.declared.faults.Fault.{Fault}
 use Rattle.rrd_tool.specs.declared.faults.Fault.TheVariants.{Line, NoDatabase, Output, Refused}
 use Rattle.rrd_tool.specs.declared.faults.LineFault.{LineFault}
 use Rattle.rrd_store.specs.Batch.{IsFileBatch}
-use Rattle.rrd_store.specs.Places.{Held, Missing, Bytes}
+use Rattle.rrd_store.specs.Storages.{Held, Missing, Bytes}
 use Rattle.rrd_store.specs.Single.{IsSingle}
 use Rattle.rrd_store.specs.declared.batch.FileBatchEnd.{FileBatchEnd}
 use Rattle.rrd_store.specs.declared.faults.TaskFault.{TaskFault}
@@ -56,7 +56,7 @@ pub data Run : Type 0 where
   ByCommand : CommandRun → Run
   ByBatch : BatchRun → Run
 
--- the run took the place from what it had to what it has: just what `run_single`, or `run_file_batch`, ensures
+-- the run took the storage from what it had to what it has: just what `run_file_command`, or `run_file_batch`, ensures
 abbrev pub DidIn : Option Held → Run → Option Held → Type 0
 DidIn old (ByCommand r) new = IsSingle r.words r.now old new r.out_before r.out_after r.end
 DidIn old (ByBatch r) new = IsFileBatch r.now r.numbered old new r.in_before r.in_after r.out_before r.out_after r.end
@@ -124,7 +124,7 @@ abbrev pub IsFileOf : Held → Standing → Type 0
 IsFileOf held (Keeping s) = Holds held s
 IsFileOf held (Damaged bytes) = (held ≡ Bytes bytes) × IsNoFile bytes
 
--- so it is of a place of which it was known what it had; what was known stays known
+-- so it is of a storage of which it was known what it had; what was known stays known
 abbrev pub IsFileIn : Option Held → Standing → Type 0
 IsFileIn None t = ⊥
 IsFileIn (Some held) t = IsFileOf held t
@@ -327,9 +327,9 @@ abbrev pub LeadsAll : Standing → List Event → Standing → Type 0
 LeadsAll t [] t1 = t1 ≡ t
 LeadsAll t (event ∷ events) t1 = (between : Standing) × LeadsBy t event between × LeadsAll between events t1
 
--- ---- one run over a place: what `run_single` and `run_file_batch` ensure
+-- ---- one run over a storage: what `run_file_command` and `run_file_batch` ensure
 
--- the place didn't open, or what is there is no database that can be read
+-- the storage didn't open, or what is there is no database that can be read
 abbrev pub IsOfPlace : TaskFault → Type 0
 IsOfPlace task.CannotOpen = Unit {0}
 IsOfPlace (task.File fault) = Unit {0}
@@ -342,8 +342,8 @@ abbrev pub EndsUnread : Run → Type 0
 EndsUnread run = (fault : TaskFault) × IsOfPlace fault × (fault_of run ≡ Some fault) × OutputStays run
 
 -- the run does what is computed from what the file stands for, and leaves the file of that. Where it isn't known what
--- the place has, as of a file of the program, it does what is computed from some valid state, or from none, or it ends
--- unread
+-- the storage has, as of a file of the program, it does what is computed from some valid state, or from none, or it
+-- ends unread
 abbrev pub IsComputed : Option Held → Option Held → Run → Type 0
 IsComputed None new run =
     ((s : Option Filing) × IsValidFiling s × (t1 : Standing) × Leads (Keeping s) run t1) ⊎ EndsUnread run
@@ -373,8 +373,8 @@ first_of held (Some d) is = Some (record { version = is.2.version; state = begun
 
 -- the headline: after any list of runs, batches and single commands, with any outcome of memory, with failed writes and
 -- kills, the file has the bytes, and the outputs have the texts, that the definitions compute from the first file
-abbrev pub RunsAreComputed : Held → Option Stored → List Event → Held → Type 0
-RunsAreComputed old first events new =
+abbrev pub RunsFollowSpecification : Held → Option Stored → List Event → Held → Type 0
+RunsFollowSpecification old first events new =
     (is : IsFirst old first) → HappenedAll old events new
     → (last : Standing) × LeadsAll (Keeping (first_of old first is)) events last × IsFileOf new last
 

@@ -12,19 +12,19 @@ use Rattle.rrd_tool.specs.declared.execution.Outcome.{Outcome}
 use Rattle.rrd_tool.specs.declared.faults.Fault.{Fault}
 use Rattle.rrd_tool.specs.declared.faults.Fault.TheVariants.{Line, Output}
 use Rattle.rrd_tool.specs.declared.faults.LineFault.{LineFault}
-use Rattle.rrd_store.specs.Places.{Finds, Held, Leaves, Stays}
+use Rattle.rrd_store.specs.Storages.{Finds, Held, Leaves, Stays}
 use Rattle.rrd_store.specs.declared.faults.TaskFault.{TaskFault}
-use Rattle.rrd_store.specs.declared.place.Access.{Access}
-use Rattle.rrd_store.specs.declared.place.Access.TheVariants.{Change, Read}
+use Rattle.rrd_store.specs.declared.storage.Access.{Access}
+use Rattle.rrd_store.specs.declared.storage.Access.TheVariants.{Read, ReadWrite}
 use Rattle.rrd_store.specs.declared.faults.TaskFault.TheVariants as task
 
 -- ---- the database before the command
 
 -- what may change is asked for to be changed, what shows something to be read
 abbrev pub access_for : Effect → Access
-access_for effect = if is_change effect then Change else Read
+access_for effect = if is_change effect then ReadWrite else Read
 
--- a place where nothing is can't be opened
+-- a storage where nothing is can't be opened
 abbrev pub FindsOne : Option Held → Result (Option Stored) TaskFault → Type 0
 FindsOne held (Ok None) = ⊥
 FindsOne held (Ok (Some database)) = Finds held (Ok (Some database))
@@ -42,8 +42,8 @@ StartsFrom command held start = StartsBy (effect command) held start
 
 -- ---- what is left of it
 
--- after a refused command and one that printed the place is as it was; a change is written. What was printed, which is
--- some text, may fail to be handed on
+-- after a refused command and one that printed the storage is as it was; a change is written. What was printed, which
+-- is some text, may fail to be handed on
 abbrev pub EndsBy : Option Fault → Bool → Option Stored → List ℕ → Option Held → Option Held
     → Result (Unit {0}) TaskFault → Type 0
 EndsBy (Some fault) changed database text old new end = (end ≡ Err (task.Command fault)) × Stays old new
@@ -56,9 +56,9 @@ EndsBy None false database text old new (Err fault) =
 abbrev pub Ends : Outcome → List ℕ → Option Held → Option Held → Result (Unit {0}) TaskFault → Type 0
 Ends outcome text old new end = EndsBy (fault_left outcome) (has_changed outcome) (database_left outcome) text old new end
 
--- ---- the whole: `old` and `new` are what the place has before and after, `c0` and `c1` what the output has
+-- ---- the whole: `old` and `new` are what the storage has before and after, `c0` and `c1` what the output has
 
--- the place is not written, and nothing is printed
+-- the storage is not written, and nothing is printed
 abbrev pub Stops : TaskFault → Option Held → Option Held → Option (List ℕ) → Option (List ℕ)
     → Result (Unit {0}) TaskFault → Type 0
 Stops fault old new c0 c1 end = (end ≡ Err fault) × Stays old new × Keeps c0 c1
@@ -72,7 +72,7 @@ RunsFrom command (Ok kept) old new c0 c1 end =
     × Executes kept command c0 c1 outcome
     × Ends outcome (text_on kept (effect command)) old new end
 
--- what was read of the words is looked for in the place, if it is a command
+-- what was read of the words is looked for in the storage, if it is a command
 abbrev pub RunsAs : Result Command LineFault → Option Held → Option Held → Option (List ℕ)
     → Option (List ℕ) → Result (Unit {0}) TaskFault → Type 0
 RunsAs (Err fault) old new c0 c1 end = Stops (task.Command (Line fault)) old new c0 c1 end

@@ -2,9 +2,9 @@
 ghost use Rattle.rrd_store.specs.Batch.{IsFileBatch};
 ghost use Rattle.rrd_store.specs.Runs.{ByBatch, IsComputed};
 
-use crate::laws::place_runs_are_computed;
+use crate::laws::storage_runs_follow_specification;
 use crate::stored::{load, store};
-use crate::{Access, Place, TaskFault};
+use crate::{Access, Storage, TaskFault};
 use rrd_tool::{StreamFault, run_batch};
 use std::alloc::Global;
 use std::io::{Read, Write};
@@ -23,20 +23,20 @@ pub struct FileBatchEnd {
 }
 
 // Reads the database, runs the lines, and writes the database that the lines left.
-fn run_over<P: Place, R: Read, W: Write>(
+fn run_over<P: Storage, R: Read, W: Write>(
     alloc: Global,
     now: u64,
     numbered: usize,
-    place: &mut P,
+    storage: &mut P,
     reader: &mut R,
     out: &mut W,
 ) -> Result<FileBatchEnd, TaskFault>
-    ensures { IsFileBatch now numbered (P.contents place.old) (P.contents place.new)
+    ensures { IsFileBatch now numbered (P.contents storage.old) (P.contents storage.new)
         (R.remaining reader.old) (R.remaining reader.new) (W.contents out.old) (W.contents out.new) result }
 {
-    let database = load(alloc, place, Access::Change)?;
+    let database = load(alloc, storage, Access::ReadWrite)?;
     let end = run_batch(alloc, database, now, numbered, reader, out);
-    let unstored = store(place, end.database.as_ref()).err();
+    let unstored = store(storage, end.database.as_ref()).err();
     Ok(FileBatchEnd {
         refused: end.refused,
         lines: end.lines,
@@ -45,28 +45,28 @@ fn run_over<P: Place, R: Read, W: Write>(
     })
 }
 
-/// Runs each line of `reader` on the database in `place`, and writes the database at the end.
+/// Runs each line of `reader` on the database in `storage`, and writes the database at the end.
 ///
-/// Runs the lines as [`run_batch`] does. If `place` has nothing, the batch starts without a database. If there is no
+/// Runs the lines as [`run_batch`] does. If `storage` has nothing, the batch starts without a database. If there is no
 /// database at the end, nothing is written.
 /// `now` is the present time in seconds since 1970, `numbered` the maximum number of refused lines to list. Nobody else
-/// may change `place` between the first read and the write.
+/// may change `storage` between the first read and the write.
 ///
 /// # Errors
 ///
-/// `File` or `CannotOpen` if no database can be read from `place`. No line was read then, nothing was written, and
-/// `place` is unchanged.
-pub fn run_file_batch<P: Place, R: Read, W: Write>(
+/// `File` or `CannotOpen` if no database can be read from `storage`. No line was read then, nothing was written, and
+/// `storage` is unchanged.
+pub fn run_file_batch<P: Storage, R: Read, W: Write>(
     alloc: Global,
     now: u64,
     numbered: usize,
-    place: &mut P,
+    storage: &mut P,
     reader: &mut R,
     out: &mut W,
 ) -> Result<FileBatchEnd, TaskFault>
-    ensures run { IsFileBatch now numbered (P.contents place.old) (P.contents place.new)
+    ensures run { IsFileBatch now numbered (P.contents storage.old) (P.contents storage.new)
         (R.remaining reader.old) (R.remaining reader.new) (W.contents out.old) (W.contents out.new) result }
-    ensures computed { IsComputed (P.contents place.old) (P.contents place.new)
+    ensures computed { IsComputed (P.contents storage.old) (P.contents storage.new)
         (ByBatch (record {
           now = now;
           numbered = numbered;
@@ -77,6 +77,6 @@ pub fn run_file_batch<P: Place, R: Read, W: Write>(
           end = result;
         })) }
 {
-    place_runs_are_computed();
-    run_over(alloc, now, numbered, place, reader, out)
+    storage_runs_follow_specification();
+    run_over(alloc, now, numbered, storage, reader, out)
 }

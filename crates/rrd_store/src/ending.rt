@@ -4,8 +4,9 @@ ghost use Rattle.std.specs.Result.{result_err};
 ghost use Rattle.rrd_fixed.specs.Written.{Writes};
 ghost use Rattle.rrd_store.specs.Ending.{Tells, batch_report, batch_status, file_batch_report, file_batch_status, report_if, single_status};
 
+use crate::faults::write_task_fault;
 use crate::usage::USAGE;
-use crate::{FileBatchEnd, TaskFault, write_task_fault};
+use crate::{FileBatchEnd, TaskFault};
 use rrd_fixed::WriteFault;
 use rrd_tool::StreamFault;
 use std::io::Write;
@@ -16,7 +17,7 @@ fn single_status(end: Result<(), TaskFault>) -> u8
 {
     match end {
         Ok(()) => 0,
-        Err(fault) if fault.is_misuse() => 2,
+        Err(fault) if fault.is_usage_error() => 2,
         Err(_) => 1,
     }
 }
@@ -60,7 +61,7 @@ fn write_batch_faults<W: Write>(
 ///
 /// The status is 0 if nothing was refused and nothing failed, 2 if the arguments were no command, 1 otherwise. If the
 /// report cannot be written, the status is the same.
-pub fn end_single<W: Write>(err: &mut W, end: Result<(), TaskFault>) -> u8
+pub fn report_command<W: Write>(err: &mut W, end: Result<(), TaskFault>) -> u8
     ensures status { result ≡ single_status end }
     ensures told { Tells (W.contents err.old) (W.contents err.new) (report_if USAGE.now (result_err end)) }
 {
@@ -72,7 +73,7 @@ pub fn end_single<W: Write>(err: &mut W, end: Result<(), TaskFault>) -> u8
 ///
 /// The report has a line for the stream that failed, and a line if the database was not written. The status is 0 if no
 /// line was refused and nothing failed, 1 otherwise. If the report cannot be written, the status is the same.
-pub fn end_batch<W: Write>(
+pub fn report_batch<W: Write>(
     err: &mut W,
     refused: u64,
     stream: Option<StreamFault>,
@@ -87,14 +88,14 @@ pub fn end_batch<W: Write>(
 
 /// Reports the faults of a batch on a file, and returns the status of the program.
 ///
-/// If the lines were run, the report and the status are those of [`end_batch`]. If no database could be read from the
-/// file, they are those of [`end_single`].
-pub fn end_file_batch<W: Write>(err: &mut W, end: Result<FileBatchEnd, TaskFault>) -> u8
+/// If the lines were run, the report and the status are those of [`report_batch`]. If no database could be read from
+/// the file, they are those of [`report_command`].
+pub fn report_file_batch<W: Write>(err: &mut W, end: Result<FileBatchEnd, TaskFault>) -> u8
     ensures status { result ≡ file_batch_status end }
     ensures told { Tells (W.contents err.old) (W.contents err.new) (file_batch_report USAGE.now end) }
 {
     match end {
-        Ok(end) => end_batch(err, end.refused, end.stream, end.unstored),
-        Err(fault) => end_single(err, Err(fault)),
+        Ok(end) => report_batch(err, end.refused, end.stream, end.unstored),
+        Err(fault) => report_command(err, Err(fault)),
     }
 }

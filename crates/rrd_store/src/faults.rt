@@ -2,12 +2,12 @@
 ghost use Rattle.std.specs.Prelude.{◌≡◌, ◌≤◌, length};
 ghost use Rattle.rrd_fixed.specs.Written.{Writes};
 ghost use Rattle.rrd_tool.specs.Faults.{error_line};
-ghost use Rattle.rrd_store.specs.Faults.{is_misuse, report_of, stream_text, task_fault_text};
+ghost use Rattle.rrd_store.specs.Faults.{is_usage_error, report_of, stream_text, task_fault_text};
 
 use crate::usage::USAGE;
 use arrayvec::ArrayString;
 use rrd_file::FileFault;
-use rrd_fixed::{WriteFault, short_text, write_bytes};
+use rrd_fixed::{WriteFault, message, write_bytes};
 use rrd_tool::{Fault, LineFault, StreamFault, write_error};
 use std::io::Write;
 use thiserror::Error;
@@ -47,9 +47,9 @@ fn stream_string(fault: StreamFault) -> ArrayString<96>
     ensures short { length result.bytes ≤ 60 }
 {
     match fault {
-        StreamFault::Write => short_text("write failed"),
-        StreamFault::Read => short_text("read failed"),
-        StreamFault::OutOfMemory => short_text("out of memory"),
+        StreamFault::Write => message("write failed"),
+        StreamFault::Read => message("read failed"),
+        StreamFault::OutOfMemory => message("out of memory"),
     }
 }
 
@@ -63,14 +63,14 @@ impl TaskFault {
             TaskFault::Command(fault) => fault.text(),
             TaskFault::Stream(fault) => stream_string(fault),
             TaskFault::File(fault) => fault.text(),
-            TaskFault::CannotOpen => short_text("cannot open"),
-            TaskFault::CannotWrite => short_text("cannot write"),
+            TaskFault::CannotOpen => message("cannot open"),
+            TaskFault::CannotWrite => message("cannot write"),
         }
     }
 
     /// Checks whether the arguments were no command. The usage text follows the line of such a fault.
-    pub fn is_misuse(self) -> bool
-        ensures { result ≡ is_misuse self }
+    pub(crate) fn is_usage_error(self) -> bool
+        ensures { result ≡ is_usage_error self }
     {
         matches!(self, TaskFault::Command(Fault::Line(LineFault::Usage)))
     }
@@ -88,11 +88,11 @@ fn write_line<W: Write>(err: &mut W, fault: &TaskFault) -> Result<(), WriteFault
 /// # Errors
 ///
 /// A write failed. A first part of the line and the text is written.
-pub fn write_task_fault<W: Write>(err: &mut W, fault: &TaskFault) -> Result<(), WriteFault>
+pub(crate) fn write_task_fault<W: Write>(err: &mut W, fault: &TaskFault) -> Result<(), WriteFault>
     ensures { Writes (W.contents err.old) (W.contents err.new) (report_of USAGE.now fault.now) result }
 {
     write_line(err, fault)?;
-    if fault.is_misuse() {
+    if fault.is_usage_error() {
         return write_bytes(err, USAGE.as_bytes());
     }
     Ok(())

@@ -1,7 +1,9 @@
 //! Theorems about the tasks. Each is the contract of a function that does nothing.
+//!
+//! The module is public only for readers of the contracts: no other crate calls these functions.
 ghost use Rattle.std.specs.Prelude.{ℕ, List, Option};
 ghost use Rattle.rrd_spec.specs.Journal.Survivors.{Stored};
-ghost use Rattle.rrd_store.specs.Places.{Held};
+ghost use Rattle.rrd_store.specs.Storages.{Held};
 ghost use Rattle.rrd_store.specs.Runs as laws;
 ghost use Rattle.rrd_store.specs.declared.faults.TaskFault.{TaskFault};
 
@@ -18,9 +20,9 @@ use rrd_spec::laws::{
 /// the run or after the run, or a first part of the latter, which stays until a create. A killed run leaves the state
 /// before the run or after the run; if there was no database, there may be none. The clause `each` says the same of one
 /// run on any file.
-pub fn runs_are_computed()
+pub fn runs_follow_specification()
     ensures all { (old : Held) (first : Option Stored) (events : List laws.Event) (new : Held) →
-        laws.RunsAreComputed old first events new }
+        laws.RunsFollowSpecification old first events new }
     ensures each { (old : Held) (t : laws.Standing) (event : laws.Event) (new : Held) →
         laws.RunIsComputed old t event new }
 {
@@ -36,7 +38,7 @@ pub fn runs_are_computed()
 }
 
 /// Theorem: the definitions compute what one run on a storage leaves and prints, if the storage's bytes are known.
-pub(crate) fn place_runs_are_computed()
+pub(crate) fn storage_runs_follow_specification()
     ensures { (old : Option Held) (run : laws.Run) (new : Option Held) →
         laws.DidIn old run new → laws.IsComputed old new run }
 {
@@ -53,7 +55,7 @@ pub(crate) fn place_runs_are_computed()
 
 /// Theorem: a run that ends with a fault of the command or of the file leaves the file as it was, whatever the file is,
 /// except if the fault is that the file could not be written.
-pub fn faults_change_nothing()
+pub fn errors_change_nothing()
     ensures { (old : Held) (run : laws.Run) (fault : TaskFault) (new : Held) →
         laws.FaultChangesNothing old run fault new }
 {}

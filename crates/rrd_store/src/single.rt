@@ -7,9 +7,9 @@ ghost use Rattle.rrd_tool.specs.Lines.{is_empty};
 ghost use Rattle.rrd_store.specs.Runs.{ByCommand, IsComputed};
 ghost use Rattle.rrd_store.specs.Single.{Ends, IsSingle, StartsFrom, access_for};
 
-use crate::laws::place_runs_are_computed;
+use crate::laws::storage_runs_follow_specification;
 use crate::stored::{load, store};
-use crate::{Access, Place, TaskFault};
+use crate::{Access, Storage, TaskFault};
 use rrd_base::Database;
 use rrd_fixed::flush;
 use rrd_tool::{Command, Fault, Outcome, Words, execute, read_command};
@@ -30,37 +30,41 @@ fn access_of(command: &Command) -> Access
         | Command::Update(_)
         | Command::Tune(_)
         | Command::Resize { .. }
-        | Command::Revert => Access::Change,
+        | Command::Revert => Access::ReadWrite,
     }
 }
 
 // Returns the database that a command runs on. A command that creates a database does not read the storage.
-fn start<P: Place>(
+fn start<P: Storage>(
     alloc: Global,
     command: &Command,
-    place: &mut P,
+    storage: &mut P,
 ) -> Result<Option<Database>, TaskFault>
-    ensures start { StartsFrom command.now (P.contents place.old) result }
-    ensures stays { P.contents place.new ≡ P.contents place.old }
+    ensures start { StartsFrom command.now (P.contents storage.old) result }
+    ensures stays { P.contents storage.new ≡ P.contents storage.old }
 {
     if let Command::Create(_) = command {
         return Ok(None);
     }
-    match load(alloc, place, access_of(command))? {
+    match load(alloc, storage, access_of(command))? {
         Some(database) => Ok(Some(database)),
         None => Err(TaskFault::CannotOpen),
     }
 }
 
 // Flushes the output of a command, or writes the database that the command changed.
-fn finish<P: Place, W: Write>(outcome: Outcome, place: &mut P, out: &mut W) -> Result<(), TaskFault>
-    ensures place { (text : List ℕ) → (fault_left outcome ≡ None → has_changed outcome ≡ false → is_empty text ≡ false)
-        → Ends outcome text (P.contents place.old) (P.contents place.new) result }
+fn finish<P: Storage, W: Write>(
+    outcome: Outcome,
+    storage: &mut P,
+    out: &mut W,
+) -> Result<(), TaskFault>
+    ensures storage { (text : List ℕ) → (fault_left outcome ≡ None → has_changed outcome ≡ false → is_empty text ≡ false)
+        → Ends outcome text (P.contents storage.old) (P.contents storage.new) result }
     ensures out { Keeps (W.contents out.old) (W.contents out.new) }
 {
     match outcome {
         Outcome::Refused { fault, .. } => Err(TaskFault::Command(fault)),
-        Outcome::Changed(database) => store(place, Some(&database)),
+        Outcome::Changed(database) => store(storage, Some(&database)),
         Outcome::Printed(_) => match flush(out) {
             Ok(()) => Ok(()),
             Err(_) => Err(TaskFault::Command(Fault::Output)),
@@ -69,45 +73,46 @@ fn finish<P: Place, W: Write>(outcome: Outcome, place: &mut P, out: &mut W) -> R
 }
 
 // Parses the arguments, reads the database, runs the command, and writes the database that the command changed.
-fn run_words<P: Place, W: Write>(
+fn run_words<P: Storage, W: Write>(
     alloc: Global,
     words: &Words<'_>,
     now: u64,
-    place: &mut P,
+    storage: &mut P,
     out: &mut W,
 ) -> Result<(), TaskFault>
-    ensures { IsSingle words.now now (P.contents place.old) (P.contents place.new)
+    ensures { IsSingle words.now now (P.contents storage.old) (P.contents storage.new)
         (W.contents out.old) (W.contents out.new) result }
 {
     let command = read_command(alloc, words, now)?;
-    let database = start(alloc, &command, place)?;
+    let database = start(alloc, &command, storage)?;
     let outcome = execute(alloc, database, command, out);
-    finish(outcome, place, out)
+    finish(outcome, storage, out)
 }
 
-/// Runs one command on the database in `place`, and writes the command's output to `out`.
+/// Runs one command on the database in `storage`, and writes the command's output to `out`.
 ///
-/// The arguments are parsed first. Then the database is read from `place`, unless the command is a create. Then the
-/// command runs, and if the command changed the database, the database is written to `place`. `now` is the present time
-/// in seconds since 1970.
+/// The arguments are parsed first. Then the database is read from `storage`, unless the command is a create. Then the
+/// command runs, and if the command changed the database, the database is written to `storage`. `now` is the present
+/// time in seconds since 1970.
 ///
 /// # Errors
 ///
-/// - `Command` if the arguments are no command. `place` was not read.
-/// - `CannotOpen` or `File` if no database can be read from `place`.
-/// - `Command` if the command is refused, or a write of its output failed. `place` is unchanged, as in the cases above.
-/// - `CannotWrite` if an accepted change could not be written: `place` has its old bytes, or the new bytes, or the
+/// - `Command` if the arguments are no command. `storage` was not read.
+/// - `CannotOpen` or `File` if no database can be read from `storage`.
+/// - `Command` if the command is refused, or a write of its output failed. `storage` is unchanged, as in the cases
+///   above.
+/// - `CannotWrite` if an accepted change could not be written: `storage` has its old bytes, or the new bytes, or the
 ///   first part of the new bytes.
-pub fn run_single<P: Place, W: Write>(
+pub fn run_file_command<P: Storage, W: Write>(
     alloc: Global,
     words: &Words<'_>,
     now: u64,
-    place: &mut P,
+    storage: &mut P,
     out: &mut W,
 ) -> Result<(), TaskFault>
-    ensures run { IsSingle words.now now (P.contents place.old) (P.contents place.new)
+    ensures run { IsSingle words.now now (P.contents storage.old) (P.contents storage.new)
         (W.contents out.old) (W.contents out.new) result }
-    ensures computed { IsComputed (P.contents place.old) (P.contents place.new)
+    ensures computed { IsComputed (P.contents storage.old) (P.contents storage.new)
         (ByCommand (record {
           words = words.now;
           now = now;
@@ -116,6 +121,6 @@ pub fn run_single<P: Place, W: Write>(
           end = result;
         })) }
 {
-    place_runs_are_computed();
-    run_words(alloc, words, now, place, out)
+    storage_runs_follow_specification();
+    run_words(alloc, words, now, storage, out)
 }

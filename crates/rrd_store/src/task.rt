@@ -40,7 +40,7 @@ fn command_words<'a>(
 /// # Errors
 ///
 /// `AllocError` if memory runs out for the arguments of a command.
-pub fn asked_for<'a>(alloc: Global, words: &'a [String]) -> Result<Task<'a>, AllocError>
+pub fn parse_task<'a>(alloc: Global, words: &'a [String]) -> Result<Task<'a>, AllocError>
     ensures { IfOk result (λ task. told_by task ≡ asked (map string_bytes words.now)) }
 {
     match words {

@@ -22,12 +22,12 @@ use Rattle.rrd_tail.proofs.Standing.{part_is, length-part, stands_from, standing
 
 pub right_at_from : (at : ℕ) (r : Record) → is_right_at at r ≡ true → IsRightAt at r
 right_at_from at r h =
-    let four = and_parts (eqb r.place at && eqb (at % 4096) 0 && leb 16 r.length && leb r.length at) (begins_with r.first database_mark) h in
-    let three = and_parts (eqb r.place at && eqb (at % 4096) 0 && leb 16 r.length) (leb r.length at) four.0 in
-    let two = and_parts (eqb r.place at && eqb (at % 4096) 0) (leb 16 r.length) three.0 in
-    let one = and_parts (eqb r.place at) (eqb (at % 4096) 0) two.0 in
+    let four = and_parts (eqb r.offset at && eqb (at % 4096) 0 && leb 16 r.length && leb r.length at) (begins_with r.first database_mark) h in
+    let three = and_parts (eqb r.offset at && eqb (at % 4096) 0 && leb 16 r.length) (leb r.length at) four.0 in
+    let two = and_parts (eqb r.offset at && eqb (at % 4096) 0) (leb 16 r.length) three.0 in
+    let one = and_parts (eqb r.offset at) (eqb (at % 4096) 0) two.0 in
     record {
-      its_place = eqb-true r.place at one.0;
+      its_offset = eqb-true r.offset at one.0;
       page = eqb-true (at % 4096) 0 one.1;
       enough = leb-true 16 r.length two.1;
       below = leb-true r.length at three.1;
@@ -49,17 +49,17 @@ mark_begins bytes begins = standing_begins bytes database_mark (record {
 
 pub right_at_is : (at : ℕ) (r : Record) → IsRightAt at r → is_right_at at r ≡ true
 right_at_is at r right =
-    let one = and_from (eqb r.place at) (eqb (at % 4096) 0) (eq-eqb r.place at right.its_place) (eq-eqb (at % 4096) 0 right.page) in
-    let two = and_from (eqb r.place at && eqb (at % 4096) 0) (leb 16 r.length) one (le-leb 16 r.length right.enough) in
-    let three = and_from (eqb r.place at && eqb (at % 4096) 0 && leb 16 r.length) (leb r.length at) two (le-leb r.length at right.below) in
-    and_from (eqb r.place at && eqb (at % 4096) 0 && leb 16 r.length && leb r.length at) (begins_with r.first database_mark) three
+    let one = and_from (eqb r.offset at) (eqb (at % 4096) 0) (eq-eqb r.offset at right.its_offset) (eq-eqb (at % 4096) 0 right.page) in
+    let two = and_from (eqb r.offset at && eqb (at % 4096) 0) (leb 16 r.length) one (le-leb 16 r.length right.enough) in
+    let three = and_from (eqb r.offset at && eqb (at % 4096) 0 && leb 16 r.length) (leb r.length at) two (le-leb r.length at right.below) in
+    and_from (eqb r.offset at && eqb (at % 4096) 0 && leb 16 r.length && leb r.length at) (begins_with r.first database_mark) three
     (mark_begins r.first right.begins)
 
 -- ---- the bytes of a record spell it
 
-bytes_place : (r : Record) → slice_range (record_bytes r) 8 16 ≡ to_be_bytes w64 r.place
+bytes_offset : (r : Record) → slice_range (record_bytes r) 8 16 ≡ to_be_bytes w64 r.offset
 unfolding record_bytes
-bytes_place r = refl
+bytes_offset r = refl
 
 bytes_length : (r : Record) → slice_range (record_bytes r) 16 24 ≡ to_be_bytes w64 r.length
 unfolding record_bytes
@@ -74,22 +74,22 @@ bytes_first r size =
     let sum = to_be_bytes w64 (mix_bytes seed (record_front r)) in
     ap (λ xs. take 16 xs) (bytes_behind r ∙ append_assoc r.first (replicate 16 0) sum) ∙ take_at r.first (replicate 16 0 ++ sum) 16 size
 
-pub spelled_back : (r : Record) → r.place < 2 ^ 64 → r.length < 2 ^ 64 → length r.first ≡ 16 → spelled_record (record_bytes r) ≡ r
-spelled_back r fits_place fits_length size =
-    let p : from_be_bytes w64 (slice_range (record_bytes r) 8 16) ≡ r.place =
-    ap (λ xs. from_be_bytes w64 xs) (bytes_place r) ∙ from_be_bytes-to_be_bytes_8 r.place fits_place in
+pub spelled_back : (r : Record) → r.offset < 2 ^ 64 → r.length < 2 ^ 64 → length r.first ≡ 16 → spelled_record (record_bytes r) ≡ r
+spelled_back r fits_offset fits_length size =
+    let p : from_be_bytes w64 (slice_range (record_bytes r) 8 16) ≡ r.offset =
+    ap (λ xs. from_be_bytes w64 xs) (bytes_offset r) ∙ from_be_bytes-to_be_bytes_8 r.offset fits_offset in
     let l : from_be_bytes w64 (slice_range (record_bytes r) 16 24) ≡ r.length =
     ap (λ xs. from_be_bytes w64 xs) (bytes_length r) ∙ from_be_bytes-to_be_bytes_8 r.length fits_length in
     let f = bytes_first r size in
-    let A : ℕ → Record = λ x. record { place = x; length = from_be_bytes w64 (slice_range (record_bytes r) 16 24); first = slice_range (record_bytes r) 24 40 } in
-    let B : ℕ → Record = λ x. record { place = r.place; length = x; first = slice_range (record_bytes r) 24 40 } in
-    let C : List ℕ → Record = λ x. record { place = r.place; length = r.length; first = x } in
+    let A : ℕ → Record = λ x. record { offset = x; length = from_be_bytes w64 (slice_range (record_bytes r) 16 24); first = slice_range (record_bytes r) 24 40 } in
+    let B : ℕ → Record = λ x. record { offset = r.offset; length = x; first = slice_range (record_bytes r) 24 40 } in
+    let C : List ℕ → Record = λ x. record { offset = r.offset; length = r.length; first = x } in
     ap A p ∙ ap B l ∙ ap C f
 
 read_back : (at : ℕ) (r : Record) → at < 2 ^ 64 → length r.first ≡ 16 → IsRightAt at r → read_record at (record_bytes r) ≡ Some r
 read_back at r fits size right =
     let bytes = record_bytes r in
-    let spelled = spelled_back r (omega (arith, fits, right.its_place)) (omega (arith, fits, right.below)) size in
+    let spelled = spelled_back r (omega (arith, fits, right.its_offset)) (omega (arith, fits, right.below)) size in
     let same = (bytes_eq-Decides bytes (record_bytes (spelled_record bytes))).1 (ap (λ x. record_bytes x) (sym spelled)) in
     let is = ap (λ x. is_right_at at x) spelled ∙ right_at_is at r right in
     read_some at bytes same is ∙ ap Some spelled
@@ -159,9 +159,9 @@ last_read shape at r file len right e its_shape =
     let size = size_of shape in
     let whole : at + size ≡ at / 4096 * 4096 + size = omega (arith, div-add-mod' at 4096, right.page) in
     let left : length file % 4096 ≡ size = ap (λ n. n % 4096) (len ∙ whole) ∙ mod-mul-add (at / 4096) 4096 size (size_below shape) in
-    let place : length file - size ≡ at = omega (arith, len) in
+    let offset : length file - size ≡ at = omega (arith, len) in
     let same : eqb (size_of (shape_for r.length)) size ≡ true = eq-eqb (size_of (shape_for r.length)) size (ap size_of its_shape) in
-    last_by shape file true (eq-eqb (length file % 4096) size left) ∙ ap (λ n. if_shaped shape (record_at file n)) place
+    last_by shape file true (eq-eqb (length file % 4096) size left) ∙ ap (λ n. if_shaped shape (record_at file n)) offset
     ∙ ap (λ o. if_shaped shape o) e ∙ shaped_by shape r true same
 
 pub last_none : (shape : Shape) (file : List ℕ) → length file % 4096 ≢ size_of shape → last_record shape file ≡ None
@@ -180,7 +180,7 @@ shaped_is shape (Some x) r e =
     ]
 
 pub last_stands : (shape : Shape) (r : Record) (file : List ℕ) → last_record shape file ≡ Some r →
-    (length file ≡ r.place + size_of shape) × (record_at file r.place ≡ Some r) × (shape_for r.length ≡ shape)
+    (length file ≡ r.offset + size_of shape) × (record_at file r.offset ≡ Some r) × (shape_for r.length ≡ shape)
 last_stands shape r file e =
     let size = size_of shape in
     elim (cases_Bool (eqb (length file % 4096) size)) [
@@ -190,7 +190,7 @@ last_stands shape r file e =
           let shaped = shaped_is shape (record_at file (length file - size)) r (sym (last_by shape file true t) ∙ e) in
           let is = record_stands (length file - size) r file shaped.0 in
           let whole = div-add-mod' (length file) 4096 in
-          let place = is.1.its_place in
-          let fits : length file ≡ r.place + size = omega (arith, whole, left, place) in
-          (fits, ap (λ n. record_at file n) place ∙ shaped.0, shaped.1)
+          let offset = is.1.its_offset in
+          let fits : length file ≡ r.offset + size = omega (arith, whole, left, offset) in
+          (fits, ap (λ n. record_at file n) offset ∙ shaped.0, shaped.1)
     ]

@@ -10,7 +10,7 @@ use Rattle.rrd_tail.specs.Records.{record_bytes}
 use Rattle.rrd_tail.specs.Slots.{Slot, slot_header, slot_bytes, slots_in}
 use Rattle.rrd_tail.proofs.Backs as backs
 use Rattle.rrd_tail.proofs.Marked as marked
-use Rattle.rrd_tail.proofs.Places as places
+use Rattle.rrd_tail.proofs.Offsets as offsets
 use Rattle.rrd_tail.proofs.Recorded.{length-record}
 use Rattle.rrd_tail.proofs.Settling as settling
 use Rattle.rrd_tail.proofs.Slotted.{length-header, length-slot}
@@ -76,31 +76,31 @@ last_record_stands shape r file = backs.last_stands shape r file
 -- ---- slots
 
 pub slot_is_read : (tail i : ℕ) (s : Slot) (file : List ℕ) → laws.SlotIsRead tail i s file
-slot_is_read tail i s file = places.slot_reads tail i s file
+slot_is_read tail i s file = offsets.slot_reads tail i s file
 
 pub slot_stands : (tail i : ℕ) (s : Slot) (file : List ℕ) → laws.SlotStands tail i s file
-slot_stands tail i s file = places.slot_stands tail i s file
+slot_stands tail i s file = offsets.slot_stands tail i s file
 
 pub slots_are_in_order : (tail : ℕ) (file : List ℕ) → laws.SlotsAreInOrder tail file
-slots_are_in_order tail file = places.in_order tail file
+slots_are_in_order tail file = offsets.in_order tail file
 
 pub only_slots : (tail : ℕ) (file : List ℕ) (slots : List Slot) → laws.OnlySlots tail file slots
-only_slots tail file slots are = places.only_slots tail file (slots_in tail file) slots (places.in_order tail file) are
+only_slots tail file slots are = offsets.only_slots tail file (slots_in tail file) slots (offsets.in_order tail file) are
 
 pub slot_is_appended : (tail : ℕ) (s : Slot) (file new : List ℕ) → laws.SlotIsAppended tail s file new
-slot_is_appended tail s file new = places.appended tail s file new
+slot_is_appended tail s file new = offsets.appended tail s file new
 
 pub cut_slot_is_not_counted : (tail : ℕ) (s : Slot) (file new : List ℕ) → laws.CutSlotIsNotCounted tail s file new
-cut_slot_is_not_counted tail s file new = places.cut_short tail s file new
+cut_slot_is_not_counted tail s file new = offsets.cut_short tail s file new
 
 pub zeros_end_slots : (tail : ℕ) (file new : List ℕ) → laws.ZerosEndSlots tail file new
-zeros_end_slots tail file new = places.zeros_end tail file new
+zeros_end_slots tail file new = offsets.zeros_end tail file new
 
 pub slots_stay : (tail : ℕ) (file new : List ℕ) → laws.SlotsStay tail file new
-slots_stay tail file new = places.slots_stay tail file new
+slots_stay tail file new = offsets.slots_stay tail file new
 
 pub no_slots_below : (tail : ℕ) (file : List ℕ) → laws.NoSlotsBelow tail file
-no_slots_below tail file = places.none_below tail file
+no_slots_below tail file = offsets.none_below tail file
 
 -- ---- what a file stands for
 

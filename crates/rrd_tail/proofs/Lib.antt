@@ -7,6 +7,6 @@ pub mod Pieces
 pub mod Recorded
 pub mod Slotted
 pub mod Backs
-pub mod Places
+pub mod Offsets
 pub mod Settling
 pub mod Lemmas

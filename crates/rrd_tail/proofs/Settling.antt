@@ -89,7 +89,7 @@ unmarked_stands shape file mark none =
 pub cut_stands : (shape : Shape) (r : Record) (file : List ℕ) → mark_of file ≡ Some (Cut shape) → last_record shape file ≡ Some r → IsUnmarked file r.length (settled file)
 cut_stands shape r file mark last =
     let there = last_stands shape r file last in
-    let low = (record_stands r.place r file there.1).1.below in
+    let low = (record_stands r.offset r file there.1).1.below in
     let whole = length-unmarked file (four_bytes shape file mark) in
     let size = length-take r.length (unmarked file) in
     let P : List ℕ → Type 0 = λ bytes. IsUnmarked file r.length bytes in

@@ -14,22 +14,22 @@ use Rattle.rrd_tail.proofs.Pieces.{piece_at}
 
 pub right_from : (tail : ℕ) (s : Slot) → is_right_slot tail s ≡ true → IsRightSlot tail s
 right_from tail s h =
-    let three = and_parts (leb 16 s.place && leb 1 (length s.bytes) && leb (length s.bytes) 4096) (leb (s.place + length s.bytes) tail) h in
-    let two = and_parts (leb 16 s.place && leb 1 (length s.bytes)) (leb (length s.bytes) 4096) three.0 in
-    let one = and_parts (leb 16 s.place) (leb 1 (length s.bytes)) two.0 in
+    let three = and_parts (leb 16 s.offset && leb 1 (length s.bytes) && leb (length s.bytes) 4096) (leb (s.offset + length s.bytes) tail) h in
+    let two = and_parts (leb 16 s.offset && leb 1 (length s.bytes)) (leb (length s.bytes) 4096) three.0 in
+    let one = and_parts (leb 16 s.offset) (leb 1 (length s.bytes)) two.0 in
     record {
-      behind = leb-true 16 s.place one.0;
+      behind = leb-true 16 s.offset one.0;
       some = leb-true 1 (length s.bytes) one.1;
       most = leb-true (length s.bytes) 4096 two.1;
-      below = leb-true (s.place + length s.bytes) tail three.1;
+      below = leb-true (s.offset + length s.bytes) tail three.1;
     }
 
 pub right_is : (tail : ℕ) (s : Slot) → IsRightSlot tail s → is_right_slot tail s ≡ true
 right_is tail s r =
-    let one = and_from (leb 16 s.place) (leb 1 (length s.bytes)) (le-leb 16 s.place r.behind) (le-leb 1 (length s.bytes) r.some) in
-    let two = and_from (leb 16 s.place && leb 1 (length s.bytes)) (leb (length s.bytes) 4096) one (le-leb (length s.bytes) 4096 r.most) in
-    and_from (leb 16 s.place && leb 1 (length s.bytes) && leb (length s.bytes) 4096) (leb (s.place + length s.bytes) tail) two
-    (le-leb (s.place + length s.bytes) tail r.below)
+    let one = and_from (leb 16 s.offset) (leb 1 (length s.bytes)) (le-leb 16 s.offset r.behind) (le-leb 1 (length s.bytes) r.some) in
+    let two = and_from (leb 16 s.offset && leb 1 (length s.bytes)) (leb (length s.bytes) 4096) one (le-leb (length s.bytes) 4096 r.most) in
+    and_from (leb 16 s.offset && leb 1 (length s.bytes) && leb (length s.bytes) 4096) (leb (s.offset + length s.bytes) tail) two
+    (le-leb (s.offset + length s.bytes) tail r.below)
 
 -- ---- the bytes of a slot
 
@@ -40,9 +40,9 @@ length-header tail s = refl
 pub length-slot : (tail : ℕ) (s : Slot) → length (slot_bytes tail s) ≡ 32 + length s.bytes
 length-slot tail s = let all = length-append (slot_header tail s) s.bytes in omega (arith, all, length-header tail s)
 
-header_place : (tail : ℕ) (s : Slot) (rest : List ℕ) → slice_range (slot_header tail s ++ s.bytes ++ rest) 0 8 ≡ to_be_bytes w64 s.place
+header_offset : (tail : ℕ) (s : Slot) (rest : List ℕ) → slice_range (slot_header tail s ++ s.bytes ++ rest) 0 8 ≡ to_be_bytes w64 s.offset
 unfolding slot_header
-header_place tail s rest = refl
+header_offset tail s rest = refl
 
 header_count : (tail : ℕ) (s : Slot) (rest : List ℕ) → slice_range (slot_header tail s ++ s.bytes ++ rest) 8 16 ≡ to_be_bytes w64 (length s.bytes)
 unfolding slot_header
@@ -57,8 +57,8 @@ pub header_says : (tail : ℕ) (s : Slot) (body : List ℕ) → length s.bytes <
 header_says tail s body fits = ap (λ xs. from_be_bytes w64 xs) (header_middle tail s body) ∙ from_be_bytes-to_be_bytes_8 (length s.bytes) fits
 
 -- bytes that begin with a slot spell it
-pub place_in : (tail : ℕ) (s : Slot) (bytes rest : List ℕ) → bytes ≡ slot_bytes tail s ++ rest → from_be_bytes w64 (slice_range bytes 0 8) ≡ from_be_bytes w64 (to_be_bytes w64 s.place)
-place_in tail s bytes rest e = ap (λ xs. from_be_bytes w64 (slice_range xs 0 8)) e ∙ ap (λ xs. from_be_bytes w64 xs) (header_place tail s rest)
+pub offset_in : (tail : ℕ) (s : Slot) (bytes rest : List ℕ) → bytes ≡ slot_bytes tail s ++ rest → from_be_bytes w64 (slice_range bytes 0 8) ≡ from_be_bytes w64 (to_be_bytes w64 s.offset)
+offset_in tail s bytes rest e = ap (λ xs. from_be_bytes w64 (slice_range xs 0 8)) e ∙ ap (λ xs. from_be_bytes w64 xs) (header_offset tail s rest)
 
 pub count_in : (tail : ℕ) (s : Slot) (bytes rest : List ℕ) → bytes ≡ slot_bytes tail s ++ rest → length s.bytes < 2 ^ 64 →
     from_be_bytes w64 (slice_range bytes 8 16) ≡ length s.bytes

@@ -1,4 +1,4 @@
--- Lemmas on bytes that stand at a place.
+-- Lemmas on bytes that stand at an offset.
 use Rattle.std.proofs.Common.{◌≡◌, ℕ, ◌+◌, ◌-◌, ◌<◌, ◌≤◌, min, true, false, List, ◌++◌, length, take, drop, get_or, eqb, refl, sym, ◌∙◌, ap, arith, zero-add}
 use Rattle.std.specs.List.{slice_range}
 use Rattle.std.proofs.lemmas.Bool.{false_from_ne_true, eqb-false}
@@ -7,7 +7,7 @@ use Rattle.std.proofs.lemmas.List.Prefix.{at_from_reads, front_from_reads, front
 use Rattle.rrd_tail.specs.Bytes.{StandsAt, begins_with}
 use Rattle.rrd_tail.proofs.Fronts.{front_of, begins_from}
 
--- bytes that stand at a place are that part of the file
+-- bytes that stand at an offset are that part of the file
 pub part_is : (file : List ℕ) (at : ℕ) (bytes : List ℕ) (end : ℕ) → at + length bytes ≡ end → StandsAt file at bytes → slice_range file at end ≡ bytes
 part_is file at bytes end ends s =
     let size : end - at ≡ length bytes = omega (arith, ends) in

@@ -7,7 +7,7 @@ use Rattle.rrd_tail.specs.declared.record.Record.{Record}
 use Rattle.rrd_tail.specs.Bytes.{StandsAt}
 use Rattle.rrd_tail.specs.Marks.{database_mark, size_of, shape_for, cut_mark, undo_mark, mark_bytes, mark_of}
 use Rattle.rrd_tail.specs.Records.{record_bytes, IsRightAt, record_at, last_record}
-use Rattle.rrd_tail.specs.Slots.{Slot, slot_bytes, IsRightSlot, slot_place, slot_at, slots_in}
+use Rattle.rrd_tail.specs.Slots.{Slot, slot_bytes, IsRightSlot, slot_offset, slot_at, slots_in}
 use Rattle.rrd_tail.specs.Settled.{old_byte, settled}
 
 -- ---- shapes
@@ -61,7 +61,7 @@ NoLastRecord shape file = length file % 4096 ≢ size_of shape → last_record s
 abbrev pub LastRecordStands : Shape → Record → List ℕ → Type 0
 LastRecordStands shape r file =
     last_record shape file ≡ Some r
-    → (length file ≡ r.place + size_of shape) × (record_at file r.place ≡ Some r) × (shape_for r.length ≡ shape)
+    → (length file ≡ r.offset + size_of shape) × (record_at file r.offset ≡ Some r) × (shape_for r.length ≡ shape)
 
 -- ---- slots
 
@@ -79,40 +79,40 @@ OnlySlots tail file slots = AreSlots tail file slots → slots_in tail file ≡ 
 
 -- a slot that is read is there, and right
 abbrev pub SlotStands : ℕ → ℕ → Slot → List ℕ → Type 0
-SlotStands tail i s file = slot_at tail file i ≡ Some s → StandsAt file (slot_place tail i) (slot_bytes tail s) × IsRightSlot tail s
+SlotStands tail i s file = slot_at tail file i ≡ Some s → StandsAt file (slot_offset tail i) (slot_bytes tail s) × IsRightSlot tail s
 
 abbrev pub SlotIsRead : ℕ → ℕ → Slot → List ℕ → Type 0
 SlotIsRead tail i s file =
-    tail < 2 ^ 64 → IsRightSlot tail s → StandsAt file (slot_place tail i) (slot_bytes tail s) → slot_at tail file i ≡ Some s
+    tail < 2 ^ 64 → IsRightSlot tail s → StandsAt file (slot_offset tail i) (slot_bytes tail s) → slot_at tail file i ≡ Some s
 
--- the place behind a file's slots
-abbrev pub next_place : ℕ → List ℕ → ℕ
-next_place tail file = slot_place tail (length (slots_in tail file))
+-- the offset behind a file's slots
+abbrev pub next_offset : ℕ → List ℕ → ℕ
+next_offset tail file = slot_offset tail (length (slots_in tail file))
 
 -- a file that has the bytes of another one, and perhaps more behind them
 abbrev pub Continues : List ℕ → List ℕ → Type 0
 Continues file new = (k : ℕ) → k < length file → slice_index new k ≡ slice_index file k
 
--- a slot that is put at the next place, whatever the bytes before it, is one more
+-- a slot that is put at the next offset, whatever the bytes before it, is one more
 abbrev pub SlotIsAppended : ℕ → Slot → List ℕ → List ℕ → Type 0
 SlotIsAppended tail s file new =
-    tail < 2 ^ 64 → IsRightSlot tail s → length file ≤ next_place tail file → Continues file new
-    → StandsAt new (next_place tail file) (slot_bytes tail s) → length new ≡ next_place tail file + length (slot_bytes tail s)
+    tail < 2 ^ 64 → IsRightSlot tail s → length file ≤ next_offset tail file → Continues file new
+    → StandsAt new (next_offset tail file) (slot_bytes tail s) → length new ≡ next_offset tail file + length (slot_bytes tail s)
     → slots_in tail new ≡ slots_in tail file ++ s ∷ []
 
 -- a slot that is cut short is none
 abbrev pub CutSlotIsNotCounted : ℕ → Slot → List ℕ → List ℕ → Type 0
 CutSlotIsNotCounted tail s file new =
     tail < 2 ^ 64 → IsRightSlot tail s → length file ≤ length new → Continues file new
-    → length new < next_place tail file + length (slot_bytes tail s)
-    → ((i : ℕ) → next_place tail file + i < length new → slice_index new (next_place tail file + i) ≡ slice_index (slot_bytes tail s) i)
+    → length new < next_offset tail file + length (slot_bytes tail s)
+    → ((i : ℕ) → next_offset tail file + i < length new → slice_index new (next_offset tail file + i) ≡ slice_index (slot_bytes tail s) i)
     → slots_in tail new ≡ slots_in tail file
 
 -- zeros in place of a header are no slot, whatever follows
 abbrev pub ZerosEndSlots : ℕ → List ℕ → List ℕ → Type 0
 ZerosEndSlots tail file new =
-    length file ≤ length new → length file ≤ next_place tail file → Continues file new
-    → ((i : ℕ) → i < 32 → slice_index new (next_place tail file + i) ≡ 0) → slots_in tail new ≡ slots_in tail file
+    length file ≤ length new → length file ≤ next_offset tail file → Continues file new
+    → ((i : ℕ) → i < 32 → slice_index new (next_offset tail file + i) ≡ 0) → slots_in tail new ≡ slots_in tail file
 
 -- bytes below the slots change none of them
 abbrev pub SlotsStay : ℕ → List ℕ → List ℕ → Type 0

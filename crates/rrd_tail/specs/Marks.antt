@@ -25,7 +25,7 @@ abbrev pub cut_mark : Shape → List ℕ
 cut_mark Short = codes "RRDC"
 cut_mark Long = codes "RRDc"
 
--- a file whose old bytes wait from a place on: sixteen bytes
+-- a file whose old bytes wait from an offset on: sixteen bytes
 abbrev pub undo_mark : ℕ → List ℕ
 undo_mark tail = codes "RRDUndo" ++ 0 ∷ to_be_bytes w64 tail
 
@@ -33,7 +33,7 @@ abbrev pub mark_bytes : Mark → List ℕ
 mark_bytes (Cut shape) = cut_mark shape
 mark_bytes (Undo tail) = undo_mark tail
 
--- the place that bytes spell, if they are an undo mark
+-- the offset that bytes spell, if they are an undo mark
 abbrev pub spelled_tail : List ℕ → ℕ
 spelled_tail file = from_be_bytes w64 (slice_range file 8 16)
 

@@ -5,7 +5,7 @@ use Rattle.rrd_tail.specs.Slots.{Slot, read_slot}
 
 -- the slot of a header, of which the bytes are these
 abbrev pub slot_of : SlotHeader → List ℕ → Slot
-slot_of header bytes = record { place = header.place; bytes = slice_range bytes 32 (32 + header.count) }
+slot_of header bytes = record { offset = header.offset; bytes = slice_range bytes 32 (32 + header.count) }
 
 -- the header of the slot with which bytes begin, if they begin with one
 abbrev pub IsSlotRead : ℕ → List ℕ → Option SlotHeader → Type 0

@@ -9,11 +9,11 @@ use Rattle.rrd_tail.specs.Bytes.{begins_with}
 use Rattle.rrd_tail.specs.Checksum.{seed, mix_bytes}
 use Rattle.rrd_tail.specs.Marks.{database_mark, size_of, shape_for}
 
--- a record but for its checksum: a word of eight bytes, its place, the length of the file, the file's first
+-- a record but for its checksum: a word of eight bytes, its offset, the length of the file, the file's first
 -- sixteen bytes, and sixteen zeros
 abbrev pub record_front : Record → List ℕ
 record_front r =
-    codes "RRDTail" ++ 0 ∷ to_be_bytes w64 r.place ++ to_be_bytes w64 r.length ++ r.first ++ replicate 16 0
+    codes "RRDTail" ++ 0 ∷ to_be_bytes w64 r.offset ++ to_be_bytes w64 r.length ++ r.first ++ replicate 16 0
 
 -- a record: 64 bytes
 unfoldable pub record_bytes : Record → List ℕ
@@ -24,10 +24,10 @@ abbrev pub shaped_bytes : Shape → Record → List ℕ
 shaped_bytes Short r = record_bytes r
 shaped_bytes Long r = record_bytes r ++ replicate 64 0
 
--- a record is right at its own place alone, where a page begins, and if it speaks of a database that ends at or below
--- that place
+-- a record is right at its own offset alone, where a page begins, and if it speaks of a database that ends at or below
+-- that offset
 pub record IsRightAt (at : ℕ) (r : Record) : Type 0 where
-  pub its_place : r.place ≡ at
+  pub its_offset : r.offset ≡ at
   pub page : at % 4096 ≡ 0
   pub enough : 16 ≤ r.length
   pub below : r.length ≤ at
@@ -35,21 +35,21 @@ pub record IsRightAt (at : ℕ) (r : Record) : Type 0 where
 
 abbrev pub is_right_at : ℕ → Record → Bool
 is_right_at at r =
-    r.place == at && at % 4096 == 0 && nat_le 16 r.length && nat_le r.length at && begins_with r.first database_mark
+    r.offset == at && at % 4096 == 0 && nat_le 16 r.length && nat_le r.length at && begins_with r.first database_mark
 
 -- the values that 64 bytes spell, if they are a record
 abbrev pub spelled_record : List ℕ → Record
 spelled_record bytes = record {
-  place = from_be_bytes w64 (slice_range bytes 8 16);
+  offset = from_be_bytes w64 (slice_range bytes 8 16);
   length = from_be_bytes w64 (slice_range bytes 16 24);
   first = slice_range bytes 24 40;
 }
 
--- the right record that these bytes are at a place
+-- the right record that these bytes are at an offset
 unfoldable pub read_record : ℕ → List ℕ → Option Record
 read_record at bytes = let r = spelled_record bytes in if bytes_eq bytes (record_bytes r) && is_right_at at r then Some r else None
 
--- the right record that a file has at a place
+-- the right record that a file has at an offset
 abbrev pub record_at : List ℕ → ℕ → Option Record
 record_at file at = read_record at (slice_range file at (at + 64))
 

@@ -4,40 +4,40 @@ use Rattle.std.specs.Int.{w64, to_be_bytes, from_be_bytes}
 use Rattle.rrd_tail.specs.Bytes.{begins_with}
 use Rattle.rrd_tail.specs.Checksum.{seed, mix, mix_bytes}
 
--- bytes that a file had from a place on
+-- bytes that a file had from an offset on
 pub record Slot : Type 0 where
-  pub place : ℕ
+  pub offset : ℕ
   pub bytes : List ℕ
 
 -- ---- one slot
 
--- the checksum of a slot, over its place, its count, the tail's place and its bytes
+-- the checksum of a slot, over its offset, its count, the tail's offset and its bytes
 abbrev pub slot_sum : ℕ → Slot → ℕ
-slot_sum tail s = mix_bytes (mix (mix (mix seed s.place) (length s.bytes)) tail) s.bytes
+slot_sum tail s = mix_bytes (mix (mix (mix seed s.offset) (length s.bytes)) tail) s.bytes
 
--- 32 bytes before a slot's bytes: its place, its count, the tail's place and the checksum
+-- 32 bytes before a slot's bytes: its offset, its count, the tail's offset and the checksum
 unfoldable pub slot_header : ℕ → Slot → List ℕ
 slot_header tail s =
-    to_be_bytes w64 s.place ++ to_be_bytes w64 (length s.bytes) ++ to_be_bytes w64 tail ++ to_be_bytes w64 (slot_sum tail s)
+    to_be_bytes w64 s.offset ++ to_be_bytes w64 (length s.bytes) ++ to_be_bytes w64 tail ++ to_be_bytes w64 (slot_sum tail s)
 
 abbrev pub slot_bytes : ℕ → Slot → List ℕ
 slot_bytes tail s = slot_header tail s ++ s.bytes
 
 -- a right slot has a page's bytes at most, which are behind the undo mark and below the tail
 pub record IsRightSlot (tail : ℕ) (s : Slot) : Type 0 where
-  pub behind : 16 ≤ s.place
+  pub behind : 16 ≤ s.offset
   pub some : 1 ≤ length s.bytes
   pub most : length s.bytes ≤ 4096
-  pub below : s.place + length s.bytes ≤ tail
+  pub below : s.offset + length s.bytes ≤ tail
 
 abbrev pub is_right_slot : ℕ → Slot → Bool
 is_right_slot tail s =
-    nat_le 16 s.place && nat_le 1 (length s.bytes) && nat_le (length s.bytes) 4096 && nat_le (s.place + length s.bytes) tail
+    nat_le 16 s.offset && nat_le 1 (length s.bytes) && nat_le (length s.bytes) 4096 && nat_le (s.offset + length s.bytes) tail
 
 -- the slot that bytes spell, if they begin with one
 abbrev pub spelled_slot : List ℕ → Slot
 spelled_slot bytes = record {
-  place = from_be_bytes w64 (slice_range bytes 0 8);
+  offset = from_be_bytes w64 (slice_range bytes 0 8);
   bytes = slice_range bytes 32 (32 + from_be_bytes w64 (slice_range bytes 8 16));
 }
 
@@ -48,13 +48,13 @@ read_slot tail bytes = let s = spelled_slot bytes in
 
 -- ---- all slots of a file
 
--- the i-th slot's place, behind the record at the tail
-abbrev pub slot_place : ℕ → ℕ → ℕ
-slot_place tail i = tail + 128 + i * 4128
+-- the i-th slot's offset, behind the record at the tail
+abbrev pub slot_offset : ℕ → ℕ → ℕ
+slot_offset tail i = tail + 128 + i * 4128
 
 -- the i-th slot of a file
 abbrev pub slot_at : ℕ → List ℕ → ℕ → Option Slot
-slot_at tail file i = read_slot tail (slice_range file (slot_place tail i) (slot_place tail i + 4128))
+slot_at tail file i = read_slot tail (slice_range file (slot_offset tail i) (slot_offset tail i + 4128))
 
 -- the slots from the i-th up to the first that is not one, of so many at most
 abbrev pub slots_from : ℕ → List ℕ → ℕ → ℕ → List Slot
@@ -70,7 +70,7 @@ slots_in tail file = slots_from tail file (length file) 0
 
 -- byte k of a slot, if it reaches k, else b
 abbrev pub laid : Slot → ℕ → ℕ → ℕ
-laid s k b = if nat_le s.place k && nat_lt k (s.place + length s.bytes) then slice_index s.bytes (k - s.place) else b
+laid s k b = if nat_le s.offset k && nat_lt k (s.offset + length s.bytes) then slice_index s.bytes (k - s.offset) else b
 
 -- byte k of the last slot that reaches k, else b
 abbrev pub all_laid : List Slot → ℕ → ℕ → ℕ

@@ -1,5 +1,7 @@
 //! Theorems about marks, records and slots, and about the bytes that a file represents. Each is the contract of a
 //! function that does nothing.
+//!
+//! The module is public only for readers of the contracts: no other crate calls these functions.
 ghost use Rattle.std.specs.Prelude.{ℕ, List};
 ghost use Rattle.rrd_tail.specs.declared.mark.Shape.{Shape};
 ghost use Rattle.rrd_tail.specs.declared.mark.Mark.{Mark};

@@ -9,6 +9,6 @@ mod slot;
 #[cfg(test)]
 mod tests;
 
-pub use mark::{DATABASE_MARK, Mark, Shape, read_mark, undo_mark};
+pub use mark::{DATABASE_MARK, Mark, PAGE, Shape, read_mark, undo_mark};
 pub use record::Record;
 pub use slot::{SlotHeader, read_slot, slot_header};

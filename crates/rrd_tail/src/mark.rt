@@ -3,6 +3,9 @@ ghost use Rattle.std.specs.Prelude.{◌≡◌, ◌+◌, ◌≤◌, length, slice
 ghost use Rattle.std.specs.Int.{w64, from_be_bytes};
 ghost use Rattle.rrd_tail.specs.Marks as marks;
 
+/// The length of a page in bytes. The system stores files in memory in such pages.
+pub const PAGE: usize = 4_096;
+
 /// The first four bytes of every database.
 pub const DATABASE_MARK: [u8; 4] = [b'R', b'R', b'D', b'I'];
 
@@ -32,7 +35,7 @@ impl Shape {
     pub fn for_length(length: usize) -> Shape
         ensures { result ≡ marks.shape_for length }
     {
-        if length % 4_096 == 64 {
+        if length % PAGE == 64 {
             Shape::Long
         } else {
             Shape::Short

@@ -3,7 +3,7 @@ ghost use Rattle.std.specs.Prelude.{◌≡◌, length};
 ghost use Rattle.rrd_tail.specs.Records as records;
 
 use crate::checksum::{SEED, mix_bytes};
-use crate::mark::{DATABASE_MARK, number_at};
+use crate::mark::{DATABASE_MARK, PAGE, number_at};
 
 // The first eight bytes of a record.
 const RECORD_WORD: [u8; 8] = [b'R', b'R', b'D', b'T', b'a', b'i', b'l', 0];
@@ -12,7 +12,7 @@ const RECORD_WORD: [u8; 8] = [b'R', b'R', b'D', b'T', b'a', b'i', b'l', 0];
 #[derive(Clone, Copy, PartialEq, Eq, Debug, Drop)]
 pub struct Record {
     /// The byte of the file at which the record itself begins.
-    pub place: usize,
+    pub offset: usize,
     /// The length of the database in bytes.
     pub length: usize,
     /// The first 16 bytes of the database.
@@ -26,7 +26,7 @@ impl Record {
     {
         let mut front = [0; 56];
         front[..8].copy_from_slice(&RECORD_WORD);
-        front[8..16].copy_from_slice(&self.place.to_be_bytes());
+        front[8..16].copy_from_slice(&self.offset.to_be_bytes());
         front[16..24].copy_from_slice(&self.length.to_be_bytes());
         front[24..40].copy_from_slice(&self.first);
         front
@@ -53,7 +53,7 @@ impl Record {
         let mut first = [0; 16];
         first.copy_from_slice(&bytes[24..40]);
         Record {
-            place: number_at(bytes, 8),
+            offset: number_at(bytes, 8),
             length: number_at(bytes, 16),
             first,
         }
@@ -63,8 +63,8 @@ impl Record {
     fn is_right_at(&self, at: usize) -> bool
         ensures { result ≡ records.is_right_at at self.now }
     {
-        self.place == at
-            && at % 4_096 == 0
+        self.offset == at
+            && at % PAGE == 0
             && 16 <= self.length
             && self.length <= at
             && self.first.starts_with(&DATABASE_MARK)

@@ -4,22 +4,22 @@ ghost use Rattle.rrd_tail.specs.Slots as slots;
 ghost use Rattle.rrd_tail.specs.Reads.{IsSlotRead};
 
 use crate::checksum::{SEED, mix, mix_bytes};
-use crate::mark::number_at;
+use crate::mark::{PAGE, number_at};
 
 /// The header of a slot.
 #[derive(Clone, Copy, PartialEq, Eq, Debug, Drop)]
 pub struct SlotHeader {
     /// The byte of the old file at which the slot's bytes begin.
-    pub place: usize,
+    pub offset: usize,
     /// The number of the slot's bytes.
     pub count: usize,
 }
 
 // Returns the checksum of a slot.
-fn slot_sum(tail: usize, place: usize, bytes: &[u8]) -> u64
-    ensures { result ≡ slots.slot_sum tail (record { place = place; bytes = bytes.now }) }
+fn slot_sum(tail: usize, offset: usize, bytes: &[u8]) -> u64
+    ensures { result ≡ slots.slot_sum tail (record { offset = offset; bytes = bytes.now }) }
 {
-    let sum = mix(SEED, place as u64);
+    let sum = mix(SEED, offset as u64);
     let sum = mix(sum, bytes.len() as u64);
     let sum = mix(sum, tail as u64);
     mix_bytes(sum, bytes)
@@ -27,28 +27,28 @@ fn slot_sum(tail: usize, place: usize, bytes: &[u8]) -> u64
 
 /// Returns the encoded header of a slot that keeps `bytes`.
 ///
-/// The old file had `bytes` from byte `place` on. The tail begins at byte `tail`.
+/// The old file had `bytes` from byte `offset` on. The tail begins at byte `tail`.
 #[tactic(auto, unfolding(crate::specs::Slots::slot_header))]
-pub fn slot_header(tail: usize, place: usize, bytes: &[u8]) -> [u8; 32]
-    ensures { result ≡ slots.slot_header tail (record { place = place; bytes = bytes.now }) }
+pub fn slot_header(tail: usize, offset: usize, bytes: &[u8]) -> [u8; 32]
+    ensures { result ≡ slots.slot_header tail (record { offset = offset; bytes = bytes.now }) }
 {
     let mut header = [0; 32];
-    header[..8].copy_from_slice(&place.to_be_bytes());
+    header[..8].copy_from_slice(&offset.to_be_bytes());
     header[8..16].copy_from_slice(&bytes.len().to_be_bytes());
     header[16..24].copy_from_slice(&tail.to_be_bytes());
-    header[24..].copy_from_slice(&slot_sum(tail, place, bytes).to_be_bytes());
+    header[24..].copy_from_slice(&slot_sum(tail, offset, bytes).to_be_bytes());
     header
 }
 
 // Checks whether a slot with these bytes is valid.
-fn is_right(tail: usize, place: usize, bytes: &[u8]) -> bool
-    ensures { result ≡ slots.is_right_slot tail (record { place = place; bytes = bytes.now }) }
+fn is_right(tail: usize, offset: usize, bytes: &[u8]) -> bool
+    ensures { result ≡ slots.is_right_slot tail (record { offset = offset; bytes = bytes.now }) }
 {
-    16 <= place
+    16 <= offset
         && !bytes.is_empty()
-        && bytes.len() <= 4_096
-        && place <= tail
-        && bytes.len() <= tail - place
+        && bytes.len() <= PAGE
+        && offset <= tail
+        && bytes.len() <= tail - offset
 }
 
 /// Reads the header of the slot with which `bytes` begin.
@@ -60,14 +60,14 @@ pub fn read_slot(tail: usize, bytes: &[u8]) -> Option<SlotHeader>
     if bytes.len() < 32 {
         return None;
     }
-    let place = number_at(bytes, 0);
+    let offset = number_at(bytes, 0);
     let count = number_at(bytes, 8);
     if bytes.len() - 32 < count {
         return None;
     }
     let old = &bytes[32..32 + count];
-    if is_right(tail, place, old) && bytes[..32] == slot_header(tail, place, old)[..] {
-        Some(SlotHeader { place, count })
+    if is_right(tail, offset, old) && bytes[..32] == slot_header(tail, offset, old)[..] {
+        Some(SlotHeader { offset, count })
     } else {
         None
     }

@@ -19,7 +19,7 @@ const SLOT: [u8; 41] = [
 #[test]
 fn a_record_is_written_and_read(rt: HostRuntime) {
     let record = Record {
-        place: 8_192,
+        offset: 8_192,
         length: 5_000,
         first: FIRST,
     };
@@ -33,7 +33,7 @@ fn a_record_is_written_and_read(rt: HostRuntime) {
 fn a_slot_is_written_and_read(rt: HostRuntime) {
     assert!(rt; slot_header(8_192, 4_096, b"old bytes")[..] == SLOT[..32]);
     let header = SlotHeader {
-        place: 4_096,
+        offset: 4_096,
         count: 9,
     };
     assert!(rt; read_slot(8_192, &SLOT) == Some(header));

@@ -3,7 +3,7 @@ ghost use Rattle.rrd_fixed.specs.Rate.{IsAccepted};
 
 use crate::shared::streams::{Manner, PLAIN, Taker};
 use rrd_fixed::{
-    Cell, Kind, Meter, Name, Number, Raw, admit, cell_string, near, numbered_text, rate,
+    Cell, Kind, Meter, Name, Number, Raw, admit, cell_string, near, numbered_message, rate,
     raw_string, read_number, read_whole, rise, time_string, write_bytes, write_cell, write_raw,
     write_time,
 };
@@ -111,7 +111,7 @@ fn lower_bound(rt: HostRuntime) {
 }
 
 // The greatest size of a gauge's value.
-const MOST: i128 = 999_999_999_999_999_999_999_999;
+const MAX_MILLIONTHS: i128 = 999_999_999_999_999_999_999_999;
 
 // A kind, a text, and what a source of the kind keeps of it.
 const ACCEPTED: &[(Kind, &str, Raw)] = &[
@@ -139,12 +139,16 @@ const ACCEPTED: &[(Kind, &str, Raw)] = &[
     (Kind::Derive, "9223372036854775808", Raw::Unknown),
     (Kind::Derive, "1.0", Raw::Unknown),
     (Kind::Gauge, "-1.5", Raw::Known(-1_500_000)),
-    (Kind::Gauge, "999999999999999999.999999", Raw::Known(MOST)),
+    (
+        Kind::Gauge,
+        "999999999999999999.999999",
+        Raw::Known(MAX_MILLIONTHS),
+    ),
     (Kind::Gauge, "1000000000000000000", Raw::Unknown),
     (
         Kind::Absolute,
         "-999999999999999999.999999",
-        Raw::Known(-MOST),
+        Raw::Known(-MAX_MILLIONTHS),
     ),
     (Kind::Absolute, "-1000000000000000000", Raw::Unknown),
 ];
@@ -211,7 +215,7 @@ fn accepted_raw_values(rt: HostRuntime) {
 
 #[test]
 fn texts_with_a_number(rt: HostRuntime) {
-    let text = numbered_text("not later than ", 18_446_744_073_709_551_615);
+    let text = numbered_message("not later than ", 18_446_744_073_709_551_615);
     assert_eq!(rt; text.as_str(), "not later than 18446744073709551615");
 }
 

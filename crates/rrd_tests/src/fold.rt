@@ -170,8 +170,8 @@ fn readers(rt: HostRuntime) {
 
 #[test]
 fn laws_are_called() {
-    laws::parts_stand();
-    laws::values_are_meant();
+    laws::parts_represent_lists();
+    laws::values_have_meaning();
     laws::rows_finish();
     laws::made_by_two_additions();
     laws::one_cell_alone();

@@ -182,7 +182,7 @@ fn rows_are_put_round_the_end(rt: HostRuntime) -> Result<(), Fail> {
         let mut archive = pushed_to_ten(&rt, alloc)?;
         let count = cells.len() as u64;
         assert!(&rt; *first < archive.rows() && count <= archive.rows());
-        archive.put_rows(*first, count, cells);
+        archive.write_rows_wrapping(*first, count, cells);
         assert_rows(&rt, &archive, rows);
     }
     Ok(())
@@ -203,7 +203,7 @@ fn rows_become_unknown_round_the_end(rt: HostRuntime) -> Result<(), Fail> {
     for (first, count, rows) in FORGOTTEN {
         let mut archive = pushed_to_ten(&rt, alloc)?;
         assert!(&rt; *first < archive.rows() && *count <= archive.rows());
-        archive.put_unknown(*first, *count);
+        archive.clear_rows_wrapping(*first, *count);
         assert_rows(&rt, &archive, rows);
     }
     Ok(())
@@ -213,12 +213,12 @@ fn rows_become_unknown_round_the_end(rt: HostRuntime) -> Result<(), Fail> {
 #[test]
 fn rows_are_written_from_one_on(rt: HostRuntime) -> Result<(), Fail> {
     let alloc = rt.alloc();
-    let mut archive = Archive::new_from(alloc, 4, 1, 2)?;
+    let mut archive = Archive::new_filled_from(alloc, 4, 1, 2)?;
     assert_rows(&rt, &archive, &[UNKNOWN, UNKNOWN, UNKNOWN, UNKNOWN]);
-    archive.put_rows(2, 1, &[ONE]);
-    archive.put_unknown(3, 2);
+    archive.write_rows_wrapping(2, 1, &[ONE]);
+    archive.clear_rows_wrapping(3, 2);
     assert_rows(&rt, &archive, &[UNKNOWN, UNKNOWN, ONE, UNKNOWN]);
-    archive.put_rows(1, 1, &[TWO]);
+    archive.write_rows_wrapping(1, 1, &[TWO]);
     assert_rows(&rt, &archive, &[UNKNOWN, TWO, ONE, UNKNOWN]);
     Ok(())
 }
@@ -257,14 +257,14 @@ fn rows_are_lent_together(rt: HostRuntime) -> Result<(), Fail> {
 fn wider_rows_are_lent_as_asked(rt: HostRuntime) -> Result<(), Fail> {
     let alloc = rt.alloc();
     let mut archive = Archive::new(alloc, 3, 2)?;
-    archive.put_rows(0, 3, &[ONE, TWO, THREE, FOUR, FIVE, SIX]);
+    archive.write_rows_wrapping(0, 3, &[ONE, TWO, THREE, FOUR, FIVE, SIX]);
     for (first, most, cells) in [
         (0, 1, [ONE, TWO].as_slice()),
         (0, 3, &[ONE, TWO, THREE, FOUR, FIVE, SIX]),
         (1, 2, &[THREE, FOUR, FIVE, SIX]),
         (2, 1, &[FIVE, SIX]),
     ] {
-        let (count, lent) = archive.run(first, most);
+        let (count, lent) = archive.contiguous_rows(first, most);
         assert_eq!(&rt; count, most);
         assert_eq!(&rt; lent, cells);
     }

@@ -43,7 +43,7 @@ all_mapped P Q f (x ∷ items) g h = (g x h.0, all_mapped P Q f items g h.1)
 
 -- an archive that can be read, of so many
 abbrev IsUsable : ℕ → Candidate → Type 0
-IsUsable count one = (one.number < count) × (0 < one.resolution) × (one.resolution ≤ 1000000000000)
+IsUsable count one = (one.archive < count) × (0 < one.resolution) × (one.resolution ≤ 1000000000000)
 
 abbrev IsNumbered : ℕ → ℕ × RraDef → Type 0
 IsNumbered count pair = (pair.0 < count) × (0 < pair.1.steps) × (pair.1.steps ≤ 1000000)

@@ -6,7 +6,7 @@ ghost use Rattle.rrd_tool.specs.Faults.{error_line, fault_line, fault_text, is_n
 use arrayvec::ArrayString;
 use itoa::Buffer;
 use rrd_base::Refusal;
-use rrd_fixed::{WriteFault, short_text, write_bytes};
+use rrd_fixed::{WriteFault, message, write_bytes};
 use std::alloc::AllocError;
 use std::io::Write;
 use thiserror::Error;
@@ -76,8 +76,8 @@ impl Part {
         }
     }
 
-    /// Whether a command may have several of these parts, so that faults print the number too.
-    pub fn is_numbered(self) -> bool
+    // Whether a command may have several of these parts, so that faults print the number too.
+    fn is_numbered(self) -> bool
         ensures { result ≡ is_numbered self }
     {
         matches!(self, Part::Definition | Part::Sample)
@@ -116,9 +116,9 @@ impl LineFault {
         ensures short { length result.bytes ≤ 60 }
     {
         match self {
-            LineFault::Usage => short_text("usage"),
+            LineFault::Usage => message("usage"),
             LineFault::BadWord { part, number } => unread_string(part, number),
-            LineFault::OutOfMemory => short_text("out of memory"),
+            LineFault::OutOfMemory => message("out of memory"),
         }
     }
 }
@@ -128,7 +128,7 @@ fn unread_string(part: Part, number: u64) -> ArrayString<96>
     ensures text { result.bytes ≡ unread_text part number }
     ensures short { length result.bytes ≤ 60 }
 {
-    let mut text = short_text("unreadable ");
+    let mut text = message("unreadable ");
     text.push_str(part.word());
     if part.is_numbered() {
         let mut buffer = Buffer::new();
@@ -161,8 +161,8 @@ impl Fault {
         match self {
             Fault::Line(fault) => fault.text(),
             Fault::Refused(refusal) => refusal.text(),
-            Fault::NoDatabase => short_text("no database"),
-            Fault::Output => short_text("write failed"),
+            Fault::NoDatabase => message("no database"),
+            Fault::Output => message("write failed"),
         }
     }
 }

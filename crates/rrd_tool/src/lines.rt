@@ -8,7 +8,7 @@ use memchr::memchr2;
 use std::alloc::{AllocError, Global};
 
 /// The most bytes of a line, without its end.
-const MOST: usize = 65_536;
+const MAX_LINE: usize = 65_536;
 
 /// What an unfinished line has come to: the plain bytes that are kept, these and a CR behind them, or
 /// that no line that begins so is a text.
@@ -51,7 +51,7 @@ fn read_text(bytes: &[u8]) -> Option<&[u8]>
     ensures text { option_map (λ text. text.now) result ≡ text_in bytes.now }
     ensures plain { IfSome result (λ text. list_all is_plain text.now ≡ true) }
 {
-    if bytes.len() > MOST || !all_plain(bytes) {
+    if bytes.len() > MAX_LINE || !all_plain(bytes) {
         return None;
     }
     Some(bytes)
@@ -88,7 +88,7 @@ impl LineBuffer {
         ensures { IfOk result (λ line. Buffers line []) }
     {
         Ok(LineBuffer {
-            bytes: Vec::with_capacity(alloc, MOST)?,
+            bytes: Vec::with_capacity(alloc, MAX_LINE)?,
             ending: Ending::Plain,
         })
     }
@@ -129,7 +129,7 @@ impl LineBuffer {
             self.ending = Ending::Lost;
             return;
         }
-        if self.bytes.len() >= MOST {
+        if self.bytes.len() >= MAX_LINE {
             self.ending = Ending::Lost;
             return;
         }

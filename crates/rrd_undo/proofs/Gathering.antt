@@ -7,7 +7,7 @@ use Rattle.rrd_undo.specs.Changing.{Agreeing, Holds, IsAt, IsPage}
 use Rattle.rrd_undo.specs.Undoing.{Turning}
 use Rattle.rrd_undo.specs.Writing.{IsGathered, IsTaken}
 use Rattle.rrd_undo.specs.declared.change.Stage.{Stage}
-use Rattle.rrd_undo.specs.declared.change.Stage.TheVariants.{Untouched, Marked, Committing, Unkept, Spoiled}
+use Rattle.rrd_undo.specs.declared.change.Stage.TheVariants.{Untouched, Marked, Committing, Unkept, Invalid}
 use Rattle.rrd_undo.specs.declared.writer.Pages.{Pages}
 
 -- what is below `at` of some bytes is that of more of them
@@ -41,7 +41,7 @@ holds_more Marked old new more tail slots file at front holds = (
 )
 holds_more Committing old new more tail slots file at front holds = holds
 holds_more Unkept old new more tail slots file at front holds = holds
-holds_more Spoiled old new more tail slots file at front holds = (
+holds_more Invalid old new more tail slots file at front holds = (
   holds.0,
   λ k high low within. holds.1 k high low (front_reaches at new more front k high low) ∙ sym (front.same k high low),
 )

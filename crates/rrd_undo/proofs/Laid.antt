@@ -6,16 +6,16 @@ use Rattle.std.specs.List.{All}
 use Rattle.rrd_tail.specs.Slots.{Slot, laid, all_laid}
 use Rattle.rrd_undo.specs.Undoing.{EndsBelow, slot_of}
 
-pub laid_below : (s : Slot) (k b : ℕ) → k < s.place → laid s k b ≡ b
-laid_below s k b low = rw (lt-leb s.place k low)
+pub laid_below : (s : Slot) (k b : ℕ) → k < s.offset → laid s k b ≡ b
+laid_below s k b low = rw (lt-leb s.offset k low)
 
-pub laid_in : (s : Slot) (k b : ℕ) → s.place ≤ k → k < s.place + length s.bytes → laid s k b ≡ slice_index s.bytes (k - s.place)
-laid_in s k b low high = rw (le-leb s.place k low, lt-ltb k (s.place + length s.bytes) high)
+pub laid_in : (s : Slot) (k b : ℕ) → s.offset ≤ k → k < s.offset + length s.bytes → laid s k b ≡ slice_index s.bytes (k - s.offset)
+laid_in s k b low high = rw (le-leb s.offset k low, lt-ltb k (s.offset + length s.bytes) high)
 
-pub laid_above : (s : Slot) (k b : ℕ) → s.place + length s.bytes ≤ k → laid s k b ≡ b
+pub laid_above : (s : Slot) (k b : ℕ) → s.offset + length s.bytes ≤ k → laid s k b ≡ b
 laid_above s k b high =
-    let low : s.place ≤ k = omega arith in
-    rw (le-leb s.place k low, le-ltb k (s.place + length s.bytes) high)
+    let low : s.offset ≤ k = omega arith in
+    rw (le-leb s.offset k low, le-ltb k (s.offset + length s.bytes) high)
 
 pub all_laid-append : (slots : List Slot) (s : Slot) (k b : ℕ) → all_laid (slots ++ s ∷ []) k b ≡ laid s k (all_laid slots k b)
 all_laid-append [] s k b = refl
@@ -30,26 +30,26 @@ all_laid_above (s ∷ rest) done k b below high =
 
 -- the slots from the i-th on
 abbrev pub IsSlot : List Slot → ℕ → ℕ → List ℕ → Type 0
-IsSlot slots i place bytes = drop i slots ≡ slot_of place bytes ∷ drop (suc i) slots
+IsSlot slots i offset bytes = drop i slots ≡ slot_of offset bytes ∷ drop (suc i) slots
 
 -- a byte that a slot reaches doesn't depend on what stood there
-pub covered_same : (slots : List Slot) (i place : ℕ) (bytes : List ℕ) (k x y : ℕ) → IsSlot slots i place bytes
-    → place ≤ k → k < place + length bytes → all_laid slots k x ≡ all_laid slots k y
-covered_same [] zero place bytes k x y is low high = cc
-covered_same [] (suc j) place bytes k x y is low high = cc
-covered_same (s ∷ rest) zero place bytes k x y is low high =
-    let e : s ≡ slot_of place bytes = cc in
-    let same : laid (slot_of place bytes) k x ≡ laid (slot_of place bytes) k y =
-    laid_in (slot_of place bytes) k x low high ∙ sym (laid_in (slot_of place bytes) k y low high) in
+pub covered_same : (slots : List Slot) (i offset : ℕ) (bytes : List ℕ) (k x y : ℕ) → IsSlot slots i offset bytes
+    → offset ≤ k → k < offset + length bytes → all_laid slots k x ≡ all_laid slots k y
+covered_same [] zero offset bytes k x y is low high = cc
+covered_same [] (suc j) offset bytes k x y is low high = cc
+covered_same (s ∷ rest) zero offset bytes k x y is low high =
+    let e : s ≡ slot_of offset bytes = cc in
+    let same : laid (slot_of offset bytes) k x ≡ laid (slot_of offset bytes) k y =
+    laid_in (slot_of offset bytes) k x low high ∙ sym (laid_in (slot_of offset bytes) k y low high) in
     rw e (ap (all_laid rest k) same)
-covered_same (s ∷ rest) (suc j) place bytes k x y is low high =
-    covered_same rest j place bytes k (laid s k x) (laid s k y) is low high
+covered_same (s ∷ rest) (suc j) offset bytes k x y is low high =
+    covered_same rest j offset bytes k (laid s k x) (laid s k y) is low high
 
 -- a slot of the list is as each of them
-pub All-slot : (P : Slot → Type 0) (slots : List Slot) (i place : ℕ) (bytes : List ℕ) → IsSlot slots i place bytes
-    → All P slots → P (slot_of place bytes)
-All-slot P slots i place bytes is all =
-    All-head P (slot_of place bytes) (drop (suc i) slots) (All-same P _ _ (sym is) (All-drop P i slots all))
+pub All-slot : (P : Slot → Type 0) (slots : List Slot) (i offset : ℕ) (bytes : List ℕ) → IsSlot slots i offset bytes
+    → All P slots → P (slot_of offset bytes)
+All-slot P slots i offset bytes is all =
+    All-head P (slot_of offset bytes) (drop (suc i) slots) (All-same P _ _ (sym is) (All-drop P i slots all))
 
 pub on_ok : {T E : Type 0} (r : Result T E) (P Q : Type 0) → (P → Q) → OnOk r P → OnOk r Q
 on_ok (Ok x) P Q f h = f h

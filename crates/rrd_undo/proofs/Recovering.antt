@@ -8,7 +8,7 @@ use Rattle.rrd_tail.specs.Marks.{cut_mark, database_mark, mark_of, shape_for, si
 use Rattle.rrd_tail.specs.Reads.{IsSlotRead}
 use Rattle.rrd_tail.specs.Records.{if_shaped, last_record, read_record, record_at, record_bytes, IsRightAt}
 use Rattle.rrd_tail.specs.Settled.{settled}
-use Rattle.rrd_tail.specs.Slots.{IsRightSlot, Slot, all_laid, laid, slot_at, slot_place, slots_in}
+use Rattle.rrd_tail.specs.Slots.{IsRightSlot, Slot, all_laid, laid, slot_at, slot_offset, slots_in}
 use Rattle.rrd_tail.specs.declared.mark.Shape.{Shape}
 use Rattle.rrd_tail.specs.declared.mark.Mark.{Mark}
 use Rattle.rrd_tail.specs.declared.mark.Mark.TheVariants.{Cut, Undo}
@@ -44,9 +44,9 @@ record_read f buffer n at count result len counts are is = is ∙ ap (read_recor
 
 pub last_is : (s : Shape) (f : List ℕ) (n at : ℕ) → n ≡ length f → n % 4096 ≡ size_of s → at ≡ n - size_of s → last_record s f ≡ if_shaped s (record_at f at)
 unfolding last_record
-last_is s f n at len ends place =
+last_is s f n at len ends offset =
     let e : length f % 4096 ≡ size_of s = ap (λ (m : ℕ). m % 4096) (sym len) ∙ ends in
-    let there : length f - size_of s ≡ at = ap (λ (m : ℕ). m - size_of s) (sym len) ∙ sym place in
+    let there : length f - size_of s ≡ at = ap (λ (m : ℕ). m - size_of s) (sym len) ∙ sym offset in
     rw (eq-eqb (length f % 4096) (size_of s) e, there) refl
 
 -- ---- a file with a cut mark
@@ -91,8 +91,8 @@ module _ (s : Shape) (f : List ℕ) (mark : mark_of f ≡ Some (Cut s)) where
   to_cut r last =
       let un : laws.IsUnmarked f r.length (settled f) = cut_stands s r f mark last in
       let there = last_record_stands s r f last in
-      let stands = record_stands r.place r f there.1 in
-      let right : IsRightAt r.place r = stands.1 in
+      let stands = record_stands r.offset r f there.1 in
+      let right : IsRightAt r.offset r = stands.1 in
       let shape : shape_for (length (settled f)) ≡ s = ap shape_for un.len ∙ there.2 in (
         record {
           is = record { enough = omega (arith, un.len, right.enough); begins = λ i low. un.front i low (omega (arith, right.enough)) };
@@ -116,7 +116,7 @@ undone_of tail f r fits mark found =
     ext_get_or 0 r.first (take 16 (settled f)) (omega (arith, first_len, length-take 16 (settled f), un.len, right.enough)) (λ k low.
     let few : k < 16 = omega (arith, first_len) in
     sym (sixteen_at (settled f) k few ∙ un.each k (omega (arith, few, right.enough)) ∙ old_byte_first r (slots_in tail f) f k few)) in
-    let eq : r ≡ record_of tail (settled f) = rw (← first, un.len, ← right.its_place) refl in
+    let eq : r ≡ record_of tail (settled f) = rw (← first, un.len, ← right.its_offset) refl in
     record {
       is = record {
         enough = omega (arith, un.len, right.enough);
@@ -143,21 +143,21 @@ record_eq old tail f r is found =
 -- ---- slots are put back
 
 -- the i-th slot of a file, if it is one
-pub slot_here : (tail : ℕ) (f : List ℕ) (i place : ℕ) (bytes : List ℕ) → i ≤ length (slots_in tail f) → slot_at tail f i ≡ Some (slot_of place bytes)
-    → IsSlot (slots_in tail f) i place bytes × IsRightSlot tail (slot_of place bytes) × (i < length (slots_in tail f))
-slot_here tail f i place bytes within found =
+pub slot_here : (tail : ℕ) (f : List ℕ) (i offset : ℕ) (bytes : List ℕ) → i ≤ length (slots_in tail f) → slot_at tail f i ≡ Some (slot_of offset bytes)
+    → IsSlot (slots_in tail f) i offset bytes × IsRightSlot tail (slot_of offset bytes) × (i < length (slots_in tail f))
+slot_here tail f i offset bytes within found =
     let order : laws.AreSlots tail f (slots_in tail f) = slots_are_in_order tail f in
-    elim (cases_lt i (length (slots_in tail f))) as (λ _. IsSlot (slots_in tail f) i place bytes × IsRightSlot tail (slot_of place bytes) × (i < length (slots_in tail f))) [
+    elim (cases_lt i (length (slots_in tail f))) as (λ _. IsSlot (slots_in tail f) i offset bytes × IsRightSlot tail (slot_of offset bytes) × (i < length (slots_in tail f))) [
       | inl low ↦
-          let e : Some (slot_of place bytes) ≡ Some (slice_index_or (slots_in tail f) i (slot_of place bytes)) = sym found ∙ order.each i (slot_of place bytes) low in
-          let same : slice_index_or (slots_in tail f) i (slot_of place bytes) ≡ slot_of place bytes = cc in (
-            drop-cons (slots_in tail f) i (slot_of place bytes) low ∙ ap (λ (s : Slot). s ∷ drop (suc i) (slots_in tail f)) same,
-            (slot_stands tail i (slot_of place bytes) f found).1,
+          let e : Some (slot_of offset bytes) ≡ Some (slice_index_or (slots_in tail f) i (slot_of offset bytes)) = sym found ∙ order.each i (slot_of offset bytes) low in
+          let same : slice_index_or (slots_in tail f) i (slot_of offset bytes) ≡ slot_of offset bytes = cc in (
+            drop-cons (slots_in tail f) i (slot_of offset bytes) low ∙ ap (λ (s : Slot). s ∷ drop (suc i) (slots_in tail f)) same,
+            (slot_stands tail i (slot_of offset bytes) f found).1,
             low,
           )
       | inr none ↦
           let at_end : i ≡ length (slots_in tail f) = omega arith in
-          let e : Some (slot_of place bytes) ≡ None = sym found ∙ ap (slot_at tail f) at_end ∙ order.end in
+          let e : Some (slot_of offset bytes) ≡ None = sym found ∙ ap (slot_at tail f) at_end ∙ order.end in
           cc
     ]
 
@@ -183,31 +183,31 @@ back_ended old tail number f back none = λ k high low.
     let e : drop number (slots_in tail f) ≡ [] = slots_end tail f number back.within none in
     rw e at (back.laid k high low)
 
-module _ (old : List ℕ) (tail number place : ℕ) (bytes taken f : List ℕ) (back : IsBack old tail number f) (found : slot_at tail f number ≡ Some (slot_of place bytes))
+module _ (old : List ℕ) (tail number offset : ℕ) (bytes taken f : List ℕ) (back : IsBack old tail number f) (found : slot_at tail f number ≡ Some (slot_of offset bytes))
     (taken_is : taken ≡ bytes) where
-  here : IsSlot (slots_in tail f) number place bytes × IsRightSlot tail (slot_of place bytes) × (number < length (slots_in tail f))
-  here = slot_here tail f number place bytes back.within found
+  here : IsSlot (slots_in tail f) number offset bytes × IsRightSlot tail (slot_of offset bytes) × (number < length (slots_in tail f))
+  here = slot_here tail f number offset bytes back.within found
 
-  right : IsRightSlot tail (slot_of place bytes)
+  right : IsRightSlot tail (slot_of offset bytes)
   right = here.1
 
-  any_length : (g : List ℕ) → AreAny place (length bytes) f g → length g ≡ length f
+  any_length : (g : List ℕ) → AreAny offset (length bytes) f g → length g ≡ length f
   any_length g any = omega (arith, any.longer, any.bound, back.undone.restores.reaches, right.below)
 
-  any_slots : (g : List ℕ) → AreAny place (length bytes) f g → slots_in tail g ≡ slots_in tail f
+  any_slots : (g : List ℕ) → AreAny offset (length bytes) f g → slots_in tail g ≡ slots_in tail f
   any_slots g any = slots_stay tail f g (any_length g any) (λ k high. any.outside k (inr (omega (arith, right.below))))
 
   -- bytes that a slot reaches are the slot's, whatever the file has there
-  same_laid : (g : List ℕ) → AreAny place (length bytes) f g → (k : ℕ) → all_laid (slots_in tail f) k (slice_index g k) ≡ all_laid (slots_in tail f) k (slice_index f k)
-  same_laid g any k = elim (cases_lt k place) as (λ _. all_laid (slots_in tail f) k (slice_index g k) ≡ all_laid (slots_in tail f) k (slice_index f k)) [
+  same_laid : (g : List ℕ) → AreAny offset (length bytes) f g → (k : ℕ) → all_laid (slots_in tail f) k (slice_index g k) ≡ all_laid (slots_in tail f) k (slice_index f k)
+  same_laid g any k = elim (cases_lt k offset) as (λ _. all_laid (slots_in tail f) k (slice_index g k) ≡ all_laid (slots_in tail f) k (slice_index f k)) [
     | inl below ↦ ap (all_laid (slots_in tail f) k) (any.outside k (inl below))
-    | inr high ↦ elim (cases_lt k (place + length bytes)) as (λ _. all_laid (slots_in tail f) k (slice_index g k) ≡ all_laid (slots_in tail f) k (slice_index f k)) [
-      | inl inside ↦ covered_same (slots_in tail f) number place bytes k (slice_index g k) (slice_index f k) here.0 high inside
+    | inr high ↦ elim (cases_lt k (offset + length bytes)) as (λ _. all_laid (slots_in tail f) k (slice_index g k) ≡ all_laid (slots_in tail f) k (slice_index f k)) [
+      | inl inside ↦ covered_same (slots_in tail f) number offset bytes k (slice_index g k) (slice_index f k) here.0 high inside
       | inr above ↦ ap (all_laid (slots_in tail f) k) (any.outside k (inr above))
     ]
   ]
 
-  any_undone : (g : List ℕ) → AreAny place (length bytes) f g → IsUndone old tail g
+  any_undone : (g : List ℕ) → AreAny offset (length bytes) f g → IsUndone old tail g
   any_undone g any = record {
     is = back.undone.is;
     is_tail = back.undone.is_tail;
@@ -223,25 +223,25 @@ module _ (old : List ℕ) (tail number place : ℕ) (bytes taken f : List ℕ) (
     };
   }
 
-  pub slot_failed : (g : List ℕ) → AreAny place (length taken) f g → IsUndone old tail g
+  pub slot_failed : (g : List ℕ) → AreAny offset (length taken) f g → IsUndone old tail g
   slot_failed g any_taken = any_undone g (rw taken_is at any_taken)
 
-  put_laid : (g : List ℕ) → ArePut place bytes f g → (k : ℕ) → slice_index g k ≡ laid (slot_of place bytes) k (slice_index f k)
-  put_laid g put k = elim (cases_lt k place) as (λ _. slice_index g k ≡ laid (slot_of place bytes) k (slice_index f k)) [
-    | inl below ↦ put.outside k (inl below) ∙ sym (laid_below (slot_of place bytes) k (slice_index f k) below)
-    | inr high ↦ elim (cases_lt k (place + length bytes)) as (λ _. slice_index g k ≡ laid (slot_of place bytes) k (slice_index f k)) [
+  put_laid : (g : List ℕ) → ArePut offset bytes f g → (k : ℕ) → slice_index g k ≡ laid (slot_of offset bytes) k (slice_index f k)
+  put_laid g put k = elim (cases_lt k offset) as (λ _. slice_index g k ≡ laid (slot_of offset bytes) k (slice_index f k)) [
+    | inl below ↦ put.outside k (inl below) ∙ sym (laid_below (slot_of offset bytes) k (slice_index f k) below)
+    | inr high ↦ elim (cases_lt k (offset + length bytes)) as (λ _. slice_index g k ≡ laid (slot_of offset bytes) k (slice_index f k)) [
       | inl inside ↦
-          let there : place + (k - place) ≡ k = omega arith in
-          let put_there : slice_index g (place + (k - place)) ≡ slice_index bytes (k - place) = put.inside (k - place) (omega arith) in
-          ap (slice_index g) (sym there) ∙ put_there ∙ sym (laid_in (slot_of place bytes) k (slice_index f k) high inside)
-      | inr above ↦ put.outside k (inr above) ∙ sym (laid_above (slot_of place bytes) k (slice_index f k) above)
+          let there : offset + (k - offset) ≡ k = omega arith in
+          let put_there : slice_index g (offset + (k - offset)) ≡ slice_index bytes (k - offset) = put.inside (k - offset) (omega arith) in
+          ap (slice_index g) (sym there) ∙ put_there ∙ sym (laid_in (slot_of offset bytes) k (slice_index f k) high inside)
+      | inr above ↦ put.outside k (inr above) ∙ sym (laid_above (slot_of offset bytes) k (slice_index f k) above)
     ]
   ]
 
-  pub slot_back : (g : List ℕ) → ArePut place taken f g → IsBack old tail (number + 1) g × (length g ≡ length f)
+  pub slot_back : (g : List ℕ) → ArePut offset taken f g → IsBack old tail (number + 1) g × (length g ≡ length f)
   slot_back g put_taken =
-      let put : ArePut place bytes f g = rw taken_is at put_taken in
-      let any : AreAny place (length bytes) f g = record { longer = omega (arith, put.len); bound = omega (arith, put.len); outside = put.outside } in
+      let put : ArePut offset bytes f g = rw taken_is at put_taken in
+      let any : AreAny offset (length bytes) f g = record { longer = omega (arith, put.len); bound = omega (arith, put.len); outside = put.outside } in
       let slots : slots_in tail g ≡ slots_in tail f = any_slots g any in (
         record {
           undone = any_undone g any;
@@ -294,21 +294,21 @@ first_sixteen old first enough same =
     take_all 16 first (omega (arith, ap length same, length-sixteen old enough)) ∙ same
 
 -- a file that has no more bytes has no slot
-pub no_slot_past : (tail : ℕ) (f : List ℕ) (i at n : ℕ) → n ≡ length f → at ≡ slot_place tail i → n ≤ at → slot_at tail f i ≡ None
-no_slot_past tail f i at n len place past =
-    read_short tail (slice_range f (slot_place tail i) (slot_place tail i + 4128))
-    (omega (arith, length-take (slot_place tail i + 4128 - slot_place tail i) (drop (slot_place tail i) f), length-drop (slot_place tail i) f, len, place))
+pub no_slot_past : (tail : ℕ) (f : List ℕ) (i at n : ℕ) → n ≡ length f → at ≡ slot_offset tail i → n ≤ at → slot_at tail f i ≡ None
+no_slot_past tail f i at n len offset past =
+    read_short tail (slice_range f (slot_offset tail i) (slot_offset tail i + 4128))
+    (omega (arith, length-take (slot_offset tail i + 4128 - slot_offset tail i) (drop (slot_offset tail i) f), length-drop (slot_offset tail i) f, len, offset))
 
-found_is : (tail : ℕ) (f : List ℕ) (i : ℕ) (buffer : List ℕ) (result : Option SlotHeader) → buffer ≡ slice_range f (slot_place tail i) (slot_place tail i + 4128)
+found_is : (tail : ℕ) (f : List ℕ) (i : ℕ) (buffer : List ℕ) (result : Option SlotHeader) → buffer ≡ slice_range f (slot_offset tail i) (slot_offset tail i + 4128)
     → IsSlotRead tail buffer result → IsSlotFound tail f i buffer result
 found_is tail f i buffer None same is = rw (← same) is
 found_is tail f i buffer (Some header) same is = (rw (← same) is.0, is.1)
 
-pub slot_found : (tail : ℕ) (f : List ℕ) (i : ℕ) (buffer taken : List ℕ) (at n count : ℕ) (result : Option SlotHeader) → n ≡ length f → at ≡ slot_place tail i
+pub slot_found : (tail : ℕ) (f : List ℕ) (i : ℕ) (buffer taken : List ℕ) (at n count : ℕ) (result : Option SlotHeader) → n ≡ length f → at ≡ slot_offset tail i
     → count ≡ min (n - at) 4128 → AreAt f at count buffer → taken ≡ buffer → IsSlotRead tail taken result → IsSlotFound tail f i buffer result
-slot_found tail f i buffer taken at n count result len place counts are same is =
+slot_found tail f i buffer taken at n count result len offset counts are same is =
     let range : buffer ≡ slice_range f at (at + 4128) = range_read f buffer n at count 4128 len counts are in
-    let there : buffer ≡ slice_range f (slot_place tail i) (slot_place tail i + 4128) = range ∙ ap (λ (p : ℕ). slice_range f p (p + 4128)) place in
+    let there : buffer ≡ slice_range f (slot_offset tail i) (slot_offset tail i + 4128) = range ∙ ap (λ (p : ℕ). slice_range f p (p + 4128)) offset in
     let read : IsSlotRead tail buffer result = rw same at is in
     found_is tail f i buffer result there read
 
@@ -329,14 +329,14 @@ read_few tail buffer taken (Some header) same is = omega (arith, is.1, ap length
 
 -- ---- as the calls say it
 
-module _ (old : List ℕ) (tail number place : ℕ) (bytes taken f read : List ℕ) (back : IsBack old tail number f) (found : slot_at tail f number ≡ Some (slot_of place bytes))
+module _ (old : List ℕ) (tail number offset : ℕ) (bytes taken f read : List ℕ) (back : IsBack old tail number f) (found : slot_at tail f number ≡ Some (slot_of offset bytes))
     (taken_is : taken ≡ bytes) (same : read ≡ f) where
-  pub slot_failed_read : (g : List ℕ) → AreAny place (length taken) read g → IsUndone old tail g
-  slot_failed_read g any = slot_failed old tail number place bytes taken f back found taken_is g (rw same at any)
+  pub slot_failed_read : (g : List ℕ) → AreAny offset (length taken) read g → IsUndone old tail g
+  slot_failed_read g any = slot_failed old tail number offset bytes taken f back found taken_is g (rw same at any)
 
-  pub slot_back_read : (n : ℕ) (g : List ℕ) → n ≡ length f → ArePut place taken read g → IsBack old tail (number + 1) g × (n ≡ length g)
+  pub slot_back_read : (n : ℕ) (g : List ℕ) → n ≡ length f → ArePut offset taken read g → IsBack old tail (number + 1) g × (n ≡ length g)
   slot_back_read n g len put =
-      let after = slot_back old tail number place bytes taken f back found taken_is g (rw same at put) in
+      let after = slot_back old tail number offset bytes taken f back found taken_is g (rw same at put) in
       (after.0, len ∙ sym after.1)
 
 pub record_stays : (old : List ℕ) (tail : ℕ) (f g : List ℕ) (r : Record) → IsUndone old tail f → IsUndone old tail g → record_at f tail ≡ Some r → record_at g tail ≡ Some r

@@ -12,7 +12,7 @@ use Rattle.rrd_undo.specs.Databases.{IsDatabase}
 use Rattle.rrd_undo.specs.Undoing.{EndsBelow, IsOldPage, IsTail, Paged, Turning, Turns, Undoing}
 use Rattle.rrd_undo.specs.declared.change.Change.{Change}
 use Rattle.rrd_undo.specs.declared.change.Stage.{Stage}
-use Rattle.rrd_undo.specs.declared.change.Stage.TheVariants.{Untouched, Marked, Committing, Unkept, Spoiled}
+use Rattle.rrd_undo.specs.declared.change.Stage.TheVariants.{Untouched, Marked, Committing, Unkept, Invalid}
 use Rattle.rrd_undo.proofs.Cutting.{settled_plain}
 use Rattle.rrd_undo.proofs.Laid.{all_laid_above}
 use Rattle.rrd_undo.proofs.Undone.{undone_settled}
@@ -102,7 +102,7 @@ same_holds Marked old new tail slots file at page high is are holds = (
 )
 same_holds Committing old new tail slots file at page high is are holds = holds
 same_holds Unkept old new tail slots file at page high is are holds = holds
-same_holds Spoiled old new tail slots file at page high is are holds =
+same_holds Invalid old new tail slots file at page high is are holds =
     (holds.0, put_page new file file at page is holds.1 (λ i low. sym (are.each i (omega (arith, are.len)))) (λ k low. refl))
 
 -- what is read of a page that was not changed is the old page
@@ -117,7 +117,7 @@ old_page Marked old new tail slots file at count bytes high few are holds is = r
 }
 old_page Committing old new tail slots file at count bytes high few are holds is = absurd holds
 old_page Unkept old new tail slots file at count bytes high few are holds is = absurd holds
-old_page Spoiled old new tail slots file at count bytes high few are holds is = absurd (holds.0 is)
+old_page Invalid old new tail slots file at count bytes high few are holds is = absurd (holds.0 is)
 
 pub is_old_page : (old : List ℕ) (at : ℕ) (page bytes : List ℕ) → 16 ≤ at → length page ≤ 4096 → AreAt old at (min (length old - at) (length page)) bytes → IsOldPage old at bytes
 is_old_page old at page bytes high few are = record {
@@ -134,23 +134,23 @@ holds_left Untouched old new tail slots count file at is_tail holds = inl holds.
 holds_left Marked old new tail slots count file at is_tail holds = undone_settled old tail file is_tail holds.1.undoing.marked holds.1.undoing.restores
 holds_left Committing old new tail slots count file at is_tail holds = absurd holds
 holds_left Unkept old new tail slots count file at is_tail holds = absurd holds
-holds_left Spoiled old new tail slots count file at is_tail holds = holds.0
+holds_left Invalid old new tail slots count file at is_tail holds = holds.0
 
 pub holds_stands : (s : Stage) (old new : List ℕ) (tail slots : ℕ) (file : List ℕ) (at : ℕ) → IsTail old tail → Holds s old new tail slots file at → IsDatabase old → settled file ≡ old
 holds_stands Untouched old new tail slots file at is_tail holds is = ap settled holds.same ∙ settled_plain old is
 holds_stands Marked old new tail slots file at is_tail holds is = undone_settled old tail file is_tail holds.1.undoing.marked holds.1.undoing.restores
 holds_stands Committing old new tail slots file at is_tail holds is = absurd holds
 holds_stands Unkept old new tail slots file at is_tail holds is = absurd holds
-holds_stands Spoiled old new tail slots file at is_tail holds is = absurd (holds.0 is)
+holds_stands Invalid old new tail slots file at is_tail holds is = absurd (holds.0 is)
 
 -- a started change that isn't of a database
-pub other_spoiled : (s : Stage) (old new : List ℕ) (tail slots : ℕ) (file : List ℕ) (at : ℕ) → (s ≢ Marked) → IsStarted s → Holds s old new tail slots file at
+pub other_invalid : (s : Stage) (old new : List ℕ) (tail slots : ℕ) (file : List ℕ) (at : ℕ) → (s ≢ Marked) → IsStarted s → Holds s old new tail slots file at
     → (IsDatabase old → ⊥) × ArePutBelow at new file
-other_spoiled Untouched old new tail slots file at other started holds = absurd started
-other_spoiled Marked old new tail slots file at other started holds = absurd (other refl)
-other_spoiled Committing old new tail slots file at other started holds = absurd started
-other_spoiled Unkept old new tail slots file at other started holds = absurd started
-other_spoiled Spoiled old new tail slots file at other started holds = holds
+other_invalid Untouched old new tail slots file at other started holds = absurd started
+other_invalid Marked old new tail slots file at other started holds = absurd (other refl)
+other_invalid Committing old new tail slots file at other started holds = absurd started
+other_invalid Unkept old new tail slots file at other started holds = absurd started
+other_invalid Invalid old new tail slots file at other started holds = holds
 
 pub other_holds : (s : Stage) (old new : List ℕ) (tail slots : ℕ) (file : List ℕ) (at : ℕ) → (s ≢ Marked) → IsStarted s
     → (IsDatabase old → ⊥) → ArePutBelow at new file → Holds s old new tail slots file at
@@ -158,14 +158,14 @@ other_holds Untouched old new tail slots file at other started none put = absurd
 other_holds Marked old new tail slots file at other started none put = absurd (other refl)
 other_holds Committing old new tail slots file at other started none put = absurd started
 other_holds Unkept old new tail slots file at other started none put = absurd started
-other_holds Spoiled old new tail slots file at other started none put = (none, put)
+other_holds Invalid old new tail slots file at other started none put = (none, put)
 
 pub other_left : (s : Stage) (old : List ℕ) (tail count : ℕ) (file : List ℕ) → (s ≢ Marked) → IsStarted s → (IsDatabase old → ⊥) → IsLeft s old tail count file
 other_left Untouched old tail count file other started none = absurd started
 other_left Marked old tail count file other started none = absurd (other refl)
 other_left Committing old tail count file other started none = absurd started
 other_left Unkept old tail count file other started none = absurd started
-other_left Spoiled old tail count file other started none = none
+other_left Invalid old tail count file other started none = none
 
 -- ---- the end
 
@@ -180,9 +180,9 @@ put_whole new file last first len rest are put =
       | inr behind ↦ put.outside k (inr (omega arith)) ∙ rest k (omega (arith, are.len, len)) (omega (arith, len))
     ])
 
-pub spoiled_end : (new file cut last first : List ℕ) (n done : ℕ) → n ≡ length new → length new ≤ done → AreAt new 0 (min 4096 (length new)) first → ArePutBelow done new file
+pub invalid_end : (new file cut last first : List ℕ) (n done : ℕ) → n ≡ length new → length new ≤ done → AreAt new 0 (min 4096 (length new)) first → ArePutBelow done new file
     → IsSized n file cut → ArePut 0 first cut last → last ≡ new
-spoiled_end new file cut last first n done counts all are holds sized put =
+invalid_end new file cut last first n done counts all are holds sized put =
     put_whole new cut last first (omega (arith, put.len, are.len, sized.len, counts))
     (λ k high low. sized.below k (omega (arith, counts)) ∙ holds k high (omega arith) low) are put
 
@@ -382,15 +382,15 @@ first_read old opened bytes n count len same counts are =
 pub front_few : (old old_first taken : List ℕ) → AreAt old 0 (min 4096 (length old)) old_first → taken ≡ old_first → length taken ≤ 4096
 front_few old old_first taken are same = rw same (omega (arith, are.len))
 
-pub spoiled_end_synced : (new file cut synced last first : List ℕ) (n done : ℕ) → n ≡ length new → length new ≤ done → AreAt new 0 (min 4096 (length new)) first → ArePutBelow done new file
+pub invalid_end_synced : (new file cut synced last first : List ℕ) (n done : ℕ) → n ≡ length new → length new ≤ done → AreAt new 0 (min 4096 (length new)) first → ArePutBelow done new file
     → IsSized n file cut → synced ≡ cut → ArePut 0 first synced last → last ≡ new
-spoiled_end_synced new file cut synced last first n done counts all are holds sized same put =
-    spoiled_end new file cut last first n done counts all are holds sized (rw same at put)
+invalid_end_synced new file cut synced last first n done counts all are holds sized same put =
+    invalid_end new file cut last first n done counts all are holds sized (rw same at put)
 
-pub spoiled_end_kept : (new file cut synced last kept first : List ℕ) (n done : ℕ) → n ≡ length new → length new ≤ done → AreAt new 0 (min 4096 (length new)) first
+pub invalid_end_kept : (new file cut synced last kept first : List ℕ) (n done : ℕ) → n ≡ length new → length new ≤ done → AreAt new 0 (min 4096 (length new)) first
     → ArePutBelow done new file → IsSized n file cut → synced ≡ cut → ArePut 0 first synced last → kept ≡ last → kept ≡ new
-spoiled_end_kept new file cut synced last kept first n done counts all are holds sized same put again =
-    again ∙ spoiled_end_synced new file cut synced last first n done counts all are holds sized same put
+invalid_end_kept new file cut synced last kept first n done counts all are holds sized same put again =
+    again ∙ invalid_end_synced new file cut synced last first n done counts all are holds sized same put
 
 pub not_true : (b : Bool) → b ≡ false → IsTrue b → ⊥
 not_true true e t = cc
@@ -400,8 +400,8 @@ not_true false e t = cc
 
 pub at_left : (old new : List ℕ) (done : ℕ) (c : Change) (f : List ℕ) → IsAt old new done c f → IsBroken old c f × StandsForOld old f
 at_left old new done c f is_at = (
-  record { knows = is_at.knows; left = holds_left c.stage old new c.tail.place c.tail.slots c.length f done is_at.knows.tail is_at.holds },
-  λ is. holds_stands c.stage old new c.tail.place c.tail.slots f done is_at.knows.tail is_at.holds is,
+  record { knows = is_at.knows; left = holds_left c.stage old new c.tail.offset c.tail.slots c.length f done is_at.knows.tail is_at.holds },
+  λ is. holds_stands c.stage old new c.tail.offset c.tail.slots f done is_at.knows.tail is_at.holds is,
 )
 
 knows_page : (old : List ℕ) (c d : Change) → d ≡ record c { old_page = d.old_page } → Knows old c → Knows old d
@@ -410,7 +410,7 @@ knows_page old c d frame knows = rw frame (record { old_length = knows.old_lengt
 pub at_same : (old new : List ℕ) (done : ℕ) (c d : Change) (f g : List ℕ) → d ≡ record c { old_page = d.old_page } → g ≡ f → IsAt old new done c f → IsAt old new done d g
 at_same old new done c d f g frame same is_at =
     let knows : Knows old d = knows_page old c d frame is_at.knows in
-    let holds : Holds d.stage old new d.tail.place d.tail.slots g done = rw (frame, same) is_at.holds in
+    let holds : Holds d.stage old new d.tail.offset d.tail.slots g done = rw (frame, same) is_at.holds in
     record { knows = knows; holds = holds }
 
 pub at_page_same : (old new : List ℕ) (at : ℕ) (page : List ℕ) (c d : Change) (f g : List ℕ) → 4096 ≤ at → d ≡ record c { old_page = d.old_page } → g ≡ f → IsPage new at page
@@ -421,8 +421,8 @@ at_page_same old new at page c d f g high frame same is page_is are is_at =
       each = λ i low. ap (λ (b : List ℕ). slice_index b i) page_is ∙ are.each i low;
     }) in
     let knows : Knows old d = knows_page old c d frame is_at.knows in
-    let more : Holds c.stage old new c.tail.place c.tail.slots f (at + 4096) = same_holds c.stage old new c.tail.place c.tail.slots f at page high is are_page is_at.holds in
-    let holds : Holds d.stage old new d.tail.place d.tail.slots g (at + 4096) = rw (frame, same) more in
+    let more : Holds c.stage old new c.tail.offset c.tail.slots f (at + 4096) = same_holds c.stage old new c.tail.offset c.tail.slots f at page high is are_page is_at.holds in
+    let holds : Holds d.stage old new d.tail.offset d.tail.slots g (at + 4096) = rw (frame, same) more in
     record { knows = knows; holds = holds }
 
 -- the old page at hand
@@ -430,7 +430,7 @@ pub at_old_page : (old new : List ℕ) (at : ℕ) (page bytes kept : List ℕ) (
     → kept ≡ bytes → IsDatabase old → AreAt old at (min (length old - at) (length page)) kept
 at_old_page old new at page bytes kept c f high are is_at same is =
     let are_old : AreAt f at (min (length old - at) (length page)) bytes = rw (← is_at.knows.old_length) are in
-    rw same (old_page c.stage old new c.tail.place c.tail.slots f at (min (length old - at) (length page)) bytes high (omega arith) are_old is_at.holds is)
+    rw same (old_page c.stage old new c.tail.offset c.tail.slots f at (min (length old - at) (length page)) bytes high (omega arith) are_old is_at.holds is)
 
 pub page_of : (old : List ℕ) (at : ℕ) (page bytes taken : List ℕ) → 16 ≤ at → length page ≤ 4096 → AreAt old at (min (length old - at) (length page)) bytes → taken ≡ bytes
     → IsOldPage old at taken × (length taken ≡ min (length old - at) (length page))

@@ -8,7 +8,7 @@ use Rattle.rrd_tail.specs.Bytes.{StandsAt}
 use Rattle.rrd_tail.specs.Marks.{cut_mark, shape_for, size_of, undo_mark}
 use Rattle.rrd_tail.specs.Records.{IsRightAt, record_at, shaped_bytes}
 use Rattle.rrd_tail.specs.Settled.{settled}
-use Rattle.rrd_tail.specs.Slots.{Slot, all_laid, laid, slot_place, slots_in}
+use Rattle.rrd_tail.specs.Slots.{Slot, all_laid, laid, slot_offset, slots_in}
 use Rattle.rrd_tail.specs.declared.mark.Shape.{Shape}
 use Rattle.rrd_tail.specs.declared.record.Record.{Record}
 use Rattle.rrd_undo.specs.Calls.{AreAny, AreAt, ArePut, AreWholeOrNot}
@@ -99,24 +99,24 @@ past f k high = get_or_past f k 0 high
 
 module _ (old new : List ℕ) (tail slots : ℕ) (f : List ℕ) (is_old : IsDatabase old) (is_new : IsDatabase new) (is_tail : IsTail old tail) (below : length new ≤ tail)
     (paged : Paged old new tail slots f) where
-  pub new_recorded : (place : ℕ) (g : List ℕ) (s : Shape) (r : Record) → place % 4096 ≡ 0 → slot_place tail slots + 32 ≤ place → place < 2 ^ 64
-      → s ≡ shape_for (length new) → r ≡ record_of place new → ArePut place (shaped_bytes s r) f g → IsReady old new tail g
-  new_recorded place g s r page behind fits shape record_eq put =
+  pub new_recorded : (offset : ℕ) (g : List ℕ) (s : Shape) (r : Record) → offset % 4096 ≡ 0 → slot_offset tail slots + 32 ≤ offset → offset < 2 ^ 64
+      → s ≡ shape_for (length new) → r ≡ record_of offset new → ArePut offset (shaped_bytes s r) f g → IsReady old new tail g
+  new_recorded offset g s r page behind fits shape record_eq put =
       let the : Shape = shape_for (length new) in
-      let put_it : ArePut place (shaped_bytes the (record_of place new)) f g = rw (← shape, ← record_eq) put in
-      let size : length (shaped_bytes the (record_of place new)) ≡ size_of the = shaped_length the (record_of place new) (length-sixteen new is_new.enough) in
-      let room : length f ≤ slot_place tail slots = paged.undoing.room in
-      let len : length g ≡ place + size_of the = omega (arith, put_it.len, size, room) in
+      let put_it : ArePut offset (shaped_bytes the (record_of offset new)) f g = rw (← shape, ← record_eq) put in
+      let size : length (shaped_bytes the (record_of offset new)) ≡ size_of the = shaped_length the (record_of offset new) (length-sixteen new is_new.enough) in
+      let room : length f ≤ slot_offset tail slots = paged.undoing.room in
+      let len : length g ≡ offset + size_of the = omega (arith, put_it.len, size, room) in
       let longer : length f ≤ length g = omega (arith, len, room) in
-      let next : slot_place tail (length (slots_in tail f)) ≡ slot_place tail slots = ap (slot_place tail) paged.undoing.counted in
-      let same : (k : ℕ) → k < place → slice_index g k ≡ slice_index f k = λ k low. put_it.outside k (inl low) in
+      let next : slot_offset tail (length (slots_in tail f)) ≡ slot_offset tail slots = ap (slot_offset tail) paged.undoing.counted in
+      let same : (k : ℕ) → k < offset → slice_index g k ≡ slice_index f k = λ k low. put_it.outside k (inl low) in
       let slots_same : slots_in tail g ≡ slots_in tail f =
       zeros_end_slots tail f g longer (omega (arith, next, room)) (λ k low. same k (omega (arith, room)))
       (λ i low. same _ (omega (arith, next)) ∙ past f _ (omega (arith, next, room))) in
-      let right : IsRightAt place (record_of place new) = right_record_of new place is_new page (omega (arith, below)) in
-      let there : record_at g place ≡ Some (record_of place new) =
-      record_is_read place (record_of place new) g fits (length-sixteen new is_new.enough) right
-      (shaped_stands the place (record_of place new) g (put_stands place _ f g put_it)) in
+      let right : IsRightAt offset (record_of offset new) = right_record_of new offset is_new page (omega (arith, below)) in
+      let there : record_at g offset ≡ Some (record_of offset new) =
+      record_is_read offset (record_of offset new) g fits (length-sixteen new is_new.enough) right
+      (shaped_stands the offset (record_of offset new) g (put_stands offset _ f g put_it)) in
       record {
         is_tail = is_tail;
         restores = record {
@@ -127,18 +127,18 @@ module _ (old new : List ℕ) (tail slots : ℕ) (f : List ℕ) (is_old : IsData
         };
         marked = stands_same 0 (undo_mark tail) f g longer
             (λ k high low. same k (omega (arith, undo_mark_length tail, is_old.enough, is_tail.below))) paged.undoing.marked;
-        recorded = (record_of place new, last_record_is_read the place (record_of place new) g len right there refl, refl);
+        recorded = (record_of offset new, last_record_is_read the offset (record_of offset new) g len right there refl, refl);
         fits = fits;
         longer = omega (arith, paged.undoing.restores.reaches);
         put = λ k high low. same k (omega arith) ∙ paged.put k high low;
       }
 
-  pub new_recorded_or_not : (place : ℕ) (g : List ℕ) (s : Shape) (r : Record) → place % 4096 ≡ 0 → slot_place tail slots + 32 ≤ place → place < 2 ^ 64
-      → s ≡ shape_for (length new) → r ≡ record_of place new → AreWholeOrNot place (shaped_bytes s r) f g → settled g ≡ old
-  new_recorded_or_not place g s r page behind fits shape record_eq either = elim either as (λ _. settled g ≡ old) [
+  pub new_recorded_or_not : (offset : ℕ) (g : List ℕ) (s : Shape) (r : Record) → offset % 4096 ≡ 0 → slot_offset tail slots + 32 ≤ offset → offset < 2 ^ 64
+      → s ≡ shape_for (length new) → r ≡ record_of offset new → AreWholeOrNot offset (shaped_bytes s r) f g → settled g ≡ old
+  new_recorded_or_not offset g s r page behind fits shape record_eq either = elim either as (λ _. settled g ≡ old) [
     | inl none ↦ ap settled none ∙ undoing_settled old tail slots f is_tail paged.undoing
     | inr put ↦
-        let ready : IsReady old new tail g = new_recorded place g s r page behind fits shape record_eq put in
+        let ready : IsReady old new tail g = new_recorded offset g s r page behind fits shape record_eq put in
         undone_settled old tail g is_tail ready.marked ready.restores
   ]
 
@@ -149,17 +149,17 @@ pub ready_synced : (old new : List ℕ) (tail : ℕ) (f h : List ℕ) → IsRead
 ready_synced old new tail f h ready synced = rw synced ready
 
 -- a last record stays where only the first sixteen bytes change
-recorded_same : (f g new : List ℕ) → 16 ≤ length new → (recorded : IsRecorded new f) → recorded.0.place < 2 ^ 64 → length g ≡ length f
+recorded_same : (f g new : List ℕ) → 16 ≤ length new → (recorded : IsRecorded new f) → recorded.0.offset < 2 ^ 64 → length g ≡ length f
     → ((k : ℕ) → 16 ≤ k → slice_index g k ≡ slice_index f k) → IsRecorded new g
 recorded_same f g new enough recorded fits len same =
     let s : Shape = shape_for (length new) in
     let r : Record = recorded.0 in
     let last = last_record_stands s r f recorded.1 in
-    let stands = record_stands r.place r f last.1 in
-    let right : IsRightAt r.place r = stands.1 in
-    let there : record_at g r.place ≡ Some r = record_same r.place r.place r f g refl fits (omega (arith, len))
+    let stands = record_stands r.offset r f last.1 in
+    let right : IsRightAt r.offset r = stands.1 in
+    let there : record_at g r.offset ≡ Some r = record_same r.offset r.offset r f g refl fits (omega (arith, len))
     (λ k high low. same k (omega (arith, right.below, recorded.2))) last.1 in
-    (r, last_record_is_read s r.place r g (omega (arith, len, last.0)) right there last.2, recorded.2)
+    (r, last_record_is_read s r.offset r g (omega (arith, len, last.0)) right there last.2, recorded.2)
 
 -- ---- the commit
 

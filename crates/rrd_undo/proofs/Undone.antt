@@ -9,7 +9,7 @@ use Rattle.rrd_tail.specs.Laws.{IsUndone}
 use Rattle.rrd_tail.specs.Marks.{cut_mark, database_mark, mark_of, shape_for, size_of, undo_mark}
 use Rattle.rrd_tail.specs.Records.{IsRightAt, last_record, record_at, record_bytes, shaped_bytes}
 use Rattle.rrd_tail.specs.Settled.{old_byte, settled}
-use Rattle.rrd_tail.specs.Slots.{IsRightSlot, Slot, all_laid, laid, slot_bytes, slot_header, slot_place, slots_in}
+use Rattle.rrd_tail.specs.Slots.{IsRightSlot, Slot, all_laid, laid, slot_bytes, slot_header, slot_offset, slots_in}
 use Rattle.rrd_tail.specs.declared.mark.Shape.{Shape}
 use Rattle.rrd_tail.specs.declared.mark.Shape.TheVariants.{Short, Long}
 use Rattle.rrd_tail.specs.declared.record.Record.{Record}
@@ -106,16 +106,16 @@ sixteen_of old bytes enough are =
     let there : 0 + k ≡ k = omega arith in
     sixteen_at bytes k first ∙ are.each k (omega arith) ∙ ap (slice_index old) there ∙ sym (sixteen_at old k first))
 
-pub record_is : (old bytes first : List ℕ) (place n : ℕ) → 16 ≤ length old → AreAt old 0 (min 4096 (length old)) bytes → n ≡ length old → first ≡ take 16 bytes
-    → (let r : Record = record { place = place; length = n; first = first } in r) ≡ record_of place old
-record_is old bytes first place n enough are counts firsts =
+pub record_is : (old bytes first : List ℕ) (offset n : ℕ) → 16 ≤ length old → AreAt old 0 (min 4096 (length old)) bytes → n ≡ length old → first ≡ take 16 bytes
+    → (let r : Record = record { offset = offset; length = n; first = first } in r) ≡ record_of offset old
+record_is old bytes first offset n enough are counts firsts =
     let e : first ≡ take 16 old = firsts ∙ sixteen_of old bytes enough are in
     rw (counts, e) refl
 
 -- the record of a database is right
-pub right_record_of : (bytes : List ℕ) (place : ℕ) → IsDatabase bytes → place % 4096 ≡ 0 → length bytes ≤ place → IsRightAt place (record_of place bytes)
-right_record_of bytes place is page below = record {
-  its_place = refl;
+pub right_record_of : (bytes : List ℕ) (offset : ℕ) → IsDatabase bytes → offset % 4096 ≡ 0 → length bytes ≤ offset → IsRightAt offset (record_of offset bytes)
+right_record_of bytes offset is page below = record {
+  its_offset = refl;
   page = page;
   enough = is.enough;
   below = below;
@@ -225,10 +225,10 @@ module _ (old : List ℕ) (tail slots at : ℕ) (bytes f : List ℕ) (is : IsDat
   slot_length : length (slot_bytes tail (slot_of at bytes)) ≡ 32 + length bytes
   slot_length = length-slot tail (slot_of at bytes)
 
-  next_is : slot_place tail (length (slots_in tail f)) ≡ slot_place tail slots
-  next_is = ap (slot_place tail) undoing.counted
+  next_is : slot_offset tail (length (slots_in tail f)) ≡ slot_offset tail slots
+  next_is = ap (slot_offset tail) undoing.counted
 
-  above_tail : tail + 64 ≤ slot_place tail slots
+  above_tail : tail + 64 ≤ slot_offset tail slots
   above_tail = omega (arith, undoing.restores.reaches, undoing.room)
 
   -- old bytes don't change by a slot of old bytes
@@ -263,14 +263,14 @@ module _ (old : List ℕ) (tail slots at : ℕ) (bytes f : List ℕ) (is : IsDat
   marked_more g longer same =
       stands_same 0 (undo_mark tail) f g longer (λ k high low. same k (omega (arith, undo_mark_length tail, undoing.restores.reaches, is.enough, is_tail.below))) undoing.marked
 
-  pub kept_put : (g taken : List ℕ) (place : ℕ) → place ≡ slot_place tail slots → taken ≡ slot_bytes tail (slot_of at bytes) → ArePut place taken f g
+  pub kept_put : (g taken : List ℕ) (offset : ℕ) → offset ≡ slot_offset tail slots → taken ≡ slot_bytes tail (slot_of at bytes) → ArePut offset taken f g
       → Keeps old tail (slots + 1) at bytes f g
-  kept_put g taken place places takes put_taken =
-      let put : ArePut (slot_place tail slots) (slot_bytes tail (slot_of at bytes)) f g = rw (← places, ← takes) put_taken in
+  kept_put g taken offset offsets takes put_taken =
+      let put : ArePut (slot_offset tail slots) (slot_bytes tail (slot_of at bytes)) f g = rw (← offsets, ← takes) put_taken in
       let longer : length f ≤ length g = omega (arith, put.len) in
-      let len : length g ≡ slot_place tail slots + (32 + length bytes) = omega (arith, put.len, slot_length, undoing.room) in
+      let len : length g ≡ slot_offset tail slots + (32 + length bytes) = omega (arith, put.len, slot_length, undoing.room) in
       let same : (k : ℕ) → k < length f → slice_index g k ≡ slice_index f k = λ k low. put.outside k (inl (omega (arith, undoing.room))) in
-      let stands : StandsAt g (slot_place tail (length (slots_in tail f))) (slot_bytes tail (slot_of at bytes)) = rw next_is (put_stands _ _ f g put) in
+      let stands : StandsAt g (slot_offset tail (length (slots_in tail f))) (slot_bytes tail (slot_of at bytes)) = rw next_is (put_stands _ _ f g put) in
       let more : slots_in tail g ≡ slots_in tail f ++ slot_of at bytes ∷ [] =
       slot_is_appended tail (slot_of at bytes) f g is_tail.fits right_slot (omega (arith, next_is, undoing.room)) same stands (omega (arith, len, next_is, slot_length)) in
       record {
@@ -287,11 +287,11 @@ module _ (old : List ℕ) (tail slots at : ℕ) (bytes f : List ℕ) (is : IsDat
   whole_settled : (g : List ℕ) → Keeps old tail (slots + 1) at bytes f g → settled g ≡ old
   whole_settled g keeps = undone_settled old tail g is_tail keeps.undoing.marked keeps.undoing.restores
 
-  cut_front_settled : (g : List ℕ) (n : ℕ) → n < 32 + length bytes → ArePut (slot_place tail slots) (take n (slot_bytes tail (slot_of at bytes))) f g → settled g ≡ old
+  cut_front_settled : (g : List ℕ) (n : ℕ) → n < 32 + length bytes → ArePut (slot_offset tail slots) (take n (slot_bytes tail (slot_of at bytes))) f g → settled g ≡ old
   cut_front_settled g n short put =
       let taken_len : length (take n (slot_bytes tail (slot_of at bytes))) ≡ n = omega (arith, length-take n (slot_bytes tail (slot_of at bytes)), slot_length) in
       let longer : length f ≤ length g = omega (arith, put.len) in
-      let len : length g ≡ slot_place tail slots + n = omega (arith, put.len, taken_len, undoing.room) in
+      let len : length g ≡ slot_offset tail slots + n = omega (arith, put.len, taken_len, undoing.room) in
       let same : (k : ℕ) → k < length f → slice_index g k ≡ slice_index f k = λ k low. put.outside k (inl (omega (arith, undoing.room))) in
       let none : slots_in tail g ≡ slots_in tail f =
       cut_slot_is_not_counted tail (slot_of at bytes) f g is_tail.fits right_slot longer same (omega (arith, len, next_is, slot_length))
@@ -301,24 +301,24 @@ module _ (old : List ℕ) (tail slots at : ℕ) (bytes f : List ℕ) (is : IsDat
       ∙ get_or-take n (slot_bytes tail (slot_of at bytes)) i 0 inside) in
       undone_settled old tail g is_tail (marked_more g longer same) (restores_more g longer same (inl none))
 
-  front_settled : (g taken : List ℕ) (place : ℕ) → place ≡ slot_place tail slots → taken ≡ slot_bytes tail (slot_of at bytes) → (n : ℕ) → n ≤ length taken
-      → ArePut place (take n taken) f g → settled g ≡ old
-  front_settled g taken place places takes n most put_taken =
-      let put : ArePut (slot_place tail slots) (take n (slot_bytes tail (slot_of at bytes))) f g = rw (← places, ← takes) put_taken in
+  front_settled : (g taken : List ℕ) (offset : ℕ) → offset ≡ slot_offset tail slots → taken ≡ slot_bytes tail (slot_of at bytes) → (n : ℕ) → n ≤ length taken
+      → ArePut offset (take n taken) f g → settled g ≡ old
+  front_settled g taken offset offsets takes n most put_taken =
+      let put : ArePut (slot_offset tail slots) (take n (slot_bytes tail (slot_of at bytes))) f g = rw (← offsets, ← takes) put_taken in
       let most_is : n ≤ 32 + length bytes = omega (arith, most, ap length takes, slot_length) in
       elim (cases_lt n (32 + length bytes)) as (λ _. settled g ≡ old) [
         | inl short ↦ cut_front_settled g n short put
         | inr whole ↦
             let all : take n (slot_bytes tail (slot_of at bytes)) ≡ slot_bytes tail (slot_of at bytes) = take_all n (slot_bytes tail (slot_of at bytes)) (omega (arith, slot_length)) in
-            let put_all : ArePut (slot_place tail slots) (slot_bytes tail (slot_of at bytes)) f g = rw (← all) put in
-            whole_settled g (kept_put g (slot_bytes tail (slot_of at bytes)) (slot_place tail slots) refl refl put_all)
+            let put_all : ArePut (slot_offset tail slots) (slot_bytes tail (slot_of at bytes)) f g = rw (← all) put in
+            whole_settled g (kept_put g (slot_bytes tail (slot_of at bytes)) (slot_offset tail slots) refl refl put_all)
       ]
 
-  pub kept_front : (g taken : List ℕ) (place : ℕ) → place ≡ slot_place tail slots → taken ≡ slot_bytes tail (slot_of at bytes) → IsFrontPut place taken f g
+  pub kept_front : (g taken : List ℕ) (offset : ℕ) → offset ≡ slot_offset tail slots → taken ≡ slot_bytes tail (slot_of at bytes) → IsFrontPut offset taken f g
       → settled g ≡ old
-  kept_front g taken place places takes either = elim either as (λ _. settled g ≡ old) [
+  kept_front g taken offset offsets takes either = elim either as (λ _. settled g ≡ old) [
     | inl none ↦ ap settled none ∙ undone_settled old tail f is_tail undoing.marked undoing.restores
-    | inr front ↦ front_settled g taken place places takes front.0 front.1 front.2
+    | inr front ↦ front_settled g taken offset offsets takes front.0 front.1 front.2
   ]
 
 -- ---- as the calls say it

@@ -3,18 +3,18 @@ use Rattle.std.specs.Prelude.{◌≡◌, ◌⊎◌, ℕ, ◌+◌, ◌<◌, ◌�
 
 -- Byte k of a list is 0 if the list is shorter, as a byte of a file is if the file gets longer.
 
--- these are so many bytes of the file from a place on
+-- these are so many bytes of the file from an offset on
 pub record AreAt (file : List ℕ) (at count : ℕ) (bytes : List ℕ) : Type 0 where
   pub len : length bytes ≡ count
   pub each : (i : ℕ) → i < count → slice_index bytes i ≡ slice_index file (at + i)
 
--- these bytes are at this place, and all others are as they were
+-- these bytes are at this offset, and all others are as they were
 pub record ArePut (at : ℕ) (bytes old new : List ℕ) : Type 0 where
   pub len : length new ≡ max (length old) (at + length bytes)
   pub inside : (i : ℕ) → i < length bytes → slice_index new (at + i) ≡ slice_index bytes i
   pub outside : (k : ℕ) → (k < at) ⊎ (at + length bytes ≤ k) → slice_index new k ≡ slice_index old k
 
--- so many bytes from a place on may be any bytes now
+-- so many bytes from an offset on may be any bytes now
 pub record AreAny (at count : ℕ) (old new : List ℕ) : Type 0 where
   pub longer : length old ≤ length new
   pub bound : length new ≤ max (length old) (at + count)

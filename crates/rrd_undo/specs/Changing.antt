@@ -7,7 +7,7 @@ use Rattle.rrd_undo.specs.Databases.{IsDatabase}
 use Rattle.rrd_undo.specs.Undoing.{IsTail, Turning}
 use Rattle.rrd_undo.specs.declared.change.Change.{Change}
 use Rattle.rrd_undo.specs.declared.change.Stage.{Stage}
-use Rattle.rrd_undo.specs.declared.change.Stage.TheVariants.{Untouched, Marked, Committing, Unkept, Spoiled}
+use Rattle.rrd_undo.specs.declared.change.Stage.TheVariants.{Untouched, Marked, Committing, Unkept, Invalid}
 
 -- the bytes of a new page
 pub record IsPage (new : List ℕ) (at : ℕ) (page : List ℕ) : Type 0 where
@@ -34,7 +34,7 @@ Holds Untouched old new tail slots file done = Agreeing old new file done
 Holds Marked old new tail slots file done = IsDatabase old × Turning old new tail slots file done
 Holds Committing old new tail slots file done = ⊥
 Holds Unkept old new tail slots file done = ⊥
-Holds Spoiled old new tail slots file done = (IsDatabase old → ⊥) × ArePutBelow done new file
+Holds Invalid old new tail slots file done = (IsDatabase old → ⊥) × ArePutBelow done new file
 
 -- the file is as it was, or its first page alone was put, and the file has this length
 abbrev pub IsFirstPut : List ℕ → ℕ → List ℕ → Type 0
@@ -46,32 +46,32 @@ IsLeft Untouched old tail count file = IsFirstPut old count file
 IsLeft Marked old tail count file = settled file ≡ old
 IsLeft Committing old tail count file = (f : List ℕ) → ArePut 0 (undo_mark tail) file f → settled f ≡ old
 IsLeft Unkept old tail count file = (IsDatabase old → ⊥) × StaysBehind old file
-IsLeft Spoiled old tail count file = (IsDatabase old → ⊥)
+IsLeft Invalid old tail count file = (IsDatabase old → ⊥)
 
--- a file that is changed is marked or spoiled
+-- a file that is changed is marked, or marked invalid
 abbrev pub IsStarted : Stage → Type 0
 IsStarted Untouched = ⊥
 IsStarted Marked = ⊤
 IsStarted Committing = ⊥
 IsStarted Unkept = ⊥
-IsStarted Spoiled = ⊤
+IsStarted Invalid = ⊤
 
 -- what is known of the old bytes in memory
 pub record Knows (old : List ℕ) (c : Change) : Type 0 where
   pub old_length : c.old_length ≡ length old
   pub old_first : AreAt old 0 (min 4096 (length old)) c.old_first.items
-  pub tail : IsTail old c.tail.place
-  pub below : c.length ≤ c.tail.place
+  pub tail : IsTail old c.tail.offset
+  pub below : c.length ≤ c.tail.offset
 
 -- the new pages below `done`, but for the first, are in the file
 pub record IsAt (old new : List ℕ) (done : ℕ) (c : Change) (file : List ℕ) : Type 0 where
   pub knows : Knows old c
-  pub holds : Holds c.stage old new c.tail.place c.tail.slots file done
+  pub holds : Holds c.stage old new c.tail.offset c.tail.slots file done
 
 -- a call has failed
 pub record IsBroken (old : List ℕ) (c : Change) (file : List ℕ) : Type 0 where
   pub knows : Knows old c
-  pub left : IsLeft c.stage old c.tail.place c.length file
+  pub left : IsLeft c.stage old c.tail.offset c.length file
 
 -- the next one who opens the file has the old bytes, if they were a database
 abbrev pub StandsForOld : List ℕ → List ℕ → Type 0

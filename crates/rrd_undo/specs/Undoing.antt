@@ -4,7 +4,7 @@ use Rattle.std.specs.List.{All}
 use Rattle.rrd_tail.specs.Bytes.{StandsAt}
 use Rattle.rrd_tail.specs.Marks.{cut_mark, shape_for, undo_mark}
 use Rattle.rrd_tail.specs.Records.{last_record, record_at}
-use Rattle.rrd_tail.specs.Slots.{Slot, all_laid, slot_place, slots_in}
+use Rattle.rrd_tail.specs.Slots.{Slot, all_laid, slot_offset, slots_in}
 use Rattle.rrd_tail.specs.declared.record.Record.{Record}
 use Rattle.rrd_undo.specs.Calls.{AreAt}
 use Rattle.rrd_undo.specs.Databases.{IsDatabase}
@@ -15,9 +15,9 @@ pub record IsTail (old : List ℕ) (tail : ℕ) : Type 0 where
   pub below : length old ≤ tail
   pub fits : tail < 2 ^ 64
 
--- the record of some bytes, at a place
+-- the record of some bytes, at an offset
 abbrev pub record_of : ℕ → List ℕ → Record
-record_of place bytes = record { place = place; length = length bytes; first = take 16 bytes }
+record_of offset bytes = record { offset = offset; length = length bytes; first = take 16 bytes }
 
 -- the old bytes can be had back from the file's tail, whatever the first sixteen bytes are
 pub record Restores (old : List ℕ) (tail : ℕ) (file : List ℕ) : Type 0 where
@@ -30,10 +30,10 @@ pub record Undoing (old : List ℕ) (tail slots : ℕ) (file : List ℕ) : Type 
   pub restores : Restores old tail file
   pub marked : StandsAt file 0 (undo_mark tail)
   pub counted : length (slots_in tail file) ≡ slots
-  pub room : length file ≤ slot_place tail slots
+  pub room : length file ≤ slot_offset tail slots
 
 abbrev pub EndsBelow : ℕ → Slot → Type 0
-EndsBelow done s = s.place + length s.bytes ≤ done
+EndsBelow done s = s.offset + length s.bytes ≤ done
 
 -- these bytes are old ones, and can be kept in a slot
 pub record IsOldPage (old : List ℕ) (at : ℕ) (bytes : List ℕ) : Type 0 where
@@ -43,7 +43,7 @@ pub record IsOldPage (old : List ℕ) (at : ℕ) (bytes : List ℕ) : Type 0 whe
   pub are : AreAt old at (length bytes) bytes
 
 abbrev pub slot_of : ℕ → List ℕ → Slot
-slot_of place bytes = record { place = place; bytes = bytes }
+slot_of offset bytes = record { offset = offset; bytes = bytes }
 
 -- old bytes were kept in a slot, if there are any, and nothing below the tail was changed
 pub record Keeps (old : List ℕ) (tail slots at : ℕ) (bytes file changed : List ℕ) : Type 0 where
@@ -81,7 +81,7 @@ pub record IsReady (old new : List ℕ) (tail : ℕ) (file : List ℕ) : Type 0 
   pub restores : Restores old tail file
   pub marked : StandsAt file 0 (undo_mark tail)
   pub recorded : IsRecorded new file
-  pub fits : recorded.0.place < 2 ^ 64
+  pub fits : recorded.0.offset < 2 ^ 64
   pub longer : length new ≤ length file
   pub put : (k : ℕ) → 16 ≤ k → k < length new → slice_index file k ≡ slice_index new k
 

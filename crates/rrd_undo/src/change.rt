@@ -12,17 +12,17 @@ ghost use Rattle.rrd_undo.specs.Databases.{IsDatabase};
 
 use crate::Bytes;
 use crate::page::{
-    LEAST, PAGE, difference_end, first_difference, front_page, is_database, next_page, page_from,
-    read_page,
+    MIN_DATABASE_SIZE, difference_end, first_difference, front_page, is_database, next_page,
+    page_from, read_page,
 };
 use crate::recovery::settle;
 use crate::tail::{Syncs, Tail, sync};
-use rrd_tail::undo_mark;
+use rrd_tail::{PAGE, undo_mark};
 use std::alloc::Global;
 use std::io::{self, Error, ErrorKind};
 
 /// The invalid mark: four bytes with which no database begins.
-const SPOILED: [u8; 4] = [0; 4];
+const INVALID_MARK: [u8; 4] = [0; 4];
 
 /// The progress of a change of a file.
 #[derive(Clone, Copy)]
@@ -36,7 +36,7 @@ pub(crate) enum Stage {
     /// The file is no database, and may have been extended for more bytes.
     Unkept,
     /// The file is no database, and its first bytes are the invalid mark.
-    Spoiled,
+    Invalid,
 }
 
 /// A change of a file to new bytes.
@@ -79,7 +79,7 @@ impl Change {
         Change {
             stage: Stage::Untouched,
             tail: Tail {
-                place: 0,
+                offset: 0,
                 slots: 0,
                 buffer: Vec::new(alloc),
                 syncs,
@@ -98,7 +98,7 @@ impl Change {
     {
         self.stage = Stage::Untouched;
         self.old_length = file.len()?;
-        self.tail.place = page_from(self.old_length.max(self.length))?;
+        self.tail.offset = page_from(self.old_length.max(self.length))?;
         let count = self.old_length.min(PAGE);
         read_page(file, 0, count, &mut self.old_first)
     }
@@ -117,7 +117,7 @@ impl Change {
     }
 
     // Marks a file that is no database as invalid. A file of 16 bytes or more is first extended for the new bytes.
-    fn spoil<F: Bytes>(&mut self, file: &mut F) -> io::Result<()>
+    fn write_invalid_mark<F: Bytes>(&mut self, file: &mut F) -> io::Result<()>
         ensures frame { self.new ≡ record self.old { stage = self.new.stage; tail = record self.old.tail { buffer = self.new.tail.buffer } } }
         ensures started { OnOk result (IsStarted self.new.stage) }
         ensures ok { OnOk result (IsTrue F.is_known → (old new : List ℕ) (done : ℕ) → (IsDatabase old → ⊥) → Knows old self.old
@@ -126,17 +126,17 @@ impl Change {
             → Agreeing old new (F.held file.old) done → IsBroken old self.new (F.held file.new)) }
     {
         self.stage = Stage::Unkept;
-        if LEAST <= self.old_length {
+        if MIN_DATABASE_SIZE <= self.old_length {
             make_room(file, self.old_length, self.length, &mut self.tail.buffer)?;
         }
-        file.put_whole(0, &SPOILED)?;
-        self.stage = Stage::Spoiled;
+        file.put_whole(0, &INVALID_MARK)?;
+        self.stage = Stage::Invalid;
         Ok(())
     }
 
     // Marks a file that is a database, so that a kill leaves the old bytes.
     fn mark<F: Bytes>(&mut self, file: &mut F) -> io::Result<()>
-        requires page { self.old.tail.place % 4096 ≡ 0 }
+        requires page { self.old.tail.offset % 4096 ≡ 0 }
         requires enough { 16 ≤ length self.old.old_first.items }
         ensures frame { self.new ≡ record self.old { stage = self.new.stage; tail = record self.old.tail { slots = 0 } } }
         ensures started { IsStarted self.new.stage }
@@ -151,10 +151,10 @@ impl Change {
 
     // Checks whether a file is a database and can be marked.
     fn can_mark(&self) -> bool
-        ensures yes { IsTrue result → IsDatabase self.now.old_first.items × (self.now.tail.place % 4096 ≡ 0) }
-        ensures no { IsDatabase self.now.old_first.items → self.now.tail.place % 4096 ≡ 0 → IsTrue result }
+        ensures yes { IsTrue result → IsDatabase self.now.old_first.items × (self.now.tail.offset % 4096 ≡ 0) }
+        ensures no { IsDatabase self.now.old_first.items → self.now.tail.offset % 4096 ≡ 0 → IsTrue result }
     {
-        is_database(&self.old_first) && self.tail.place % PAGE == 0
+        is_database(&self.old_first) && self.tail.offset % PAGE == 0
     }
 
     // Prepares a file for its first replaced page, unless the file is prepared: marks the file as changing or invalid.
@@ -168,9 +168,9 @@ impl Change {
             → IsBroken old self.new (F.held file.new) × StandsForOld old (F.held file.new)) }
     {
         match self.stage {
-            Stage::Marked | Stage::Spoiled => Ok(()),
+            Stage::Marked | Stage::Invalid => Ok(()),
             Stage::Untouched if self.can_mark() => self.mark(file),
-            Stage::Untouched => self.spoil(file),
+            Stage::Untouched => self.write_invalid_mark(file),
             Stage::Committing | Stage::Unkept => Err(Error::from(ErrorKind::InvalidInput)),
         }
     }
@@ -241,14 +241,14 @@ impl Change {
     fn put_first<F: Bytes>(&mut self, file: &mut F, first: &[u8]) -> io::Result<()>
         ensures frame { self.new ≡ record self.old { tail = record self.old.tail { slots = self.new.tail.slots; buffer = self.new.tail.buffer } } }
         ensures ok { OnOk result (IsTrue F.is_known → (old new : List ℕ) (done : ℕ) → IsDatabase old → Knows old self.old → self.old.length ≡ length new → length new ≤ done
-            → AreAt new 0 (min 4096 (length new)) first.now → Turning old new self.old.tail.place self.old.tail.slots (F.held file.old) done
-            → Paged old new self.new.tail.place self.new.tail.slots (F.held file.new)) }
+            → AreAt new 0 (min 4096 (length new)) first.now → Turning old new self.old.tail.offset self.old.tail.slots (F.held file.old) done
+            → Paged old new self.new.tail.offset self.new.tail.slots (F.held file.new)) }
         ensures err { OnErr result (IsTrue F.is_known → (old new : List ℕ) (done : ℕ) → IsDatabase old → Knows old self.old → self.old.length ≡ length new → length new ≤ done
-            → AreAt new 0 (min 4096 (length new)) first.now → Turning old new self.old.tail.place self.old.tail.slots (F.held file.old) done
+            → AreAt new 0 (min 4096 (length new)) first.now → Turning old new self.old.tail.offset self.old.tail.slots (F.held file.old) done
             → settled (F.held file.new) ≡ old) }
     {
         let old = self.old_first.as_slice();
-        if old.len() < LEAST || first.len() < LEAST {
+        if old.len() < MIN_DATABASE_SIZE || first.len() < MIN_DATABASE_SIZE {
             return Err(Error::from(ErrorKind::InvalidData));
         }
         let from = first_difference(old, first);
@@ -265,10 +265,10 @@ impl Change {
     fn end_marked<F: Bytes>(&mut self, file: &mut F, first: &[u8]) -> io::Result<()>
         requires { 16 ≤ length first.now }
         ensures ok { OnOk result (IsTrue F.is_known → (old new : List ℕ) (done : ℕ) → IsDatabase old → IsDatabase new → Knows old self.old → self.old.length ≡ length new → length new ≤ done
-            → AreAt new 0 (min 4096 (length new)) first.now → Turning old new self.old.tail.place self.old.tail.slots (F.held file.old) done
+            → AreAt new 0 (min 4096 (length new)) first.now → Turning old new self.old.tail.offset self.old.tail.slots (F.held file.old) done
             → settled (F.held file.new) ≡ new) }
         ensures err { self.old.stage ≡ Stage.Marked → OnErr result (IsTrue F.is_known → (old new : List ℕ) (done : ℕ) → IsDatabase old → IsDatabase new → Knows old self.old → self.old.length ≡ length new → length new ≤ done
-            → AreAt new 0 (min 4096 (length new)) first.now → Turning old new self.old.tail.place self.old.tail.slots (F.held file.old) done
+            → AreAt new 0 (min 4096 (length new)) first.now → Turning old new self.old.tail.offset self.old.tail.slots (F.held file.old) done
             → IsBroken old self.new (F.held file.new) × StandsForEither old new (F.held file.new)) }
     {
         self.put_first(file, first)?;
@@ -278,7 +278,7 @@ impl Change {
     }
 
     // Ends a change of a file that is marked invalid.
-    fn end_spoiled<F: Bytes>(&mut self, file: &mut F, first: &[u8]) -> io::Result<()>
+    fn end_invalid<F: Bytes>(&mut self, file: &mut F, first: &[u8]) -> io::Result<()>
         requires { length first.now ≤ 4096 }
         ensures frame { self.new ≡ self.old }
         ensures ok { OnOk result (IsTrue F.is_known → (new : List ℕ) (done : ℕ) → self.old.length ≡ length new → length new ≤ done
@@ -303,7 +303,7 @@ impl Change {
         self.start(file)?;
         match self.stage {
             Stage::Marked => self.end_marked(file, first),
-            _ => self.end_spoiled(file, first),
+            _ => self.end_invalid(file, first),
         }
     }
 
@@ -358,10 +358,10 @@ impl Change {
 
     // Marks a file again, after the call that makes the file represent its new bytes failed.
     fn mark_again<F: Bytes>(&self, file: &mut F) -> io::Result<()>
-        ensures ok { OnOk result (IsTrue F.is_known → ArePut 0 (undo_mark self.now.tail.place) (F.held file.old) (F.held file.new)) }
-        ensures err { OnErr result (IsTrue F.is_known → AreWholeOrNot 0 (undo_mark self.now.tail.place) (F.held file.old) (F.held file.new)) }
+        ensures ok { OnOk result (IsTrue F.is_known → ArePut 0 (undo_mark self.now.tail.offset) (F.held file.old) (F.held file.new)) }
+        ensures err { OnErr result (IsTrue F.is_known → AreWholeOrNot 0 (undo_mark self.now.tail.offset) (F.held file.old) (F.held file.new)) }
     {
-        file.put_whole(0, &undo_mark(self.tail.place))
+        file.put_whole(0, &undo_mark(self.tail.offset))
     }
 
     // Leaves the first `count` of the new bytes in the file.
@@ -395,8 +395,10 @@ impl Change {
                 settle(file, &mut self.old_page)?;
                 Ok(())
             }
-            Stage::Spoiled if LEAST <= self.old_length => self.leave_front(file, first, count),
-            Stage::Unkept | Stage::Spoiled => self.restore(file),
+            Stage::Invalid if MIN_DATABASE_SIZE <= self.old_length => self.leave_front(
+                file, first, count,
+            ),
+            Stage::Unkept | Stage::Invalid => self.restore(file),
         }
     }
 }

@@ -1,4 +1,6 @@
 //! Theorems about the bytes that a kill leaves in a file in memory.
+//!
+//! The module is public only for readers of the contracts and for tests: the program calls none of these functions.
 ghost use Rattle.std.specs.Prelude.{◌≡◌, ◌⊎◌, IfOk, IsTrue, List, ℕ, OnErr, OnOk};
 ghost use Rattle.rrd_tail.specs.Settled.{settled};
 ghost use Rattle.rrd_undo.specs.Databases.{IsDatabase};

@@ -12,7 +12,7 @@ mod writer;
 
 pub use calls::Bytes;
 pub use memory::Memory;
-pub use page::PAGE;
 pub use recovery::{Settled, is_marked, settle};
+pub use rrd_tail::PAGE;
 pub use tail::Syncs;
 pub use writer::{PageWriter, replace};

@@ -4,14 +4,11 @@ ghost use Rattle.rrd_undo.specs.Calls.{AreAt};
 ghost use Rattle.rrd_undo.specs.Databases.{IsDatabase};
 
 use crate::Bytes;
-use rrd_tail::DATABASE_MARK;
+use rrd_tail::{DATABASE_MARK, PAGE};
 use std::io::{self, Error, ErrorKind};
 
-/// The length of a page in bytes. The system stores files in memory in such pages.
-pub const PAGE: usize = 4_096;
-
 /// The minimum length of a database in bytes: the length of an undo mark.
-pub(crate) const LEAST: usize = 16;
+pub(crate) const MIN_DATABASE_SIZE: usize = 16;
 
 /// Returns the offset of the page that follows the page at byte `at`.
 pub(crate) fn next_page(at: usize) -> io::Result<usize>
@@ -73,7 +70,7 @@ pub(crate) fn first_difference(old: &[u8], new: &[u8]) -> usize
     ensures new { result ≤ length new.now }
     ensures same { (k : ℕ) → 16 ≤ k → k < result → slice_index old.now k ≡ slice_index new.now k }
 {
-    let mut at = LEAST;
+    let mut at = MIN_DATABASE_SIZE;
     while at < old.len() && at < new.len() && old[at] == new[at] {
         at += 1;
     }
@@ -100,5 +97,5 @@ pub(crate) fn difference_end(old: &[u8], new: &[u8], from: usize) -> usize
 pub(crate) fn is_database(bytes: &[u8]) -> bool
     ensures { IsTrue result ↔ IsDatabase bytes.now }
 {
-    bytes.len() >= LEAST && &bytes[..4] == &DATABASE_MARK[..]
+    bytes.len() >= MIN_DATABASE_SIZE && &bytes[..4] == &DATABASE_MARK[..]
 }

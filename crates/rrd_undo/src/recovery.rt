@@ -8,9 +8,9 @@ ghost use Rattle.rrd_undo.specs.Settling.{IsPutBack, IsSlotFound, IsUndone};
 ghost use Rattle.rrd_undo.specs.Undoing.{IsToCut};
 
 use crate::Bytes;
-use crate::page::{LEAST, PAGE};
-use crate::tail::{SLOT, SLOT_HEADER, Syncs, cut_front, finish, place_of_slot};
-use rrd_tail::{DATABASE_MARK, Mark, Record, Shape, SlotHeader, read_mark, read_slot};
+use crate::page::MIN_DATABASE_SIZE;
+use crate::tail::{SLOT, SLOT_HEADER, Syncs, cut_front, finish, offset_of_slot};
+use rrd_tail::{DATABASE_MARK, Mark, PAGE, Record, Shape, SlotHeader, read_mark, read_slot};
 use std::io::{self, Error, ErrorKind};
 
 // The number of bytes of a record that are read.
@@ -106,19 +106,9 @@ fn settle_cut<F: Bytes>(
 {
     match read_last(file, file_length, shape, buffer)? {
         None => unmark(file)?,
-        Some(record) => end_cut(file, shape, &record)?,
+        Some(last) => finish(file, last.length, Syncs::Ordered)?,
     }
     Ok(Settled::Ended)
-}
-
-// Cuts a file with a cut mark to the length in its last record.
-fn end_cut<F: Bytes>(file: &mut F, shape: Shape, last: &Record) -> io::Result<()>
-    ensures stands { IsTrue F.is_known → mark_of (F.held file.old) ≡ Some (Mark.Cut shape) → last_record shape (F.held file.old) ≡ Some last.now
-        → settled (F.held file.new) ≡ settled (F.held file.old) }
-    ensures ok { OnOk result (IsTrue F.is_known → mark_of (F.held file.old) ≡ Some (Mark.Cut shape) → last_record shape (F.held file.old) ≡ Some last.now
-        → F.held file.new ≡ settled (F.held file.old)) }
-{
-    finish(file, last.length, Syncs::Ordered)
 }
 
 // Reads the slot with this number, if the file has that slot.
@@ -133,7 +123,7 @@ fn read_slot_at<F: Bytes>(
     ensures few { IfOk result (λ found. IfSome found (λ header. 32 + header.count ≤ length buffer.new.items)) }
     ensures ok { IfOk result (λ found. IsTrue F.is_known → file_length ≡ length (F.held file.old) → IsSlotFound tail (F.held file.old) number buffer.new.items found) }
 {
-    let at = place_of_slot(tail, number)?;
+    let at = offset_of_slot(tail, number)?;
     if file_length <= at {
         return Ok(None);
     }
@@ -159,7 +149,7 @@ fn put_slots<F: Bytes>(
             return Ok(());
         };
         let end = SLOT_HEADER + slot.count;
-        file.put(slot.place, &buffer[SLOT_HEADER..end])?;
+        file.put(slot.offset, &buffer[SLOT_HEADER..end])?;
     }
     Err(Error::from(ErrorKind::FileTooLarge))
 }
@@ -232,7 +222,7 @@ pub fn settle<F: Bytes>(file: &mut F, buffer: &mut Vec<u8>) -> io::Result<Settle
     ensures ok { OnOk result (IsTrue F.is_known → F.held file.new ≡ settled (F.held file.old)) }
 {
     let file_length = file.len()?;
-    file.read(0, file_length.min(LEAST), buffer)?;
+    file.read(0, file_length.min(MIN_DATABASE_SIZE), buffer)?;
     match read_mark(buffer) {
         None => Ok(Settled::AsItWas),
         Some(Mark::Cut(shape)) => settle_cut(file, file_length, shape, buffer),

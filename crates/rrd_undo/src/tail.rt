@@ -4,7 +4,7 @@ ghost use Rattle.std.specs.Prelude.{◌≡◌, ◌⊎◌, ℕ, ◌+◌, ◌-◌,
 ghost use Rattle.rrd_tail.specs.Marks.{cut_mark, undo_mark};
 ghost use Rattle.rrd_tail.specs.Records.{shaped_bytes};
 ghost use Rattle.rrd_tail.specs.Settled.{settled};
-ghost use Rattle.rrd_tail.specs.Slots.{slot_place};
+ghost use Rattle.rrd_tail.specs.Slots.{slot_offset};
 ghost use Rattle.rrd_undo.specs.Calls.{AreAt, ArePut, AreWholeOrNot};
 ghost use Rattle.rrd_undo.specs.Undoing.{IsOldPage, IsReady, IsTail, IsToCut, Keeps, Paged, Turns, Undoing};
 ghost use Rattle.rrd_undo.specs.Databases.{IsDatabase};
@@ -54,16 +54,16 @@ fn sixteen(bytes: &[u8]) -> [u8; 16]
 
 // Writes a record at its offset.
 fn put_record<F: Bytes>(file: &mut F, shape: Shape, entry: &Record) -> io::Result<()>
-    requires { entry.now.place % 4096 ≡ 0 }
-    ensures ok { OnOk result (IsTrue F.is_known → ArePut entry.now.place (shaped_bytes shape entry.now) (F.held file.old) (F.held file.new)) }
-    ensures err { OnErr result (IsTrue F.is_known → AreWholeOrNot entry.now.place (shaped_bytes shape entry.now) (F.held file.old) (F.held file.new)) }
+    requires { entry.now.offset % 4096 ≡ 0 }
+    ensures ok { OnOk result (IsTrue F.is_known → ArePut entry.now.offset (shaped_bytes shape entry.now) (F.held file.old) (F.held file.new)) }
+    ensures err { OnErr result (IsTrue F.is_known → AreWholeOrNot entry.now.offset (shaped_bytes shape entry.now) (F.held file.old) (F.held file.new)) }
 {
     match shape {
-        Shape::Short => file.put_whole(entry.place, &entry.bytes()),
+        Shape::Short => file.put_whole(entry.offset, &entry.bytes()),
         Shape::Long => {
             let mut bytes = [0; 128];
             bytes[..64].copy_from_slice(&entry.bytes());
-            file.put_whole(entry.place, &bytes)
+            file.put_whole(entry.offset, &bytes)
         }
     }
 }
@@ -90,15 +90,15 @@ pub(crate) fn finish<F: Bytes>(file: &mut F, new_length: usize, syncs: Syncs) ->
 }
 
 /// Returns the offset of the slot with this number.
-pub(crate) fn place_of_slot(tail: usize, number: usize) -> io::Result<usize>
-    ensures { IfOk result (λ place. place ≡ slot_place tail number) }
+pub(crate) fn offset_of_slot(tail: usize, number: usize) -> io::Result<usize>
+    ensures { IfOk result (λ offset. offset ≡ slot_offset tail number) }
 {
     let Some(behind) = number.checked_mul(SLOT) else {
         return Err(Error::from(ErrorKind::FileTooLarge));
     };
     match tail.checked_add(LONG_RECORD) {
         Some(first) => match first.checked_add(behind) {
-            Some(place) => Ok(place),
+            Some(offset) => Ok(offset),
             None => Err(Error::from(ErrorKind::FileTooLarge)),
         },
         None => Err(Error::from(ErrorKind::FileTooLarge)),
@@ -109,7 +109,7 @@ pub(crate) fn place_of_slot(tail: usize, number: usize) -> io::Result<usize>
 #[derive(Drop)]
 pub(crate) struct Tail {
     /// The offset of the tail: the start of a page, after the old bytes and after the new bytes.
-    pub(crate) place: usize,
+    pub(crate) offset: usize,
     /// The number of slots.
     pub(crate) slots: usize,
     /// The bytes of a slot to be written, or zeros.
@@ -126,12 +126,12 @@ impl Tail {
         old_length: usize,
         first: &[u8],
     ) -> io::Result<()>
-        requires page { self.old.place % 4096 ≡ 0 }
+        requires page { self.old.offset % 4096 ≡ 0 }
         requires enough { 16 ≤ length first.now }
         ensures frame { self.new ≡ record self.old { slots = 0 } }
-        ensures ok { OnOk result (IsTrue F.is_known → (old : List ℕ) → IsDatabase old → IsTail old self.old.place → old_length ≡ length old
-            → AreAt old 0 (min 4096 (length old)) first.now → F.held file.old ≡ old → Undoing old self.old.place 0 (F.held file.new)) }
-        ensures err { OnErr result (IsTrue F.is_known → (old : List ℕ) → IsDatabase old → IsTail old self.old.place → old_length ≡ length old
+        ensures ok { OnOk result (IsTrue F.is_known → (old : List ℕ) → IsDatabase old → IsTail old self.old.offset → old_length ≡ length old
+            → AreAt old 0 (min 4096 (length old)) first.now → F.held file.old ≡ old → Undoing old self.old.offset 0 (F.held file.new)) }
+        ensures err { OnErr result (IsTrue F.is_known → (old : List ℕ) → IsDatabase old → IsTail old self.old.offset → old_length ≡ length old
             → AreAt old 0 (min 4096 (length old)) first.now → F.held file.old ≡ old → settled (F.held file.new) ≡ old) }
     {
         self.slots = 0;
@@ -139,34 +139,34 @@ impl Tail {
         file.put_whole(0, &shape.cut_mark())?;
         sync(file, self.syncs)?;
         let record = Record {
-            place: self.place,
+            offset: self.offset,
             length: old_length,
             first: sixteen(first),
         };
         put_record(file, shape, &record)?;
         sync(file, self.syncs)?;
-        file.put_whole(0, &undo_mark(self.place))?;
+        file.put_whole(0, &undo_mark(self.offset))?;
         sync(file, self.syncs)
     }
 
     // Copies the old bytes from byte `at` on to a slot, if there are any.
     fn keep<F: Bytes>(&mut self, file: &mut F, at: usize, bytes: &[u8]) -> io::Result<()>
         ensures frame { self.new ≡ record self.old { slots = self.new.slots; buffer = self.new.buffer } }
-        ensures ok { OnOk result (IsTrue F.is_known → (old : List ℕ) → IsDatabase old → IsTail old self.old.place → IsOldPage old at bytes.now
-            → Undoing old self.old.place self.old.slots (F.held file.old)
-            → Keeps old self.old.place self.new.slots at bytes.now (F.held file.old) (F.held file.new)) }
-        ensures err { OnErr result (IsTrue F.is_known → (old : List ℕ) → IsDatabase old → IsTail old self.old.place → IsOldPage old at bytes.now
-            → Undoing old self.old.place self.old.slots (F.held file.old) → settled (F.held file.new) ≡ old) }
+        ensures ok { OnOk result (IsTrue F.is_known → (old : List ℕ) → IsDatabase old → IsTail old self.old.offset → IsOldPage old at bytes.now
+            → Undoing old self.old.offset self.old.slots (F.held file.old)
+            → Keeps old self.old.offset self.new.slots at bytes.now (F.held file.old) (F.held file.new)) }
+        ensures err { OnErr result (IsTrue F.is_known → (old : List ℕ) → IsDatabase old → IsTail old self.old.offset → IsOldPage old at bytes.now
+            → Undoing old self.old.offset self.old.slots (F.held file.old) → settled (F.held file.new) ≡ old) }
     {
         if bytes.is_empty() {
             return Ok(());
         }
-        let place = place_of_slot(self.place, self.slots)?;
+        let offset = offset_of_slot(self.offset, self.slots)?;
         self.buffer.clear();
         self.buffer
-            .extend_from_slice(&slot_header(self.place, at, bytes))?;
+            .extend_from_slice(&slot_header(self.offset, at, bytes))?;
         self.buffer.extend_from_slice(bytes)?;
-        file.append(place, &self.buffer)?;
+        file.append(offset, &self.buffer)?;
         self.slots += 1;
         sync(file, self.syncs)
     }
@@ -180,13 +180,13 @@ impl Tail {
         page: &[u8],
     ) -> io::Result<()>
         ensures frame { self.new ≡ record self.old { slots = self.new.slots; buffer = self.new.buffer } }
-        ensures ok { OnOk result (IsTrue F.is_known → (old : List ℕ) → IsDatabase old → IsTail old self.old.place → IsOldPage old at bytes.now
-            → length bytes.now ≡ min (length old - at) (length page.now) → at + length page.now ≤ self.old.place
-            → Undoing old self.old.place self.old.slots (F.held file.old)
-            → Turns old self.old.place self.new.slots at page.now (F.held file.old) (F.held file.new)) }
-        ensures err { OnErr result (IsTrue F.is_known → (old : List ℕ) → IsDatabase old → IsTail old self.old.place → IsOldPage old at bytes.now
-            → length bytes.now ≡ min (length old - at) (length page.now) → at + length page.now ≤ self.old.place
-            → Undoing old self.old.place self.old.slots (F.held file.old) → settled (F.held file.new) ≡ old) }
+        ensures ok { OnOk result (IsTrue F.is_known → (old : List ℕ) → IsDatabase old → IsTail old self.old.offset → IsOldPage old at bytes.now
+            → length bytes.now ≡ min (length old - at) (length page.now) → at + length page.now ≤ self.old.offset
+            → Undoing old self.old.offset self.old.slots (F.held file.old)
+            → Turns old self.old.offset self.new.slots at page.now (F.held file.old) (F.held file.new)) }
+        ensures err { OnErr result (IsTrue F.is_known → (old : List ℕ) → IsDatabase old → IsTail old self.old.offset → IsOldPage old at bytes.now
+            → length bytes.now ≡ min (length old - at) (length page.now) → at + length page.now ≤ self.old.offset
+            → Undoing old self.old.offset self.old.slots (F.held file.old) → settled (F.held file.new) ≡ old) }
     {
         self.keep(file, at, bytes)?;
         file.put(at, page)
@@ -200,18 +200,18 @@ impl Tail {
         first: &[u8],
     ) -> io::Result<()>
         requires { 16 ≤ length first.now }
-        ensures ok { OnOk result (IsTrue F.is_known → (old new : List ℕ) → IsDatabase old → IsDatabase new → IsTail old self.now.place → length new ≤ self.now.place
-            → new_length ≡ length new → AreAt new 0 (min 4096 (length new)) first.now → Paged old new self.now.place self.now.slots (F.held file.old)
-            → IsReady old new self.now.place (F.held file.new)) }
-        ensures err { OnErr result (IsTrue F.is_known → (old new : List ℕ) → IsDatabase old → IsDatabase new → IsTail old self.now.place → length new ≤ self.now.place
-            → new_length ≡ length new → AreAt new 0 (min 4096 (length new)) first.now → Paged old new self.now.place self.now.slots (F.held file.old)
+        ensures ok { OnOk result (IsTrue F.is_known → (old new : List ℕ) → IsDatabase old → IsDatabase new → IsTail old self.now.offset → length new ≤ self.now.offset
+            → new_length ≡ length new → AreAt new 0 (min 4096 (length new)) first.now → Paged old new self.now.offset self.now.slots (F.held file.old)
+            → IsReady old new self.now.offset (F.held file.new)) }
+        ensures err { OnErr result (IsTrue F.is_known → (old new : List ℕ) → IsDatabase old → IsDatabase new → IsTail old self.now.offset → length new ≤ self.now.offset
+            → new_length ≡ length new → AreAt new 0 (min 4096 (length new)) first.now → Paged old new self.now.offset self.now.slots (F.held file.old)
             → settled (F.held file.new) ≡ old) }
     {
-        let Some(zeros) = place_of_slot(self.place, self.slots)?.checked_add(SLOT_HEADER) else {
+        let Some(zeros) = offset_of_slot(self.offset, self.slots)?.checked_add(SLOT_HEADER) else {
             return Err(Error::from(ErrorKind::FileTooLarge));
         };
         let record = Record {
-            place: page_from(zeros)?,
+            offset: page_from(zeros)?,
             length: new_length,
             first: sixteen(first),
         };
@@ -228,11 +228,11 @@ impl Tail {
     ) -> io::Result<()>
         requires { 16 ≤ length first.now }
         ensures ok { OnOk result (IsTrue F.is_known → (old new : List ℕ) → IsDatabase old → IsDatabase new → new_length ≡ length new
-            → AreAt new 0 (min 4096 (length new)) first.now → IsReady old new self.now.place (F.held file.old) → settled (F.held file.new) ≡ new) }
+            → AreAt new 0 (min 4096 (length new)) first.now → IsReady old new self.now.offset (F.held file.old) → settled (F.held file.new) ≡ new) }
         ensures err { OnErr result (IsTrue F.is_known → (old new : List ℕ) → IsDatabase old → IsDatabase new → new_length ≡ length new
-            → AreAt new 0 (min 4096 (length new)) first.now → IsReady old new self.now.place (F.held file.old)
+            → AreAt new 0 (min 4096 (length new)) first.now → IsReady old new self.now.offset (F.held file.old)
             → ((settled (F.held file.new) ≡ old) ⊎ (settled (F.held file.new) ≡ new))
-            × ((f : List ℕ) → ArePut 0 (undo_mark self.now.place) (F.held file.new) f → settled f ≡ old)) }
+            × ((f : List ℕ) → ArePut 0 (undo_mark self.now.offset) (F.held file.new) f → settled f ≡ old)) }
     {
         file.put_whole(0, &cut_front(Shape::for_length(new_length), first))?;
         sync(file, self.syncs)?;

@@ -6,8 +6,9 @@ ghost use Rattle.rrd_undo.specs.Changing.{IsBroken, StandsForEither};
 ghost use Rattle.rrd_undo.specs.Writing.{IsTaken};
 
 use crate::change::Change;
-use crate::page::{PAGE, front_page, next_page};
+use crate::page::{front_page, next_page};
 use crate::{Bytes, Syncs};
+use rrd_tail::PAGE;
 use std::alloc::Global;
 use std::io::{self, Error, ErrorKind};
 
@@ -197,7 +198,7 @@ impl<F: Bytes + Drop> PageWriter<F> {
         self.pages.take_back(&mut self.file)
     }
 
-    /// Returns the file.
+    /// Returns the file. Only tests call this function: the tests compare the bytes of the file after a change.
     pub fn into_file(self) -> F
         ensures { F.held result ≡ held_by F.held self }
     {

@@ -8,14 +8,14 @@ mod settings;
 mod tasks;
 
 use crate::tasks::{batch, fail, file_batch, single};
-use rrd_store::{Task, TaskFault, asked_for};
+use rrd_store::{Task, TaskFault, parse_task};
 use rrd_tool::{Fault, LineFault};
 use std::env;
 use std::io::ErrorKind;
 use std::process::ExitCode;
 
 /// The fault of arguments that name no task of the program.
-const MISUSE: TaskFault = TaskFault::Command(Fault::Line(LineFault::Usage));
+const USAGE_ERROR: TaskFault = TaskFault::Command(Fault::Line(LineFault::Usage));
 
 /// The fault if memory runs out for the arguments, or for the output.
 const NO_MEMORY: TaskFault = TaskFault::Command(Fault::Line(LineFault::OutOfMemory));
@@ -25,13 +25,13 @@ fn run(rt: &HostRuntime) -> u8 {
     let words: Vec<String> = match env::args(rt).and_then(|words| Ok(words.collect(rt.alloc())?)) {
         Ok(words) => words,
         Err(error) if error.kind() == ErrorKind::OutOfMemory => return fail(rt, NO_MEMORY),
-        Err(_) => return fail(rt, MISUSE),
+        Err(_) => return fail(rt, USAGE_ERROR),
     };
-    let Ok(task) = asked_for(rt.alloc(), &words) else {
+    let Ok(task) = parse_task(rt.alloc(), &words) else {
         return fail(rt, NO_MEMORY);
     };
     match task {
-        Task::Usage => fail(rt, MISUSE),
+        Task::Usage => fail(rt, USAGE_ERROR),
         Task::Batch => batch(rt),
         Task::FileBatch { file } => file_batch(rt, file),
         Task::Single { file, words } => single(rt, file, &words),

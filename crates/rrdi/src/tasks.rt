@@ -4,8 +4,10 @@ use crate::causes::report_cause;
 use crate::clock::seconds_now;
 use crate::disk::Host;
 use crate::settings::settings;
-use rrd_disk::FileAt;
-use rrd_store::{TaskFault, end_batch, end_file_batch, end_single, run_file_batch, run_single};
+use rrd_disk::FileStorage;
+use rrd_store::{
+    TaskFault, report_batch, report_command, report_file_batch, run_file_batch, run_file_command,
+};
 use rrd_tool::{Words, run_batch};
 use std::io::BufWriter;
 
@@ -14,7 +16,7 @@ const OUTPUT: usize = 65_536;
 
 /// Reports a fault, and returns the status for it.
 pub(crate) fn fail(rt: &HostRuntime, fault: TaskFault) -> u8 {
-    end_single(&mut rt.stderr(), Err(fault))
+    report_command(&mut rt.stderr(), Err(fault))
 }
 
 /// Runs the commands on standard input, in memory.
@@ -30,11 +32,16 @@ pub(crate) fn batch(rt: &HostRuntime) -> u8 {
         &mut rt.stdin(),
         &mut out,
     );
-    end_batch(&mut rt.stderr(), end.refused, end.stream, None)
+    report_batch(&mut rt.stderr(), end.refused, end.stream, None)
 }
 
 // Reports why the file could not be opened or written, if `fault` is such a fault.
-fn report(rt: &HostRuntime, file: &FileAt<'_, Host<'_>>, path: &str, fault: Option<TaskFault>) {
+fn report(
+    rt: &HostRuntime,
+    file: &FileStorage<'_, Host<'_>>,
+    path: &str,
+    fault: Option<TaskFault>,
+) {
     if let Some(TaskFault::CannotOpen | TaskFault::CannotWrite) = fault {
         if let Some(error) = file.cause() {
             report_cause(rt, path, error, settings(rt));
@@ -48,14 +55,14 @@ pub(crate) fn file_batch(rt: &HostRuntime, path: &str) -> u8 {
         return fail(rt, NO_MEMORY);
     };
     let disk = Host::new(rt);
-    let mut file = FileAt::new(&disk, path, settings(rt));
+    let mut file = FileStorage::new(&disk, path, settings(rt));
     let now = seconds_now(rt);
     let end = run_file_batch(rt.alloc(), now, 0, &mut file, &mut rt.stdin(), &mut out);
     let fault = match &end {
         Ok(end) => end.unstored,
         Err(fault) => Some(*fault),
     };
-    let status = end_file_batch(&mut rt.stderr(), end);
+    let status = report_file_batch(&mut rt.stderr(), end);
     report(rt, &file, path, fault);
     status
 }
@@ -66,9 +73,9 @@ pub(crate) fn single(rt: &HostRuntime, path: &str, words: &Words<'_>) -> u8 {
         return fail(rt, NO_MEMORY);
     };
     let disk = Host::new(rt);
-    let mut file = FileAt::new(&disk, path, settings(rt));
-    let end = run_single(rt.alloc(), words, seconds_now(rt), &mut file, &mut out);
-    let status = end_single(&mut rt.stderr(), end);
+    let mut file = FileStorage::new(&disk, path, settings(rt));
+    let end = run_file_command(rt.alloc(), words, seconds_now(rt), &mut file, &mut out);
+    let status = report_command(&mut rt.stderr(), end);
     report(rt, &file, path, end.err());
     status
 }

@@ -2,7 +2,7 @@
 use Rattle.std.specs.Prelude.{◌≡◌, ◌<◌, ◌≤◌, List, length, sum}
 use Rattle.std.specs.List.{AllByRecursion}
 use Rattle.rrd_fixed.specs.declared.name.Name.{Name}
-use Rattle.rrd_spec.specs.declared.entry.SourceBefore.{SourceBefore}
+use Rattle.rrd_spec.specs.declared.entry.SavedSource.{SavedSource}
 use Rattle.rrd_spec.specs.declared.outline.Outline.{Outline}
 use Rattle.rrd_spec.specs.declared.version.Version.{Version}
 use Rattle.rrd_spec.specs.History.{Content}
@@ -11,19 +11,19 @@ use Rattle.rrd_spec.specs.Journal.Entries.{AddedEntry, Entry, RemovedEntry, Resi
 use Rattle.rrd_spec.specs.Journal.Fitting.{IsArchiveDef, IsRemovedNumber}
 use Rattle.rrd_spec.specs.Journal.Outlines.{outline_of, rows_of}
 use Rattle.rrd_spec.specs.Validity.{IsValidWithin}
-use Rattle.rrd_base.specs.Rebuild.Judges.{Judge}
+use Rattle.rrd_base.specs.Rebuild.Validators.{EntryValidator}
 use Rattle.rrd_base.specs.Tune.{with_kept}
 
 -- an outline whose numbers of rows and steps are within the limits: that of a valid content, or of one that is partly
 -- read
 pub record IsOutline (outline : Outline) : Type 0 where
-  pub few_sources : length outline.sources ≤ present.most_sources
+  pub few_sources : length outline.sources ≤ present.max_sources
   pub archives_are : AllByRecursion (IsArchiveDef present) outline.archives
-  pub few_rows : sum (rows_of outline.archives) ≤ present.most_cells
+  pub few_rows : sum (rows_of outline.archives) ≤ present.max_cells
 
-pub record IsJudge (j : Judge) : Type 0 where
+pub record IsEntryValidator (j : EntryValidator) : Type 0 where
   pub some_step : 0 < j.step
-  pub small_step : j.step ≤ present.longest_step
+  pub small_step : j.step ≤ present.max_step_seconds
   pub outline_is : IsOutline j.outline
 
 -- the outline of a content that is valid within the limits of a version
@@ -41,5 +41,5 @@ HasPlace now AddedEntry = Unit {0}
 HasPlace now (RemovedEntry number archive) = IsRemovedNumber present now number
 
 -- the names after the data sources of a tune's entry are restored
-abbrev pub with_names : List Name → List SourceBefore → List Name
-with_names names olds = with_kept (λ (old : SourceBefore). old.source.name) names olds
+abbrev pub with_names : List Name → List SavedSource → List Name
+with_names names olds = with_kept (λ (old : SavedSource). old.source.name) names olds

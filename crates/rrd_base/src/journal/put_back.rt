@@ -1,25 +1,25 @@
 //! Putting back what the entry of a tune holds of data sources.
 ghost use Rattle.std.specs.Prelude.{◌≡◌};
-ghost use Rattle.rrd_spec.specs.declared.entry.SourceBefore.{SourceBefore};
+ghost use Rattle.rrd_spec.specs.declared.entry.SavedSource.{SavedSource};
 ghost use Rattle.rrd_base.specs.Tune.{with_kept};
 
-use crate::{DsDef, SourceBefore};
+use crate::{DsDef, SavedSource};
 use rrd_fixed::{Name, Raw};
 
 /// Something that the entry of a tune holds of each data source that the tune named.
 pub(crate) trait Kept {
     // It, as contracts see it.
-    ghost kept: { SourceBefore → Self };
+    ghost kept: { SavedSource → Self };
 
     /// Returns what the entry holds of a source.
-    fn of(old: &SourceBefore) -> Self
+    fn of(old: &SavedSource) -> Self
         ensures { result ≡ kept old.now };
 }
 
 impl Kept for DsDef {
     ghost kept = { λ old. old.source };
 
-    fn of(old: &SourceBefore) -> DsDef {
+    fn of(old: &SavedSource) -> DsDef {
         old.source.duplicate()
     }
 }
@@ -27,7 +27,7 @@ impl Kept for DsDef {
 impl Kept for Name {
     ghost kept = { λ old. old.source.name };
 
-    fn of(old: &SourceBefore) -> Name {
+    fn of(old: &SavedSource) -> Name {
         old.source.name.duplicate()
     }
 }
@@ -35,13 +35,13 @@ impl Kept for Name {
 impl Kept for Raw {
     ghost kept = { λ old. old.raw };
 
-    fn of(old: &SourceBefore) -> Raw {
+    fn of(old: &SavedSource) -> Raw {
         old.raw
     }
 }
 
 /// Puts back what the entry holds, each at the number of its source. Leaves out numbers that no source has.
-pub(crate) fn put_back<T: Kept + Drop>(all: &mut [T], olds: &[SourceBefore])
+pub(crate) fn put_back<T: Kept + Drop>(all: &mut [T], olds: &[SavedSource])
     ensures { all.new ≡ with_kept T.kept all.old olds.now }
 {
     for old in olds {

@@ -7,7 +7,7 @@ ghost use Rattle.rrd_spec.specs.Settings.{resolution};
 ghost use Rattle.rrd_spec.specs.Files.Places.{place_in};
 
 use crate::RraDef;
-use rrd_spec::first_place;
+use rrd_spec::first_slot_row;
 
 /// The position of the next cell: its archive, the slot of its row in a file, the index of the row (0 is the oldest),
 /// and its data source.
@@ -25,7 +25,7 @@ pub(crate) struct Cursor {
 fn later_place(place: u64, count: u64, rows: u64) -> u64
     requires there { place < rows }
     requires at_most_once { count ≤ rows }
-    requires few { rows ≤ present.most_rows }
+    requires few { rows ≤ present.max_rows }
     ensures { result ≡ (place + count) % rows }
 {
     let later = place + count;
@@ -49,13 +49,13 @@ impl Cursor {
     pub(super) fn place(&self, def: &RraDef, step: u64, last: u64) -> u64
         requires def_is { IsArchiveDef present def.now }
         requires some_step { 0 < step }
-        requires small_step { step ≤ present.longest_step }
-        requires in_time { last ≤ present.latest_time }
+        requires small_step { step ≤ present.max_step_seconds }
+        requires in_time { last ≤ present.max_time }
         requires known { KnowsPlace (resolution step def.now) last def.now.rows self.now }
         ensures { result ≡ place_in (resolution step def.now) last def.now.rows self.now.slot }
     {
         if self.slot == 0 && self.source == 0 {
-            return first_place(def.resolution(step), last, def.rows);
+            return first_slot_row(def.resolution(step), last, def.rows);
         }
         self.place
     }
@@ -63,11 +63,11 @@ impl Cursor {
     /// Advances from a cell in the row at index `place` to the next cell: of the next data source, slot or archive.
     /// There are `sources` data sources, and the archive has `rows` rows.
     pub(super) fn advance(&mut self, place: u64, sources: usize, rows: u64)
-        requires archive_there { self.old.archive < present.most_archives }
+        requires archive_there { self.old.archive < present.max_archives }
         requires slot_there { self.old.slot < rows }
         requires source_there { self.old.source < sources }
         requires place_there { place < rows }
-        requires few_rows { rows ≤ present.most_rows }
+        requires few_rows { rows ≤ present.max_rows }
         ensures { Advances sources rows place self.old self.new }
     {
         self.place = place;
@@ -87,11 +87,11 @@ impl Cursor {
     /// Advances from the first cell of the row at index `place` by `count` rows, within the archive or to the next one.
     /// The archive has `rows` rows.
     pub(super) fn pass(&mut self, place: u64, count: u64, rows: u64)
-        requires archive_there { self.old.archive < present.most_archives }
+        requires archive_there { self.old.archive < present.max_archives }
         requires rows_there { self.old.slot + count ≤ rows }
         requires first_cell { self.old.source ≡ 0 }
         requires place_there { place < rows }
-        requires few_rows { rows ≤ present.most_rows }
+        requires few_rows { rows ≤ present.max_rows }
         ensures { Passes rows place count self.old self.new }
     {
         self.place = later_place(place, count, rows);

@@ -1,4 +1,4 @@
-//! The checks of a complete journal entry against an outline: each record by its rule in `Judge`.
+//! The checks of a complete journal entry against an outline: each record by its rule in `EntryValidator`.
 ghost use Rattle.std.specs.Prelude.{◌≡◌, ◌%◌, ◌/◌, List, ◌<◌, ◌≤◌, length, true};
 ghost use Rattle.std.specs.List.{AllByRecursion};
 ghost use Rattle.rrd_base.specs.Journal.{entry_of, update_of};
@@ -7,22 +7,22 @@ ghost use Rattle.rrd_spec.specs.Preparations.{parts_in};
 ghost use Rattle.rrd_spec.specs.Limits.{limits_of, present};
 ghost use Rattle.rrd_spec.specs.Journal.Entries.{AddedEntry};
 ghost use Rattle.rrd_spec.specs.Journal.Outlines.{with_sources};
-ghost use Rattle.rrd_spec.specs.Journal.Fitting.{IsArchiveDef, IsSourceBefore, MayRemove, MayResize, MaySave, MaySaveEach, MayTune, MayUndo, MayUpdate};
+ghost use Rattle.rrd_spec.specs.Journal.Fitting.{IsArchiveDef, IsSavedSource, MayRemove, MayResize, MaySave, MaySaveEach, MayTune, MayUndo, MayUpdate};
 ghost use Rattle.rrd_spec.specs.Settings.{names};
 ghost use Rattle.rrd_spec.specs.Validity.{AreParts, IsPart, IsRow, Rise};
 
-use super::judge::Judge;
 use super::piece_checks::are_bounded;
+use super::validator::EntryValidator;
 use crate::journal::{BeforeUpdate, Entry, SavedArchive, put_back};
 use crate::named::has_double_name;
 use crate::rra::Rra;
-use crate::{DsDef, RraDef, SourceBefore};
+use crate::{DsDef, RraDef, SavedSource};
 use arrayvec::ArrayVec;
 use rrd_fixed::{Cell, Name};
 use rrd_fold::{RowPrep, StepPrep};
 use rrd_ring::{Archive, Table};
 use rrd_spec::are_accepted;
-use rrd_spec::limits::MOST_SOURCES;
+use rrd_spec::limits::MAX_SOURCES;
 
 // ---- rows
 
@@ -50,12 +50,12 @@ fn are_rows<T: Table>(rows: &T, sources: usize) -> bool
 // ---- entries of updates
 
 // Returns whether these can be the partial steps of data sources at `last`.
-fn are_step_parts(judge: &Judge, last: u64, preps: &[StepPrep]) -> bool
-    ensures good { result ≡ true → AllByRecursion (IsPart Average (last % judge.now.step)) preps.now }
-    ensures bad { AllByRecursion (IsPart Average (last % judge.now.step)) preps.now → result ≡ true }
+fn are_step_parts(validator: &EntryValidator, last: u64, preps: &[StepPrep]) -> bool
+    ensures good { result ≡ true → AllByRecursion (IsPart Average (last % validator.now.step)) preps.now }
+    ensures bad { AllByRecursion (IsPart Average (last % validator.now.step)) preps.now → result ≡ true }
 {
     for prep in preps {
-        if !judge.is_step_part(last, prep.known(), prep.sum()) {
+        if !validator.is_step_part(last, prep.known(), prep.sum()) {
             return false;
         }
     }
@@ -63,15 +63,15 @@ fn are_step_parts(judge: &Judge, last: u64, preps: &[StepPrep]) -> bool
 }
 
 // Returns whether these can be partial rows at `last` in an archive with these settings.
-fn are_row_parts(judge: &Judge, last: u64, def: &RraDef, preps: &[RowPrep]) -> bool
+fn are_row_parts(validator: &EntryValidator, last: u64, def: &RraDef, preps: &[RowPrep]) -> bool
     requires { IsArchiveDef present def.now }
     ensures good { result ≡ true
-        → AllByRecursion (IsPart def.now.function (last / judge.now.step % def.now.steps)) (parts_in preps.now) }
-    ensures bad { AllByRecursion (IsPart def.now.function (last / judge.now.step % def.now.steps)) (parts_in preps.now)
+        → AllByRecursion (IsPart def.now.function (last / validator.now.step % def.now.steps)) (parts_in preps.now) }
+    ensures bad { AllByRecursion (IsPart def.now.function (last / validator.now.step % def.now.steps)) (parts_in preps.now)
         → result ≡ true }
 {
     for prep in preps {
-        if !judge.is_row_part(last, def, prep.known(), prep.value()) {
+        if !validator.is_row_part(last, def, prep.known(), prep.value()) {
             return false;
         }
     }
@@ -79,43 +79,43 @@ fn are_row_parts(judge: &Judge, last: u64, def: &RraDef, preps: &[RowPrep]) -> b
 }
 
 // Returns whether these can be the partial rows at `last` in an archive with these settings, one for each data source.
-fn are_preps(judge: &Judge, last: u64, def: &RraDef, preps: &[RowPrep]) -> bool
+fn are_preps(validator: &EntryValidator, last: u64, def: &RraDef, preps: &[RowPrep]) -> bool
     requires { IsArchiveDef present def.now }
-    ensures good { result ≡ true → AreParts def.now.function (length judge.now.outline.sources)
-        (last / judge.now.step % def.now.steps) (parts_in preps.now) }
-    ensures bad { AreParts def.now.function (length judge.now.outline.sources)
-        (last / judge.now.step % def.now.steps) (parts_in preps.now) → result ≡ true }
+    ensures good { result ≡ true → AreParts def.now.function (length validator.now.outline.sources)
+        (last / validator.now.step % def.now.steps) (parts_in preps.now) }
+    ensures bad { AreParts def.now.function (length validator.now.outline.sources)
+        (last / validator.now.step % def.now.steps) (parts_in preps.now) → result ≡ true }
 {
-    preps.len() == judge.outline().sources.len() && are_row_parts(judge, last, def, preps)
+    preps.len() == validator.outline().sources.len() && are_row_parts(validator, last, def, preps)
 }
 
 // Returns whether an update from `from` may have saved these values of an archive with these settings.
-fn may_save(judge: &Judge, from: u64, def: &RraDef, old: &SavedArchive) -> bool
+fn may_save(validator: &EntryValidator, from: u64, def: &RraDef, old: &SavedArchive) -> bool
     requires { IsArchiveDef present def.now }
-    ensures good { result ≡ true → MaySave judge.now.step from judge.now.outline.last
-        (length judge.now.outline.sources) def.now old.now }
-    ensures bad { MaySave judge.now.step from judge.now.outline.last
-        (length judge.now.outline.sources) def.now old.now → result ≡ true }
+    ensures good { result ≡ true → MaySave validator.now.step from validator.now.outline.last
+        (length validator.now.outline.sources) def.now old.now }
+    ensures bad { MaySave validator.now.step from validator.now.outline.last
+        (length validator.now.outline.sources) def.now old.now → result ≡ true }
 {
     old.function() == def.function
-        && are_preps(judge, from, def, old.preps())
-        && old.rows().len() == judge.rows_replaced(from, def)
-        && are_rows(old.rows(), judge.outline().sources.len())
+        && are_preps(validator, from, def, old.preps())
+        && old.rows().len() == validator.replaced_row_count(from, def)
+        && are_rows(old.rows(), validator.outline().sources.len())
 }
 
 // Returns whether an update from `from` may have saved these values of each archive.
-fn may_save_each(judge: &Judge, from: u64, olds: &[SavedArchive]) -> bool
-    ensures good { result ≡ true → MaySaveEach judge.now.step from judge.now.outline.last
-        (length judge.now.outline.sources) judge.now.outline.archives olds.now }
-    ensures bad { MaySaveEach judge.now.step from judge.now.outline.last
-        (length judge.now.outline.sources) judge.now.outline.archives olds.now → result ≡ true }
+fn may_save_each(validator: &EntryValidator, from: u64, olds: &[SavedArchive]) -> bool
+    ensures good { result ≡ true → MaySaveEach validator.now.step from validator.now.outline.last
+        (length validator.now.outline.sources) validator.now.outline.archives olds.now }
+    ensures bad { MaySaveEach validator.now.step from validator.now.outline.last
+        (length validator.now.outline.sources) validator.now.outline.archives olds.now → result ≡ true }
 {
-    let archives = judge.outline().archives.len();
+    let archives = validator.outline().archives.len();
     if olds.len() != archives {
         return false;
     }
     for place in 0..archives {
-        if !may_save(judge, from, judge.archive(place), &olds[place]) {
+        if !may_save(validator, from, validator.archive(place), &olds[place]) {
             return false;
         }
     }
@@ -123,30 +123,30 @@ fn may_save_each(judge: &Judge, from: u64, olds: &[SavedArchive]) -> bool
 }
 
 // Returns whether an update may have left this outline.
-fn may_update(judge: &Judge, old: &BeforeUpdate) -> bool
-    ensures good { result ≡ true → MayUpdate judge.now.step judge.now.outline (update_of old.now) }
-    ensures bad { MayUpdate judge.now.step judge.now.outline (update_of old.now) → result ≡ true }
+fn may_update(validator: &EntryValidator, old: &BeforeUpdate) -> bool
+    ensures good { result ≡ true → MayUpdate validator.now.step validator.now.outline (update_of old.now) }
+    ensures bad { MayUpdate validator.now.step validator.now.outline (update_of old.now) → result ≡ true }
 {
-    let sources = judge.outline().sources.as_slice();
-    judge.is_earlier(old.last)
+    let sources = validator.outline().sources.as_slice();
+    validator.is_before_last_time(old.last)
         && old.preps.len() == sources.len()
         && are_accepted(sources, &old.raws)
-        && are_step_parts(judge, old.last, &old.preps)
-        && may_save_each(judge, old.last, &old.archives)
+        && are_step_parts(validator, old.last, &old.preps)
+        && may_save_each(validator, old.last, &old.archives)
 }
 
 // ---- entries of tunes
 
 // Returns whether these are valid data sources by rising number.
-fn are_named(judge: &Judge, olds: &[SourceBefore]) -> bool
-    ensures rise { result ≡ true → Rise 0 (length judge.now.outline.sources) olds.now }
-    ensures each { result ≡ true → AllByRecursion (IsSourceBefore (limits_of judge.now.version)) olds.now }
-    ensures bad { Rise 0 (length judge.now.outline.sources) olds.now
-        → AllByRecursion (IsSourceBefore (limits_of judge.now.version)) olds.now → result ≡ true }
+fn are_named(validator: &EntryValidator, olds: &[SavedSource]) -> bool
+    ensures rise { result ≡ true → Rise 0 (length validator.now.outline.sources) olds.now }
+    ensures each { result ≡ true → AllByRecursion (IsSavedSource (limits_of validator.now.version)) olds.now }
+    ensures bad { Rise 0 (length validator.now.outline.sources) olds.now
+        → AllByRecursion (IsSavedSource (limits_of validator.now.version)) olds.now → result ≡ true }
 {
     let mut lowest = 0;
     for old in olds {
-        if !judge.is_named(lowest, old) {
+        if !validator.is_valid_saved_source(lowest, old) {
             return false;
         }
         lowest = old.number + 1;
@@ -155,8 +155,8 @@ fn are_named(judge: &Judge, olds: &[SourceBefore]) -> bool
 }
 
 // Copies the names of data sources. Does not allocate.
-fn names_of(sources: &[DsDef]) -> ArrayVec<Name, MOST_SOURCES>
-    requires { length sources.now ≤ present.most_sources }
+fn names_of(sources: &[DsDef]) -> ArrayVec<Name, MAX_SOURCES>
+    requires { length sources.now ≤ present.max_sources }
     ensures { result.items ≡ names sources.now }
 {
     let mut all = ArrayVec::new();
@@ -167,8 +167,8 @@ fn names_of(sources: &[DsDef]) -> ArrayVec<Name, MOST_SOURCES>
 }
 
 // Returns the names of data sources after a tune's entry is undone.
-fn names_with(sources: &[DsDef], olds: &[SourceBefore]) -> ArrayVec<Name, MOST_SOURCES>
-    requires { length sources.now ≤ present.most_sources }
+fn names_with(sources: &[DsDef], olds: &[SavedSource]) -> ArrayVec<Name, MAX_SOURCES>
+    requires { length sources.now ≤ present.max_sources }
     ensures { result.items ≡ names (with_sources sources.now olds.now) }
 {
     let mut all = names_of(sources);
@@ -177,55 +177,55 @@ fn names_with(sources: &[DsDef], olds: &[SourceBefore]) -> ArrayVec<Name, MOST_S
 }
 
 // Returns whether a tune may have left this outline.
-fn may_tune(judge: &Judge, olds: &[SourceBefore]) -> bool
-    ensures good { result ≡ true → MayTune (limits_of judge.now.version) judge.now.outline olds.now }
-    ensures bad { MayTune (limits_of judge.now.version) judge.now.outline olds.now → result ≡ true }
+fn may_tune(validator: &EntryValidator, olds: &[SavedSource]) -> bool
+    ensures good { result ≡ true → MayTune (limits_of validator.now.version) validator.now.outline olds.now }
+    ensures bad { MayTune (limits_of validator.now.version) validator.now.outline olds.now → result ≡ true }
 {
-    if !Judge::can_name(olds.len() as u64) || !are_named(judge, olds) {
+    if !EntryValidator::is_valid_tune_count(olds.len() as u64) || !are_named(validator, olds) {
         return false;
     }
-    !has_double_name(names_with(judge.outline().sources.as_slice(), olds).as_slice())
+    !has_double_name(names_with(validator.outline().sources.as_slice(), olds).as_slice())
 }
 
 // ---- entries of resizes
 
 // Returns whether a resize may have left this outline.
-fn may_resize(judge: &Judge, archive: u64, old: &Archive) -> bool
-    ensures good { result ≡ true → MayResize (limits_of judge.now.version) judge.now.outline archive old.now }
-    ensures bad { MayResize (limits_of judge.now.version) judge.now.outline archive old.now → result ≡ true }
+fn may_resize(validator: &EntryValidator, archive: u64, old: &Archive) -> bool
+    ensures good { result ≡ true → MayResize (limits_of validator.now.version) validator.now.outline archive old.now }
+    ensures bad { MayResize (limits_of validator.now.version) validator.now.outline archive old.now → result ≡ true }
 {
-    judge.has_archive(archive)
-        && judge.had_rows(archive as usize, old.rows())
-        && are_rows(old, judge.outline().sources.len())
+    validator.has_archive(archive)
+        && validator.is_valid_old_row_count(archive as usize, old.rows())
+        && are_rows(old, validator.outline().sources.len())
 }
 
 // ---- entries of archives that were added or removed
 
 // Returns whether an addition may have left this outline: the version has such entries, and there are two archives or
 // more.
-fn may_add(judge: &Judge) -> bool
-    ensures good { result ≡ true → MayUndo (limits_of judge.now.version) 0 judge.now.outline AddedEntry }
-    ensures bad { MayUndo (limits_of judge.now.version) 0 judge.now.outline AddedEntry → result ≡ true }
+fn may_add(validator: &EntryValidator) -> bool
+    ensures good { result ≡ true → MayUndo (limits_of validator.now.version) 0 validator.now.outline AddedEntry }
+    ensures bad { MayUndo (limits_of validator.now.version) 0 validator.now.outline AddedEntry → result ≡ true }
 {
-    judge.archives_come_and_go() && judge.outline().archives.len() > 1
+    validator.allows_archive_changes() && validator.outline().archives.len() > 1
 }
 
 // Returns whether a removal may have left this outline.
-fn may_remove(judge: &Judge, number: u64, old: &Rra) -> bool
+fn may_remove(validator: &EntryValidator, archive: u64, old: &Rra) -> bool
     ensures good { result ≡ true
-        → MayRemove (limits_of judge.now.version) judge.now.step judge.now.outline number old.now }
-    ensures bad { MayRemove (limits_of judge.now.version) judge.now.step judge.now.outline number old.now
+        → MayRemove (limits_of validator.now.version) validator.now.step validator.now.outline archive old.now }
+    ensures bad { MayRemove (limits_of validator.now.version) validator.now.step validator.now.outline archive old.now
         → result ≡ true }
 {
     let def = old.def();
-    judge.had_number(number)
-        && judge.may_have(&def)
-        && are_preps(judge, judge.outline().last, &def, old.preps())
+    validator.is_valid_removed_number(archive)
+        && validator.accepts_archive(&def)
+        && are_preps(validator, validator.outline().last, &def, old.preps())
         && old.rows() == def.rows
-        && are_rows(old.archive(), judge.outline().sources.len())
+        && are_rows(old.archive(), validator.outline().sources.len())
 }
 
-impl Judge {
+impl EntryValidator {
     /// Returns whether an entry fits the outline.
     pub(super) fn may_undo(&self, entry: &Entry) -> bool
         ensures good { result ≡ true
@@ -239,7 +239,7 @@ impl Judge {
             Entry::Resize { archive, old } => may_resize(self, *archive, old),
             Entry::Added => may_add(self),
             Entry::Removed { archive, old } => {
-                self.archives_come_and_go() && may_remove(self, *archive, old)
+                self.allows_archive_changes() && may_remove(self, *archive, old)
             }
         }
     }

@@ -5,7 +5,7 @@ ghost use Rattle.rrd_spec.specs.Files.Rebuilding.{IsHeader};
 
 use crate::create::is_bad_step;
 use rrd_spec::Version;
-use rrd_spec::limits::{LATEST_TIME, MOST_SOURCES};
+use rrd_spec::limits::{MAX_SOURCES, MAX_TIME};
 
 /// What the header of a file says.
 #[derive(Clone, Copy)]
@@ -33,15 +33,18 @@ impl Header {
         ensures bad { IsHeader (header_said self.now) → result ≡ true }
     {
         let version = self.version;
-        if is_bad_step(self.step) || self.last > LATEST_TIME {
+        if is_bad_step(self.step) || self.last > MAX_TIME {
             return false;
         }
-        if self.depth == 0 || self.depth > version.deepest_journal() || self.entries > self.depth {
+        if self.depth == 0
+            || self.depth > version.max_journal_depth()
+            || self.entries > self.depth
+        {
             return false;
         }
-        if self.sources == 0 || self.sources > MOST_SOURCES as u64 {
+        if self.sources == 0 || self.sources > MAX_SOURCES as u64 {
             return false;
         }
-        self.archives > 0 && self.archives <= version.most_archives() as u64
+        self.archives > 0 && self.archives <= version.max_archives() as u64
     }
 }

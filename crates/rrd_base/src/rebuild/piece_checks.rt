@@ -11,11 +11,11 @@ use crate::create::{has_bad_bounds, is_bad_heartbeat, is_bad_rows, is_bad_steps,
 use crate::{DsDef, RraDef};
 use rrd_fixed::Cell;
 use rrd_fold::Function;
-use rrd_spec::limits::GREATEST_BOUND;
+use rrd_spec::limits::MAX_BOUND;
 
 // The maximum rate, in millionths, as a signed number: comparing a value with both bounds is faster than computing its
 // size first.
-const GREATEST: i128 = GREATEST_BOUND as i128;
+const MAX_CELL: i128 = MAX_BOUND as i128;
 
 /// Returns whether the settings of a data source are valid.
 pub(super) fn is_source(source: &DsDef) -> bool
@@ -37,14 +37,14 @@ fn weight(function: Function, known: u64) -> u64
 
 /// Returns whether a count and a value can be those of a partial step or row of at most `passed` cells.
 pub(super) fn is_part(function: Function, passed: u64, known: u64, value: i128) -> bool
-    requires { passed ≤ present.most_steps }
+    requires { passed ≤ present.max_steps_per_row }
     ensures good { result ≡ true → IsPart function passed (record { known = known; value = value }) }
     ensures bad { IsPart function passed (record { known = known; value = value }) → result ≡ true }
 {
     if known > passed {
         return false;
     }
-    let most = u128::from(weight(function, known)) * GREATEST_BOUND;
+    let most = u128::from(weight(function, known)) * MAX_BOUND;
     value.unsigned_abs() <= most && (known > 0 || value == 0)
 }
 
@@ -63,7 +63,7 @@ pub fn is_bounded(cell: Cell) -> bool
 {
     match cell {
         Cell::Unknown => true,
-        Cell::Known(value) => -GREATEST <= value && value <= GREATEST,
+        Cell::Known(value) => -MAX_CELL <= value && value <= MAX_CELL,
     }
 }
 

@@ -30,7 +30,7 @@ pub(crate) fn add_seconds(preps: &mut [StepPrep], rates: &[Cell], seconds: u64, 
 pub(crate) fn close_steps(preps: &mut [StepPrep], step: u64, cells: &mut [Cell], meter: &mut Meter)
     requires places { length cells.old ≡ length preps.old }
     requires some { 1 ≤ step }
-    requires few { step ≤ present.longest_step }
+    requires few { step ≤ present.max_step_seconds }
     requires fits { AllByRecursion (λ (p : Part). p.known ≤ step) preps.old }
     requires turns { meter.old + length preps.old < 2 ^ 64 }
     ensures cells { cells.new ≡ map (step_cell step) preps.old }
@@ -61,9 +61,9 @@ pub(crate) fn add_steps(preps: &mut [RowPrep], step: &[Cell], count: u64, meter:
 pub(crate) fn close_rows(preps: &mut [RowPrep], def: &RraDef, row: &mut [Cell], meter: &mut Meter)
     requires places { length row.old ≡ length preps.old }
     requires some { 1 ≤ def.now.steps }
-    requires few { def.now.steps ≤ present.most_steps }
+    requires few { def.now.steps ≤ present.max_steps_per_row }
     requires xff_low { pos 0 ≤ℤ def.now.xff }
-    requires xff_high { def.now.xff ≤ℤ pos present.greatest_share }
+    requires xff_high { def.now.xff ≤ℤ pos present.max_xff }
     requires fits { AllByRecursion (λ (p : Consolidating). p.part.known ≤ def.now.steps) preps.old }
     requires turns { meter.old + length preps.old < 2 ^ 64 }
     ensures cells { row.new ≡ map (row_of def.now.xff def.now.steps) preps.old }

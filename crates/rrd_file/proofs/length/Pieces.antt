@@ -9,16 +9,16 @@ use Rattle.rrd_fixed.specs.declared.raw.Raw.{Raw}
 use Rattle.rrd_fold.specs.Parts.{Part}
 use Rattle.rrd_ring.specs.Rows.{HasWidth}
 use Rattle.rrd_spec.specs.declared.settings.DsDef.{DsDef}
-use Rattle.rrd_spec.specs.declared.entry.SourceBefore.{SourceBefore}
+use Rattle.rrd_spec.specs.declared.entry.SavedSource.{SavedSource}
 use Rattle.rrd_spec.specs.Files.Filed.{Source, filed, head_of, header_of, sources_of}
 use Rattle.rrd_spec.specs.History.{Rra}
 use Rattle.rrd_spec.specs.Journal.Entries.{BeforeUpdate, SavedArchive, UpdateEntry, TuneEntry, ResizeEntry, AddedEntry, RemovedEntry}
-use Rattle.rrd_spec.specs.Journal.Fitting.{IsSourceBefore}
+use Rattle.rrd_spec.specs.Journal.Fitting.{IsSavedSource}
 use Rattle.rrd_spec.specs.Journal.Survivors.{Stored}
 use Rattle.rrd_spec.specs.Limits.{newest, present}
 use Rattle.rrd_spec.specs.Validity.{AreAccepted, IsSource, IsValidArchive}
 use Rattle.rrd_file.specs.Layout.{body_pieces, entry_pieces, head_pieces, layout, raws_and_parts, row_pieces, saved_pieces, spelled}
-use Rattle.rrd_file.specs.Layout.Pieces.{Piece, Mark, OfVersion, OfHeader, OfSource, OfArchive, OfPrep, OfCell, OfTag, OfTime, OfRawAndPart, OfRows, OfCount, OfSourceBefore, OfNumber, AnUpdate, ATune, AResize, ARemoval, spell}
+use Rattle.rrd_file.specs.Layout.Pieces.{Piece, Mark, OfVersion, OfHeader, OfSource, OfArchive, OfPrep, OfCell, OfTag, OfTime, OfRawAndPart, OfRows, OfCount, OfSavedSource, OfNumber, AnUpdate, ATune, AResize, ARemoval, spell}
 use Rattle.rrd_file.specs.Layout.Values.{cell_number, part_bytes, raw_bytes, raw_number, source_bytes}
 use Rattle.rrd_file.specs.Length.{IsWide}
 use Rattle.rrd_file.proofs.Gathering.{flat_flat}
@@ -43,9 +43,9 @@ raw_and_part_has : (raw : Raw) (part : Part) → length (spell (OfRawAndPart raw
 unfolding spell
 raw_and_part_has raw part = omega (arith, length-append (raw_bytes raw) (part_bytes part), signed_length (raw_number raw), part_length part)
 
-source_before_has : (old : SourceBefore) → length old.source.name ≤ 19 → length (spell (OfSourceBefore old)) ≡ 79
+saved_source_has : (old : SavedSource) → length old.source.name ≤ 19 → length (spell (OfSavedSource old)) ≡ 79
 unfolding spell
-source_before_has old short = omega (arith, length-append (source_bytes old.source) (raw_bytes old.raw), signed_length (raw_number old.raw), source_length old.source short)
+saved_source_has old short = omega (arith, length-append (source_bytes old.source) (raw_bytes old.raw), signed_length (raw_number old.raw), source_length old.source short)
 
 -- ---- runs of pieces
 
@@ -82,10 +82,10 @@ raws_have (raw ∷ raws) [] same = absurd (omega (arith, same))
 raws_have (raw ∷ raws) (part ∷ parts) same =
     omega (arith, first_and_rest spell (OfRawAndPart raw part) (raws_and_parts raws parts), raw_and_part_has raw part, raws_have raws parts (omega (arith, same)))
 
-olds_have : (olds : List SourceBefore) → AllByRecursion (IsSourceBefore present) olds → length (spelled (map OfSourceBefore olds)) ≡ length olds * 79
+olds_have : (olds : List SavedSource) → AllByRecursion (IsSavedSource present) olds → length (spelled (map OfSavedSource olds)) ≡ length olds * 79
 olds_have [] are = refl
 olds_have (old ∷ olds) are =
-    omega (arith, first_and_rest spell (OfSourceBefore old) (map OfSourceBefore olds), source_before_has old (short_name old.source.name are.0.0.good_name), olds_have olds are.1)
+    omega (arith, first_and_rest spell (OfSavedSource old) (map OfSavedSource olds), saved_source_has old (short_name old.source.name are.0.0.good_name), olds_have olds are.1)
 
 -- ---- entries
 
@@ -99,9 +99,9 @@ unfolding spell
 update_has old same =
     omega (arith, joined (OfTag AnUpdate ∷ OfTime old.last ∷ []) (raws_and_parts old.raws old.parts ++ flat_map saved_pieces old.archives), joined (raws_and_parts old.raws old.parts) (flat_map saved_pieces old.archives), raws_have old.raws old.parts same)
 
-pub tune_has : (olds : List SourceBefore) → AllByRecursion (IsSourceBefore present) olds → length (spelled (entry_pieces (TuneEntry olds))) ≡ 3 + length olds * 79
+pub tune_has : (olds : List SavedSource) → AllByRecursion (IsSavedSource present) olds → length (spelled (entry_pieces (TuneEntry olds))) ≡ 3 + length olds * 79
 unfolding spell
-tune_has olds are = omega (arith, joined (OfTag ATune ∷ OfCount (length olds) ∷ []) (map OfSourceBefore olds), olds_have olds are)
+tune_has olds are = omega (arith, joined (OfTag ATune ∷ OfCount (length olds) ∷ []) (map OfSavedSource olds), olds_have olds are)
 
 pub resize_has : (archive sources : ℕ) (rows : List (List Cell)) → HasWidth sources rows → length (spelled (entry_pieces (ResizeEntry archive rows))) ≡ 7 + length rows * sources * 16
 unfolding spell

@@ -8,7 +8,7 @@ use Rattle.rrd_fixed.specs.Names.{fits}
 use Rattle.rrd_fold.specs.Parts.{Part}
 use Rattle.rrd_spec.specs.declared.settings.DsDef.{DsDef}
 use Rattle.rrd_spec.specs.declared.settings.RraDef.{RraDef}
-use Rattle.rrd_spec.specs.declared.entry.SourceBefore.{SourceBefore}
+use Rattle.rrd_spec.specs.declared.entry.SavedSource.{SavedSource}
 use Rattle.rrd_spec.specs.Files.Filed.{Header, Source}
 use Rattle.rrd_spec.specs.declared.version.Version.{Version}
 use Rattle.rrd_spec.specs.declared.version.Version.TheVariants.{One, Two}
@@ -63,7 +63,7 @@ pub record FitsHeader (h : Header) : Type 0 where
   pub archives : h.archives < 2 ^ 16
   pub entries : h.entries < counts h.version
 
-pub record FitsSourceBefore (old : SourceBefore) : Type 0 where
+pub record FitsSavedSource (old : SavedSource) : Type 0 where
   pub number : old.number < 2 ^ 16
   pub source : FitsDef old.source
   pub raw : FitsRaw old.raw

@@ -4,7 +4,7 @@ use Rattle.rrd_fixed.specs.declared.cell.Cell.{Cell}
 use Rattle.rrd_fixed.specs.declared.raw.Raw.{Raw}
 use Rattle.rrd_fold.specs.Parts.{Part}
 use Rattle.rrd_spec.specs.declared.settings.RraDef.{RraDef}
-use Rattle.rrd_spec.specs.declared.entry.SourceBefore.{SourceBefore}
+use Rattle.rrd_spec.specs.declared.entry.SavedSource.{SavedSource}
 use Rattle.rrd_spec.specs.declared.version.Version.{Version}
 use Rattle.rrd_spec.specs.declared.version.Version.TheVariants.{One, Two}
 use Rattle.rrd_spec.specs.Files.Filed.{Header, Source}
@@ -35,7 +35,7 @@ pub data Piece : Type 0 where
   OfRows : ℕ → Piece
   -- the number of data sources that a tune named, and each data source before the tune
   OfCount : ℕ → Piece
-  OfSourceBefore : SourceBefore → Piece
+  OfSavedSource : SavedSource → Piece
   -- the number of the archive that was resized or removed
   OfNumber : ℕ → Piece
 
@@ -76,5 +76,5 @@ spell (OfTime time) = eight_bytes time
 spell (OfRawAndPart raw part) = raw_bytes raw ++ part_bytes part
 spell (OfRows rows) = four_bytes rows
 spell (OfCount count) = two_bytes count
-spell (OfSourceBefore old) = two_bytes old.number ++ source_bytes old.source ++ raw_bytes old.raw
+spell (OfSavedSource old) = two_bytes old.number ++ source_bytes old.source ++ raw_bytes old.raw
 spell (OfNumber number) = two_bytes number

@@ -43,17 +43,17 @@ pub(super) fn write_added<W: Write>(out: &mut PieceWriter<'_, W>) -> Result<(), 
 #[tactic(auto, unfolding(crate::specs::Layout::Pieces::spell))]
 fn write_gone<W: Write>(
     out: &mut PieceWriter<'_, W>,
-    number: u64,
+    archive: u64,
     def: &RraDef,
 ) -> Result<(), WriteFault>
-    requires number_fits { number < 2 ^ 16 }
+    requires number_fits { archive < 2 ^ 16 }
     requires settings_fit { FitsArchive def.now }
     ensures { Gathers W.contents out.old out.new
-        (spelled (OfTag ARemoval ∷ OfNumber number ∷ OfArchive def.now ∷ [])) result }
+        (spelled (OfTag ARemoval ∷ OfNumber archive ∷ OfArchive def.now ∷ [])) result }
 {
     out.make_room()?;
     out.block.byte(tag_byte(Tag::ARemoval));
-    out.block.two(number);
+    out.block.two(archive);
     out.block.archive(def);
     Ok(())
 }
@@ -61,15 +61,15 @@ fn write_gone<W: Write>(
 /// Writes the entry of an archive that was removed.
 pub(super) fn write_removed<W: Write>(
     out: &mut PieceWriter<'_, W>,
-    number: u64,
+    archive: u64,
     old: &Rra,
 ) -> Result<(), WriteFault>
-    requires number_fits { number < 2 ^ 16 }
+    requires number_fits { archive < 2 ^ 16 }
     requires settings_fit { FitsArchive old.now.def }
     ensures { Gathers W.contents out.old out.new
-        (spelled (entry_pieces (RemovedEntry number old.now))) result }
+        (spelled (entry_pieces (RemovedEntry archive old.now))) result }
 {
-    write_gone(out, number, &old.def())?;
+    write_gone(out, archive, &old.def())?;
     write_preps(out, old.preps())?;
     write_rows(out, old.archive())
 }
@@ -86,11 +86,11 @@ fn read_removed_number<R: Read + Drop>(
 {
     let mut piece = [0u8; NUMBER_SIZE];
     input.piece(&mut piece)?;
-    let (number, _) = two_of(&piece);
-    if !build.judge().had_number(number) {
+    let (archive, _) = two_of(&piece);
+    if !build.validator().is_valid_removed_number(archive) {
         return Err(bad_entry(build));
     }
-    Ok(number)
+    Ok(archive)
 }
 
 // Reads the settings of the removed archive.
@@ -110,7 +110,7 @@ fn read_removed_settings<R: Read + Drop>(
     let Some(def) = archive_of(&piece) else {
         return Err(bad_entry(build));
     };
-    if !build.judge().may_have(&def) {
+    if !build.validator().accepts_archive(&def) {
         return Err(bad_entry(build));
     }
     Ok(def)

@@ -34,7 +34,7 @@ fn write_resized<W: Write>(
     rows: u64,
 ) -> Result<(), WriteFault>
     requires archive_fits { archive < 2 ^ 16 }
-    requires rows_fit { rows ≤ present.most_rows }
+    requires rows_fit { rows ≤ present.max_rows }
     ensures { Gathers W.contents out.old out.new
         (spelled (OfTag AResize ∷ OfNumber archive ∷ OfRows rows ∷ [])) result }
 {
@@ -73,7 +73,7 @@ fn read_number<R: Read + Drop>(
     let mut piece = [0u8; NUMBER_SIZE];
     input.piece(&mut piece)?;
     let (archive, _) = two_of(&piece);
-    if !build.judge().has_archive(archive) {
+    if !build.validator().has_archive(archive) {
         return Err(bad_entry(build));
     }
     Ok(archive)
@@ -91,12 +91,15 @@ fn read_old_row_count<R: Read + Drop>(
         → Brings bytes build.now (λ rows. pieces ++ OfRows rows ∷ [])
         (λ rows. cells_due rows (outline_left build.now) ++ later) input.new result }
     ensures some { IfOk result (λ rows. 0 < rows) }
-    ensures few { IfOk result (λ rows. rows ≤ present.most_rows) }
+    ensures few { IfOk result (λ rows. rows ≤ present.max_rows) }
 {
     let mut piece = [0u8; ROWS_SIZE];
     input.piece(&mut piece)?;
     let (rows, _) = four_of(&piece);
-    if !build.judge().had_rows(archive as usize, rows) {
+    if !build
+        .validator()
+        .is_valid_old_row_count(archive as usize, rows)
+    {
         return Err(bad_entry(build));
     }
     Ok(rows)

@@ -63,7 +63,7 @@ pub(super) fn read_saved_rows<R: Read + Drop>(
     count: u64,
 ) -> Result<Dropped, FileFault>
     requires is_due { due build.now ≡ EntryDue }
-    requires few { count ≤ present.most_rows }
+    requires few { count ≤ present.max_rows }
     ensures brings { (bytes : List ℕ) (pieces : List Piece) (later : List DueInEntry)
         → Comes bytes build.now pieces (cells_due count (outline_left build.now) ++ later) input.old
         → Brings bytes build.now (λ rows. pieces ++ row_pieces rows) (λ rows. later) input.new result }
@@ -87,7 +87,7 @@ pub(super) fn read_old_rows<R: Read + Drop>(
 ) -> Result<Archive, FileFault>
     requires is_due { due build.now ≡ EntryDue }
     requires some { 0 < count }
-    requires few { count ≤ present.most_rows }
+    requires few { count ≤ present.max_rows }
     ensures brings { (bytes : List ℕ) (pieces : List Piece) (later : List DueInEntry)
         → Comes bytes build.now pieces (cells_due count (outline_left build.now) ++ later) input.old
         → Brings bytes build.now (λ rows. pieces ++ row_pieces rows) (λ rows. later) input.new result }

@@ -2,16 +2,16 @@
 ghost use Rattle.std.specs.Prelude.{◌≡◌, ◌<◌, ◌≤◌, ◌^◌, ◌∷◌, [], ◌≢◌, ◌+◌, ◌++◌, ℕ, IfOk, IfSome, List, None, length, map};
 ghost use Rattle.std.specs.List.{AllByRecursion};
 ghost use Rattle.rrd_spec.specs.Journal.Entries.{TuneEntry};
-ghost use Rattle.rrd_spec.specs.Limits.{most_tuned, present};
-ghost use Rattle.rrd_spec.specs.declared.entry.SourceBefore.{SourceBefore};
+ghost use Rattle.rrd_spec.specs.Limits.{max_tuned, present};
+ghost use Rattle.rrd_spec.specs.declared.entry.SavedSource.{SavedSource};
 ghost use Rattle.rrd_spec.specs.Files.Rebuilding.{outline_left};
 ghost use Rattle.rrd_base.specs.Journal.{entry_of};
 ghost use Rattle.rrd_file.specs.Writer.{Gathers};
 ghost use Rattle.rrd_file.specs.Journal.{HasSmallNumber, IsShaped};
 ghost use Rattle.rrd_file.specs.Layout.{entry_pieces, spelled};
-ghost use Rattle.rrd_file.specs.Layout.Pieces.{ATune, OfCount, OfSourceBefore, OfTag, Piece, spell};
+ghost use Rattle.rrd_file.specs.Layout.Pieces.{ATune, OfCount, OfSavedSource, OfTag, Piece, spell};
 ghost use Rattle.rrd_file.specs.Stages.{CountDue, DueInEntry, NamedDue, first_due, named_due};
-ghost use Rattle.rrd_file.specs.Layout.Fitting.{FitsSourceBefore};
+ghost use Rattle.rrd_file.specs.Layout.Fitting.{FitsSavedSource};
 ghost use Rattle.rrd_file.specs.Progress.{Brings, Closes, Comes};
 
 use crate::FileFault;
@@ -22,14 +22,14 @@ use crate::source::def_of;
 use crate::values::{raw_of, two_of};
 use crate::writer::PieceWriter;
 use arrayvec::ArrayVec;
-use rrd_base::{Entry, Judge, Rebuild, SourceBefore};
+use rrd_base::{Entry, EntryValidator, Rebuild, SavedSource};
 use rrd_fixed::WriteFault;
 use std::io::{Read, Write};
 
 // Writes the tag of a tune, and the number of data sources that the tune named.
 #[tactic(auto, unfolding(crate::specs::Layout::Pieces::spell))]
 fn write_tuned<W: Write>(out: &mut PieceWriter<'_, W>, count: usize) -> Result<(), WriteFault>
-    requires { count ≤ most_tuned }
+    requires { count ≤ max_tuned }
     ensures { Gathers W.contents out.old out.new
         (spelled (OfTag ATune ∷ OfCount count ∷ [])) result }
 {
@@ -41,13 +41,13 @@ fn write_tuned<W: Write>(out: &mut PieceWriter<'_, W>, count: usize) -> Result<(
 
 // Writes a data source before a tune.
 #[tactic(auto, unfolding(crate::specs::Layout::Pieces::spell))]
-fn write_source_before<W: Write>(
+fn write_saved_source<W: Write>(
     out: &mut PieceWriter<'_, W>,
-    old: &SourceBefore,
+    old: &SavedSource,
 ) -> Result<(), WriteFault>
     requires { old.now.number < 2 ^ 16 }
     ensures { Gathers W.contents out.old out.new
-        (spell (OfSourceBefore old.now)) result }
+        (spell (OfSavedSource old.now)) result }
 {
     out.make_room()?;
     out.block.two(old.number);
@@ -57,16 +57,16 @@ fn write_source_before<W: Write>(
 }
 
 // Writes the data sources before a tune.
-fn write_sources_before<W: Write>(
+fn write_saved_sources<W: Write>(
     out: &mut PieceWriter<'_, W>,
-    olds: &[SourceBefore],
+    olds: &[SavedSource],
 ) -> Result<(), WriteFault>
     requires { AllByRecursion HasSmallNumber olds.now }
     ensures { Gathers W.contents out.old out.new
-        (spelled (map OfSourceBefore olds.now)) result }
+        (spelled (map OfSavedSource olds.now)) result }
 {
     for i in 0..olds.len() {
-        write_source_before(out, &olds[i])?;
+        write_saved_source(out, &olds[i])?;
     }
     Ok(())
 }
@@ -74,23 +74,23 @@ fn write_sources_before<W: Write>(
 /// Writes the entry of a tune.
 pub(super) fn write_tune<W: Write>(
     out: &mut PieceWriter<'_, W>,
-    olds: &[SourceBefore],
+    olds: &[SavedSource],
 ) -> Result<(), WriteFault>
-    requires few { length olds.now ≤ most_tuned }
+    requires few { length olds.now ≤ max_tuned }
     requires numbers { AllByRecursion HasSmallNumber olds.now }
     ensures { Gathers W.contents out.old out.new
         (spelled (entry_pieces (TuneEntry olds.now))) result }
 {
     write_tuned(out, olds.len())?;
-    write_sources_before(out, olds)
+    write_saved_sources(out, olds)
 }
 
 // Returns a data source before a tune.
-fn source_before_of(bytes: &[u8]) -> Option<SourceBefore>
+fn saved_source_of(bytes: &[u8]) -> Option<SavedSource>
     requires { length bytes.now ≡ BEFORE_TUNE_SIZE }
-    ensures some { IfSome result (λ old. FitsSourceBefore old × (spell (OfSourceBefore old) ≡ bytes.now)) }
-    ensures none { result ≡ None → (old : SourceBefore) → FitsSourceBefore old
-        → spell (OfSourceBefore old) ≢ bytes.now }
+    ensures some { IfSome result (λ old. FitsSavedSource old × (spell (OfSavedSource old) ≡ bytes.now)) }
+    ensures none { result ≡ None → (old : SavedSource) → FitsSavedSource old
+        → spell (OfSavedSource old) ≢ bytes.now }
 {
     let (number, rest) = two_of(bytes);
     let (front, rest) = rest.split_at(SETTINGS_SIZE);
@@ -98,7 +98,7 @@ fn source_before_of(bytes: &[u8]) -> Option<SourceBefore>
         return None;
     };
     let (raw, _) = raw_of(rest);
-    Some(SourceBefore {
+    Some(SavedSource {
         number,
         source,
         raw,
@@ -111,12 +111,12 @@ fn read_count<R: Read + Drop>(input: &mut PieceReader<R>, build: &Rebuild) -> Re
         → Comes bytes build.now pieces (CountDue ∷ later) input.old
         → Brings bytes build.now (λ count. pieces ++ OfCount count ∷ []) (λ count. named_due 0 count ++ later)
         input.new result }
-    ensures few { IfOk result (λ count. count ≤ most_tuned) }
+    ensures few { IfOk result (λ count. count ≤ max_tuned) }
 {
     let mut piece = [0u8; COUNT_SIZE];
     input.piece(&mut piece)?;
     let (count, _) = two_of(&piece);
-    if !Judge::can_name(count) {
+    if !EntryValidator::is_valid_tune_count(count) {
         return Err(bad_entry(build));
     }
     Ok(count)
@@ -127,19 +127,19 @@ fn read_named_source<R: Read + Drop>(
     input: &mut PieceReader<R>,
     build: &Rebuild,
     lowest: u64,
-) -> Result<SourceBefore, FileFault>
+) -> Result<SavedSource, FileFault>
     ensures brings { (bytes : List ℕ) (pieces : List Piece) (more : ℕ)
         → Comes bytes build.now pieces (NamedDue lowest more ∷ []) input.old
-        → Brings bytes build.now (λ old. pieces ++ OfSourceBefore old ∷ []) (λ old. named_due (old.number + 1) more)
+        → Brings bytes build.now (λ old. pieces ++ OfSavedSource old ∷ []) (λ old. named_due (old.number + 1) more)
         input.new result }
-    ensures few { IfOk result (λ old. old.number < present.most_sources) }
+    ensures few { IfOk result (λ old. old.number < present.max_sources) }
 {
     let mut piece = [0u8; BEFORE_TUNE_SIZE];
     input.piece(&mut piece)?;
-    let Some(old) = source_before_of(&piece) else {
+    let Some(old) = saved_source_of(&piece) else {
         return Err(bad_entry(build));
     };
-    if !build.judge().is_named(lowest, &old) {
+    if !build.validator().is_valid_saved_source(lowest, &old) {
         return Err(bad_entry(build));
     }
     Ok(old)

@@ -79,7 +79,7 @@ fn write_raws_and_parts<W: Write>(
 // Writes a number of rows.
 #[tactic(auto, unfolding(crate::specs::Layout::Pieces::spell))]
 fn write_row_count<W: Write>(out: &mut PieceWriter<'_, W>, rows: u64) -> Result<(), WriteFault>
-    requires { rows ≤ present.most_rows }
+    requires { rows ≤ present.max_rows }
     ensures { Gathers W.contents out.old out.new (spell (OfRows rows)) result }
 {
     out.make_room()?;
@@ -139,7 +139,7 @@ fn read_time<R: Read + Drop>(input: &mut PieceReader<R>, build: &Rebuild) -> Res
     let mut piece = [0u8; TIME_SIZE];
     input.piece(&mut piece)?;
     let (last, _) = eight_of(&piece);
-    if !build.judge().is_earlier(last) {
+    if !build.validator().is_before_last_time(last) {
         return Err(bad_entry(build));
     }
     Ok(last)
@@ -165,7 +165,7 @@ fn read_raw_and_part<R: Read + Drop>(
     if !build.undone().sources.get(source).kind.accepts(raw) {
         return Err(bad_entry(build));
     }
-    match build.judge().step_part(last, known, sum) {
+    match build.validator().step_part(last, known, sum) {
         Some(prep) => Ok((raw, prep)),
         None => Err(bad_entry(build)),
     }
@@ -210,12 +210,12 @@ fn read_row_count<R: Read + Drop>(
         → Brings bytes build.now (λ rows. pieces ++ OfRows rows ∷ []) (λ rows. later) input.new result }
     ensures value { IfOk result (λ rows. rows
         ≡ min (rows_between build.now.header.step def.now last (outline_left build.now).last) def.now.rows) }
-    ensures few { IfOk result (λ rows. rows ≤ present.most_rows) }
+    ensures few { IfOk result (λ rows. rows ≤ present.max_rows) }
 {
     let mut piece = [0u8; ROWS_SIZE];
     input.piece(&mut piece)?;
     let (rows, _) = four_of(&piece);
-    if rows != build.judge().rows_replaced(last, def) {
+    if rows != build.validator().replaced_row_count(last, def) {
         return Err(bad_entry(build));
     }
     Ok(rows)
@@ -239,7 +239,7 @@ fn read_saved<R: Read + Drop>(
     ensures shaped { (def : RraDef) → slice_get (outline_left build.now).archives archive ≡ Some def
         → IfOk result (IsSavedShaped (length (outline_left build.now).sources) def) }
 {
-    let def = build.judge().archive(archive);
+    let def = build.validator().archive(archive);
     let preps = read_row_preps(alloc, input, build, last, def)?;
     let count = read_row_count(input, build, last, def)?;
     let rows = read_saved_rows(alloc, input, build, count)?;

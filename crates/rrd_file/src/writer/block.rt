@@ -4,7 +4,7 @@ ghost use Rattle.std.specs.List.{flat_map};
 ghost use Rattle.rrd_file.specs.Layout.Values as spelling;
 
 use crate::cells::cell_halves;
-use crate::layout::{CELL_SIZE, WIDEST};
+use crate::layout::{CELL_SIZE, MAX_ROW_CELLS};
 use rrd_fixed::Cell;
 use std::marker::Model;
 
@@ -13,7 +13,7 @@ use std::marker::Model;
 pub(crate) const BLOCK_SIZE: usize = 4_096;
 
 /// The number of bytes in the widest row. No piece has more.
-pub(crate) const LONGEST: usize = WIDEST * CELL_SIZE;
+pub(crate) const MAX_PIECE_SIZE: usize = MAX_ROW_CELLS * CELL_SIZE;
 
 /// Bytes that wait to be written, at most 4,096. Contracts see their list.
 #[derive(Drop)]
@@ -53,9 +53,9 @@ impl Block {
 
     /// Returns whether there is room for a piece, or for a row.
     pub(crate) fn has_room(&self) -> bool
-        ensures { result ≡ true → length self.now + LONGEST ≤ BLOCK_SIZE }
+        ensures { result ≡ true → length self.now + MAX_PIECE_SIZE ≤ BLOCK_SIZE }
     {
-        BLOCK_SIZE - self.len >= LONGEST
+        BLOCK_SIZE - self.len >= MAX_PIECE_SIZE
     }
 
     /// Forgets the bytes, which were written.

@@ -20,10 +20,10 @@ use Rattle.rrd_spec.specs.History.Steps.{step}
 -- ---- the refusals
 
 abbrev pub is_bad_step : Limits → ℕ → Bool
-is_bad_step limits step = is_out limits.longest_step step
+is_bad_step limits step = is_out limits.max_step_seconds step
 
 abbrev pub is_bad_depth : Limits → ℕ → Bool
-is_bad_depth limits depth = is_out limits.deepest_journal depth
+is_bad_depth limits depth = is_out limits.max_journal_depth depth
 
 -- the settings asked for: the data sources, and each archive's number of rows
 abbrev pub settings_asked : CreateSpec → Settings
@@ -32,15 +32,15 @@ settings_asked spec = record { sources = spec.sources; rows = map (λ (def : Rra
 -- too many data sources, archives, or cells, which are the data sources times all rows
 abbrev pub is_too_large : Limits → CreateSpec → Bool
 is_too_large limits spec =
-    nat_lt limits.most_sources (length spec.sources)
-    || nat_lt limits.most_archives (length spec.archives)
-    || nat_lt limits.most_cells (cells (settings_asked spec))
+    nat_lt limits.max_sources (length spec.sources)
+    || nat_lt limits.max_archives (length spec.archives)
+    || nat_lt limits.max_cells (cells (settings_asked spec))
 
 -- the checks before those of the data sources and archives
 abbrev pub first_checks : Limits → CreateSpec → List Check
 first_checks limits spec =
     ◌refuses◌ (is_bad_step limits spec.step) BadStep
-    ∷ ◌refuses◌ (nat_lt limits.latest_time spec.start) BadStart
+    ∷ ◌refuses◌ (nat_lt limits.max_time spec.start) BadStart
     ∷ ◌refuses◌ (length spec.sources == 0) NoSource
     ∷ ◌refuses◌ (length spec.archives == 0) NoArchive
     ∷ []

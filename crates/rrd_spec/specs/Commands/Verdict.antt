@@ -40,7 +40,7 @@ first_refusal (check ∷ checks) = if check.wrong then Some check.refusal else f
 -- a bound larger in size than the maximum rate
 abbrev pub is_far : Limits → Option ℤ → Bool
 is_far limits None = false
-is_far limits (Some bound) = nat_lt limits.greatest_bound (unsigned_abs bound)
+is_far limits (Some bound) = nat_lt limits.max_bound (unsigned_abs bound)
 
 abbrev pub is_crossed : Option ℤ → Option ℤ → Bool
 is_crossed (Some min) (Some max) = int_lt max min
@@ -55,17 +55,17 @@ abbrev pub is_out : ℕ → ℕ → Bool
 is_out greatest number = (number == 0) || nat_lt greatest number
 
 abbrev pub is_bad_heartbeat : Limits → ℕ → Bool
-is_bad_heartbeat limits seconds = is_out limits.longest_heartbeat seconds
+is_bad_heartbeat limits seconds = is_out limits.max_heartbeat seconds
 
 abbrev pub is_bad_rows : Limits → ℕ → Bool
-is_bad_rows limits rows = is_out limits.most_rows rows
+is_bad_rows limits rows = is_out limits.max_rows rows
 
 -- a share that is not from 0 to the maximum
 abbrev pub is_bad_xff : Limits → ℤ → Bool
-is_bad_xff limits xff = int_lt xff (pos 0) || int_lt (pos limits.greatest_share) xff
+is_bad_xff limits xff = int_lt xff (pos 0) || int_lt (pos limits.max_xff) xff
 
 abbrev pub is_bad_steps : Limits → ℕ → Bool
-is_bad_steps limits steps = is_out limits.most_steps steps
+is_bad_steps limits steps = is_out limits.max_steps_per_row steps
 
 -- ---- the checks of each command
 
@@ -77,7 +77,7 @@ is_admitted source (Given.Number number) = not (is_none (admit source.kind numbe
 abbrev pub sample_checks : Limits → List DsDef → List Name → ℕ → List Sample → List Check
 sample_checks limits sources template last [] = []
 sample_checks limits sources template last (sample ∷ samples) =
-    ◌refuses◌ (nat_lt limits.latest_time sample.time) BadTime
+    ◌refuses◌ (nat_lt limits.max_time sample.time) BadTime
     ∷ ◌refuses◌ (nat_le sample.time last) (NotLater last)
     ∷ ◌refuses◌ (not (length sample.values == length template)) WrongCount
     ∷ ◌refuses◌
@@ -150,7 +150,7 @@ asks_bad_heartbeat limits tuning =
 -- the database would be too large with one more archive
 abbrev pub archive_is_too_large : Limits → Settings → Bool
 archive_is_too_large limits settings =
-    nat_lt limits.most_archives (length settings.rows) || nat_lt limits.most_cells (cells settings)
+    nat_lt limits.max_archives (length settings.rows) || nat_lt limits.max_cells (cells settings)
 
 abbrev pub archive_tune_checks : Limits → Settings → Option ArchiveTune → List Check
 archive_tune_checks limits settings None = []
@@ -183,7 +183,7 @@ tune_checks limits settings tuning =
 
 -- the archive would have too many rows
 abbrev pub grows_too_far : Limits → Change → ℕ → ℕ → Bool
-grows_too_far limits Grow old rows = nat_lt limits.most_rows (old + rows)
+grows_too_far limits Grow old rows = nat_lt limits.max_rows (old + rows)
 grows_too_far limits Shrink old rows = false
 
 abbrev pub shrinks_too_far : Change → ℕ → ℕ → Bool
@@ -198,7 +198,7 @@ resize_checks limits settings archive change rows =
     BadRows
     ∷ ◌refuses◌ (shrinks_too_far change (slice_index_or settings.rows archive 0) rows) ShrinkTooFar
     ∷ ◌refuses◌
-    (nat_lt limits.most_cells
+    (nat_lt limits.max_cells
     (cells (fold settings_after settings (events settings (Resizing archive change rows)))))
     TooLarge
     ∷ []

@@ -56,14 +56,14 @@ due f =
 
 pub record IsHeader (h : Header) : Type 0 where
   pub some_step : 0 < h.step
-  pub small_step : h.step ≤ (limits_of h.version).longest_step
-  pub good_time : h.last ≤ (limits_of h.version).latest_time
+  pub small_step : h.step ≤ (limits_of h.version).max_step_seconds
+  pub good_time : h.last ≤ (limits_of h.version).max_time
   pub some_depth : 0 < h.depth
-  pub small_depth : h.depth ≤ (limits_of h.version).deepest_journal
+  pub small_depth : h.depth ≤ (limits_of h.version).max_journal_depth
   pub some_source : 0 < h.sources
-  pub few_sources : h.sources ≤ (limits_of h.version).most_sources
+  pub few_sources : h.sources ≤ (limits_of h.version).max_sources
   pub some_archive : 0 < h.archives
-  pub few_archives : h.archives ≤ (limits_of h.version).most_archives
+  pub few_archives : h.archives ≤ (limits_of h.version).max_archives
   pub few_entries : h.entries ≤ h.depth
 
 pub record MaySource (f : Filed) (s : Source) : Type 0 where
@@ -76,7 +76,7 @@ pub record MaySource (f : Filed) (s : Source) : Type 0 where
 pub record MayHead (f : Filed) (def : RraDef) : Type 0 where
   pub is_due : due f ≡ HeadDue
   pub def_is : IsArchiveDef (limits f) def
-  pub few_cells : f.header.sources * (rows_in_all f.heads + def.rows) ≤ (limits f).most_cells
+  pub few_cells : f.header.sources * (rows_in_all f.heads + def.rows) ≤ (limits f).max_cells
 
 abbrev pub IsRowPart : ℕ → ℕ → RraDef → Part → Type 0
 IsRowPart step last def part = IsPart def.function (last / step % def.steps) part

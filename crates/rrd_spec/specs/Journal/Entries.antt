@@ -4,7 +4,7 @@ use Rattle.std.specs.List.{fold, insert}
 use Rattle.rrd_fixed.specs.declared.cell.Cell.{Cell}
 use Rattle.rrd_fixed.specs.declared.raw.Raw.{Raw}
 use Rattle.rrd_spec.specs.declared.settings.DsDef.{DsDef}
-use Rattle.rrd_spec.specs.declared.entry.SourceBefore.{SourceBefore}
+use Rattle.rrd_spec.specs.declared.entry.SavedSource.{SavedSource}
 use Rattle.rrd_spec.specs.declared.settings.RraDef.{RraDef}
 use Rattle.rrd_fold.specs.declared.function.Function.{Function}
 use Rattle.rrd_fold.specs.declared.function.Function.TheVariants.{Average}
@@ -35,7 +35,7 @@ pub record BeforeUpdate : Type 0 where
 
 pub data Entry : Type 0 where
   UpdateEntry : BeforeUpdate → Entry
-  TuneEntry : List SourceBefore → Entry
+  TuneEntry : List SavedSource → Entry
   ResizeEntry : ℕ → List (List Cell) → Entry
   -- an archive was added; archive `number` was removed
   AddedEntry : Entry
@@ -66,12 +66,12 @@ is_named tuning source =
     || is_asked tuning.kind source || is_asked tuning.rename source
 
 -- the data sources that a tune names, as they are before it, by rising number
-abbrev pub sources_before : Tuning → ℕ → List DsDef → List Raw → List SourceBefore
-sources_before tuning number [] raws = []
-sources_before tuning number (source ∷ sources) [] = []
-sources_before tuning number (source ∷ sources) (raw ∷ raws) =
+abbrev pub saved_sources : Tuning → ℕ → List DsDef → List Raw → List SavedSource
+saved_sources tuning number [] raws = []
+saved_sources tuning number (source ∷ sources) [] = []
+saved_sources tuning number (source ∷ sources) (raw ∷ raws) =
     if is_named tuning source then record { number = number; source = source; raw = raw }
-    ∷ sources_before tuning (number + 1) sources raws else sources_before tuning (number + 1) sources raws
+    ∷ saved_sources tuning (number + 1) sources raws else saved_sources tuning (number + 1) sources raws
 
 abbrev pub rows_at : List Rra → ℕ → List (List Cell)
 rows_at [] index = []
@@ -105,7 +105,7 @@ before base end =
 abbrev pub entry : Content → DatabaseChange → Entry
 entry base (Updating update) = UpdateEntry (before base (moved base (Updating update)).last)
 entry base (TuningBy tuning) =
-    option_map_or (archive_entry base) tuning.archive (TuneEntry (sources_before tuning 0 base.sources base.raws))
+    option_map_or (archive_entry base) tuning.archive (TuneEntry (saved_sources tuning 0 base.sources base.raws))
 entry base (Resizing archive change rows) = ResizeEntry archive (rows_at base.archives archive)
 
 -- the number of cells in rows, in the values that an update saved, and in an entry
@@ -136,7 +136,7 @@ put_back_each [] olds = []
 put_back_each (archive ∷ archives) [] = archive ∷ archives
 put_back_each (archive ∷ archives) (old ∷ olds) = put_back archive old ∷ put_back_each archives olds
 
-abbrev pub with_source : Content → SourceBefore → Content
+abbrev pub with_source : Content → SavedSource → Content
 with_source now old =
     record now { sources = slice_set now.sources old.number old.source; raws = slice_set now.raws old.number old.raw }
 

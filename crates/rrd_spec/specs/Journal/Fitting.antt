@@ -4,10 +4,10 @@ use Rattle.std.specs.List.{AllByRecursion}
 use Rattle.rrd_fixed.specs.declared.cell.Cell.{Cell}
 use Rattle.rrd_fixed.specs.Rate.{IsAccepted}
 use Rattle.rrd_fold.specs.declared.function.Function.TheVariants.{Average}
-use Rattle.rrd_spec.specs.declared.entry.SourceBefore.{SourceBefore}
+use Rattle.rrd_spec.specs.declared.entry.SavedSource.{SavedSource}
 use Rattle.rrd_spec.specs.declared.outline.Outline.{Outline}
 use Rattle.rrd_spec.specs.declared.settings.RraDef.{RraDef}
-use Rattle.rrd_spec.specs.Limits.{Limits, most_tuned}
+use Rattle.rrd_spec.specs.Limits.{Limits, max_tuned}
 use Rattle.rrd_spec.specs.History.{Rra}
 use Rattle.rrd_spec.specs.Settings.{cells, is_double, names}
 use Rattle.rrd_spec.specs.Journal.Entries.{BeforeUpdate, Entry, UpdateEntry, TuneEntry, ResizeEntry, AddedEntry, RemovedEntry, SavedArchive, rows_between}
@@ -35,24 +35,24 @@ pub record MayUpdate (step : ℕ) (now : Outline) (old : BeforeUpdate) : Type 0 
   pub archives_are : MaySaveEach step old.last now.last (length now.sources) now.archives old.archives
 
 -- a data source before a tune, checked without the others
-abbrev pub IsSourceBefore : Limits → SourceBefore → Type 0
-IsSourceBefore limits old = IsSourceWithin limits old.source × IsAccepted old.source.kind old.raw
+abbrev pub IsSavedSource : Limits → SavedSource → Type 0
+IsSavedSource limits old = IsSourceWithin limits old.source × IsAccepted old.source.kind old.raw
 
-pub record MayTune (limits : Limits) (now : Outline) (olds : List SourceBefore) : Type 0 where
+pub record MayTune (limits : Limits) (now : Outline) (olds : List SavedSource) : Type 0 where
   pub some : 0 < length olds
-  pub few : length olds ≤ most_tuned
+  pub few : length olds ≤ max_tuned
   pub rise : Rise 0 (length now.sources) olds
-  pub each : AllByRecursion (IsSourceBefore limits) olds
+  pub each : AllByRecursion (IsSavedSource limits) olds
   pub names_differ : is_double (names (with_sources now.sources olds)) ≡ false
 
 -- the old number of rows of a resized archive
 pub record AreOldRows (limits : Limits) (now : Outline) (archive rows : ℕ) : Type 0 where
   pub some : 0 < rows
-  pub few : rows ≤ limits.most_rows
+  pub few : rows ≤ limits.max_rows
   pub another : rows ≢ slice_index_or (rows_of now.archives) archive 0
   pub few_cells :
       cells (record { sources = now.sources; rows = rows_of (with_row_number now.archives archive rows) })
-      ≤ limits.most_cells
+      ≤ limits.max_cells
 
 pub record MayResize (limits : Limits) (now : Outline) (archive : ℕ) (rows : List (List Cell)) : Type 0 where
   pub there : archive < length now.archives
@@ -62,21 +62,21 @@ pub record MayResize (limits : Limits) (now : Outline) (archive : ℕ) (rows : L
 -- the settings of an archive
 pub record IsArchiveDef (limits : Limits) (def : RraDef) : Type 0 where
   pub some_steps : 0 < def.steps
-  pub few_steps : def.steps ≤ limits.most_steps
+  pub few_steps : def.steps ≤ limits.max_steps_per_row
   pub some_rows : 0 < def.rows
-  pub few_rows : def.rows ≤ limits.most_rows
+  pub few_rows : def.rows ≤ limits.max_rows
   pub xff_low : pos 0 ≤ℤ def.xff
-  pub xff_high : def.xff ≤ℤ pos limits.greatest_share
+  pub xff_high : def.xff ≤ℤ pos limits.max_xff
 
 -- the number of a removed archive: there is room for the archive at that number
 pub record IsRemovedNumber (limits : Limits) (now : Outline) (number : ℕ) : Type 0 where
   pub there : number ≤ length now.archives
-  pub few : length now.archives < limits.most_archives
+  pub few : length now.archives < limits.max_archives
 
 -- the settings of a removed archive: with its rows the cells are within the limit
 pub record AreRemovedSettings (limits : Limits) (now : Outline) (def : RraDef) : Type 0 where
   pub def_is : IsArchiveDef limits def
-  pub few_cells : length now.sources * (sum (rows_of now.archives) + def.rows) ≤ limits.most_cells
+  pub few_cells : length now.sources * (sum (rows_of now.archives) + def.rows) ≤ limits.max_cells
 
 -- a removed archive, with the partial rows of the last time
 pub record MayRemove (limits : Limits) (step : ℕ) (now : Outline) (number : ℕ) (archive : Rra) : Type 0 where
@@ -92,6 +92,6 @@ abbrev pub MayUndo : Limits → ℕ → Outline → Entry → Type 0
 MayUndo limits step now (UpdateEntry old) = MayUpdate step now old
 MayUndo limits step now (TuneEntry olds) = MayTune limits now olds
 MayUndo limits step now (ResizeEntry archive rows) = MayResize limits now archive rows
-MayUndo limits step now AddedEntry = (limits.archives_come_and_go ≡ true) × (1 < length now.archives)
+MayUndo limits step now AddedEntry = (limits.allows_archive_changes ≡ true) × (1 < length now.archives)
 MayUndo limits step now (RemovedEntry number archive) =
-    (limits.archives_come_and_go ≡ true) × MayRemove limits step now number archive
+    (limits.allows_archive_changes ≡ true) × MayRemove limits step now number archive

@@ -2,7 +2,7 @@
 -- undone (this project's rule).
 use Rattle.std.specs.Prelude.{ℕ, zero, suc, List, [], ◌∷◌, ◌-◌, length, map, slice_set, take}
 use Rattle.std.specs.List.{fold, insert}
-use Rattle.rrd_spec.specs.declared.entry.SourceBefore.{SourceBefore}
+use Rattle.rrd_spec.specs.declared.entry.SavedSource.{SavedSource}
 use Rattle.rrd_spec.specs.declared.outline.Outline.{Outline}
 use Rattle.rrd_spec.specs.declared.settings.DsDef.{DsDef}
 use Rattle.rrd_spec.specs.declared.settings.RraDef.{RraDef}
@@ -15,8 +15,8 @@ outline_of content =
     record { last = content.last; sources = content.sources; archives = definitions content.archives }
 
 -- the settings of the data sources after the entry of a tune is undone
-abbrev pub with_sources : List DsDef → List SourceBefore → List DsDef
-with_sources sources olds = fold (λ ss (old : SourceBefore). slice_set ss old.number old.source) sources olds
+abbrev pub with_sources : List DsDef → List SavedSource → List DsDef
+with_sources sources olds = fold (λ ss (old : SavedSource). slice_set ss old.number old.source) sources olds
 
 -- the settings of the archives with another number of rows of one archive
 abbrev pub with_row_number : List RraDef → ℕ → ℕ → List RraDef

@@ -84,9 +84,9 @@ rows_then base archive change rows =
 -- an accepted resize names an existing archive, and asks for and leaves a number of rows within the limits
 pub record IsResize (base : Content) (archive : ℕ) (change : Change) (rows : ℕ) : Type 0 where
   pub there : archive < length base.archives
-  pub few_asked : rows ≤ present.most_rows
+  pub few_asked : rows ≤ present.max_rows
   pub some_then : 0 < rows_then base archive change rows
-  pub few_then : rows_then base archive change rows ≤ present.most_rows
+  pub few_then : rows_then base archive change rows ≤ present.max_rows
 
 abbrev pub ResizeFits : Content → ℕ → Change → ℕ → Type 0
 ResizeFits base archive change rows =

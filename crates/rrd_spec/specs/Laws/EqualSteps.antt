@@ -38,7 +38,7 @@ StepsOver sources before count archive first then =
     let left = steps_left before def.steps in
     let full = fold (with_each def.function) archive.parts (first ∷ replicate left then) in
     let row = map (row_cell def.function def.xff def.steps) full in
-    0 < def.steps → pos 0 ≤ℤ def.xff → def.xff ≤ℤ pos present.greatest_share →
+    0 < def.steps → pos 0 ≤ℤ def.xff → def.xff ≤ℤ pos present.max_xff →
     length then ≡ sources → left ≤ count →
     archive_passed sources before (first ∷ replicate count then) archive ≡ record archive {
       parts = fold (with_each def.function) (replicate sources nothing) (replicate ((count - left) % def.steps) then);

@@ -26,7 +26,7 @@ StaysValid base command = IsValid base → verdict base command ≡ None → IsV
 abbrev pub StaysValidFor : Content → List (List Cell) → Type 0
 StaysValidFor base seconds =
     IsValid base → AllByRecursion (IsRow (length base.sources)) seconds →
-    base.last + length seconds ≤ present.latest_time → IsValid (passed base seconds)
+    base.last + length seconds ≤ present.max_time → IsValid (passed base seconds)
 
 abbrev pub ArchiveStaysValid : ℕ → ℕ → List (List Cell) → Rra → Type 0
 ArchiveStaysValid sources before steps archive =

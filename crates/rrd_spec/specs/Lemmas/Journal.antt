@@ -1,11 +1,11 @@
 -- Law: undoing an entry keeps the depth of the journal.
 use Rattle.std.proofs.Common.{◌≡◌, refl, List, [], ◌∷◌}
 use Rattle.std.specs.List.{fold}
-use Rattle.rrd_spec.specs.declared.entry.SourceBefore.{SourceBefore}
+use Rattle.rrd_spec.specs.declared.entry.SavedSource.{SavedSource}
 use Rattle.rrd_spec.specs.History.{Content}
 use Rattle.rrd_spec.specs.Journal.Entries.{Entry, AddedEntry, RemovedEntry, ResizeEntry, TuneEntry, UpdateEntry, undone, with_source}
 
-sources_depth : (now : Content) (olds : List SourceBefore) → (fold with_source now olds).depth ≡ now.depth
+sources_depth : (now : Content) (olds : List SavedSource) → (fold with_source now olds).depth ≡ now.depth
 sources_depth now [] = refl
 sources_depth now (old ∷ olds) = sources_depth (with_source now old) olds
 

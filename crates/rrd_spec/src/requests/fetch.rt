@@ -33,7 +33,7 @@ pub struct Chosen {
 #[derive(Clone, Copy, Debug)]
 pub struct Candidate {
     /// The number of the archive.
-    pub number: u64,
+    pub archive: u64,
     /// The resolution, in seconds per row.
     pub resolution: u64,
     /// The time after which all rows end, in seconds since 1970; negative before 1970.

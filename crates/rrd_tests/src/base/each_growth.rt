@@ -4,7 +4,7 @@ use super::rebuild::{archive, finished, gauge, taken};
 use crate::file::bytes::file_of;
 use crate::shared::databases::NONE;
 use crate::shared::files::assert_bytes;
-use crate::shared::plans::{NEW, PLAIN_GAUGE, Plan, Source, made};
+use crate::shared::plans::{GAUGE_A, GAUGE_B, NEW, Plan, made};
 use rrd_base::{PieceFault, Rebuild, Version};
 use rrd_fixed::Raw;
 use std::alloc::Global;
@@ -13,16 +13,7 @@ use std::test::Fail;
 
 const TWO_GAUGES: Plan = Plan {
     name: "two gauges",
-    sources: &[
-        Source {
-            name: "a",
-            ..PLAIN_GAUGE
-        },
-        Source {
-            name: "b",
-            ..PLAIN_GAUGE
-        },
-    ],
+    sources: &[GAUGE_A, GAUGE_B],
     ..NEW
 };
 

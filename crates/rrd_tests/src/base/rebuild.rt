@@ -5,7 +5,7 @@ use crate::shared::files::assert_bytes;
 use arrayvec::ArrayVec;
 use rrd_base::{
     BeforeUpdate, Database, DsDef, Due, Entry, PieceFault, Rebuild, RraDef, SavedArchive,
-    SourceBefore, Version,
+    SavedSource, Version,
 };
 use rrd_fixed::{Cell, Kind, Name, Raw};
 use rrd_fold::{Function, RowPrep, StepPrep};
@@ -225,7 +225,7 @@ fn bad_entries(rt: HostRuntime) -> Result<(), Fail> {
     let mut pieces = with_cells(alloc)?;
     assert_eq!(&rt; pieces.entry(before(alloc, 10)?), BAD);
     let mut olds = ArrayVec::new();
-    olds.push(SourceBefore {
+    olds.push(SavedSource {
         number: 1,
         source: gauge(b"h", 100)?,
         raw: Raw::Unknown,

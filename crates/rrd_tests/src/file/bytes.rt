@@ -1,7 +1,9 @@
 //! Files byte by byte, worked out by hand, and writers that fail.
 use crate::shared::files::assert_bytes;
 use crate::shared::joined;
-use crate::shared::plans::{Deed, FOUR_LAST, NEW, PLAIN_GAUGE, Plan, Source, Tuned, UNTUNED, made};
+use crate::shared::plans::{
+    Deed, FOUR_LAST, GAUGE_A, GAUGE_B, NEW, PLAIN_GAUGE, Plan, Source, Tuned, UNTUNED, made,
+};
 use crate::shared::streams::{Manner, PLAIN, Taker};
 use rrd_base::{Database, RraDef};
 use rrd_file::encode;
@@ -413,10 +415,7 @@ pub(crate) const TWO_SOURCES: Plan = Plan {
     name: "two sources",
     depth: 2,
     sources: &[
-        Source {
-            name: "a",
-            ..PLAIN_GAUGE
-        },
+        GAUGE_A,
         Source {
             name: "b",
             kind: Kind::Derive,
@@ -527,16 +526,7 @@ const RENAMING: Deed = Deed::Tune(Tuned {
 
 const RENAMED: Plan = Plan {
     name: "a source renamed",
-    sources: &[
-        Source {
-            name: "a",
-            ..PLAIN_GAUGE
-        },
-        Source {
-            name: "b",
-            ..PLAIN_GAUGE
-        },
-    ],
+    sources: &[GAUGE_A, GAUGE_B],
     deeds: &[RENAMING],
     ..NEW
 };
@@ -545,10 +535,7 @@ const RENAMED: Plan = Plan {
 pub(crate) const ARCHIVES_CHANGED: Plan = Plan {
     name: "archives changed",
     sources: &[
-        Source {
-            name: "a",
-            ..PLAIN_GAUGE
-        },
+        GAUGE_A,
         Source {
             name: "b",
             kind: Kind::Counter,

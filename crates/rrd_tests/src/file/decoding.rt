@@ -6,7 +6,7 @@ use crate::file::bytes::{
 };
 use crate::shared::files::assert_bytes;
 use crate::shared::joined;
-use crate::shared::plans::{FOUR_LAST, NEW, PLAIN_GAUGE, Plan, Source, made};
+use crate::shared::plans::{FOUR_LAST, GAUGE_A, GAUGE_B, GAUGE_C, NEW, Plan, made};
 use crate::shared::streams::{Giver, Manner, PLAIN};
 use rrd_base::{Database, RraDef};
 use rrd_file::{FileFault, decode};
@@ -486,20 +486,7 @@ fn a_long_file(rt: HostRuntime) -> Result<(), Fail> {
 // across it, and the row of 4,071 to 4,073.
 const ACROSS: Plan = Plan {
     name: "rows across the end of what comes at once",
-    sources: &[
-        Source {
-            name: "a",
-            ..PLAIN_GAUGE
-        },
-        Source {
-            name: "b",
-            ..PLAIN_GAUGE
-        },
-        Source {
-            name: "c",
-            ..PLAIN_GAUGE
-        },
-    ],
+    sources: &[GAUGE_A, GAUGE_B, GAUGE_C],
     archives: &[RraDef {
         rows: 2_000,
         ..FOUR_LAST

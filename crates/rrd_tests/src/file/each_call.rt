@@ -2,7 +2,7 @@
 use crate::file::bytes::{ARCHIVES_CHANGED, FOUR_CHANGES, SAMPLED, file_of, sampled_file};
 use crate::file::decoding::{WRONG_BYTES, WRONG_IN_BOTH, changed, in_first_version};
 use crate::shared::each_call::{FAULTS, INTERRUPTS, assert_front, failing_after, interrupted};
-use crate::shared::plans::{FOUR_LAST, NEW, PLAIN_GAUGE, Plan, Source, made};
+use crate::shared::plans::{FOUR_LAST, GAUGE_A, GAUGE_B, GAUGE_C, NEW, Plan, made};
 use crate::shared::streams::{Giver, PLAIN, Taker};
 use rrd_base::{Database, RraDef};
 use rrd_file::{FileFault, decode, encode};
@@ -50,20 +50,7 @@ fn each_read_of_a_file_fails(rt: HostRuntime) -> Result<(), Fail> {
 
 const THREE_SOURCES: Plan = Plan {
     name: "three sources",
-    sources: &[
-        Source {
-            name: "a",
-            ..PLAIN_GAUGE
-        },
-        Source {
-            name: "b",
-            ..PLAIN_GAUGE
-        },
-        Source {
-            name: "c",
-            ..PLAIN_GAUGE
-        },
-    ],
+    sources: &[GAUGE_A, GAUGE_B, GAUGE_C],
     archives: &[RraDef {
         rows: 2,
         ..FOUR_LAST

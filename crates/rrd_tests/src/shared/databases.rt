@@ -20,13 +20,13 @@ pub(crate) fn command_of(alloc: Global, line: &str) -> Result<Command, Fail> {
 pub(crate) fn cell(
     rt: &impl Abort,
     database: &Database,
-    number: u64,
+    archive: u64,
     time: i64,
     source: u64,
 ) -> Cell {
-    assert!(rt; number < database.archives());
+    assert!(rt; archive < database.archives());
     assert!(rt; source < database.sources());
-    database.cell(number, time, source)
+    database.cell(archive, time, source)
 }
 
 // The first archive's rows of the first source from a time on, `apart` seconds each, have these

@@ -69,6 +69,22 @@ pub(crate) const PLAIN_GAUGE: Source = Source {
     max: None,
 };
 
+// The same under the names `a`, `b` and `c`.
+pub(crate) const GAUGE_A: Source = Source {
+    name: "a",
+    ..PLAIN_GAUGE
+};
+
+pub(crate) const GAUGE_B: Source = Source {
+    name: "b",
+    ..PLAIN_GAUGE
+};
+
+pub(crate) const GAUGE_C: Source = Source {
+    name: "c",
+    ..PLAIN_GAUGE
+};
+
 // Four last values.
 pub(crate) const FOUR_LAST: RraDef = RraDef {
     function: Function::Last,

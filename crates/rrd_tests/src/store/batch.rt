@@ -1,6 +1,6 @@
-//! Batches over a place in memory that may fail.
-use super::place::InMemory;
+//! Batches over a storage in memory that may fail.
 use super::single::{CREATE, assert_step};
+use super::storage::InMemory;
 use crate::shared::streams::{Giver, Manner, PLAIN};
 use rrd_file::FileFault;
 use rrd_store::{Access, FileBatchEnd, TaskFault, run_file_batch};
@@ -25,15 +25,15 @@ fn ended(
 #[test]
 fn a_batch_over_a_place(rt: HostRuntime) -> Result<(), Fail> {
     let alloc = rt.alloc();
-    let mut place = InMemory::missing(alloc);
+    let mut storage = InMemory::missing(alloc);
     let lines = format!(in alloc; "{CREATE}\nupdate 10:1\nlast\nnothing\n")?;
     let mut out = Vec::new(alloc);
-    let end = run_file_batch(alloc, 0, 0, &mut place, &mut lines.as_bytes(), &mut out);
+    let end = run_file_batch(alloc, 0, 0, &mut storage, &mut lines.as_bytes(), &mut out);
     assert_eq!(&rt; end.ok(), ended(alloc, 1, None, None));
     assert_eq!(&rt; out.as_slice(), b"10\nERROR: usage\n".as_slice());
-    assert_eq!(&rt; place.bytes.len(), 309);
-    assert_eq!(&rt; place.access, Some(Access::Change));
-    assert_eq!(&rt; place.expected, Some(309));
+    assert_eq!(&rt; storage.bytes.len(), 309);
+    assert_eq!(&rt; storage.access, Some(Access::ReadWrite));
+    assert_eq!(&rt; storage.expected, Some(309));
     // What was read is what the next lines run over, and they are stored after a failed read too.
     let lines = b"last\nrevert\nlast\nupda";
     let mut input = Giver::new(
@@ -44,46 +44,60 @@ fn a_batch_over_a_place(rt: HostRuntime) -> Result<(), Fail> {
         },
     );
     let mut out = Vec::new(alloc);
-    let end = run_file_batch(alloc, 0, 0, &mut place, &mut input, &mut out);
+    let end = run_file_batch(alloc, 0, 0, &mut storage, &mut input, &mut out);
     assert_eq!(&rt; end.ok(), ended(alloc, 0, Some(StreamFault::Read), None));
     assert_eq!(&rt; out.as_slice(), b"10\n0\n".as_slice());
-    assert_eq!(&rt; place.bytes.len(), 224);
+    assert_eq!(&rt; storage.bytes.len(), 224);
     Ok(())
 }
 
 #[test]
 fn a_batch_that_stores_nothing(rt: HostRuntime) -> Result<(), Fail> {
     let alloc = rt.alloc();
-    let mut place = InMemory::missing(alloc);
+    let mut storage = InMemory::missing(alloc);
     let mut out = Vec::new(alloc);
-    let end = run_file_batch(alloc, 0, 0, &mut place, &mut b"last\n".as_slice(), &mut out);
+    let end = run_file_batch(
+        alloc,
+        0,
+        0,
+        &mut storage,
+        &mut b"last\n".as_slice(),
+        &mut out,
+    );
     assert_eq!(&rt; end.ok(), ended(alloc, 1, None, None));
-    assert!(&rt; place.bytes.is_empty());
-    assert_step(&rt, alloc, &mut place, &(CREATE, "", "", 224))?;
-    place.begins = false;
-    let end = run_file_batch(alloc, 0, 0, &mut place, &mut b"last\n".as_slice(), &mut out);
+    assert!(&rt; storage.bytes.is_empty());
+    assert_step(&rt, alloc, &mut storage, &(CREATE, "", "", 224))?;
+    storage.begins = false;
+    let end = run_file_batch(
+        alloc,
+        0,
+        0,
+        &mut storage,
+        &mut b"last\n".as_slice(),
+        &mut out,
+    );
     assert_eq!(&rt;
         end.ok(),
         ended(alloc, 0, None, Some(TaskFault::CannotWrite))
     );
-    assert_eq!(&rt; place.bytes.len(), 224);
+    assert_eq!(&rt; storage.bytes.len(), 224);
     Ok(())
 }
 
 #[test]
 fn a_batch_over_other_bytes(rt: HostRuntime) -> Result<(), Fail> {
     let alloc = rt.alloc();
-    let mut place = InMemory::with(alloc, b"other bytes")?;
+    let mut storage = InMemory::with(alloc, b"other bytes")?;
     let mut input = b"last\n".as_slice();
     let mut out = Vec::new(alloc);
-    let end = run_file_batch(alloc, 0, 0, &mut place, &mut input, &mut out);
+    let end = run_file_batch(alloc, 0, 0, &mut storage, &mut input, &mut out);
     assert_eq!(&rt; end.err(), Some(TaskFault::File(FileFault::NotOurs)));
-    place.opens = false;
-    let end = run_file_batch(alloc, 0, 0, &mut place, &mut input, &mut out);
+    storage.opens = false;
+    let end = run_file_batch(alloc, 0, 0, &mut storage, &mut input, &mut out);
     assert_eq!(&rt; end.err(), Some(TaskFault::CannotOpen));
     assert_eq!(&rt; input.len(), 5);
     assert!(&rt; out.is_empty());
-    assert_eq!(&rt; place.bytes.as_slice(), b"other bytes".as_slice());
+    assert_eq!(&rt; storage.bytes.as_slice(), b"other bytes".as_slice());
     Ok(())
 }
 
@@ -91,10 +105,10 @@ fn a_batch_over_other_bytes(rt: HostRuntime) -> Result<(), Fail> {
 #[test]
 fn numbers_of_refused_lines(rt: HostRuntime) -> Result<(), Fail> {
     let alloc = rt.alloc();
-    let mut place = InMemory::missing(alloc);
+    let mut storage = InMemory::missing(alloc);
     let lines = format!(in alloc; "{CREATE}\n\nupdate 5\nlast\nnothing\n")?;
     let mut out = Vec::new(alloc);
-    let end = run_file_batch(alloc, 0, 8, &mut place, &mut lines.as_bytes(), &mut out)?;
+    let end = run_file_batch(alloc, 0, 8, &mut storage, &mut lines.as_bytes(), &mut out)?;
     assert_eq!(&rt; end.refused, 2);
     assert_eq!(&rt; end.lines.as_slice(), [3, 5].as_slice());
     Ok(())

@@ -1,13 +1,15 @@
 //! What the program tells on standard error, and its status.
 use crate::file::decoding::FILE_FAULTS;
 use rrd_base::Refusal;
-use rrd_store::{TaskFault, USAGE, end_batch, end_file_batch, end_single, write_task_fault};
+use rrd_store::{
+    TaskFault, USAGE, report_batch, report_command, report_file_batch,
+};
 use rrd_tool::{Fault, LineFault, Part, StreamFault};
 use std::alloc::Global;
 use std::process::Abort;
 use std::test::Fail;
 
-const MISUSE: TaskFault = TaskFault::Command(Fault::Line(LineFault::Usage));
+const USAGE_ERROR: TaskFault = TaskFault::Command(Fault::Line(LineFault::Usage));
 
 const NO_SAMPLE_READ: TaskFault = TaskFault::Command(Fault::Line(LineFault::BadWord {
     part: Part::Sample,
@@ -31,7 +33,7 @@ const OTHER_FAULTS: &[(TaskFault, &str, &str)] = &[
         "bad step",
         "",
     ),
-    (MISUSE, "usage", USAGE),
+    (USAGE_ERROR, "usage", USAGE),
 ];
 
 // A fault shows its text, and its line has it; the usage text follows where the words were no command.
@@ -45,7 +47,8 @@ fn assert_told(
     let shown = format!(in alloc; "{fault}")?;
     assert_eq!(rt; shown.as_str(), text);
     let mut err = Vec::new(alloc);
-    assert!(rt; write_task_fault(&mut err, &fault).is_ok(), "{text}");
+    let status = if behind.is_empty() { 1 } else { 2 };
+    assert_eq!(rt; report_command(&mut err, Err(fault)), status, "{text}");
     let told = format!(in alloc; "ERROR: {text}\n{behind}")?;
     assert_eq!(rt; err.as_slice(), told.as_bytes(), "{text}");
     Ok(())
@@ -90,14 +93,14 @@ fn ends_of_batches(rt: HostRuntime) -> Result<(), Fail> {
     for (refused, stream, unstored, status, text) in ENDS {
         let mut err = Vec::new(alloc);
         assert_eq!(&rt;
-            end_batch(&mut err, *refused, *stream, *unstored),
+            report_batch(&mut err, *refused, *stream, *unstored),
             *status,
             "{text}"
         );
         assert_eq!(&rt; err.as_slice(), text.as_bytes());
     }
     let mut err = Vec::new(alloc);
-    assert_eq!(&rt; end_file_batch(&mut err, Err(TaskFault::CannotOpen)), 1);
+    assert_eq!(&rt; report_file_batch(&mut err, Err(TaskFault::CannotOpen)), 1);
     assert_eq!(&rt; err.as_slice(), b"ERROR: cannot open\n".as_slice());
     Ok(())
 }
@@ -108,11 +111,11 @@ fn ends_of_commands(rt: HostRuntime) -> Result<(), Fail> {
     let misused = format!(in alloc; "ERROR: usage\n{USAGE}")?;
     for (end, status, text) in [
         (Ok(()), 0, ""),
-        (Err(MISUSE), 2, misused.as_str()),
+        (Err(USAGE_ERROR), 2, misused.as_str()),
         (Err(NO_SAMPLE_READ), 1, "ERROR: unreadable sample 1\n"),
     ] {
         let mut err = Vec::new(alloc);
-        assert_eq!(&rt; end_single(&mut err, end), status, "{text}");
+        assert_eq!(&rt; report_command(&mut err, end), status, "{text}");
         assert_eq!(&rt; err.as_slice(), text.as_bytes());
     }
     Ok(())

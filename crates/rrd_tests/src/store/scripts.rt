@@ -1,8 +1,8 @@
-//! Random scripts from a fixed seed: run as one batch over a place, and cut at random places into
+//! Random scripts from a fixed seed: run as one batch over a storage, and cut at random places into
 //! batches and single commands, they tell the same and leave the same bytes.
-use super::place::InMemory;
+use super::storage::InMemory;
 use crate::shared::words_of;
-use rrd_store::{end_single, run_file_batch, run_single};
+use rrd_store::{report_command, run_file_batch, run_file_command};
 use std::alloc::{AllocError, Global};
 use std::process::Abort;
 use std::test::Fail;
@@ -31,8 +31,8 @@ impl Chance {
     }
 
     fn one_of<'a>(&mut self, texts: &[&'a str]) -> &'a str {
-        let place = self.below(texts.len() as u64) as usize;
-        texts.get(place).copied().unwrap_or("")
+        let index = self.below(texts.len() as u64) as usize;
+        texts.get(index).copied().unwrap_or("")
     }
 }
 
@@ -151,11 +151,11 @@ fn script_of(alloc: Global, chance: &mut Chance) -> Result<Vec<String>, Fail> {
 
 // ---- runs
 
-// A place, what was told over it, and how many lines were refused.
+// A storage, what was told over it, and how many lines were refused.
 #[derive(Drop)]
 struct Session {
     alloc: Global,
-    place: InMemory,
+    storage: InMemory,
     told: Vec<u8>,
     refused: u64,
 }
@@ -165,7 +165,7 @@ impl Session {
     fn new(alloc: Global) -> Result<Session, AllocError> {
         Ok(Session {
             alloc,
-            place: InMemory::missing(alloc),
+            storage: InMemory::missing(alloc),
             told: Vec::new(alloc),
             refused: 0,
         })
@@ -178,7 +178,7 @@ impl Session {
             self.alloc,
             0,
             0,
-            &mut self.place,
+            &mut self.storage,
             &mut input,
             &mut self.told,
         )?;
@@ -193,9 +193,9 @@ impl Session {
     // prints, and where a batch has no database, there is no file to be opened.
     fn single(&mut self, line: &str) -> Result<(), Fail> {
         let words = words_of(self.alloc, line)?;
-        let end = run_single(self.alloc, &words, 0, &mut self.place, &mut self.told);
+        let end = run_file_command(self.alloc, &words, 0, &mut self.storage, &mut self.told);
         let mut err = Vec::new(self.alloc);
-        if end_single(&mut err, end) == 0 {
+        if report_command(&mut err, end) == 0 {
             return Ok(());
         }
         self.refused = self.refused.saturating_add(1);
@@ -255,8 +255,8 @@ fn assert_cuts_change_nothing(
         "{number}: {script:?}"
     );
     assert_eq!(rt;
-        cut.place.bytes.as_slice(),
-        whole.place.bytes.as_slice(),
+        cut.storage.bytes.as_slice(),
+        whole.storage.bytes.as_slice(),
         "{number}: {script:?}"
     );
     assert_eq!(rt; cut.refused, whole.refused, "{number}: {script:?}");

@@ -1,10 +1,10 @@
-//! Single commands over a place in memory that may fail.
-use super::place::{Ending, InMemory};
+//! Single commands over a storage in memory that may fail.
+use super::storage::{Ending, InMemory};
 use crate::file::bytes::{new_file, sampled_file};
 use crate::shared::streams::{Manner, PLAIN, Taker};
 use crate::shared::words_of;
 use rrd_file::FileFault;
-use rrd_store::{Access, TaskFault, run_single};
+use rrd_store::{Access, TaskFault, run_file_command};
 use rrd_tool::Fault;
 use std::alloc::Global;
 use std::process::Abort;
@@ -19,23 +19,23 @@ pub(super) type Step<'a> = (&'a str, &'a str, &'a str, usize);
 pub(super) fn assert_step(
     rt: &impl Abort,
     alloc: Global,
-    place: &mut InMemory,
+    storage: &mut InMemory,
     step: &Step<'_>,
 ) -> Result<(), Fail> {
     let (line, fault, text, length) = step;
-    let before = place.bytes.clone()?;
+    let before = storage.bytes.clone()?;
     let mut out = Vec::new(alloc);
-    let end = run_single(alloc, &words_of(alloc, line)?, 1_000, place, &mut out);
+    let end = run_file_command(alloc, &words_of(alloc, line)?, 1_000, storage, &mut out);
     let told = match end {
         Ok(()) => String::new(alloc),
         Err(told) => format!(in alloc; "{told}")?,
     };
     assert_eq!(rt; told.as_str(), *fault, "{line}");
     assert_eq!(rt; out.as_slice(), text.as_bytes(), "{line}");
-    assert_eq!(rt; place.bytes.len(), *length, "{line}");
-    let expected = place.expected.take().unwrap_or(*length as u64);
+    assert_eq!(rt; storage.bytes.len(), *length, "{line}");
+    let expected = storage.expected.take().unwrap_or(*length as u64);
     assert!(rt; !fault.is_empty() || expected == *length as u64, "{line}");
-    let kept = fault.is_empty() || place.bytes.as_slice() == before.as_slice();
+    let kept = fault.is_empty() || storage.bytes.as_slice() == before.as_slice();
     assert!(rt; kept, "{line}");
     Ok(())
 }
@@ -84,15 +84,15 @@ const OVER_NOTHING: &[Step<'_>] = &[
 #[test]
 fn commands_over_one_place(rt: HostRuntime) -> Result<(), Fail> {
     let alloc = rt.alloc();
-    let mut place = InMemory::missing(alloc);
+    let mut storage = InMemory::missing(alloc);
     for step in OVER_NOTHING {
-        assert_step(&rt, alloc, &mut place, step)?;
+        assert_step(&rt, alloc, &mut storage, step)?;
     }
-    assert_eq!(&rt; place.bytes.as_slice(), new_file(alloc)?.as_slice());
+    assert_eq!(&rt; storage.bytes.as_slice(), new_file(alloc)?.as_slice());
     Ok(())
 }
 
-// Words come before the place.
+// Words come before the storage.
 const OVER_OTHER_BYTES: &[Step<'_>] = &[
     ("nothing", "usage", "", 11),
     ("update 20", "unreadable sample 1", "", 11),
@@ -104,15 +104,15 @@ const OVER_OTHER_BYTES: &[Step<'_>] = &[
 #[test]
 fn commands_over_other_bytes(rt: HostRuntime) -> Result<(), Fail> {
     let alloc = rt.alloc();
-    let mut place = InMemory::with(alloc, b"other bytes")?;
+    let mut storage = InMemory::with(alloc, b"other bytes")?;
     for step in OVER_OTHER_BYTES {
-        assert_step(&rt, alloc, &mut place, step)?;
+        assert_step(&rt, alloc, &mut storage, step)?;
     }
     // A create doesn't ask what is there.
-    place.opens = false;
-    assert_step(&rt, alloc, &mut place, &("last", "cannot open", "", 11))?;
-    assert_step(&rt, alloc, &mut place, &(CREATE, "", "", 224))?;
-    assert_eq!(&rt; place.bytes.as_slice(), new_file(alloc)?.as_slice());
+    storage.opens = false;
+    assert_step(&rt, alloc, &mut storage, &("last", "cannot open", "", 11))?;
+    assert_step(&rt, alloc, &mut storage, &(CREATE, "", "", 224))?;
+    assert_eq!(&rt; storage.bytes.as_slice(), new_file(alloc)?.as_slice());
     Ok(())
 }
 
@@ -120,39 +120,39 @@ fn commands_over_other_bytes(rt: HostRuntime) -> Result<(), Fail> {
 fn a_place_that_is_not_written(rt: HostRuntime) -> Result<(), Fail> {
     let alloc = rt.alloc();
     let refused = ("update 10:1", "cannot write", "", 224);
-    let mut place = InMemory::with(alloc, &new_file(alloc)?)?;
-    place.begins = false;
-    assert_step(&rt, alloc, &mut place, &refused)?;
-    place.begins = true;
-    place.ending = Ending::OldStays;
-    assert_step(&rt, alloc, &mut place, &refused)?;
-    place.ending = Ending::Whole;
-    place.keeps = true;
-    place.room = 308;
-    assert_step(&rt, alloc, &mut place, &refused)
+    let mut storage = InMemory::with(alloc, &new_file(alloc)?)?;
+    storage.begins = false;
+    assert_step(&rt, alloc, &mut storage, &refused)?;
+    storage.begins = true;
+    storage.ending = Ending::OldStays;
+    assert_step(&rt, alloc, &mut storage, &refused)?;
+    storage.ending = Ending::Whole;
+    storage.keeps = true;
+    storage.room = 308;
+    assert_step(&rt, alloc, &mut storage, &refused)
 }
 
 // The last call of a change fails and the new bytes are there: the next command runs over them.
 #[test]
 fn a_place_that_is_written_by_a_call_that_fails(rt: HostRuntime) -> Result<(), Fail> {
     let alloc = rt.alloc();
-    let mut place = InMemory::with(alloc, &new_file(alloc)?)?;
-    place.ending = Ending::NewStays;
+    let mut storage = InMemory::with(alloc, &new_file(alloc)?)?;
+    storage.ending = Ending::NewStays;
     let mut out = Vec::new(alloc);
     let words = words_of(alloc, "update 10:1")?;
-    let end = run_single(alloc, &words, 0, &mut place, &mut out);
+    let end = run_file_command(alloc, &words, 0, &mut storage, &mut out);
     assert_eq!(&rt; end.err(), Some(TaskFault::CannotWrite));
-    assert_eq!(&rt; place.bytes.as_slice(), sampled_file(alloc)?.as_slice());
-    assert_step(&rt, alloc, &mut place, &("last", "", "10\n", 309))
+    assert_eq!(&rt; storage.bytes.as_slice(), sampled_file(alloc)?.as_slice());
+    assert_step(&rt, alloc, &mut storage, &("last", "", "10\n", 309))
 }
 
-// What each command opens its place for; a create doesn't open it.
+// What each command opens its storage for; a create doesn't open it.
 const OPENED: &[(&str, Option<Access>)] = &[
     (CREATE, None),
-    ("update 10:1", Some(Access::Change)),
-    ("tune --minimum g:5", Some(Access::Change)),
-    ("resize 0 GROW 2", Some(Access::Change)),
-    ("revert", Some(Access::Change)),
+    ("update 10:1", Some(Access::ReadWrite)),
+    ("tune --minimum g:5", Some(Access::ReadWrite)),
+    ("resize 0 GROW 2", Some(Access::ReadWrite)),
+    ("revert", Some(Access::ReadWrite)),
     ("fetch LAST -s 0 -e 19", Some(Access::Read)),
     ("first", Some(Access::Read)),
     ("last", Some(Access::Read)),
@@ -163,12 +163,12 @@ const OPENED: &[(&str, Option<Access>)] = &[
 #[test]
 fn what_a_place_is_opened_for(rt: HostRuntime) -> Result<(), Fail> {
     let alloc = rt.alloc();
-    let mut place = InMemory::missing(alloc);
+    let mut storage = InMemory::missing(alloc);
     for (line, access) in OPENED {
         let mut out = Vec::new(alloc);
-        let end = run_single(alloc, &words_of(alloc, line)?, 0, &mut place, &mut out);
+        let end = run_file_command(alloc, &words_of(alloc, line)?, 0, &mut storage, &mut out);
         assert!(&rt; end.is_ok(), "{line}");
-        assert_eq!(&rt; place.access.take(), *access, "{line}");
+        assert_eq!(&rt; storage.access.take(), *access, "{line}");
     }
     Ok(())
 }
@@ -184,14 +184,14 @@ fn assert_breaks_off(
     let words = words_of(alloc, line)?;
     let last = words_of(alloc, "last")?;
     for room in 0..new.len() {
-        let mut place = InMemory::with(alloc, old)?;
-        place.room = room;
+        let mut storage = InMemory::with(alloc, old)?;
+        storage.room = room;
         let mut out = Vec::new(alloc);
-        let end = run_single(alloc, &words, 0, &mut place, &mut out);
+        let end = run_file_command(alloc, &words, 0, &mut storage, &mut out);
         assert_eq!(rt; end.err(), Some(TaskFault::CannotWrite), "{line} {room}");
-        assert_eq!(rt; place.bytes.as_slice(), new.get(..room).ok_or("short")?);
+        assert_eq!(rt; storage.bytes.as_slice(), new.get(..room).ok_or("short")?);
         let at = room as u64;
-        let end = run_single(alloc, &last, 0, &mut place, &mut out);
+        let end = run_file_command(alloc, &last, 0, &mut storage, &mut out);
         let cut = TaskFault::File(FileFault::Truncated { at });
         assert_eq!(rt; end.err(), Some(cut), "{line} {room}");
     }
@@ -210,15 +210,15 @@ fn a_write_that_breaks_off(rt: HostRuntime) -> Result<(), Fail> {
 #[test]
 fn output_that_fails(rt: HostRuntime) -> Result<(), Fail> {
     let alloc = rt.alloc();
-    let mut place = InMemory::with(alloc, &new_file(alloc)?)?;
+    let mut storage = InMemory::with(alloc, &new_file(alloc)?)?;
     let failed = Some(TaskFault::Command(Fault::Output));
     let words = words_of(alloc, "last")?;
     let mut full = Taker::new(alloc, Manner { room: 1, ..PLAIN }, PLAIN);
-    let end = run_single(alloc, &words, 0, &mut place, &mut full);
+    let end = run_file_command(alloc, &words, 0, &mut storage, &mut full);
     assert_eq!(&rt; end.err(), failed);
     let mut stuck = Taker::new(alloc, PLAIN, Manner { room: 0, ..PLAIN });
-    let end = run_single(alloc, &words, 0, &mut place, &mut stuck);
+    let end = run_file_command(alloc, &words, 0, &mut storage, &mut stuck);
     assert_eq!(&rt; end.err(), failed);
-    assert_eq!(&rt; place.bytes.as_slice(), new_file(alloc)?.as_slice());
+    assert_eq!(&rt; storage.bytes.as_slice(), new_file(alloc)?.as_slice());
     Ok(())
 }

@@ -1,5 +1,5 @@
 //! Batches over the file of a database that no run makes, and files that a revert gives back.
-use super::place::InMemory;
+use super::storage::InMemory;
 use crate::file::bytes::{new_file, sampled_file};
 use crate::file::decoding::{changed, in_first_version};
 use rrd_store::run_file_batch;
@@ -7,15 +7,15 @@ use std::alloc::Global;
 use std::process::Abort;
 use std::test::Fail;
 
-// Runs lines over a place: what they print. None is refused, and no stream fails.
+// Runs lines over a storage: what they print. None is refused, and no stream fails.
 fn printed(
     rt: &impl Abort,
     alloc: Global,
-    place: &mut InMemory,
+    storage: &mut InMemory,
     lines: &str,
 ) -> Result<Vec<u8>, Fail> {
     let mut out = Vec::new(alloc);
-    let end = run_file_batch(alloc, 0, 0, place, &mut lines.as_bytes(), &mut out)?;
+    let end = run_file_batch(alloc, 0, 0, storage, &mut lines.as_bytes(), &mut out)?;
     assert_eq!(rt;
         (end.refused, end.stream, end.unstored),
         (0, None, None),
@@ -30,16 +30,16 @@ fn printed(
 fn a_counter_that_no_run_makes(rt: HostRuntime) -> Result<(), Fail> {
     let alloc = rt.alloc();
     let first = in_first_version(alloc, &sampled_file(alloc)?)?;
-    let mut place = InMemory::with(alloc, &changed(alloc, &first, 46, 1)?)?;
+    let mut storage = InMemory::with(alloc, &changed(alloc, &first, 46, 1)?)?;
     let lines = "lastupdate\nupdate 20:1000010\nfetch LAST -s 10 -e 19\nrevert\n";
-    let out = printed(&rt, alloc, &mut place, lines)?;
+    let out = printed(&rt, alloc, &mut storage, lines)?;
     let text = b"time: g\n10: 1000000\ntime: g\n20: 1.000000\n";
     assert_eq!(&rt; out.as_slice(), text.as_slice());
     let sampled = changed(alloc, &sampled_file(alloc)?, 50, 1)?;
-    assert_eq!(&rt; place.bytes.as_slice(), sampled.as_slice());
-    assert!(&rt; printed(&rt, alloc, &mut place, "revert\n")?.is_empty());
+    assert_eq!(&rt; storage.bytes.as_slice(), sampled.as_slice());
+    assert!(&rt; printed(&rt, alloc, &mut storage, "revert\n")?.is_empty());
     let new = changed(alloc, &new_file(alloc)?, 50, 1)?;
-    assert_eq!(&rt; place.bytes.as_slice(), new.as_slice());
+    assert_eq!(&rt; storage.bytes.as_slice(), new.as_slice());
     Ok(())
 }
 
@@ -61,11 +61,11 @@ update 15:2\n",
 fn a_revert_gives_the_file_back(rt: HostRuntime) -> Result<(), Fail> {
     let alloc = rt.alloc();
     for (made, lines) in TAKEN_BACK {
-        let mut place = InMemory::missing(alloc);
-        assert!(&rt; printed(&rt, alloc, &mut place, made)?.is_empty());
-        let before = place.bytes.clone()?;
-        assert!(&rt; printed(&rt, alloc, &mut place, lines)?.is_empty());
-        assert_eq!(&rt; place.bytes.as_slice(), before.as_slice(), "{lines}");
+        let mut storage = InMemory::missing(alloc);
+        assert!(&rt; printed(&rt, alloc, &mut storage, made)?.is_empty());
+        let before = storage.bytes.clone()?;
+        assert!(&rt; printed(&rt, alloc, &mut storage, lines)?.is_empty());
+        assert_eq!(&rt; storage.bytes.as_slice(), before.as_slice(), "{lines}");
     }
     Ok(())
 }

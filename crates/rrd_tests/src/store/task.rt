@@ -1,5 +1,5 @@
 //! What the program's words ask for.
-use rrd_store::{Task, asked_for};
+use rrd_store::{Task, parse_task};
 use std::alloc::Global;
 use std::test::Fail;
 
@@ -41,7 +41,7 @@ fn what_words_ask_for(rt: HostRuntime) -> Result<(), Fail> {
         for word in line.split(' ').filter(|word| !word.is_empty()) {
             words.push(String::from_str(alloc, word)?)?;
         }
-        let task = asked_for(alloc, &words)?;
+        let task = parse_task(alloc, &words)?;
         assert_eq!(&rt; shown(alloc, &task)?.as_str(), *wanted, "{line}");
     }
     Ok(())

@@ -396,7 +396,7 @@ impl Write for Lines {
 }
 
 // A million rows, of which none is known.
-const MOST_ROWS: Command = Command::Fetch(FetchRequest {
+const LARGEST_FETCH: Command = Command::Fetch(FetchRequest {
     function: Function::Last,
     asked: 1,
     start: 0,
@@ -409,7 +409,7 @@ fn a_million_rows(rt: HostRuntime) -> Result<(), Fail> {
     let alloc = rt.alloc();
     let mut out = Lines::new(alloc);
     let database = made(alloc, &NEW)?;
-    let end = parts_of(execute(alloc, Some(database), MOST_ROWS, &mut out));
+    let end = parts_of(execute(alloc, Some(database), LARGEST_FETCH, &mut out));
     assert!(&rt; end.fault.is_none());
     assert_eq!(&rt; (out.bytes, out.count), (12_888_904, 1_000_001));
     assert_eq!(&rt; out.second.as_slice(), b"10: nan\n".as_slice());
@@ -422,7 +422,7 @@ fn a_million_rows_break_off(rt: HostRuntime) -> Result<(), Fail> {
     let alloc = rt.alloc();
     let mut out = Taker::new(alloc, failing_after(8, Some(ErrorKind::Other)), PLAIN);
     let database = made(alloc, &NEW)?;
-    let end = parts_of(execute(alloc, Some(database), MOST_ROWS, &mut out));
+    let end = parts_of(execute(alloc, Some(database), LARGEST_FETCH, &mut out));
     assert_eq!(&rt; (end.fault, end.changed), (Some(Fault::Output), false));
     assert_eq!(&rt; out.taken.as_slice(), b"time: g\n".as_slice());
     let after = file_of(alloc, &end.database.ok_or("no database")?)?;

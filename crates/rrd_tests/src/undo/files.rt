@@ -3,7 +3,7 @@ use rrd_tail::DATABASE_MARK;
 use std::alloc::{AllocError, Global};
 
 // More calls than a change of a few pages makes, or its settling.
-pub(super) const MOST_CALLS: u64 = 100;
+pub(super) const MAX_CALLS: u64 = 100;
 
 // Says how many bytes a database has before a change and after, and at which places the new bytes differ.
 pub(super) struct Change<'a> {

@@ -1,7 +1,7 @@
 //! Changes of a file in memory that a kill breaks off at each call.
 use super::failing::{Failing, Failure};
 use super::files::{
-    CHANGES, Change, MOST_CALLS, OTHER_COUNTS, database, new_bytes, old_bytes, other_bytes,
+    CHANGES, Change, MAX_CALLS, OTHER_COUNTS, database, new_bytes, old_bytes, other_bytes,
 };
 use rrd_tail::DATABASE_MARK;
 use rrd_undo::laws::{change_killed, settle_killed, settled_bytes};
@@ -65,7 +65,7 @@ fn kills_of(
     syncs: Syncs,
 ) -> Result<Kills, Fail> {
     let mut kills = NO_KILLS;
-    for calls in 0..MOST_CALLS {
+    for calls in 0..MAX_CALLS {
         let left = killed(alloc, old, new, calls, syncs)?;
         let settled = settled_bytes(alloc, left.clone()?)?;
         assert!(rt; settled.as_slice() == new || kills.new == 0, "{calls}");
@@ -119,7 +119,7 @@ fn so_does_a_kill_between_ordered_calls(rt: HostRuntime) -> Result<(), Fail> {
 // The law over a file in memory says what the same kill leaves here. Only files of a page and more are compared.
 fn assert_law(rt: &impl Abort, alloc: Global, change: &Change<'_>) -> Result<(), Fail> {
     let (old, new) = (old_bytes(alloc, change)?, new_bytes(alloc, change)?);
-    for calls in 0..MOST_CALLS {
+    for calls in 0..MAX_CALLS {
         let left = killed(alloc, &old, &new, calls, Syncs::Ordered)?;
         let wanted = settled_bytes(alloc, left)?;
         let settled = change_killed(alloc, old.clone()?, &new, calls, Syncs::Ordered)?;
@@ -173,7 +173,7 @@ fn a_kill_leaves_no_part_of_a_first_database(rt: HostRuntime) -> Result<(), Fail
 // what is left.
 fn assert_settled(rt: &impl Abort, alloc: Global, left: &[u8], settled: &[u8]) -> Result<(), Fail> {
     let mut buffer = Vec::new(alloc);
-    for calls in 0..MOST_CALLS {
+    for calls in 0..MAX_CALLS {
         let again = settle_killed(alloc, Vec::from_slice(alloc, left)?, calls)?;
         assert!(rt; again.as_slice() == settled, "{calls}");
         let mut file = Memory::new(Vec::from_slice(alloc, left)?, calls);
@@ -188,7 +188,7 @@ fn assert_settled(rt: &impl Abort, alloc: Global, left: &[u8], settled: &[u8]) -
 // Settles each file that a kill of a change leaves.
 fn assert_each_settled(rt: &impl Abort, alloc: Global, change: &Change<'_>) -> Result<(), Fail> {
     let (old, new) = (old_bytes(alloc, change)?, new_bytes(alloc, change)?);
-    for calls in 0..MOST_CALLS {
+    for calls in 0..MAX_CALLS {
         let left = killed(alloc, &old, &new, calls, Syncs::Ordered)?;
         let settled = settled_bytes(alloc, left.clone()?)?;
         assert!(rt; settled.as_slice() == old.as_slice() || settled.as_slice() == new.as_slice());

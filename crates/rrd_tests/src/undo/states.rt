@@ -7,18 +7,18 @@ use std::alloc::Global;
 use std::process::Abort;
 use std::test::Fail;
 
-// The place of the tail, and of its slots, in a file that had 5,000 bytes.
+// The offset of the tail, and of its slots, in a file that had 5,000 bytes.
 const TAIL: usize = 8_192;
 
 const SLOTS: [usize; 2] = [8_320, 12_448];
 
-// The record, at a place, of a database of so many bytes.
-fn record(alloc: Global, place: usize, length: usize) -> Result<Record, Fail> {
+// The record, at an offset, of a database of so many bytes.
+fn record(alloc: Global, offset: usize, length: usize) -> Result<Record, Fail> {
     let bytes = database(alloc, length)?;
     let mut first = [0; 16];
     first.copy_from_slice(bytes.first_chunk::<16>().ok_or("short")?);
     Ok(Record {
-        place,
+        offset,
         length,
         first,
     })
@@ -106,15 +106,15 @@ fn to_be_undone(alloc: Global, old: &[u8]) -> Result<Memory, Fail> {
     Ok(file)
 }
 
-// The old bytes up to a place, and then bytes that are 9.
+// The old bytes up to an offset, and then bytes that are 9.
 fn restored(alloc: Global, old: &[u8], count: usize) -> Result<Vec<u8>, Fail> {
     let mut bytes = Vec::from_slice(alloc, old.get(..count).ok_or("short")?)?;
     bytes.resize(5_000, 9)?;
     Ok(bytes)
 }
 
-// The place of a byte of a slot that is changed, and how many bytes are then restored. A slot that isn't right ends the
-// slots.
+// The offset of a byte of a slot that is changed, and how many bytes are then restored. A slot that isn't right ends
+// the slots.
 const CHANGED_SLOTS: &[(usize, usize)] = &[
     (SLOTS[0], 16),
     (SLOTS[0] + 32, 16),

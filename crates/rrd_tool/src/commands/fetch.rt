@@ -176,7 +176,7 @@ fn write_fetch<W: Write>(out: &mut W, database: &Database, chosen: Chosen) -> Re
 pub(crate) fn run<W: Write>(database: Database, request: FetchRequest, out: &mut W) -> Outcome
     ensures { Executes (Some database) (Command.Fetch request) (W.contents out.old) (W.contents out.new) result }
 {
-    match database.choose(request.function, request.asked, request.start, request.end) {
+    match database.choose_for(request) {
         Ok(chosen) => {
             let written = write_fetch(out, &database, chosen);
             Outcome::of_text(database, written)

@@ -105,10 +105,10 @@ fn source_string(number: u64, source: &DsDef, raw: Raw) -> ArrayString<1024>
 }
 
 // The lines of an archive.
-fn archive_string(number: u64, def: RraDef) -> ArrayString<1024>
-    ensures { result.bytes ≡ archive_text number def }
+fn archive_string(archive: u64, def: RraDef) -> ArrayString<1024>
+    ensures { result.bytes ≡ archive_text archive def }
 {
-    let of = numbered_string("rra", number);
+    let of = numbered_string("rra", archive);
     let of = of.as_str();
     let xff = cell_string(Cell::Known(def.xff));
     let mut text = ArrayString::new();
@@ -138,8 +138,8 @@ fn write_archives<W: Write>(out: &mut W, database: &Database) -> Result<(), Writ
     ensures { Writes (W.contents out.old) (W.contents out.new)
         (texts_below (archive_at database.now.content) (length database.now.content.archives)) result }
 {
-    for number in 0..database.archives() {
-        let text = archive_string(number, database.archive(number));
+    for archive in 0..database.archives() {
+        let text = archive_string(archive, database.archive(archive));
         write_bytes(out, text.as_str().as_bytes())?;
     }
     Ok(())

@@ -49,11 +49,11 @@ impl Field for ArchiveTune {
     fn read(text: &str) -> Option<ArchiveTune> {
         let (tag, rest) = cut(text)?;
         if tag == "RRA" {
-            let archive = RraDef::read(rest)?;
-            Some(ArchiveTune::Add(archive))
+            let def = RraDef::read(rest)?;
+            Some(ArchiveTune::Add(def))
         } else if tag == "DELRRA" {
-            let number = u64::read(rest)?;
-            Some(ArchiveTune::Remove(number))
+            let archive = u64::read(rest)?;
+            Some(ArchiveTune::Remove(archive))
         } else {
             None
         }

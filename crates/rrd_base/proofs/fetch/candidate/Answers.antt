@@ -19,5 +19,5 @@ returns-clause-value c =
     let is = c.resolution-resolution.ensures in
     let few : def.rows * size ≤ 10 ^ 18 = omega (arith, mul-le def.rows size 1000000 (10 ^ 12) c.requires.few_rows is.small) in
     let low : c.args.last / size * size ≤ 10 ^ 10 = omega (arith, c.requires.good_last, rounded c.args.last size is.some) in
-    ap (λ z. let one : Candidate = record { number = c.args.number; resolution = size; reach = z } in one) (difference_fits (c.args.last / size * size) (def.rows * size) low few)
-    ∙ ap (λ (n : ℕ). let one : Candidate = record { number = c.args.number; resolution = n; reach = pos (c.args.last / n * n) -ℤ pos (def.rows * n) } in one) is.value
+    ap (λ z. let one : Candidate = record { archive = c.args.archive; resolution = size; reach = z } in one) (difference_fits (c.args.last / size * size) (def.rows * size) low few)
+    ∙ ap (λ (n : ℕ). let one : Candidate = record { archive = c.args.archive; resolution = n; reach = pos (c.args.last / n * n) -ℤ pos (def.rows * n) } in one) is.value

@@ -1,6 +1,5 @@
-use Rattle.std.proofs.Common.{◌≡◌, ◌∙◌, ap, sym, ◌+◌, ◌*◌, ◌||◌, ◌++◌, ◌∷◌, [], length, sum, false, arith}
+use Rattle.std.proofs.Common.{◌≡◌, ◌∙◌, ap, sym, ◌+◌, ◌*◌, ◌||◌, ◌++◌, ◌∷◌, [], length, sum, arith}
 use Rattle.std.specs.Prelude.{nat_lt}
-use Rattle.std.proofs.lemmas.Bool.{le-ltb}
 use Rattle.std.proofs.lemmas.List.{length-map, length_push}
 use Rattle.rrd_spec.specs.Commands.{rows_of_archives}
 use Rattle.rrd_spec.specs.History.{Rra}
@@ -11,12 +10,11 @@ pub overflow_add-all_rows : goal.overflow_add-all_rows
 overflow_add-all_rows c =
     omega (arith, few_sum c.args.archives.now c.requires.few_rows, c.all_rows.ensures, c.requires.few_archives, c.requires.few)
 
-pub returns-else-archives-ge-MOST_ARCHIVES : goal.returns-else-archives-ge-MOST_ARCHIVES
-returns-else-archives-ge-MOST_ARCHIVES c =
+pub returns : goal.returns
+returns c =
     let rows = rows_of_archives c.args.archives.now in
     let all = rows ++ c.args.rows ∷ [] in
     let n = c.args.sources in
-    let count : length all ≡ length c.args.archives.now + 1 = omega (arith, length_push rows c.args.rows, length-map c.args.archives.now (λ (a : Rra). a.def.rows)) in
-    let few : nat_lt 128 (length all) ≡ false = le-ltb 128 (length all) (omega (arith, count)) in
+    let count : length c.args.archives.now + 1 ≡ length all = omega (arith, length_push rows c.args.rows, length-map c.args.archives.now (λ (a : Rra). a.def.rows)) in
     let sum_is : c.all_rows.result + c.args.rows ≡ sum all = omega (arith, sum_push rows c.args.rows, few_sum c.args.archives.now c.requires.few_rows, c.all_rows.ensures, c.requires.few_archives) in
-    c.has_too_many_cells.ensures ∙ ap (λ s. nat_lt 8000000 (n * s)) sum_is ∙ sym (ap (λ b. b || nat_lt 8000000 (n * sum all)) few)
+    c.is_beyond_limits.ensures ∙ ap (λ m. nat_lt 128 m || nat_lt 8000000 (n * (c.all_rows.result + c.args.rows))) count ∙ ap (λ s. nat_lt 128 (length all) || nat_lt 8000000 (n * s)) sum_is

@@ -1,6 +1,6 @@
 use Rattle.std.proofs.Common.{◌≡◌, sym, length, rules, ◌++◌, ◌∷◌, [], ap, subst, to_z-of_z, FitsSigned}
 use Rattle.std.proofs.lemmas.Result.{err_from_is_err_and}
-use Rattle.rrd_base.specs.Rebuild.Judges.{Judge}
+use Rattle.rrd_base.specs.Rebuild.Validators.{EntryValidator}
 use Rattle.rrd_file.specs.Layout.Pieces.{spell, OfPrep}
 use Rattle.std.specs.Int.{w128}
 use Rattle.rrd_fold.specs.Bounds.{Consolidating}
@@ -30,7 +30,7 @@ returns-in-Some-clause-brings g c = λ bytes pieces later st.
     let both = simp (to_z-of_z {w = w128} fits) at c.in-Some.ensures.some in
     subst (λ (x : Part). Comes bytes c.args.build.now (pieces ++ OfPrep x ∷ []) later c.piece.new.self) (sym (ap (λ (x : Consolidating). x.part) both.1))
     (kept bytes c.args.build.now pieces (RowPrepDue c.args.last c.args.def.now) later c.args.input.now c.piece.new.self (OfPrep part) c.piece.new.piece st c.in_ok-piece.ensures.read is (sym len) (ReadRowPrep c.args.last c.args.def.now part (record { known = c.part_of-known.ensures.small; value = fits }))
-    (subst (λ (j : Judge). IsRowPart j.step c.args.last c.args.def.now part) c.judge.ensures (subst (λ (x : Part). IsRowPart c.judge.result.now.step c.args.last c.args.def.now x) (ap (λ (x : Consolidating). x.part) both.1) both.0)))
+    (subst (λ (j : EntryValidator). IsRowPart j.step c.args.last c.args.def.now part) c.validator.ensures (subst (λ (x : Part). IsRowPart c.validator.result.now.step c.args.last c.args.def.now x) (ap (λ (x : Consolidating). x.part) both.1) both.0)))
 
 pub returns-in-None-clause-brings : goal.returns-in-None-clause-brings
 unfolding spell
@@ -41,4 +41,4 @@ returns-in-None-clause-brings g c = λ bytes pieces later st.
     let is = whole c.piece.new.piece (part_bytes part) c.part_of-known.result.2.now 20 c.part_of-known.ensures.spelled c.part_of-known.ensures.room len in
     rw c.bad_entry.ensures
     (broken bytes c.args.build.now pieces (RowPrepDue c.args.last c.args.def.now) later c.args.input.now c.piece.new.self (OfPrep part) c.piece.new.piece st c.in_ok-piece.ensures.read is (sym len) (ReadRowPrep c.args.last c.args.def.now part (record { known = c.part_of-known.ensures.small; value = fits }))
-    (λ k. c.row_part.ensures.none (search rules) (rw (to_z-of_z {w = w128} fits) (subst (λ (j : Judge). IsRowPart j.step c.args.last c.args.def.now part) (sym c.judge.ensures) k))))
+    (λ k. c.row_part.ensures.none (search rules) (rw (to_z-of_z {w = w128} fits) (subst (λ (j : EntryValidator). IsRowPart j.step c.args.last c.args.def.now part) (sym c.validator.ensures) k))))

@@ -1,7 +1,7 @@
 use Rattle.rrd_file.specs.Layout.Pieces.{spell}
-use Rattle.rrd_file.proofs.Spelled.{archive_one, cell_one, part_one, raw_and_part_one, source_before_one, source_one}
+use Rattle.rrd_file.proofs.Spelled.{archive_one, cell_one, part_one, raw_and_part_one, saved_source_one, source_one}
 use Rattle.rrd_file.proofs.laws.one_value.Goals as goal
 
 pub returns : goal.returns
 unfolding spell
-returns c = record { source = source_one; archive = archive_one; prep = part_one; cell = cell_one; raw_and_part = raw_and_part_one; source_before = source_before_one }
+returns c = record { source = source_one; archive = archive_one; prep = part_one; cell = cell_one; raw_and_part = raw_and_part_one; saved_source = saved_source_one }

@@ -9,17 +9,17 @@ pub overflow_add-rows : goal.overflow_add-rows
 overflow_add-rows c =
     let d = c.args.database.now.content in
     let def = c.archive-rows.result in
-    let small = small_def d c.loop-number.number def c.database_is_valid.ensures.content_is (def_of d c.loop-number.number def c.archive-rows.ensures) in
-    omega (arith, small.few_rows, c.loop-number.invariant.few, c.loop-number-test.true, c.archives-number-end.ensures.count, c.database_is_valid.ensures.content_is.few_archives)
+    let small = small_def d c.loop-archive.archive def c.database_is_valid.ensures.content_is (def_of d c.loop-archive.archive def c.archive-rows.ensures) in
+    omega (arith, small.few_rows, c.loop-archive.invariant.few, c.loop-archive-test.true, c.archives-archive-end.ensures.count, c.database_is_valid.ensures.content_is.few_archives)
 
-pub loop-number-preserved : goal.loop-number-preserved
-loop-number-preserved c =
+pub loop-archive-preserved : goal.loop-archive-preserved
+loop-archive-preserved c =
     let d = c.args.database.now.content in
     let def = c.archive-rows.result in
-    let is = def_of d c.loop-number.number def c.archive-rows.ensures in
-    let small = small_def d c.loop-number.number def c.database_is_valid.ensures.content_is is in
+    let is = def_of d c.loop-archive.archive def c.archive-rows.ensures in
+    let small = small_def d c.loop-archive.archive def c.database_is_valid.ensures.content_is is in
     let rows = ap (λ (x : RraDef). x.rows) is.def_is in
     record {
-      counted = omega (arith, sum_next rows_of d.archives c.loop-number.number is.archive is.there, rows, c.loop-number.invariant.counted);
-      few = omega (arith, small.few_rows, c.loop-number.invariant.few);
+      counted = omega (arith, sum_next rows_of d.archives c.loop-archive.archive is.archive is.there, rows, c.loop-archive.invariant.counted);
+      few = omega (arith, small.few_rows, c.loop-archive.invariant.few);
     }

@@ -2,7 +2,7 @@ use Rattle.std.proofs.Common.{◌≡◌, ◌⊎◌, inl, inr, ⊎_elim, ◌+◌,
 use Rattle.std.proofs.lemmas.Bool.{cases_lt}
 use Rattle.std.proofs.lemmas.List.{append_assoc, length-take-le}
 use Rattle.rrd_fixed.specs.declared.cell.Cell.{Cell}
-use Rattle.rrd_ring.specs.Ring.{from_place, with_unwritten}
+use Rattle.rrd_ring.specs.Ring.{from_index, with_unwritten}
 use Rattle.rrd_ring.proofs.RingLemmas.{copied_from}
 use Rattle.rrd_ring.proofs.WrittenLemmas.{length-with_unwritten}
 use Rattle.rrd_ring.proofs.ring.push_from.Goals as goal
@@ -39,4 +39,4 @@ returns c =
     ∙ ap (λ (zs : List Cell). zs ++ take rest cells) one
     ∙ append_assoc old (take first (drop start cells)) (take rest cells)
     ∙ ap (λ (zs : List Cell). old ++ zs) (copied_from cells start first rest (omega (arith, long, within)) (omega (arith, long, least)) (omega (arith, long, least, c.requires.few)) which)
-    ∙ ap (λ (n : ℕ). old ++ take n (from_place start cells)) sum
+    ∙ ap (λ (n : ℕ). old ++ take n (from_index start cells)) sum

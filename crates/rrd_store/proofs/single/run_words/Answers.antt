@@ -1,6 +1,6 @@
 use Rattle.std.proofs.Common.{Ok, Err, refl}
 use Rattle.std.proofs.lemmas.Result.{err_from_is_err_and}
-use Rattle.rrd_store.specs.Places.{Stays}
+use Rattle.rrd_store.specs.Storages.{Stays}
 use Rattle.rrd_tool.specs.Commands.{effect}
 use Rattle.rrd_tool.specs.Effects.{text_on}
 use Rattle.rrd_store.specs.Single.{Ends}
@@ -10,17 +10,17 @@ use Rattle.rrd_store.proofs.single.run_words.Goals as goal
 pub returns-in_err-command : goal.returns-in_err-command
 returns-in_err-command g c =
     let p = err_from_is_err_and c.from_residual.result c.from_residual.ensures.1 in
-    let place = stays_same (g.P.Place.contents c.args.place.now) in
+    let storage = stays_same (g.P.Storage.contents c.args.storage.now) in
     let out = keeps_same (g.W.Write.contents c.args.out.now) in
-    rw (p.1, p.2) (Err c.in_err-command.field-0.0, c.in_err-command.ensures, (refl, place, out))
+    rw (p.1, p.2) (Err c.in_err-command.field-0.0, c.in_err-command.ensures, (refl, storage, out))
 
 pub returns-in_err-database : goal.returns-in_err-database
 returns-in_err-database g c =
     let p = err_from_is_err_and c.from_residual-in_err-database.result c.from_residual-in_err-database.ensures.1 in
-    let old = g.P.Place.contents c.args.place.now in
-    let place : Stays old (g.P.Place.contents c.start.new.place) = rw c.start.ensures.stays (stays_same old) in
+    let old = g.P.Storage.contents c.args.storage.now in
+    let storage : Stays old (g.P.Storage.contents c.start.new.storage) = rw c.start.ensures.stays (stays_same old) in
     let out = keeps_same (g.W.Write.contents c.args.out.now) in
-    rw (p.1, p.2) (Ok c.in_ok-command.command, c.in_ok-command.ensures, (Err c.in_err-database.field-0.0, c.in_err-database.ensures.start, (refl, place, out)))
+    rw (p.1, p.2) (Ok c.in_ok-command.command, c.in_ok-command.ensures, (Err c.in_err-database.field-0.0, c.in_err-database.ensures.start, (refl, storage, out)))
 
 pub returns : goal.returns
 returns g c =
@@ -28,8 +28,8 @@ returns g c =
     let mid = g.W.Write.contents c.execute-outcome.new.out in
     let new = g.W.Write.contents c.finish.new.out in
     let done = executes_kept c.in_ok-database.database c.in_ok-command.command old mid new c.execute-outcome.result c.execute-outcome.ensures.kept c.finish.ensures.out in
-    let before = g.P.Place.contents c.args.place.now in
-    let after = g.P.Place.contents c.finish.new.place in
+    let before = g.P.Storage.contents c.args.storage.now in
+    let after = g.P.Storage.contents c.finish.new.storage in
     let text = text_on c.in_ok-database.database (effect c.in_ok-command.command) in
-    let ends : Ends c.execute-outcome.result text before after c.finish.result = rw c.start.ensures.stays at (c.finish.ensures.place text c.execute-outcome.ensures.says) in
+    let ends : Ends c.execute-outcome.result text before after c.finish.result = rw c.start.ensures.stays at (c.finish.ensures.storage text c.execute-outcome.ensures.says) in
     (Ok c.in_ok-command.command, c.in_ok-command.ensures, (Ok c.in_ok-database.database, c.in_ok-database.ensures.start, (c.execute-outcome.result, done, ends)))

@@ -1,5 +1,5 @@
 use Rattle.rrd_tail.specs.Slots.{slots_in}
-use Rattle.rrd_tail.proofs.Places.{in_order, only_slots}
+use Rattle.rrd_tail.proofs.Offsets.{in_order, only_slots}
 use Rattle.rrd_tail.proofs.laws.slots_are_in_order.Goals as goal
 
 pub returns-clause-order : goal.returns-clause-order

@@ -1,4 +1,4 @@
-use Rattle.rrd_tail.proofs.Places.{slot_reads, slot_stands}
+use Rattle.rrd_tail.proofs.Offsets.{slot_reads, slot_stands}
 use Rattle.rrd_tail.proofs.laws.slots_are_read.Goals as goal
 
 pub returns-clause-read : goal.returns-clause-read

@@ -1,4 +1,4 @@
-use Rattle.rrd_tail.proofs.Places.{appended, cut_short, slots_stay, none_below, zeros_end}
+use Rattle.rrd_tail.proofs.Offsets.{appended, cut_short, slots_stay, none_below, zeros_end}
 use Rattle.rrd_tail.proofs.laws.slots_follow.Goals as goal
 
 pub returns-clause-appended : goal.returns-clause-appended

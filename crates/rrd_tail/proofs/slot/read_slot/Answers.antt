@@ -10,7 +10,7 @@ use Rattle.rrd_tail.proofs.slot.read_slot.Goals.{else-is_right-via-then-is_right
 
 -- the slot of the values that were read
 abbrev read_values : ℕ → ℕ → List ℕ → Slot
-read_values place count bytes = record { place = place; bytes = slice_range bytes 32 (32 + count) }
+read_values offset count bytes = record { offset = offset; bytes = slice_range bytes 32 (32 + count) }
 
 pub returns-then-bytes-lt32 : goal.returns-then-bytes-lt32
 returns-then-bytes-lt32 c = read_short c.args.tail c.args.bytes.now c.if-bytes-lt32.true
@@ -22,9 +22,9 @@ returns-then-bytes-count c =
     let P : ℕ → Type 0 = λ n. length c.args.bytes.now - 32 < n in
     read_cut c.args.tail c.args.bytes.now (subst P count cut)
 
-same_values : (place count : ℕ) (bytes : List ℕ) → place ≡ from_be_bytes w64 (slice_range bytes 0 8) → count ≡ from_be_bytes w64 (slice_range bytes 8 16) →
-    read_values place count bytes ≡ spelled_slot bytes
-same_values place count bytes p n =
+same_values : (offset count : ℕ) (bytes : List ℕ) → offset ≡ from_be_bytes w64 (slice_range bytes 0 8) → count ≡ from_be_bytes w64 (slice_range bytes 8 16) →
+    read_values offset count bytes ≡ spelled_slot bytes
+same_values offset count bytes p n =
     ap (λ a. read_values a count bytes) p ∙ ap (λ b. read_values (from_be_bytes w64 (slice_range bytes 0 8)) b bytes) n
 
 pub returns-then-eq : goal.returns-then-eq
@@ -32,8 +32,8 @@ returns-then-eq c =
     let tail = c.args.tail in
     let bytes = c.args.bytes.now in
     let s = spelled_slot bytes in
-    let same : read_values c.number_at-place.result c.number_at-count.result bytes ≡ spelled_slot bytes =
-    same_values c.number_at-place.result c.number_at-count.result bytes c.number_at-place.ensures c.number_at-count.ensures in
+    let same : read_values c.number_at-offset.result c.number_at-count.result bytes ≡ spelled_slot bytes =
+    same_values c.number_at-offset.result c.number_at-count.result bytes c.number_at-offset.ensures c.number_at-count.ensures in
     let header : take 32 bytes ≡ slot_header tail s =
     (bytes_eq-Decides (take 32 bytes) c.slot_header.result).0 (sym c.eq.ensures ∙ c.if-eq.true) ∙ c.slot_header.ensures ∙ ap (λ v. slot_header tail v) same in
     let right = right_from tail s (ap (λ v. is_right_slot tail v) (sym same) ∙ sym c.is_right.ensures ∙ c.if-is_right.true) in
@@ -45,8 +45,8 @@ returns-else-is_right c =
     let tail = c.args.tail in
     let bytes = c.args.bytes.now in
     let s = spelled_slot bytes in
-    let same : read_values c.number_at-place.result c.number_at-count.result bytes ≡ spelled_slot bytes =
-    same_values c.number_at-place.result c.number_at-count.result bytes c.number_at-place.ensures c.number_at-count.ensures in
+    let same : read_values c.number_at-offset.result c.number_at-count.result bytes ≡ spelled_slot bytes =
+    same_values c.number_at-offset.result c.number_at-count.result bytes c.number_at-offset.ensures c.number_at-count.ensures in
     elim c.else-is_right.branch [
       | else-is_right-via-then-is_right+else-eq w ↦ read_unless tail bytes
           (λ begins right.

@@ -9,7 +9,7 @@ pub loop-number-preserved : goal.loop-number-preserved
 loop-number-preserved g c = λ f old len is.
     let inv = c.loop-number.invariant f old len is in
     let found = (rw c.in-Some.is at (c.in_ok-slot.ensures.ok f inv.1)) in
-    slot_back_read old c.args.tail c.loop-number.number c.in-Some.slot.place _ _ _ _ inv.0 found.0
+    slot_back_read old c.args.tail c.loop-number.number c.in-Some.slot.offset _ _ _ _ inv.0 found.0
     (ap (λ (b : List ℕ). slice_range b 32 (32 + c.in-Some.slot.count)) c.deref.ensures.value) c.read_slot_at.ensures.same c.args.file_length _ inv.1 (c.in_ok-put.ensures.ok f)
 
 pub returns-in_err-slot-clause-stands : goal.returns-in_err-slot-clause-stands
@@ -25,7 +25,7 @@ pub returns-in_err-put-clause-stands : goal.returns-in_err-put-clause-stands
 returns-in_err-put-clause-stands g c f old len is =
     let inv = c.loop-number.invariant f old len is in
     let found = (rw c.in-Some.is at (c.in_ok-slot.ensures.ok f inv.1)) in
-    slot_failed_read old c.args.tail c.loop-number.number c.in-Some.slot.place _ _ _ _ inv.0 found.0
+    slot_failed_read old c.args.tail c.loop-number.number c.in-Some.slot.offset _ _ _ _ inv.0 found.0
     (ap (λ (b : List ℕ). slice_range b 32 (32 + c.in-Some.slot.count)) c.deref.ensures.value) c.read_slot_at.ensures.same _ (c.in_err-put.ensures.err f)
 
 pub overflow_add-end : goal.overflow_add-end

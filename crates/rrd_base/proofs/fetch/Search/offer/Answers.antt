@@ -18,8 +18,8 @@ returns-then-is_taken c = λ step last request defs count is.
     let s = c.self.inside in
     let old : Searched = record { step = s.step; last = s.last; request = s.request; best = s.best } in
     let next = c.candidate-next.result in
-    let this = candidate s.step s.last (c.args.number, c.args.def.now) in
-    let all = one_compared old c.args.number step last request defs c.args.def.now count (c.self.view_is ∙ is) (sym c.is_same_function.ensures ∙ c.if-not-is_same_function.false) in
+    let this = candidate s.step s.last (c.args.archive, c.args.def.now) in
+    let all = one_compared old c.args.archive step last request defs c.args.def.now count (c.self.view_is ∙ is) (sym c.is_same_function.ensures ∙ c.if-not-is_same_function.false) in
     let found : Some next ≡ instead s.request.asked s.request.start s.best this = elim c.match-self.branch [
       | in-Some w ↦ next_taken s.request.asked s.request.start s.best next this w.in-Some.best w.in-Some.is c.candidate-next.ensures.value (sym w.is_preferred-is_taken.ensures ∙ sym w.is_taken-is ∙ c.if-is_taken.true)
       | in-None w ↦ first_taken s.request.asked s.request.start s.best next this w.in-None.is c.candidate-next.ensures.value
@@ -31,8 +31,8 @@ returns-else-is_taken c = λ step last request defs count is.
     let s = c.self.inside in
     let old : Searched = record { step = s.step; last = s.last; request = s.request; best = s.best } in
     let next = c.candidate-next.result in
-    let this = candidate s.step s.last (c.args.number, c.args.def.now) in
-    let all = one_compared old c.args.number step last request defs c.args.def.now count (c.self.view_is ∙ is) (sym c.is_same_function.ensures ∙ c.if-not-is_same_function.false) in
+    let this = candidate s.step s.last (c.args.archive, c.args.def.now) in
+    let all = one_compared old c.args.archive step last request defs c.args.def.now count (c.self.view_is ∙ is) (sym c.is_same_function.ensures ∙ c.if-not-is_same_function.false) in
     let stays : s.best ≡ instead s.request.asked s.request.start s.best this = elim c.match-self.branch [
       | in-Some w ↦ old_stays s.request.asked s.request.start s.best next this w.in-Some.best w.in-Some.is c.candidate-next.ensures.value (sym w.is_preferred-is_taken.ensures ∙ sym w.is_taken-is ∙ c.if-is_taken.false)
       | in-None w ↦ absurd (both_ways c.match-self.is_taken c.if-is_taken.false w.is_taken-is)

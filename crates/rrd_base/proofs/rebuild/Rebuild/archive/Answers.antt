@@ -10,7 +10,7 @@ use Rattle.rrd_base.proofs.rebuild.Rebuild.archive.Goals as goal
 pub unprepared-requires : goal.unprepared-requires
 unprepared-requires c =
     let may : MayHead (filed_in (coming c.self.inside)) c.args.def = subst (λ f. MayHead f c.args.def) (sym c.self.view_is) (c.may_head.ensures.good c.if-not-may_head.false) in
-    record { few_rows = may.def_is.few_rows; some_sources = c.self.invariant.came.header_is.some_source; few_sources = c.self.invariant.came.header_is.few_sources; there = c.first_place-first.ensures.there }
+    record { few_rows = may.def_is.few_rows; some_sources = c.self.invariant.came.header_is.some_source; few_sources = c.self.invariant.came.header_is.few_sources; there = c.first_slot_row-first.ensures.there }
 
 pub push-requires : goal.push-requires
 push-requires c =
@@ -39,11 +39,11 @@ invariant_of-self c =
     let d = coming c.self.inside in
     let a : Rra = record { def = c.args.def; parts = []; rows = replicate c.args.def.rows (replicate d.sources_due Cell.Unknown) } in
     let may : MayHead (filed_in d) a.def = subst (λ f. MayHead f a.def) (sym c.self.view_is) (c.may_head.ensures.good c.if-not-may_head.false) in
-    let path : archive_came d a ≡ record d { archives = c.push.new.self; judge = c.push_archive.new.self } =
-    λ i. record d { archives = sym (c.push.ensures ∙ ap (λ s. d.archives ++ s ∷ []) c.in_ok-rra.ensures) i; judge = sym c.push_archive.ensures i } in
+    let path : archive_came d a ≡ record d { archives = c.push.new.self; validator = c.push_archive.new.self } =
+    λ i. record d { archives = sym (c.push.ensures ∙ ap (λ s. d.archives ++ s ∷ []) c.in_ok-rra.ensures) i; validator = sym c.push_archive.ensures i } in
     record {
       came = subst IsRebuilding path (head_keeps d a c.self.invariant.came refl refl may);
-      cursor_is = cursor_stays d (record d { archives = c.push.new.self; judge = c.push_archive.new.self }) c.self.inside.cursor refl (none_later d c.self.invariant.came (at_head d c.self.invariant.came may.is_due).few).filled c.self.invariant.cursor_is;
+      cursor_is = cursor_stays d (record d { archives = c.push.new.self; validator = c.push_archive.new.self }) c.self.inside.cursor refl (none_later d c.self.invariant.came (at_head d c.self.invariant.came may.is_due).few).filled c.self.invariant.cursor_is;
     }
 
 pub returns-clause-ok : goal.returns-clause-ok
@@ -51,6 +51,6 @@ returns-clause-ok c =
     let d = coming c.self.inside in
     let a : Rra = record { def = c.args.def; parts = []; rows = replicate c.args.def.rows (replicate d.sources_due Cell.Unknown) } in
     let may : MayHead (filed_in d) a.def = subst (λ f. MayHead f a.def) (sym c.self.view_is) (c.may_head.ensures.good c.if-not-may_head.false) in
-    let path : archive_came d a ≡ record d { archives = c.push.new.self; judge = c.push_archive.new.self } =
-    λ i. record d { archives = sym (c.push.ensures ∙ ap (λ s. d.archives ++ s ∷ []) c.in_ok-rra.ensures) i; judge = sym c.push_archive.ensures i } in
+    let path : archive_came d a ≡ record d { archives = c.push.new.self; validator = c.push_archive.new.self } =
+    λ i. record d { archives = sym (c.push.ensures ∙ ap (λ s. d.archives ++ s ∷ []) c.in_ok-rra.ensures) i; validator = sym c.push_archive.ensures i } in
     (c.may_head.ensures.good c.if-not-may_head.false, ap filed_in (sym path) ∙ (head_is d a c.self.invariant.came refl may.is_due ∙ ap (λ f. with_head f a.def) c.self.view_is))

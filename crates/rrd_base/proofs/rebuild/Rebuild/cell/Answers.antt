@@ -107,7 +107,7 @@ advance-requires-clause-few_rows c =
     let is_due : due (filed_in d) ≡ CellDue = ap due c.self.view_is ∙ may.is_due in
     let a = c.get_mut-rra.result.now in
     let here = cell_here c.cells_stand_in_slots.ensures.as_many d a cursor c.self.invariant.came c.self.invariant.cursor_is is_due c.get_mut-rra.ensures.value refl in
-    subst (λ (def : RraDef). def.rows ≤ present.most_rows) (sym c.def-def.ensures) here.so_far.def_is.few_rows
+    subst (λ (def : RraDef). def.rows ≤ present.max_rows) (sym c.def-def.ensures) here.so_far.def_is.few_rows
 
 pub invariant_of-self : goal.invariant_of-self
 invariant_of-self c =

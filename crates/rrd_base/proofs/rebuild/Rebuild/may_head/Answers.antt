@@ -9,9 +9,9 @@ pub returns-clause-good : goal.returns-clause-good
 returns-clause-good c = λ holds.
     let d = coming c.self.inside in
     let is_due : due (filed_in d) ≡ HeadDue = ap due c.self.view_is ∙ (sym c.due.ensures ∙ c.in-HeadDue.is) in
-    subst (λ f. MayHead f c.args.def.now) c.self.view_is (fits_at_head d c.args.def.now c.self.invariant.came is_due (c.may_have.ensures.good holds))
+    subst (λ f. MayHead f c.args.def.now) c.self.view_is (fits_at_head d c.args.def.now c.self.invariant.came is_due (c.accepts_archive.ensures.good holds))
 
 pub returns-clause-bad : goal.returns-clause-bad
 returns-clause-bad c = λ may.
     let d = coming c.self.inside in
-    c.may_have.ensures.bad (head_fits d c.args.def.now c.self.invariant.came (subst (λ f. MayHead f c.args.def.now) (sym c.self.view_is) may))
+    c.accepts_archive.ensures.bad (head_fits d c.args.def.now c.self.invariant.came (subst (λ f. MayHead f c.args.def.now) (sym c.self.view_is) may))

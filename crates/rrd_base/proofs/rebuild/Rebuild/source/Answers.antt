@@ -19,8 +19,8 @@ pub invariant_of-self : goal.invariant_of-self
 invariant_of-self c =
     let d = coming c.self.inside in
     let e = c.in_err-push_source.ensures.err in
-    let path : d ≡ record d { sources = c.push_source.new.sources.items; raws = c.push_source.new.raws.items; preps = c.push_source.new.preps.items; judge = c.push_source.new.judge } =
-    λ i. record d { sources = sym e.0 i; raws = sym e.1 i; preps = sym e.2 i; judge = sym e.3 i } in
+    let path : d ≡ record d { sources = c.push_source.new.sources.items; raws = c.push_source.new.raws.items; preps = c.push_source.new.preps.items; validator = c.push_source.new.validator } =
+    λ i. record d { sources = sym e.0 i; raws = sym e.1 i; preps = sym e.2 i; validator = sym e.3 i } in
     record {
       came = subst IsRebuilding path c.self.invariant.came;
       cursor_is = record { source_there = c.self.invariant.cursor_is.source_there; knows_place = c.self.invariant.cursor_is.knows_place };
@@ -34,8 +34,8 @@ invariant_of-self-2 c =
     let part = c.from_part-prep.ensures ∙ ap (λ z. let p : Part = record { known = c.args.known; value = z } in p) same in
     let source : Source = record { def = c.args.def; raw = c.args.raw; part = record { known = c.args.known; value = c.args.sum } } in
     let may : MaySource (filed_in d) source = subst (λ f. MaySource f source) (sym c.self.view_is) (subst (λ z. MaySource c.args.self.now (record { def = c.args.def; raw = c.args.raw; part = record { known = c.args.known; value = z } })) same (c.may_source.ensures.good c.if-not-may_source.false)) in
-    let path : source_came d source.def source.raw source.part ≡ record d { sources = c.push_source.new.sources.items; raws = c.push_source.new.raws.items; preps = c.push_source.new.preps.items; judge = c.push_source.new.judge } =
-    λ i. record d { sources = sym e.0 i; raws = sym e.1 i; preps = sym (e.2 ∙ ap (λ p. d.preps ++ p ∷ []) part) i; judge = sym e.3 i } in
+    let path : source_came d source.def source.raw source.part ≡ record d { sources = c.push_source.new.sources.items; raws = c.push_source.new.raws.items; preps = c.push_source.new.preps.items; validator = c.push_source.new.validator } =
+    λ i. record d { sources = sym e.0 i; raws = sym e.1 i; preps = sym (e.2 ∙ ap (λ p. d.preps ++ p ∷ []) part) i; validator = sym e.3 i } in
     record {
       came = subst IsRebuilding path (source_keeps d source.def source.raw source.part c.self.invariant.came may);
       cursor_is = record { source_there = c.self.invariant.cursor_is.source_there; knows_place = c.self.invariant.cursor_is.knows_place };
@@ -48,6 +48,6 @@ returns-clause-ok c =
     let same : to_z w128 (of_z w128 c.args.sum) ≡ c.args.sum = to_z-of_z {w = w128} c.ranges.sum in
     let part = c.from_part-prep.ensures ∙ ap (λ z. let p : Part = record { known = c.args.known; value = z } in p) same in
     let source : Source = record { def = c.args.def; raw = c.args.raw; part = record { known = c.args.known; value = c.args.sum } } in
-    let path : source_came d source.def source.raw source.part ≡ record d { sources = c.push_source.new.sources.items; raws = c.push_source.new.raws.items; preps = c.push_source.new.preps.items; judge = c.push_source.new.judge } =
-    λ i. record d { sources = sym e.0 i; raws = sym e.1 i; preps = sym (e.2 ∙ ap (λ p. d.preps ++ p ∷ []) part) i; judge = sym e.3 i } in
+    let path : source_came d source.def source.raw source.part ≡ record d { sources = c.push_source.new.sources.items; raws = c.push_source.new.raws.items; preps = c.push_source.new.preps.items; validator = c.push_source.new.validator } =
+    λ i. record d { sources = sym e.0 i; raws = sym e.1 i; preps = sym (e.2 ∙ ap (λ p. d.preps ++ p ∷ []) part) i; validator = sym e.3 i } in
     (subst (λ z. MaySource c.args.self.now (record { def = c.args.def; raw = c.args.raw; part = record { known = c.args.known; value = z } })) same (c.may_source.ensures.good c.if-not-may_source.false), ap filed_in (sym path) ∙ (source_is d source.def source.raw source.part c.self.invariant.came ∙ ap (λ f. with_source f source) c.self.view_is))

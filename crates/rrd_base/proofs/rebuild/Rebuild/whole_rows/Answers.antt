@@ -69,8 +69,8 @@ get_mut-rra-requires c =
     let is_due : due (filed_in d) ≡ CellDue = ap due c.self.view_is ∙ sym c.due.ensures ∙ c.in-CellDue.is in
     omega (arith, (at_cell c.cells_stand_in_slots.ensures.as_many d is is_due).there)
 
-pub put_rows-requires-clause-there : goal.put_rows-requires-clause-there
-put_rows-requires-clause-there c =
+pub write_rows-requires-clause-there : goal.write_rows-requires-clause-there
+write_rows-requires-clause-there c =
     let d = coming c.self.inside in
     let cursor = c.self.inside.cursor in
     let is = c.self.invariant.came in
@@ -84,8 +84,8 @@ put_rows-requires-clause-there c =
     let same : first ≡ a = one_item d.archives d.archive first a here.at.there c.get.ensures c.get_mut-rra.ensures.value in
     subst (λ (x : Rra). place < length x.rows) same (omega (arith, inside, here.so_far.rows_are))
 
-pub put_rows-requires-clause-few : goal.put_rows-requires-clause-few
-put_rows-requires-clause-few c =
+pub write_rows-requires-clause-few : goal.write_rows-requires-clause-few
+write_rows-requires-clause-few c =
     let d = coming c.self.inside in
     let cursor = c.self.inside.cursor in
     let is = c.self.invariant.came in
@@ -102,8 +102,8 @@ put_rows-requires-clause-few c =
     let same : first ≡ a = one_item d.archives d.archive first a here.at.there c.get.ensures c.get_mut-rra.ensures.value in
     subst (λ (x : Rra). count ≤ length x.rows) same (omega (arith, fits, here.so_far.rows_are))
 
-pub put_rows-requires-clause-one_each : goal.put_rows-requires-clause-one_each
-put_rows-requires-clause-one_each c =
+pub write_rows-requires-clause-one_each : goal.write_rows-requires-clause-one_each
+write_rows-requires-clause-one_each c =
     let d = coming c.self.inside in
     let cursor = c.self.inside.cursor in
     let is = c.self.invariant.came in
@@ -170,7 +170,7 @@ pass-requires-clause-few_rows c =
     let is_due : due (filed_in d) ≡ CellDue = ap due c.self.view_is ∙ sym c.due.ensures ∙ c.in-CellDue.is in
     let first = c.get.result.now in
     let here = cell_here c.cells_stand_in_slots.ensures.as_many d first cursor is c.self.invariant.cursor_is is_due c.get.ensures refl in
-    subst (λ (def : RraDef). def.rows ≤ present.most_rows) (sym c.def-def.ensures) here.so_far.def_is.few_rows
+    subst (λ (def : RraDef). def.rows ≤ present.max_rows) (sym c.def-def.ensures) here.so_far.def_is.few_rows
 
 pub invariant_of-self : goal.invariant_of-self
 invariant_of-self c =
@@ -200,8 +200,8 @@ invariant_of-self c =
     let a = c.get_mut-rra.result.now in
     let same : first ≡ a = one_item d.archives d.archive first a here.at.there c.get.ensures c.get_mut-rra.ensures.value in
     let wide : width first.rows ≡ d.sources_due = width_is d.sources_due first.rows here.so_far.each_row (omega (arith, here.so_far.rows_are, inside)) in
-    let new : c.put_rows.new.self ≡ b =
-    c.put_rows.ensures ∙ ap (λ (cs : List Cell). let y : Rra = record a { rows = with_rows count (width a.rows) a.rows place cs } in y) c.front.ensures ∙ ap (λ (x : Rra). let y : Rra = record x { rows = with_rows count (width x.rows) x.rows place whole } in y) (sym same)
+    let new : c.write_rows.new.self ≡ b =
+    c.write_rows.ensures ∙ ap (λ (cs : List Cell). let y : Rra = record a { rows = with_rows count (width a.rows) a.rows place cs } in y) c.front.ensures ∙ ap (λ (x : Rra). let y : Rra = record x { rows = with_rows count (width x.rows) x.rows place whole } in y) (sym same)
     ∙ ap (λ n. let y : Rra = record first { rows = with_rows count n first.rows place whole } in y) wide in
     record {
       came = subst (λ (x : Rra). IsRebuilding (cell_came d x c.pass.new.self.archive (filled_by d.sources_due c.pass.new.self))) (sym new) after.came;
@@ -254,8 +254,8 @@ returns-clause-came c =
     let a = c.get_mut-rra.result.now in
     let same : first ≡ a = one_item d.archives d.archive first a here.at.there c.get.ensures c.get_mut-rra.ensures.value in
     let wide : width first.rows ≡ d.sources_due = width_is d.sources_due first.rows here.so_far.each_row (omega (arith, here.so_far.rows_are, inside)) in
-    let new : c.put_rows.new.self ≡ b =
-    c.put_rows.ensures ∙ ap (λ (cs : List Cell). let y : Rra = record a { rows = with_rows count (width a.rows) a.rows place cs } in y) c.front.ensures ∙ ap (λ (x : Rra). let y : Rra = record x { rows = with_rows count (width x.rows) x.rows place whole } in y) (sym same)
+    let new : c.write_rows.new.self ≡ b =
+    c.write_rows.ensures ∙ ap (λ (cs : List Cell). let y : Rra = record a { rows = with_rows count (width a.rows) a.rows place cs } in y) c.front.ensures ∙ ap (λ (x : Rra). let y : Rra = record x { rows = with_rows count (width x.rows) x.rows place whole } in y) (sym same)
     ∙ ap (λ n. let y : Rra = record first { rows = with_rows count n first.rows place whole } in y) wide in
     ap (λ (x : Rra). filed_in (cell_came d x c.pass.new.self.archive (filled_by d.sources_due c.pass.new.self))) new
     ∙ (after.filed_is ∙ ap (λ (f : Filed). with_more f whole) c.self.view_is ∙ sym (with_cells_is c.args.self.now whole))

@@ -1,12 +1,12 @@
 use Rattle.std.proofs.Common.{drop, length, take}
 use Rattle.std.specs.List.{AllByRecursion}
 use Rattle.rrd_spec.specs.Limits.{limits_of}
-use Rattle.rrd_spec.specs.Journal.Fitting.{IsSourceBefore}
+use Rattle.rrd_spec.specs.Journal.Fitting.{IsSavedSource}
 use Rattle.rrd_base.proofs.FittingLemmas.{RiseLeft}
 use Rattle.rrd_base.proofs.rebuild.entry_checks.are_named.Given as goal
 
 abbrev pub invariant-loop-old : goal.invariant-loop-old
 invariant-loop-old l = record {
-  rise : RiseLeft 0 (length l.judge.outline.sources) l.lowest l.olds (drop l.old-index l.olds);
-  each : AllByRecursion (IsSourceBefore (limits_of l.judge.version)) (take l.old-index l.olds);
+  rise : RiseLeft 0 (length l.validator.outline.sources) l.lowest l.olds (drop l.old-index l.olds);
+  each : AllByRecursion (IsSavedSource (limits_of l.validator.version)) (take l.old-index l.olds);
 }

@@ -11,11 +11,11 @@ pub returns-then-not-is_row_part-clause-bad : goal.returns-then-not-is_row_part-
 returns-then-not-is_row_part-clause-bad c = λ all.
     let i = c.loop-prep.prep-index in
     let h : i < length c.args.preps.now = omega arith in
-    let one = All_here_part (IsPart c.args.def.now.function (c.args.last / c.args.judge.now.step % c.args.def.now.steps)) c.args.preps.now i c.prep-item.result h c.prep-item.is all in
+    let one = All_here_part (IsPart c.args.def.now.function (c.args.last / c.args.validator.now.step % c.args.def.now.steps)) c.args.preps.now i c.prep-item.result h c.prep-item.is all in
     let same : to_z w128 (of_z w128 c.value.result) ≡ c.value.result = to_z-of_z {w = w128} (record { sfits = c.value.type_inv }) in
     let part : Part = record { known = c.known.result; value = to_z w128 (of_z w128 c.value.result) } in
     let known = c.known.ensures.value in
     let value = c.value.ensures.value in
     let path : c.prep-item.result.part ≡ part = λ j. let p : Part = record { known = sym known j; value = (sym value ∙ sym same) j } in p in
-    let e = c.is_row_part.ensures.bad (subst (IsPart c.args.def.now.function (c.args.last / c.args.judge.now.step % c.args.def.now.steps)) path one) in
+    let e = c.is_row_part.ensures.bad (subst (IsPart c.args.def.now.function (c.args.last / c.args.validator.now.step % c.args.def.now.steps)) path one) in
     cc

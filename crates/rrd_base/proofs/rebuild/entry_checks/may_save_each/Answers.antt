@@ -5,31 +5,31 @@ use Rattle.rrd_base.proofs.rebuild.entry_checks.may_save_each.Goals as goal
 
 pub returns-then-olds-archives-clause-bad : goal.returns-then-olds-archives-clause-bad
 returns-then-olds-archives-clause-bad c = λ is.
-    let judge = c.args.judge.now in
-    let now = judge.outline in
-    absurd (omega (arith, saves_lengths judge.step c.args.from now.last (length now.sources) now.archives c.args.olds.now is, ap (λ (o : Outline). length o.archives) c.outline.ensures.value))
+    let validator = c.args.validator.now in
+    let now = validator.outline in
+    absurd (omega (arith, saves_lengths validator.step c.args.from now.last (length now.sources) now.archives c.args.olds.now is, ap (λ (o : Outline). length o.archives) c.outline.ensures.value))
 
 pub returns-then-not-may_save-clause-bad : goal.returns-then-not-may_save-clause-bad
 returns-then-not-may_save-clause-bad c = λ is.
-    let judge = c.args.judge.now in
-    let now = judge.outline in
+    let validator = c.args.validator.now in
+    let now = validator.outline in
     let olds = c.args.olds.now in
     let i = c.loop-place.place in
     let same = ap (λ (o : Outline). length o.archives) c.outline.ensures.value in
     let h : i < length now.archives = omega (arith, same) in
     let k : i < length olds = omega arith in
     let def = c.archive.result.now in
-    let e = c.may_save.ensures.bad (saves_here judge.step c.args.from now.last (length now.sources) now.archives olds i def c.index-olds-place.result h k (item_there now.archives i def c.archive.ensures.value) c.index-olds-place.is is) in
+    let e = c.may_save.ensures.bad (saves_here validator.step c.args.from now.last (length now.sources) now.archives olds i def c.index-olds-place.result h k (item_there now.archives i def c.archive.ensures.value) c.index-olds-place.is is) in
     cc
 
 pub loop-place-preserved : goal.loop-place-preserved
 loop-place-preserved c =
-    let judge = c.args.judge.now in
-    let now = judge.outline in
+    let validator = c.args.validator.now in
+    let now = validator.outline in
     let olds = c.args.olds.now in
     let i = c.loop-place.place in
     let same = ap (λ (o : Outline). length o.archives) c.outline.ensures.value in
     let h : i < length now.archives = omega (arith, same) in
     let k : i < length olds = omega arith in
     let def = c.archive.result.now in
-    saves_more judge.step c.args.from now.last (length now.sources) now.archives olds i def c.index-olds-place.result h k (item_there now.archives i def c.archive.ensures.value) c.index-olds-place.is c.loop-place.invariant (c.may_save.ensures.good c.if-not-may_save.false)
+    saves_more validator.step c.args.from now.last (length now.sources) now.archives olds i def c.index-olds-place.result h k (item_there now.archives i def c.archive.ensures.value) c.index-olds-place.is c.loop-place.invariant (c.may_save.ensures.good c.if-not-may_save.false)

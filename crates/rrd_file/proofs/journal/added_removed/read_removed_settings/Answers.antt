@@ -4,7 +4,7 @@ use Rattle.std.specs.Prelude.{false, true}
 use Rattle.rrd_file.specs.Layout.Pieces.{OfArchive}
 use Rattle.rrd_file.specs.Stages.{RemovedHeadDue}
 use Rattle.rrd_file.proofs.Coming.{cut_within}
-use Rattle.rrd_file.proofs.Kept.{ReadRemovedHead, broken, kept, unread_head, judged, judges}
+use Rattle.rrd_file.proofs.Kept.{ReadRemovedHead, broken, kept, unread_head, validated, validates}
 use Rattle.rrd_file.proofs.journal.added_removed.read_removed_settings.Goals as goal
 
 pub returns-in_err-piece-clause-brings : goal.returns-in_err-piece-clause-brings
@@ -18,17 +18,17 @@ returns-in_default-clause-brings g c = λ bytes pieces later st.
     let len : length c.piece.new.piece ≡ 13 = search rules in
     rw c.bad_entry.ensures (unread_head bytes c.args.build.now pieces later c.args.input.now c.piece.new.self c.piece.new.piece st c.in_ok-piece.ensures.read (sym len) (c.archive_of.ensures.none (search rules)))
 
-pub returns-then-not-may_have-clause-brings : goal.returns-then-not-may_have-clause-brings
-returns-then-not-may_have-clause-brings g c = λ bytes pieces later st.
+pub returns-then-not-accepts_archive-clause-brings : goal.returns-then-not-accepts_archive-clause-brings
+returns-then-not-accepts_archive-clause-brings g c = λ bytes pieces later st.
     let len : length c.piece.new.piece ≡ 13 = search rules in
-    rw c.bad_entry-then-not-may_have.ensures (broken bytes c.args.build.now pieces RemovedHeadDue later c.args.input.now c.piece.new.self (OfArchive c.in-Some.def) c.piece.new.piece st c.in_ok-piece.ensures.read c.in-Some.ensures.some.1 (sym len) (ReadRemovedHead c.in-Some.def c.in-Some.ensures.some.0) (λ k. let bad : false ≡ true = sym c.if-not-may_have.true ∙ c.may_have.ensures.bad (judges c.args.build.now c.judge.result.now RemovedHeadDue (OfArchive c.in-Some.def) c.judge.ensures k) in absurd cc))
+    rw c.bad_entry-then-not-accepts_archive.ensures (broken bytes c.args.build.now pieces RemovedHeadDue later c.args.input.now c.piece.new.self (OfArchive c.in-Some.def) c.piece.new.piece st c.in_ok-piece.ensures.read c.in-Some.ensures.some.1 (sym len) (ReadRemovedHead c.in-Some.def c.in-Some.ensures.some.0) (λ k. let bad : false ≡ true = sym c.if-not-accepts_archive.true ∙ c.accepts_archive.ensures.bad (validates c.args.build.now c.validator.result.now RemovedHeadDue (OfArchive c.in-Some.def) c.validator.ensures k) in absurd cc))
 
 pub returns-clause-brings : goal.returns-clause-brings
 returns-clause-brings g c = λ bytes pieces later st.
     let len : length c.piece.new.piece ≡ 13 = search rules in
-    kept bytes c.args.build.now pieces RemovedHeadDue later c.args.input.now c.piece.new.self (OfArchive c.in-Some.def) c.piece.new.piece st c.in_ok-piece.ensures.read c.in-Some.ensures.some.1 (sym len) (ReadRemovedHead c.in-Some.def c.in-Some.ensures.some.0) (judged c.args.build.now c.judge.result.now RemovedHeadDue (OfArchive c.in-Some.def) c.judge.ensures (c.may_have.ensures.good c.if-not-may_have.false))
+    kept bytes c.args.build.now pieces RemovedHeadDue later c.args.input.now c.piece.new.self (OfArchive c.in-Some.def) c.piece.new.piece st c.in_ok-piece.ensures.read c.in-Some.ensures.some.1 (sym len) (ReadRemovedHead c.in-Some.def c.in-Some.ensures.some.0) (validated c.args.build.now c.validator.result.now RemovedHeadDue (OfArchive c.in-Some.def) c.validator.ensures (c.accepts_archive.ensures.good c.if-not-accepts_archive.false))
 
 pub returns-clause-good : goal.returns-clause-good
 returns-clause-good g c =
-    let is = (c.may_have.ensures.good c.if-not-may_have.false).def_is in
+    let is = (c.accepts_archive.ensures.good c.if-not-accepts_archive.false).def_is in
     record { some_steps = is.some_steps; few_steps = is.few_steps; some_rows = is.some_rows; few_rows = is.few_rows; xff_low = is.xff_low; xff_high = is.xff_high }

@@ -4,7 +4,7 @@ use Rattle.rrd_file.specs.Layout.Pieces.{spell, OfNumber}
 use Rattle.std.specs.Prelude.{false, true}
 use Rattle.rrd_file.specs.Layout.Values.{two_bytes}
 use Rattle.rrd_file.proofs.Coming.{cut_within}
-use Rattle.rrd_file.proofs.Kept.{broken, kept, ReadNumber, judged, judges}
+use Rattle.rrd_file.proofs.Kept.{broken, kept, ReadNumber, validated, validates}
 use Rattle.rrd_file.proofs.Whole.{whole}
 use Rattle.rrd_file.specs.Stages.{NumberDue}
 use Rattle.rrd_file.proofs.journal.resize.read_number.Goals as goal
@@ -19,10 +19,10 @@ pub returns-then-not-has_archive-clause-brings : goal.returns-then-not-has_archi
 unfolding spell
 returns-then-not-has_archive-clause-brings g c = λ bytes pieces later st.
     let len : length c.piece.new.piece ≡ 2 = search rules in
-    rw c.bad_entry.ensures (broken bytes c.args.build.now pieces NumberDue later c.args.input.now c.piece.new.self (OfNumber c.two_of-archive.result.0) c.piece.new.piece st c.in_ok-piece.ensures.read (whole c.piece.new.piece (two_bytes c.two_of-archive.result.0) c.two_of-archive.result.1.now 2 c.two_of-archive.ensures.spelled c.two_of-archive.ensures.room len) (sym len) (ReadNumber c.two_of-archive.result.0 c.two_of-archive.ensures.small) (λ k. let bad : false ≡ true = sym c.if-not-has_archive.true ∙ c.has_archive.ensures.bad (judges c.args.build.now c.judge.result.now NumberDue (OfNumber c.two_of-archive.result.0) c.judge.ensures k) in absurd cc))
+    rw c.bad_entry.ensures (broken bytes c.args.build.now pieces NumberDue later c.args.input.now c.piece.new.self (OfNumber c.two_of-archive.result.0) c.piece.new.piece st c.in_ok-piece.ensures.read (whole c.piece.new.piece (two_bytes c.two_of-archive.result.0) c.two_of-archive.result.1.now 2 c.two_of-archive.ensures.spelled c.two_of-archive.ensures.room len) (sym len) (ReadNumber c.two_of-archive.result.0 c.two_of-archive.ensures.small) (λ k. let bad : false ≡ true = sym c.if-not-has_archive.true ∙ c.has_archive.ensures.bad (validates c.args.build.now c.validator.result.now NumberDue (OfNumber c.two_of-archive.result.0) c.validator.ensures k) in absurd cc))
 
 pub returns-clause-brings : goal.returns-clause-brings
 unfolding spell
 returns-clause-brings g c = λ bytes pieces later st.
     let len : length c.piece.new.piece ≡ 2 = search rules in
-    kept bytes c.args.build.now pieces NumberDue later c.args.input.now c.piece.new.self (OfNumber c.two_of-archive.result.0) c.piece.new.piece st c.in_ok-piece.ensures.read (whole c.piece.new.piece (two_bytes c.two_of-archive.result.0) c.two_of-archive.result.1.now 2 c.two_of-archive.ensures.spelled c.two_of-archive.ensures.room len) (sym len) (ReadNumber c.two_of-archive.result.0 c.two_of-archive.ensures.small) (judged c.args.build.now c.judge.result.now NumberDue (OfNumber c.two_of-archive.result.0) c.judge.ensures (c.has_archive.ensures.good c.if-not-has_archive.false))
+    kept bytes c.args.build.now pieces NumberDue later c.args.input.now c.piece.new.self (OfNumber c.two_of-archive.result.0) c.piece.new.piece st c.in_ok-piece.ensures.read (whole c.piece.new.piece (two_bytes c.two_of-archive.result.0) c.two_of-archive.result.1.now 2 c.two_of-archive.ensures.spelled c.two_of-archive.ensures.room len) (sym len) (ReadNumber c.two_of-archive.result.0 c.two_of-archive.ensures.small) (validated c.args.build.now c.validator.result.now NumberDue (OfNumber c.two_of-archive.result.0) c.validator.ensures (c.has_archive.ensures.good c.if-not-has_archive.false))

@@ -1,7 +1,7 @@
 use Rattle.std.proofs.Common.{◌≡◌, ◌∙◌, ◌+◌, ◌-◌, ◌<◌, ◌≤◌, ◌++◌, ◌∷◌, [], ℕ, List, sym, ap, subst, length, length-append, map, arith, rules}
 use Rattle.std.proofs.lemmas.Result.{err_from_is_err_and}
-use Rattle.rrd_spec.specs.declared.entry.SourceBefore.{SourceBefore}
-use Rattle.rrd_file.specs.Layout.Pieces.{ATune, OfCount, OfSourceBefore, OfTag, Piece}
+use Rattle.rrd_spec.specs.declared.entry.SavedSource.{SavedSource}
+use Rattle.rrd_file.specs.Layout.Pieces.{ATune, OfCount, OfSavedSource, OfTag, Piece}
 use Rattle.rrd_file.specs.Stages.{DueInEntry, named_due}
 use Rattle.rrd_file.specs.Progress.{Comes}
 use Rattle.rrd_file.proofs.Turns.{more_map, named_less, none_named}
@@ -18,8 +18,8 @@ returns-in_err-old-clause-closes g c = λ bytes st.
     let n = c.in_ok-count.count in
     let i = c.loop.counter in
     let more : i < n = omega arith in
-    let due = subst (λ (l : List DueInEntry). Comes bytes c.args.build.now (OfTag ATune ∷ OfCount c.in_ok-count.count ∷ map OfSourceBefore c.loop.olds.items) l c.loop.input) (named_less c.loop.lowest n i more) (c.loop.invariant.2 bytes st) in
-    rw (p.1, p.2) (c.in_err-old.ensures.brings bytes (OfTag ATune ∷ OfCount c.in_ok-count.count ∷ map OfSourceBefore c.loop.olds.items) (n - (i + 1)) due)
+    let due = subst (λ (l : List DueInEntry). Comes bytes c.args.build.now (OfTag ATune ∷ OfCount c.in_ok-count.count ∷ map OfSavedSource c.loop.olds.items) l c.loop.input) (named_less c.loop.lowest n i more) (c.loop.invariant.2 bytes st) in
+    rw (p.1, p.2) (c.in_err-old.ensures.brings bytes (OfTag ATune ∷ OfCount c.in_ok-count.count ∷ map OfSavedSource c.loop.olds.items) (n - (i + 1)) due)
 
 pub loop-preserved : goal.loop-preserved
 loop-preserved g c =
@@ -31,9 +31,9 @@ loop-preserved g c =
       omega (arith, ap length items, length-append c.loop.olds.items (old ∷ []), c.loop.invariant.0),
       omega (arith, c.in_ok-old.ensures.few),
       λ bytes st.
-          let due = subst (λ (l : List DueInEntry). Comes bytes c.args.build.now (OfTag ATune ∷ OfCount c.in_ok-count.count ∷ map OfSourceBefore c.loop.olds.items) l c.loop.input) (named_less c.loop.lowest n i more) (c.loop.invariant.2 bytes st) in
-          subst (λ (l : List Piece). Comes bytes c.args.build.now l (named_due (old.number + 1) (n - (i + 1))) c.read_named_source.new.input) (more_map OfSourceBefore (OfTag ATune ∷ OfCount n ∷ []) c.loop.olds.items old ∙ ap (λ (l : List SourceBefore). OfTag ATune ∷ OfCount n ∷ map OfSourceBefore l) (sym items))
-          (c.in_ok-old.ensures.brings bytes (OfTag ATune ∷ OfCount c.in_ok-count.count ∷ map OfSourceBefore c.loop.olds.items) (n - (i + 1)) due),
+          let due = subst (λ (l : List DueInEntry). Comes bytes c.args.build.now (OfTag ATune ∷ OfCount c.in_ok-count.count ∷ map OfSavedSource c.loop.olds.items) l c.loop.input) (named_less c.loop.lowest n i more) (c.loop.invariant.2 bytes st) in
+          subst (λ (l : List Piece). Comes bytes c.args.build.now l (named_due (old.number + 1) (n - (i + 1))) c.read_named_source.new.input) (more_map OfSavedSource (OfTag ATune ∷ OfCount n ∷ []) c.loop.olds.items old ∙ ap (λ (l : List SavedSource). OfTag ATune ∷ OfCount n ∷ map OfSavedSource l) (sym items))
+          (c.in_ok-old.ensures.brings bytes (OfTag ATune ∷ OfCount c.in_ok-count.count ∷ map OfSavedSource c.loop.olds.items) (n - (i + 1)) due),
     )
 
 pub returns-clause-closes : goal.returns-clause-closes
@@ -42,5 +42,5 @@ returns-clause-closes g c = λ bytes st.
     let i = c.loop.counter in
     let past : n ≤ i = omega arith in
     let all : n ≡ length c.loop.olds.items = omega (arith, c.loop.invariant.0) in
-    subst (λ (k : ℕ). Comes bytes c.args.build.now (OfTag ATune ∷ OfCount k ∷ map OfSourceBefore c.loop.olds.items) [] c.loop.input) all
-    (subst (λ (l : List DueInEntry). Comes bytes c.args.build.now (OfTag ATune ∷ OfCount c.in_ok-count.count ∷ map OfSourceBefore c.loop.olds.items) l c.loop.input) (none_named c.loop.lowest n i past) (c.loop.invariant.2 bytes st))
+    subst (λ (k : ℕ). Comes bytes c.args.build.now (OfTag ATune ∷ OfCount k ∷ map OfSavedSource c.loop.olds.items) [] c.loop.input) all
+    (subst (λ (l : List DueInEntry). Comes bytes c.args.build.now (OfTag ATune ∷ OfCount c.in_ok-count.count ∷ map OfSavedSource c.loop.olds.items) l c.loop.input) (none_named c.loop.lowest n i past) (c.loop.invariant.2 bytes st))

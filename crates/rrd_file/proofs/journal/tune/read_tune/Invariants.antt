@@ -1,5 +1,5 @@
 use Rattle.std.proofs.Common.{◌≡◌, ◌∷◌, ◌-◌, ◌≤◌, [], ℕ, List, length, map}
-use Rattle.rrd_file.specs.Layout.Pieces.{ATune, OfCount, OfSourceBefore, OfTag}
+use Rattle.rrd_file.specs.Layout.Pieces.{ATune, OfCount, OfSavedSource, OfTag}
 use Rattle.rrd_file.specs.Stages.{first_due, named_due}
 use Rattle.rrd_file.specs.Progress.{Comes}
 use Rattle.rrd_file.proofs.journal.tune.read_tune.Given as goal
@@ -8,4 +8,4 @@ abbrev pub invariant-loop : goal.invariant-loop
 invariant-loop g l =
     (length l.olds.items ≡ l.counter) × (l.lowest ≤ 64)
     × ((bytes : List ℕ) → Comes bytes l.build (OfTag ATune ∷ []) (first_due ATune) l.fn.input
-    → Comes bytes l.build (OfTag ATune ∷ OfCount l.count ∷ map OfSourceBefore l.olds.items) (named_due l.lowest (l.count - l.counter)) l.input)
+    → Comes bytes l.build (OfTag ATune ∷ OfCount l.count ∷ map OfSavedSource l.olds.items) (named_due l.lowest (l.count - l.counter)) l.input)

@@ -1,6 +1,6 @@
 use Rattle.std.proofs.Common.{◌∷◌, [], sym, subst, map, length}
 use Rattle.rrd_file.specs.Layout.{spelled}
-use Rattle.rrd_file.specs.Layout.Pieces.{OfTag, OfCount, OfSourceBefore, ATune}
+use Rattle.rrd_file.specs.Layout.Pieces.{OfTag, OfCount, OfSavedSource, ATune}
 use Rattle.rrd_file.proofs.Joined.{joined_two}
 use Rattle.std.proofs.lemmas.Result.{err_from_is_err_and}
 use Rattle.rrd_file.specs.Writer.{Breaks, Gathers}
@@ -11,9 +11,9 @@ pub returns-in_err-write_tuned : goal.returns-in_err-write_tuned
 returns-in_err-write_tuned g c =
     let p = err_from_is_err_and c.from_residual.result c.from_residual.ensures.1 in
     let olds = c.args.olds.now in
-    rw p.1 (subst (Breaks _ _ _) (sym (joined_two (OfTag ATune ∷ OfCount (length olds) ∷ []) (map OfSourceBefore olds))) (breaks_stop ((spelled (map OfSourceBefore olds))) (c.in_err-write_tuned.ensures)))
+    rw p.1 (subst (Breaks _ _ _) (sym (joined_two (OfTag ATune ∷ OfCount (length olds) ∷ []) (map OfSavedSource olds))) (breaks_stop ((spelled (map OfSavedSource olds))) (c.in_err-write_tuned.ensures)))
 
 pub returns : goal.returns
 returns g c =
     let olds = c.args.olds.now in
-    subst (λ bs. Gathers g.W.Write.contents c.args.out.now c.write_sources_before.new.out bs c.write_sources_before.result) (sym (joined_two (OfTag ATune ∷ OfCount (length olds) ∷ []) (map OfSourceBefore olds))) (gathers_then c.write_sources_before.new.out ((spelled (map OfSourceBefore olds))) c.write_sources_before.result (c.in_ok-write_tuned.ensures) (c.write_sources_before.ensures))
+    subst (λ bs. Gathers g.W.Write.contents c.args.out.now c.write_saved_sources.new.out bs c.write_saved_sources.result) (sym (joined_two (OfTag ATune ∷ OfCount (length olds) ∷ []) (map OfSavedSource olds))) (gathers_then c.write_saved_sources.new.out ((spelled (map OfSavedSource olds))) c.write_saved_sources.result (c.in_ok-write_tuned.ensures) (c.write_saved_sources.ensures))

@@ -9,7 +9,7 @@ use Rattle.rrd_spec.specs.declared.outline.Outline.{Outline}
 use Rattle.rrd_spec.specs.declared.settings.DsDef.{DsDef}
 use Rattle.rrd_spec.specs.Files.Rebuilding.{outline_left}
 use Rattle.rrd_spec.specs.Validity.{IsPart}
-use Rattle.rrd_base.specs.Rebuild.Judges.{Judge}
+use Rattle.rrd_base.specs.Rebuild.Validators.{EntryValidator}
 use Rattle.rrd_file.specs.Layout.Pieces.{OfRawAndPart, spell}
 use Rattle.rrd_file.specs.Stages.{BeforeDue}
 use Rattle.rrd_file.specs.Progress.{Comes}
@@ -52,7 +52,7 @@ returns-in-Some g c = λ bytes pieces later def e st.
     let both = simp (to_z-of_z {w = w128} fits) at c.in-Some.ensures.some in
     subst (λ (x : Part). Comes bytes c.args.build.now (pieces ++ OfRawAndPart raw x ∷ []) later c.piece.new.self) (sym both.1)
     (kept bytes c.args.build.now pieces (BeforeDue c.args.last def) later c.args.input.now c.piece.new.self (OfRawAndPart raw part) c.piece.new.piece st c.in_ok-piece.ensures.read is (sym len) (ReadRawAndPart c.args.last def raw part c.before_of-raw.ensures.raw fit)
-    (subst (λ (x : DsDef). IsAccepted x.kind raw) same (c.accepts.ensures.good c.if-not-accepts.false), subst (λ (j : Judge). IsPart Average (c.args.last % j.step) part) c.judge.ensures (subst (λ (x : Part). IsPart Average (c.args.last % c.judge.result.now.step) x) both.1 both.0)))
+    (subst (λ (x : DsDef). IsAccepted x.kind raw) same (c.accepts.ensures.good c.if-not-accepts.false), subst (λ (j : EntryValidator). IsPart Average (c.args.last % j.step) part) c.validator.ensures (subst (λ (x : Part). IsPart Average (c.args.last % c.validator.result.now.step) x) both.1 both.0)))
 
 pub returns-in-None : goal.returns-in-None
 returns-in-None g c = λ bytes pieces later def e st.
@@ -66,4 +66,4 @@ returns-in-None g c = λ bytes pieces later def e st.
     let same : c.get.result.now ≡ def = got (outline_left c.args.build.now).sources c.args.source def c.get.result.now e item in
     rw c.bad_entry-in-None.ensures
     (broken bytes c.args.build.now pieces (BeforeDue c.args.last def) later c.args.input.now c.piece.new.self (OfRawAndPart raw part) c.piece.new.piece st c.in_ok-piece.ensures.read is (sym len) (ReadRawAndPart c.args.last def raw part c.before_of-raw.ensures.raw fit)
-    (λ k. c.step_part.ensures.none (search rules) (rw (to_z-of_z {w = w128} fits) (subst (λ (j : Judge). IsPart Average (c.args.last % j.step) part) (sym c.judge.ensures) k.1))))
+    (λ k. c.step_part.ensures.none (search rules) (rw (to_z-of_z {w = w128} fits) (subst (λ (j : EntryValidator). IsPart Average (c.args.last % j.step) part) (sym c.validator.ensures) k.1))))

@@ -7,7 +7,7 @@ use Rattle.rrd_spec.specs.declared.settings.RraDef.{RraDef}
 use Rattle.rrd_spec.specs.Preparations.{parts_in}
 use Rattle.rrd_spec.specs.Journal.Entries.{SavedArchive, rows_between}
 use Rattle.rrd_spec.specs.Files.Rebuilding.{outline_left}
-use Rattle.rrd_base.specs.Rebuild.Judges.{Judge}
+use Rattle.rrd_base.specs.Rebuild.Validators.{EntryValidator}
 use Rattle.rrd_file.specs.Layout.{row_pieces, saved_pieces}
 use Rattle.rrd_file.specs.Layout.Pieces.{OfPrep, OfRows, Piece}
 use Rattle.rrd_file.specs.Journal.{IsSavedShaped}
@@ -19,7 +19,7 @@ use Rattle.rrd_file.proofs.journal.update.read_saved.Goals as goal
 pub returns-in_err-preps-clause-brings : goal.returns-in_err-preps-clause-brings
 returns-in_err-preps-clause-brings g c = λ bytes pieces later asked at came.
     let def = c.archive-def.result.now in
-    let e : slice_get (outline_left c.args.build.now).archives c.args.archive ≡ Some def = subst (λ (j : Judge). slice_get j.outline.archives c.args.archive ≡ Some def) c.judge.ensures c.archive-def.ensures.value in
+    let e : slice_get (outline_left c.args.build.now).archives c.args.archive ≡ Some def = subst (λ (j : EntryValidator). slice_get j.outline.archives c.args.archive ≡ Some def) c.validator.ensures c.archive-def.ensures.value in
     let st = subst (λ (d : RraDef). Comes bytes c.args.build.now pieces (archive_due c.args.build.now.header.step (outline_left c.args.build.now) c.args.last d ++ later) c.args.input.now) (some_is asked def (sym at ∙ e)) came in
     let p = err_from_is_err_and c.from_residual.result c.from_residual.ensures.1 in
     let now = outline_left c.args.build.now in
@@ -31,7 +31,7 @@ returns-in_err-preps-clause-brings g c = λ bytes pieces later asked at came.
 pub returns-in_err-count-clause-brings : goal.returns-in_err-count-clause-brings
 returns-in_err-count-clause-brings g c = λ bytes pieces later asked at came.
     let def = c.archive-def.result.now in
-    let e : slice_get (outline_left c.args.build.now).archives c.args.archive ≡ Some def = subst (λ (j : Judge). slice_get j.outline.archives c.args.archive ≡ Some def) c.judge.ensures c.archive-def.ensures.value in
+    let e : slice_get (outline_left c.args.build.now).archives c.args.archive ≡ Some def = subst (λ (j : EntryValidator). slice_get j.outline.archives c.args.archive ≡ Some def) c.validator.ensures c.archive-def.ensures.value in
     let st = subst (λ (d : RraDef). Comes bytes c.args.build.now pieces (archive_due c.args.build.now.header.step (outline_left c.args.build.now) c.args.last d ++ later) c.args.input.now) (some_is asked def (sym at ∙ e)) came in
     let p = err_from_is_err_and c.from_residual-in_err-count.result c.from_residual-in_err-count.ensures.1 in
     let now = outline_left c.args.build.now in
@@ -44,7 +44,7 @@ returns-in_err-count-clause-brings g c = λ bytes pieces later asked at came.
 pub returns-in_err-rows-clause-brings : goal.returns-in_err-rows-clause-brings
 returns-in_err-rows-clause-brings g c = λ bytes pieces later asked at came.
     let def = c.archive-def.result.now in
-    let e : slice_get (outline_left c.args.build.now).archives c.args.archive ≡ Some def = subst (λ (j : Judge). slice_get j.outline.archives c.args.archive ≡ Some def) c.judge.ensures c.archive-def.ensures.value in
+    let e : slice_get (outline_left c.args.build.now).archives c.args.archive ≡ Some def = subst (λ (j : EntryValidator). slice_get j.outline.archives c.args.archive ≡ Some def) c.validator.ensures c.archive-def.ensures.value in
     let st = subst (λ (d : RraDef). Comes bytes c.args.build.now pieces (archive_due c.args.build.now.header.step (outline_left c.args.build.now) c.args.last d ++ later) c.args.input.now) (some_is asked def (sym at ∙ e)) came in
     let p = err_from_is_err_and c.from_residual-in_err-rows.result c.from_residual-in_err-rows.ensures.1 in
     let now = outline_left c.args.build.now in
@@ -59,7 +59,7 @@ returns-in_err-rows-clause-brings g c = λ bytes pieces later asked at came.
 pub returns-clause-brings : goal.returns-clause-brings
 returns-clause-brings g c = λ bytes pieces later asked at came.
     let def = c.archive-def.result.now in
-    let e : slice_get (outline_left c.args.build.now).archives c.args.archive ≡ Some def = subst (λ (j : Judge). slice_get j.outline.archives c.args.archive ≡ Some def) c.judge.ensures c.archive-def.ensures.value in
+    let e : slice_get (outline_left c.args.build.now).archives c.args.archive ≡ Some def = subst (λ (j : EntryValidator). slice_get j.outline.archives c.args.archive ≡ Some def) c.validator.ensures c.archive-def.ensures.value in
     let st = subst (λ (d : RraDef). Comes bytes c.args.build.now pieces (archive_due c.args.build.now.header.step (outline_left c.args.build.now) c.args.last d ++ later) c.args.input.now) (some_is asked def (sym at ∙ e)) came in
     let now = outline_left c.args.build.now in
     let step = c.args.build.now.header.step in
@@ -79,7 +79,7 @@ returns-clause-brings g c = λ bytes pieces later asked at came.
 pub returns-clause-shaped : goal.returns-clause-shaped
 returns-clause-shaped g c = λ def e.
     let it = c.archive-def.result.now in
-    let at : slice_get (outline_left c.args.build.now).archives c.args.archive ≡ Some it = subst (λ (j : Judge). slice_get j.outline.archives c.args.archive ≡ Some it) c.judge.ensures c.archive-def.ensures.value in
+    let at : slice_get (outline_left c.args.build.now).archives c.args.archive ≡ Some it = subst (λ (j : EntryValidator). slice_get j.outline.archives c.args.archive ≡ Some it) c.validator.ensures c.archive-def.ensures.value in
     let same : it ≡ def = some_is it def (sym at ∙ e) in
     subst (λ (o : SavedArchive). IsSavedShaped (length (outline_left c.args.build.now).sources) def o) (sym c.new.ensures) (record {
       same_function = ap (λ (d : RraDef). d.function) same;

@@ -4,7 +4,7 @@ use Rattle.rrd_file.specs.Layout.Pieces.{spell, OfTime}
 use Rattle.std.specs.Prelude.{false, true}
 use Rattle.rrd_file.specs.Layout.Values.{eight_bytes}
 use Rattle.rrd_file.proofs.Coming.{cut_within}
-use Rattle.rrd_file.proofs.Kept.{broken, kept, ReadTime, judged, judges}
+use Rattle.rrd_file.proofs.Kept.{broken, kept, ReadTime, validated, validates}
 use Rattle.rrd_file.proofs.Whole.{whole}
 use Rattle.rrd_file.specs.Stages.{TimeDue}
 use Rattle.rrd_file.proofs.journal.update.read_time.Goals as goal
@@ -15,14 +15,14 @@ returns-in_err-piece g c = λ bytes pieces later st.
     let len : length c.piece.new.piece ≡ 8 = search rules in
     rw (p.1, p.2) (cut_within bytes c.args.build.now pieces TimeDue later c.args.input.now _ _ st (sym len) c.in_err-piece.ensures.read)
 
-pub returns-then-not-is_earlier : goal.returns-then-not-is_earlier
+pub returns-then-not-is_before_last_time : goal.returns-then-not-is_before_last_time
 unfolding spell
-returns-then-not-is_earlier g c = λ bytes pieces later st.
+returns-then-not-is_before_last_time g c = λ bytes pieces later st.
     let len : length c.piece.new.piece ≡ 8 = search rules in
-    rw c.bad_entry.ensures (broken bytes c.args.build.now pieces TimeDue later c.args.input.now c.piece.new.self (OfTime c.eight_of-last.result.0) c.piece.new.piece st c.in_ok-piece.ensures.read (whole c.piece.new.piece (eight_bytes c.eight_of-last.result.0) c.eight_of-last.result.1.now 8 c.eight_of-last.ensures.spelled c.eight_of-last.ensures.room len) (sym len) (ReadTime c.eight_of-last.result.0 (search rules)) (λ k. let bad : false ≡ true = sym c.if-not-is_earlier.true ∙ c.is_earlier.ensures.bad (judges c.args.build.now c.judge.result.now TimeDue (OfTime c.eight_of-last.result.0) c.judge.ensures k) in absurd cc))
+    rw c.bad_entry.ensures (broken bytes c.args.build.now pieces TimeDue later c.args.input.now c.piece.new.self (OfTime c.eight_of-last.result.0) c.piece.new.piece st c.in_ok-piece.ensures.read (whole c.piece.new.piece (eight_bytes c.eight_of-last.result.0) c.eight_of-last.result.1.now 8 c.eight_of-last.ensures.spelled c.eight_of-last.ensures.room len) (sym len) (ReadTime c.eight_of-last.result.0 (search rules)) (λ k. let bad : false ≡ true = sym c.if-not-is_before_last_time.true ∙ c.is_before_last_time.ensures.bad (validates c.args.build.now c.validator.result.now TimeDue (OfTime c.eight_of-last.result.0) c.validator.ensures k) in absurd cc))
 
 pub returns : goal.returns
 unfolding spell
 returns g c = λ bytes pieces later st.
     let len : length c.piece.new.piece ≡ 8 = search rules in
-    kept bytes c.args.build.now pieces TimeDue later c.args.input.now c.piece.new.self (OfTime c.eight_of-last.result.0) c.piece.new.piece st c.in_ok-piece.ensures.read (whole c.piece.new.piece (eight_bytes c.eight_of-last.result.0) c.eight_of-last.result.1.now 8 c.eight_of-last.ensures.spelled c.eight_of-last.ensures.room len) (sym len) (ReadTime c.eight_of-last.result.0 (search rules)) (judged c.args.build.now c.judge.result.now TimeDue (OfTime c.eight_of-last.result.0) c.judge.ensures (c.is_earlier.ensures.good c.if-not-is_earlier.false))
+    kept bytes c.args.build.now pieces TimeDue later c.args.input.now c.piece.new.self (OfTime c.eight_of-last.result.0) c.piece.new.piece st c.in_ok-piece.ensures.read (whole c.piece.new.piece (eight_bytes c.eight_of-last.result.0) c.eight_of-last.result.1.now 8 c.eight_of-last.ensures.spelled c.eight_of-last.ensures.room len) (sym len) (ReadTime c.eight_of-last.result.0 (search rules)) (validated c.args.build.now c.validator.result.now TimeDue (OfTime c.eight_of-last.result.0) c.validator.ensures (c.is_before_last_time.ensures.good c.if-not-is_before_last_time.false))

@@ -1,5 +1,5 @@
 use Rattle.std.proofs.Common.{◌≡◌, ◌*◌, ◌≤◌, ◌∙◌, refl, sym, ap, subst, take, arith}
-use Rattle.rrd_ring.specs.Ring.{from_place, rows_of, with_unwritten, AreRows}
+use Rattle.rrd_ring.specs.Ring.{from_index, rows_of, with_unwritten, AreRows}
 use Rattle.rrd_ring.proofs.RingLemmas.{ring_len, ring_take, cells_le, AreRows-take}
 use Rattle.rrd_ring.proofs.WrittenLemmas.{all_written, ring_le, wholly_rows}
 use Rattle.rrd_ring.proofs.archive.Archive.oldest.Goals as goal
@@ -12,7 +12,7 @@ cells_of-count-requires-clause-few_rows c =
 pub push_from-requires-clause-within : goal.push_from-requires-clause-within
 push_from-requires-clause-within c =
     let a = c.self.inside in
-    let before : a.oldest ≤ a.rows = omega (arith, c.self.invariant.ring.place_within) in
+    let before : a.oldest ≤ a.rows = omega (arith, c.self.invariant.ring.index_within) in
     omega (arith, c.cells_of-start.ensures.count, c.cells_of-all.ensures.count, cells_le a.oldest a.rows a.sources before)
 
 pub push_from-requires-clause-written : goal.push_from-requires-clause-written
@@ -32,7 +32,7 @@ invariant_of-result c =
     let n = c.args.n in
     let xs = with_unwritten (a.rows * a.sources) a.cells.items in
     let fewer : n ≤ a.rows = omega (arith, c.requires, ring_len a.rows a.sources a.oldest xs c.args.self.now c.self.view_is) in
-    let items : c.push_from.new.copies.items ≡ take (n * a.sources) (from_place (a.oldest * a.sources) xs) =
+    let items : c.push_from.new.copies.items ≡ take (n * a.sources) (from_index (a.oldest * a.sources) xs) =
     rw (c.in_ok-push_from.ensures, c.in_ok-cells.ensures.items, c.deref.ensures.value, c.cells_of-start.ensures.count, c.cells_of-count.ensures.count, c.cells_of-all.ensures.count) refl in
     wholly_rows n a.sources c.push_from.new.copies (subst (AreRows n a.sources) (sym items) (AreRows-take n a.rows a.sources a.oldest xs fewer c.self.invariant.ring))
 
@@ -42,7 +42,7 @@ returns c =
     let n = c.args.n in
     let xs = with_unwritten (a.rows * a.sources) a.cells.items in
     let fewer : n ≤ a.rows = omega (arith, c.requires, ring_len a.rows a.sources a.oldest xs c.args.self.now c.self.view_is) in
-    let copied = take (n * a.sources) (from_place (a.oldest * a.sources) xs) in
+    let copied = take (n * a.sources) (from_index (a.oldest * a.sources) xs) in
     let items : c.push_from.new.copies.items ≡ copied =
     rw (c.in_ok-push_from.ensures, c.in_ok-cells.ensures.items, c.deref.ensures.value, c.cells_of-start.ensures.count, c.cells_of-count.ensures.count, c.cells_of-all.ensures.count) refl in
     ap (λ ys. rows_of n a.sources (with_unwritten (n * a.sources) ys)) items

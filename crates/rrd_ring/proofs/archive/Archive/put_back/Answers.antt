@@ -19,10 +19,10 @@ overflow_sub-self-inside c =
 pub write_from-requires-clause-within : goal.write_from-requires-clause-within
 write_from-requires-clause-within c =
     let a = c.self.inside in
-    let place = c.wrap-self-inside.result in
+    let index = c.wrap-self-inside.result in
     let filled = c.fill_up-2.ensures.items ∙ ap (λ (n : ℕ). with_unwritten n a.cells.items) c.cells_of-2.ensures.count in
-    let before : place ≤ a.rows = omega (arith, c.wrap-self-inside.ensures, mod_below (a.oldest + (a.rows - c.dropped.inside.rows)) a.rows c.self.invariant.ring.some_rows) in
-    rw c.deref_mut.ensures.value (omega (arith, c.cells_of-start.ensures.count, ap length filled, c.self.invariant.ring.whole, cells_le place a.rows a.sources before))
+    let before : index ≤ a.rows = omega (arith, c.wrap-self-inside.ensures, mod_below (a.oldest + (a.rows - c.dropped.inside.rows)) a.rows c.self.invariant.ring.some_rows) in
+    rw c.deref_mut.ensures.value (omega (arith, c.cells_of-start.ensures.count, ap length filled, c.self.invariant.ring.whole, cells_le index a.rows a.sources before))
 
 pub write_from-requires-clause-few : goal.write_from-requires-clause-few
 write_from-requires-clause-few c =
@@ -46,16 +46,16 @@ invariant_of-self c =
     let a = c.self.inside in
     let v = c.fill_up-2.new.cells in
     let new = c.write_from.new.ring in
-    let place = c.wrap-self-inside.result in
+    let index = c.wrap-self-inside.result in
     let filled = c.fill_up-2.ensures.items ∙ ap (λ (n : ℕ). with_unwritten n a.cells.items) c.cells_of-2.ensures.count in
     let as_long : length new ≡ length v.items = c.write_from.auto.ring ∙ ap length c.deref_mut.ensures.value in
-    wholly a.rows a.sources place (with_items v new) (record {
+    wholly a.rows a.sources index (with_items v new) (record {
       some_rows = c.self.invariant.ring.some_rows;
       few_rows = c.self.invariant.ring.few_rows;
       some_sources = c.self.invariant.ring.some_sources;
       few_sources = c.self.invariant.ring.few_sources;
       whole = ap length (with_items_is v new (as_long ∙ sym v.ok.0)) ∙ as_long ∙ ap length filled ∙ c.self.invariant.ring.whole;
-      place_within = omega (arith, c.wrap-self-inside.ensures, mod_below (a.oldest + (a.rows - c.dropped.inside.rows)) a.rows c.self.invariant.ring.some_rows);
+      index_within = omega (arith, c.wrap-self-inside.ensures, mod_below (a.oldest + (a.rows - c.dropped.inside.rows)) a.rows c.self.invariant.ring.some_rows);
     })
 
 pub returns : goal.returns

@@ -3,7 +3,7 @@ use Rattle.std.proofs.Math.Nat.{add-mul}
 use Rattle.rrd_fixed.specs.declared.cell.Cell.{Cell}
 use Rattle.rrd_fixed.specs.declared.cell.Cell.TheVariants.{Unknown}
 use Rattle.rrd_ring.specs.Rows.{unknown_rows}
-use Rattle.rrd_ring.specs.Ring.{from_place, ring_rows, with_unwritten}
+use Rattle.rrd_ring.specs.Ring.{from_index, ring_rows, with_unwritten}
 use Rattle.std.proofs.lemmas.Nat.{mod_below}
 use Rattle.rrd_ring.proofs.RingLemmas.{cells_le, length-resized, ring_len, ring_resized, ring_width}
 use Rattle.rrd_ring.proofs.WrittenLemmas.{AreWritten, all_written, are_few, newest_of_known, unwritten_rows, wholly}
@@ -37,7 +37,7 @@ invariant_of-result c =
     let sum : wanted * a.sources ≡ (wanted - kept) * a.sources + kept * a.sources = ap (λ k. k * a.sources) all_rows ∙ add-mul (wanted - kept) kept a.sources in
     let unknown : c.cells_of-room.result - c.cells_of-count.result ≡ (wanted - kept) * a.sources = omega (arith, c.cells_of-room.ensures.count, c.cells_of-count.ensures.count) in
     let some : 0 < wanted = c.requires.some_rows in
-    let items : c.push_from.new.copies.items ≡ replicate ((wanted - kept) * a.sources) Unknown ++ take (kept * a.sources) (from_place (((a.oldest + (a.rows - kept)) % a.rows) * a.sources) xs) =
+    let items : c.push_from.new.copies.items ≡ replicate ((wanted - kept) * a.sources) Unknown ++ take (kept * a.sources) (from_index (((a.oldest + (a.rows - kept)) % a.rows) * a.sources) xs) =
     rw (c.in_ok-push_from.ensures, c.in_ok-cells.ensures, unknown, c.deref.ensures.value, c.cells_of-start.ensures.count, c.cells_of-count.ensures.count, c.cells_of-all.ensures.count, c.wrap-first.ensures) refl in
     wholly wanted a.sources 0 c.push_from.new.copies (record {
       some_rows = c.requires.some_rows;
@@ -45,7 +45,7 @@ invariant_of-result c =
       some_sources = c.self.invariant.ring.some_sources;
       few_sources = c.self.invariant.ring.few_sources;
       whole = ap length items ∙ length-resized wanted kept a.rows a.sources a.oldest xs (omega (arith, least)) (omega (arith, least, few)) c.self.invariant.ring;
-      place_within = some;
+      index_within = some;
     })
 
 pub returns : goal.returns
@@ -67,7 +67,7 @@ returns c =
     let all_rows : wanted ≡ wanted - kept + kept = omega arith in
     let sum : wanted * a.sources ≡ (wanted - kept) * a.sources + kept * a.sources = ap (λ k. k * a.sources) all_rows ∙ add-mul (wanted - kept) kept a.sources in
     let unknown : c.cells_of-room.result - c.cells_of-count.result ≡ (wanted - kept) * a.sources = omega (arith, c.cells_of-room.ensures.count, c.cells_of-count.ensures.count) in
-    let copied = replicate ((wanted - kept) * a.sources) Unknown ++ take (kept * a.sources) (from_place (((a.oldest + (a.rows - kept)) % a.rows) * a.sources) xs) in
+    let copied = replicate ((wanted - kept) * a.sources) Unknown ++ take (kept * a.sources) (from_index (((a.oldest + (a.rows - kept)) % a.rows) * a.sources) xs) in
     let items : c.push_from.new.copies.items ≡ copied =
     rw (c.in_ok-push_from.ensures, c.in_ok-cells.ensures, unknown, c.deref.ensures.value, c.cells_of-start.ensures.count, c.cells_of-count.ensures.count, c.cells_of-all.ensures.count, c.wrap-first.ensures) refl in
     let as_long = length-resized wanted kept a.rows a.sources a.oldest xs fewer within c.self.invariant.ring in

@@ -15,8 +15,8 @@ overflow_add-self-inside c =
     let a = c.self.inside in
     omega (arith, ring_len a.rows a.sources a.oldest (with_unwritten (a.rows * a.sources) a.cells.items) c.args.self.now c.self.view_is)
 
-pub wrap-place-requires-clause-once : goal.wrap-place-requires-clause-once
-wrap-place-requires-clause-once c =
+pub wrap-index-requires-clause-once : goal.wrap-index-requires-clause-once
+wrap-index-requires-clause-once c =
     let a = c.self.inside in
     omega (arith, ring_len a.rows a.sources a.oldest (with_unwritten (a.rows * a.sources) a.cells.items) c.args.self.now c.self.view_is)
 
@@ -32,7 +32,7 @@ returns c =
     let at = (a.oldest + i) % a.rows in
     let within : i < a.rows = omega (arith, c.requires, ring_len a.rows a.sources a.oldest (with_unwritten all a.cells.items) c.args.self.now c.self.view_is) in
     let below : at < a.rows = mod_below (a.oldest + i) a.rows c.self.invariant.ring.some_rows in
-    let begins : start ≡ at * a.sources = c.cells_of-start.ensures.count ∙ ap (λ (k : ℕ). k * a.sources) c.wrap-place.ensures in
+    let begins : start ≡ at * a.sources = c.cells_of-start.ensures.count ∙ ap (λ (k : ℕ). k * a.sources) c.wrap-index.ensures in
     let ends : start + a.sources ≡ (at + 1) * a.sources = omega (arith, begins, one_more at a.sources) in
     let filled : xs ≡ with_unwritten ((at + 1) * a.sources) a.cells.items = c.fill_up.ensures.items ∙ ap (λ (n : ℕ). with_unwritten n a.cells.items) ends in
     let partly : IsPartlyWritten a.rows a.sources a.oldest v = filled_ring a.rows a.sources a.oldest (at + 1) a.cells v c.self.invariant (omega arith) filled c.fill_up.ensures.capacity in
@@ -66,7 +66,7 @@ invariant_of-self-lent c = λ w.
     let start = c.cells_of-start.result in
     let at = (a.oldest + i) % a.rows in
     let below : at < a.rows = mod_below (a.oldest + i) a.rows c.self.invariant.ring.some_rows in
-    let begins : start ≡ at * a.sources = c.cells_of-start.ensures.count ∙ ap (λ (k : ℕ). k * a.sources) c.wrap-place.ensures in
+    let begins : start ≡ at * a.sources = c.cells_of-start.ensures.count ∙ ap (λ (k : ℕ). k * a.sources) c.wrap-index.ensures in
     let ends : start + a.sources ≡ (at + 1) * a.sources = omega (arith, begins, one_more at a.sources) in
     let filled : v.items ≡ with_unwritten ((at + 1) * a.sources) a.cells.items = c.fill_up.ensures.items ∙ ap (λ (n : ℕ). with_unwritten n a.cells.items) ends in
     let partly : IsPartlyWritten a.rows a.sources a.oldest v = filled_ring a.rows a.sources a.oldest (at + 1) a.cells v c.self.invariant (omega arith) filled c.fill_up.ensures.capacity in

@@ -9,8 +9,8 @@ returns-then-not-is_plain c unfinished h more =
     let n : nat_eq c.args.byte 13 ≡ false = grind (arith, nat_tests, c.if-byte-eq13.false) in
     lost_byte c.args.self.now.bytes.items unfinished c.args.byte k.0 n (sym c.if-not-is_plain.ensures) more
 
-pub returns-then-len-ge-MOST : goal.returns-then-len-ge-MOST
-returns-then-len-ge-MOST c unfinished h more =
+pub returns-then-len-ge-MAX_LINE : goal.returns-then-len-ge-MAX_LINE
+returns-then-len-ge-MAX_LINE c unfinished h more =
     let k = rw c.requires.plain at h in
     let n : nat_eq c.args.byte 13 ≡ false = grind (arith, nat_tests, c.if-byte-eq13.false) in
     lost_long c.args.self.now.bytes.items unfinished c.args.byte k.0 n (omega arith) more

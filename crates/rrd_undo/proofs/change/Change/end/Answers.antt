@@ -30,7 +30,7 @@ returns-in-Untouched-clause-err g c = on_err c.put_alone.result _ _ (λ h f old 
     let longer : length old ≤ length new = omega (arith, c.is_alone.ensures alone, is_at.knows.old_length, counts, count_len) in
     let either = h f old new done len longer all high are is_at.knows agree in
     let first : IsFirstPut old c.args.self.now.length (g.F.Bytes.held c.put_alone.new.file) = rw len (alone_left old new _ c.args.first.now done agree all longer are _ either) in
-    let left : IsLeft c.args.self.now.stage old c.args.self.now.tail.place c.args.self.now.length (g.F.Bytes.held c.put_alone.new.file) = rw c.in-Untouched.is first in (
+    let left : IsLeft c.args.self.now.stage old c.args.self.now.tail.offset c.args.self.now.length (g.F.Bytes.held c.put_alone.new.file) = rw c.in-Untouched.is first in (
       record { knows = is_at.knows; left = left },
       λ is. elim either as (λ _. (settled (g.F.Bytes.held c.put_alone.new.file) ≡ old) ⊎ (settled (g.F.Bytes.held c.put_alone.new.file) ≡ new)) [
         | inl e ↦ inl (ap settled e ∙ settled_plain old is)

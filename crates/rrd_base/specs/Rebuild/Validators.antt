@@ -1,0 +1,16 @@
+-- Definition: the validator of the entries of a journal.
+use Rattle.std.specs.Prelude.{ℕ}
+use Rattle.rrd_spec.specs.declared.outline.Outline.{Outline}
+use Rattle.rrd_spec.specs.declared.version.Version.{Version}
+use Rattle.rrd_spec.specs.Files.Filed.{Filed}
+use Rattle.rrd_spec.specs.Files.Rebuilding.{outline_left}
+
+-- the version whose limits hold, the seconds in a step, and the outline
+pub record EntryValidator : Type 0 where
+  pub version : Version
+  pub step : ℕ
+  pub outline : Outline
+
+-- the validator after some records of a file were read
+abbrev pub validator : Filed → EntryValidator
+validator f = record { version = f.header.version; step = f.header.step; outline = outline_left f }
