@@ -501,7 +501,7 @@ def run(database, command):
 
 
 class Chance:
-    """Returns random commands for a database. If the database is calm, most rates are known."""
+    """Chooses random commands for a database. If the batch is calm, most rates are known."""
 
     def __init__(self, number):
         self.random = random.Random(number)

@@ -241,7 +241,7 @@ static int store(int file, struct base old, struct base new, int is_database) {
     return 0;
 }
 
-/* Returns whether a file is complete, or its change has to be taken back, or the file truncated. */
+/* Returns whether a file is complete. If not, its change has to be taken back, or the file truncated. */
 static int is_settled(struct base base) {
     return base.length < HEAD || memcmp(base.bytes, "RRDI", 4)
         || (head_of(base)->state == 0 && base.length <= head_of(base)->length);
