@@ -185,7 +185,7 @@ class Pictures(ToolCase):
         self.assertEqual(self.tool("rrdi-graph", "p.png", *words, env={"RRDI": "/nowhere"}).err,
                          "rrdi-graph: f.rrdi: cannot run /nowhere: No such file or directory\n")
         odd = self.stub("odd", "echo x")
-        self.assertIn("cannot read what", self.tool("rrdi-graph", "p.png", *words, env={"RRDI": odd}).err)
+        self.assertIn("cannot read the output of", self.tool("rrdi-graph", "p.png", *words, env={"RRDI": odd}).err)
         self.assertFalse((self.folder / "p.png").exists())
         self.assertEqual(self.tool("rrdi-graph", "-", *words, stdout="/dev/full"),
                          Ran(1, "", "rrdi-graph: No space left on device\n"))

@@ -62,7 +62,7 @@ class Import(ToolCase):
         self.assertEqual(self.read("new.rrdi"), before)
         self.write("next.rrdi.new", "")
         self.assertEqual(self.tool("rrdi-import", "old.rrd", "next.rrdi").err,
-                         "rrdi-import: next.rrdi.new already exists; another rrdi-import may be making it\n")
+                         "rrdi-import: next.rrdi.new already exists; another rrdi-import may be writing it\n")
         self.assertEqual(self.read("next.rrdi.new"), b"")
 
     def test_a_refusing_program(self) -> None:

@@ -208,7 +208,7 @@ class RRDtoolOutput(ToolCase):
         self.assertEqual(self.tool(TOOL, "last", "x.rrdi", stdout="/dev/full"),
                          Ran(1, "", "ERROR: No space left on device\n"))
         self.assertEqual(self.tool(TOOL, "info", "x.rrdi", env={"RRDI": self.stub("odd", "echo no")}).err,
-                         "ERROR: cannot read what " + str(self.bin / "odd") + " info prints\n")
+                         "ERROR: cannot read the output of " + str(self.bin / "odd") + " info\n")
 
 
 @unittest.skipUnless(RRDI, NO_RRDI)
