@@ -203,7 +203,7 @@ class Pictures(ToolCase):
 
     def test_many_pictures_by_one_process(self) -> None:
         grapher = graphing.Grapher()
-        # What the library asks for stays the library's own to free: the process doesn't grow.
+        # The library frees the memory that it requests: the process does not grow.
         import os
         os.environ["RRDI"] = RRDI or ""
         words = ["-s", str(self.START), "-e", str(self.end), f"DEF:a={self.folder}/f.rrdi:g:AVERAGE", "LINE1:a#ff0000"]

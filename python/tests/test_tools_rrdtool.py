@@ -1,4 +1,4 @@
-"""Tests of rrdi-rrdtool: its output beside rrdtool's own, its errors, its pipe mode, and how archives are chosen."""
+"""Tests of rrdi-rrdtool: its output compared with rrdtool's, its errors, its pipe mode, and the choice of archives."""
 from __future__ import annotations
 
 import re
