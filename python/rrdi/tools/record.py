@@ -1,6 +1,6 @@
 """Records the load averages of this machine in a database, once. The first run creates the database. For cron:
 
-    * * * * * rrdi-record /var/lib/rrdi/load.rrdi
+    * * * * * RRDI=/usr/local/bin/rrdi /usr/local/bin/rrdi-record /var/lib/rrdi/load.rrdi
 
 rrdi-record writes with RRDI_SYNC=1, and holds the lock FILE.lock while it runs. FILE.1, FILE.2 and FILE.3 are copies,
 made an hour apart, the newest first. If FILE is no longer a database, rrdi-record keeps it as FILE.refused and restores
