@@ -12,7 +12,7 @@ static uint8_t output[65536];
 static uint64_t refused_lines[16];
 static struct rrdi_answer answer;
 
-/* Prints the output, or the fault. */
+/* Prints the output or the fault. */
 static void show(void) {
     if (answer.fault)
         printf("fault %u: ", answer.fault);
@@ -30,7 +30,7 @@ static void run(const char *words, size_t length) {
 }
 #define RUN(words) run(words, sizeof(words) - 1)
 
-/* Runs lines, and names the refused ones. */
+/* Runs lines, and prints the numbers of the refused lines. */
 static void batch(const char *lines) {
     rrdi_batch_file((const uint8_t *)FILE_NAME, strlen(FILE_NAME), (const uint8_t *)lines, strlen(lines), 0, 5000, false, output,
                     sizeof output, refused_lines, 16, &answer);

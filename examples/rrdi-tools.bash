@@ -1,8 +1,8 @@
-# Completion of the arguments of rrdi's tools in bash. To have it in a shell, or in every new one from ~/.bashrc:
+# Completes the arguments of rrdi's tools in bash. Run this line in a shell, or put the line into ~/.bashrc:
 #
 #     . examples/rrdi-tools.bash
 
-# Completes options, and else files whose names end in one of the given ways, or directories.
+# Completes options, or files whose names have one of the given endings, or directories.
 _rrdi_tool() {
     local current=${COMP_WORDS[COMP_CWORD]} tool=${COMP_WORDS[0]##*/} options='--help' ends='' end
     case $tool in

@@ -1,9 +1,9 @@
-# Completion of the words of rrdi in bash. To have it in a shell, or in every new one from ~/.bashrc:
+# Completes the arguments of rrdi in bash. Run this line in a shell, or put the line into ~/.bashrc:
 #
 #     . examples/rrdi.bash
 #
-# It knows commands, options, files, types and functions, and asks `rrdi info FILE` for the names of sources and the
-# numbers of archives. Words with quotes or escaped spaces in them are not understood.
+# The completion knows commands, options, files, types and functions. `rrdi info FILE` gives the names of sources and the
+# numbers of archives. The completion does not understand words with quotes or escaped spaces.
 
 # The names of the sources of a file.
 _rrdi_sources() {
@@ -19,7 +19,7 @@ _rrdi() {
     local types='GAUGE COUNTER DERIVE ABSOLUTE' functions='AVERAGE MIN MAX LAST'
     local line=${COMP_LINE:0:COMP_POINT} words current previous command file choices='' taken name type
 
-    # Bash itself cuts words at : and =, so they are read from the line.
+    # Bash itself cuts words at : and =, so the words are read from the line.
     read -ra words <<<"$line"
     case $line in *[[:space:]]) words+=('') ;; esac
     current=${words[${#words[@]} - 1]}
@@ -28,7 +28,7 @@ _rrdi() {
     file=${words[2]-}
     COMPREPLY=()
 
-    # After < and > comes a file.
+    # After < and > a file follows.
     if [[ $line =~ [\<\>][\&|]?[[:space:]]*([^[:space:]\<\>]*)$ ]]; then
         compopt -o filenames 2>/dev/null
         mapfile -t COMPREPLY < <(compgen -f -- "${BASH_REMATCH[1]}")
@@ -100,9 +100,9 @@ _rrdi() {
     fi
     mapfile -t COMPREPLY < <(compgen -W "$choices" -- "$current")
 
-    # What is complete takes a space behind it, what ends in : does not.
+    # A complete word gets a space after it; a word that ends in : does not.
     case ${COMPREPLY[0]-} in *:) compopt -o nospace 2>/dev/null ;; esac
-    # Bash replaces only what stands behind the last : of the word.
+    # Bash replaces only the part after the last : of the word.
     case $COMP_WORDBREAKS in
         *:*) COMPREPLY=("${COMPREPLY[@]#"${current%"${current##*:}"}"}") ;;
     esac

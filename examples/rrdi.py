@@ -1,8 +1,8 @@
 #!/usr/bin/env python3
 """Reads a database of rrdi from its file and prints it: `examples/rrdi.py --help` says more, and docs/reading.md.
 
-It starts `python3 -m rrdi.reader`, whose code is in python/rrdi/reader. A program that finds this folder first on its
-path and says `import rrdi` gets the package in python/rrdi.
+The script starts `python3 -m rrdi.reader`, whose code is in python/rrdi/reader. If a program finds this folder first on
+its path and says `import rrdi`, the program gets the package in python/rrdi.
 """
 import importlib
 import os
@@ -15,6 +15,6 @@ if __name__ == "__main__":
     from rrdi.reader.__main__ import main
     sys.exit(main("rrdi.py"))
 
-# This file steps aside, so that the name means the package.
+# Remove this file's module, so that the name means the package.
 del sys.modules[__name__]
 importlib.import_module(__name__)

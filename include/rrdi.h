@@ -1,17 +1,17 @@
-/* Round-robin databases of rrdi in the process: commands on the file at a path, or on the bytes of a file in memory.
- * docs/embedding.md and rrdi(3) describe how to use them.
+/* Runs rrdi's commands in the process, on the file at a path or on the bytes of a file in memory. docs/embedding.md and
+ * rrdi(3) explain the functions.
  *
- * Memory. No function keeps anything between calls. A function frees what it allocates before it returns; it allocates by
- * malloc, realloc and free, which must be of one allocator, and align blocks to 16 bytes. A call needs less than 64 KiB of
- * stack.
- * Files. A function closes what it opens before it returns. It locks the file by flock, as the program does.
- * Threads. Calls may run at the same time in several threads, each with its own answer and buffers. Don't call a function
+ * Memory. No function keeps anything between calls. A function frees all memory that it allocates before it returns; it
+ * allocates by malloc, realloc and free, which must belong to one allocator, and align blocks to 16 bytes. A call needs less
+ * than 64 KiB of stack.
+ * Files. A function closes all files that it opens before it returns. It locks the file by flock, as the program does.
+ * Threads. Calls may run at the same time in several threads, each with its own answer and buffers. Do not call a function
  * from a signal handler, nor in the forked child of a process with several threads.
  * Signals. No function installs a handler, or raises a signal. If a limit on the size of files (RLIMIT_FSIZE) is set, ignore
  * SIGXFSZ: then the call reports RRDI_CANNOT_WRITE.
  * No function prints, exits, starts a thread, or reads the clock or the environment.
  *
- * Pointers are never null, also if a length is 0: then any valid address will do. No two buffers overlap. */
+ * Pass no null pointer, even for a length of 0: any valid address will do then. No two buffers may overlap. */
 #ifndef RRDI_H
 #define RRDI_H
 
@@ -29,35 +29,35 @@ enum rrdi_fault {
                                too small for the answer's output_length bytes, and the file is unchanged. Call again with more
                                room. */
     RRDI_NO_MEMORY = 2,     /* An allocation failed. The output's text is `out of memory`, or `write failed` if there was no memory
-                               for what is printed. */
-    RRDI_READ_LINES = 3,    /* The lines couldn't be read. Doesn't happen with lines in memory. */
-    RRDI_USAGE = 10,        /* The words are no command. */
-    RRDI_BAD_WORD = 11,     /* A word can't be read. The output names the word. */
-    RRDI_NO_DATABASE = 12,  /* Doesn't happen: a line of a batch that needs a database is refused, and a command reports 14. */
+                               for the printed text. */
+    RRDI_READ_LINES = 3,    /* The lines could not be read. Does not happen with lines in memory. */
+    RRDI_USAGE = 10,        /* The words are not a command. */
+    RRDI_BAD_WORD = 11,     /* A word cannot be read. The output names the word. */
+    RRDI_NO_DATABASE = 12,  /* Does not happen: a line of a batch that needs a database is refused, and a command reports 14. */
     RRDI_REFUSED = 13,      /* The database refuses the command. The output gives the reason. */
-    RRDI_CANNOT_OPEN = 14,  /* The file doesn't exist or can't be opened, or another process holds its lock. In memory: the command
+    RRDI_CANNOT_OPEN = 14,  /* The file does not exist or cannot be opened, or another process holds its lock. In memory: the command
                                needs a file, and there is none. */
-    RRDI_CANNOT_WRITE = 15, /* The file can't be written. */
-    RRDI_NOT_OURS = 20,     /* The file is no database of rrdi. */
-    RRDI_OTHER_VERSION = 21,/* The file has a version that this library doesn't know. */
+    RRDI_CANNOT_WRITE = 15, /* The file cannot be written. */
+    RRDI_NOT_OURS = 20,     /* The file is not a database of rrdi. */
+    RRDI_OTHER_VERSION = 21,/* The file has a layout version that this library does not know. */
     RRDI_TRUNCATED = 22,    /* The file ends after the answer's `at` bytes, before the database does. */
     RRDI_BAD_BLOCK = 23,    /* The block that begins after the answer's `at` bytes is invalid. */
-    RRDI_BAD_ENTRY = 24,    /* The journal entry of number `at` is invalid; the newest is 1. */
+    RRDI_BAD_ENTRY = 24,    /* The journal entry of number `at` is invalid; the newest entry is 1. */
     RRDI_TRAILING = 25,     /* Bytes follow the database, after the answer's `at` bytes. */
-    RRDI_READ = 26          /* The file couldn't be read to its end. */
+    RRDI_READ = 26          /* The file could not be read to its end. */
 };
 
 /* Begin with `struct rrdi_answer answer = {0};`. An answer may be used again. */
 struct rrdi_answer {
     uint32_t fault;         /* enum rrdi_fault. A batch whose lines were refused has no fault. */
     uint32_t system_error;  /* With RRDI_CANNOT_OPEN and RRDI_CANNOT_WRITE: the errno of the call that failed; EAGAIN if
-                               another process holds the lock. Else 0. */
+                               another process holds the lock. Otherwise 0. */
     bool is_changed;        /* In memory: new_file begins with the new file. On a file: the file has the new database. */
-    bool is_cut;            /* The output is longer than its room, which the call left as it was. */
-    uint64_t refused;       /* A batch: how many lines were refused. */
-    uint64_t file_length;   /* In memory: how many bytes the new file has, also if there is no room for it. */
-    uint64_t output_length; /* How many bytes the output has, also if there is no room for it. */
-    uint64_t at;            /* The place of a file's fault in the file, or the number of the journal entry. */
+    bool is_cut;            /* The output is longer than its room; the call left the room unchanged. */
+    uint64_t refused;       /* A batch: the number of refused lines. */
+    uint64_t file_length;   /* In memory: the number of bytes of the new file, even if there is no room for it. */
+    uint64_t output_length; /* The number of bytes of the output, even if there is no room for it. */
+    uint64_t at;            /* The position of a file's fault in the file, or the number of the journal entry. */
     uint64_t reserved[32];  /* Room for the library. */
 };
 
@@ -69,34 +69,36 @@ struct rrdi_answer {
  *                  "update\0" "920805300:12363". No zero byte follows the last word.
  * now              the present time, in seconds since 1970.
  * new_file         room for the new file, if the command makes one.
- * output           room for what the command prints, or for the text of the fault, without "ERROR: ". */
+ * output           room for the text that the command prints, or for the text of the fault, without "ERROR: ". */
 void rrdi_run(bool has_file, const uint8_t *file, size_t file_length, const uint8_t *words, size_t words_length,
               uint64_t now, uint8_t *new_file, size_t new_file_room, uint8_t *output, size_t output_room,
               struct rrdi_answer *answer);
 
 /* Runs lines on a file in memory, as `rrdi batch FILE` does on a file. A fault other than RRDI_NO_ROOM makes no new file.
  *
- * output           room for what the lines print, with a line "ERROR: .." for each refused one. If the lines were run and there
- *                  is a fault then (RRDI_CANNOT_WRITE, RRDI_NO_MEMORY), it has what they printed, not the text of the fault.
- * lines            commands, one a line, as `rrdi batch` reads them from standard input.
+ * output           room for the text that the lines print, with a line "ERROR: .." for each refused line. If a fault happens
+ *                  after the lines were run (RRDI_CANNOT_WRITE, RRDI_NO_MEMORY), the output has the text that the lines
+ *                  printed, not the text of the fault.
+ * lines            commands, one per line, as `rrdi batch` reads them from standard input.
  * refused_lines    room for the numbers of the refused lines. The first line is 1. A call fills the room with the first
  *                  numbers: as many as answer->refused, or as there is room for. refused_room counts numbers, not bytes. */
 void rrdi_batch(bool has_file, const uint8_t *file, size_t file_length, const uint8_t *lines, size_t lines_length,
                 uint64_t now, uint8_t *new_file, size_t new_file_room, uint8_t *output, size_t output_room,
                 uint64_t *refused_lines, size_t refused_room, struct rrdi_answer *answer);
 
-/* Runs one command on the file at a path, as `rrdi COMMAND FILE WORD..` does: with its lock, and written so that a kill
- * loses nothing. With a fault the file is unchanged; docs/files.md says what RRDI_CANNOT_WRITE may leave if the disk fails.
+/* Runs one command on the file at a path, as `rrdi COMMAND FILE WORD..` does: locks the file, and writes the file so that a
+ * kill loses nothing. With a fault the file is unchanged; docs/files.md says what RRDI_CANNOT_WRITE may leave if the disk
+ * fails.
  *
  * path             UTF-8, without a zero byte, at most 4,095 bytes.
  * wait             the milliseconds for which the call waits for a lock that another process holds: 0 for one try, at most
  *                  3,600,000. The program waits for 5,000.
- * syncs            whether the call waits until the disk has stored the change, as RRDI_SYNC=1 has the program do. */
+ * syncs            whether the call waits until the disk has stored the change, as the program does with RRDI_SYNC=1. */
 void rrdi_run_file(const uint8_t *path, size_t path_length, const uint8_t *words, size_t words_length, uint64_t now,
                    uint64_t wait, bool syncs, uint8_t *output, size_t output_room, struct rrdi_answer *answer);
 
-/* Runs lines on the file at a path, as `rrdi batch FILE` does. The file is read once and written once. With a fault, and if
- * there is no room for the output, the file is unchanged. */
+/* Runs lines on the file at a path, as `rrdi batch FILE` does: reads the file once and writes the file once. With a fault,
+ * and if there is no room for the output, the file is unchanged. */
 void rrdi_batch_file(const uint8_t *path, size_t path_length, const uint8_t *lines, size_t lines_length, uint64_t now,
                      uint64_t wait, bool syncs, uint8_t *output, size_t output_room, uint64_t *refused_lines,
                      size_t refused_room, struct rrdi_answer *answer);

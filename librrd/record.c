@@ -1,12 +1,12 @@
-/* Functions of RRDtool's library for programs in C that record, such as collectd's plugin rrdtool. They write databases
- * of rrdi, by the library librrdi. Put this object before RRDtool's own library:
+/* Functions of RRDtool's library for programs in C that record, such as collectd's plugin rrdtool. The functions write
+ * databases of rrdi, by the library librrdi. Load this library before RRDtool's own library:
  *
  *     LD_PRELOAD=/usr/local/lib/rrdi/librrdi-record.so collectd
  *
- * The functions have the names, arguments and results of rrd.h. docs/migrate.md says what differs.
+ * The functions have the names, arguments and results of rrd.h. docs/migrate.md lists the differences.
  *
- * An update stores each sample that rrdi accepts, and fails if one is refused. Numbers may have an exponent and any
- * number of digits; they are rounded to millionths, halves upwards. */
+ * An update stores each sample that rrdi accepts, and fails if rrdi refuses a sample. Numbers may have an exponent and any
+ * number of digits; the functions round numbers to millionths, and halves up. */
 #define _POSIX_C_SOURCE 200809L
 #include "rrdi.h"
 
@@ -19,12 +19,12 @@
 #include <time.h>
 #include <unistd.h>
 
-/* For a lock that another program holds, in milliseconds. */
+/* The time to wait for a lock that another program holds, in milliseconds. */
 #define WAIT 5000
 #define DECIMALS 6
 #define EXPORTED __attribute__((visibility("default")))
 
-/* The error of this thread; empty if there is none. */
+/* The error of this thread; empty without an error. */
 static _Thread_local char error[1024];
 
 EXPORTED char *rrd_get_error(void) { return error; }
@@ -73,14 +73,14 @@ static void add_zeros(struct text *text, long count) {
 
 /* ---- Numbers */
 
-/* A number in parts: its digits without the point, and how many of them are before the point; that may be negative. */
+/* A number in parts: its digits without the point, and the number of digits before the point, which may be negative. */
 struct number {
     bool is_negative;
-    const char *first, *last; /* the digits, among which there may be a point */
+    const char *first, *last; /* the digits, which may include a point */
     long before;
 };
 
-/* Reads a number such as -1.5e-05. Returns whether the whole text is one. */
+/* Reads a number such as -1.5e-05. Returns whether the whole text is a number. */
 static bool read_number(const char *at, const char *end, struct number *number) {
     long digits = 0, exponent = 0;
     bool has_point = false, is_below = false;
@@ -111,7 +111,7 @@ static bool read_number(const char *at, const char *end, struct number *number) 
     return at == end;
 }
 
-/* Adds one to a number in decimal digits with a point; if all digits are nines, a one comes before them. */
+/* Adds one to a number in decimal digits with a point. If all digits are nines, adds a digit 1 at the front. */
 static void increment(struct text *text, size_t from) {
     if (text->has_failed) return;
     size_t at = text->length;
@@ -130,10 +130,10 @@ static void increment(struct text *text, size_t from) {
     text->bytes[from] = '1';
 }
 
-/* Adds a number as rrdi reads it: without an exponent, and to six decimals. A half is rounded upwards. */
+/* Adds a number as rrdi reads it: without an exponent, and with six decimals at most. Rounds a half up. */
 static void add_rounded(struct text *text, const struct number *number) {
     long place = number->before; /* the power of ten of the next digit, plus one */
-    int rest = 0;                /* what is cut off: 0 nothing, 1 below a half, 2 a half, 3 above a half */
+    int rest = 0;                /* the dropped digits: 0 none, 1 below a half, 2 a half, 3 above a half */
     bool is_first_cut = true;
     if (number->is_negative) add(text, "-", 1);
     size_t from = text->length;
@@ -166,7 +166,7 @@ static void add_rounded(struct text *text, const struct number *number) {
     if (!text->has_failed && text->bytes[text->length - 1] == '.') text->length--;
 }
 
-/* Adds one field of a definition or a sample: a number, or the text as it is, which rrdi refuses if it is none. */
+/* Adds one field of a definition or a sample: a number, or the unchanged text, which rrdi refuses if it is invalid. */
 static void add_field(struct text *text, const char *at, const char *end) {
     struct number number;
     bool is_plain = at < end;
@@ -183,7 +183,7 @@ static void add_field(struct text *text, const char *at, const char *end) {
     }
 }
 
-/* Adds the fields of a text, of which the ones from `first` on are numbers; colons are between them. */
+/* Adds the fields of a text, with colons between them. The fields from `first` on are numbers. */
 static void add_fields(struct text *text, const char *string, int first) {
     for (int field = 0;; field++) {
         const char *end = strchr(string, ':');
@@ -201,7 +201,7 @@ static void add_fields(struct text *text, const char *string, int first) {
 
 /* ---- The functions */
 
-/* Reports what a call of rrdi says. */
+/* Reports the answer of a call of rrdi. */
 static int report(const char *path, struct rrdi_answer *answer, const char *output) {
     bool is_writing = answer->fault == RRDI_CANNOT_WRITE;
     if ((is_writing || answer->fault == RRDI_CANNOT_OPEN) && answer->system_error != 0) {
@@ -227,7 +227,7 @@ EXPORTED int rrd_create_r(const char *path, unsigned long step, time_t start, in
     }
     for (int at = 0; at < count; at++) {
         add(&words, "", 1);
-        /* DS:name:type:heartbeat:min:max and RRA:function:xff:steps:rows */
+        /* Adds a definition: DS:name:type:heartbeat:min:max or RRA:function:xff:steps:rows. */
         add_fields(&words, definitions[at], strncmp(definitions[at], "DS:", 3) == 0 ? 4 : 2);
     }
     if (words.has_failed) {
@@ -240,7 +240,7 @@ EXPORTED int rrd_create_r(const char *path, unsigned long step, time_t start, in
     return report(path, &answer, output);
 }
 
-/* A line that updates by one sample. Of a time with a fraction the whole seconds stay. */
+/* Adds a line that updates with one sample. Drops a fraction of the time's seconds. */
 static void add_update(struct text *lines, const char *names, const char *sample) {
     const char *colon = strchr(sample, ':'), *point = strchr(sample, '.');
     add_string(lines, "update ");
@@ -277,7 +277,7 @@ EXPORTED int rrd_update_r(const char *path, const char *names, int count, const 
     rrdi_batch_file((const uint8_t *)path, strlen(path), (const uint8_t *)lines.bytes, lines.length,
                     (uint64_t)time(NULL), WAIT, false, (uint8_t *)output.bytes, output.length - 1, refused, 1, &answer);
     output.bytes[answer.output_length < output.length ? answer.output_length : 0] = '\0';
-    /* If the lines were run, the output is theirs, and not the text of the fault. */
+    /* If the lines were run, the output is the output of the lines, and not the text of the fault. */
     int status = report(path, &answer, answer.fault == RRDI_NO_MEMORY      ? "out of memory"
                                        : answer.fault == RRDI_CANNOT_WRITE ? "cannot write"
                                                                            : output.bytes);

@@ -5,8 +5,8 @@ package RRDs;
 #     PERL5LIB=/usr/local/share/rrdi/perl munin-update
 #
 # One process of rrdi-rrdtool in pipe mode serves all calls of a program. The process starts with the first call, and
-# again after a fork, or if a call was broken off. The variable RRDI_RRDTOOL names another program than rrdi-rrdtool.
-# `perldoc RRDs` says which functions there are.
+# again after a fork, or if a call was interrupted. The variable RRDI_RRDTOOL names a program to run instead of
+# rrdi-rrdtool. `perldoc RRDs` lists the functions.
 
 use strict;
 use warnings;
@@ -16,7 +16,7 @@ use POSIX ();
 
 our $VERSION = 1.7002;
 
-# The process, its pipes, the process that owns them, its directory, and the environment that it began with.
+# The process, its pipes, the process that owns the pipes, its directory, and the environment at its start.
 my ($child, $to, $from, $owner, $directory, $environment);
 my $is_busy = 0;
 my $error;
@@ -33,7 +33,7 @@ sub _program {
     return -x $beside ? $beside : 'rrdi-rrdtool';
 }
 
-# The variables that change what a process answers.
+# The variables on which the answers of a process depend.
 sub _environment {
     my @names = qw(TZ RRDI RRDI_LIBRARY RRDI_SYNC RRDI_WAIT PATH LANG LC_ALL LC_TIME LC_CTYPE);
     return join "\0", map { defined $ENV{$_} ? "$_=$ENV{$_}" : $_ } @names;
@@ -82,7 +82,7 @@ sub _stop {
 
 END { _stop() }
 
-# An argument as the pipe mode reads it: in quotes, and each apostrophe in quotes of the other kind.
+# Returns an argument as pipe mode reads it: in quotes, and each apostrophe in quotes of the other kind.
 sub _quote {
     my ($word) = @_;
     $word = '' unless defined $word;
@@ -105,7 +105,7 @@ sub _write {
     return 1;
 }
 
-# Sends a line; returns the lines of its answer, or undef and sets the error.
+# Sends a line. Returns the lines of the answer; or returns undef, and sets the error.
 sub _answer {
     my ($line) = @_;
     $is_busy = 1;
@@ -132,7 +132,7 @@ sub _answer {
     return;
 }
 
-# Runs a command; returns the lines that it prints, or undef and sets the error.
+# Runs a command. Returns the lines of its output; or returns undef, and sets the error.
 sub _ask {
     my ($name, @words) = @_;
     undef $error;
@@ -153,7 +153,7 @@ sub _ask {
 
 # ---- The functions
 
-# Whether a command was run: 1, or undef.
+# Returns 1 if a command was run, and otherwise undef.
 sub _run {
     return _ask(@_) ? 1 : undef;
 }
@@ -176,7 +176,7 @@ sub _value {
     return $text =~ /^-?nan\z/i ? undef : 0 + $text;
 }
 
-# The time of the first row, the seconds between rows, the names of the sources, and the rows.
+# Returns the time of the first row, the seconds between rows, the names of the sources, and the rows.
 sub fetch {
     my $lines = _ask('rows', @_) or return undef;
     my ($begin, $head, undef, @rows) = @$lines;
@@ -185,7 +185,7 @@ sub fetch {
     return ($start + $step, 0 + $step, [split ' ', $head], \@cells);
 }
 
-# The time of the last sample, the names of the sources, and their last values as texts.
+# Returns the time of the last sample, the names of the sources, and their last values as texts.
 sub lastupdate {
     my $lines = _ask('lastupdate', @_) or return undef;
     my ($head, undef, $row) = @$lines;
@@ -193,7 +193,7 @@ sub lastupdate {
     return (0 + $time, [split ' ', $head], \@values);
 }
 
-# The lines KEY = VALUE as a hash.
+# Returns the lines KEY = VALUE as a hash.
 sub _hash {
     my ($lines) = @_;
     return { map { /^(\S+) = (.*)\z/ ? ($1, _typed($2)) : () } @$lines };
@@ -214,7 +214,7 @@ sub updatev {
     return _hash($lines);
 }
 
-# A start and an end, as seconds since 1970.
+# Returns a start and an end, in seconds since 1970.
 sub times {
     my $lines = _ask('times', @_) or return undef;
     return map { 0 + $_ } split ' ', $lines->[0];
@@ -222,7 +222,7 @@ sub times {
 
 # ---- Pictures
 
-# A picture for standard output is drawn to a file first.
+# Draws a picture for standard output to a file first.
 sub _picture {
     my ($name, $file, @words) = @_;
     return (_ask($name, $file, @words), undef) unless defined $file and $file eq '-';
@@ -234,7 +234,7 @@ sub _picture {
     return ($lines, scalar readline $drawn);
 }
 
-# The texts of PRINT, and the width and the height.
+# Returns the texts of PRINT, and the width and the height.
 sub graph {
     my ($lines, $image) = _picture('graph', @_);
     return undef unless $lines;
@@ -255,7 +255,7 @@ sub graphv {
     return $found;
 }
 
-# The time of the first row and of the last one, the seconds between rows, how many columns, their names, and the rows.
+# Returns the times of the first and the last row, the seconds between rows, the number of columns, their names, and the rows.
 sub xport {
     my $lines = _ask('xport', '--json', grep { not /^(-t|--showtime|--json|--enumds)\z/ } @_) or return undef;
     require JSON::PP;
@@ -266,7 +266,7 @@ sub xport {
     return (@$meta{qw(start end step)}, scalar @{ $meta->{legend} }, $meta->{legend}, \@numbers);
 }
 
-# ---- What rrdi has none of
+# ---- Functions that rrdi does not have
 
 for my $name (qw(dump restore list flushcached fetch_cb_register)) {
     no strict 'refs';
@@ -293,15 +293,16 @@ RRDs - RRDtool's Perl module on rrdi's files
 
 =head1 DESCRIPTION
 
-The functions take the arguments of RRDtool's own module and return what it returns: C<create>, C<update>, C<updatev>,
-C<tune>, C<fetch>, C<first>, C<last>, C<info>, C<times>, C<graph>, C<graphv>, C<xport> and C<error>. After an error they
-return undef, and C<RRDs::error()> is the reason. C<graph>, C<graphv> and C<xport> need RRDtool's library, which draws.
+The functions have the arguments and results of RRDtool's own module: C<create>, C<update>, C<updatev>, C<tune>,
+C<fetch>, C<first>, C<last>, C<info>, C<times>, C<graph>, C<graphv>, C<xport> and C<error>. After an error a function
+returns undef, and C<RRDs::error()> returns the reason. C<graph>, C<graphv> and C<xport> need RRDtool's library, which
+draws the picture.
 
 Two functions are not in RRDtool's own module: C<resize>, which writes F<resize.rrd>, and C<lastupdate>, which returns
 the time of the last sample, the names of the sources and their last values. C<dump>, C<restore>, C<list>,
 C<flushcached> and C<fetch_cb_register> set an error.
 
-All calls of a program are served by one process of C<rrdi-rrdtool>. Line feeds in arguments become spaces.
+One process of C<rrdi-rrdtool> serves all calls of a program. Line feeds in arguments become spaces.
 
 =head1 ENVIRONMENT
 
@@ -309,12 +310,13 @@ All calls of a program are served by one process of C<rrdi-rrdtool>. Line feeds 
 
 =item RRDI_RRDTOOL
 
-The program to run instead of rrdi-rrdtool, which is found beside this module or on the PATH.
+The program to run instead of rrdi-rrdtool. Without this variable, the module looks for rrdi-rrdtool in its own
+installation and on the PATH.
 
 =item RRDI
 
-The program that rrdi-rrdtool runs. Without it, the C library librrdi runs the commands; if that is not installed, the
-program rrdi on the PATH.
+The program that rrdi-rrdtool runs. Without this variable, the C library librrdi runs the commands or, if it is not
+installed, the program rrdi on the PATH.
 
 =back
 

@@ -1,25 +1,26 @@
-/* A library that is loaded before the C library, and stands between it and a program. It counts the program's growths
-   (malloc, calloc, and realloc to more bytes than a block has) and its calls of the system that open, lock, ask, cut,
-   sync, read or write. It makes those fail that the environment names, by their number from 1 on, and writes each down
-   in the file LOG.
+/* A library between a program and the C library: load this library before the C library. It counts the program's growths
+   (malloc, calloc, and realloc to more bytes than a block has) and the system calls that open, lock, query, truncate,
+   sync, read or write. It lets the growths and calls fail that the environment names by their number, from 1 on, and
+   writes a line for each growth and call to the file LOG.
 
    REFUSE=N      growth N finds no memory         REFUSE_FROM=N   nor does any later growth
    SHRINKS=1     a realloc to fewer bytes counts as a growth too
-   LINES=1       a read of standard input gives one line at most, so the log tells what each line took
-   CALL=N        call N fails; with MOVES=A,B,.. it moves at most A bytes, the next call of its name on its file at most
-                 B, and so on, where -1 is a failure; with CUT=B it moves B bytes, and no byte behind these is written
-                 from then on; with INTERRUPTS=M it and the next M - 1 calls that move bytes are interrupted
+   LINES=1       a read of standard input returns at most one line, so the log shows the growths and calls of each line
+   CALL=N        call N fails. With MOVES=A,B,.. the call moves at most A bytes, the next call of the same name on the
+                 same file at most B, and so on; -1 is a failure. With CUT=B the call moves B bytes, and from then on no
+                 byte after these can be written. With INTERRUPTS=M the call and the next M - 1 calls that move bytes are
+                 interrupted.
    FROM=N        call N, and each later call that changes a file, fails
-   WHY=E         the number of the error of such a failure (EIO)
+   WHY=E         the error number of such a failure (EIO)
    KILL=N        the process is killed before call N
 
    The log has a line for each:
        grow SIZE given|refused
-       NAME FILE SIZE GOT AT       open: FLAGS in place of AT, and the path; flock and fcntl: what is asked for in place of SIZE
+       NAME FILE SIZE GOT AT       open: FLAGS instead of AT, and the path; flock and fcntl: the operation instead of SIZE
        end BLOCKS GROWTHS REFUSED MOST TOUCHED
-   BLOCKS were not given back, MOST bytes were held at a time, and TOUCHED kilobytes were in memory at a time.
+   BLOCKS were not freed, MOST bytes were held at a time, and TOUCHED kilobytes were in memory at a time.
 
-   The file RECORD gets each change of a file with its bytes: a line `pwrite FILE AT SIZE` and the bytes behind it,
+   The file RECORD gets each change of a file with its bytes: a line `pwrite FILE AT SIZE` followed by the bytes,
    `ftruncate FILE LENGTH 0`, `fsync FILE 0 0`. */
 #define _GNU_SOURCE
 #include <errno.h>
@@ -33,7 +34,7 @@
 #include <sys/syscall.h>
 #include <unistd.h>
 
-/* The C library's own. */
+/* The C library's own functions. */
 extern void *__libc_malloc(size_t), *__libc_calloc(size_t, size_t), *__libc_realloc(void *, size_t);
 extern void __libc_free(void *);
 
@@ -66,7 +67,7 @@ static void read_moves(const char *text) {
         moves[moves_count++] = -1;
 }
 
-/* Memory is asked for before a constructor runs. */
+/* The program allocates before a constructor runs. */
 static void begin(void) {
     if (is_begun)
         return;
@@ -96,7 +97,7 @@ static void put_whole(int file, const char *bytes, size_t size) {
     }
 }
 
-/* Neither counts as the program's own, nor takes memory. */
+/* Writes a line without counting as a call of the program, and without allocating. */
 static void note(int file, const char *format, ...) {
     char line[200];
     va_list rest;
@@ -124,8 +125,8 @@ static int is_given(size_t size) {
     return !is_refused;
 }
 
-/* A block begins with the bytes that were asked for, so that what counts as a growth, and how much is held, doesn't
-   hang on how the C library rounds. The program's part lies behind, aligned as malloc's blocks are. */
+/* A block begins with the requested number of bytes, so that the growths and the bytes held do not depend on the C
+   library's rounding. The program's part follows, aligned like malloc's blocks. */
 #define HEAD 16
 
 static void *given(size_t *block, long change, size_t size) {
@@ -175,7 +176,7 @@ void free(void *block) {
     __libc_free(head_of(block));
 }
 
-/* Blocks with another alignment would have no such beginning; the programs here take none. */
+/* Blocks with another alignment would have no such beginning; the tested programs allocate none. */
 void *aligned_alloc(size_t alignment, size_t size) {
     abort();
 }
@@ -193,7 +194,7 @@ static ssize_t failed(long error) {
     return -1;
 }
 
-/* How many of so many bytes a call may move; -1 if the call is to fail. */
+/* Returns how many of `size` bytes a call may move; -1 if the call has to fail. */
 static ssize_t admitted(const char *name, long file, size_t size, int changes) {
     begin();
     calls++;
@@ -305,7 +306,7 @@ int fdatasync(int file) {
     return synced("fdatasync", file, SYS_fdatasync);
 }
 
-/* A byte at a time up to the end of a line. */
+/* Reads byte by byte up to the end of a line. */
 static ssize_t read_line(int file, char *bytes, size_t size) {
     size_t got = 0;
     while (got < size) {
@@ -341,7 +342,7 @@ ssize_t write(int file, const void *bytes, size_t size) {
     return noted("write", file, size, limit < 0 ? -1 : syscall(SYS_write, file, bytes, limit), 0);
 }
 
-/* What the wall of a full disk leaves of so many bytes; -1 if it leaves none. */
+/* Returns how many of `size` bytes a full disk can store; -1 if none. */
 static ssize_t before_wall(int file, ssize_t size, off_t at) {
     if (cut && calls == call) {
         wall = at + cut;
@@ -366,7 +367,7 @@ ssize_t pwrite64(int file, const void *bytes, size_t size, off_t at) {
     return pwrite(file, bytes, size, at);
 }
 
-/* The most kilobytes that were in memory at a time, the C library's and the program's own among them. */
+/* Returns the maximum number of kilobytes that were in memory at a time, including those of the C library and the program. */
 static long touched(void) {
     char text[4096];
     int file = syscall(SYS_openat, AT_FDCWD, "/proc/self/status", O_RDONLY, 0);

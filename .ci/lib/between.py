@@ -1,7 +1,7 @@
-"""Builds the library `between.c`, chooses by its settings what fails, and reads the log that it writes.
+"""Builds the library `between.c`, sets which calls fail, and reads the library's log.
 
-The scripts use it that let allocations or system calls of a built program fail. It needs Linux with glibc, a program
-that is linked with the C library as a shared library, and a C compiler `cc`."""
+This module is for scripts that let allocations or system calls of a built program fail. It needs Linux with glibc, a
+program that is linked with the C library as a shared library, and a C compiler `cc`."""
 from __future__ import annotations
 
 import subprocess

@@ -1,11 +1,11 @@
-/* A program that takes the words of rrdi, and does by the library what rrdi does: so the scripts that try the program try
-   the library. Its own reads of standard input and writes of its outputs go around the C library, so that a library that
-   stands between (between.c) sees those of librrdi alone. It allocates nothing.
+/* A program that takes the arguments of rrdi and runs the command by the library, so that the scripts that try rrdi can try
+   the library. Its own reads of standard input and writes of output bypass the C library, so that the library between.c
+   sees only the calls of librrdi. The program allocates nothing.
 
-   RRDI_WAIT and RRDI_SYNC=1 have the meaning that they have for rrdi. With IN_MEMORY=1 the program reads FILE itself, has
-   the library run the command on the bytes, and writes the new file. With ROOM=N there is room for so many bytes of output
-   at first, and for all of them at the second call. With STACK=N the calls run in a thread with a stack of so many bytes,
-   and the file STACK_USED gets how many of them were used. */
+   RRDI_WAIT and RRDI_SYNC=1 have the same meaning as for rrdi. With IN_MEMORY=1 the program reads FILE itself, lets the
+   library run the command on the bytes, and writes the new file. With ROOM=N the first call has room for N bytes of output,
+   and the second call for all bytes. With STACK=N the calls run in a thread with a stack of N bytes, and the file
+   STACK_USED gets the number of bytes that were used. */
 #define _GNU_SOURCE
 #include <errno.h>
 #include <fcntl.h>
@@ -103,7 +103,7 @@ static void call(const char *path, bool is_batch, size_t length, bool has_file, 
         rrdi_run_file(name, name_length, words, length, now, wait, syncs, output, output_room, &answer);
 }
 
-/* ---- a call on a stack of its own, painted so that one sees afterwards how deep it went */
+/* ---- a call on a stack of its own, filled with a pattern that shows afterwards how much of the stack was used */
 
 #define PAINT 0xa5
 
@@ -149,9 +149,9 @@ static void call_on_stack(struct task *task) {
     report_stack(stack, size);
 }
 
-/* ---- what the answer says */
+/* ---- the answer */
 
-/* Looks at what the answer says beside the fault, and says what is wrong. */
+/* Checks the fields of the answer besides the fault, and returns a description of a wrong field. */
 static const char *wrong(bool is_batch, bool in_memory) {
     size_t count = answer.refused < sizeof refused_lines / sizeof *refused_lines
                        ? answer.refused : sizeof refused_lines / sizeof *refused_lines, lines = 0;
@@ -160,10 +160,10 @@ static const char *wrong(bool is_batch, bool in_memory) {
     if (answer.system_error && answer.fault != RRDI_CANNOT_OPEN && answer.fault != RRDI_CANNOT_WRITE)
         return "an error of the system without a call that failed";
     if (!in_memory && answer.file_length)
-        return "a length of a file that isn't in memory";
+        return "a length of a file that is not in memory";
     for (size_t at = 0; at < count; at++)
         if (refused_lines[at] <= (at ? refused_lines[at - 1] : 0))
-            return "numbers of refused lines that aren't in order";
+            return "numbers of refused lines that are not in order";
     if (!is_batch)
         return answer.refused ? "a refused line of a command" : NULL;
     for (size_t at = 0; at < answer.output_length; at++) {
@@ -176,8 +176,8 @@ static const char *wrong(bool is_batch, bool in_memory) {
     return NULL;
 }
 
-/* The line after `cannot open` and `cannot write`: why, as the system says it. If no call of the system failed, a part of
-   the bytes was written twice. */
+/* Prints the line after `cannot open` and `cannot write`, with the system's reason. If no system call failed, only a part of
+   the bytes was written, twice. */
 static void report_reason(const char *path) {
     const char *reason = answer.system_error ? strerrordesc_np(answer.system_error) : "no reason of the system";
     put(2, "rrdi: ", 6);

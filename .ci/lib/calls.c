@@ -1,5 +1,5 @@
-/* Notes each call of librrd's functions for recorders in the file that the variable CALLS names, as a line for
- * `rrdtool -`, and passes the call on to the next library. It is loaded by LD_PRELOAD, before that library. */
+/* Writes each call of librrd's functions for recorders to the file that the variable CALLS names, as a line for
+ * `rrdtool -`, and passes the call on to the next library. Load this library by LD_PRELOAD, before that library. */
 #define _GNU_SOURCE
 #include <dlfcn.h>
 #include <stdio.h>

@@ -1,6 +1,6 @@
 """Changes of every kind on files of every size, and the files that are right after a change.
 
-The scripts use these that kill a program at each call, or let each call fail."""
+This module is for scripts that kill a program at each call, or let each call fail."""
 from __future__ import annotations
 
 from dataclasses import dataclass
@@ -134,7 +134,7 @@ class Place:
         put(self.file, None)
         answer = self.plain(("batch", FILE), task.made)
         if answer != Answer(0):
-            raise RuntimeError(f"{task.name}: the file isn't made: {answer}")
+            raise RuntimeError(f"{task.name}: the file was not created: {answer}")
         return held(self.file)
 
     def run(self, task: Task, old: bytes | None, **settings: object) -> Ran:
@@ -151,13 +151,13 @@ class Place:
 
 
 def is_refused(answer: Answer) -> bool:
-    """Checks whether a command reported that its file is no database, or does not exist."""
+    """Checks whether a command reported that its file is not a database, or does not exist."""
     return answer.status == 1 and answer.out == "" and answer.err.startswith(("ERROR: file: ", "ERROR: cannot open\n"))
 
 
 def locks_of(calls: list[between.Event], file: str, changes: bool) -> list[str]:
-    """Returns what was done to a file without the lock that it needs. Each read needs a shared lock, and each change an
-    exclusive one; a command that changes the file also reads it under an exclusive lock. A copy of a handle shares the
+    """Returns the calls on a file without the necessary lock. Each read needs a shared lock, and each change an exclusive
+    lock; a command that changes the file also reads the file under an exclusive lock. A copy of a handle shares the
     handle's lock."""
     faults, handles, kinds = [], {}, {}
     for number, call in enumerate(calls, 1):
@@ -172,5 +172,5 @@ def locks_of(calls: list[between.Event], file: str, changes: bool) -> list[str]:
             kind = kinds[handles[call.file]]
             needed = LOCK_EX if changes or call.kind not in ("read", "pread") else LOCK_SH
             if kind == 0 or needed == LOCK_EX and kind != LOCK_EX:
-                faults.append(f"call {number}, {call.kind} of {file}, comes under {('no', 'a shared')[kind]} lock")
+                faults.append(f"call {number}, {call.kind} of {file}, is made under {('no', 'a shared')[kind]} lock")
     return faults

@@ -1,5 +1,5 @@
-"""The definitions of docs/definitions.md once more, second by second and row by row, sharing nothing with the program:
-what a command does, and what it prints; and random batches."""
+"""The definitions of docs/definitions.md, second by second and row by row, without any code of the program: the effect
+and the output of each command; and random batches."""
 from __future__ import annotations
 
 import random
@@ -30,7 +30,7 @@ def shown(value, unknown="nan"):
 
 
 def admitted(kind, text):
-    """The raw value that a source of the kind keeps of a number's text."""
+    """Returns the raw value that a source of this kind keeps for the text of a number."""
     whole, point, fraction = text.lstrip("-").partition(".")
     value = int(whole) * MILLION + int(fraction.ljust(6, "0") if point else 0)
     value = -value if text.startswith("-") else value
@@ -94,8 +94,8 @@ class Archive:
 
 @dataclass
 class Life:
-    """An archive of a history, followed by itself: its settings, the seconds in a row, when it began, its rows by now,
-    and its horizon."""
+    """An archive of a history: its settings, the seconds of a row, the time of its birth, its number of rows now, and its
+    horizon."""
 
     settings: Archive
     size: int
@@ -128,7 +128,7 @@ def is_good(name):
 
 
 def refuse(*checks):
-    """Refuses for the first check that is true."""
+    """Raises `Refused` for the first check that is true."""
     for wrong, why in checks:
         if wrong:
             raise Refused(why)
@@ -163,7 +163,7 @@ class Database:
         self.look()
 
     def look(self):
-        """Works out the whole history: each second's rates, and each archive's life."""
+        """Computes the whole history: the rates of each second, and the life of each archive."""
         self.last, self.sources = self.start, self.made_with
         self.raws = [None] * len(self.sources)
         self.rates = {}
@@ -214,7 +214,7 @@ class Database:
         archive, size = life.settings, life.size
         if time <= max(life.horizon, life.birth // size * size) or time > self.last // size * size:
             return None
-        # The steps that had ended when it began are not for it.
+        # The steps that had ended when the archive was added do not count for the archive.
         first = max(life.birth // self.step, (time - size) // self.step)
         steps = [self.step_cell(source, k) for k in range(first, time // self.step)]
         known = [cell for cell in steps if cell is not None]
@@ -228,7 +228,7 @@ class Database:
         }[archive.function]()
 
 
-# ---- commands: each as its words, and as what it does to a database (the lines that it prints)
+# ---- commands: the words of each command, and its effect on a database (the lines that it prints)
 
 
 def definition(archive):
@@ -287,7 +287,7 @@ class Update:
 @dataclass
 class Tune:
     options: dict  # heartbeat, min, max, kind, name: each the source's name and its new value
-    archive: Archive | int | None = None  # one that is added, or the number of one that is removed
+    archive: Archive | int | None = None  # an added archive, or the number of a removed archive
 
     WORDS = {
         "heartbeat": "--heartbeat",
@@ -487,7 +487,7 @@ class Fetch:
 
 
 def run(database, command):
-    """The database after a command, and the lines that it prints."""
+    """Returns the database after a command, and the lines that the command prints."""
     try:
         if isinstance(command, Create):
             return Database(**vars(command)), []
@@ -501,7 +501,7 @@ def run(database, command):
 
 
 class Chance:
-    """Commands for the database as it is. A calm one has rates that are mostly known."""
+    """Chooses random commands for a database. If the batch is calm, most rates are known."""
 
     def __init__(self, number):
         self.random = random.Random(number)
@@ -606,7 +606,7 @@ class Chance:
 
 
 def all_shown(database):
-    """What is left at the end: the settings and values, and the newest rows of each function and resolution."""
+    """Returns commands that print the final settings and values, and the newest rows of each function and resolution."""
     kinds = sorted({(a.function, size) for a, size in zip(database.archives, database.resolutions)})
     last = database.last
     firsts = [First(number) for number in range(len(database.archives))]
@@ -615,7 +615,7 @@ def all_shown(database):
 
 
 def commands_and_texts(number):
-    """The commands of a random batch, and the lines that the definitions print for each."""
+    """Returns the commands of a random batch, and the lines that the definitions print for each command."""
     chance, database, commands, texts = Chance(number), None, [], []
 
     def take(command):
@@ -632,7 +632,7 @@ def commands_and_texts(number):
 
 
 def texts_of(commands, without):
-    """The lines that the definitions print for each of the commands, if the one so numbered finds no memory."""
+    """Returns the lines that the definitions print for each command if the command with this number finds no memory."""
     database, texts = None, []
     for number, command in enumerate(commands):
         database, told = (database, ["ERROR: out of memory"]) if number == without else run(database, command)
@@ -641,7 +641,7 @@ def texts_of(commands, without):
 
 
 def batch(number):
-    """The lines of a random batch, and what the definitions print for it."""
+    """Returns the lines of a random batch, and the lines that the definitions print."""
     commands, texts = commands_and_texts(number)
     return [str(command) for command in commands], sum(texts, [])
 

@@ -1,11 +1,12 @@
-/* A small program with the words of rrdi and a layout of its own, for the tests of the scripts: it keeps rrdi's promises
-   on files, locks, kills and syncs, unless the environment names a fault that it is to have:
+/* A small program with rrdi's arguments and a layout of its own, for the tests of the scripts. It keeps rrdi's promises on
+   files, locks, kills and syncs, unless the environment names faults:
 
        FAKE_BUG=NAME[,NAME..] fake COMMAND FILE ..
 
-   A file has a head of 64 bytes (mark, state, length, place of the tail, last time, checksum, rows, entries), rows of 16
-   bytes and at most 16 entries of 96. A change puts the old bytes behind the longer of old and new, marks the head, puts
-   the new rows, and then the new head; the next run that opens a file with such a mark takes it back. */
+   A file has a header of 64 bytes (mark, state, length, position of the tail, last time, checksum, rows, entries), rows of
+   16 bytes and at most 16 entries of 96 bytes. A change writes the old bytes after the longer one of the old and the new
+   database, marks the header, writes the new rows, and then the new header. If the next run opens a file with such a mark,
+   that run takes the change back. */
 #define _GNU_SOURCE
 #include <errno.h>
 #include <fcntl.h>
@@ -53,7 +54,7 @@ static int tell(const char *text) {
     return has("wrong-status") ? 0 : 1;
 }
 
-/* The reason of an error number, in the words of the manual. */
+/* Returns the reason for an error number, as the manual has it. */
 static const char *reason_of(int number) {
     switch (number) {
     case ENOENT: return "no such file or directory";
@@ -67,7 +68,7 @@ static const char *reason_of(int number) {
     }
 }
 
-/* Tells a fault of FILE, and the reason in a line of its own. */
+/* Reports a fault of FILE, and the reason in another line. */
 static int tell_why(const char *text, const char *path, const char *reason) {
     int status = tell(text);
     if (!has("no-reason"))
@@ -75,7 +76,7 @@ static int tell_why(const char *text, const char *path, const char *reason) {
     return status;
 }
 
-/* The reason of a run that has waited for a lock. */
+/* Returns the reason of a run that waited for a lock. */
 static const char *in_use(void) {
     static char text[80];
     const char *wait = getenv("RRDI_WAIT");
@@ -200,7 +201,7 @@ static int put_pages(int file, struct base old, struct base new) {
     return 0;
 }
 
-/* Over bytes that are no database's. */
+/* Writes a file whose bytes are not a database. */
 static int store_bare(int file, struct base old, struct base new) {
     unsigned char spoiled[4] = {0};
     if ((old.length && put(file, spoiled, 4, 0)) || put(file, new.bytes + HEAD, new.length - HEAD, HEAD)
@@ -240,7 +241,7 @@ static int store(int file, struct base old, struct base new, int is_database) {
     return 0;
 }
 
-/* Whether a file is as a change leaves it, or has to be taken back, or cut. */
+/* Returns whether a file is complete. If not, its change has to be taken back, or the file truncated. */
 static int is_settled(struct base base) {
     return base.length < HEAD || memcmp(base.bytes, "RRDI", 4)
         || (head_of(base)->state == 0 && base.length <= head_of(base)->length);
@@ -265,7 +266,7 @@ static int settle(int file) {
     return cut(file, old.length) || settle_on_disk(file);
 }
 
-/* ---- commands, over bytes in memory */
+/* ---- commands, on bytes in memory */
 
 static struct base grown(struct base base, size_t length) {
     base.bytes = realloc(base.bytes, length);
@@ -286,7 +287,7 @@ static unsigned char *row_at(struct base base, uint64_t time) {
     return base.bytes + HEAD + time / 10 % head_of(base)->rows * ROW;
 }
 
-/* An entry: the last time, the setting, the rows and the row of before. */
+/* A journal entry: the last time, the setting, the number of rows and the row before the change. */
 static struct base entered(struct base base, uint64_t time) {
     unsigned char entry[ENTRY] = {0};
     size_t first = HEAD + head_of(base)->rows * ROW;
@@ -334,7 +335,7 @@ static struct base resize(struct base base, long change) {
     return base;
 }
 
-/* Runs one command. Gives its status, or -1 after a change. */
+/* Runs one command. Returns its status, or -1 after a change. */
 static int execute(struct base *base, char **words, int count) {
     if (!strcmp(words[0], "create")) {
         const char *rows = strrchr(words[count - 1], ':');
@@ -371,7 +372,7 @@ static int execute(struct base *base, char **words, int count) {
     return fflush(stdout) ? tell("write failed") : 0;
 }
 
-/* The next byte of standard input: 0 at its end, -1 if a read failed. */
+/* Reads the next byte of standard input. Returns 0 at the end, and -1 if a read failed. */
 static ssize_t next_byte(char *byte) {
     static char waiting[1 << 16];
     static ssize_t from, behind;

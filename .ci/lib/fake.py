@@ -1,4 +1,4 @@
-"""Builds the small program `fake.c` for the tests of scripts. It keeps the promises of rrdi, or breaks one of them."""
+"""Builds the small program `fake.c` for the tests of scripts. The program keeps the promises of rrdi, or breaks some."""
 from __future__ import annotations
 
 import subprocess

@@ -6,7 +6,7 @@ The steps are:
 
 - .ci/self-tests tries the scripts of this folder themselves.
 - .ci/run-cases runs the worked batches and some random batches.
-- `rt ci` tries every proof, edit, test and program of the repository.
+- `rt ci` tries every proof, planted bug, test and program of the repository.
 - .ci/run-built tries the program that `rt ci` has built.
 
 If nothing failed, the last line is the last line of `rt ci`.
@@ -116,7 +116,7 @@ def self_test() -> int:
         test.want(gate(place, "") == 0, "nothing fails")
         for name in ("self-tests", "run-cases", "rt", "run-built"):
             test.want(gate(place, name, 1) == 1, f"{name} fails")
-            test.want(gate(place, name, 0, "") == 1, f"{name} says nothing")
+            test.want(gate(place, name, 0, "") == 1, f"{name} prints nothing")
             test.want(gate(place, name, 0, "0 tests: 0 wrong\n") == 1, f"{name} tries nothing")
         test.want(gate(place, "rt", 0, "16 passed, 1 failed\n") == 1, "a crate fails, with status 0")
     test.want([step.words[0] for step in STEPS] == [".ci/self-tests", ".ci/run-cases", "rt", ".ci/run-built"], "the order")

@@ -1,6 +1,6 @@
-/* Tests of the four functions of rrdi.h: what each answers on its happy path, each fault's number, rooms that are too small,
-   the numbers of refused lines, a lock that another one holds, threads. It is run in a folder of its own, prints what is not
-   as it should be, and how much it tried. */
+/* Tests the four functions of rrdi.h: results without a fault, the number of each fault, buffers that are too small, the
+   numbers of refused lines, a lock that another process holds, threads. Run the program in an empty folder; it prints each
+   wrong result and the number of tests. */
 #define _GNU_SOURCE
 #include <errno.h>
 #include <fcntl.h>
@@ -81,7 +81,7 @@ static void test_run(void) {
     run(WORDS("nothing"), sizeof new_file);
     want(gave(RRDI_USAGE, false, "usage"), "no command");
     run(WORDS("last\0"), sizeof new_file);
-    want(gave(RRDI_USAGE, false, "usage"), "a word behind the last one");
+    want(gave(RRDI_USAGE, false, "usage"), "a word after the last one");
     run(WORDS("last\0\xff"), sizeof new_file);
     want(gave(RRDI_USAGE, false, "usage"), "a word that is no text");
     run(WORDS("revert"), sizeof new_file);
@@ -171,7 +171,7 @@ static void test_run_file(void) {
     run_file(PATH, WORDS("update"), 0);
     want(gave(RRDI_REFUSED, false, "no sample"), "an update without a sample");
     run_file(PATH, WORDS("update\00010"), 0);
-    want(gave(RRDI_BAD_WORD, false, "unreadable sample 1"), "a word that can't be read, for a file");
+    want(gave(RRDI_BAD_WORD, false, "unreadable sample 1"), "an unreadable word, for a file");
     run_file(PATH, WORDS("last\0more"), 0);
     want(gave(RRDI_USAGE, false, "usage"), "no command for a file");
     run_file("\xff", WORDS("last"), 0);
@@ -202,7 +202,7 @@ static void test_batch_file(void) {
     rrdi_batch_file(WORDS("bad"), WORDS("last\n"), 0, 0, false, output, sizeof output, refused, 2, &answer);
     want(gave(RRDI_TRUNCATED, false, "file: truncated at 4") && answer.at == 4 && !answer.refused, "a batch on a bad file");
     rrdi_batch_file(WORDS("nowhere/file"), WORDS(CREATE_LINE "last\n"), 0, 0, false, output, sizeof output, refused, 2, &answer);
-    want(gave(RRDI_CANNOT_WRITE, false, "0\n") && answer.system_error == ENOENT, "a batch that can't be written");
+    want(gave(RRDI_CANNOT_WRITE, false, "0\n") && answer.system_error == ENOENT, "a batch that cannot be written");
     rrdi_batch_file(WORDS("another"), WORDS("last\n"), 0, 0, false, output, sizeof output, refused, 2, &answer);
     want(gave(RRDI_OK, false, "ERROR: no database\n") && access("another", F_OK), "a batch that makes no file");
     rrdi_batch_file(WORDS("\xff"), WORDS("last\n"), 0, 0, false, output, sizeof output, refused, 2, &answer);
@@ -222,11 +222,11 @@ static void test_locks(void) {
     if (other < 0 || flock(other, LOCK_SH))
         exit(3);
     run_file(PATH, WORDS("last"), 0);
-    want(gave(RRDI_OK, false, "10\n"), "last beside another reader");
+    want(gave(RRDI_OK, false, "10\n"), "last while another process reads");
     double begin = seconds();
     run_file(PATH, WORDS("update\00020:1"), 0);
     want(gave(RRDI_CANNOT_OPEN, false, "cannot open") && answer.system_error == EAGAIN && seconds() - begin < 0.2,
-         "an update that doesn't wait for a lock");
+         "an update that does not wait for a lock");
     begin = seconds();
     run_file(PATH, WORDS("update\00020:1"), 300);
     double waited = seconds() - begin;

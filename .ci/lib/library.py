@@ -1,6 +1,6 @@
-"""Builds the C library of an archive, and programs over it: the tests of its functions, and the program that does by
-the library what rrdi does (by_library.c). It needs `make`, a C compiler `cc`, `ld` and `objcopy`, and `rt` on the
-PATH, beside which what of C the kit's code calls is found."""
+"""Builds the C library of an archive, and programs that use it: the tests of the functions, and the program that runs
+rrdi's commands by the library (by_library.c). This module needs `make`, a C compiler `cc`, `ld` and `objcopy`, and
+`rt` on the PATH: the C functions that the kit's code calls are in the folder of `rt`."""
 from __future__ import annotations
 
 import re
@@ -15,11 +15,11 @@ HERE = Path(__file__).resolve().parent
 ARCHIVE = TOP / "out/librrdi_c.a"
 USAGE = TOP / "crates/rrd_store/src/usage.rt"
 EXPORTS = frozenset({"rrdi_run", "rrdi_batch", "rrdi_run_file", "rrdi_batch_file"})
-# What a library may call of C: memory, bytes, files, and errno. Nothing that ends the process, or handles signals.
+# The C functions that a library may call: memory, bytes, files, and errno. None ends the process or handles signals.
 MAY_CALL = frozenset({"malloc", "realloc", "free", "memcpy", "memmove", "memset", "memcmp", "bcmp", "strlen", "__errno_location",
                       "open", "open64", "close", "read", "pread", "pread64", "pwrite", "pwrite64", "lseek", "lseek64",
                       "ftruncate", "ftruncate64", "fdatasync", "flock", "fcntl", "fcntl64", "statx", "nanosleep"})
-# What the compiler's own library, the linker, and the start files put in: division of 128 bits, and what each shared object has.
+# The functions of the compiler's own library, the linker and the start files: division of 128 bits, and those of each shared object.
 OF_LINKER = frozenset({"__udivti3", "__cxa_finalize", "__gmon_start__", "_ITM_deregisterTMCloneTable", "_ITM_registerTMCloneTable"})
 
 
@@ -46,7 +46,7 @@ class Library:
         return path
 
     def by_library(self, name: str = "by-library", *, static: bool = False) -> Path:
-        """Builds the program that does by the library what rrdi does."""
+        """Builds the program that runs rrdi's commands by the library."""
         return self.program(name, "by_library.c", static=static, flags=(f"-DUSAGE={usage_text()}",))
 
 
@@ -54,7 +54,7 @@ def usage_text() -> str:
     """Returns the usage text as a string of C."""
     found = re.search(r'USAGE: &str = "(.*?)";', USAGE.read_text(), re.DOTALL)
     if not found:
-        raise RuntimeError(f"there is no usage text in {USAGE}")
+        raise RuntimeError(f"cannot find the usage text in {USAGE}")
     return '"' + found[1].replace("\\\n", "").replace("\n", "\\n") + '"'
 
 

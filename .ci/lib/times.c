@@ -1,13 +1,14 @@
-/* Samples to many files, by rrdi_run_file and by rrd_update_r of librrd, file by file in turn.
+/* Passes samples to many files, by rrdi_run_file and by rrd_update_r of librrd, by turns.
 
        times FILES ROUNDS FIRST SOURCES SAMPLES
 
-   in a folder with 00000.rrdi .. and 00000.rrd ..: each round gives each file SAMPLES samples of SOURCES sources by one call,
-   the first of them at FIRST, one every ten seconds. It prints the medians of both in microseconds.
+   Run the program in a folder with 00000.rrdi .. and 00000.rrd ... In each round one call passes SAMPLES samples of SOURCES
+   sources to each file. The first sample is at FIRST, and the samples are ten seconds apart. The program prints the medians
+   of both libraries in microseconds.
 
        times --one FILES ROUNDS FIRST SOURCES SAMPLES
 
-   makes the calls of rrdi alone, for a profiler. */
+   makes only the calls of rrdi, for a profiler. */
 #include <stdio.h>
 #include <stdlib.h>
 #include <string.h>
@@ -35,7 +36,7 @@ static int order(const void *first, const void *second) {
     return (a > b) - (a < b);
 }
 
-/* The samples of a call, and the words of rrdi's. */
+/* Writes the samples of a call, and the words for rrdi. */
 static size_t spell(long first, int sources, int count, int file) {
     size_t length = sprintf(words, "update") + 1;
     for (int at = 0; at < count; at++) {

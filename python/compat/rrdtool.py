@@ -2,7 +2,7 @@
 
     PYTHONPATH=/usr/local/share/rrdi/python/compat python3 program.py
 
-docs/python.md says what is the same and what rrdi lacks.
+docs/python.md lists the functions that rrdi supports, and the differences.
 """
 import os
 import sys
@@ -10,7 +10,7 @@ import sys
 try:
     import rrdi.compat.rrdtool
 except ImportError:
-    # Beside this folder is the package.
+    # The package is in the folder above.
     sys.path.append(os.path.dirname(os.path.dirname(os.path.realpath(__file__))))
 
 from rrdi.compat.rrdtool import *  # noqa: E402, F401, F403

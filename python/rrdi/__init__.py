@@ -1,4 +1,4 @@
-"""Round-robin databases of rrdi, in this process by the C library librrdi, or read from their files.
+"""Round-robin databases of rrdi: runs commands in this process by the C library librrdi, and reads files.
 
     import rrdi
 
@@ -6,7 +6,7 @@
     rrdi.update("room.rrdi", "N:21.5")
     (start, end, step), names, rows = rrdi.fetch("room.rrdi", "AVERAGE")
 
-The functions have the names, the words and the results of Python's module `rrdtool`. docs/python.md has all of them.
+The functions have the names, arguments and results of Python's module `rrdtool`. docs/python.md lists the functions.
 `rrdi.reader` reads files without the C library; `rrdi.compat.rrdtool` takes RRDtool's own syntax.
 """
 from __future__ import annotations

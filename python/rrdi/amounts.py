@@ -5,7 +5,7 @@ MILLION = 10**6
 
 
 class Millionths(int):
-    """An amount in whole millionths, which is shown as rrdi prints it."""
+    """An amount in whole millionths. Its text is the number as rrdi prints it."""
 
     def __str__(self) -> str:
         return f"{'-' * (self < 0)}{abs(self) // MILLION}.{abs(self) % MILLION:06}"

@@ -1,17 +1,18 @@
 """One command, or a batch of lines, on the file at a path.
 
-Each function opens the file, locks it, reads it once, writes it once if it changed, and closes it, as the program does.
-All take these keywords:
+Like the program, each function opens and locks the file, reads the file once, writes a changed file once, and closes the
+file. All functions take these keywords:
 
-- `now`: the present time in seconds since 1970; by default the clock's.
-- `busy_timeout`: the seconds to wait if another program holds the file's lock. By default those of the variable
-  RRDI_WAIT, or 5.
+- `now`: the present time in seconds since 1970; by default the clock's time.
+- `busy_timeout`: the seconds to wait if another program holds the file's lock. The default is the variable RRDI_WAIT,
+  or 5.
 
-What changes a file also takes `sync`: True flushes the change to the disk, as RRDI_SYNC=1 does, which is the default.
+Functions that change a file also take `sync`: True flushes the change to the disk. The default is True if the variable
+RRDI_SYNC is 1.
 
 # Errors
-All raise an `Error` of `rrdi.errors`, by what went wrong; the file is then as it was. They raise `OSError` if the C
-library can't be loaded.
+A failed function raises a subclass of `Error` in `rrdi.errors`; the file is then unchanged. A function raises `OSError`
+if the C library cannot be loaded.
 """
 from __future__ import annotations
 
@@ -25,7 +26,7 @@ from .results import Info, LastUpdate, Table, Value, info_of, last_update
 from .words import FilePath, Words, encoded, encoded_path, flat, is_synced, milliseconds, options, present
 
 class RefusedLine(NamedTuple):
-    """A line of a batch that was refused: its number, the first line is 1, the line, and the reason."""
+    """A refused line of a batch: its number (the first line is 1), the line, and the reason."""
 
     number: int
     line: str
@@ -33,20 +34,20 @@ class RefusedLine(NamedTuple):
 
 
 class Batch(NamedTuple):
-    """What the lines of a batch printed, also `ERROR: ..` for each refused one, and the refused lines."""
+    """The output of a batch's lines, with `ERROR: ..` for each refused line, and the refused lines."""
 
     output: str
     refused: Tuple[RefusedLine, ...]
 
 
 def _failed(answer: Answer, path: FilePath) -> Exception:
-    """The exception for the fault of an answer."""
+    """Returns the exception for the fault of an answer."""
     return error_of(answer.fault, reason_of(answer.fault, answer.output), os.fsdecode(path), answer.at, answer.system_error)
 
 
 def run_on(path: FilePath, words: List[str], now: Optional[int] = None, busy_timeout: Optional[float] = None,
            sync: Optional[bool] = None) -> str:
-    """Runs one command on the file at `path`, and returns what it prints."""
+    """Runs one command on the file at `path`, and returns its output."""
     answer = the_library().run_file(encoded_path(path), encoded(words), present(now), milliseconds(busy_timeout),
                                     is_synced(sync))
     if answer.fault != OK:
@@ -59,14 +60,14 @@ def run_on(path: FilePath, words: List[str], now: Optional[int] = None, busy_tim
 def create(path: FilePath, *definitions: Words, step: Optional[int] = None, start: Optional[int] = None,
            journal: Optional[int] = None, now: Optional[int] = None, busy_timeout: Optional[float] = None,
            sync: Optional[bool] = None) -> None:
-    """Creates a database with data sources (`DS:..`) and archives (`RRA:..`), or replaces the one at `path`."""
+    """Creates a database with data sources (`DS:..`) and archives (`RRA:..`). Replaces a file that is at `path`."""
     words = ["create", *options(step=step, start=start, journal=journal), *flat(definitions)]
     run_on(path, words, now, busy_timeout, sync)
 
 
 def update(path: FilePath, *samples: Words, template: Optional[str] = None, now: Optional[int] = None,
            busy_timeout: Optional[float] = None, sync: Optional[bool] = None) -> None:
-    """Adds samples (`TIME:VALUE..`), all or none of them."""
+    """Adds samples (`TIME:VALUE..`), all or none."""
     words = ["update"] if template is None else ["update", f"--template={template}"]
     run_on(path, words + flat(samples), now, busy_timeout, sync)
 
@@ -79,7 +80,7 @@ def tune(path: FilePath, *words: Words, now: Optional[int] = None, busy_timeout:
 
 def resize(path: FilePath, *words: Words, now: Optional[int] = None, busy_timeout: Optional[float] = None,
            sync: Optional[bool] = None) -> None:
-    """Gives an archive more or fewer rows: its number, GROW or SHRINK, and how many. The file at `path` is changed."""
+    """Changes the number of rows of an archive in the file at `path`: adds (GROW) or removes (SHRINK) `rows` rows."""
     run_on(path, ["resize", *flat(words)], now, busy_timeout, sync)
 
 
@@ -119,7 +120,7 @@ def lastupdate(path: FilePath, *, values: Type[Value], now: Optional[int] = ...,
 
 def lastupdate(path: FilePath, *, values: type = float, now: Optional[int] = None,
                busy_timeout: Optional[float] = None) -> object:
-    """Returns the last raw values: `{"date": datetime, "ds": {name: value}}`; None for an unknown one.
+    """Returns the last raw values: `{"date": datetime, "ds": {name: value}}`; an unknown value is None.
 
     `values` is as in `fetch`. The date is a local time without a zone, as in Python's module `rrdtool`.
     """
@@ -141,10 +142,10 @@ def fetch(path: FilePath, function: Words, *words: Words, values: Type[Value], r
 def fetch(path: FilePath, function: Words, *words: Words, values: type = float, resolution: Optional[int] = None,
           start: Optional[int] = None, end: Optional[int] = None, now: Optional[int] = None,
           busy_timeout: Optional[float] = None) -> object:
-    """Returns rows of one archive: `((start, end, step), names, rows)`, each row a tuple with None for unknown.
+    """Returns rows of one archive: `((start, end, step), names, rows)`. A row is a tuple; an unknown value is None.
 
-    The time of row n is start + (n + 1) * step, its end. `values` is the type of the values: `float`, which rounds;
-    `decimal.Decimal`, exactly; or `Millionths`, an `int`, exactly.
+    Row n ends at start + (n + 1) * step. `values` is the type of the values: `float`, which rounds, `decimal.Decimal`,
+    which is exact, or `Millionths`, an `int`, which is exact.
     """
     time = present(now)
     asked = [*options(resolution=resolution, start=start, end=end), *flat([function, *words])]
@@ -154,10 +155,10 @@ def fetch(path: FilePath, function: Words, *words: Words, values: type = float, 
 # ---- Lines
 
 def lines_of(lines: Union[str, Iterable[str]]) -> List[str]:
-    """Lines without their ends.
+    """Returns the lines without their ends.
 
     # Errors
-    `Usage` if one of several lines has a newline inside, which would move the numbers of those after it.
+    `Usage` if one of several lines has a newline inside, which would change the numbers of the later lines.
     """
     if isinstance(lines, str):
         return lines.split("\n")
@@ -168,7 +169,7 @@ def lines_of(lines: Union[str, Iterable[str]]) -> List[str]:
 
 
 def refused_lines(lines: List[str], answer: Answer) -> Tuple[RefusedLine, ...]:
-    """The refused lines of a batch, each with its reason: each one printed one line that begins with `ERROR: `."""
+    """Returns the refused lines of a batch. Each refused line printed one line with `ERROR: ` and its reason."""
     if not answer.refused:
         return ()
     printed = answer.output.decode(errors="replace").split("\n")
@@ -178,9 +179,9 @@ def refused_lines(lines: List[str], answer: Answer) -> Tuple[RefusedLine, ...]:
 
 def batch(path: FilePath, lines: Union[str, Iterable[str]], *, now: Optional[int] = None,
           busy_timeout: Optional[float] = None, sync: Optional[bool] = None) -> Batch:
-    """Runs lines as `rrdi batch FILE` reads them: the file is locked, read once and written once.
+    """Runs lines as `rrdi batch FILE` does: locks the file, reads the file once, and writes the file once.
 
-    A refused line changes nothing, and the batch goes on with the next line: look at `refused`.
+    A refused line changes nothing, and the batch goes on with the next line. `refused` has the refused lines.
     """
     given = lines_of(lines)
     text = "\n".join(given).encode(errors="surrogateescape")

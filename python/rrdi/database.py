@@ -13,7 +13,7 @@ from .words import FilePath, Words, flat, line_of, options, present
 
 
 class RefusedLines(Refused):
-    """Lines of a `Database` that were refused; `lines` has each with its number and its reason."""
+    """Refused lines of a `Database`; `lines` has each line with its number and its reason."""
 
     def __init__(self, path: str, lines: Tuple[RefusedLine, ...]):
         one = lines[0]
@@ -26,19 +26,18 @@ class RefusedLines(Refused):
 
 
 class Database:
-    """The database in a file, whose changes wait and are then made together.
+    """The database in a file. Changes wait, and then run together.
 
         with rrdi.Database("net.rrdi") as database:
             database.update("10:1")
             database.update("20:2")
 
-    At the end of the block one call locks the file, reads it, runs what waits, writes it once, and unlocks it. If the
-    block ends by an exception, what waits is dropped. A question, such as `fetch` or `last`, is run in the same call
-    after the changes that wait, which are then in the file.
+    At the end of the block one call locks the file, reads the file, runs the waiting changes, writes the file once, and
+    unlocks the file. If the block ends by an exception, the waiting changes are dropped. A query such as `fetch` or
+    `last` first runs the waiting changes, in the same call; the changes are then in the file.
 
-    Each change is a line, counted from 1. A refused line changes nothing, and the lines around it are run; the refused
-    ones raise `RefusedLines` at the end of the block, or from `flush`. A time `N` is the time at which `update` was
-    called.
+    Each change is a line, counted from 1. A refused line changes nothing, and the other lines run. The end of the block,
+    or `flush`, raises `RefusedLines` with the refused lines. A time `N` is the time at which `update` was called.
     """
 
     def __init__(self, path: FilePath, *, now: Optional[int] = None, busy_timeout: Optional[float] = None,
@@ -67,7 +66,7 @@ class Database:
         self._add("create", *options(step=step, start=start, journal=journal), *flat(definitions))
 
     def update(self, *samples: Words, template: Optional[str] = None) -> None:
-        """Adds samples, as `rrdi.update`: those of one call all or none."""
+        """Adds samples, as `rrdi.update`: all samples of a call or none."""
         time = str(present(self.now))
         words = [time + word[1:] if word.startswith("N:") else word for word in flat(samples)]
         self._add("update", *options(template=template), *words)
@@ -81,15 +80,15 @@ class Database:
         self._add("resize", *flat(words))
 
     def revert(self) -> None:
-        """Undoes the newest change, as `rrdi.revert`; of a call with many samples, all of them."""
+        """Undoes the newest change, as `rrdi.revert`; an `update` with many samples is one change."""
         self._add("revert")
 
     def flush(self) -> None:
-        """Makes the changes that wait.
+        """Runs the waiting changes.
 
         # Errors
-        - `RefusedLines` if the database refused lines, now or since the last time. The others are in the file.
-        - another `Error` if nothing could be changed; what waited still waits.
+        - `RefusedLines` if the database refused lines, now or since the last time. The other lines are in the file.
+        - another `Error` if nothing could be changed; the changes still wait.
         """
         if self._waiting:
             self._run([])
@@ -97,7 +96,7 @@ class Database:
         if refused:
             raise RefusedLines(self.path, refused)
 
-    # ---- Questions
+    # ---- Queries
 
     def first(self, rraindex: Optional[int] = None) -> int:
         """Returns the time of the oldest row of an archive, as `rrdi.first`."""
@@ -141,7 +140,7 @@ class Database:
         self._waiting.append(line_of(words))
 
     def _ask(self, words: List[str]) -> str:
-        """Runs what waits and then a question; returns what the question printed."""
+        """Runs the waiting changes and then a query; returns the output of the query."""
         if not self._waiting:
             return run_on(self.path, words, self.now, self.busy_timeout, False)
         before = len(self.refused)
@@ -152,7 +151,7 @@ class Database:
         return "\n".join(lines[sum(1 for line in lines if line.startswith("ERROR: ")):])
 
     def _run(self, question: List[str]) -> str:
-        """Runs what waits, and then a question; returns what they printed. Keeps the refused lines."""
+        """Runs the waiting changes and then a query; returns the output of all. Keeps the refused lines."""
         lines = self._waiting + question
         ran = batch(self.path, lines, now=self.now, busy_timeout=self.busy_timeout, sync=self.sync)
         self.refused += [one._replace(number=one.number + self._count) for one in ran.refused]

@@ -1,8 +1,8 @@
-"""What can go wrong with a command, by the library's numbers.
+"""The exceptions for failed commands, by the library's numbers.
 
-`OperationalError` and `ProgrammingError` have the names that Python's module `rrdtool` gives them: with the first one
-the words were right, and the file, its contents or the system stood against the command; the second one is a mistake in
-the words.
+`OperationalError` and `ProgrammingError` have the same names in Python's module `rrdtool`. `OperationalError` means that
+the arguments are right, but the file, its contents or the system prevents the command. `ProgrammingError` is a mistake in
+the arguments.
 """
 from __future__ import annotations
 
@@ -20,8 +20,8 @@ class Error(Exception):
     """A command that failed.
 
     `reason` is the program's text after `ERROR: `, `path` the file (None in memory), `fault` the library's number,
-    `at` the byte, or the number of the journal's entry, at which a file is damaged, and `system_error` the number
-    (`errno`) of the system's reason for a file that can't be opened or written.
+    `at` the byte, or the number of the journal entry, at which a file is damaged, and `system_error` the number
+    (`errno`) of the system's reason if the file cannot be opened or written.
     """
 
     def __init__(self, reason: str, path: Optional[str] = None, fault: int = 0, at: Optional[int] = None,
@@ -38,23 +38,23 @@ class Error(Exception):
 
 
 class OperationalError(Error):
-    """The file, its contents, memory or the system stood against a command."""
+    """The file, its contents, a lack of memory or the system prevents a command."""
 
 
 class ProgrammingError(Error):
-    """The words are no command, or one of them can't be read."""
+    """The arguments are not a command, or an argument cannot be read."""
 
 
 class Usage(ProgrammingError):
-    """The words are no command: an unknown option, or a word too many or too few."""
+    """The arguments are not a command: an unknown option, or an argument too many or too few."""
 
 
 class Unreadable(ProgrammingError):
-    """A word can't be read; the reason says which."""
+    """An argument cannot be read; the reason names the argument."""
 
 
 class Refused(OperationalError):
-    """The database refuses a command, and is as it was. docs/errors.md has the reasons."""
+    """The database refuses a command, and is unchanged. docs/errors.md has the reasons."""
 
 
 class NoDatabase(OperationalError):
@@ -74,11 +74,11 @@ class CannotRead(OperationalError):
 
 
 class CannotWrite(OperationalError):
-    """The file cannot be written. It holds the old database, but if undoing the change failed too, the old or the new one."""
+    """The file cannot be written. It holds the old database; if undoing the change failed too, the old or the new one."""
 
 
 class Damaged(OperationalError):
-    """The file is no database, or not a whole one; `at` says where its first fault is, unless it is of another kind."""
+    """The file is not a complete database. `at` is the position of the first fault, unless the file is of another kind."""
 
 
 class OutOfMemory(OperationalError, MemoryError):
@@ -96,12 +96,12 @@ _REASONS: Dict[int, str] = {NO_MEMORY: "out of memory", CANNOT_OPEN: "cannot ope
 
 
 def reason_of(fault: int, output: bytes) -> str:
-    """The reason of a fault. `output` has the reason, unless the output is what the lines of a batch printed."""
+    """Returns the reason of a fault: `output`, unless the output is the text that the lines of a batch printed."""
     return _REASONS.get(fault) or output.decode(errors="replace").rstrip("\n")
 
 
 def error_of(fault: int, reason: str, path: Optional[str] = None, at: int = 0, system_error: int = 0) -> Error:
-    """The exception for one of the library's faults."""
+    """Returns the exception for one of the library's faults."""
     kind = _KINDS.get(fault, OperationalError)
     if fault in (CANNOT_OPEN, CANNOT_WRITE) and system_error in (errno.EAGAIN, errno.EWOULDBLOCK):
         kind = Busy
@@ -111,7 +111,7 @@ def error_of(fault: int, reason: str, path: Optional[str] = None, at: int = 0, s
 
 
 def error_of_line(reason: str, path: Optional[str] = None) -> Error:
-    """The exception for the reason of a refused line of a batch, which has no number."""
+    """Returns the exception for the reason of a refused line of a batch, which has no number."""
     if reason.startswith("unreadable "):
         return Unreadable(reason, path, BAD_WORD)
     faults = {"usage": USAGE, "no database": NO_DATABASE, "out of memory": NO_MEMORY}

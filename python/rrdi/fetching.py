@@ -1,4 +1,4 @@
-"""Rows with the step between them, which `fetch` prints only if there are two rows or more."""
+"""Fetches rows together with the step between them. `fetch` shows this step only if it prints two rows or more."""
 from __future__ import annotations
 
 from typing import Callable, List, Optional, Tuple, Type
@@ -7,12 +7,12 @@ from .errors import OperationalError
 from .results import Rows, Table, Value, rows_of, table
 
 DAY = 86_400
-# A database whose settings change between two questions is asked again.
+# If the settings of a database change between two queries, the queries are repeated.
 TRIES = 10
 
 
 def take_option(words: List[str], letter: str, name: str) -> Tuple[Optional[str], List[str]]:
-    """Returns the value of an option, None if it isn't there, and the words without it."""
+    """Returns the value of an option, or None without the option, and the other words."""
     for at, word in enumerate(words):
         if word == "--":
             break
@@ -27,7 +27,7 @@ def take_option(words: List[str], letter: str, name: str) -> Tuple[Optional[str]
 
 
 def with_next_row(asked: List[str], row: int, now: int) -> List[str]:
-    """The words that ask for the same archive from the same start, up to the row after `row`."""
+    """Returns the words that fetch from the same archive and the same start, up to the row after `row`."""
     end, words = take_option(asked, "-e", "--end")
     start, words = take_option(words, "-s", "--start")
     if start is None:
@@ -36,13 +36,13 @@ def with_next_row(asked: List[str], row: int, now: int) -> List[str]:
 
 
 def fetched(run: Callable[[List[str]], str], asked: List[str], now: int, values: Type[Value]) -> Table[Value]:
-    """Runs `fetch` with the words `asked`, and returns its rows with their span and their step."""
+    """Runs `fetch` with the words `asked`, and returns the rows with their span and their step."""
     rows, step = with_step(run, asked, now)
     return table(rows, step, values)
 
 
 def with_step(run: Callable[[List[str]], str], asked: List[str], now: int) -> Tuple[Rows, int]:
-    """Runs `fetch`, and returns its rows, and the seconds from one to the next."""
+    """Runs `fetch`, and returns the rows, and the seconds from one row to the next."""
     for _ in range(TRIES):
         rows = rows_of(run(["fetch", *asked]))
         if len(rows.times) > 1:

@@ -1,7 +1,7 @@
-"""The C library librrdi: where it is, and its four functions.
+"""Finds the C library librrdi, and calls its four functions.
 
-A call lends the library buffers that belong to the calling thread, so threads may call side by side. During a call the
-interpreter's lock is free. docs/embedding.md has the library's own rules.
+A call lends the library buffers that belong to the calling thread, so several threads may call at the same time. During a
+call the interpreter's lock is free. docs/embedding.md has the library's own rules.
 """
 from __future__ import annotations
 
@@ -18,7 +18,7 @@ FIRST_ROOM = 65_536  # bytes of output
 
 
 class Answer(NamedTuple):
-    """What the library says of a call."""
+    """The library's answer to a call."""
 
     fault: int
     system_error: int
@@ -33,10 +33,10 @@ DONE = Answer(OK, 0, 0, b"")
 
 
 class Library(Protocol):
-    """One command, or lines of commands, on the file at a path or on a database in memory.
+    """Runs one command, or lines of commands, on the file at a path or on a database in memory.
 
-    `words` are the command's name and its words, without FILE, with a zero byte between them. `lines` are what
-    `rrdi batch` reads. `now` is in seconds since 1970, and `wait`, for the file's lock, in milliseconds. `syncs`
+    `words` are the command's name and arguments, without FILE, with a zero byte between two words. `lines` have the form
+    that `rrdi batch` reads. `now` is in seconds since 1970, and `wait`, for the file's lock, in milliseconds. `syncs`
     flushes each change to the disk.
     """
 
@@ -78,7 +78,7 @@ class _Room:
             self.at, self.length = ctypes.addressof(self.buffer), length
 
     def shrink(self) -> None:
-        """Gives back what a call with a large result took."""
+        """Frees the memory that a call with a large result took."""
         if self.length > 16 * FIRST_ROOM:
             self.length = 0
             self.grow(FIRST_ROOM)
@@ -161,7 +161,7 @@ class CLibrary:
 
 
 def _needs_room(rooms: _Rooms) -> bool:
-    """Makes the room that the last call in memory had too little of; a call in memory can be made again."""
+    """Enlarges the buffers that were too small for the last call in memory. The caller can then repeat the call."""
     answer = rooms.answer
     if answer.fault != NO_ROOM and not answer.is_cut:
         return False
@@ -171,7 +171,7 @@ def _needs_room(rooms: _Rooms) -> bool:
 
 
 def _finished(rooms: _Rooms, refused: Optional[_Room] = None, file: Optional[_Room] = None) -> Answer:
-    """What the thread's buffers have after a call."""
+    """Returns the contents of the thread's buffers after a call."""
     answer, length = rooms.answer, rooms.answer.output_length
     output = ctypes.string_at(rooms.output.at, length) if length else b""
     data: Optional[bytes] = None
@@ -189,10 +189,11 @@ def _finished(rooms: _Rooms, refused: Optional[_Room] = None, file: Optional[_Ro
 # ---- Where the library is
 
 def library_path() -> Optional[str]:
-    """Returns the path or the name of the library that `import rrdi` uses; None if there is none.
+    """Returns the path or the name of the library that `import rrdi` uses, or None without a library.
 
-    The variable RRDI_LIBRARY names it. Otherwise it is beside the package, in the `lib` of the installation to which
-    the package belongs, where a build of the repository leaves it, or where the system looks for libraries.
+    The variable RRDI_LIBRARY names the library. Otherwise the library is beside the package, in the `lib` of the
+    package's installation, in the folder in which a build of the repository leaves it, or in a directory in which the
+    system looks for libraries.
     """
     named = os.environ.get("RRDI_LIBRARY")
     if named:
@@ -211,7 +212,7 @@ def library_path() -> Optional[str]:
 
 
 def _folders() -> List[Path]:
-    """Folders beside this package: of a wheel, of an installation (PREFIX/share/rrdi/python), of a repository."""
+    """Returns folders near this package: in a wheel, an installation (PREFIX/share/rrdi/python), a repository."""
     package = Path(__file__).resolve().parent
     above = package.parent.parent
     folders = [package, above / "out"]
@@ -232,11 +233,11 @@ _loaded = _Loaded()
 
 
 def load_library(path: Optional[str] = None) -> Library:
-    """Loads the library at `path`, or else the one that `library_path` finds, for all functions of this package.
+    """Loads the library at `path`, or the library that `library_path` finds, for all functions of this package.
 
     # Errors
-    - `OSError` if there is none, or it can't be loaded.
-    - `AttributeError` if it lacks a function.
+    - `OSError` if there is no library, or the library cannot be loaded.
+    - `AttributeError` if the library lacks a function.
     """
     with _loaded.lock:
         found = path or library_path()
@@ -247,10 +248,10 @@ def load_library(path: Optional[str] = None) -> Library:
 
 
 def use_library(library: Optional[Library]) -> None:
-    """Makes all functions of this package call this one; None means the one that `load_library` finds."""
+    """Sets the library that all functions of this package call; None means the library that `load_library` finds."""
     _loaded.library = library
 
 
 def the_library() -> Library:
-    """Returns the library, and loads it at the first call."""
+    """Returns the library. Loads the library at the first call."""
     return _loaded.library or load_library()

@@ -13,7 +13,7 @@ from .words import Words, encoded, flat, present
 class Ran(NamedTuple):
     """The bytes of the database after a command, and what the command printed.
 
-    `data` is the very object that was given if the command changed nothing.
+    If the command changed nothing, `data` is the same object that the caller passed.
     """
 
     data: bytes
@@ -21,7 +21,7 @@ class Ran(NamedTuple):
 
 
 class RanBatch(NamedTuple):
-    """The bytes of the database after lines, what the lines printed, and those that were refused."""
+    """The bytes of the database after some lines, the output of the lines, and the refused lines."""
 
     data: Optional[bytes]
     output: str
@@ -29,7 +29,7 @@ class RanBatch(NamedTuple):
 
 
 def _failed(answer: Answer) -> Exception:
-    """The exception for the fault of an answer. What can't be opened in memory isn't there."""
+    """Returns the exception for the fault of an answer. In memory, `cannot open` means that there is no database."""
     number = errno.ENOENT if answer.fault == CANNOT_OPEN else 0
     found = error_of(answer.fault, reason_of(answer.fault, answer.output), None, answer.at, number)
     found.system_error = 0
@@ -37,10 +37,10 @@ def _failed(answer: Answer) -> Exception:
 
 
 def run(data: Optional[bytes], *words: Words, now: Optional[int] = None) -> Ran:
-    """Runs one command on the bytes of a database, or on none: `run(None, "create", ..)`. No file is read or written.
+    """Runs one command on the bytes of a database, or on none: `run(None, "create", ..)`. Reads and writes no file.
 
     # Errors
-    An `Error` of `rrdi.errors`, by what went wrong.
+    A subclass of `Error` in `rrdi.errors`.
     """
     answer = the_library().run(data, encoded(flat(words)), present(now))
     if answer.fault != OK:
@@ -54,7 +54,7 @@ def run_batch(data: Optional[bytes], lines: Union[str, Iterable[str]], *, now: O
     """Runs lines as `rrdi batch` reads them on the bytes of a database, or on none.
 
     # Errors
-    An `Error` of `rrdi.errors`, if nothing was run. A refused line is in `refused`.
+    A subclass of `Error` in `rrdi.errors` if no line was run. A refused line is in `refused`.
     """
     given = lines_of(lines)
     answer = the_library().batch(data, "\n".join(given).encode(errors="surrogateescape"), present(now))

@@ -1,4 +1,4 @@
-"""What commands print, as values of Python in the shapes of Python's module `rrdtool`."""
+"""Converts the output of commands to Python values, in the forms of Python's module `rrdtool`."""
 from __future__ import annotations
 
 import datetime
@@ -25,7 +25,7 @@ else:
 
 
 class Rows(NamedTuple):
-    """What `fetch` prints: the sources' names, and the time and the words of each row."""
+    """The output of `fetch`: the names of the sources, and the time and the words of each row."""
 
     names: Tuple[str, ...]
     times: List[int]
@@ -33,7 +33,7 @@ class Rows(NamedTuple):
 
 
 def _millionths(word: str) -> Millionths:
-    """The millionths of a number that rrdi prints: whole, or with six digits after its point."""
+    """Returns the millionths of a number that rrdi printed, without a point or with six digits after the point."""
     return Millionths(word.replace(".", "")) if "." in word else Millionths(int(word) * MILLION)
 
 
@@ -41,10 +41,10 @@ _CONVERSIONS: Dict[type, Callable[[str], object]] = {float: float, Decimal: Deci
 
 
 def conversion(values: Type[Value]) -> Callable[[str], Value]:
-    """The function that makes a value of a printed number.
+    """Returns the function that converts a printed number to a value.
 
     # Errors
-    `TypeError` if `values` is none of float, Decimal and Millionths.
+    `TypeError` if `values` is not float, Decimal or Millionths.
     """
     found = _CONVERSIONS.get(values)
     if found is None:
@@ -64,14 +64,14 @@ def rows_of(text: str) -> Rows:
 
 
 def table(rows: Rows, step: int, values: Type[Value]) -> Table[Value]:
-    """The span and the step of rows, the names, and the cells: None where a cell is unknown."""
+    """Returns the span and the step of rows, the names, and the cells; an unknown cell is None."""
     convert = conversion(values)
     cells = [tuple([None if word in UNKNOWN else convert(word) for word in words]) for words in rows.words]
     return (rows.times[0] - step, rows.times[-1], step), rows.names, cells
 
 
 def last_update(text: str, values: Type[Value]) -> LastUpdate[Value]:
-    """The time of the last sample, in the local time zone, and each source's last raw value."""
+    """Returns the time of the last sample, in the local time zone, and the last raw value of each source."""
     convert, rows = conversion(values), rows_of(text)
     last = {name: None if word in UNKNOWN else convert(word) for name, word in zip(rows.names, rows.words[0])}
     return {"date": datetime.datetime.fromtimestamp(rows.times[0]), "ds": last}
@@ -84,12 +84,12 @@ _OF_AN_ARCHIVE = {"rows": "rows", "steps": "pdp_per_row", "xff": "xff", "cf": "c
 
 
 def _shortened(word: str) -> str:
-    """A number without zeros at the end of its fraction, as a sample has it."""
+    """Returns a number without zeros at the end of its fraction, as in a sample."""
     return word.rstrip("0").rstrip(".") if "." in word else word
 
 
 def info_of(text: str, filename: str) -> Info:
-    """The settings by RRDtool's names, and the journal's by rrdi's own."""
+    """Returns the settings by RRDtool's names, and the settings of the journal by rrdi's own names."""
     found: Info = {"filename": filename}
     names: Dict[str, str] = {}
     for line in text.splitlines():

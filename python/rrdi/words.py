@@ -1,4 +1,4 @@
-"""The words of a command, from what a caller in Python gives."""
+"""Converts the arguments of a Python call to the words of a command."""
 from __future__ import annotations
 
 import os
@@ -16,17 +16,17 @@ FilePath = Union[str, bytes, "os.PathLike[str]", "os.PathLike[bytes]"]
 LONGEST_WAIT = 3_600.0  # seconds
 FILE_SYSTEM = sys.getfilesystemencoding()
 LONGEST_LINE = 65_536  # bytes of a line of a batch
-# A word of a line: what a batch reads has no quotes, so a word has no space, no tab and no newline.
+# A word of a line. A batch knows no quotes, so a word has no space, no tab and no newline.
 _OF_A_LINE = re.compile("[!-~]+")
 
 
 def encoded_path(path: FilePath) -> bytes:
-    """A path as the system takes it.
+    """Returns a path in the form that the system takes.
 
     # Errors
-    `ValueError` if it has a zero byte, as `open` raises it.
+    `ValueError` if the path has a zero byte, as `open` raises it.
     """
-    # What os.fsencode does with text.
+    # The same as os.fsencode does with text.
     found = path.encode(FILE_SYSTEM, "surrogateescape") if type(path) is str else os.fsencode(path)
     if b"\0" in found:
         raise ValueError("embedded null byte")
@@ -34,10 +34,10 @@ def encoded_path(path: FilePath) -> bytes:
 
 
 def flat(words: Iterable[Words]) -> List[str]:
-    """Words as text; a list or tuple among them is so many words, as in Python's module `rrdtool`.
+    """Returns the words as text. Each element of a list or tuple is a word, as in Python's module `rrdtool`.
 
     # Errors
-    `TypeError` if one is neither text nor a whole number, nor a list of these.
+    `TypeError` if a word is neither text nor a whole number, nor a list of these.
     """
     found: List[str] = []
     for word in words:
@@ -53,15 +53,15 @@ def flat(words: Iterable[Words]) -> List[str]:
 
 
 def options(**values: Optional[Word]) -> List[str]:
-    """The options that have a value, each in one word, so that a value may begin with a minus sign."""
+    """Returns the options that have a value, each in one word, so that a value may begin with a minus sign."""
     return [f"--{name}={value}" for name, value in values.items() if value is not None]
 
 
 def encoded(words: Sequence[str]) -> bytes:
-    """Words with a zero byte between them.
+    """Returns the words with a zero byte between two words.
 
     # Errors
-    `Usage` if a word has a zero byte, or is no text that UTF-8 can have.
+    `Usage` if a word has a zero byte, or cannot be encoded in UTF-8.
     """
     try:
         data = "\0".join(words).encode()
@@ -73,10 +73,10 @@ def encoded(words: Sequence[str]) -> bytes:
 
 
 def line_of(words: Sequence[str]) -> str:
-    """Words as one line of a batch.
+    """Returns the words as one line of a batch.
 
     # Errors
-    `Usage` if a word is empty or has a character that a line can't have, or the line is too long.
+    `Usage` if a word is empty, if a word has a character that a line cannot have, or if the line is too long.
     """
     line = " ".join(words)
     if len(line) > LONGEST_LINE or not all(map(_OF_A_LINE.fullmatch, words)):
@@ -85,7 +85,7 @@ def line_of(words: Sequence[str]) -> str:
 
 
 def present(now: Optional[int]) -> int:
-    """The time that a command takes for now, in seconds since 1970; 0 where the clock is before that."""
+    """Returns the time that a command uses as now, in seconds since 1970; 0 if the clock is before 1970."""
     seconds = int(clock()) if now is None else now
     return seconds if seconds > 0 else 0
 
@@ -95,15 +95,15 @@ def _wait_of_environment() -> int:
     return min(int(text), 3_600) * 1_000 if text.isascii() and text.isdigit() else 5_000
 
 
-# What the program takes from the environment at its start is read when the package is imported.
+# The program reads these variables at its start; the package reads them when it is imported.
 WAIT, SYNC = _wait_of_environment(), os.environ.get("RRDI_SYNC") == "1"
 
 
 def milliseconds(busy_timeout: Optional[float]) -> int:
-    """The milliseconds to wait for a lock; of None those of RRDI_WAIT, or 5 seconds, as the program takes them.
+    """Returns the milliseconds to wait for a lock. For None, the time is that of RRDI_WAIT, or 5 seconds, as in rrdi.
 
     # Errors
-    `ValueError` if the time is negative or no number.
+    `ValueError` if the time is negative or not a number.
     """
     if busy_timeout is None:
         return WAIT
@@ -113,5 +113,5 @@ def milliseconds(busy_timeout: Optional[float]) -> int:
 
 
 def is_synced(sync: Optional[bool]) -> bool:
-    """Whether each change is flushed to the disk; of None whether RRDI_SYNC is 1, as the program takes it."""
+    """Returns whether each change is flushed to the disk. For None, the answer is whether RRDI_SYNC is 1, as in rrdi."""
     return SYNC if sync is None else sync

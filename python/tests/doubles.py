@@ -1,4 +1,4 @@
-"""The package on the path; the built program in the place of the C library; and where both are."""
+"""Puts the package on the path, replaces the C library by the built program, and finds both."""
 from __future__ import annotations
 
 import errno
@@ -23,7 +23,7 @@ FAULTS = {"usage": errors.USAGE, "no database": errors.NO_DATABASE, "cannot open
           "file: version": errors.VERSION, "file: read failed": errors.READ_FAILED}
 WITH_A_PLACE = {"file: truncated at ": errors.TRUNCATED, "file: bad block at ": errors.BAD_BLOCK,
                 "file: bad entry ": errors.BAD_ENTRY, "file: trailing at ": errors.TRAILING}
-# What a batch prints after each line: no test has this line.
+# A batch prints this line after each line; no test has this line.
 AFTER = "resize / GROW 1"
 PRINTED_AFTER = "ERROR: unreadable archive"
 
@@ -37,7 +37,7 @@ def has_library() -> bool:
 
 
 def fault_of(reason: str) -> Tuple[int, int]:
-    """The number of a text that the program prints after `ERROR: `, and the place in it."""
+    """Returns the number of a text that the program prints after `ERROR: `, and the position in the text."""
     for begin, fault in WITH_A_PLACE.items():
         if reason.startswith(begin):
             return fault, int(reason[len(begin):])
@@ -47,7 +47,7 @@ def fault_of(reason: str) -> Tuple[int, int]:
 
 
 class ByProgram:
-    """The library's four functions by runs of the program. It takes its own clock for now."""
+    """The library's four functions by runs of the program, which uses its own clock as now."""
 
     def __init__(self, program: str = PROGRAM):
         self.program = program
@@ -105,7 +105,7 @@ class ByProgram:
 
 
 def system_error_at(path: bytes) -> int:
-    """Why the system doesn't open a file, or EAGAIN if its lock is held."""
+    """Returns the reason why the system does not open a file, or EAGAIN if another program holds the file's lock."""
     try:
         with open(path, "rb") as file:
             fcntl.flock(file, fcntl.LOCK_EX | fcntl.LOCK_NB)

@@ -1,5 +1,5 @@
-"""Tests of `rrdi.compat`: RRDtool's syntax, and the module that takes the place of Python's `rrdtool`. If that one is
-installed for /usr/bin/python3, the same calls are made of both, and what they return is compared."""
+"""Tests of `rrdi.compat`: RRDtool's syntax, and the module that replaces Python's `rrdtool`. If Python's `rrdtool` is
+installed for /usr/bin/python3, the tests make the same calls of both modules, and compare the results."""
 from __future__ import annotations
 
 import ast

@@ -23,7 +23,7 @@ from rrdi.library import Answer, load_library
 
 
 class Stub:
-    """A writer that keeps what it gets, and answers as it is told."""
+    """A writer that keeps its samples, and returns given outcomes."""
 
     def __init__(self) -> None:
         self.batches: List[Tuple[bytes, List[bytes]]] = []

@@ -1,5 +1,5 @@
-"""Tests of `rrdi.library`: the rooms that a call lends and how they grow, by functions of Python in the place of those
-in C; and where the library is looked for."""
+"""Tests of `rrdi.library`: the buffers that a call lends and their growth, with functions of Python instead of those in C;
+and the search for the library."""
 from __future__ import annotations
 
 import ctypes

@@ -78,7 +78,7 @@ class Record(ToolCase):
         self.assertGreater(int(self.rrdi("last", "f.rrd")), 1_700_000_000)
 
     def test_numbers_are_rounded_as_elsewhere(self) -> None:
-        """Random numbers of all kinds become the same as by rrdi.compat, which the tools use."""
+        """The results for random numbers of all kinds are the same as those of rrdi.compat, which the tools use."""
         chance = random.Random(3)
         texts = ["0", "-0", "00", ".5", "5.", "-.5", "1e3", "+7", "0.0000005", "-0.0000005", "0.00000049999", "-0.00000050001",
                  "0.9999995", "99.9999999", "-99.9999999", "1e-9", "1E+2", "-1.5e-6", "123456789012.3456785", "9e-7", "5e-7",

@@ -185,7 +185,7 @@ class Pictures(ToolCase):
         self.assertEqual(self.tool("rrdi-graph", "p.png", *words, env={"RRDI": "/nowhere"}).err,
                          "rrdi-graph: f.rrdi: cannot run /nowhere: No such file or directory\n")
         odd = self.stub("odd", "echo x")
-        self.assertIn("cannot read what", self.tool("rrdi-graph", "p.png", *words, env={"RRDI": odd}).err)
+        self.assertIn("cannot read the output of", self.tool("rrdi-graph", "p.png", *words, env={"RRDI": odd}).err)
         self.assertFalse((self.folder / "p.png").exists())
         self.assertEqual(self.tool("rrdi-graph", "-", *words, stdout="/dev/full"),
                          Ran(1, "", "rrdi-graph: No space left on device\n"))
@@ -203,7 +203,7 @@ class Pictures(ToolCase):
 
     def test_many_pictures_by_one_process(self) -> None:
         grapher = graphing.Grapher()
-        # What the library asks for stays the library's own to free: the process doesn't grow.
+        # The library frees the memory that it requests: the process does not grow.
         import os
         os.environ["RRDI"] = RRDI or ""
         words = ["-s", str(self.START), "-e", str(self.end), f"DEF:a={self.folder}/f.rrdi:g:AVERAGE", "LINE1:a#ff0000"]

@@ -1,4 +1,4 @@
-"""Tests of rrdi-import, rrdi-export and rrdi-compare. RRDtool is replaced by scripts, but where a test says otherwise."""
+"""Tests of rrdi-import, rrdi-export and rrdi-compare. Scripts replace RRDtool, except in tests that say otherwise."""
 from __future__ import annotations
 
 import fcntl
@@ -62,7 +62,7 @@ class Import(ToolCase):
         self.assertEqual(self.read("new.rrdi"), before)
         self.write("next.rrdi.new", "")
         self.assertEqual(self.tool("rrdi-import", "old.rrd", "next.rrdi").err,
-                         "rrdi-import: next.rrdi.new already exists; another rrdi-import may be making it\n")
+                         "rrdi-import: next.rrdi.new already exists; another rrdi-import may be writing it\n")
         self.assertEqual(self.read("next.rrdi.new"), b"")
 
     def test_a_refusing_program(self) -> None:
@@ -120,7 +120,7 @@ class Shown(unittest.TestCase):
     """How progress is shown on a terminal."""
 
     def shown(self, is_terminal: bool, times: List[float]) -> str:
-        """What is printed if `show` is called at some times, in seconds since the start."""
+        """Returns the output if `show` is called at some times, in seconds since the start."""
         output = io.StringIO()
         with mock.patch.object(sys, "stderr", output), mock.patch.object(output, "isatty", lambda: is_terminal):
             now = [0.0]
@@ -138,7 +138,7 @@ class Shown(unittest.TestCase):
         self.assertEqual(self.shown(True, [0.5, 2, 4]), "\rmoving: 12 %\x1b[K\rmoving: 20\x1b[K\r\x1b[K")
 
     def test_a_terminal(self) -> None:
-        """A long move on a terminal: what standard error shows, and that it is cleared."""
+        """A long move on a terminal: the text on standard error, which is then cleared."""
         terminal, other = pty.openpty()
         with mock.patch.object(Progress, "FIRST", 0.0), mock.patch.object(Progress, "NEXT", 0.0), \
                 open(other, "w", encoding="utf-8") as shown, mock.patch.object(sys, "stderr", shown):
@@ -267,7 +267,7 @@ class Compare(ToolCase):
 @unittest.skipUnless(RRDI, NO_RRDI)
 @unittest.skipUnless(RRDTOOL, NO_RRDTOOL)
 class ThereAndBack(ToolCase):
-    """Random files of RRDtool become rrdi's, and go back to RRDtool, by the programs themselves."""
+    """The programs themselves move random files of RRDtool to rrdi, and back to RRDtool."""
 
     def test_random_files(self) -> None:
         assert RRDTOOL

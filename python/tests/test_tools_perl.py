@@ -1,4 +1,4 @@
-"""Tests of perl/RRDs.pm: its results beside those of RRDtool's own module, and its one process."""
+"""Tests of perl/RRDs.pm: its results compared with those of RRDtool's own module, and its one process."""
 from __future__ import annotations
 
 import re

@@ -1,4 +1,4 @@
-"""Tests of rrdi-plot and rrdi-record. gnuplot is replaced by a script."""
+"""Tests of rrdi-plot and rrdi-record. A script replaces gnuplot."""
 from __future__ import annotations
 
 import fcntl

@@ -1,4 +1,4 @@
-"""Tests of rrdi-rrdtool: its output beside rrdtool's own, its errors, its pipe mode, and how archives are chosen."""
+"""Tests of rrdi-rrdtool: its output compared with rrdtool's, its errors, its pipe mode, and the choice of archives."""
 from __future__ import annotations
 
 import re
@@ -208,7 +208,7 @@ class RRDtoolOutput(ToolCase):
         self.assertEqual(self.tool(TOOL, "last", "x.rrdi", stdout="/dev/full"),
                          Ran(1, "", "ERROR: No space left on device\n"))
         self.assertEqual(self.tool(TOOL, "info", "x.rrdi", env={"RRDI": self.stub("odd", "echo no")}).err,
-                         "ERROR: cannot read what " + str(self.bin / "odd") + " info prints\n")
+                         "ERROR: cannot read the output of " + str(self.bin / "odd") + " info\n")
 
 
 @unittest.skipUnless(RRDI, NO_RRDI)

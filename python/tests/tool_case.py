@@ -1,4 +1,4 @@
-"""What the tests of the tools share: a folder, runs of the tools, and small scripts that stand for other programs."""
+"""The parts that the tests of the tools share: a folder, runs of the tools, and small scripts that replace other programs."""
 from __future__ import annotations
 
 import os
@@ -59,7 +59,7 @@ class ToolCase(unittest.TestCase):
             del self.env["RRDI"]
 
     def stub(self, name: str, text: str) -> str:
-        """Writes a shell script that stands for another program."""
+        """Writes a shell script that replaces another program."""
         path = self.bin / name
         path.write_text(f"#!/bin/sh\n{text}\n")
         path.chmod(0o755)

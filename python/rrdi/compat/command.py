@@ -3,10 +3,10 @@
     rrdtool-words [--show] create|update|fetch|first|last|lastupdate|info|tune|resize WORD..
     rrdtool-words fetch -s end-1d -e 12:00 load.rrdi AVERAGE -r 5m
 
-It translates RRDtool's syntax to rrdi's and runs rrdi: FILE at any position, times such as now-1h or 12:00, durations
-such as 5m, exponents, and some options. It refuses by name what it can't translate. --show prints the commands of rrdi
-and runs none that changes a file. docs/rrdtool-words.md has the table. The program is rrdi, or the one that the
-variable RRDI names.
+The script translates RRDtool's syntax to rrdi's and runs rrdi: FILE at any position, times such as now-1h or 12:00,
+durations such as 5m, exponents, and some options. The script refuses, by name, arguments that it cannot translate.
+--show prints the commands of rrdi, and runs no command that changes a file. docs/rrdtool-words.md has the table. The
+program is rrdi, or the program that the variable RRDI names.
 
 Exit status: that of rrdi; 1 if the script refuses the command; 2 after wrong arguments.
 """
@@ -52,7 +52,7 @@ def run(commands: List[Command], is_shown: bool) -> int:
 
 
 def resize(command: Command, is_shown: bool) -> int:
-    """As rrdtool does, the file stays as it is, and resize.rrd in this folder is the other one."""
+    """Resizes as rrdtool does: the file stays as it is, and resize.rrd in this folder is the resized file."""
     name, file, *others = command
     if is_shown:
         print(shlex.join(["cp", file, "resize.rrd"]))

@@ -6,8 +6,8 @@
     span, names, rows = rrdtool.fetch("load.rrd", "AVERAGE", "-s", "end-1h", "-e", "now")
 
 A program that says `import rrdtool` gets this module if the folder `compat` beside the package is first on its path.
-The words are in RRDtool's own syntax (docs/rrdtool-words.md). What rrdi lacks, such as `graph`, raises
-`OperationalError` with its name. All that goes wrong raises `OperationalError`, as in RRDtool's module.
+The arguments are in RRDtool's own syntax (docs/rrdtool-words.md). Every error raises `OperationalError`, as in RRDtool's
+module. A function that rrdi does not have, such as `graph`, raises `OperationalError` with the function's name.
 """
 from __future__ import annotations
 
@@ -46,7 +46,7 @@ class _ByLibrary:
 
 
 def _flat(given: Tuple[object, ...]) -> List[str]:
-    """The words, each of which is text or a list of text."""
+    """Returns the words. Each argument is a text or a list of texts."""
     words: List[str] = []
     for number, word in enumerate(given):
         if isinstance(word, str):
@@ -69,7 +69,7 @@ def _translated(command: str, words: Tuple[object, ...]) -> List[Command]:
 
 
 class _AsRrdtool:
-    """Raises what goes wrong as RRDtool's module does."""
+    """Raises errors as RRDtool's module does."""
 
     def __enter__(self) -> None:
         pass
@@ -85,7 +85,7 @@ def _change(command: str, words: Tuple[object, ...]) -> None:
             commands.run_on(file, [name, *others])
 
 
-# ---- What rrdi has
+# ---- Functions that rrdi has
 
 def create(*words: Words) -> None:
     """Creates a database: FILE [-s STEP] [-b START] [-O] DS:.. RRA:.."""
@@ -154,7 +154,7 @@ def info(*words: Words) -> Info:
 
 
 def _printed(command: str, words: Tuple[object, ...]) -> Tuple[str, str]:
-    """FILE, and what a command without options prints of it."""
+    """Returns FILE, and the output of a command without options on FILE."""
     with _AsRrdtool():
         (name, file, *others), = _translated(command, words)
         return file, commands.run_on(file, [name, *others])
@@ -165,7 +165,7 @@ def lib_version() -> str:
     return __version__
 
 
-# ---- What rrdi lacks
+# ---- Functions that rrdi does not have
 
 def _lacks(command: str) -> NoReturn:
     raise OperationalError(f"rrdi has no command {command}")

@@ -9,7 +9,7 @@ Options = List[Tuple[str, str]]
 
 LENGTHS = {"s": 1, "m": 60, "h": 3600, "d": 86400, "w": 7 * 86400, "M": 31 * 86400, "y": 366 * 86400}
 
-# Each option with its letter, and the name that it has here; those with a value end in =.
+# Each option with its letter and its name in this module. The names of options with a value end in =.
 OPTIONS: Dict[str, List[str]] = {
     "create": ["--step= -s", "--start= -b", "--no-overwrite -O", "--source= -r", "--template= -t", "--daemon= -d"],
     "update": ["--template= -t", "--skip-past-updates -s", "--daemon= -d"],
@@ -32,11 +32,11 @@ LEFT_OUT: Dict[str, List[str]] = {
 
 
 class Untranslatable(Exception):
-    """What rrdi lacks, or a word that can't be read."""
+    """A feature that rrdi does not have, or a word that cannot be read."""
 
 
 def read_options(command: str, words: List[str]) -> Tuple[Options, List[str]]:
-    """The options in their order, each with its value, and the other words."""
+    """Returns the options in their order, each with its value, and the other words."""
     takes_value: Dict[str, bool] = {}
     by_letter: Dict[str, str] = {}
     for option in OPTIONS[command]:
@@ -67,18 +67,18 @@ def read_options(command: str, words: List[str]) -> Tuple[Options, List[str]]:
             options.append((name, value if equals else words.pop(0)))
         else:
             options.append((name, ""))
-            # Letters without a value may stand in one word.
+            # One word may have several letters of options without a value.
             if value and not word.startswith("--"):
                 words.insert(0, "-" + value)
     return options, others
 
 
 def read_number(text: str) -> str:
-    """A number as rrdi reads it: without an exponent, and to a millionth."""
+    """Returns a number as rrdi reads it: without an exponent, rounded to a millionth."""
     if re.fullmatch(r"[-+]?nan", text, re.IGNORECASE) or text == "U":
         return "U"
     if not re.fullmatch(r"[-+]?(\d+\.?\d*|\.\d+)([eE][-+]?\d{1,3})?", text):
-        return text  # rrdi refuses it by its name
+        return text  # rrdi refuses the text and names it
     if re.fullmatch(r"-?\d+(\.\d{1,6})?", text):
         return text
     sign, digits, exponent = Decimal(text).as_tuple()
@@ -90,7 +90,7 @@ def read_number(text: str) -> str:
 
 
 def read_length(text: str, what: str, unit: int = 1) -> str:
-    """A length such as 5m, in units of so many seconds; a number alone is as many units."""
+    """Returns a length such as 5m in units of `unit` seconds. A number alone is a number of units."""
     found = re.fullmatch(r"(\d{1,12})([smhdwMy]?)", text)
     if not found:
         raise Untranslatable(f"{what} must be a number or a duration such as 5m, not {text}")

@@ -15,13 +15,13 @@ UNITS = {"s": "s", "sec": "s", "second": "s", "m": "m", "min": "min", "minute": 
 
 
 def seconds_of(parts: List[int], is_summer: int) -> int:
-    """The seconds since 1970 of a year, a month, a day and a time of day, in the local time zone."""
+    """Returns the seconds since 1970 of a year, a month, a day and a time of day, in the local time zone."""
     year, month, day, hour, minute, second = parts
     return int(time.mktime((year, month, day, hour, minute, second, 0, 0, is_summer)))
 
 
 class Moment:
-    """A time, or what one lies before or after another: years, months, days and so on, and seconds beside them."""
+    """A time, or the distance from another time: years, months, days and so on, and seconds."""
 
     def __init__(self, text: str, now: int):
         self.text, self.base, self.offset, self.is_summer = text, "", 0, -1
@@ -54,12 +54,12 @@ class Moment:
         return self.tokens.pop(0)
 
     def read_day_and_hour(self) -> None:
-        """A day and an hour in either order, each at most once."""
+        """Parses a day and an hour in either order, each at most once."""
         had_day = had_hour = is_numeric = False
         while self.tokens and not self.next_is("[-+]"):
             number = int(self.tokens[0]) if self.next_is(r"\d{1,11}") else None
             if not had_day and number is not None and number > 315_360_000:
-                # What lies beside such a number keeps its summer or winter time, as in RRDtool.
+                # An offset from such a number keeps the number's summer or winter time, as in RRDtool.
                 self.parts, had_day, had_hour = list(time.localtime(number)[:6]), True, True
                 self.is_summer = time.localtime(number).tm_isdst
                 self.take(r"\d+")
@@ -138,7 +138,7 @@ class Moment:
                 word = self.take("[a-z]+")
                 one = word[:-1] if len(word) > 2 and word.endswith("s") else ""
                 unit = UNITS.get(word, UNITS.get(one, ""))
-            # m is a month beside days and more, and a minute beside hours; alone it is a month where there are few.
+            # After days or longer units m is a month, and after hours a minute. Alone it is a month if the number is small.
             if unit == "m":
                 unit = "mon" if before in ("d", "w", "mon", "y") or before == "" and number < 6 else "min"
             if unit == "":

@@ -13,20 +13,20 @@ Command = List[str]
 
 
 class Questions(Protocol):
-    """What the translation of some words has to know of a file."""
+    """The facts about a file that the translation of some words needs."""
 
     def last(self, file: str) -> int:
-        """The time of the last sample. Where there is none, this ends the translation."""
+        """Returns the time of the last sample. Without a database, this ends the translation."""
 
     def info(self, file: str) -> str:
-        """The text of `rrdi info`; none where there is no database, of which rrdi tells later."""
+        """Returns the text of `rrdi info`; no text if there is no database, which rrdi reports later."""
 
 
 def translate(command: str, words: List[str], now: int, questions: Questions) -> List[Command]:
-    """Returns the commands of rrdi that do what one of RRDtool's does. `resize` is of the file that is resized.
+    """Returns the commands of rrdi for a command of RRDtool. `resize` is for the file that is resized.
 
     # Errors
-    `Untranslatable` if rrdi lacks what the words ask for, or one of them can't be read.
+    `Untranslatable` if rrdi does not have the feature, or a word cannot be read.
     """
     if command not in OPTIONS:
         raise Untranslatable("pipe mode is not supported; use rrdi batch FILE" if command == "-" else
@@ -107,13 +107,13 @@ class Translation:
         return [["update", file, *told, *taken]] if taken or last is None else []
 
     def time_and_values(self, sample: str, is_skipping: bool) -> Tuple[str, str]:
-        """The time of a sample, in seconds since 1970 or as it is, and its values."""
+        """Returns the time of a sample, in seconds since 1970 or unchanged, and the sample's values."""
         if "@" in sample:
             moment, _, values = sample.partition("@")
             return str(self.seconds(moment)), values
         moment, _, values = sample.partition(":")
         if re.fullmatch(r"-?\d{1,12}(\.\d*)?", moment):
-            # A time below 0 is so long ago; of a fraction the whole seconds stay.
+            # A time below 0 is relative to now. A fraction of a second is dropped.
             number = int(moment.split(".")[0]) if "." in moment else int(moment)
             return str(number if number >= 0 else max(self.now + number, 0)), values
         return (str(self.now) if moment == "N" and is_skipping else moment), values
@@ -135,7 +135,7 @@ class Translation:
         return [["fetch", file, *function, *told]]
 
     def span(self, first: str, second: str) -> Tuple[int, int]:
-        """The start and the end, of which one may be relative to the other."""
+        """Returns the start and the end. One of them may be relative to the other."""
         start, end = Moment(first, self.now), Moment(second, self.now)
         if start.base and end.base:
             raise Untranslatable("--start and --end cannot both be relative to each other")
@@ -154,14 +154,14 @@ class Translation:
         archives = [command for command in (self.tuned_archive(file, word) for word in others) if command]
         tunes: List[Dict[str, str]] = []
         for name, value in options:
-            # A name is the one after the rename before it, and rrdi takes an option once.
+            # A name after a rename is the new name, and rrdi takes an option once.
             if not tunes or name in tunes[-1] or "--data-source-rename" in tunes[-1]:
                 tunes.append({})
             tunes[-1][name] = setting(name, value)
         return [["tune", file, *(word for pair in tune.items() for word in pair)] for tune in tunes] + archives
 
     def tuned_archive(self, file: str, word: str) -> Optional[Command]:
-        """An archive that is added, removed or gets another number of rows: rrdi takes one at a time."""
+        """Returns the command that adds, removes or resizes an archive. rrdi takes one archive per command."""
         parts = word.split(":")
         if word.startswith("RRA#"):
             return self.resized_archive(file, word)
@@ -172,14 +172,14 @@ class Translation:
         return ["tune", file, word]
 
     def resized_archive(self, file: str, word: str) -> Optional[Command]:
-        """A number of rows that is added, removed or set: RRA#0:+10 is what rrdi resizes by GROW 10."""
+        """Returns the command for rows that are added, removed or set: RRA#0:+10 becomes `resize FILE 0 GROW 10`."""
         found = re.fullmatch(r"RRA#(\d{1,3}):([-+=]?)(\d{1,7})", word)
         if not found:
             raise Untranslatable(f"cannot parse the number of rows: {word}")
         number, sign, rows = found[1], found[2], int(found[3])
         if sign in ("", "="):
             before = self.rows_of(file, number)
-            # Without such an archive, rrdi says what is wrong.
+            # If there is no such archive, rrdi reports the error.
             rows -= before or 0
             if before and rows == 0:
                 return None
@@ -188,18 +188,18 @@ class Translation:
         return ["resize", file, number, "SHRINK" if rows < 0 else "GROW", str(abs(rows))]
 
     def step_of(self, file: str) -> int:
-        """The step of a file; where there is no database, rrdi tells why after this."""
+        """Returns the step of a file. If there is no database, rrdi reports the reason later."""
         found = re.match(r"step = (\d+)\n", self.questions.info(file))
         return int(found[1]) if found else 1
 
     def rows_of(self, file: str, number: str) -> Optional[int]:
-        """How many rows an archive of a file has; None if rrdi reports no such archive."""
+        """Returns the number of rows of an archive of a file; None if rrdi reports no such archive."""
         found = re.search(rf"^rra\[{number}\]\.rows = (\d+)$", self.questions.info(file), re.MULTILINE)
         return int(found[1]) if found else None
 
 
 def archive(definition: str, parts: List[str], step: int) -> List[str]:
-    """An archive's definition in parts, its lengths in steps and rows."""
+    """Returns an archive's definition in parts, with its lengths in steps and rows."""
     if parts[1] not in ("AVERAGE", "MIN", "MAX", "LAST"):
         raise Untranslatable(f"rrdi has no function {parts[1]}: {definition}")
     if len(parts) != 5:
@@ -209,7 +209,7 @@ def archive(definition: str, parts: List[str], step: int) -> List[str]:
 
 
 def setting(name: str, value: str) -> str:
-    """What an option of tune gives to a source."""
+    """Returns the value that an option of tune sets for a source."""
     source, colon, told = value.partition(":")
     if name == "--heartbeat":
         told = read_length(told, "heartbeat")

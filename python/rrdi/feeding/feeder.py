@@ -14,7 +14,7 @@ from .writers import Outcome, Writer, text_of
 
 LONGEST = 65_536  # bytes of a line of a batch
 UPDATE = b"update "
-SHORT = LONGEST - len(UPDATE)  # bytes of a line whose sample can't be too long
+SHORT = LONGEST - len(UPDATE)  # bytes of a line whose sample cannot be too long
 LETTER_N = ord("N")
 FIRST_PAUSE, LONGEST_PAUSE = 0.1, 60.0  # seconds
 SAMPLES_OF_A_LINE = 100
@@ -31,7 +31,7 @@ class Options:
 
 @dataclass
 class Waiting:
-    """Samples that no batch took, and why, the pause before the next try, and when that try is due."""
+    """Samples that no batch took, the reason, the pause before the next try, and the time of the next try."""
 
     samples: List[bytes]
     reason: str
@@ -42,11 +42,11 @@ class Waiting:
 class Feeder:
     def __init__(self, options: Options, writer: Writer):
         self.options, self.writer = options, writer
-        # The samples of each file, in the order in which the first one of each arrived, and when that was.
+        # The samples of each file, and the time at which the first of them arrived. Files are in the order of these times.
         self.held: Dict[bytes, List[bytes]] = {}
         self.since: Dict[bytes, float] = {}
         self.waiting: Dict[bytes, Waiting] = {}
-        # The files with a running batch; those that have ended come with their samples and what became of these.
+        # The files with a running batch, and the batches that have ended: the file, the samples, and their outcome.
         self.running: Set[bytes] = set()
         self.ended: SimpleQueue[Tuple[bytes, List[bytes], Outcome]] = SimpleQueue()
         self.pauses: Dict[bytes, float] = {}
@@ -60,7 +60,7 @@ class Feeder:
         print(f"feed: {text}", file=sys.stderr, flush=True)
 
     def say_lost(self, file: bytes, reason: str, samples: List[bytes]) -> None:
-        """Reports samples that may be lost, in lines that feed would read again."""
+        """Reports samples that may be lost, in lines that the user can feed again."""
         name = text_of(file)
         self.say(f"{name}: {reason}; {len(samples)} samples may be lost")
         for at in range(0, len(samples), SAMPLES_OF_A_LINE):
@@ -69,7 +69,7 @@ class Feeder:
     # ---- Lines
 
     def take_all(self, lines: List[bytes]) -> None:
-        """Takes lines: one more sample of a held file in a short loop, all others by `take`."""
+        """Takes lines. A short loop takes a further sample of a held file; `take` takes all other lines."""
         samples_of, count = self.held.get, 0
         for line in lines:
             words = line.split()
@@ -106,12 +106,12 @@ class Feeder:
         """Runs one batch, in a thread of its own."""
         try:
             outcome = self.writer.write(file, samples)
-        except Exception as error:  # whatever it is, the samples must not go with the thread
+        except Exception as error:  # the samples must survive any exception in the thread
             outcome = Outcome(lost=f"{type(error).__name__}: {error}")
         self.ended.put((file, samples, outcome))
 
     def end_batches(self, seconds: float = 0) -> None:
-        """Takes back what the batches that have ended couldn't give to rrdi; waits some seconds for the first one."""
+        """Takes back the samples that ended batches could not pass to rrdi. Waits some seconds for the first ended batch."""
         try:
             ended = self.ended.get(timeout=seconds) if seconds else self.ended.get_nowait()
             while True:
@@ -143,7 +143,7 @@ class Feeder:
         self.threads.submit(self.run, file, samples)
 
     def start_due(self) -> None:
-        """Starts a batch for each file that is due and has no running one."""
+        """Starts a batch for each file that is due and has no running batch."""
         self.end_batches()
         now, is_full = time.monotonic(), self.count >= self.options.held
         if self.is_hurried:
@@ -161,7 +161,7 @@ class Feeder:
                 self.start(file)
         self.is_hurried = False
         if is_full and self.waiting and not self.running:
-            # Nothing but files that can't be opened fills the memory.
+            # All held samples are for files that cannot be opened.
             self.give_up(max(self.waiting, key=lambda file: len(self.waiting[file].samples)))
 
     def give_up(self, file: bytes) -> None:
@@ -182,7 +182,7 @@ class Feeder:
             pass
         while not self.is_ending:
             self.start_due()
-            # While feed holds too much, it doesn't read, and whoever writes the lines waits.
+            # While feed holds too many samples, it reads no lines, and the program that writes them waits.
             if self.count >= self.options.held or len(self.running) > 10_000:
                 self.end_batches(0.01)
                 continue
@@ -197,7 +197,7 @@ class Feeder:
         return 1 if self.has_failed else 0
 
     def finish(self) -> None:
-        """Passes on all that is held, and gives up the files that can't be opened for too long."""
+        """Passes on all held samples, and gives up files that cannot be opened for too long."""
         until = time.monotonic() + self.options.patience
         while self.held or self.waiting or self.running:
             self.start_due()

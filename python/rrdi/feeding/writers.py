@@ -1,4 +1,4 @@
-"""Gives the samples of one file to rrdi: in this process by the C library, or by a process of the program."""
+"""Passes the samples of one file to rrdi: in this process by the C library, or by a process of the program."""
 from __future__ import annotations
 
 import os
@@ -11,16 +11,16 @@ from ..words import is_synced, milliseconds, present
 
 
 class Outcome(NamedTuple):
-    """What became of a batch. One of the reasons at most has a text."""
+    """The outcome of a batch. At most one of the reasons has a text."""
 
-    again: str = ""  # why all samples have to be tried again: rrdi has none of them
+    again: str = ""  # why feed has to try all samples again: rrdi has none of them
     lost: str = ""  # why all samples may be lost
     refused: Tuple[Tuple[bytes, str], ...] = ()  # each refused sample, and why
 
 
 class Writer(Protocol):
     def write(self, file: bytes, samples: List[bytes]) -> Outcome:
-        """Gives rrdi the samples of one file, each as an update of its own."""
+        """Passes the samples of one file to rrdi, each as an update of its own."""
 
 
 def text_of(data: bytes) -> str:
@@ -47,10 +47,10 @@ class ByProgram:
         self.program = program
 
     def write(self, file: bytes, samples: List[bytes]) -> Outcome:
-        # The time after each update says where the refusals belong.
+        # The time printed after each update shows which update a refusal belongs to.
         given = b"".join(b"update %b\nlast\n" % sample for sample in samples)
         try:
-            # In a session of its own, no key that ends feed ends a batch that writes.
+            # The batch runs in a session of its own, so that a key that ends feed does not end a batch that writes.
             ran = subprocess.run([os.fsencode(self.program), b"batch", file], input=given, stdout=subprocess.PIPE,
                                  stderr=subprocess.PIPE, start_new_session=True)
         except OSError as error:
@@ -73,7 +73,7 @@ class ByProgram:
 
 
 def chosen_writer() -> Writer:
-    """The program that the variable RRDI names; otherwise the C library, or the program rrdi if there is no library."""
+    """Returns the program that the variable RRDI names; otherwise the C library, or without a library the program rrdi."""
     named: Optional[str] = os.environ.get("RRDI")
     if named is None and library_path() is not None:
         try:

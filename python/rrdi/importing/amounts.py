@@ -6,7 +6,7 @@ import re
 from dataclasses import dataclass
 
 MILLION = 10**6
-RATE_LIMIT = 1e18  # the size from which on rrdi takes no value of a gauge
+RATE_LIMIT = 1e18  # rrdi takes values of a gauge with a smaller absolute value
 BOUND_LIMIT = 2.0**64
 
 
@@ -16,7 +16,7 @@ def millionths(value: float) -> int:
 
 
 def as_text(amount: int | None) -> str:
-    """Writes an amount of millionths as rrdi reads it, without zeros at its end; U if it is unknown."""
+    """Returns the text of an amount of millionths, without zeros at the end; U if the amount is unknown."""
     if amount is None:
         return "U"
     whole, rest = divmod(abs(amount), MILLION)
@@ -25,7 +25,7 @@ def as_text(amount: int | None) -> str:
 
 
 def raw_value(kind: str, text: str) -> str | None:
-    """Returns the last raw value of a COUNTER or a DERIVE if rrdi takes it."""
+    """Returns the last raw value of a COUNTER or a DERIVE if rrdi accepts the value."""
     if not re.fullmatch(r"\d+" if kind == "COUNTER" else r"-?\d+", text):
         return None
     if kind == "COUNTER":
@@ -35,13 +35,13 @@ def raw_value(kind: str, text: str) -> str | None:
 
 @dataclass
 class Losses:
-    """Which numbers became unknown or 0."""
+    """The numbers that became unknown or 0."""
 
     too_large: bool = False
     too_small: bool = False
 
     def amount(self, value: float, limit: float = RATE_LIMIT) -> int | None:
-        """Converts a number of RRDtool to millionths; nan, and a size of `limit` or more, become None."""
+        """Converts a number of RRDtool to millionths; nan, and an absolute value of `limit` or more, become None."""
         if math.isnan(value):
             return None
         if abs(value) >= limit:

@@ -1,4 +1,4 @@
-"""Writes the batch that makes a database out of a file of RRDtool."""
+"""Writes the batch that creates a database from a file of RRDtool."""
 from __future__ import annotations
 
 import re
@@ -21,7 +21,7 @@ def choose_sources(old: OldFile, note: Callable[[str], None]) -> list[Source]:
     """Returns the data sources that rrdi can have.
 
     # Errors
-    `Refusal` if no source is left, or more than rrdi takes.
+    `Refusal` if no source is left, or more sources than rrdi can have.
     """
     chosen = []
     for source in old.sources:
@@ -39,10 +39,10 @@ def choose_sources(old: OldFile, note: Callable[[str], None]) -> list[Source]:
 
 
 def choose_archives(old: OldFile, sources: int, note: Callable[[str], None]) -> list[Archive]:
-    """Returns the archives that rrdi can have, each with its place in time.
+    """Returns the archives that rrdi can have, each with the time that its rows cover.
 
     # Errors
-    `Refusal` if no archive is left, or more archives or cells than rrdi takes.
+    `Refusal` if no archive is left, or more archives or cells than rrdi can have.
     """
     chosen = []
     for archive in old.archives:
@@ -73,7 +73,7 @@ Rates = Tuple[Optional[int], ...]
 
 
 def merge(columns: list[Stretches]) -> Iterator[tuple[int, Rates]]:
-    """Joins the rates of all sources, whose stretches end at the same time; equal rates come as one stretch."""
+    """Joins the rates of all sources, whose stretches end at the same times. Joins equal rates to one stretch."""
     at, pending = [0] * len(columns), None
     while at[0] < len(columns[0]):
         end = min(column[number][0] for column, number in zip(columns, at))
@@ -92,7 +92,7 @@ def as_words(rates: Iterable[int | None]) -> str:
 
 
 def share_of(archive: Archive) -> str:
-    """The share of unknown steps that a row may have, so that as many may be unknown as in RRDtool."""
+    """Returns the xff with which rrdi allows as many unknown steps in a row as RRDtool does."""
     wanted = archive.allowed_unknown()
     parts = min(int(archive.share * MILLION + 0.5), MILLION - 1)
     while parts * archive.steps // MILLION > wanted:
@@ -117,9 +117,10 @@ class Batch:
         self.last_given = old.last - any(raw is not None for raw in self.raw)
 
     def raw_of(self, source: Source) -> str | None:
-        """The last raw value of a counter.
+        """Returns the line with the last raw value of a counter.
 
-        It comes as one more sample after the types. Its rate is unknown, so it is given for the last second alone.
+        The line is one more sample after the types are set. The rate of this sample is unknown, so the sample covers only
+        the last second.
         """
         if source.kind not in ("COUNTER", "DERIVE") or source.last_raw.startswith("U"):
             return None
@@ -141,7 +142,7 @@ class Batch:
     def lines(self) -> Iterator[str]:
         stretches = list(self.rates())
         unknown = (None,) * len(self.sources)
-        # What is unknown at the begin comes before the start.
+        # Unknown rates at the beginning are before the start.
         if stretches and stretches[0][1] == unknown:
             self.start = stretches.pop(0)[0]
         rates = stretches[-1][1] if stretches else unknown
@@ -156,7 +157,7 @@ class Batch:
             yield f"update {self.old.last}:{':'.join(words)}"
 
     def create(self) -> str:
-        """All sources begin as gauges without bounds that take any interval: the samples are the rates of rows."""
+        """Yields the lines. All sources begin as gauges without bounds and with the longest heartbeat."""
         words = [f"create --step {self.old.step} --start {self.start}"]
         if self.journal is not None:
             words.append(f"--journal {self.journal}")
@@ -197,10 +198,10 @@ class Batch:
 
 
 def batch_of(old: OldFile, journal: str | None, note: Callable[[str], None]) -> Iterator[str]:
-    """Yields the lines of the batch that makes the database; what can't be converted goes to `note`.
+    """Yields the lines of the batch that creates the database. Reports to `note` whatever cannot be converted.
 
     # Errors
-    `Refusal` if rrdi can't have such a database.
+    `Refusal` if rrdi cannot have such a database.
     """
     batch = Batch(old, journal, note)
     yield from batch.lines()

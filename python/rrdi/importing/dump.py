@@ -9,12 +9,12 @@ from typing import IO, Callable
 
 
 class Refusal(Exception):
-    """Why a file can't be converted."""
+    """The reason why a file cannot be converted."""
 
 
 @dataclass
 class Source:
-    """A data source of the old file; `column` is its place in the rows."""
+    """A data source of the old file; `column` is the index of its cells in the rows."""
 
     column: int
     name: str
@@ -29,7 +29,7 @@ class Source:
 
 @dataclass
 class Archive:
-    """An archive of the old file. Cells are row by row, the oldest row first."""
+    """An archive of the old file. The cells are in the order of the rows, the oldest row first."""
 
     number: int
     function: str
@@ -48,13 +48,13 @@ class Archive:
         return len(self.cells) // self.columns if self.columns else 0
 
     def place(self, step: int, last: int) -> None:
-        """Sets which time the rows cover, in seconds since 1970."""
+        """Sets the time that the rows cover, in seconds since 1970."""
         self.seconds = step * self.steps
         self.end = last - last % self.seconds
         self.begin = max(self.end - self.row_count * self.seconds, 0)
 
     def has(self, time: int) -> bool:
-        """Whether the row that ends at `time` is in the archive, or is its unfinished row."""
+        """Checks whether the row that ends at `time` is in the archive, or is the unfinished row."""
         return time - self.seconds >= self.begin
 
     def cell(self, time: int, column: int) -> float:
@@ -63,13 +63,13 @@ class Archive:
         return float(self.cells[row * self.columns + column])
 
     def allowed_unknown(self) -> int:
-        """How many steps of a row may be unknown. RRDtool multiplies in floating point: 0.29 of 100 is less than 29."""
+        """Returns how many steps of a row may be unknown. RRDtool multiplies in floating point: 0.29 * 100 is below 29."""
         return int(self.share * self.steps)
 
 
 @dataclass
 class OldFile:
-    """What a file of RRDtool holds."""
+    """The contents of a file of RRDtool."""
 
     step: int
     last: int
@@ -97,10 +97,10 @@ def read_archive(element: ElementTree.Element, number: int, cells: array[float],
 
 
 def read_dump(stream: IO[bytes], progress: Callable[[int], None] = lambda cells: None) -> OldFile:
-    """Reads what `rrdtool dump` prints, and reports to `progress` how many cells were read, every thousand rows.
+    """Reads the output of `rrdtool dump`, and reports the number of cells to `progress`, every thousand rows.
 
     # Errors
-    - `ElementTree.ParseError` if the XML is cut off or is none.
+    - `ElementTree.ParseError` if the text is not complete XML.
     - `Refusal` if a row has another number of cells than the file has data sources.
     """
     step = last = -1
@@ -139,7 +139,7 @@ def read_file(rrdtool: str, file: str, progress: Callable[[int], None] = lambda 
     """Reads a file by `rrdtool dump`.
 
     # Errors
-    `Refusal` if rrdtool doesn't read it to its end, or the file changes meanwhile.
+    `Refusal` if rrdtool does not read the file to its end, or the file changes meanwhile.
     """
     with subprocess.Popen([rrdtool, "dump", file], stdout=subprocess.PIPE, stderr=subprocess.PIPE) as dump:
         assert dump.stdout and dump.stderr

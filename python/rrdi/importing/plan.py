@@ -1,4 +1,4 @@
-"""Says which archive of a file gives the rates of which time."""
+"""Chooses the archives of a file from which the rates are computed, for each stretch of time."""
 from __future__ import annotations
 
 from collections.abc import Callable
@@ -7,16 +7,16 @@ from .dump import Archive
 
 
 def rank(archive: Archive) -> tuple[int, int]:
-    """Orders archives by how much their rows say: the steps themselves, then averages, then the other functions."""
+    """Orders archives by their information: the steps themselves first, then averages, then the other functions."""
     return (0 if archive.steps == 1 else 1 if archive.function == "AVERAGE" else 2, archive.steps)
 
 
 class Span:
-    """A stretch of time whose rates come from the rows of one archive.
+    """A stretch of time whose rates are computed from the rows of one archive.
 
-    `beside` has the archives with rows of the same length, by their function, each time the one that reaches back
-    farthest. `above` is the next coarser archive of averages that is made of whole rows of this one, `above_beside` has
-    its companions, and `above_twice` is the next coarser one after it.
+    `beside` has the archives with rows of the same length, by their function: for each function the archive that reaches
+    back farthest. `above` is the next coarser archive of averages whose rows consist of whole rows of this archive,
+    `above_beside` has the archives with rows as long as those of `above`, and `above_twice` is the next coarser archive.
     """
 
     def __init__(self, begin: int, end: int, archive: Archive, archives: list[Archive]):
@@ -33,7 +33,7 @@ class Span:
 
     @staticmethod
     def coarser(archive: Archive, archives: list[Archive]) -> Archive | None:
-        """The next coarser archive of averages that is made of whole rows of this one."""
+        """Returns the next coarser archive of averages whose rows consist of whole rows of this archive."""
         found = [other for other in archives if other.function == "AVERAGE" and other.seconds > archive.seconds
                  and other.seconds % archive.seconds == 0]
         return min(found, key=lambda other: other.seconds) if found else None
@@ -62,7 +62,7 @@ def plan(archives: list[Archive], whole: int) -> list[Span]:
 
 
 def note_made_up_rows(archives: list[Archive], spans: list[Span], note: Callable[[str], None]) -> None:
-    """Says up to which time the rows of an archive are made of rows of other functions."""
+    """Reports the time up to which the rows of an archive are computed from rows of other functions."""
     for archive in archives:
         until = 0
         for span in spans:

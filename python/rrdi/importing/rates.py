@@ -1,4 +1,4 @@
-"""Makes the rates of a data source out of the rows of its archives."""
+"""Computes the rates of a data source from the rows of its archives."""
 from __future__ import annotations
 
 import math
@@ -12,11 +12,11 @@ from .steps import Row, Stretches, Wanted, lay, sum_of_rest
 
 @dataclass
 class Coarser:
-    """What a row of the next coarser averages says about unknown steps in the rows that it is made of."""
+    """The unknown steps of some rows, as far as the row of the next coarser averages shows them."""
 
     end: int
-    dropped: dict[int, int] = field(default_factory=dict)  # unknown steps of known rows, by the rows' times
-    hidden: int = 0  # known steps of the unknown rows, all together
+    dropped: dict[int, int] = field(default_factory=dict)  # unknown steps of known rows, by the times of the rows
+    hidden: int = 0  # the number of known steps of all unknown rows
     hidden_mean: float = 0.0
     hidden_minimum: int | None = None
     hidden_maximum: int | None = None
@@ -26,10 +26,10 @@ class Coarser:
 
 @dataclass
 class Parts:
-    """The rows that a coarser row is made of.
+    """The rows of which a coarser row consists.
 
-    `known` has the means of the known rows by their times, and `unknown` how many rows are unknown; `count`, `total`
-    and `size` are the number, the sum and the largest size of all known steps.
+    `known` has the means of the known rows by their times, and `unknown` is the number of unknown rows; `count`, `total`
+    and `size` are the number, the sum and the largest absolute value of all known steps.
     """
 
     known: dict[int, float] = field(default_factory=dict)
@@ -50,19 +50,19 @@ class Parts:
 
 
 def is_mean(wanted: float, mean: float, size: float) -> bool:
-    """Whether a mean of numbers up to this size is the wanted one, in the digits that RRDtool prints."""
+    """Checks whether a mean of numbers up to this size is the wanted mean, in the digits that RRDtool prints."""
     return abs(wanted - mean) <= 1e-7 + size / 5e9
 
 
 class SourceRates:
-    """Makes the rates of one source out of its rows."""
+    """Computes the rates of one source from its rows."""
 
     def __init__(self, column: int, step: int, whole: int, losses: Losses):
         self.column, self.step, self.whole, self.losses = column, step, whole, losses
         self.coarser: Coarser | None = None
 
     def all_rates(self, spans: list[Span]) -> Stretches:
-        """The rates of all spans. The newest come first, since what cuts a row has to be known."""
+        """Returns the rates of all spans. Starts with the newest span, because a finer span may cut a coarser row."""
         later: Stretches = []
         for span in reversed(spans):
             rates = self.rates_of_steps(span) if span.archive.steps == 1 else self.rates_of_rows(span, later)
@@ -78,7 +78,7 @@ class SourceRates:
                 for time in range(span.begin + self.step, span.end + 1, self.step)]
 
     def exact(self, archive: Archive | None, time: int) -> float:
-        """A cell as rrdtool prints it; of an unfinished row, the mean, minimum, .. of its known steps so far."""
+        """Returns a cell as rrdtool prints it; for an unfinished row, the mean, minimum, .. of its known steps so far."""
         if archive is None or not archive.has(time):
             return math.nan
         if time <= archive.end:
@@ -119,13 +119,13 @@ class SourceRates:
         return rates
 
     def wanted(self, row: Row, steps: int) -> Wanted:
-        """What `steps` steps have to show for a row; without averages any sum is right."""
+        """Returns the numbers that `steps` steps must have for a row; without averages any sum is right."""
         return Wanted(row.average * MILLION * steps, row.slack(steps) if row.has_average else math.inf,
                       row.minimum, row.maximum, row.latest, row.minimum, row.maximum)
 
     def lay_part(self, rates: Stretches, span: Span, row: Row, begin: int, time: int, later: Stretches) -> None:
-        """Lays the first part of a row that goes on after the span: where a finer archive begins inside the row, or in
-        an unfinished row. What the rates after the span come to is taken out of the row."""
+        """Lays the first part of a row that continues after the span, because a finer archive begins inside the row or the
+        row is unfinished. Subtracts the rates after the span from the row."""
         end = span.end
         rest = sum_of_rest(later, end, min(time, self.whole), self.step)
         steps = (end - begin) // self.step
@@ -156,7 +156,7 @@ class SourceRates:
         lay(rates, first, end, self.step, wanted)
 
     def lay_whole_row(self, rates: Stretches, span: Span, row: Row, begin: int, end: int, later: Stretches) -> None:
-        """Lays a row with what the next coarser row says about its unknown steps."""
+        """Lays a row with the unknown steps that the next coarser row shows."""
         coarser = self.coarser_of(span, begin, later) if row.has_average else None
         if coarser is not None and not row.is_known:
             begin = self.lay_hidden(rates, span, coarser, begin)
@@ -182,10 +182,10 @@ class SourceRates:
         lay(rates, begin, end, self.step, wanted)
         return end
 
-    # ---- What only a coarser row says about unknown steps
+    # ---- Unknown steps that only a coarser row shows
 
     def coarser_of(self, span: Span, begin: int, later: Stretches) -> Coarser | None:
-        """What the coarser row says in which a row begins, if it begins in the span and is finished."""
+        """Returns the unknown steps that a coarser row shows, if the coarser row begins in the span and is finished."""
         above = span.above
         if above is None:
             return None
@@ -199,7 +199,7 @@ class SourceRates:
         return self.coarser
 
     def parts_of(self, span: Span, above: Archive, end: int, later: Stretches) -> Parts:
-        """The rows of the span that a coarser row is made of, and what the rates after the span come to."""
+        """Returns the rows of the span of which a coarser row consists, and the sum of the rates after the span."""
         parts, seconds = Parts(), span.archive.seconds
         average = span.beside.get("AVERAGE")
         for time in range(end - above.seconds + seconds, end + 1, seconds):
@@ -222,9 +222,9 @@ class SourceRates:
         return parts
 
     def compare_coarser(self, span: Span, above: Archive, coarser: Coarser, later: Stretches) -> None:
-        """Compares a coarser row with the rows that it is made of.
+        """Compares a coarser row with the rows of which it consists.
 
-        If these come to something else, some steps of known rows were unknown, or some of unknown rows known.
+        If their average differs, some steps of known rows were unknown, or some steps of unknown rows were known.
         """
         parts = self.parts_of(span, above, coarser.end, later)
         mean = self.exact(above, coarser.end)
@@ -238,14 +238,14 @@ class SourceRates:
             self.find_hidden(span, above, coarser, parts, mean)
 
     def can_drop(self, span: Span, time: int, steps: int) -> bool:
-        """Whether a known row still shows what it shows if so many of its steps are unknown."""
+        """Checks whether a known row can have this many unknown steps."""
         if steps == 0:
             return True
         left = span.archive.steps - steps
         return left > 0 and self.wanted(self.row(span.beside, time), left).rate_between(left) is not None
 
     def drop_until_unknown(self, span: Span, coarser: Coarser, parts: Parts, excess: int) -> None:
-        """Takes `excess` known steps out of the known rows."""
+        """Removes `excess` known steps from the known rows."""
         for time in parts.known:
             if excess <= 0:
                 return
@@ -256,7 +256,7 @@ class SourceRates:
             excess -= steps
 
     def find_dropped(self, span: Span, coarser: Coarser, parts: Parts, mean: float) -> bool:
-        """Finds a known row, or two consecutive ones, some of whose steps were unknown so that the mean comes out.
+        """Finds a known row, or two consecutive known rows, in which unknown steps explain the mean of the coarser row.
 
         An outage leaves one such row before it and one after it.
         """
@@ -281,10 +281,10 @@ class SourceRates:
         return False
 
     def find_hidden(self, span: Span, above: Archive, coarser: Coarser, parts: Parts, mean: float) -> None:
-        """Sets how many steps of the unknown rows were known, their mean, and which minimum and maximum they show.
+        """Sets the number of known steps of the unknown rows, their mean, and their minimum and maximum.
 
-        They are as many as the average above the coarser row says, if there is one; else as many as one row can hide,
-        or more if their mean would else be beyond the minimum or the maximum.
+        If there is an average above the coarser row, this average gives the number. Otherwise the number is the largest that
+        one row can hide, or a larger number if the mean would otherwise be beyond the minimum or the maximum.
         """
         if span.most_hidden == 0:
             return
@@ -306,10 +306,10 @@ class SourceRates:
                 return
 
     def find_below_unknown(self, span: Span, above: Archive, coarser: Coarser, excess: int, later: Stretches) -> bool:
-        """Finds unknown steps of known rows, or known steps of unknown ones, in an unknown coarser row.
+        """Finds unknown steps of known rows, or known steps of unknown rows, in an unknown coarser row.
 
-        There are at least `excess` unknown steps. The row of the archive that is coarser still says how many; only the
-        last unknown row below that one is looked at.
+        There are at least `excess` unknown steps. The row of the next coarser archive gives their number; the method looks
+        only at the last unknown row below that row.
         """
         top = span.above_twice
         if top is None:
@@ -338,9 +338,9 @@ class SourceRates:
         return False
 
     def parts_below(self, span: Span, above: Archive, times: range, last: int, later: Stretches) -> Parts | None:
-        """The coarser rows that end at `times`, and the rows that the one which ends at `last` is made of.
+        """Returns the coarser rows that end at `times`, and the rows of which the coarser row that ends at `last` consists.
 
-        None if an unknown one comes after it, or if unknown steps of a known one explain the difference.
+        Returns None if an unknown row follows, or if unknown steps of a known row explain the difference.
         """
         parts = Parts()
         for time in times:
@@ -359,9 +359,9 @@ class SourceRates:
         return parts
 
     def known_steps(self, span: Span, end: int, mean: float) -> int:
-        """How many steps of the coarser row that ends at `end` were known, by the row above it; 0 if that doesn't say.
+        """Returns the number of known steps of the coarser row that ends at `end`, by the row above it.
 
-        All steps of the other known rows count as known.
+        Returns 0 if the row above does not show the number. All steps of the other known rows count as known.
         """
         above, top = span.above, span.above_twice
         if above is None or top is None:
@@ -378,7 +378,7 @@ class SourceRates:
 
 
 def unfinished_step(source: Source, whole: int, last: int, losses: Losses) -> Stretches:
-    """What is known about the unfinished step: its unknown seconds first, then the mean of the known ones."""
+    """Returns the rates of the unfinished step: first the unknown seconds, then the mean of the known seconds."""
     if last == whole:
         return []
     known = last - whole - source.unknown_seconds

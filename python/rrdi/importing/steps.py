@@ -13,7 +13,7 @@ Stretches = List[Tuple[int, Optional[int]]]
 
 @dataclass
 class Row:
-    """The cells of one source in the rows that end at one time: in millionths, and the average as it is."""
+    """The cells of one source in the rows that end at one time: in millionths, and the average unrounded."""
 
     has_average: bool = False
     average: float = math.nan
@@ -26,27 +26,27 @@ class Row:
         return not math.isnan(self.average)
 
     def size(self) -> float:
-        """The largest number in the row, in units."""
+        """Returns the largest number in the row, in units."""
         cells = [abs(cell) / MILLION for cell in (self.minimum, self.maximum, self.latest) if cell is not None]
         return max([abs(self.average), *cells])
 
     def may_have(self, mean: float, steps: int) -> bool:
-        """Whether some steps of a row with so many known ones may have this mean, by the minimum and the maximum."""
+        """Checks whether some of the row's known steps may have this mean, by the minimum and the maximum."""
         slack = 1e-6 + self.size() * steps * 1e-10
         return ((self.minimum is None or mean >= self.minimum / MILLION - slack)
                 and (self.maximum is None or mean <= self.maximum / MILLION + slack))
 
     def slack(self, steps: int) -> float:
-        """By how much the sum of `steps` steps may miss the row's sum, in millionths.
+        """Returns by how much the sum of `steps` steps may differ from the row's sum, in millionths.
 
-        RRDtool prints eleven digits of each number, and each number is rounded to a millionth here.
+        RRDtool prints eleven digits of each number, and the conversion rounds each number to a millionth.
         """
         return steps * (2 + self.size() * MILLION * 1e-9)
 
 
 @dataclass
 class Rest:
-    """What the rates after a span come to within a row that the span's end cuts."""
+    """The sum, minimum and maximum of the rates after a span, within a row that the span's end cuts."""
 
     known: int = 0
     total: int = 0
@@ -73,7 +73,7 @@ def sum_of_rest(later: Stretches, begin: int, end: int, step: int) -> Rest:
 
 @dataclass
 class Wanted:
-    """What some steps have to show: their sum in millionths, and each of the other numbers that is not None."""
+    """The numbers that some steps must have: their sum in millionths, and each other number that is not None."""
 
     total: float
     slack: float
@@ -87,7 +87,7 @@ class Wanted:
         return replace(self, **{name: None for name in names})
 
     def distinct(self) -> tuple[int | None, int | None, int | None]:
-        """The minimum, maximum and last rate, without those that another of them shows too."""
+        """Returns the minimum, maximum and last rate, without equal ones."""
         minimum, maximum = self.minimum, self.maximum
         if maximum in (self.latest, minimum):
             maximum = None
@@ -96,7 +96,7 @@ class Wanted:
         return minimum, maximum, self.latest
 
     def rate_between(self, steps: int) -> int | None:
-        """The rate of the other steps, if some of `steps` steps show the numbers; None if these don't fit the sum."""
+        """Returns the rate of the other steps, if some of `steps` steps have these numbers; None if they do not fit the sum."""
         shown = [cell for cell in self.distinct() if cell is not None]
         left, rest = steps - len(shown), self.total - sum(shown)
         if left < 0:
@@ -111,14 +111,14 @@ class Wanted:
         return rate if abs(left * rate - rest) <= self.slack else None
 
 
-# Of what doesn't fit together as much is kept as does; the sum always is.
+# If the numbers do not fit together, as many of them are kept as fit, and always the sum.
 LEFT_OUT = ((), ("latest",), ("minimum", "latest"), ("maximum", "latest"))
 
 
 def lay(rates: Stretches, begin: int, end: int, step: int, wanted: Wanted) -> None:
-    """Lays the steps from `begin` to `end` so that they show what is wanted.
+    """Lays the steps from `begin` to `end` so that they have the wanted numbers.
 
-    The first step is the minimum, the second one the maximum, the final one the last rate, and the steps between have
+    The first step is the minimum, the second step the maximum, the final step the last rate, and the steps between have
     one rate that makes the sum right.
     """
     steps = (end - begin) // step

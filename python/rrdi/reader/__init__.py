@@ -7,7 +7,7 @@ from .files import lock_shared, read, read_bytes, read_file
 from .pieces import FUNCTIONS, LATEST, TOP, TYPES, UNKNOWN, VERSIONS, Parts, Reader
 from .undo import checksum, settled
 
-# Why bytes are no database.
+# The reason why bytes are not a database.
 Fault = Damaged
 
 __all__ = ["FUNCTIONS", "LATEST", "MILLION", "TOP", "TYPES", "UNKNOWN", "VERSIONS", "Damaged", "Fault", "Millionths",

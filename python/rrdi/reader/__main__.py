@@ -2,13 +2,13 @@
 
     python3 -m rrdi.reader json|csv|openmetrics|check FILE
 
-FILE may be - for standard input. json prints all that the file holds, its journal too; csv and openmetrics print the
-known rows of all archives; check prints nothing. The file is read under a shared lock. If another program holds the
-lock, the reader tries again for the seconds that the variable RRDI_WAIT gives, 5 by default. If a change of the file
-was broken off, it reads the database that the next command of rrdi would find.
+FILE may be - for standard input. json prints all of the database, including its journal; csv and openmetrics print the
+known rows of all archives; check prints nothing. The reader reads the file under a shared lock. If another program holds
+the lock, the reader tries again for the seconds that the variable RRDI_WAIT sets, 5 by default. If a change of the file
+was interrupted, the reader reads the database that the next command of rrdi would find.
 
-Exit status: 0; 2 after wrong arguments; else 1 with one line on standard error, which has the first fault as rrdi
-reports it if FILE is no database. docs/reading.md has more, and how a program in Python uses the reader as a module.
+Exit status: 0; 2 after wrong arguments; otherwise 1, with one line on standard error. If FILE is not a database, this
+line has the first fault, as rrdi reports it. docs/reading.md also explains how to use the reader as a Python module.
 """
 from __future__ import annotations
 
@@ -21,7 +21,7 @@ from .printing import WAYS
 
 
 def main(name: str = "rrdi.reader") -> int:
-    """Runs the command line; `name` is what the messages call the program."""
+    """Runs the command line; `name` is the name of the program in messages."""
     if any(word in ("-h", "--help") for word in sys.argv[1:]):
         print((__doc__ or "").strip())
         return 0

@@ -1,4 +1,4 @@
-"""Files, and how one is read while other programs may change it."""
+"""Reads files that other programs may change at the same time."""
 from __future__ import annotations
 
 import errno
@@ -11,16 +11,16 @@ from .undo import settled
 
 
 def read(data: bytes) -> Parts:
-    """Returns the database that these bytes stand for, by names.
+    """Returns the database that these bytes represent, by names.
 
     # Errors
-    `Damaged` if they stand for none.
+    `Damaged` if the bytes represent no database.
     """
     return Reader(settled(data)).database()
 
 
 def lock_shared(file: int) -> None:
-    """Takes a shared lock on an open file, as rrdi does to read. On a file system without locks, takes none.
+    """Takes a shared lock on an open file, as rrdi does for reading. Takes no lock if the file system has none.
 
     # Errors
     `OSError` if another program holds the lock for longer than RRDI_WAIT seconds, 5 by default.
@@ -44,7 +44,7 @@ def read_bytes(path: str) -> bytes:
     """Reads a file under a shared lock; - is standard input.
 
     # Errors
-    `OSError` if the file can't be opened, locked or read.
+    `OSError` if the file cannot be opened, locked or read.
     """
     with open(0 if path == "-" else path, "rb", closefd=path != "-") as file:
         lock_shared(file.fileno())
@@ -55,7 +55,7 @@ def read_file(path: str) -> Parts:
     """Returns the database in a file, by names.
 
     # Errors
-    - `OSError` if the file can't be opened, locked or read.
-    - `Damaged` if it is no database.
+    - `OSError` if the file cannot be opened, locked or read.
+    - `Damaged` if the file is not a database.
     """
     return read(read_bytes(path))

@@ -12,11 +12,11 @@ Parts = Dict[str, Any]
 TYPES = ["GAUGE", "COUNTER", "DERIVE", "ABSOLUTE"]
 FUNCTIONS = ["AVERAGE", "MIN", "MAX", "LAST"]
 NAME = frozenset(b"abcdefghijklmnopqrstuvwxyzABCDEFGHIJKLMNOPQRSTUVWXYZ0123456789_")
-TOP = (2**64 - 1) * MILLION  # the largest size of a rate, a cell and a bound, in millionths
+TOP = (2**64 - 1) * MILLION  # the largest absolute value of a rate, a cell and a bound, in millionths
 LATEST = 9_999_999_999  # the latest time, and the longest heartbeat
-UNKNOWN = -(2**127)  # its bytes stand for an unknown cell or raw value, and for no bound
+UNKNOWN = -(2**127)  # the number that represents an unknown cell or raw value, and no bound
 
-# By version: how the header is spelled, and the most changes of the journal, archives and cells.
+# By version: the encoding of the header, and the maximum numbers of journal entries, archives and cells.
 VERSIONS = {1: (">IQHHHH", 1_000, 64, 4_000_000), 2: (">IQIHHI", 100_000, 128, 8_000_000)}
 SETTINGS = "20sBQ16s16s16s"
 
@@ -35,7 +35,7 @@ def bound(field: bytes) -> Optional[Millionths]:
 
 
 class Reader:
-    """Takes the pieces in their order, and checks each one by what came before."""
+    """Takes the pieces in their order, and checks each piece against the preceding pieces."""
 
     def __init__(self, data: bytes):
         self.data, self.at, self.piece_at, self.entry = data, 0, 0, 0
@@ -55,7 +55,7 @@ class Reader:
         raise Damaged(f"file: bad block at {self.piece_at}", None, BAD_BLOCK, self.piece_at)
 
     def raw(self, kind: str, field: bytes) -> Optional[int]:
-        """A raw value that the type accepts: of COUNTER and DERIVE in units, else in millionths."""
+        """Checks and returns a raw value: for COUNTER and DERIVE in units, otherwise in millionths."""
         value = bound(field)
         if value is None:
             return None
@@ -73,7 +73,7 @@ class Reader:
                 "min": bound(least), "max": bound(greatest), "last_raw": self.raw(TYPES[kind], raw)}
 
     def part(self, known: int, field: bytes, most: int, is_sum: bool) -> Millionths:
-        """What the known seconds of a step come to, or the known steps of a row."""
+        """Checks and returns the summary of the known seconds of a step, or of the known steps of a row."""
         self.check(known <= most, abs(amount(field)) <= (TOP * known if is_sum else TOP))
         self.check(known > 0 or amount(field) == 0)
         return amount(field)
@@ -89,7 +89,7 @@ class Reader:
         return parts
 
     def rows(self, count: int) -> List[List[Optional[Millionths]]]:
-        """Rows as they come. Where they are cut off, the whole cells are checked before the cut is told."""
+        """Reads rows in the order of the file. If the file ends within the rows, checks the complete cells first."""
         whole = min(count * self.sources, (len(self.data) - self.at) // 16)
         cells: List[Optional[Millionths]] = []
         for high, low in struct.iter_unpack(">qQ", self.data[self.at:self.at + whole * 16]):
@@ -103,7 +103,7 @@ class Reader:
         return [cells[at:at + self.sources] for at in range(0, whole, self.sources)]
 
     def head(self, number: int) -> Parts:
-        """An archive's settings; its rows are then those at the number."""
+        """Reads an archive's settings and adds the archive at the given number."""
         function, steps, xff, rows = self.take(">BIII")
         self.check(function < len(FUNCTIONS), 1 <= steps <= MILLION, xff < MILLION, 1 <= rows <= MILLION)
         self.row_counts.insert(number, rows)
@@ -111,7 +111,7 @@ class Reader:
         return {"function": FUNCTIONS[function], "steps": steps, "xff": Millionths(xff)}
 
     def old_rows(self, archive: Parts, count: int) -> List[Parts]:
-        """All rows of an archive, oldest first, as they were at the last time."""
+        """Reads all rows of an archive, oldest first, with their times."""
         length = self.step_length * archive["steps"]
         oldest = (self.last // length - count + 1) * length
         return [{"time": oldest + at * length, "cells": cells} for at, cells in enumerate(self.rows(count))]
@@ -142,7 +142,7 @@ class Reader:
             newest = last // length
             numbers = range(newest - count + 1, newest + 1)
             archive["rows"] = [{"time": number * length, "cells": slots[number % count]} for number in numbers]
-        # An entry is checked against the times and settings that it left, and leaves the older one those before it.
+        # An entry is checked against the times and settings after its change, and sets those before it for the older entry.
         journal: List[Parts] = []
         self.last, self.now, then = last, [dict(source) for source in sources], list(archives)
         changes = [self.update, self.tune, self.resize, self.addition, self.removal][:3 if version == 1 else 5]

@@ -1,4 +1,4 @@
-"""A database as JSON, CSV and OpenMetrics."""
+"""Prints a database as JSON, CSV and OpenMetrics."""
 from __future__ import annotations
 
 import json
@@ -9,7 +9,7 @@ from .pieces import Parts
 
 
 def as_json(value: object) -> str:
-    """Amounts come with all their digits, which a float would lose."""
+    """Returns the JSON of a value. Amounts keep all digits, which a float would lose."""
     if isinstance(value, dict):
         return "{" + ", ".join(f"{json.dumps(name)}: {as_json(part)}" for name, part in value.items()) + "}"
     if isinstance(value, list):

@@ -1,4 +1,4 @@
-"""A change of a file that was broken off: the database that the next command of rrdi would find."""
+"""Undoes or finishes an interrupted change: returns the database that the next command of rrdi would find."""
 from __future__ import annotations
 
 import struct
@@ -10,7 +10,7 @@ RECORD, SLOT = struct.Struct(">8sQQ16s16xQ"), struct.Struct(">QQQQ")
 
 
 def checksum(words: Tuple[int, ...], data: bytes) -> int:
-    """The checksum of some numbers and of bytes, which are filled up with zeros to whole words of eight bytes."""
+    """Returns the checksum of some numbers and of bytes. Zeros complete the last word of eight bytes."""
     total = SEED
     for word in (*words, *struct.unpack(f">{(len(data) + 7) // 8}Q", data.ljust((len(data) + 7) // 8 * 8, b"\0"))):
         total = (total ^ word) * FACTOR % 2**64
@@ -19,7 +19,7 @@ def checksum(words: Tuple[int, ...], data: bytes) -> int:
 
 
 def record_at(data: bytes, at: int) -> Optional[Tuple[int, bytes]]:
-    """The length and the first 16 bytes of the file of which the record at `at` speaks; None if there is no record."""
+    """Returns the length and the first 16 bytes of the file that the record at `at` describes; None without a record."""
     if at < 0 or at % PAGE or at + RECORD.size > len(data):
         return None
     magic, place, length, first, total = RECORD.unpack_from(data, at)
@@ -28,7 +28,7 @@ def record_at(data: bytes, at: int) -> Optional[Tuple[int, bytes]]:
 
 
 def old_pages(data: bytes, tail: int) -> List[Tuple[int, bytes]]:
-    """The old bytes that wait after the record at `tail`, each with their place, up to the first broken slot."""
+    """Returns the old bytes after the record at `tail` with their positions, up to the first broken slot."""
     found, at = [], tail + 128
     while at + SLOT.size <= len(data):
         place, count, own_tail, total = SLOT.unpack_from(data, at)
@@ -42,7 +42,7 @@ def old_pages(data: bytes, tail: int) -> List[Tuple[int, bytes]]:
 
 
 def settled(data: bytes) -> bytes:
-    """The database that the bytes of a file stand for, if a change of the file was broken off; else the bytes."""
+    """Returns the database that the bytes of a file represent if a change was interrupted; otherwise the bytes."""
     if data[:4] in (b"RRDC", b"RRDc"):
         size = 64 if data[:4] == b"RRDC" else 128
         record = record_at(data, len(data) - size) if len(data) % PAGE == size else None

@@ -1,4 +1,4 @@
-"""What all tools share: their help, their messages, their exit statuses, and how they report progress."""
+"""The parts that all tools share: help, messages, exit statuses, and reports of progress."""
 from __future__ import annotations
 
 import os
@@ -8,7 +8,7 @@ from typing import Callable, List, NamedTuple, Optional
 
 
 class Failure(Exception):
-    """Why a tool can't do what it was asked; the text is a line for the user."""
+    """The reason why a tool failed; the text is a line for the user."""
 
 
 class WrongArguments(Exception):
@@ -16,7 +16,7 @@ class WrongArguments(Exception):
 
 
 class Tool(NamedTuple):
-    """A tool: its name after an installation, the line of its arguments, its help, and what it does."""
+    """A tool: its installed name, the line of its arguments, its help, and the function that runs it."""
 
     name: str
     usage: str
@@ -25,13 +25,13 @@ class Tool(NamedTuple):
 
 
 def called_name(tool: Tool) -> str:
-    """Returns the name by which a tool was started; a link or an old name shows in its messages."""
+    """Returns the name by which a tool was started, so that messages have the name of a link or an old name."""
     name = os.path.basename(sys.argv[0])
     return tool.name if name.endswith(".py") or name in ("", "-c", "-m", "__main__") else name
 
 
 def give_up_output() -> None:
-    """Sends the rest of standard output nowhere, so that Python doesn't report at its end what was reported already."""
+    """Discards the rest of standard output, so that Python does not report the same error again at its end."""
     try:
         os.dup2(os.open(os.devnull, os.O_WRONLY), 1)
     except OSError:
@@ -85,9 +85,9 @@ def say(tool_name: str, text: str) -> None:
 
 
 class Progress:
-    """Shows on standard error how far a long move is, if standard error is a terminal.
+    """Shows the progress of a long move on standard error, if standard error is a terminal.
 
-    Nothing is shown in the first second, so short moves print nothing.
+    Shows nothing in the first second, so short moves print nothing.
     """
 
     FIRST, NEXT = 1.0, 0.2  # seconds
@@ -99,7 +99,7 @@ class Progress:
         self.is_shown = False
 
     def show(self, done: int, total: Optional[int] = None) -> None:
-        """Shows `done`, or the share of `total` if that is known."""
+        """Shows `done`, or the share of `total` if the total is known."""
         if not self.is_on or self.clock() < self.due:
             return
         self.due = self.clock() + self.NEXT

@@ -1,12 +1,12 @@
-"""Compares what rrdtool and rrdi fetch from a file of RRDtool and from the database that was made of it.
+"""Compares the rows of a file of RRDtool with the rows of the database that was made from this file.
 
     rrdi-compare OLD.rrd NEW.rrdi
 
-For each archive, one line says how many cells agree, how many are known in one file only, how many differ by more than
-a millionth (and by more than the eleventh digit, where rrdtool stops), and the time of the newest row that doesn't
-agree. rrdtool must be installed; the other program is rrdi, or the one that the variable RRDI names.
+For each archive, one line has these numbers: cells that agree; cells that are known in only one of the files; cells that
+differ by more than a millionth (and by more than the eleventh digit, the last digit that rrdtool prints); and the time
+of the newest row that does not agree. rrdtool must be installed. The variable RRDI may name the program rrdi.
 
-Exit status: 0 if all cells agree; 1 if a cell doesn't, if the files have no archive to compare, or if a program
+Exit status: 0 if all cells agree; 1 if a cell does not agree, if the files have no archive to compare, or if a program
 failed; 2 after wrong arguments.
 """
 from __future__ import annotations
@@ -36,7 +36,7 @@ class Span(NamedTuple):
 
 
 class Counts:
-    """How the cells of an archive compare."""
+    """The numbers of cells of an archive that agree and that differ."""
 
     def __init__(self) -> None:
         self.cells = self.agree = self.only_old = self.only_new = self.differ = 0
@@ -78,7 +78,7 @@ class Counts:
 
 
 def spans(info: str) -> Iterator[Span]:
-    """Yields the rows of each archive that rrdi can have, from what `rrdtool info` prints."""
+    """Yields the rows of each archive that rrdi can have, from the output of `rrdtool info`."""
     found = dict(re.findall(r"^(\S+) = (.*)$", info, re.MULTILINE))
     for number in range(len(found)):
         function = found.get(f"rra[{number}].cf", "").strip('"')
@@ -91,7 +91,7 @@ def spans(info: str) -> Iterator[Span]:
 
 
 def old_cells(text: str) -> Cells:
-    """Reads what `rrdtool fetch` prints."""
+    """Reads the output of `rrdtool fetch`."""
     lines = text.splitlines()
     names = lines[0].split() if lines else []
     rows = {}

@@ -3,13 +3,13 @@ from __future__ import annotations
 
 from typing import Optional
 
-# Digits after the point. RRDtool prints ten of them; with sixteen a number reads back as the same one.
+# Digits after the point. RRDtool prints ten digits; with sixteen, reading the text gives the same number.
 PRINTED, EXACT = 10, 16
 _digits = PRINTED
 
 
 def be_exact() -> None:
-    """Makes `exponent` print so many digits that each number reads back as the same one."""
+    """Makes `exponent` print so many digits that reading the text gives the same number."""
     global _digits
     _digits = EXACT
 

@@ -6,10 +6,10 @@
 The first form makes NEW.rrd with `rrdtool restore`; NEW.rrd must not exist. The second form prints the XML that
 `rrdtool restore` takes, and needs no RRDtool. The XML has the data sources, the archives, all rows, and the unfinished
 rows. FILE may be - for standard input. rrdi-export reads FILE itself, under a shared lock: if another program is
-changing FILE, rrdi-export waits for the seconds that the variable RRDI_WAIT gives, 5 by default.
+changing FILE, rrdi-export waits for the seconds that the variable RRDI_WAIT sets, 5 by default.
 
-Exit status: 0; 1 and one line on standard error if FILE can't be read or is no database, or if NEW.rrd can't be made;
-2 after wrong arguments. docs/to-rrdtool.md says what can't be converted.
+Exit status: 0; 1 and one line on standard error if FILE cannot be read or is not a database, or if NEW.rrd cannot be
+created; 2 after wrong arguments. docs/to-rrdtool.md lists what cannot be converted.
 """
 from __future__ import annotations
 
@@ -24,12 +24,12 @@ from .reading import read_file
 
 
 def number(value: Optional[int], unknown: str = "NaN") -> str:
-    """A number with all its digits; rrdtool reads it as the nearest one that it can hold."""
+    """Returns a number with all its digits; rrdtool reads it as the nearest number that rrdtool can store."""
     return unknown if value is None else str(value)
 
 
 def part(value: int, is_known: bool) -> str:
-    """The value of an unfinished row; if none of its steps is known, it is unknown in RRDtool and 0 in rrdi."""
+    """Returns the value of an unfinished row. If no step is known, the value is unknown in RRDtool and 0 in rrdi."""
     return number(value if is_known else None)
 
 
@@ -66,7 +66,7 @@ def as_xml(database: Dict[str, Any]) -> Iterator[str]:
 
 
 def restore(lines: Iterator[str], new: str, progress: Progress) -> None:
-    """Makes a file of RRDtool out of the lines of its XML."""
+    """Creates a file of RRDtool from the lines of its XML."""
     if os.path.lexists(new):
         raise Failure(f"{new} already exists")
     restoring = [rrdtool_program.found(), "restore", "-", new if not new.startswith("-") else "./" + new]
@@ -78,7 +78,7 @@ def restore(lines: Iterator[str], new: str, progress: Progress) -> None:
                 progress.show(count)
             child.stdin.close()
         except BrokenPipeError:
-            pass  # rrdtool says why it ended
+            pass  # rrdtool reports why it ended
         reason = child.stderr.read().decode(errors="replace").strip()
         child.stdin = None
     progress.end()

@@ -13,14 +13,14 @@ NO_ARCHIVE = "the RRD does not contain an RRA matching the chosen CF"
 
 
 def choose(settings: Settings, function: str, start: int, end: int, resolution: int) -> int:
-    """Returns the number of the archive that RRDtool takes.
+    """Returns the number of the archive that RRDtool reads.
 
-    RRDtool takes an archive with one step per row for any function. Of the archives that reach back to `start`, the one
-    whose resolution is nearest wins, and else the one that reaches back farthest; of equals, the one with the lowest
-    number.
+    RRDtool reads an archive with one step per row for any function. Of the archives that reach back to `start`, RRDtool
+    reads the archive with the nearest resolution; if no archive does, the archive that reaches back farthest; of equals,
+    the archive with the lowest number.
 
     # Errors
-    `Failure` if no archive can serve the function.
+    `Failure` if no archive has the function.
     """
     full: Optional[int] = None
     part: Optional[int] = None
@@ -42,7 +42,7 @@ def choose(settings: Settings, function: str, start: int, end: int, resolution: 
 def rows_of(file: str, settings: Settings, number: int, start: int, end: int) -> Rows:
     """Returns rows of one archive.
 
-    The rows are those from the first one that ends after `start` to the first one that ends after `end`, which are in
+    The rows are those from the first row that ends after `start` to the first row that ends after `end`. Both times are
     seconds since 1970. Rows that the archive does not have are unknown.
     """
     step = settings.resolution(number)
@@ -71,8 +71,8 @@ def fetch(file: str, function: str, start: int, end: int, resolution: int = 1) -
     """Returns the rows that `rrdtool fetch` prints.
 
     # Errors
-    - `program.Refused` if the file is no database.
-    - `Failure` if no archive can serve the function, or if `start` is after `end`.
+    - `program.Refused` if the file is not a database.
+    - `Failure` if no archive has the function, or if `start` is after `end`.
     """
     if start > end:
         raise Failure(f"start ({start}) should be less than end ({end})")

@@ -3,10 +3,10 @@
     rrdi-graph PICTURE [OPTION..] DEF:x=FILE:SOURCE:FUNCTION.. LINE1:x#ff0000:name..
     rrdi-graph load.png --start end-1d --end now DEF:a=load.rrdi:load1:AVERAGE AREA:a#88aa00:load
 
-The arguments are those of `rrdtool graph`: rrdgraph(1) describes them all. Each DEF whose file is rrdi's reads its rows
-from rrdi, with step, start, end and reduce; files of both programs can be in one picture. rrdi-graph prints the size of
-the picture and the texts of PRINT. If PICTURE is -, rrdi-graph writes the picture to standard output. The program is
-rrdi, or the one that the variable RRDI names. RRDtool's library must be installed (Debian: librrd8, with rrdtool).
+The arguments are those of `rrdtool graph`, which rrdgraph(1) describes. A DEF with a file of rrdi gets its rows from
+rrdi, with step, start, end and reduce; files of both programs can be in one picture. rrdi-graph prints the size of the
+picture and the texts of PRINT. If PICTURE is -, rrdi-graph writes the picture to standard output. The program is rrdi,
+or the program that the variable RRDI names. RRDtool's library must be installed (Debian: librrd8, with rrdtool).
 
 Exit status: 0; 1 if nothing was drawn; 2 after wrong arguments.
 """

@@ -1,4 +1,4 @@
-"""Lets RRDtool's own grapher draw rrdi's files: RRDtool asks a callback for the rows of each DEF."""
+"""Lets RRDtool's own grapher draw rrdi's files: RRDtool gets the rows of each DEF from a callback."""
 from __future__ import annotations
 
 import json
@@ -12,7 +12,7 @@ from .fetching import fetch
 from .librrd import PREFIX, Exported, Info, Librrd
 from .program import Rows
 
-# The first bytes of a file of rrdi: as it is, and while a change is being made.
+# The first bytes of a file of rrdi: without a change, and during a change.
 MARKS = (b"RRDI", b"RRDC", b"RRDc", b"RRDU")
 
 
@@ -26,7 +26,7 @@ def is_of_rrdi(file: str) -> bool:
 
 
 def rewrite(word: str) -> str:
-    """Returns an argument of a graph. The file of a DEF becomes one for the callback if the file is rrdi's."""
+    """Returns an argument of a graph. If the file of a DEF is rrdi's, the argument names the callback."""
     found = re.fullmatch(r"(DEF:[^=:]+=)((?:[^:\\]|\\.)+)(:.*)", word, re.DOTALL)
     if found is None:
         return word
@@ -37,7 +37,7 @@ def rewrite(word: str) -> str:
 
 
 def rows_for(file: str, function: str, start: int, end: int, step: int) -> Rows:
-    """Answers RRDtool's question for the rows of a file."""
+    """Returns the rows of a file that RRDtool requests."""
     name = file[len(PREFIX):]
     try:
         return fetch(name, function, start, end, step)
@@ -76,7 +76,7 @@ class Grapher:
         return "".join(line + "\n" for line in lines).encode(errors="surrogateescape")
 
     def graph_with_sizes(self, words: List[str]) -> bytes:
-        """Draws a picture. Returns what RRDtool tells of it, and the picture itself if the file is `-`."""
+        """Draws a picture. Returns RRDtool's information about the picture, and the picture itself if the file is `-`."""
         return b"".join(as_line(info) for info in self.draw(words))
 
     def xport(self, words: List[str]) -> bytes:
@@ -88,7 +88,7 @@ class Grapher:
 
 
 def as_line(info: Info) -> bytes:
-    """A line as `rrdtool graphv` prints it."""
+    """Returns a line as `rrdtool graphv` prints it."""
     value = info.value
     if isinstance(value, bytes):
         return f"{info.key} = BLOB_SIZE:{len(value)}\n".encode() + value
@@ -100,7 +100,7 @@ def as_line(info: Info) -> bytes:
 
 
 def as_xml(found: Exported, has_times: bool, is_numbered: bool) -> str:
-    """The XML that `rrdtool xport` prints."""
+    """Returns the XML that `rrdtool xport` prints."""
     first = found.start + found.step
     lines = ['<?xml version="1.0" encoding="ISO-8859-1"?>', "", "<xport>", "  <meta>", f"    <start>{first}</start>",
              f"    <end>{found.end}</end>", f"    <step>{found.step}</step>", f"    <rows>{len(found.rows)}</rows>",
@@ -116,7 +116,7 @@ def as_xml(found: Exported, has_times: bool, is_numbered: bool) -> str:
 
 
 def as_json(found: Exported, has_times: bool) -> str:
-    """The JSON that `rrdtool xport --json` prints, with quotes in legends escaped."""
+    """Returns the JSON that `rrdtool xport --json` prints, with quotes in legends escaped."""
     first = found.start + found.step
     names = ",\n".join(f"      {json.dumps(name, ensure_ascii=False)}" for name in found.names)
     rows = []

@@ -3,13 +3,13 @@
     rrdi-import [--journal DEPTH] OLD.rrd NEW.rrdi
     rrdi-import [--journal DEPTH] OLD.rrd > moved.batch
 
-The first form makes NEW.rrdi, which must not exist. The second form prints the batch that `rrdi batch NEW.rrdi` takes.
-The batch creates a database with the same step, data sources and archives, and updates it with rates that give the rows
-of the old file again. `rrdtool dump` reads the old file, so rrdtool must be installed. --journal DEPTH sets how many
-changes the new database can revert. docs/from-rrdtool.md says what is converted, and how.
+The first form creates NEW.rrdi, which must not exist. The second form prints the batch that `rrdi batch NEW.rrdi` takes.
+The batch creates a database with the same step, data sources and archives, and updates the database with rates that give
+the rows of the old file again. `rrdtool dump` reads the old file, so rrdtool must be installed. --journal DEPTH sets how
+many changes the new database can revert. docs/from-rrdtool.md explains the conversion.
 
-Exit status: 0 if the file was converted; 1 and a line on standard error if the file can't be converted; 2 after wrong
-arguments. Whatever can't be converted is listed on standard error.
+Exit status: 0 if the file was converted; 1 and a line on standard error if the file cannot be converted; 2 after wrong
+arguments. rrdi-import lists on standard error whatever it cannot convert.
 """
 from __future__ import annotations
 
@@ -47,19 +47,19 @@ def lines_of(arguments: Arguments) -> Iterator[str]:
     try:
         size = os.path.getsize(arguments.old)
     except OSError:
-        size = 0  # rrdtool says what is wrong
+        size = 0  # rrdtool reports the error
     old = read_file(rrdtool_program.found(), arguments.old, lambda cells: progress.show(8 * cells, size))
     progress.end()
     yield from batch_of(old, arguments.journal, lambda text: say(called_name(TOOL), text))
 
 
 def make(new: str, lines: Iterator[str]) -> None:
-    """Makes a database with a batch. It gets its name when it is whole."""
+    """Creates a database with a batch. The database gets its name when it is complete."""
     if os.path.lexists(new):
         raise Failure(f"{new} already exists")
     unfinished = new + ".new"
     if os.path.lexists(unfinished):
-        raise Failure(f"{unfinished} already exists; another rrdi-import may be making it")
+        raise Failure(f"{unfinished} already exists; another rrdi-import may be writing it")
     given, progress = [], Progress("converting")
     for line in lines:
         given.append(line)

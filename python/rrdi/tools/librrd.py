@@ -1,7 +1,7 @@
 """RRDtool's library in this process: its grapher, and its callback for rows.
 
-Python's module rrdtool has the callback too, but refuses rows that begin before the requested start, as those of every
-resolution do of which the start is no multiple. So the library is called directly, by ctypes.
+Python's module rrdtool has the callback too, but refuses rows that begin before the requested start. Rows do so for each
+resolution of which the start is not a multiple. So this module calls the library directly, by ctypes.
 """
 from __future__ import annotations
 
@@ -44,14 +44,14 @@ _Info._fields_ = [("key", ctypes.c_char_p), ("type", ctypes.c_int), ("value", _V
 
 
 class Info(NamedTuple):
-    """A line of what RRDtool tells of a picture. The value is a number, a text or bytes."""
+    """A line of RRDtool's information about a picture. The value is a number, a text or bytes."""
 
     key: str
     value: "float | int | str | bytes"
 
 
 class Exported(NamedTuple):
-    """What xport returns: the first row ends at `start` + `step`."""
+    """The result of xport: the first row ends at `start` + `step`."""
 
     start: int
     end: int
@@ -118,7 +118,7 @@ class Librrd:
 
     def answer(self, file: bytes, function: int, start: Any, end: Any, step: Any, count: Any, names: Any,
                data: Any) -> int:
-        """Answers RRDtool's question for rows. An exception becomes RRDtool's error, and is kept for the caller."""
+        """Returns the rows that RRDtool requests. An exception becomes RRDtool's error, and is kept for the caller."""
         try:
             assert self.question is not None
             if not 0 <= function < len(FUNCTIONS):
@@ -146,13 +146,13 @@ class Librrd:
         return (ctypes.c_char_p * (len(given) + 1))(*(ctypes.addressof(copy) for copy in self.copies), None)
 
     def refuse(self) -> None:
-        """Raises what went wrong in a call."""
+        """Raises the error of a call."""
         if self.failure is not None and not isinstance(self.failure, Failure):
             raise self.failure
         raise Failure(text(self.library.rrd_get_error()).replace(PREFIX, "") or "RRDtool drew nothing")
 
     def graph(self, words: List[str], question: Question) -> List[Info]:
-        """Draws a picture and returns what RRDtool tells of it.
+        """Draws a picture and returns RRDtool's information about it.
 
         # Errors
         `Failure` with RRDtool's message if nothing was drawn.
@@ -162,7 +162,7 @@ class Librrd:
         if not first:
             self.refuse()
         try:
-            # A picture that can't be written is told by the error alone.
+            # If the picture cannot be written, only the error shows it.
             if self.library.rrd_get_error():
                 self.refuse()
             found, at = [], first
@@ -177,7 +177,7 @@ class Librrd:
         """Returns the rows of XPORTs.
 
         # Errors
-        `Failure` with RRDtool's message if there are none.
+        `Failure` with RRDtool's message if there are no rows.
         """
         arguments = self.begin("xport", words, question)
         size, start, end = ctypes.c_int(), ctypes.c_long(), ctypes.c_long()

@@ -22,7 +22,7 @@ class PartialRow(NamedTuple):
 
 
 class Outline(NamedTuple):
-    """What `rrdtool info` prints and `rrdi info` doesn't."""
+    """The values that `rrdtool info` prints and `rrdi info` does not."""
 
     header_size: int
     steps: List[PartialStep]
@@ -49,7 +49,7 @@ def read_outline(file: str) -> Outline:
     """Returns the outline of the database in a file.
 
     # Errors
-    `Failure` if the file can't be opened, locked or read, or is no database.
+    `Failure` if the file cannot be opened, locked or read, or is not a database.
     """
     try:
         reading = WithoutRows(reader.settled(reader.read_bytes(file)))

@@ -1,12 +1,12 @@
-"""Draws the rows that rrdi fetches, by gnuplot: a line for each source, with gaps where nothing is known.
+"""Draws the rows that rrdi fetches, by gnuplot: a line for each source, with gaps where no value is known.
 
     rrdi-plot FILE PICTURE FUNCTION [ARGUMENTS OF FETCH..]
     rrdi-plot load.rrdi load.png AVERAGE --start 1700000000 --end 1700086400
 
-PICTURE ends in .png or .svg; rrdi-plot writes it at the end, if all went well. Each row is drawn over its own seconds.
-Times are in the time zone that the variable TZ names, or in the machine's. gnuplot runs the commands in the variable
-RRDI_PLOT_SETUP before it draws. The program is rrdi, or the one that the variable RRDI names. gnuplot must be
-installed.
+PICTURE ends in .png or .svg; rrdi-plot writes the picture at the end, if all went well. The line of a row covers the
+row's seconds. Times are in the time zone that the variable TZ names, or in the machine's. gnuplot runs the commands in
+the variable RRDI_PLOT_SETUP before it draws. The program is rrdi, or the program that the variable RRDI names. gnuplot
+must be installed.
 
 Exit status: 0; 1 if there is nothing to draw or a program failed; 2 after wrong arguments.
 """
@@ -50,10 +50,10 @@ class Points(NamedTuple):
 
 
 def points_of(names: List[str], rows: Dict[int, List[str]]) -> Points:
-    """Makes two points of each row, the begin and the end of its seconds. The rows are as far apart as they are long.
+    """Returns two points for each row, at the beginning and the end of its seconds. Rows follow each other without gaps.
 
     # Errors
-    `Failure` if fewer than two rows are there, or no cell is known.
+    `Failure` if there are fewer than two rows, or no cell is known.
     """
     times = list(rows)
     if len(times) < 2 or not any(cell != "nan" for cells in rows.values() for cell in cells):
@@ -71,7 +71,7 @@ Label = Tuple[str, int]
 
 
 def distance_of(seconds: int) -> int:
-    """Returns how far labels are apart, so that at most seven fit into so many seconds."""
+    """Returns a distance between labels with which at most seven labels fit into this number of seconds."""
     for distance in DISTANCES:
         if seconds / distance <= MOST_LABELS:
             return distance
@@ -123,7 +123,7 @@ def label_months(begin: int, end: int, distance: int) -> Iterator[Label]:
 
 
 def labels(begin: int, end: int) -> List[Label]:
-    """Returns at most about seven labels at round times of the time zone, so that they don't overlap."""
+    """Returns at most about seven labels at round times of the time zone, so that the labels do not overlap."""
     distance = distance_of(end - begin)
     way: Callable[[int, int, int], Iterator[Label]]
     way = label_times if distance < DAY else label_days if distance < MONTH else label_months
@@ -155,7 +155,7 @@ def draw(file: str, picture: str, terminal: str, points: Points) -> None:
     """Draws the points by gnuplot, and then writes the picture.
 
     # Errors
-    `Failure` with what gnuplot said if it drew nothing.
+    `Failure` if gnuplot drew nothing; gnuplot's message is on standard error.
     """
     with tempfile.TemporaryDirectory(prefix="rrdi-plot") as folder:
         lines = [" ".join(["time", *points.names])] + [f"{at} {cells}" for at, cells in points.points]

@@ -1,7 +1,8 @@
 """Runs commands of rrdi: by the C library in this process, or by the program.
 
-The variable RRDI names a program, which then runs all commands. Otherwise the C library does, and where there is none,
-the program rrdi on the PATH. The results are the same. The tools reach databases only through this module and the reader.
+If the variable RRDI names a program, this program runs all commands. Otherwise the C library runs them or, without the
+library, the program rrdi on the PATH. The results are the same. The tools use databases only through this module and the
+reader.
 """
 from __future__ import annotations
 
@@ -19,7 +20,7 @@ ERROR = "ERROR: "
 
 
 class Ran(NamedTuple):
-    """What a run of rrdi printed, and its exit status."""
+    """The output of a run of rrdi, and its exit status."""
 
     status: int
     out: str
@@ -47,7 +48,7 @@ class Archive(NamedTuple):
 
 
 class Settings(NamedTuple):
-    """What `rrdi info` prints."""
+    """The settings of a database, as `rrdi info` prints them."""
 
     step: int
     last: int
@@ -65,7 +66,7 @@ class Settings(NamedTuple):
         return self.last - self.last % self.resolution(archive)
 
     def start(self, archive: int) -> int:
-        """Returns when an archive's oldest row begins, in seconds since 1970; it may be before 1970."""
+        """Returns the time at which an archive's oldest row begins, in seconds since 1970. The time may be negative."""
         return self.end(archive) - self.resolution(archive) * self.archives[archive].rows
 
 
@@ -74,20 +75,20 @@ class Refused(Failure):
 
 
 def path() -> str:
-    """Returns the name of the program rrdi, which messages have too."""
+    """Returns the name of the program rrdi. Messages have this name too."""
     return os.environ.get("RRDI") or "rrdi"
 
 
 @lru_cache(maxsize=None)
 def loaded_library() -> Optional[Library]:
-    """Loads the C library; None if there is none."""
+    """Loads the C library. Returns None if there is no library."""
     try:
         return load_library() if library_path() is not None else None
     except (OSError, AttributeError):
         return None
 
 
-# The faults of a batch that come after its lines were run.
+# The faults of a batch that happen after its lines were run.
 AFTER_LINES = {CANNOT_WRITE: "cannot write", NO_MEMORY: "out of memory"}
 # How long a command waits for a file that another program has locked, in milliseconds: as long as the program does.
 WAIT = 5_000
@@ -98,7 +99,7 @@ def as_bytes(text: str) -> bytes:
 
 
 def run_in_process(library: Library, words: List[str], given: str) -> Ran:
-    """Runs a command, or a batch, by the library. The result is the program's."""
+    """Runs a command, or a batch, by the library. The result is the same as the program's."""
     name, file, *others = words
     now, syncs = int(time.time()), os.environ.get("RRDI_SYNC") == "1"
     answer: Answer
@@ -108,7 +109,7 @@ def run_in_process(library: Library, words: List[str], given: str) -> Ran:
         answer = library.run_file(as_bytes(file), b"\0".join(map(as_bytes, [name, *others])), now, WAIT, syncs)
     printed = answer.output.decode(errors="surrogateescape")
     if name == "batch" and answer.fault in AFTER_LINES:
-        # The lines were run, and the output is theirs.
+        # The lines were run, and the output is the output of the lines.
         return Ran(1, printed, f"{ERROR}{AFTER_LINES[answer.fault]}\n")
     if answer.fault != OK:
         return Ran(2 if answer.fault == USAGE else 1, "", f"{ERROR}{printed.rstrip()}\n")
@@ -116,10 +117,10 @@ def run_in_process(library: Library, words: List[str], given: str) -> Ran:
 
 
 def run(words: List[str], given: str = "") -> Ran:
-    """Runs a command of rrdi, with its file after its name, on the text `given`.
+    """Runs a command of rrdi, with its file after its name. `given` is the standard input.
 
     # Errors
-    `Failure` if the program can't be started, or an argument has a zero byte.
+    `Failure` if the program cannot be started, or an argument has a zero byte.
     """
     if any("\0" in word for word in words):
         raise Failure("an argument has a zero byte")
@@ -140,11 +141,11 @@ def reason_of(text: str) -> str:
 
 
 def ask(words: List[str], given: str = "") -> str:
-    """Runs a command of rrdi and returns what it printed.
+    """Runs a command of rrdi and returns its output.
 
     # Errors
-    - `Refused` if rrdi refuses the command or can't run it.
-    - `Failure` if the program can't be started.
+    - `Refused` if rrdi refuses the command or cannot run it.
+    - `Failure` if the program cannot be started.
     """
     ran = run(words, given)
     if ran.status != 0:
@@ -153,12 +154,12 @@ def ask(words: List[str], given: str = "") -> str:
 
 
 def file_argument(file: str) -> str:
-    """Returns a file name as an argument that no option can be."""
+    """Returns a file name as an argument that rrdi does not take for an option."""
     return "./" + file if file.startswith("-") else file
 
 
 def batch(file: str, lines: Iterable[str]) -> List[str]:
-    """Runs the lines of a batch on a file and returns what they printed.
+    """Runs the lines of a batch on a file and returns their output.
 
     # Errors
     `Refused` with the first refusal if a line was refused, or if the batch failed.
@@ -181,7 +182,7 @@ def settings(file: str) -> Settings:
     """Returns the settings of a database.
 
     # Errors
-    `Refused` if the file is no database; `Failure` if the program can't be started.
+    `Refused` if the file is not a database; `Failure` if the program cannot be started.
     """
     values: Dict[str, str] = {}
     for line in ask(["info", file_argument(file)]).splitlines():
@@ -190,7 +191,7 @@ def settings(file: str) -> Settings:
     try:
         return as_settings(values)
     except (KeyError, ValueError):
-        raise Failure(f"cannot read what {path()} info prints") from None
+        raise Failure(f"cannot read the output of {path()} info") from None
 
 
 def as_settings(values: Dict[str, str]) -> Settings:
@@ -227,7 +228,7 @@ class Rows(NamedTuple):
 
 
 def printed_rows(text: str) -> "tuple[List[str], Dict[int, List[str]]]":
-    """Reads what `rrdi fetch` prints: the names of the sources, and the cells of each row by its time."""
+    """Reads the output of `rrdi fetch`: the names of the sources, and the cells of each row by its time."""
     head, *lines = text.splitlines() or [""]
     rows = {}
     for line in lines:

@@ -11,7 +11,7 @@ def read_file(file: str) -> Dict[str, Any]:
     """Returns the database in a file, by names; `-` is standard input.
 
     # Errors
-    `Failure` if the file can't be opened, locked or read, or is no database.
+    `Failure` if the file cannot be opened, locked or read, or is not a database.
     """
     try:
         return reader.read_file(file)

@@ -1,11 +1,11 @@
 """Records the load averages of this machine in a database, once. The first run creates the database. For cron:
 
-    * * * * * rrdi-record /var/lib/rrdi/load.rrdi
+    * * * * * RRDI=/usr/local/bin/rrdi /usr/local/bin/rrdi-record /var/lib/rrdi/load.rrdi
 
 rrdi-record writes with RRDI_SYNC=1, and holds the lock FILE.lock while it runs. FILE.1, FILE.2 and FILE.3 are copies,
 made an hour apart, the newest first. If FILE is no longer a database, rrdi-record keeps it as FILE.refused and restores
-the newest readable copy. docs/recording.md tells more. The program is rrdi, or the one that the variable RRDI names.
-The variable LOADAVG names another file than /proc/loadavg with the numbers.
+the newest readable copy. docs/recording.md has more. The program is rrdi, or the program that the variable RRDI names.
+The variable LOADAVG names the file with the load averages, instead of /proc/loadavg.
 
 Exit status: 0; 1 if the sample was not recorded; 2 after wrong arguments.
 """
@@ -25,13 +25,13 @@ from .command_line import Failure, Tool, WrongArguments, called_name, run, say
 
 COPIES = 3
 HOUR = 3_600  # seconds between copies
-PATIENCE = 30.0  # seconds that a run waits for another one
+PATIENCE = 30.0  # seconds for which a run waits for another run
 DEFINITIONS = ["DS:load1:GAUGE:150:0:U", "DS:load5:GAUGE:150:0:U", "DS:load15:GAUGE:150:0:U",
                "RRA:AVERAGE:0.5:1:1440", "RRA:AVERAGE:0.5:10:1008", "RRA:AVERAGE:0.5:180:3000", "RRA:MAX:0.5:180:3000"]
 
 
 def lock(path: str) -> int:
-    """Takes the lock in a file of its own, and returns the open file.
+    """Locks the file at `path`, and returns the open file.
 
     # Errors
     `Failure` if another program holds the lock for half a minute.
@@ -51,7 +51,7 @@ def lock(path: str) -> int:
 
 
 def copy(old: str, new: str) -> None:
-    """Copies a file. The copy gets its name only when it is whole."""
+    """Copies a file. The copy gets its name only when it is complete."""
     shutil.copy(old, new + ".new")
     os.rename(new + ".new", new)
 
@@ -77,10 +77,10 @@ def restore(file: str, reason: str) -> None:
 
 
 def make_ready(file: str) -> int:
-    """Creates or restores the file if that is needed, and returns its last time.
+    """Creates or restores the file if necessary, and returns its last time.
 
     # Errors
-    `Failure` if the file can't be opened or read.
+    `Failure` if the file cannot be opened or read.
     """
     if not os.path.exists(file):
         create(file)
@@ -96,7 +96,7 @@ def make_ready(file: str) -> int:
 
 
 def keep_copies(file: str, last: int) -> None:
-    """Copies the file if the newest copy is older than an hour; older copies move on by one."""
+    """Copies the file if the newest copy is at least an hour older; renames the older copies."""
     try:
         copied = program.last(f"{file}.1")
     except program.Refused:

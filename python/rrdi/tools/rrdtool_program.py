@@ -13,7 +13,7 @@ NOT_INSTALLED = "rrdtool is not installed (Debian: apt install rrdtool)"
 
 
 def find() -> Optional[str]:
-    """Finds rrdtool on the PATH, passing over a link of this name to rrdi's own rrdi-rrdtool."""
+    """Finds rrdtool on the PATH. Passes over a link of this name to rrdi's own rrdi-rrdtool."""
     for folder in os.get_exec_path():
         path = os.path.join(folder, "rrdtool")
         if os.path.isfile(path) and os.access(path, os.X_OK):
@@ -37,7 +37,7 @@ def found() -> str:
 
 
 def ask(words: List[str]) -> str:
-    """Runs rrdtool and returns what it printed.
+    """Runs rrdtool and returns its output.
 
     # Errors
     `Failure` with rrdtool's own message if rrdtool fails or is not installed.

@@ -6,12 +6,13 @@
 
 COMMAND is create, update, updatev, tune, resize, fetch, first, last, lastupdate, info, graph, graphv or xport, with
 RRDtool's options, times such as now-1h, durations such as 5m, and exponents. graph, graphv and xport need RRDtool's
-library, which draws; rrdi-graph --help says more.
+library, which draws the picture; rrdi-graph --help has more.
 
-The second form is RRDtool's pipe mode: it reads a command per line from standard input, and answers each with its
-output and `OK`, or with `ERROR`; cd, mkdir, ls, pwd and quit are there too. With --exact numbers have 17 digits instead
-of RRDtool's 11; with --rrdi the output is rrdi's own; with --show rrdi-rrdtool prints the commands of rrdi and changes
-nothing. The program is rrdi, or the one that the variable RRDI names. docs/migrate.md has more.
+The second form is RRDtool's pipe mode: it reads a command per line from standard input. After each command it prints the
+command's output and `OK`, or `ERROR` and the reason. Pipe mode also has cd, mkdir, ls, pwd and quit. With --exact,
+numbers have 17 digits instead of RRDtool's 11; with --rrdi the output is rrdi's own; with --show rrdi-rrdtool prints the
+commands of rrdi and changes nothing. The program is rrdi, or the program that the variable RRDI names. docs/migrate.md
+has more.
 
 Exit status: 0; 1 and `ERROR: REASON` on standard error if the command is refused; 2 after wrong arguments. In pipe mode
 the status is 0 at the end of the input and after quit.
@@ -39,7 +40,7 @@ HELP = ("usage: rrdi-rrdtool COMMAND ARGUMENT..\n"
 
 
 def run_command(commands: Commands, name: str, words: List[str]) -> bytes:
-    """Runs a command and returns what it prints.
+    """Runs a command and returns its output.
 
     # Errors
     `Failure` if the command is refused.
@@ -57,7 +58,7 @@ def run_command(commands: Commands, name: str, words: List[str]) -> bytes:
 
 @lru_cache(maxsize=None)
 def the_grapher() -> Grapher:
-    """Loads RRDtool's grapher, once it is needed."""
+    """Loads RRDtool's grapher at the first use."""
     return Grapher()
 
 
@@ -77,7 +78,7 @@ def run_pipe(words: List[str]) -> int:
 
 
 def run_as_rrdi(name: str, words: List[str], is_shown: bool) -> int:
-    """Runs the commands of rrdi that a command becomes, with rrdi's own output, or prints them."""
+    """Translates a command to commands of rrdi, and runs them with rrdi's own output, or prints them."""
     for command in shown(name, words):
         if name == "resize":
             raise Failure("resize writes resize.rrd; use it without --rrdi and --show, or rrdi resize")

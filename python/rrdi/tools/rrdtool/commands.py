@@ -22,7 +22,7 @@ ELSEWHERE = {"dump": "rrdi-export prints the XML", "restore": "use rrdtool resto
 
 
 class Questions:
-    """What the translation of some arguments needs from a file."""
+    """The facts about a file that the translation of some arguments needs."""
 
     def last(self, file: str) -> int:
         try:
@@ -36,7 +36,7 @@ class Questions:
 
 
 def explain(file: str, reason: str) -> str:
-    """Returns an error of rrdi in RRDtool's words, if programs look for those."""
+    """Returns an error of rrdi in RRDtool's form, if programs look for RRDtool's text."""
     if not os.path.exists(file):
         return f"opening '{file}': No such file or directory"
     if reason == "file: not ours" and is_of_rrdtool(file):
@@ -45,7 +45,7 @@ def explain(file: str, reason: str) -> str:
 
 
 def is_of_rrdtool(file: str) -> bool:
-    """Checks whether a file is one of RRDtool's, by its first bytes."""
+    """Checks by its first bytes whether a file is a file of RRDtool."""
     try:
         with open(file, "rb") as opened:
             return opened.read(4) == b"RRD\0"
@@ -54,7 +54,7 @@ def is_of_rrdtool(file: str) -> bool:
 
 
 def explain_update(command: Command, reason: str, now: int) -> str:
-    """Returns why an update was refused. Programs look for RRDtool's words if a sample is too old."""
+    """Returns the reason why an update was refused. If a sample is too old, programs look for RRDtool's text."""
     file = command[1]
     found = re.fullmatch(r"not later than (\d+)", reason)
     if found is None:
@@ -73,7 +73,7 @@ def explain_update(command: Command, reason: str, now: int) -> str:
 
 
 def needed(settings: Settings, option: str, value: str) -> bool:
-    """Checks whether an option of tune changes something. A source that isn't there is left to rrdi to refuse."""
+    """Checks whether an option of tune changes something. rrdi itself refuses a source that does not exist."""
     name, _, setting = value.partition(":")
     for source in settings.sources:
         if source.name == name:
@@ -100,10 +100,10 @@ class Commands:
             "lastupdate": self.last_update, "info": self.info, "times": self.times, "rows": self.rows}
 
     def run(self, name: str, words: List[str]) -> str:
-        """Runs a command and returns what it prints.
+        """Runs a command and returns its output.
 
         # Errors
-        `Failure` if the command is refused; the text is what RRDtool prints after `ERROR: `.
+        `Failure` if the command is refused, with the text that RRDtool prints after `ERROR: `.
         """
         if name in ELSEWHERE:
             raise Failure(f"{name} is not supported: {ELSEWHERE[name]}")
@@ -174,7 +174,7 @@ class Commands:
         return cells
 
     def tune(self, words: List[str]) -> str:
-        """Tunes. What is set already isn't set again, so that it takes no entry of the journal."""
+        """Tunes. Leaves out options that change nothing, so that they use no journal entry."""
         for command in self.translated("tune", words):
             file, *others = command[1:]
             try:
@@ -232,7 +232,7 @@ class Commands:
         return fetch_text(self.fetched(words))
 
     def rows(self, words: List[str]) -> str:
-        """Fetches, and prints the time before the first row and the seconds between rows first, for perl/RRDs.pm."""
+        """Fetches rows for perl/RRDs.pm: the output begins with the time before the first row and the seconds between rows."""
         rows = self.fetched(words)
         return f"{rows.start} {rows.step}\n" + fetch_text(rows)
 
@@ -272,10 +272,10 @@ class Commands:
 
 
 def shown(name: str, words: List[str], clock: Callable[[], float] = time.time) -> List[Command]:
-    """Returns the commands of rrdi that a command becomes.
+    """Returns the commands of rrdi for a command of RRDtool.
 
     # Errors
-    `Failure` if rrdi has no such command or lacks what the arguments ask for.
+    `Failure` if rrdi does not have the command or a feature in the arguments.
     """
     try:
         return translate(name, words, int(clock()), Questions())

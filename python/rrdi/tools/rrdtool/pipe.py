@@ -44,7 +44,7 @@ def split(line: str) -> List[str]:
 
 
 class Pipe:
-    """Answers lines. `run` gets the name and the arguments of a command, and returns the bytes that it prints."""
+    """Answers lines. `run` takes the name and the arguments of a command, and returns the bytes of its output."""
 
     def __init__(self, run: Callable[[str, List[str]], bytes], usage: str, output: BinaryIO):
         self.run_command, self.usage, self.output = run, usage, output
@@ -74,12 +74,12 @@ class Pipe:
             if isinstance(error, BrokenPipeError):
                 raise
             self.output.write(f"ERROR: {error_text(error)}\n".encode(errors="surrogateescape"))
-        except Exception as error:  # a fault of this program; the other side still needs its answer
+        except Exception as error:  # a fault of this program; the caller still needs an answer
             self.output.write(f"ERROR: internal error: {error!r}\n".encode(errors="backslashreplace"))
         self.output.flush()
 
     def times(self) -> bytes:
-        """The line after a command that was run: seconds in the program, in the system, and since the start."""
+        """Returns the line after a successful command: seconds in the program, in the system, and since the start."""
         used = os.times()
         return (f"OK u:{used.user + used.children_user:.2f} s:{used.system + used.children_system:.2f} "
                 f"r:{time.monotonic() - self.begun:.2f}\n").encode()

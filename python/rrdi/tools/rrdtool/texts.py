@@ -1,4 +1,4 @@
-"""RRDtool's texts: what `rrdtool fetch`, `lastupdate`, `info` and `updatev` print."""
+"""RRDtool's texts: the output of `rrdtool fetch`, `lastupdate`, `info` and `updatev`."""
 from __future__ import annotations
 
 from typing import List, NamedTuple, Optional
@@ -11,12 +11,12 @@ VERSION = "RRDtool 1.7.2 (rrdi-rrdtool, on rrdi's files)"
 
 
 def bound(text: str) -> Optional[float]:
-    """A bound or a raw value as `rrdi info` prints it; U is none."""
+    """Returns a bound or a raw value that `rrdi info` printed; None for U."""
     return None if text == "U" else float(text)
 
 
 def raw_text(text: str) -> str:
-    """A raw value without zeros after its last digit."""
+    """Returns a raw value without zeros after its last digit."""
     return text.rstrip("0").rstrip(".") if "." in text else text
 
 
