@@ -19,6 +19,7 @@ LETTER_N = ord("N")
 FIRST_PAUSE, LONGEST_PAUSE = 0.1, 60.0  # seconds
 SAMPLES_OF_A_LINE = 100
 READ = 1 << 18  # bytes of one read of the input
+LONGEST_SHOWN = 4_096  # bytes of a bad line in a message
 
 
 @dataclass
@@ -39,9 +40,17 @@ class Waiting:
     due: float
 
 
+def shown(line: bytes) -> str:
+    """Returns a line for a message: without its end, and with control characters as escapes."""
+    text = text_of(line[:LONGEST_SHOWN]).strip() + (".." if len(line) > LONGEST_SHOWN else "")
+    return "".join(letter if letter.isprintable() else ascii(letter)[1:-1] for letter in text)
+
+
 class Feeder:
-    def __init__(self, options: Options, writer: Writer):
-        self.options, self.writer = options, writer
+    """Reads lines, each with a FILE and its samples. `name` begins each message."""
+
+    def __init__(self, options: Options, writer: Writer, name: str = "rrdi-feed"):
+        self.options, self.writer, self.name = options, writer, name
         # The samples of each file, in the order in which the first one of each arrived, and when that was.
         self.held: Dict[bytes, List[bytes]] = {}
         self.since: Dict[bytes, float] = {}
@@ -52,12 +61,21 @@ class Feeder:
         self.pauses: Dict[bytes, float] = {}
         self.threads = ThreadPoolExecutor(options.jobs)
         self.count, self.is_ending, self.is_hurried, self.has_failed = 0, False, False, False
+        self.bad_lines = 0
 
     # ---- Messages
 
     def say(self, text: str) -> None:
         self.has_failed = True
-        print(f"feed: {text}", file=sys.stderr, flush=True)
+        try:
+            print(f"{self.name}: {text}", file=sys.stderr, flush=True)
+        except OSError:  # nobody reads the messages, but the samples go on
+            pass
+
+    def say_bad(self, reason: str, line: bytes) -> None:
+        """Reports a line from which no sample was read."""
+        self.bad_lines += 1
+        self.say(f"{reason}, got: {shown(line)}")
 
     def say_lost(self, file: bytes, reason: str, samples: List[bytes]) -> None:
         """Reports samples that may be lost, in lines that feed would read again."""
@@ -88,13 +106,16 @@ class Feeder:
             return
         file, *samples = words
         if not samples or file.startswith(b"-"):
-            self.say(f"expected FILE SAMPLE.., got: {text_of(line).strip()[:200]}")
+            self.say_bad("expected FILE SAMPLE..", line)
             return
         now = b"%d" % int(time.time())
         samples = [now + sample[1:] if sample.startswith(b"N:") else sample for sample in samples]
         if any(len(UPDATE + sample) > LONGEST for sample in samples):
-            self.say(f"{text_of(file)}: a sample of over {LONGEST} bytes")
+            self.say_bad(f"a sample has over {LONGEST} bytes", line)
             return
+        self.hold(file, samples)
+
+    def hold(self, file: bytes, samples: List[bytes]) -> None:
         if file not in self.held:
             self.held[file], self.since[file] = [], time.monotonic()
         self.held[file] += samples
@@ -206,6 +227,8 @@ class Feeder:
                     self.give_up(file)
             self.end_batches(0.01)
         self.threads.shutdown()
+        if self.bad_lines:
+            self.say(f"bad lines: {self.bad_lines}")
 
     def end(self, *_: object) -> None:
         self.is_ending = True
