@@ -83,6 +83,28 @@ class Lines(unittest.TestCase):
             feeder.take_all([b"a", b"a 10:1"])
         self.assertEqual((feeder.held, feeder.has_failed), ({b"a": [b"10:1"]}, True))
 
+    def test_data_in_pieces(self) -> None:
+        """Lines that arrive in pieces of any length are the same lines; the last one may lack its end."""
+        text = b"a 10:1\nb 10:2\n\na 20:3"
+        for length in range(1, len(text) + 1):
+            feeder = self.feeder()
+            for at in range(0, len(text), length):
+                feeder.take_data(text[at:at + length])
+            feeder.take_data(b"")
+            self.assertEqual(feeder.held, {b"a": [b"10:1", b"20:3"], b"b": [b"10:2"]}, length)
+
+    def test_a_line_without_an_end(self) -> None:
+        """A line that is too long is passed over up to its end, and takes no memory; the next line is read."""
+        with mock.patch("rrdi.feeding.feeder.LONGEST_LINE", 10), contextlib.redirect_stderr(io.StringIO()) as said:
+            feeder = self.feeder()
+            for piece in (b"a 10:1\nx", b" 1234567890", b"123\0" * 9, b"4 5:6\na 20:2\n", b"b 10:1"):
+                feeder.take_data(piece)
+                self.assertLess(len(feeder.rest), 20)
+            feeder.take_data(b"")
+        self.assertEqual(feeder.held, {b"a": [b"10:1", b"20:2"], b"b": [b"10:1"]})
+        self.assertEqual(said.getvalue(), "rrdi-feed: a line has over 10 bytes, got: x 1234567890\n")
+        self.assertEqual(feeder.bad_lines, 1)
+
     def test_long_samples(self) -> None:
         longest = b"1:" + b"1" * (65_536 - len("update 1:"))
         for first in (b"", b"a 5:1\n"):

@@ -19,6 +19,7 @@ LETTER_N = ord("N")
 FIRST_PAUSE, LONGEST_PAUSE = 0.1, 60.0  # seconds
 SAMPLES_OF_A_LINE = 100
 READ = 1 << 18  # bytes of one read of the input
+LONGEST_LINE = 1 << 24  # bytes of a line of the input, which may have many samples
 LONGEST_SHOWN = 4_096  # bytes of a bad line in a message
 
 
@@ -62,6 +63,8 @@ class Feeder:
         self.threads = ThreadPoolExecutor(options.jobs)
         self.count, self.is_ending, self.is_hurried, self.has_failed = 0, False, False, False
         self.bad_lines = 0
+        # The begin of a line whose end has not arrived, and whether that line is too long, so that its end is passed over.
+        self.rest, self.is_too_long = b"", False
 
     # ---- Messages
 
@@ -85,6 +88,20 @@ class Feeder:
             self.say(f"may be lost: {name} {text_of(b' '.join(samples[at:at + SAMPLES_OF_A_LINE]))}")
 
     # ---- Lines
+
+    def take_data(self, data: bytes) -> None:
+        """Takes what was read from the input; no data is the end of the input, where the last line may lack its end."""
+        *lines, rest = (self.rest + data).split(b"\n")
+        if self.is_too_long and lines:
+            del lines[0]
+            self.is_too_long = False
+        if self.is_too_long:
+            rest = b""
+        elif len(rest) > LONGEST_LINE:
+            self.say_bad(f"a line has over {LONGEST_LINE} bytes", rest)
+            rest, self.is_too_long = b"", True
+        self.rest = rest
+        self.take_all(lines if data else [rest])
 
     def take_all(self, lines: List[bytes]) -> None:
         """Takes lines: one more sample of a held file in a short loop, all others by `take`."""
@@ -193,7 +210,7 @@ class Feeder:
     # ---- From the first line to the last
 
     def feed(self) -> int:
-        source, rest = sys.stdin.fileno(), b""
+        source = sys.stdin.fileno()
         selector: Optional[selectors.BaseSelector] = None
         try:
             waiter = selectors.DefaultSelector()
@@ -210,8 +227,7 @@ class Feeder:
             if selector and not selector.select(0.1 if self.waiting else min(self.options.seconds, 0.5)):
                 continue
             data = os.read(source, READ)
-            *lines, rest = (rest + data).split(b"\n")
-            self.take_all(lines if data else [rest])
+            self.take_data(data)
             if not data:
                 self.is_ending = True
         self.finish()
