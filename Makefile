@@ -1,8 +1,8 @@
 # Builds, installs and packages rrdi. docs/install.md has more.
 #
-#     make                                   proves and builds the program and the library, with rt on the PATH
-#     make library                           links the library in out/: librrdi.a, librrdi.so.0 and rrdi.pc
-#     make install [PREFIX=/usr/local] [DESTDIR=folder]
+#     make                                   proves and builds the program, with rt on the PATH
+#     make library                           proves and builds the C library, and links it: out/librrdi.a, out/librrdi.so.0
+#     make install [PREFIX=/usr/local] [DESTDIR=folder]    installs the program, and the library if it was built
 #     make uninstall [PREFIX=/usr/local] [DESTDIR=folder]
 #     make deb                               a package of Debian, out/rrdi_VERSION_ARCHITECTURE.deb
 #
@@ -35,13 +35,18 @@ VERSION := $(shell cat VERSION)
 PACKAGE := out/rrdi_$(VERSION)
 MAINTAINER := Bengcodla maintainers <maintainers@users.noreply.bengcodla.example>
 
+# Not empty if the library is to be installed: its archive was built, or was passed.
+HAS_LIBRARY = $(if $(filter command,$(firstword $(origin ARCHIVE))),$(ARCHIVE),$(wildcard $(ARCHIVE)))
+
 all:
 	cd crates/rrdi && rt run -- batch < ../../docs/first-session.txt
+
+library:
 	library/build
-	$(MAKE) --no-print-directory library
+	$(MAKE) --no-print-directory link-library
 
 # Other names than those of rrdi.h can't be seen of either library, so they can't clash with those of another one.
-library: $(BUILD)/librrdi.so.0 $(BUILD)/librrdi.a
+link-library: $(BUILD)/librrdi.so.0 $(BUILD)/librrdi.a
 
 $(BUILD)/librrdi.so.0: $(ARCHIVE) include/librrdi.map
 	mkdir -p $(BUILD)
@@ -59,7 +64,7 @@ $(BUILD)/librrdi.a: $(ARCHIVE)
 	rm $(BUILD)/librrdi.o
 
 $(ARCHIVE):
-	@echo "make: $@ not found; run make first, or pass ARCHIVE=path" >&2
+	@echo "make: $@ not found; run make library first, or pass ARCHIVE=path" >&2
 	@false
 
 # What is installed is the program that is there: it isn't built by install, which may run as another user.
@@ -67,8 +72,10 @@ $(PROGRAM):
 	@echo "make: $@ not found; run make first, or pass PROGRAM=path" >&2
 	@false
 
-install: $(PROGRAM) library
-	install -d "$(BINARIES)" "$(MANUALS)" "$(COMPLETIONS)" "$(SHARED)/docs" "$(SHARED)/examples"
+install: install-program $(if $(HAS_LIBRARY),install-library)
+	@$(if $(HAS_LIBRARY),,echo "make: $(ARCHIVE) not found, so the C library is not installed; make library builds it" >&2)
+
+install-library: link-library
 	install -d "$(HEADERS)" "$(LIBRARIES)/pkgconfig" "$(MANUALS_OF_C)"
 	install -m 644 $(BUILD)/librrdi.so.0 $(BUILD)/librrdi.a "$(LIBRARIES)"
 	ln -sf librrdi.so.0 "$(LIBRARIES)/librrdi.so"
@@ -80,6 +87,9 @@ install: $(PROGRAM) library
 		docs/rrdi.3 > "$(MANUALS_OF_C)/rrdi.3"
 	chmod 644 "$(MANUALS_OF_C)/rrdi.3"
 	for name in $(EXPORTS); do ln -sf rrdi.3 "$(MANUALS_OF_C)/$$name.3"; done
+
+install-program: $(PROGRAM)
+	install -d "$(BINARIES)" "$(MANUALS)" "$(COMPLETIONS)" "$(SHARED)/docs" "$(SHARED)/examples"
 	install -m 755 "$(PROGRAM)" "$(BINARIES)/rrdi"
 	sed -e 's|^\.Pa docs/|.Pa $(PREFIX)/share/rrdi/docs/|' -e 's|^\.Pa examples/|.Pa $(PREFIX)/share/rrdi/examples/|' \
 		-e 's|< docs/|< $(PREFIX)/share/rrdi/docs/|' docs/rrdi.1 > "$(MANUALS)/rrdi.1"
@@ -153,7 +163,7 @@ COMMA := ,
 # The version of the C library that a file needs.
 GLIBC = $$(grep -ao 'GLIBC_[0-9.]*' $(1) | sed 's/GLIBC_//' | sort -V | tail -n 1)
 
-deb: $(PROGRAM) library
+deb: $(PROGRAM) link-library
 	rm -rf $(PACKAGE) $(RUNTIME) $(DEVELOPMENT) $(OF_PYTHON)
 	$(MAKE) --no-print-directory install PREFIX=/usr LIBDIR=lib/$(MULTIARCH) DESTDIR=$(PACKAGE) PROGRAM="$(PROGRAM)"
 	strip --remove-section=.comment $(PACKAGE)/usr/bin/rrdi
@@ -180,7 +190,7 @@ deb: $(PROGRAM) library
 	$(call finish,$(OF_PYTHON),python3-rrdi,python,python3 (>= 3.8)$(COMMA) rrdi (= $(VERSION))$(COMMA) librrdi0 (>= $(VERSION)),$(ABOUT_PYTHON))
 	$(call finish,$(PACKAGE),rrdi,utils,libc6 (>= $(call GLIBC,"$(PROGRAM)")),$(ABOUT_PACKAGE))
 
-.PHONY: all library install uninstall deb
+.PHONY: all library link-library install install-library install-program uninstall deb
 
 # The tools, and what Perl and C programs of RRDtool's users record by.
 include tools/tools.mk

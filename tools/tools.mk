@@ -19,7 +19,7 @@ $(RECORDER): librrd/record.c include/rrdi.h $(BUILD)/librrdi.a
 		-Wl,--exclude-libs,ALL -Wl,-z,relro,-z,now librrd/record.c $(BUILD)/librrdi.a
 
 # Each name on the PATH is a link into the shared folder, where the package is.
-install-tools: $(if $(wildcard include/rrdi.h),$(RECORDER))
+install-tools: $(if $(HAS_LIBRARY),$(RECORDER))
 	install -d "$(BINARIES)" "$(MANUALS)" "$(COMPLETIONS)" "$(SHARED)/tools" "$(SHARED)/perl"
 	install -d "$(SHARED)/python/rrdi/tools/rrdtool"
 	install -m 644 python/rrdi/tools/*.py "$(SHARED)/python/rrdi/tools"

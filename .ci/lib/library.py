@@ -11,7 +11,7 @@ from pathlib import Path
 from lib.program import TOP
 
 HERE = Path(__file__).resolve().parent
-# The archive that `rt lib` and `rt ci` leave.
+# The archive that `library/build` leaves.
 ARCHIVE = TOP / "out/librrdi_c.a"
 USAGE = TOP / "crates/rrd_store/src/usage.rt"
 EXPORTS = frozenset({"rrdi_run", "rrdi_batch", "rrdi_run_file", "rrdi_batch_file"})
@@ -61,7 +61,7 @@ def usage_text() -> str:
 def build(folder: str | Path, archive: str | Path) -> Library:
     """Links the library of an archive as `make` does."""
     path = Path(folder).resolve()
-    subprocess.run(["make", "--no-print-directory", "-s", "-C", str(TOP), "library", f"BUILD={path}",
+    subprocess.run(["make", "--no-print-directory", "-s", "-C", str(TOP), "link-library", f"BUILD={path}",
                     f"ARCHIVE={Path(archive).resolve()}"], check=True)
     return Library(path)
 
