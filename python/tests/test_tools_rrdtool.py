@@ -242,9 +242,13 @@ class PipeMode(ToolCase):
 
     def test_each_answer_comes_before_the_next_line(self) -> None:
         import subprocess
+        import threading
         with subprocess.Popen([sys.executable, str(TOP / "tools" / TOOL), "-"], cwd=self.folder, env=self.env,
                               stdin=subprocess.PIPE, stdout=subprocess.PIPE) as running:
             assert running.stdin and running.stdout
+            patience = threading.Timer(30, running.kill)
+            self.addCleanup(patience.cancel)
+            patience.start()
             for _ in range(3):
                 running.stdin.write(b"pwd\n")
                 running.stdin.flush()
