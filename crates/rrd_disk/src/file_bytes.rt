@@ -7,12 +7,10 @@ use std::alloc::Global;
 use std::io::{self, Cursor, Error, ErrorKind};
 use std::rc::Rc;
 
-/// The maximum length of a file that is read whole by one call when the file is opened, in bytes. If a file is longer,
-/// the call reads the first page.
-const WHOLE: u64 = 1_048_576;
-
-/// The maximum number of bytes that one call reads for comparison with new bytes.
-const CHUNK: u64 = 262_144;
+/// The maximum number of bytes that one call reads, when a file is opened and for comparison with new bytes. At the
+/// opening a longer file is read up to the end of its first page. Larger buffers cost more: the system provides each
+/// of their pages anew.
+const CHUNK: u64 = 65_536;
 
 /// A write within one page that was interrupted. The next call first takes the write back.
 #[derive(Clone, Copy)]
@@ -59,7 +57,7 @@ impl<F: DiskFile> FileBytes<F> {
 
     // Reads the first page of a file of `length` bytes, or all bytes of a short file.
     fn read_front(&mut self, length: u64) -> io::Result<()> {
-        let count = if length <= WHOLE { length } else { PAGE as u64 };
+        let count = if length <= CHUNK { length } else { PAGE as u64 };
         self.fill(0, count)?;
         let read = self.window.bytes();
         self.front.fill(&read[..read.len().min(PAGE)])
