@@ -1,5 +1,5 @@
-/* Stops the clock of a program, so that what the program draws depends on no moment: the time is what the variable CLOCK
- * has, in seconds since 1970. Clocks that measure how long something takes go on. It is loaded by LD_PRELOAD. */
+/* Stops the clock of a program, so that a picture does not depend on the moment: the time is the value of the variable
+ * CLOCK, in seconds since 1970. Clocks that measure how long something takes go on. LD_PRELOAD loads this library. */
 #define _GNU_SOURCE
 #include <stdlib.h>
 #include <sys/syscall.h>

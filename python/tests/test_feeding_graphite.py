@@ -85,8 +85,10 @@ class Rules(unittest.TestCase):
 
     def test_bad_rules(self) -> None:
         for rules, reason in (
-                ("a", "line 1: expected NAME FILE [ARGUMENTS OF create..]"), ("a b\n** x", "line 2: NAME and FILE have different numbers of stars"),
-                ("a *", "line 1: NAME and FILE have different numbers of stars"), ("**.** **-**", "line 1: a NAME has at most one **"),
+                ("a", "line 1: expected NAME FILE [ARGUMENTS OF create..]"),
+                ("a b\n** x", "line 2: NAME and FILE have different numbers of stars"),
+                ("a *", "line 1: NAME and FILE have different numbers of stars"),
+                ("**.** **-**", "line 1: a NAME has at most one **"),
                 ("*** ***", "line 1: a NAME has at most one **"),
                 *((f"a {file}", f"line 1: FILE must be a path below the directory, not {file}")
                   for file in ("/x", "../x", "x/../../y", "./x", "x//y", "x/", "..")),

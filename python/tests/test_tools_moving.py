@@ -144,7 +144,7 @@ class LongMoves(ToolCase):
         self.create("f.rrdi", "DS:g:GAUGE:100:-5:U", "RRA:AVERAGE:0.5:1:20000")
         self.stub("rrdtool", "sleep 1.3; cat >new.rrd")
         self.is_shown("rrdi-export", "f.rrdi", "new.rrd", shown="lines of XML: [0-9,]+")
-        slow = f"{sys.executable} {TOP}/tools/rrdi-export f.rrdi | (sleep 1.3; cat >/dev/null)"
+        slow = f"{sys.executable} {TOP}/tools/rrdi-export f.rrdi | (head -c 1 >/dev/null; sleep 1.3; cat >/dev/null)"
         status, seen = self.on_terminal(["sh", "-c", slow])
         self.assertEqual(status, 0)
         self.assertRegex(seen, "^(\rlines of XML: [0-9,]+\x1b\\[K)+\r\x1b\\[K$")

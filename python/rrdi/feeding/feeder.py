@@ -63,7 +63,7 @@ class Feeder:
         self.threads = ThreadPoolExecutor(options.jobs)
         self.count, self.is_ending, self.is_hurried, self.has_failed = 0, False, False, False
         self.bad_lines = 0
-        # The begin of a line whose end has not arrived, and whether that line is too long, so that its end is passed over.
+        # The beginning of a line whose end has not arrived. If that line is too long, its end is passed over.
         self.rest, self.is_too_long = b"", False
 
     # ---- Messages

@@ -3,8 +3,8 @@
     rrdi-feed [--seconds SECONDS] [--jobs JOBS] [--held SAMPLES] [--patience SECONDS]
               [--graphite DIRECTORY [--rules RULES]]
 
-A line is FILE TIME:VALUE[:VALUE..].. or UPDATE FILE TIME:VALUE[:VALUE..].. A TIME N becomes the time at which the line
-arrived. rrdi-feed holds the samples of a FILE for SECONDS (60) after the first one arrived; then one batch on FILE takes
+A line is FILE TIME:VALUE[:VALUE..].. and UPDATE may precede FILE. A TIME N becomes the time at which the line arrived.
+rrdi-feed holds the samples of a FILE for SECONDS (60) after the first one arrived; then one batch on FILE takes
 them. So each FILE is read and written once in that time, however many samples it gets. Up to JOBS (4) batches run at a
 time, and never two on one FILE. While rrdi-feed holds SAMPLES (1000000), it reads no more lines.
 
