@@ -156,8 +156,8 @@ ABOUT_PACKAGE = 'Suggests: gnuplot-nox, python3, rrdtool' \
 	' A file has a fixed number of rows: new rows replace the oldest rows, and' \
 	' coarser archives keep averages, minimums and maximums. The commands have the' \
 	' names and main options of RRDtool; revert undoes the newest change. Every' \
-	' function is proved to meet its contract. Scripts that move files from RRDtool' \
-	' and back, record, plot and feed are in /usr/share/rrdi/examples.'
+	' function is proved to meet its contract. Tools in Python move files from' \
+	' RRDtool and back, record, plot and feed.'
 
 COMMA := ,
 # The version of the C library that a file needs.

@@ -5,6 +5,7 @@
 # Completes options, or files whose names have one of the given endings, or directories.
 _rrdi_tool() {
     local current=${COMP_WORDS[COMP_CWORD]} tool=${COMP_WORDS[0]##*/} options='--help' ends='' end
+    COMPREPLY=()
     case $tool in
         rrdi-import)
             options+=' --journal'
@@ -25,6 +26,23 @@ _rrdi_tool() {
             esac
             ;;
         rrdi-record) ends='rrdi' ;;
+        rrdi-feed)
+            options='--seconds --jobs --held --patience --graphite --rules'
+            ((COMP_CWORD > 1)) || options="--help $options"
+            case ${COMP_WORDS[COMP_CWORD - 1]} in
+                --seconds | --jobs | --held | --patience) return 0 ;;
+                --graphite) ;;
+                --rules)
+                    compopt -o filenames 2>/dev/null
+                    mapfile -t COMPREPLY < <(compgen -f -- "$current")
+                    return 0
+                    ;;
+                *)
+                    mapfile -t COMPREPLY < <(compgen -W "$options" -- "$current")
+                    return 0
+                    ;;
+            esac
+            ;;
         rrdi-graph)
             options='--help --start --end --title --vertical-label --width --height'
             ((COMP_CWORD > 1)) && ends='' || ends='png svg pdf'
@@ -40,7 +58,6 @@ _rrdi_tool() {
             ends='rrd rrdi'
             ;;
     esac
-    COMPREPLY=()
     if [[ $current == -* ]]; then
         mapfile -t COMPREPLY < <(compgen -W "$options" -- "$current")
         return 0
@@ -53,4 +70,4 @@ _rrdi_tool() {
     return 0
 }
 
-complete -F _rrdi_tool rrdi-import rrdi-export rrdi-compare rrdi-graph rrdi-plot rrdi-record rrdi-rrdtool
+complete -F _rrdi_tool rrdi-import rrdi-export rrdi-compare rrdi-feed rrdi-graph rrdi-plot rrdi-record rrdi-rrdtool

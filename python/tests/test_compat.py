@@ -48,6 +48,8 @@ class Translations(unittest.TestCase):
         for text in ("", "x", "5 m", "-5"):
             with self.assertRaisesRegex(Untranslatable, "step must be a number or a duration"):
                 read_length(text, "step")
+        with self.assertRaisesRegex(Untranslatable, "^step must be a number or a duration such as 5m, not 5 m$"):
+            read_length("5 m", "step")
         with self.assertRaisesRegex(Untranslatable, "rows must be a multiple of 300 seconds, not 450s"):
             read_length("450s", "rows", 300)
 
@@ -56,6 +58,10 @@ class Translations(unittest.TestCase):
                              ("-1d2h", NOW - 93_600), ("1600000000", 1_600_000_000),
                              ("1600000000-10", 1_599_999_990), ("epoch+7", 7)):
             self.assertEqual(Moment(text, NOW).seconds(), wanted, text)
+        for text in ("end-1h", "start+1h"):
+            with self.assertRaises(Untranslatable) as refused:
+                Moment(text, NOW).seconds()
+            self.assertEqual(str(refused.exception), f"this time is relative to itself: {text}")
         self.assertEqual(Moment("end-1h", NOW).seconds(end=NOW), NOW - 3_600)
         self.assertEqual(Moment("start+1h", NOW).seconds(start=NOW), NOW + 3_600)
         for text in ("", "32:00", "x", "12:00 13:00", "now-", "1970-01-01"):

@@ -9,15 +9,14 @@ import tempfile
 import time
 import unittest
 from pathlib import Path
-from typing import Dict, List, Tuple
+from typing import Dict, List, Sequence, Tuple
 from unittest import mock
 
 import doubles
 import rrdi
 from rrdi.errors import CANNOT_OPEN, CANNOT_WRITE, NO_MEMORY
 from rrdi.feeding import writers
-from rrdi.feeding.__main__ import read_options
-from rrdi.feeding.feeder import Feeder, Options
+from rrdi.feeding.feeder import Feeder, Options, shown
 from rrdi.feeding.writers import ByLibrary, ByProgram, Outcome, chosen_writer
 from rrdi.library import Answer, load_library
 
@@ -33,6 +32,9 @@ class Stub:
         self.batches.append((file, samples))
         outcomes = self.outcomes.get(file, [])
         return outcomes.pop(0) if outcomes else Outcome()
+
+    def create(self, file: bytes, arguments: Sequence[str]) -> str:
+        raise AssertionError("no test here creates a file")
 
 
 class Lines(unittest.TestCase):
@@ -65,11 +67,43 @@ class Lines(unittest.TestCase):
 
     def test_lines_that_are_wrong(self) -> None:
         feeder, said = self.taken(b"a\n-a 10:1\nUPDATE\nUPDATE a\nupdate -x 1:2\n\xff 5:1\n\xff \xff")
-        self.assertEqual(said, "feed: expected FILE SAMPLE.., got: a\nfeed: expected FILE SAMPLE.., got: -a 10:1\n"
-                               "feed: expected FILE SAMPLE.., got: UPDATE a\n"
-                               "feed: expected FILE SAMPLE.., got: update -x 1:2\n")
+        self.assertEqual(said, "".join(f"rrdi-feed: expected FILE SAMPLE.., got: {line}\n"
+                                       for line in ("a", "-a 10:1", "UPDATE a", "update -x 1:2")))
         self.assertEqual((feeder.held, feeder.count), ({b"\xff": [b"5:1", b"\xff"]}, 2))
-        self.assertTrue(feeder.has_failed)
+        self.assertEqual((feeder.has_failed, feeder.bad_lines), (True, 4))
+
+    def test_how_a_bad_line_is_shown(self) -> None:
+        for line, text in ((b"a\r", "a"), (b"\x1b[2Ja", "\\x1b[2Ja"), (b"a\0b", "a\\x00b"), (b"\xff", "\ufffd"),
+                           ("\u202eü".encode(), "\\u202eü"), (b"a" * 4_096, "a" * 4_096), (b"a" * 4_097, "a" * 4_096 + "..")):
+            self.assertEqual(shown(line), text)
+
+    def test_nobody_reads_the_messages(self) -> None:
+        feeder, closed = self.feeder(), mock.Mock(write=mock.Mock(side_effect=BrokenPipeError))
+        with mock.patch("sys.stderr", closed):
+            feeder.take_all([b"a", b"a 10:1"])
+        self.assertEqual((feeder.held, feeder.has_failed), ({b"a": [b"10:1"]}, True))
+
+    def test_data_in_pieces(self) -> None:
+        """Lines that arrive in pieces of any length are the same lines; the last one may lack its end."""
+        text = b"a 10:1\nb 10:2\n\na 20:3"
+        for length in range(1, len(text) + 1):
+            feeder = self.feeder()
+            for at in range(0, len(text), length):
+                feeder.take_data(text[at:at + length])
+            feeder.take_data(b"")
+            self.assertEqual(feeder.held, {b"a": [b"10:1", b"20:3"], b"b": [b"10:2"]}, length)
+
+    def test_a_line_without_an_end(self) -> None:
+        """A line that is too long is passed over up to its end, and takes no memory; the next line is read."""
+        with mock.patch("rrdi.feeding.feeder.LONGEST_LINE", 10), contextlib.redirect_stderr(io.StringIO()) as said:
+            feeder = self.feeder()
+            for piece in (b"a 10:1\nx", b" 1234567890", b"123\0" * 9, b"4 5:6\na 20:2\n", b"b 10:1"):
+                feeder.take_data(piece)
+                self.assertLess(len(feeder.rest), 20)
+            feeder.take_data(b"")
+        self.assertEqual(feeder.held, {b"a": [b"10:1", b"20:2"], b"b": [b"10:1"]})
+        self.assertEqual(said.getvalue(), "rrdi-feed: a line has over 10 bytes, got: x 1234567890\n")
+        self.assertEqual(feeder.bad_lines, 1)
 
     def test_long_samples(self) -> None:
         longest = b"1:" + b"1" * (65_536 - len("update 1:"))
@@ -77,14 +111,9 @@ class Lines(unittest.TestCase):
             feeder, said = self.taken(first + b"a " + longest)
             self.assertEqual((feeder.held[b"a"][-1], said), (longest, ""))
             feeder, said = self.taken(first + b"a " + longest + b"1")
-            self.assertEqual(said, "feed: a: a sample of over 65536 bytes\n")
+            line = shown(b"a " + longest + b"1")
+            self.assertEqual(said, f"rrdi-feed: a sample has over 65536 bytes, got: {line}\n")
             self.assertEqual(feeder.count, 1 if first else 0)
-
-    def test_options(self) -> None:
-        self.assertEqual(read_options([]), Options(60, 4, 1_000_000, 30))
-        self.assertEqual(read_options("--jobs 2 --seconds 5 --held 7 --patience 0".split()), Options(5, 2, 7, 0))
-        for wrong in (["--jobs", "0"], ["--seconds"], ["--wrong", "1"], ["jobs", "1"], ["--jobs", "x"], ["-jobs", "1"]):
-            self.assertIsNone(read_options(wrong))
 
 
 class Batches(unittest.TestCase):
@@ -106,7 +135,7 @@ class Batches(unittest.TestCase):
 
     def test_refused_samples(self) -> None:
         _, feeder, said = self.fed(b"a 10:1\na 20:3", {b"a": [Outcome(refused=((b"20:3", "bad value"),))]})
-        self.assertEqual((said, feeder.has_failed), ("feed: a 20:3: bad value\n", True))
+        self.assertEqual((said, feeder.has_failed), ("rrdi-feed: a 20:3: bad value\n", True))
 
     def test_again(self) -> None:
         again = Outcome(again="cannot open")
@@ -116,9 +145,9 @@ class Batches(unittest.TestCase):
 
     def test_lost(self) -> None:
         _, _, said = self.fed(b"a 10:1\na 20:3", {b"a": [Outcome(lost="cannot write")]})
-        self.assertEqual(said, "feed: a: cannot write; 2 samples may be lost\nfeed: may be lost: a 10:1 20:3\n")
+        self.assertEqual(said, "rrdi-feed: a: cannot write; 2 samples may be lost\nrrdi-feed: may be lost: a 10:1 20:3\n")
         _, _, said = self.fed(b"a 10:1", {b"a": [Outcome(again="cannot open")] * 9}, patience=0)
-        self.assertEqual(said, "feed: a: cannot open; 1 samples may be lost\nfeed: may be lost: a 10:1\n")
+        self.assertEqual(said, "rrdi-feed: a: cannot open; 1 samples may be lost\nrrdi-feed: may be lost: a 10:1\n")
 
     def test_a_writer_that_fails(self) -> None:
         feeder = Feeder(Options(), mock.Mock(write=mock.Mock(side_effect=MemoryError("none"))))
@@ -127,7 +156,7 @@ class Batches(unittest.TestCase):
             feeder.end()
             feeder.finish()
         self.assertEqual(said.getvalue(),
-                         "feed: a: MemoryError: none; 1 samples may be lost\nfeed: may be lost: a 10:1\n")
+                         "rrdi-feed: a: MemoryError: none; 1 samples may be lost\nrrdi-feed: may be lost: a 10:1\n")
 
     def test_newer_samples_follow_those_that_wait(self) -> None:
         feeder = Feeder(Options(seconds=60), Stub())

@@ -97,7 +97,7 @@ class Dumps(unittest.TestCase):
                 read_dump(io.BytesIO(self.TEXT[:size]))
 
     def test_a_row_of_another_width_is_refused(self) -> None:
-        with self.assertRaises(Refusal):
+        with self.assertRaisesRegex(Refusal, "a row of archive 0 has 1 cells"):
             read_dump(io.BytesIO(self.TEXT.replace(b"<v>4</v>", b"")))
 
 
@@ -195,13 +195,46 @@ class Batches(unittest.TestCase):
                                  "skipped data source a-b: a name in rrdi has 1 to 19 characters of a-z A-Z 0-9 _",
                                  "skipped archive 1, HWPREDICT: this function is not supported"])
         with self.assertRaisesRegex(Refusal, "no data source can be converted"):
-            Batch(OldFile(10, 1000, [source("COMPUTE")], []), None, print)
+            Batch(OldFile(10, 1000, [source("COMPUTE")], []), None, notes.append)
         with self.assertRaisesRegex(Refusal, "no archive can be converted"):
             Batch(OldFile(10, 1000, [source()], []), None, print)
         with self.assertRaisesRegex(Refusal, "at most 64"):
             Batch(OldFile(10, 1000, [source(column=at) for at in range(65)], []), None, print)
-        with self.assertRaisesRegex(Refusal, "at most 1,000,000 seconds"):
+        with self.assertRaisesRegex(Refusal, "a step of rrdi has at most 1,000,000 seconds"):
             Batch(OldFile(1_000_001, 1000, [source()], []), None, print)
+        with self.assertRaisesRegex(Refusal, "the last time is after 9999999999"):
+            Batch(OldFile(10, 10_000_000_000, [source()], []), None, print)
+
+    def test_too_many_archives_and_cells(self) -> None:
+        many = [archive(at, "MAX", 1, [1.0]) for at in range(129)]
+        with self.assertRaisesRegex(Refusal, "there are 129 archives; rrdi has at most 128"):
+            Batch(OldFile(10, 1000, [source()], many), None, print)
+        sources = [source(column=at) for at in range(9)]
+        large = Archive(0, "MAX", 1, 0.5, [NAN] * 9, [0] * 9, array("d", bytes(8 * 9 * 900_000)), 9)
+        with self.assertRaisesRegex(Refusal, "there are 8100000 cells; rrdi has at most 8,000,000"):
+            Batch(OldFile(10, 10_000_000, sources, [large]), None, print)
+        notes: list[str] = []
+        longest = archive(1, "MAX", 1, [1.0] * 1_000_001)
+        Batch(OldFile(10, 1000, [source()], [archive(0, "MAX", 1, [1.0]), longest,
+                                             archive(2, "MAX", 1_000_001, [1.0])]), None, notes.append)
+        self.assertEqual(notes, ["skipped archive 1, MAX: an archive in rrdi has at most 1,000,000 rows",
+                                 "skipped archive 2, MAX: a row in rrdi has at most 1,000,000 steps"])
+
+    def test_what_is_lost_is_noted(self) -> None:
+        old = OldFile(10, 1000, [source("COUNTER", last_raw="-7", heartbeat=10**10, minimum=-1e30)],
+                      [archive(0, "AVERAGE", 1, [1e-9, 1e19, 1.0])])
+        lines, notes = self.lines(old)
+        self.assertEqual(notes, ["source s0: cannot convert its last value -7; its next rate will be unknown",
+                                 "source s0: its heartbeat becomes 9999999999, the longest in rrdi",
+                                 "numbers that are too large for rrdi became unknown, or no bound",
+                                 "numbers below half a millionth became 0"])
+        self.assertEqual(lines[-1], "tune --heartbeat s0:9999999999 --data-source-type s0:COUNTER")
+        self.assertEqual(update_words(lines), ["980:0", "990:U", "1000:1"])
+
+    def test_rows_of_other_functions_are_noted(self) -> None:
+        archives = [archive(0, "AVERAGE", 3, [2.0] * 9), archive(1, "MAX", 6, [3.0] * 4)]
+        _, notes = self.lines(OldFile(10, 1200, [source()], archives))
+        self.assertEqual(notes, ["archive 1, MAX of 60 s: rows up to 1200 come from rows of other functions"])
 
     def test_a_share_allows_as_many_unknown_steps(self) -> None:
         # 0.29 of 100 is less than 29 in floating point.

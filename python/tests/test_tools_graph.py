@@ -222,6 +222,13 @@ class NoLibrary(unittest.TestCase):
         with mock.patch.object(librrd, "NAMES", ("libnone.so.0",)), self.assertRaisesRegex(Failure, "apt install librrd8"):
             graphing.Grapher()
 
+    def test_an_old_library(self) -> None:
+        """The C library lacks RRDtool's functions."""
+        from unittest import mock
+        with mock.patch.object(librrd, "NAMES", ("libc.so.6",)), \
+                self.assertRaisesRegex(Failure, "RRDtool's library is too old: .*rrd_graph_v"):
+            graphing.Grapher()
+
 
 if __name__ == "__main__":
     unittest.main()

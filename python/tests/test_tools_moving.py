@@ -11,7 +11,7 @@ import unittest
 from typing import List
 from unittest import mock
 
-from tool_case import NO_RRDI, NO_RRDTOOL, RRDI, RRDTOOL, Ran, ToolCase
+from tool_case import NO_RRDI, NO_RRDTOOL, RRDI, RRDTOOL, TOP, Ran, ToolCase
 
 from rrdi.tools.command_line import Progress
 
@@ -116,6 +116,40 @@ class Import(ToolCase):
             self.assertIn("rrdtool is not installed", self.tool("rrdi-import", "old.rrd", env=env).err)
 
 
+class LongMoves(ToolCase):
+    """Moves of over a second, whose progress a terminal shows; a file or a pipe gets none of it."""
+
+    def is_shown(self, tool: str, *words: str, shown: str) -> None:
+        words = (sys.executable, str(TOP / "tools" / tool), *words)
+        status, seen = self.on_terminal(list(words))
+        self.assertEqual(status, 0, seen)
+        self.assertRegex(seen, f"^(\r{shown}\x1b\\[K)+\r\x1b\\[K$")
+        for name in ("new.rrd", "new.rrdi"):
+            (self.folder / name).unlink(missing_ok=True)
+        ran = self.run_command(list(words))
+        self.assertEqual((ran.status, ran.err), (0, ""))
+
+    def test_import(self) -> None:
+        row = "<row><v>{}</v><v>1</v></row>"
+        begin, end = DUMP.replace("COMPUTE", "GAUGE").split("<row><v>1</v>")
+        self.write("begin", begin + "".join(row.format(at) for at in range(2_500)))
+        self.write("end", "".join(row.format(at) for at in range(2_500)) + end[end.index("</database>"):])
+        self.write("old.rrd", bytes(8 * 2 * 5_000))
+        self.stub("rrdtool", f"case $1 in last) echo 1600000030 ;; "
+                             f"dump) cat {self.folder}/begin; sleep 1.3; cat {self.folder}/end ;; esac")
+        self.is_shown("rrdi-import", "old.rrd", shown="reading old.rrd: (20|40|60|80|100) %")
+
+    @unittest.skipUnless(RRDI, NO_RRDI)
+    def test_export(self) -> None:
+        self.create("f.rrdi", "DS:g:GAUGE:100:-5:U", "RRA:AVERAGE:0.5:1:20000")
+        self.stub("rrdtool", "sleep 1.3; cat >new.rrd")
+        self.is_shown("rrdi-export", "f.rrdi", "new.rrd", shown="lines of XML: [0-9,]+")
+        slow = f"{sys.executable} {TOP}/tools/rrdi-export f.rrdi | (head -c 1 >/dev/null; sleep 1.3; cat >/dev/null)"
+        status, seen = self.on_terminal(["sh", "-c", slow])
+        self.assertEqual(status, 0)
+        self.assertRegex(seen, "^(\rlines of XML: [0-9,]+\x1b\\[K)+\r\x1b\\[K$")
+
+
 class Shown(unittest.TestCase):
     """How progress is shown on a terminal."""
 
@@ -195,7 +229,6 @@ class Export(ToolCase):
         self.assertEqual(self.run_command(["sh", "-c", f"{self.python()} f.rrdi | head -c 1"]).out, "<")
 
     def python(self) -> str:
-        from tool_case import TOP
         return f"{TOP}/tools/rrdi-export"
 
 

@@ -60,6 +60,11 @@ class InProcess(ToolCase):
         by_library = program.run_in_process(library(), [word.replace("{}", "b.rrdi") for word in words], given)
         return by_program, by_library
 
+    def alike(self, by_program: Ran, by_library: Ran) -> None:
+        """After a fault of usage the program prints its usage too, and after one of the system the system's reason."""
+        self.assertEqual(by_library._replace(err=program.reason_of(by_library.err)),
+                         by_program._replace(err=program.reason_of(by_program.err)))
+
     def setUp(self) -> None:
         super().setUp()
         here = os.getcwd()
@@ -71,9 +76,7 @@ class InProcess(ToolCase):
         for command in self.COMMANDS:
             with self.subTest(command=command):
                 by_program, by_library = self.both(command.split())
-                # After a fault of usage the program prints its usage too.
-                self.assertEqual(by_library._replace(err=program.reason_of(by_library.err)),
-                                 by_program._replace(err=program.reason_of(by_program.err)))
+                self.alike(by_program, by_library)
                 if os.path.exists("a.rrdi"):
                     self.assertEqual(self.read("a.rrdi"), self.read("b.rrdi"))
 
@@ -86,8 +89,8 @@ class InProcess(ToolCase):
             self.assertEqual(by_library, by_program, lines[:90])
             self.assertEqual(self.read("a.rrdi"), self.read("b.rrdi"))
         self.assertEqual(*self.both(["batch", "cut.rrdi"], "last\n"))
-        self.assertEqual(*self.both(["batch", "/nowhere/f.rrdi"], "last\n" + self.COMMANDS[0].replace(" {}", "") + "\nlast\n"))
-        self.assertEqual(*self.both(["batch", str(self.folder)], "last\n"))
+        self.alike(*self.both(["batch", "/nowhere/f.rrdi"], "last\n" + self.COMMANDS[0].replace(" {}", "") + "\nlast\n"))
+        self.alike(*self.both(["batch", str(self.folder)], "last\n"))
 
     def test_which_one_is_called(self) -> None:
         """RRDI names a program; otherwise the library runs the command."""

@@ -13,7 +13,7 @@ from unittest import mock
 
 from tool_case import NO_RRDI, RRDI, TOP, Ran, ToolCase
 
-from rrdi.tools import plot
+from rrdi.tools import plot, record
 from rrdi.tools.command_line import Failure
 
 
@@ -234,6 +234,13 @@ class Record(ToolCase):
             self.assertIsNone(run.poll())
             self.assertEqual(self.rrdi("last", "a.rrdi"), f"{self.now - 120}\n")
         self.assertEqual(run.wait(20), 0)
+
+    def test_it_waits_not_for_ever(self) -> None:
+        path = self.write("a.lock", "")
+        with open(path, encoding="ascii") as held, mock.patch.object(record, "PATIENCE", 0.3):
+            fcntl.flock(held, fcntl.LOCK_EX)
+            with self.assertRaisesRegex(Failure, f"^timed out after 0 seconds waiting for {path}$"):
+                record.lock(path)
 
 
 if __name__ == "__main__":

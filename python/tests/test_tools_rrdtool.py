@@ -148,7 +148,10 @@ class RRDtoolOutput(ToolCase):
         self.assertEqual(self.tool(TOOL, "--show", "update", "x.rrdi", "1000000030:1e3:5"),
                          Ran(0, "rrdi update x.rrdi 1000000030:1000:5\n", ""))
         self.assertEqual(self.read("x.rrdi"), before)
-        self.assertEqual(self.tool(TOOL, "--show", "resize", "x.rrdi", "0", "GROW", "5").status, 1)
+        for mode in ("--show", "--rrdi"):
+            self.assertEqual(self.tool(TOOL, mode, "resize", "x.rrdi", "0", "GROW", "5"), Ran(
+                1, "", "ERROR: resize writes resize.rrd; use it without --rrdi and --show, or rrdi resize\n"))
+        self.assertEqual(self.read("x.rrdi"), before)
         self.assertEqual(self.tool(TOOL, "--rrdi", "info", "none.rrdi").err, "ERROR: cannot open\n")
 
     def test_changes(self) -> None:
@@ -199,6 +202,9 @@ class RRDtoolOutput(ToolCase):
                 ("update --daemon a x.rrdi N:1", "update --daemon is not supported"),
                 ("create y.rrdi DS:g:COMPUTE:a RRA:MAX:0.5:1:4", "rrdi has no type COMPUTE: DS:g:COMPUTE:a"),
                 ("create y.rrdi DS:g:GAUGE:9:U:U", "creating 'y.rrdi': no archive"),
+                ("create y.rrdi DS:g=a:GAUGE:9:U:U RRA:MAX:0.5:1:4",
+                 "a source cannot be filled from another file: DS:g=a:GAUGE:9:U:U"),
+                ("times 5", "Usage: times <start> <end>"),
                 ("create x.rrdi -O DS:g:GAUGE:9:U:U RRA:MAX:0.5:1:4", "x.rrdi already exists")):
             with self.subTest(line=line):
                 ran = self.tool(TOOL, *line.split())
@@ -236,9 +242,13 @@ class PipeMode(ToolCase):
 
     def test_each_answer_comes_before_the_next_line(self) -> None:
         import subprocess
+        import threading
         with subprocess.Popen([sys.executable, str(TOP / "tools" / TOOL), "-"], cwd=self.folder, env=self.env,
                               stdin=subprocess.PIPE, stdout=subprocess.PIPE) as running:
             assert running.stdin and running.stdout
+            patience = threading.Timer(30, running.kill)
+            self.addCleanup(patience.cancel)
+            patience.start()
             for _ in range(3):
                 running.stdin.write(b"pwd\n")
                 running.stdin.flush()

@@ -2,6 +2,7 @@
 from __future__ import annotations
 
 import os
+import pty
 import resource
 import shutil
 import subprocess
@@ -86,6 +87,21 @@ class ToolCase(unittest.TestCase):
     def tool(self, name: str, *words: str, given: str = "", env: Optional[Dict[str, str]] = None,
              size: Optional[int] = None, stdout: Optional[str] = None) -> Ran:
         return self.run_command([sys.executable, str(TOP / "tools" / name), *words], given, env, size, stdout)
+
+    def on_terminal(self, words: List[str]) -> "tuple[int, str]":
+        """Runs a command whose standard error is a terminal. Returns its status and what the terminal got."""
+        terminal, other = pty.openpty()
+        with subprocess.Popen(words, stdin=subprocess.DEVNULL, stdout=subprocess.DEVNULL, stderr=other, cwd=self.folder,
+                              env=self.env) as running:
+            os.close(other)
+            seen = b""
+            try:
+                while data := os.read(terminal, 65_536):
+                    seen += data
+            except OSError:  # all programs have closed the terminal
+                pass
+        os.close(terminal)
+        return running.returncode, seen.decode()
 
     def rrdi(self, *words: str, given: str = "") -> str:
         assert RRDI

@@ -19,6 +19,8 @@ LETTER_N = ord("N")
 FIRST_PAUSE, LONGEST_PAUSE = 0.1, 60.0  # seconds
 SAMPLES_OF_A_LINE = 100
 READ = 1 << 18  # bytes of one read of the input
+LONGEST_LINE = 1 << 24  # bytes of a line of the input, which may have many samples
+LONGEST_SHOWN = 4_096  # bytes of a bad line in a message
 
 
 @dataclass
@@ -39,9 +41,17 @@ class Waiting:
     due: float
 
 
+def shown(line: bytes) -> str:
+    """Returns a line for a message: without its end, and with control characters as escapes."""
+    text = text_of(line[:LONGEST_SHOWN]).strip() + (".." if len(line) > LONGEST_SHOWN else "")
+    return "".join(letter if letter.isprintable() else ascii(letter)[1:-1] for letter in text)
+
+
 class Feeder:
-    def __init__(self, options: Options, writer: Writer):
-        self.options, self.writer = options, writer
+    """Reads lines, each with a FILE and its samples. `name` begins each message."""
+
+    def __init__(self, options: Options, writer: Writer, name: str = "rrdi-feed"):
+        self.options, self.writer, self.name = options, writer, name
         # The samples of each file, and the time at which the first of them arrived. Files are in the order of these times.
         self.held: Dict[bytes, List[bytes]] = {}
         self.since: Dict[bytes, float] = {}
@@ -52,12 +62,23 @@ class Feeder:
         self.pauses: Dict[bytes, float] = {}
         self.threads = ThreadPoolExecutor(options.jobs)
         self.count, self.is_ending, self.is_hurried, self.has_failed = 0, False, False, False
+        self.bad_lines = 0
+        # The beginning of a line whose end has not arrived. If that line is too long, its end is passed over.
+        self.rest, self.is_too_long = b"", False
 
     # ---- Messages
 
     def say(self, text: str) -> None:
         self.has_failed = True
-        print(f"feed: {text}", file=sys.stderr, flush=True)
+        try:
+            print(f"{self.name}: {text}", file=sys.stderr, flush=True)
+        except OSError:  # nobody reads the messages, but the samples go on
+            pass
+
+    def say_bad(self, reason: str, line: bytes) -> None:
+        """Reports a line from which no sample was read."""
+        self.bad_lines += 1
+        self.say(f"{reason}, got: {shown(line)}")
 
     def say_lost(self, file: bytes, reason: str, samples: List[bytes]) -> None:
         """Reports samples that may be lost, in lines that the user can feed again."""
@@ -67,6 +88,20 @@ class Feeder:
             self.say(f"may be lost: {name} {text_of(b' '.join(samples[at:at + SAMPLES_OF_A_LINE]))}")
 
     # ---- Lines
+
+    def take_data(self, data: bytes) -> None:
+        """Takes what was read from the input; no data is the end of the input, where the last line may lack its end."""
+        *lines, rest = (self.rest + data).split(b"\n")
+        if self.is_too_long and lines:
+            del lines[0]
+            self.is_too_long = False
+        if self.is_too_long:
+            rest = b""
+        elif len(rest) > LONGEST_LINE:
+            self.say_bad(f"a line has over {LONGEST_LINE} bytes", rest)
+            rest, self.is_too_long = b"", True
+        self.rest = rest
+        self.take_all(lines if data else [rest])
 
     def take_all(self, lines: List[bytes]) -> None:
         """Takes lines. A short loop takes a further sample of a held file; `take` takes all other lines."""
@@ -88,13 +123,16 @@ class Feeder:
             return
         file, *samples = words
         if not samples or file.startswith(b"-"):
-            self.say(f"expected FILE SAMPLE.., got: {text_of(line).strip()[:200]}")
+            self.say_bad("expected FILE SAMPLE..", line)
             return
         now = b"%d" % int(time.time())
         samples = [now + sample[1:] if sample.startswith(b"N:") else sample for sample in samples]
         if any(len(UPDATE + sample) > LONGEST for sample in samples):
-            self.say(f"{text_of(file)}: a sample of over {LONGEST} bytes")
+            self.say_bad(f"a sample has over {LONGEST} bytes", line)
             return
+        self.hold(file, samples)
+
+    def hold(self, file: bytes, samples: List[bytes]) -> None:
         if file not in self.held:
             self.held[file], self.since[file] = [], time.monotonic()
         self.held[file] += samples
@@ -172,7 +210,7 @@ class Feeder:
     # ---- From the first line to the last
 
     def feed(self) -> int:
-        source, rest = sys.stdin.fileno(), b""
+        source = sys.stdin.fileno()
         selector: Optional[selectors.BaseSelector] = None
         try:
             waiter = selectors.DefaultSelector()
@@ -189,8 +227,7 @@ class Feeder:
             if selector and not selector.select(0.1 if self.waiting else min(self.options.seconds, 0.5)):
                 continue
             data = os.read(source, READ)
-            *lines, rest = (rest + data).split(b"\n")
-            self.take_all(lines if data else [rest])
+            self.take_data(data)
             if not data:
                 self.is_ending = True
         self.finish()
@@ -206,6 +243,8 @@ class Feeder:
                     self.give_up(file)
             self.end_batches(0.01)
         self.threads.shutdown()
+        if self.bad_lines:
+            self.say(f"bad lines: {self.bad_lines}")
 
     def end(self, *_: object) -> None:
         self.is_ending = True

@@ -3,7 +3,7 @@ from __future__ import annotations
 
 import os
 import subprocess
-from typing import List, NamedTuple, Optional, Protocol, Tuple
+from typing import List, NamedTuple, Optional, Protocol, Sequence, Tuple
 
 from ..errors import CANNOT_OPEN, NO_MEMORY, OK, reason_of
 from ..library import Library, library_path, load_library
@@ -21,6 +21,9 @@ class Outcome(NamedTuple):
 class Writer(Protocol):
     def write(self, file: bytes, samples: List[bytes]) -> Outcome:
         """Passes the samples of one file to rrdi, each as an update of its own."""
+
+    def create(self, file: bytes, arguments: Sequence[str]) -> str:
+        """Creates a database. Returns the reason if that fails, and otherwise nothing."""
 
 
 def text_of(data: bytes) -> str:
@@ -40,6 +43,11 @@ class ByLibrary:
             return Outcome(lost=reason_of(answer.fault, answer.output))
         reasons = [text_of(line[len(b"ERROR: "):]) for line in answer.output.splitlines()]
         return Outcome(refused=tuple((samples[number - 1], why) for number, why in zip(answer.refused, reasons)))
+
+    def create(self, file: bytes, arguments: Sequence[str]) -> str:
+        words = "\0".join(["create", *arguments]).encode()
+        answer = self.library.run_file(file, words, present(None), milliseconds(None), is_synced(None))
+        return "" if answer.fault == OK else reason_of(answer.fault, answer.output)
 
 
 class ByProgram:
@@ -70,6 +78,17 @@ class ByProgram:
                 refused.append((sample, answer[len("ERROR: "):]))
                 next(answers, None)
         return Outcome(refused=tuple(refused))
+
+    def create(self, file: bytes, arguments: Sequence[str]) -> str:
+        try:
+            ran = subprocess.run([os.fsencode(self.program), b"create", file, *arguments], stdin=subprocess.DEVNULL,
+                                 stdout=subprocess.DEVNULL, stderr=subprocess.PIPE, start_new_session=True)
+        except OSError as error:
+            return f"{self.program}: {error.strerror}"
+        if ran.returncode == 0:
+            return ""
+        first = (text_of(ran.stderr).splitlines() or [f"{self.program} ended with {ran.returncode}"])[0]
+        return first.replace("ERROR: ", "")
 
 
 def chosen_writer() -> Writer:

@@ -1,0 +1,116 @@
+"""Feeds files from Graphite's lines, `NAME VALUE TIME`, and creates the files that do not exist."""
+from __future__ import annotations
+
+import os
+import re
+import threading
+import time
+from typing import Dict, List, Sequence, Tuple
+
+from ..compat.syntax import read_number
+from .feeder import Feeder, Options
+from .rules import BadLine, Names
+from .writers import Outcome, Writer
+
+NUMBER = re.compile(rb"[-+]?([0-9]+\.?[0-9]*|\.[0-9]+)([eE][-+]?[0-9]{1,3})?|[-+]?[nN][aA][nN]|U")
+TIME = re.compile(rb"([0-9]+)(\.[0-9]*)?")
+NOW = (b"-1", b"N")
+AHEAD = 86_400  # seconds by which a time may be later than the present: later samples of the file would be refused
+LONGEST_WORD = 1_024  # bytes of a value or a time
+
+
+def as_sample(value: bytes, moment: bytes) -> bytes:
+    """Returns a sample of rrdi. A part of a second is cut off, and a value is rounded to millionths.
+
+    # Errors
+    `BadLine` if the value or the time can't be read.
+    """
+    if len(value) > LONGEST_WORD or not NUMBER.fullmatch(value):
+        raise BadLine("the value must be a number")
+    found, now = TIME.fullmatch(moment), int(time.time())
+    if moment in NOW:
+        seconds = now
+    elif found is None or len(moment) > LONGEST_WORD:
+        raise BadLine("the time must be seconds since 1970")
+    else:
+        seconds = int(found[1])
+    if seconds > now + AHEAD:
+        raise BadLine("the time is over a day ahead")
+    return b"%d:" % seconds + read_number(value.decode("ascii")).encode()
+
+
+class GraphiteFeeder(Feeder):
+    """Reads lines, each with a name, a value and a time."""
+
+    def __init__(self, options: Options, writer: Writer, names: Names, name: str = "rrdi-feed"):
+        self.names, self.creating = names, Creating(writer)
+        super().__init__(options, self.creating, name)
+
+    def take_all(self, lines: List[bytes]) -> None:
+        for line in lines:
+            self.take(line.split(), line)
+
+    def take(self, words: List[bytes], line: bytes) -> None:
+        if not words:
+            return
+        try:
+            if len(words) != 3:
+                raise BadLine("expected NAME VALUE TIME")
+            sample = as_sample(words[1], words[2])
+            target = self.names.target(words[0])
+        except BadLine as bad:
+            self.say_bad(str(bad), line)
+            return
+        if target.arguments:
+            self.creating.arguments[target.file] = target.arguments
+        self.hold(target.file, [sample])
+
+
+def with_start(arguments: Sequence[str], sample: bytes) -> List[str]:
+    """Adds to the arguments of create a start one second before the first sample, if the arguments have no start."""
+    if any(word == "-b" or re.match("-b[0-9]|--start(=|$)", word) for word in arguments):
+        return list(arguments)
+    first = int(sample.split(b":")[0])
+    return ["--start", str(max(first - 1, 0)), *arguments]
+
+
+def name_if_free(unfinished: bytes, file: bytes) -> None:
+    """Gives a file its name, unless another program has created a file of this name."""
+    try:
+        os.link(unfinished, file)
+    except FileExistsError:
+        pass
+
+
+class Creating:
+    """A writer that first creates a file that does not exist, if the file has arguments of create."""
+
+    def __init__(self, writer: Writer):
+        self.writer = writer
+        self.arguments: Dict[bytes, Tuple[str, ...]] = {}
+
+    def write(self, file: bytes, samples: List[bytes]) -> Outcome:
+        arguments = self.arguments.get(file)
+        if arguments and not os.path.lexists(file):
+            reason = self.create(file, with_start(arguments, samples[0]))
+            if reason:
+                return Outcome(again=reason)
+        return self.writer.write(file, samples)
+
+    def create(self, file: bytes, arguments: Sequence[str]) -> str:
+        """Creates a database under another name, and gives it its name only if no file has that name."""
+        directory = os.path.dirname(file)
+        unfinished = os.path.join(directory, b".rrdi-feed-%d-%d.new" % (os.getpid(), threading.get_ident()))
+        try:
+            os.makedirs(directory, exist_ok=True)
+            reason = self.writer.create(unfinished, arguments)
+            if not reason:
+                name_if_free(unfinished, file)
+        except OSError as error:
+            reason = f"cannot create: {(error.strerror or str(error)).lower()}"
+        finally:
+            try:
+                os.unlink(unfinished)
+            except OSError:
+                pass
+        return reason
