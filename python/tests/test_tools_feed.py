@@ -1,12 +1,17 @@
 """Tests of rrdi-feed as a tool: its arguments, its messages, its rules, and how it ends."""
 from __future__ import annotations
 
+import fcntl
 import os
+import re
 import signal
+import struct
 import subprocess
 import sys
+import termios
 import time
 import unittest
+from pathlib import Path
 from typing import Dict, List, Optional
 
 from tool_case import NO_RRDI, RRDI, TOP, Ran, ToolCase
@@ -127,10 +132,23 @@ class Feed(ToolCase):
         self.addCleanup(fed.kill)
         fed.stdin.write("a 10:1\n")
         fed.stdin.flush()
+        self.wait_until_read(fed)
         return fed
 
+    def wait_until_read(self, fed: "subprocess.Popen[str]") -> None:
+        """Waits until rrdi-feed handles its signals and has read its input."""
+        assert fed.stdin
+        until = time.monotonic() + 60
+        while True:
+            caught = re.search(r"^SigCgt:\s*(\w+)", Path(f"/proc/{fed.pid}/status").read_text(), re.MULTILINE)
+            waiting = struct.unpack("i", fcntl.ioctl(fed.stdin, termios.FIONREAD, bytes(4)))[0]
+            if caught and int(caught[1], 16) >> signal.SIGUSR1 - 1 & 1 and not waiting:
+                return
+            self.assertLess(time.monotonic(), until)
+            time.sleep(0.02)
+
     def wait_for(self, lines: List[str]) -> None:
-        until = time.monotonic() + 20
+        until = time.monotonic() + 60
         while self.logged() != lines:
             self.assertLess(time.monotonic(), until, self.logged())
             time.sleep(0.05)
@@ -139,10 +157,10 @@ class Feed(ToolCase):
         for number in (signal.SIGTERM, signal.SIGINT, signal.SIGHUP):
             self.write("log", "")
             fed = self.started()
-            time.sleep(1)
+            time.sleep(0.3)
             self.assertEqual((fed.poll(), self.logged()), (None, []))
             fed.send_signal(number)
-            self.assertEqual(fed.wait(20), 0)
+            self.assertEqual(fed.wait(60), 0)
             self.assertEqual(self.logged(), ["a 10:1"])
 
     def test_the_seconds_pass(self) -> None:
