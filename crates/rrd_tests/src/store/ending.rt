@@ -1,9 +1,7 @@
 //! What the program tells on standard error, and its status.
 use crate::file::decoding::FILE_FAULTS;
 use rrd_base::Refusal;
-use rrd_store::{
-    TaskFault, USAGE, report_batch, report_command, report_file_batch,
-};
+use rrd_store::{TaskFault, USAGE, report_batch, report_command, report_file_batch};
 use rrd_tool::{Fault, LineFault, Part, StreamFault};
 use std::alloc::Global;
 use std::process::Abort;
