@@ -47,7 +47,7 @@ fn marks(rt: HostRuntime) {
     assert_eq!(&rt; Shape::Long.cut_mark(), *b"RRDc");
     assert_eq!(&rt; undo_mark(0x12000), *UNDO);
     for (front, mark) in MARKS {
-        assert_eq!(&rt; read_mark(front), *mark);
+        assert_eq!(&rt; read_mark(front), *mark, "{front:?}");
     }
 }
 
