@@ -176,8 +176,8 @@ static const char *wrong(bool is_batch, bool in_memory) {
     return NULL;
 }
 
-/* Prints the line after `cannot open` and `cannot write`, with the system's reason. If no system call failed, only a part of
-   the bytes was written, twice. */
+/* Prints the line after `cannot open`, `cannot write` and `file: read failed`, with the system's reason. If no system call
+   failed, only a part of the bytes was written, twice. The library has no reason for a failed read. */
 static void report_reason(const char *path) {
     const char *reason = answer.system_error ? strerrordesc_np(answer.system_error) : "no reason of the system";
     put(2, "rrdi: ", 6);
@@ -200,7 +200,7 @@ static int end(const char *path, bool is_batch, bool in_memory) {
         fail(output, answer.output_length, answer.fault == RRDI_USAGE ? 2 : 1);
         if (answer.fault == RRDI_USAGE)
             put(2, USAGE, strlen(USAGE));
-        if (path && !in_memory && (answer.fault == RRDI_CANNOT_OPEN || answer.fault == RRDI_CANNOT_WRITE))
+        if (path && !in_memory && (answer.fault == RRDI_CANNOT_OPEN || answer.fault == RRDI_CANNOT_WRITE || answer.fault == RRDI_READ))
             report_reason(path);
         return answer.fault == RRDI_USAGE ? 2 : 1;
     }

@@ -472,7 +472,7 @@ static int over_file(char **words, int count, const char *path) {
                 return tell_why("cannot open", path, in_use());
         }
         if ((old.bytes && !is_settled(old) && settle(file)) || (is_regular(file) && !(old = read_whole(file)).bytes))
-            return tell("file: read failed");
+            return tell_why("file: read failed", path, reason_of(errno));
         is_database = old.length >= HEAD && !memcmp(old.bytes, "RRDI", 4) && head_of(old)->length == old.length;
         if (!makes && fault(old))
             return 1;

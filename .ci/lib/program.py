@@ -31,12 +31,12 @@ def error(text: str) -> str:
 
 
 # The faults after which one more line gives the reason.
-WITH_REASON = (error("cannot open"), error("cannot write"))
+WITH_REASON = (error("cannot open"), error("cannot write"), error("file: read failed"))
 
 
 def parted(err: str) -> tuple[str, str]:
     """Returns the specified lines of standard error, and the reason in the line after them. That line, `rrdi: FILE:
-    REASON`, must follow if FILE cannot be opened or written. If it is missing, or another line follows, there is no
+    REASON`, must follow if FILE cannot be opened, read or written. If it is missing, or another line follows, there is no
     reason."""
     *lines, last = err.splitlines(keepends=True) or [""]
     if lines and lines[-1] in WITH_REASON and last.startswith("rrdi: ") and last.endswith("\n"):

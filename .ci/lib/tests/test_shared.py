@@ -45,8 +45,9 @@ class Tallies(unittest.TestCase):
 
 class Faults(unittest.TestCase):
     def test_parted(self) -> None:
-        write, opened = error("cannot write"), error("cannot open")
+        write, opened, read = error("cannot write"), error("cannot open"), error("file: read failed")
         self.assertEqual(parted(write + "rrdi: a: b: disk quota exceeded\n"), (write, "disk quota exceeded"))
+        self.assertEqual(parted(read + "rrdi: a: is a directory\n"), (read, "is a directory"))
         self.assertEqual(parted(error("write failed") + opened + "rrdi: a: is a directory\n"),
                          (error("write failed") + opened, "is a directory"))
         for err in ("", write, error("usage") + "rrdi: a: b\n", write + "rrdi: a: b", write + "more\n", "rrdi: a: b\n",

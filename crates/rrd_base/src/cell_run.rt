@@ -9,7 +9,7 @@ use rrd_fixed::Cell;
 pub(crate) enum CellRun<'a> {
     /// The cells of this slice.
     Given(&'a [Cell]),
-    /// This many unknown cells.
+    /// The number of unknown cells.
     Unknown(usize),
 }
 

@@ -64,7 +64,7 @@ impl<'a> Columns<'a> {
         Columns { template, places }
     }
 
-    /// Returns the given value for a data source; `Unknown` if there is none.
+    /// Returns the value of a data source; `Unknown` if there is none.
     pub(crate) fn value(&self, values: &[Given], source: usize) -> Given
         requires { source < length self.now.places.items }
         ensures { result ≡ value_in values.now (slice_index_or self.now.places.items source NoPlace) }

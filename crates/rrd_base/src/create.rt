@@ -140,7 +140,7 @@ pub(crate) fn is_bad_heartbeat(seconds: u64) -> bool
     seconds == 0 || seconds > MAX_HEARTBEAT
 }
 
-/// Returns whether a bound is larger in size than the maximum rate, or the minimum is above the maximum.
+/// Returns whether a bound has an absolute value above the maximum rate, or the minimum is above the maximum.
 pub(crate) fn has_bad_bounds(source: &DsDef) -> bool
     ensures { result ≡ verdict.has_bad_bounds present source.now }
 {

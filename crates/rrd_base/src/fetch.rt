@@ -237,7 +237,7 @@ impl Content {
     }
 }
 
-/// Returns how many rows end after the one that ends at `time`, up to `last`; negative if that row ends after `last`.
+/// Returns how many rows end after the row that ends at `time`, up to `last`; negative if this row ends after `last`.
 fn age(last: u64, resolution: u64, time: i64) -> i128
     requires some { 0 < resolution }
     requires small { resolution ≤ 10 ^ 12 }

@@ -387,7 +387,8 @@ impl Rebuild {
     /// Cells come by archive, then by slot, then by data source. Does not allocate.
     ///
     /// # Errors
-    /// - `Bad`: another record is due, or the cell is larger in size than the maximum rate. The database is unchanged.
+    /// - `Bad`: another record is due, or the cell has an absolute value above the maximum rate. The database is
+    ///   unchanged.
     pub fn cell(&mut self, cell: Cell) -> Result<(), PieceFault>
         ensures ok { OnOk result (MayCell self.old cell × (self.new ≡ with_cell self.old cell)) }
         ensures bad { IfErr result (λ e. e ≡ Bad → MayCell self.old cell → ⊥) }
@@ -439,8 +440,8 @@ impl Rebuild {
     /// Adds cells that make whole rows of an archive, and returns how many.
     ///
     /// The effect is that of `cell` for one cell after another, up to the last whole row that `cells` has, or to the
-    /// end of the archive. No cell may be larger in size than the maximum rate. Returns 0 if the next cell is not the
-    /// first of a row. Does not allocate.
+    /// end of the archive. No cell may have an absolute value above the maximum rate. Returns 0 if the next cell is not
+    /// the first of a row. Does not allocate.
     pub fn rows(&mut self, cells: &[Cell]) -> usize
         requires { AllByRecursion IsBounded cells.now }
         ensures few { result ≤ length cells.now }

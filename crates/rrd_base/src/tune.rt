@@ -214,7 +214,7 @@ fn check_tune(sources: &[DsDef], archives: &[Rra], tuning: &Tuning) -> Result<()
 
 // ---- the new settings
 
-// Returns the value that an option sets for the data source of a name, or else the old value.
+// Returns the value that an option sets for the data source of a name; otherwise the old value.
 fn setting_after<T: Copy>(option: &Option<(Name, T)>, name: &Name, old: T) -> T
     ensures { result ≡ commands.asked option.now name.now old }
 {

@@ -52,7 +52,8 @@ pub(crate) struct Steps<'a> {
     pub(crate) count: u64,
 }
 
-/// The buffers of an update for values of each data source, and a meter. They are allocated before the content changes.
+/// The buffers of an update for values of each data source, and a meter. An update allocates the buffers before the
+/// content changes.
 #[derive(Drop)]
 pub(crate) struct Walk {
     // The raw values of a sample.

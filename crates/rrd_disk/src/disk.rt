@@ -69,7 +69,7 @@ pub trait DiskFile: Read + Drop {
     /// The system does not report the length.
     fn length(&self) -> io::Result<u64>;
 
-    /// Sets the length of the file to `length` bytes: cuts the file, or appends zeros.
+    /// Sets the length of the file to `length` bytes: truncates the file, or appends zeros.
     ///
     /// # Errors
     ///

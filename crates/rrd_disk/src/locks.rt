@@ -20,7 +20,7 @@ pub(crate) enum Held {
     Nothing,
 }
 
-/// The pauses between the tries, in milliseconds: each is twice as long as the one before, up to 50.
+/// The pauses between the tries, in milliseconds: each pause is twice as long as the pause before, up to 50.
 #[derive(Drop)]
 struct Pauses {
     left: u64,

@@ -95,7 +95,7 @@ impl Window {
         }
     }
 
-    /// Drops the bytes from byte `length` on, after the file was cut to `length` bytes.
+    /// Drops the bytes from byte `length` on, after the file was truncated to `length` bytes.
     pub(crate) fn cut(&mut self, length: usize)
         ensures { (old new : List ℕ) → Shows self.old old → IsSized length old new → Shows self.new new }
     {

@@ -199,7 +199,7 @@ pub(crate) fn cell_of(bytes: &[u8]) -> (Cell, &[u8])
     (Cell::Known(number), rest)
 }
 
-// Writes the cell of a number, and returns true, unless the number is larger in size than the maximum rate. Both
+// Writes the cell of a number, and returns true, unless the number has an absolute value above the maximum rate. Both
 // branches write: choosing a cell first and writing it after would take longer.
 fn put_number(place: &mut Cell, number: i128) -> bool
     ensures spelled { result ≡ true → spelling.signed_bytes number ≡ spelling.cell_bytes place.new }
@@ -216,7 +216,7 @@ fn put_number(place: &mut Cell, number: i128) -> bool
     false
 }
 
-// Writes cells up to the first that is larger in size than the maximum rate, and returns how many.
+// Writes cells up to the first that has an absolute value above the maximum rate, and returns how many.
 fn cells_of(bytes: &[u8], cells: &mut [Cell]) -> usize
     requires { length bytes.now ≡ CELL_SIZE * length cells.old }
     ensures few { result ≤ length cells.new }
@@ -288,8 +288,8 @@ fn take_unknown<R: Read + Drop>(input: &mut PieceReader<R>, build: &mut Rebuild)
     taken
 }
 
-// Takes the cells that wait and make whole rows, at most those that fit into `room`, up to the first that is larger in
-// size than the maximum rate. Returns how many.
+// Takes waiting cells that make whole rows, at most as many as fit into `room`, up to the first cell with an absolute
+// value above the maximum rate. Returns their number.
 fn take_rows<R: Read + Drop>(
     input: &mut PieceReader<R>,
     build: &mut Rebuild,
@@ -312,8 +312,8 @@ fn take_rows<R: Read + Drop>(
 }
 
 // Waits until the cells of a row are there, or the input ends. Each cell is checked before the next one is awaited: a
-// cell that is larger in size than the maximum rate must be reported before a later read can fail, so nothing after it
-// is awaited.
+// cell that has an absolute value above the maximum rate must be reported before a later read can fail, so nothing
+// after it is awaited.
 fn gather_row<R: Read + Drop>(
     input: &mut PieceReader<R>,
     cells_in_row: usize,

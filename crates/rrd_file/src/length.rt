@@ -1,4 +1,4 @@
-//! The size of a database's file. It follows from the numbers of data sources, archives, rows and entries, so that no
+//! The size of a database's file. The size follows from the numbers of data sources, archives, rows and entries, so no
 //! cell is read.
 ghost use Rattle.std.specs.Prelude.{ℕ, ◌≡◌, ◌≤◌, ◌*◌, length};
 ghost use Rattle.std.specs.List.{AllByRecursion, flat_map, sum_by};
@@ -189,8 +189,8 @@ fn body_length(database: &Database) -> u64
 
 /// Returns the number of bytes that `encode` writes for a database.
 ///
-/// The number is at least 176. It follows from the numbers of data sources, archives, rows and entries; no cell is
-/// read. So a caller can reserve memory for the bytes before the first is written.
+/// The number is at least 176, and follows from the numbers of data sources, archives, rows and entries; no cell is
+/// read. So a caller can reserve memory for the bytes before it writes the first byte.
 pub fn encoded_length(database: &Database) -> u64
     ensures { result ≡ length (layout database.now) }
 {

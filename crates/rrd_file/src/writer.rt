@@ -10,8 +10,8 @@ mod block;
 
 pub(crate) use block::{BLOCK_SIZE, Block, MAX_PIECE_SIZE};
 
-/// A writer behind a block of 4,096 bytes, in which records wait until many go out in one write. Does not allocate. What
-/// waits is lost if `write_rest` is not called.
+/// A writer with a block of 4,096 bytes, in which records wait until one write takes many records. Does not allocate.
+/// Records that wait are lost if `write_rest` is not called.
 #[derive(Drop)]
 pub(crate) struct PieceWriter<'a, W: Write> {
     out: &'a mut W,

@@ -14,8 +14,8 @@ top = (2 ^ 64 - 1) * 10 ^ 6
 abbrev pub raised_if_negative : ℤ → ℤ → ℤ
 raised_if_negative by z = if int_lt z (pos 0) then z +ℤ by else z
 
--- the increase of a counter: one that fell has wrapped, at 2 ^ 32 if that makes the increase positive or 0, else at 2 ^
--- 64
+-- the increase of a counter. A counter that fell has wrapped: at 2 ^ 32 if adding 2 ^ 32 makes the increase positive or
+-- 0, otherwise at 2 ^ 64
 abbrev pub rise : ℤ → ℤ → ℤ
 rise old new = raised_if_negative (pos (2 ^ 64) -ℤ pos (2 ^ 32)) (raised_if_negative (pos (2 ^ 32)) (new -ℤ old))
 

@@ -1,4 +1,4 @@
-//! Numbers as they are written.
+//! Parses numbers.
 ghost use Rattle.std.specs.Prelude.{◌≡◌, ◌^◌, ◌<◌, ◌≤◌, ◌-◌, length, take, slice_index, true, false, IfSome, unsigned_abs, if◌then◌else◌, position};
 ghost use Rattle.std.specs.Char.{is_ascii_digit};
 ghost use Rattle.std.specs.List.{list_all};
@@ -9,7 +9,7 @@ ghost use Rattle.rrd_fixed.specs.Reading.{are_digits, fraction_of, is_point, num
 use crate::rounding::floor;
 use crate::{Kind, MILLIONTHS, Raw};
 
-/// A number as it was written.
+/// A number, and whether it was written with a decimal point.
 #[derive(Clone, Copy, Debug, PartialEq, Eq)]
 pub struct Number {
     /// The value in millionths.
@@ -40,7 +40,7 @@ fn read_front(bytes: &[u8]) -> (usize, u64)
     (at, value)
 }
 
-// Parses up to 19 digits. Returns `None` if a byte is no digit.
+// Parses up to 19 digits. Returns `None` if a byte is not a digit.
 fn read_short(bytes: &[u8]) -> Option<u64>
     requires { length bytes.now ≤ 19 }
     ensures value { result ≡ (if list_all is_ascii_digit bytes.now then Some (value_of bytes.now) else None) }
@@ -53,7 +53,7 @@ fn read_short(bytes: &[u8]) -> Option<u64>
     Some(value)
 }
 
-// The number that 20 digits stand for; none if a byte is no digit.
+// Parses 20 digits. Returns `None` if a byte is not a digit.
 fn read_long(bytes: &[u8]) -> Option<u128>
     requires { length bytes.now ≡ 20 }
     ensures value { result ≡ (if list_all is_ascii_digit bytes.now then Some (value_of bytes.now) else None) }
@@ -64,7 +64,7 @@ fn read_long(bytes: &[u8]) -> Option<u128>
     Some(10 * front as u128 + last as u128)
 }
 
-// The number that 1 to `most` digits stand for; none if the bytes are something else.
+// Parses 1 to `most` digits. Returns `None` for other bytes.
 fn read_digits(bytes: &[u8], most: usize) -> Option<u128>
     requires { most ≤ 20 }
     ensures value { result ≡ (if are_digits most bytes.now then Some (value_of bytes.now) else None) }
@@ -80,7 +80,7 @@ fn read_digits(bytes: &[u8], most: usize) -> Option<u128>
     Some(value as u128)
 }
 
-// What the last of so many digits behind a point counts, in millionths.
+// Returns the value of the last digit of a fraction of `count` digits, in millionths.
 fn last_counts(digits: usize) -> u64
     requires { digits ≤ 6 }
     ensures { result ≡ 10 ^ (6 - digits) }
@@ -96,7 +96,7 @@ fn last_counts(digits: usize) -> u64
     }
 }
 
-// The millionths that 1 to 6 digits behind a point stand for.
+// Parses the 1 to 6 digits after a point. Returns millionths.
 fn read_fraction(digits: &[u8]) -> Option<u64>
     ensures value { result ≡ (if are_digits 6 digits.now then Some (fraction_of digits.now) else None) }
     ensures small { IfSome result (λ millionths. millionths < 10 ^ 6) }
@@ -120,7 +120,7 @@ fn read_plain(digits: &[u8]) -> Option<Number>
     })
 }
 
-// Parses a number without a sign, cut at its point.
+// Parses a number without a sign, in two parts: before and after its point.
 fn read_pointed(whole: &[u8], fraction: &[u8]) -> Option<Number>
     ensures value { result ≡ pointed_of whole.now fraction.now }
     ensures small { IfSome result (λ number. unsigned_abs number.millionths < 10 ^ 27) }
@@ -140,7 +140,7 @@ fn find_point(bytes: &[u8]) -> Option<usize>
     bytes.iter().position(|byte| *byte == b'.')
 }
 
-// Parses a number without a sign, of at most 19 bytes: each byte is looked at once.
+// Parses a number without a sign, of at most 19 bytes. Reads each byte once.
 fn read_few(bytes: &[u8]) -> Option<Number>
     requires { length bytes.now ≤ 19 }
     ensures value { result ≡ unsigned_of bytes.now }
@@ -210,7 +210,7 @@ pub fn read_number(bytes: &[u8]) -> Option<Number>
     })
 }
 
-// Whether millionths are a whole number of units. Divides 64 bits if they fit.
+// Returns whether millionths are a whole number of units. Divides 64 bits if the number fits.
 fn is_whole(millionths: i128) -> bool
     ensures { result ≡ spec.is_whole millionths }
 {
@@ -220,8 +220,8 @@ fn is_whole(millionths: i128) -> bool
     }
 }
 
-// A number without a point that is a whole number of units, in units. One that was read without a
-// point is always whole; a caller may make others.
+// Returns a number without a point, which must be a whole number of units, in units. A parsed number without a point is
+// always whole; a caller may make others.
 fn whole_units(number: Number) -> Option<i128>
     ensures { result ≡ spec.units_of number }
 {
@@ -236,7 +236,7 @@ fn whole_units(number: Number) -> Option<i128>
 ///
 /// - COUNTER accepts a number without a point that is a whole number of units from 0 to 2^64 - 1;
 /// - DERIVE accepts a number without a point that is a whole number of units from -2^63 to 2^63 - 1;
-/// - GAUGE and ABSOLUTE accept a number below 10^18 in size.
+/// - GAUGE and ABSOLUTE accept a number with an absolute value below 10^18.
 pub fn admit(kind: Kind, number: Number) -> Option<i128>
     ensures value { result ≡ spec.admit kind number }
     ensures accepted { IfSome result (λ raw. IsAccepted kind (Raw.Known raw)) }

@@ -7,8 +7,8 @@ ghost use Rattle.rrd_fixed.specs.Text.{cell_text, millionths_text, signed_text, 
 use crate::{Cell, MILLIONTHS};
 use itoa::write_digits;
 
-// Splits millionths into the units and the millionths beside them. Nearly all values fit 64 bits, where a division by a
-// constant is a multiplication.
+// Splits millionths into whole units and the remaining millionths. Nearly all values fit 64 bits, for which a division
+// by a constant is a multiplication.
 fn split(millionths: u128) -> (u128, u64)
     ensures units { result.0 ≡ millionths / 1000000 }
     ensures rest { result.1 ≡ millionths % 1000000 }
@@ -62,7 +62,8 @@ fn put_millionths(millionths: u128, buffer: &mut [u8], end: usize) -> usize
     put_whole(units, buffer, point)
 }
 
-/// Puts millionths before the index `end` of `buffer`, with a minus if they are below 0. Returns where the text begins.
+/// Puts millionths before the index `end` of `buffer`, with a minus if they are below 0. Returns the index at which the
+/// text begins.
 pub(crate) fn put_signed(millionths: i128, buffer: &mut [u8], end: usize) -> usize
     requires room { 48 ≤ end }
     requires inside { end ≤ length buffer.old }
@@ -79,7 +80,7 @@ pub(crate) fn put_signed(millionths: i128, buffer: &mut [u8], end: usize) -> usi
 
 /// Puts the text of a cell before the index `end` of `buffer`, as described in `cell_string`.
 ///
-/// Returns the index where the text begins. The text has at most 48 bytes.
+/// Returns the index at which the text begins. The text has at most 48 bytes.
 pub fn put_cell(cell: Cell, buffer: &mut [u8], end: usize) -> usize
     requires room { 48 ≤ end }
     requires inside { end ≤ length buffer.old }
@@ -97,7 +98,7 @@ pub fn put_cell(cell: Cell, buffer: &mut [u8], end: usize) -> usize
 
 /// Puts the text of a time before the index `end` of `buffer`, as described in `time_string`.
 ///
-/// `seconds` counts from 1970. Returns the index where the text begins. The text has at most 20 bytes.
+/// `seconds` counts from 1970. Returns the index at which the text begins. The text has at most 20 bytes.
 pub fn put_time(seconds: i64, buffer: &mut [u8], end: usize) -> usize
     requires room { 20 ≤ end }
     requires inside { end ≤ length buffer.old }

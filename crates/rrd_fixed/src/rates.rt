@@ -7,7 +7,7 @@ use crate::{Cell, Kind, MILLIONTHS, Raw, near};
 
 /// Returns the increase of a counter from `old` to `new`, in units.
 ///
-/// A counter that fell has wrapped: at 2^32 if that makes the increase positive or 0, else at 2^64.
+/// If the counter fell, it has wrapped: at 2^32 if adding 2^32 makes the increase positive or 0, otherwise at 2^64.
 pub fn rise(old: u64, new: u64) -> u64
     ensures { pos result ≡ spec.rise (pos old) (pos new) }
 {

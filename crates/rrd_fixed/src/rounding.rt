@@ -13,7 +13,7 @@ pub(crate) fn floor(a: i128, b: i128) -> i128
     }
 }
 
-/// Returns the whole number nearest to `a / b`, halves upwards.
+/// Returns the whole number nearest to `a / b`; a half rounds up.
 ///
 /// `a` is at most 10^32 in size, `b` is from 1 to 10^10. No bound on the size of the quotient is exceeded by rounding.
 pub fn near(a: i128, b: i128) -> i128

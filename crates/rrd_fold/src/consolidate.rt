@@ -50,7 +50,7 @@ pub trait Consolidate {
         ensures bounded { IsBounded result };
 }
 
-/// The average of the known cells, rounded to the nearest millionth, halves upwards.
+/// The average of the known cells, rounded to the nearest millionth; a half rounds up.
 #[derive(Clone, Copy, Debug, PartialEq, Eq)]
 pub struct Average {
     summary: Summary,

@@ -95,9 +95,9 @@ impl RowPrep {
     /// Returns the cell of a row of `steps` steps, and empties the partial row.
     ///
     /// `steps` is from 1 to 1,000,000; `xff` is in millionths, from 0 to 999,999. The cell is unknown if the share of
-    /// unknown steps is larger than `xff` (rrdcreate, "xff"), or if no step is known. Otherwise it is the average of
-    /// the known steps, rounded to the nearest millionth, halves upwards, or their minimum, maximum or last one. The
-    /// meter counts one unit of work.
+    /// unknown steps is larger than `xff` (rrdcreate, "xff"), or if no step is known. Otherwise the cell is the average
+    /// of the known steps (rounded to the nearest millionth; a half rounds up), or their minimum, maximum or last
+    /// value. The meter counts one unit of work.
     pub fn close(&mut self, steps: u64, xff: u64, meter: &mut Meter) -> Cell
         requires some { 1 ≤ steps }
         requires few { steps ≤ most_known }

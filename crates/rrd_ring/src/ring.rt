@@ -12,7 +12,8 @@ use std::alloc::{AllocError, Global};
 // The cells of a row that was never written. 64 is the maximum number of data sources, as in `rrd_spec::limits`.
 static UNWRITTEN: [Cell; 64] = [Cell::Unknown; 64];
 
-// Returns `index` modulo `rows`: the row after a ring's last one is its first. A comparison is faster than a division.
+// Returns `index` modulo `rows`: the row after the last row of a ring is the first row. A comparison is faster than a
+// division.
 pub(crate) fn wrap(index: usize, rows: usize) -> usize
     requires some { 0 < rows }
     requires once { index < 2 * rows }
@@ -44,9 +45,9 @@ pub(crate) fn unknown_cells(
     Ok(cells)
 }
 
-// Returns how many of the newest rows of a ring may be written, if its vector has `cells` written cells: no row if
-// there is no such cell, the `oldest` rows before the oldest row's index if the written cells end there or before, and
-// else all `rows` rows.
+// Returns how many of the newest rows of a ring may be written, if its vector has `cells` written cells. No row if
+// there is no written cell; the `oldest` rows before the oldest row's index if the written cells end at this index or
+// before; otherwise all `rows` rows.
 pub(crate) fn rows_written(cells: usize, rows: usize, sources: usize, oldest: usize) -> usize
     requires few_rows { rows ≤ max_rows }
     requires few_sources { sources ≤ max_sources }
@@ -64,8 +65,8 @@ pub(crate) fn rows_written(cells: usize, rows: usize, sources: usize, oldest: us
     rows
 }
 
-// Returns how many of `most` rows from row `index` of the vector on are consecutive: as far as the `written` rows of
-// the vector go, or the first row alone if it isn't written.
+// Returns how many of `most` rows from row `index` of the vector on are consecutive: up to the end of the `written`
+// rows, or only the first row if it is not written.
 pub(crate) fn contiguous_count(written: usize, index: usize, most: usize) -> usize
     requires { 0 < most }
     ensures some { 0 < result }
@@ -79,8 +80,8 @@ pub(crate) fn contiguous_count(written: usize, index: usize, most: usize) -> usi
     1
 }
 
-// Returns `count` cells of a ring's vector from cell `start` on. The cells are those of whole rows that are written, or
-// of one row that isn't.
+// Returns `count` cells of a ring's vector from cell `start` on. These are the cells of whole written rows, or of one
+// row that is not written.
 pub(crate) fn row_from(cells: &[Cell], start: usize, count: usize) -> &[Cell]
     requires few { length cells.now ≤ start → count ≤ max_sources }
     requires whole { start < length cells.now → start + count ≤ length cells.now }

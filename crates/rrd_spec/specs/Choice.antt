@@ -58,8 +58,8 @@ abbrev pub is_farther : ℕ → Candidate → Candidate → Bool
 is_farther asked one other =
     int_lt one.reach other.reach || (int_le one.reach other.reach && is_nearer asked one other)
 
--- of the archives that cover the start, the one with the nearest resolution; if no archive covers the start, the one
--- that reaches back farthest. Of equal archives the one with the lower number is read
+-- of the archives that cover the start, the archive with the nearest resolution; if no archive covers the start, the
+-- archive that reaches back farthest. Of equal archives, the archive with the lowest number
 abbrev pub taken : ℕ → ℕ → List Candidate → Option Candidate
 taken asked start list = option_or (best (is_nearer asked) (filter (covers start) list)) (best (is_farther asked) list)
 

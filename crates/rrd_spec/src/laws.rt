@@ -374,7 +374,7 @@ pub fn examples_of_archives()
 
 /// Theorem: a history in which archives are added and removed may be cut anywhere, its rows as lists.
 ///
-/// An archive that is added comes after the others, and shows nothing of the time before it. An archive that is removed
+/// An archive that is added follows the others, and shows nothing of the time before it. An archive that is removed
 /// changes nothing else.
 pub fn archives_come_and_go()
     ensures cut { (base : Content) (es : List Event) → CutsLives base es }

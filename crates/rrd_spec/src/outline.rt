@@ -4,7 +4,7 @@ use crate::{ArchiveList, DsDef, List, RraDef};
 
 /// The last time and the settings of a database.
 ///
-/// They decide which journal entry fits the database.
+/// The last time and the settings decide which journal entry fits the database.
 #[derive(Drop)]
 pub struct Outline {
     /// The time of the last sample, or the start, in seconds since 1970.

@@ -25,7 +25,7 @@ pub enum Refusal {
     DoubleName,
     /// A heartbeat is not 1 to 9,999,999,999 seconds.
     BadHeartbeat,
-    /// A bound is larger in size than the maximum rate, or the minimum is above the maximum.
+    /// A bound has an absolute value above the maximum rate, or the minimum is above the maximum.
     BadBounds,
     /// An xff is not from 0 to below 1.
     BadXff,

@@ -215,7 +215,7 @@ fn samples(
 
 // ---- seconds
 
-// Returns the rates in a second: those of the first sample at or after it.
+// Returns the rates in a second, which are the rates of the first sample at or after it.
 fn second(taken: &[Taken], at: u64) -> &[Cell]
     ensures { result.now ≡ history.second (map taken_of taken.now) at }
 {

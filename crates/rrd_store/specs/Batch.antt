@@ -9,13 +9,14 @@ use Rattle.rrd_store.specs.Storages.{Finds, Held, Leaves, Stays}
 use Rattle.rrd_store.specs.declared.batch.FileBatchEnd.{FileBatchEnd}
 use Rattle.rrd_store.specs.declared.faults.TaskFault.{TaskFault}
 
--- the end of writing the database, by its fault
+-- the result of writing the database, by its fault
 abbrev pub written : Option TaskFault → Result (Unit {0}) TaskFault
 written None = Ok (tt {0})
 written (Some fault) = Err fault
 
--- the lines were run from the database that was found: whatever state it stands for, the run leads to one that the
--- database in the end stands for. That one is left in the storage. At most so many numbers of refused lines are kept
+-- the lines were run on the database that was found: from each state that this database represents, the run leads to a
+-- state that the final database represents. The final database is left in the storage. At most `numbered` numbers of
+-- refused lines are kept
 pub record RunsLines (now numbered : ℕ) (found : Option Stored) (old new : Option Held) (r0 r1 c0 c1 : Option (List ℕ))
     (end : FileBatchEnd) : Type 0 where
   pub last : Option Stored
@@ -26,8 +27,8 @@ pub record RunsLines (now numbered : ℕ) (found : Option Stored) (old new : Opt
       × RunOver now seen r1 s0 s1 tally c0 c1 end.stream
   pub left : Leaves last old new (written end.unstored)
 
--- `old` and `new` are what the storage has before and after, `r0` and `r1` what is left of the input, `c0` and `c1` the
--- output
+-- `old` and `new` are the contents of the storage before and after, `r0` and `r1` the rest of the input, and `c0` and
+-- `c1` the output
 abbrev pub IsFileBatch : ℕ → ℕ → Option Held → Option Held → Option (List ℕ) → Option (List ℕ)
     → Option (List ℕ) → Option (List ℕ) → Result FileBatchEnd TaskFault → Type 0
 IsFileBatch now numbered old new r0 r1 c0 c1 (Err fault) =

@@ -23,7 +23,7 @@ task_fault_text (File fault) = file_fault_text fault
 task_fault_text CannotOpen = codes "cannot open"
 task_fault_text CannotWrite = codes "cannot write"
 
--- words that are no command
+-- words that are not a command
 abbrev pub is_usage_error_line : LineFault → Bool
 is_usage_error_line line.Usage = true
 is_usage_error_line (line.BadWord part number) = false
@@ -42,6 +42,6 @@ is_usage_error (File fault) = false
 is_usage_error CannotOpen = false
 is_usage_error CannotWrite = false
 
--- what is written for a fault: its line, and the usage text where the words were no command
+-- the report of a fault: its line, and the usage text if the words are not a command
 abbrev pub report_of : List ℕ → TaskFault → List ℕ
 report_of usage fault = error_line (task_fault_text fault) ++ (if is_usage_error fault then usage else [])

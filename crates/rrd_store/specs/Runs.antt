@@ -31,10 +31,10 @@ use Rattle.rrd_store.specs.declared.batch.FileBatchEnd.{FileBatchEnd}
 use Rattle.rrd_store.specs.declared.faults.TaskFault.{TaskFault}
 use Rattle.rrd_store.specs.declared.faults.TaskFault.TheVariants as task
 
--- ---- runs, as they were seen from outside
+-- ---- runs, as seen from outside
 
--- one command: its words, the present time in seconds since 1970, what the output held before and after it where that
--- is known, and how it ended
+-- one command: its words, the present time in seconds since 1970, the contents of the output before and after the
+-- command, if known, and the end of the command
 pub record CommandRun : Type 0 where
   pub words : List (List ℕ)
   pub now : ℕ
@@ -42,7 +42,8 @@ pub record CommandRun : Type 0 where
   pub out_after : Option (List ℕ)
   pub end : Result (Unit {0}) TaskFault
 
--- a batch: the present time, how many numbers of refused lines were asked for, what was left of the input before and after it, the same of the output, and how it ended
+-- a batch: the present time, the maximum number of numbers of refused lines, the rest of the input before and after the
+-- batch, the contents of the output before and after, and the end of the batch
 pub record BatchRun : Type 0 where
   pub now : ℕ
   pub numbered : ℕ
@@ -56,16 +57,17 @@ pub data Run : Type 0 where
   ByCommand : CommandRun → Run
   ByBatch : BatchRun → Run
 
--- the run took the storage from what it had to what it has: just what `run_file_command`, or `run_file_batch`, ensures
+-- the run led from the old contents of the storage to the new contents: exactly as `run_file_command`, or
+-- `run_file_batch`, ensures
 abbrev pub DidIn : Option Held → Run → Option Held → Type 0
 DidIn old (ByCommand r) new = IsSingle r.words r.now old new r.out_before r.out_after r.end
 DidIn old (ByBatch r) new = IsFileBatch r.now r.numbered old new r.in_before r.in_after r.out_before r.out_after r.end
 
--- so it took a file, of which it is known what it was
+-- the same for a file whose contents are known
 abbrev pub Did : Held → Run → Held → Type 0
 Did old run new = DidIn (Some old) run (Some new)
 
--- the fault that a run ended with before it touched the file, or at its write
+-- the fault of a run: a fault before the run touched the file, or a failed write of the file
 abbrev pub fault_of_batch : Result FileBatchEnd TaskFault → Option TaskFault
 fault_of_batch (Ok end) = end.unstored
 fault_of_batch (Err fault) = Some fault
@@ -76,7 +78,7 @@ fault_of (ByBatch r) = fault_of_batch r.end
 
 -- ---- the file of a state
 
--- what a file keeps: a state, in a version of the layout
+-- the state in a file, and the version of its layout
 pub record Filing : Type 0 where
   pub version : Version
   pub state : State
@@ -84,38 +86,38 @@ pub record Filing : Type 0 where
 abbrev pub state_in : Option Filing → Option State
 state_in kept = option_map (λ (k : Filing). k.state) kept
 
--- a state as it is written, which is in the newest version
+-- a state in the version in which states are written: the newest
 abbrev pub as_written : Option State → Option Filing
 as_written state = option_map (λ (s : State). let k : Filing = record { version = newest; state = s } in k) state
 
--- the database that a state's survivors make, with the journal of those that can be reverted and of what was brought,
--- stands for the state, and is within the limits of the version
+-- the database of a state has the content of the survivors, and the journal of those that can be reverted and of the
+-- brought entries. This database represents the state, and is within the limits of the version
 abbrev pub IsValidState : Version → State → Type 0
 IsValidState version s = Stands s (stored_of s) × IsValidIn version (stored_of s)
 
--- so it is of what a file keeps, where there is one
+-- the same for the state in a file, if there is one
 abbrev pub IsValidFiling : Option Filing → Type 0
 IsValidFiling None = Unit {0}
 IsValidFiling (Some k) = IsValidState k.version k.state
 
--- the file has the layout of that database in its version, and there is no file where there is none. The version, what
--- survived, how many of these can be reverted and what was brought say every byte of it
+-- the file has the layout of this database in its version; without a state there is no file. The version, the
+-- survivors, the number of survivors that can be reverted, and the brought entries determine every byte of the file
 abbrev pub Holds : Held → Option Filing → Type 0
 Holds held None = held ≡ Missing
 Holds held (Some k) = (held ≡ Bytes (layout_in k.version (stored_of k.state))) × IsValidState k.version k.state
 
--- these bytes are a front of the file of what is kept, and not all of it
+-- these bytes are a first part of the file of this state, and not the whole file
 abbrev pub IsFrontOf : List ℕ → Filing → Type 0
 IsFrontOf front k =
     (next : ℕ) × (rest : List ℕ) × (layout_in k.version (stored_of k.state) ≡ front ++ next ∷ rest)
 
--- ---- what a file stands for
+-- ---- the state that a file represents
 
--- these bytes are the file of no database
+-- these bytes are not the file of any database
 abbrev pub IsNoFile : List ℕ → Type 0
 IsNoFile bytes = (d : Stored) → ¬ IsFile bytes d
 
--- what it keeps, and none where there is no file; or bytes that are no database
+-- the state in the file, or no state if there is no file; or bytes that are not a database
 pub data Standing : Type 0 where
   Keeping : Option Filing → Standing
   Damaged : List ℕ → Standing
@@ -124,15 +126,16 @@ abbrev pub IsFileOf : Held → Standing → Type 0
 IsFileOf held (Keeping s) = Holds held s
 IsFileOf held (Damaged bytes) = (held ≡ Bytes bytes) × IsNoFile bytes
 
--- so it is of a storage of which it was known what it had; what was known stays known
+-- the same for a storage whose contents were known: known contents stay known
 abbrev pub IsFileIn : Option Held → Standing → Type 0
 IsFileIn None t = ⊥
 IsFileIn (Some held) t = IsFileOf held t
 
--- ---- what the definitions compute of a run: the next state and its version, what is printed, and how it ends
+-- ---- the results of a run that the definitions allow: the next state and its version, the printed text, and the end
+-- of the run
 
--- what is in the way of reading the file of a state. The bytes of a database are never at fault, so the reader failed
--- or memory was wanting; without a database there is no file; and any file may not open
+-- the reasons why the file of a state may not be read. The bytes of a database are never at fault, so the reader failed
+-- or memory ran out; without a database there is no file; and any file may fail to open
 abbrev pub IsUnread : Option Filing → FileFault → Type 0
 IsUnread None fault = ⊥
 IsUnread (Some s) fault = ¬ IsOfFile (Err fault)
@@ -144,26 +147,27 @@ MayStop state task.CannotWrite = ⊥
 MayStop state (task.Command fault) = ⊥
 MayStop state (task.Stream fault) = ⊥
 
--- what makes a database reads none
+-- a command that makes a database does not read the file
 abbrev pub ReadsFile : Effect → Type 0
 ReadsFile (Makes spec) = ⊥
 ReadsFile (Changes command) = Unit {0}
 ReadsFile Reverts = Unit {0}
 ReadsFile (Shows show) = Unit {0}
 
--- nothing came of it
+-- the state stays the same, and nothing is printed
 abbrev pub IsNothing : Option Filing → Option Filing → Option (List ℕ) → Option (List ℕ) → Type 0
 IsNothing s s1 c0 c1 = (s1 ≡ s) × Keeps c0 c1
 
--- a front of the text was printed, or all of it
+-- a first part of the text was printed, or all of the text
 abbrev pub PrintsFront : Option (List ℕ) → Option (List ℕ) → List ℕ → Type 0
 PrintsFront c0 c1 text = (front : List ℕ) × (unwritten : List ℕ) × (text ≡ front ++ unwritten) × Appends c0 c1 front
 
--- the database of what a file keeps
+-- the database of the state in a file
 abbrev pub database_in : Option Filing → Option Stored
 database_in kept = option_map stored_of (state_in kept)
 
--- the next state, and the version that it is kept in: a change writes the file, and all else leaves it as it is
+-- the next state, and its version: a change writes the file in the newest version; any other command leaves the state
+-- and its version unchanged
 abbrev pub kept_next : Option Filing → Effect → Option Filing
 kept_next s e = if is_change e then as_written (next (state_in s) e) else s
 
@@ -171,12 +175,12 @@ kept_next s e = if is_change e then as_written (next (state_in s) e) else s
 abbrev pub IsDone : Option Filing → Effect → Option Filing → Type 0
 IsDone s e s1 = (verdict_on (database_in s) e ≡ None) × (s1 ≡ kept_next s e)
 
--- refused by the verdict, or accepted and memory was wanting
+-- the verdict refuses the command, or accepts the command and memory runs out
 abbrev pub IsRefused : Option Filing → Effect → Fault → Option Filing → Option (List ℕ) → Option (List ℕ) → Type 0
 IsRefused s e fault s1 c0 c1 = IsFault (verdict_on (database_in s) e) e fault × IsNothing s s1 c0 c1
 
--- a command of this effect that ends by a fault of its own. Where its output failed it was done, and it is one that
--- prints something
+-- a command of this effect ends with a fault of its own. If its output failed, the command was done, and is a command
+-- that prints something
 abbrev pub Fails : Option Filing → Effect → Fault → Option Filing → Option (List ℕ) → Option (List ℕ) → Type 0
 Fails s e Output s1 c0 c1 =
     IsDone s e s1 × PrintsFront c0 c1 (text_on (database_in s) e) × (is_empty (text_on (database_in s) e) ≡ false)
@@ -184,11 +188,11 @@ Fails s e (Refused refusal) s1 c0 c1 = IsRefused s e (Refused refusal) s1 c0 c1
 Fails s e NoDatabase s1 c0 c1 = IsRefused s e NoDatabase s1 c0 c1
 Fails s e (Line fault) s1 c0 c1 = IsRefused s e (Line fault) s1 c0 c1
 
--- or by one of the file
+-- a command of this effect ends with a fault of the file
 abbrev pub Stops : Option Filing → Effect → TaskFault → Option Filing → Option (List ℕ) → Option (List ℕ) → Type 0
 Stops s e fault s1 c0 c1 = ReadsFile e × MayStop s fault × IsNothing s s1 c0 c1
 
--- a command of this effect in any of its ends. Where the file could not be written it was done too
+-- a command of this effect, for each of its ends. If the file could not be written, the command was done too
 abbrev pub Answers : Option Filing → Effect → Option Filing → Option (List ℕ) → Option (List ℕ)
     → Result (Unit {0}) TaskFault → Type 0
 Answers s e s1 c0 c1 (Ok x) = IsDone s e s1 × Appends c0 c1 (text_on (database_in s) e)
@@ -198,13 +202,14 @@ Answers s e s1 c0 c1 (Err task.CannotOpen) = Stops s e task.CannotOpen s1 c0 c1
 Answers s e s1 c0 c1 (Err task.CannotWrite) = IsDone s e s1 × Appends c0 c1 (text_on (database_in s) e)
 Answers s e s1 c0 c1 (Err (task.Stream fault)) = ⊥
 
--- what was read of the words; nothing comes of words that are no command
+-- the result of the reading of the words; words that are not a command change nothing
 abbrev pub AnswersRead : Option Filing → Result Command LineFault → Option Filing → Option (List ℕ) → Option (List ℕ)
     → Result (Unit {0}) TaskFault → Type 0
 AnswersRead s (Ok command) s1 c0 c1 end = Answers s (effect command) s1 c0 c1 end
 AnswersRead s (Err fault) s1 c0 c1 end = (end ≡ Err (task.Command (Line fault))) × IsNothing s s1 c0 c1
 
--- the run over the lines that were read, after which the file is written; or it could not be read, and no line was
+-- the run over the lines that were read, after which the file is written; or the file could not be read, and no line
+-- was read
 abbrev pub AnswersLines : ℕ → ℕ → Option Filing → Option Filing → Option (List ℕ) → Option (List ℕ) → Option (List ℕ)
     → Option (List ℕ) → Result FileBatchEnd TaskFault → Type 0
 AnswersLines now numbered s s1 r0 r1 c0 c1 (Ok end) =
@@ -213,7 +218,7 @@ AnswersLines now numbered s s1 r0 r1 c0 c1 (Ok end) =
     × RunOver now seen r1 (state_in s) last tally c0 c1 end.stream × (s1 ≡ as_written last)
 AnswersLines now numbered s s1 r0 r1 c0 c1 (Err fault) = MayStop s fault × IsNothing s s1 c0 c1 × Keeps r0 r1
 
--- from this state the run leads to that one
+-- the run leads from the state `s` to the state `s1`
 abbrev pub Computes : Option Filing → Run → Option Filing → Type 0
 Computes s (ByCommand r) s1 =
     (read : Result Command LineFault)
@@ -221,22 +226,22 @@ Computes s (ByCommand r) s1 =
     × AnswersRead s read s1 r.out_before r.out_after r.end
 Computes s (ByBatch r) s1 = AnswersLines r.now r.numbered s s1 r.in_before r.in_after r.out_before r.out_after r.end
 
--- what the output held before and after
+-- the output stays the same
 abbrev pub OutputStays : Run → Type 0
 OutputStays (ByCommand r) = Keeps r.out_before r.out_after
 OutputStays (ByBatch r) = Keeps r.out_before r.out_after
 
--- ---- what a file stands for after a run
+-- ---- the state that a file represents after a run
 
--- a write of the file failed: it stands for what it stood for, or for what was to be written, or is damaged, a front of
--- the file of that and not all
+-- after a failed write of the file, the file represents the same as before, or the new state; or it is damaged, with a
+-- first part of the new file and not all
 abbrev pub IsAfterFailure : Standing → Option Filing → Standing → Type 0
 IsAfterFailure t s1 t1 =
     (t1 ≡ t)
     ⊎ ((t1 ≡ Keeping s1)
     ⊎ ((front : List ℕ) × (k : Filing) × (s1 ≡ Some k) × IsFrontOf front k × (t1 ≡ Damaged front)))
 
--- after a run from the standing `t` that led to `s1`, by the fault that the run ended with
+-- after a run that led from `t` to the state `s1`, by the fault with which the run ended
 abbrev pub StandsBy : Standing → Option Filing → Option TaskFault → Standing → Type 0
 StandsBy t s1 None t1 = t1 ≡ Keeping s1
 StandsBy t s1 (Some task.CannotWrite) t1 = IsAfterFailure t s1 t1
@@ -245,15 +250,15 @@ StandsBy t s1 (Some (task.File fault)) t1 = t1 ≡ t
 StandsBy t s1 (Some (task.Command fault)) t1 = t1 ≡ t
 StandsBy t s1 (Some (task.Stream fault)) t1 = t1 ≡ t
 
--- the words mean a command that makes a database
+-- the words are a command that makes a database
 abbrev pub IsCreate : Run → Type 0
 IsCreate (ByCommand r) =
     (command : Command) × (reading r.words r.now ≡ Some (Ok command))
     × (spec : CreateSpec) × (effect command ≡ Makes spec)
 IsCreate (ByBatch r) = ⊥
 
--- what a run over bytes that are no database ends with: a fault of the file of which this is said, unless the file
--- couldn't be opened or the words are no command
+-- the fault of a run on bytes that are not a database: a fault of the file for which `Is` holds, unless the file could
+-- not be opened or the words are not a command
 abbrev pub IsRefusedBy : (FileFault → Type 0) → TaskFault → Type 0
 IsRefusedBy Is (task.File fault) = Is fault
 IsRefusedBy Is task.CannotOpen = Unit {0}
@@ -268,13 +273,13 @@ IsRefusedBy Is (task.Stream fault) = ⊥
 abbrev pub IsOfBytes : List ℕ → TaskFault → Type 0
 IsOfBytes bytes fault = IsRefusedBy (λ f. IsAnswer bytes (Err f)) fault
 
--- the run printed nothing, and ended so
+-- the run printed nothing, and ended with this fault
 abbrev pub IsRefusedOver : List ℕ → Run → Type 0
 IsRefusedOver bytes run =
     OutputStays run × (fault : TaskFault) × (fault_of run ≡ Some fault) × IsOfBytes bytes fault
 
--- from what it stands for the run leads to what the definitions compute, and prints what they do. Over bytes that are no
--- database a create goes on as over no file, since it asks for no database, and any other run is refused
+-- the run leads from the represented state to a state that the definitions allow, and prints their text. On bytes that
+-- are not a database a create continues as without a file, because a create reads no database; any other run is refused
 abbrev pub Leads : Standing → Run → Standing → Type 0
 Leads (Keeping s) run t1 = (s1 : Option Filing) × Computes s run s1 × StandsBy (Keeping s) s1 (fault_of run) t1
 Leads (Damaged bytes) run t1 =
@@ -283,18 +288,19 @@ Leads (Damaged bytes) run t1 =
 
 -- ---- runs and kills
 
--- a run that came to its end, or one that was killed before it; of what a killed run printed nothing is said
+-- a run that ended, or a run that was killed before its end. The definitions say nothing about the text that a killed
+-- run printed
 pub data Event : Type 0 where
   Ended : Run → Event
   Killed : Run → Event
 
--- there is no file, or it is no database
+-- there is no file, or the file is not a database
 abbrev pub HasNone : Held → Type 0
 HasNone Missing = Unit {0}
 HasNone (Bytes bytes) = IsNoFile bytes
 
--- a kill leaves what was there; or what the run leaves that comes to its end; or, where no database was there, bytes
--- that are none
+-- a kill leaves the contents from before the run; or the contents that the run leaves if it ends; or, if there was no
+-- database, bytes that are not a database
 abbrev pub WasKilled : Held → Run → Held → Type 0
 WasKilled old run new =
     (new ≡ old) ⊎ (Did old run new ⊎ (HasNone old × (bytes : List ℕ) × (new ≡ Bytes bytes) × IsNoFile bytes))
@@ -303,19 +309,19 @@ abbrev pub Happened : Held → Event → Held → Type 0
 Happened old (Ended run) new = Did old run new
 Happened old (Killed run) new = WasKilled old run new
 
--- one after another, and nobody else wrote the file in between
+-- the events follow one another, and nobody else writes the file in between
 abbrev pub HappenedAll : Held → List Event → Held → Type 0
 HappenedAll old [] new = new ≡ old
 HappenedAll old (event ∷ events) new =
     (between : Held) × Happened old event between × HappenedAll between events new
 
--- no database is kept
+-- the file represents no database
 abbrev pub KeepsNone : Standing → Type 0
 KeepsNone (Keeping None) = Unit {0}
 KeepsNone (Keeping (Some k)) = ⊥
 KeepsNone (Damaged bytes) = Unit {0}
 
--- the state before the run, or the one after it; or, where no database was kept, none is
+-- the state before the run, or the state after the run; or, if there was no database, no database
 abbrev pub LeadsKilled : Standing → Run → Standing → Type 0
 LeadsKilled t run t1 = (t1 ≡ t) ⊎ (Leads t run t1 ⊎ (KeepsNone t × (bytes : List ℕ) × (t1 ≡ Damaged bytes)))
 
@@ -327,9 +333,9 @@ abbrev pub LeadsAll : Standing → List Event → Standing → Type 0
 LeadsAll t [] t1 = t1 ≡ t
 LeadsAll t (event ∷ events) t1 = (between : Standing) × LeadsBy t event between × LeadsAll between events t1
 
--- ---- one run over a storage: what `run_file_command` and `run_file_batch` ensure
+-- ---- one run on a storage: what `run_file_command` and `run_file_batch` ensure
 
--- the storage didn't open, or what is there is no database that can be read
+-- the storage could not be opened, or has no database that can be read
 abbrev pub IsOfPlace : TaskFault → Type 0
 IsOfPlace task.CannotOpen = Unit {0}
 IsOfPlace (task.File fault) = Unit {0}
@@ -337,23 +343,23 @@ IsOfPlace task.CannotWrite = ⊥
 IsOfPlace (task.Command fault) = ⊥
 IsOfPlace (task.Stream fault) = ⊥
 
--- the run ended so, and printed nothing
+-- the run ended with such a fault, and printed nothing
 abbrev pub EndsUnread : Run → Type 0
 EndsUnread run = (fault : TaskFault) × IsOfPlace fault × (fault_of run ≡ Some fault) × OutputStays run
 
--- the run does what is computed from what the file stands for, and leaves the file of that. Where it isn't known what
--- the storage has, as of a file of the program, it does what is computed from some valid state, or from none, or it
--- ends unread
+-- the run does what the definitions compute from the state that the file represents, and leaves the file of the next
+-- state. If the contents of the storage are not known, as for a file of the program, the run does what the definitions
+-- compute from some valid state or from none, or ends without reading a database
 abbrev pub IsComputed : Option Held → Option Held → Run → Type 0
 IsComputed None new run =
     ((s : Option Filing) × IsValidFiling s × (t1 : Standing) × Leads (Keeping s) run t1) ⊎ EndsUnread run
 IsComputed (Some old) new run =
     (t : Standing) → IsFileOf old t → (t1 : Standing) × Leads t run t1 × IsFileIn new t1
 
--- ---- the laws
+-- ---- the theorems
 
--- a run over a file leads from what the file stands for to what the definitions compute, and prints what they do, also
--- where the file could not be written; and a run that is killed leads to what was before it, or to what is after it
+-- a run on a file leads from the represented state to a state that the definitions compute, and prints their text, even
+-- if the file could not be written; a killed run leads to the state before the run or after it
 abbrev pub RunIsComputed : Held → Standing → Event → Held → Type 0
 RunIsComputed old t event new =
     IsFileOf old t → Happened old event new → (t1 : Standing) × LeadsBy t event t1 × IsFileOf new t1
@@ -363,7 +369,7 @@ abbrev pub IsFirst : Held → Option Stored → Type 0
 IsFirst held None = held ≡ Missing
 IsFirst held (Some d) = (bytes : List ℕ) × (held ≡ Bytes bytes) × IsFile bytes d
 
--- its content is the base, its journal is brought along, and nothing survives on it yet
+-- the content of the database is the base, its journal is brought, and no command survives yet
 abbrev pub begun : Stored → State
 begun d = record { base = d.content; brought = d.journal; survivors = []; revertible = 0 }
 
@@ -371,25 +377,26 @@ abbrev pub first_of : (held : Held) (first : Option Stored) → IsFirst held fir
 first_of held None is = None
 first_of held (Some d) is = Some (record { version = is.2.version; state = begun d })
 
--- the headline: after any list of runs, batches and single commands, with any outcome of memory, with failed writes and
--- kills, the file has the bytes, and the outputs have the texts, that the definitions compute from the first file
+-- the main theorem. Take any list of runs, batches and single commands, with any lack of memory, with failed writes and
+-- kills. The file then has the bytes, and the outputs have the texts, that the definitions compute from the first file
 abbrev pub RunsFollowSpecification : Held → Option Stored → List Event → Held → Type 0
 RunsFollowSpecification old first events new =
     (is : IsFirst old first) → HappenedAll old events new
     → (last : Standing) × LeadsAll (Keeping (first_of old first is)) events last × IsFileOf new last
 
--- a run that ends with a fault, of the command or of the file, and not because the file could not be written, leaves
--- the file as it was, whatever that is; it printed nothing unless its output failed
+-- a run that ends with a fault of the command or of the file, other than a failed write of the file, leaves the
+-- contents of the file unchanged, whatever they are. The run printed nothing, unless its output failed
 abbrev pub FaultChangesNothing : Held → Run → TaskFault → Held → Type 0
 FaultChangesNothing old run fault new =
     Did old run new → fault_of run ≡ Some fault → fault ≢ task.CannotWrite
     → (new ≡ old) × (fault ≢ task.Command Output → OutputStays run)
 
--- that the file breaks off after so many bytes, if it could be read to its end
+-- the file ends after `at` bytes, if the file could be read to its end
 abbrev pub IsOfBreak : ℕ → TaskFault → Type 0
 IsOfBreak at fault = IsRefusedBy (λ f. IsOfFile (Err f) → f ≡ Truncated at) fault
 
--- a file that a failed write cut stays as it is, and each run over it but a create is refused and prints nothing
+-- a file that a failed write cut short stays unchanged, and each run on it except a create is refused and prints
+-- nothing
 abbrev pub DamagedFileStays : List ℕ → Filing → Run → Held → Type 0
 DamagedFileStays front k run new =
     IsFrontOf front k → IsValidState k.version k.state → ¬ IsCreate run → Did (Bytes front) run new

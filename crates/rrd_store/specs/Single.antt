@@ -20,17 +20,18 @@ use Rattle.rrd_store.specs.declared.faults.TaskFault.TheVariants as task
 
 -- ---- the database before the command
 
--- what may change is asked for to be changed, what shows something to be read
+-- a command that may change the database opens the storage for a change; a command that shows something opens the
+-- storage for reading
 abbrev pub access_for : Effect → Access
 access_for effect = if is_change effect then ReadWrite else Read
 
--- a storage where nothing is can't be opened
+-- a storage that does not exist cannot be opened
 abbrev pub FindsOne : Option Held → Result (Option Stored) TaskFault → Type 0
 FindsOne held (Ok None) = ⊥
 FindsOne held (Ok (Some database)) = Finds held (Ok (Some database))
 FindsOne held (Err fault) = Finds held (Err fault)
 
--- what makes a database asks for none, whatever is there
+-- a command that makes a database starts without a database, whatever the storage has
 abbrev pub StartsBy : Effect → Option Held → Result (Option Stored) TaskFault → Type 0
 StartsBy (Makes spec) held start = start ≡ Ok None
 StartsBy (Changes command) held start = FindsOne held start
@@ -40,10 +41,10 @@ StartsBy (Shows show) held start = FindsOne held start
 abbrev pub StartsFrom : Command → Option Held → Result (Option Stored) TaskFault → Type 0
 StartsFrom command held start = StartsBy (effect command) held start
 
--- ---- what is left of it
+-- ---- the contents of the storage after the command
 
--- after a refused command and one that printed the storage is as it was; a change is written. What was printed, which
--- is some text, may fail to be handed on
+-- after a refused command, and after a command that printed, the contents are unchanged; an accepted change is written.
+-- Flushing the printed text, which is not empty, may fail
 abbrev pub EndsBy : Option Fault → Bool → Option Stored → List ℕ → Option Held → Option Held
     → Result (Unit {0}) TaskFault → Type 0
 EndsBy (Some fault) changed database text old new end = (end ≡ Err (task.Command fault)) × Stays old new
@@ -56,14 +57,15 @@ EndsBy None false database text old new (Err fault) =
 abbrev pub Ends : Outcome → List ℕ → Option Held → Option Held → Result (Unit {0}) TaskFault → Type 0
 Ends outcome text old new end = EndsBy (fault_left outcome) (has_changed outcome) (database_left outcome) text old new end
 
--- ---- the whole: `old` and `new` are what the storage has before and after, `c0` and `c1` what the output has
+-- ---- the whole command: `old` and `new` are the contents of the storage before and after, `c0` and `c1` the contents
+-- of the output
 
 -- the storage is not written, and nothing is printed
 abbrev pub Stops : TaskFault → Option Held → Option Held → Option (List ℕ) → Option (List ℕ)
     → Result (Unit {0}) TaskFault → Type 0
 Stops fault old new c0 c1 end = (end ≡ Err fault) × Stays old new × Keeps c0 c1
 
--- the command runs over what was found, and what it leaves is written
+-- the command runs on the database that was found, and its result is written
 abbrev pub RunsFrom : Command → Result (Option Stored) TaskFault → Option Held → Option Held
     → Option (List ℕ) → Option (List ℕ) → Result (Unit {0}) TaskFault → Type 0
 RunsFrom command (Err fault) old new c0 c1 end = Stops fault old new c0 c1 end
@@ -72,7 +74,7 @@ RunsFrom command (Ok kept) old new c0 c1 end =
     × Executes kept command c0 c1 outcome
     × Ends outcome (text_on kept (effect command)) old new end
 
--- what was read of the words is looked for in the storage, if it is a command
+-- if the words are a command, the storage is read and the command runs
 abbrev pub RunsAs : Result Command LineFault → Option Held → Option Held → Option (List ℕ)
     → Option (List ℕ) → Result (Unit {0}) TaskFault → Type 0
 RunsAs (Err fault) old new c0 c1 end = Stops (task.Command (Line fault)) old new c0 c1 end

@@ -8,26 +8,26 @@ use Rattle.rrd_spec.specs.Journal.Survivors.{Stored}
 use Rattle.rrd_store.specs.declared.faults.TaskFault.{TaskFault}
 use Rattle.rrd_store.specs.declared.faults.TaskFault.TheVariants.{Command, Stream, File, CannotOpen, CannotWrite}
 
--- what a storage stands for, which is what the next open reads: nothing is there, or something with these bytes, which
--- may be none
+-- the bytes that a storage represents, and that the next open reads: the storage does not exist, or has these bytes,
+-- possibly none
 pub data Held : Type 0 where
   Missing : Held
   Bytes : List ℕ → Held
 
--- ---- the calls of a storage, by what it has where that is known
+-- ---- the calls of a storage, by its contents if these are known
 
--- it has what it had
+-- the contents stay the same
 abbrev pub Stays : Option Held → Option Held → Type 0
 Stays None new = ⊤
 Stays (Some old) None = ⊥
 Stays (Some old) (Some new) = new ≡ old
 
--- it has these bytes now
+-- the contents are now these bytes
 abbrev pub Becomes : Option Held → Option Held → List ℕ → Type 0
 Becomes None new bytes = ⊤
 Becomes (Some old) new bytes = new ≡ Some (Bytes bytes)
 
--- no reader where nothing is there, else one with the bytes before it
+-- no reader if the storage does not exist; otherwise a reader of the bytes from before
 abbrev pub Opens : {R : Type 0} → Option Held → (R → Option (List ℕ)) → Option R → Type 0
 Opens None remaining found = ⊤
 Opens (Some Missing) remaining None = Unit {0}
@@ -35,68 +35,71 @@ Opens (Some Missing) remaining (Some reader) = ⊥
 Opens (Some (Bytes bytes)) remaining None = ⊥
 Opens (Some (Bytes bytes)) remaining (Some reader) = remaining reader ≡ Some bytes
 
--- it has what it had, but where nothing was there something without a byte may have been made
+-- the contents stay the same, but a storage that did not exist may now be empty
 abbrev pub IsReady : Option Held → Option Held → Type 0
 IsReady None new = ⊤
 IsReady (Some Missing) new = Stays (Some Missing) new ⊎ Becomes (Some Missing) new []
 IsReady (Some (Bytes bytes)) new = Stays (Some (Bytes bytes)) new
 
--- a writer that has taken nothing
+-- a writer that has taken no byte
 abbrev pub IsBegun : Option Held → Option (List ℕ) → Type 0
 IsBegun None written = ⊤
 IsBegun (Some old) written = written ≡ Some []
 
--- a change for so many bytes, none of which is written yet
+-- a change for `count` bytes, none of which is written yet
 abbrev pub IsFor : ℕ → Option ℕ → Option (List ℕ) → Type 0
 IsFor count None written = ⊤
 IsFor count (Some announced) written = (announced ≡ count) × (written ≡ Some [])
 
--- as many bytes were written as the change is for
+-- the number of written bytes is the number that the change was begun for
 abbrev pub AreAll : Option ℕ → Option (List ℕ) → Type 0
 AreAll None written = ⊤
 AreAll (Some announced) written = option_map (λ (bytes : List ℕ). length bytes) written ≡ Some announced
 
--- it has what was written
+-- the contents are the written bytes
 abbrev pub TakesOver : Option Held → Option Held → Option (List ℕ) → Type 0
 TakesOver None new written = ⊤
 TakesOver (Some old) new written = new ≡ option_map Bytes written
 
--- it has a front of these bytes, and not all
+-- the contents are a first part of these bytes, and not all
 abbrev pub IsCutFrom : Option Held → Option Held → List ℕ → Type 0
 IsCutFrom old new bytes =
     (front : List ℕ) × (next : ℕ) × (rest : List ℕ) × (bytes ≡ front ++ next ∷ rest) × Becomes old new front
 
--- a write of these bytes failed: it has what it had; or the bytes; or a front of them, and not all
+-- after a failed write of these bytes, the contents are the same as before, or these bytes, or a first part of these
+-- bytes and not all
 abbrev pub IsAfterFailure : Option Held → Option Held → List ℕ → Type 0
 IsAfterFailure old new bytes = Stays old new ⊎ (Becomes old new bytes ⊎ IsCutFrom old new bytes)
 
--- so it is of those that were written
+-- the same for the bytes that the writer has taken
 abbrev pub Cuts : Option Held → Option Held → Option (List ℕ) → Type 0
 Cuts old new None = ⊤
 Cuts old new (Some written) = IsAfterFailure old new written
 
--- it has what it had, or a front of what was written, or all of that
+-- the contents are the same as before, or a first part of the written bytes, or all of them
 abbrev pub FallsBack : Option Held → Option Held → Option (List ℕ) → Type 0
 FallsBack old new None = ⊤
 FallsBack old new (Some written) =
     Stays old new ⊎ ((front : List ℕ) × (rest : List ℕ) × (written ≡ front ++ rest) × Becomes old new front)
 
--- ---- what is found
+-- ---- the result of reading
 
--- what reading answers: to bytes the answer to them. Where it isn't known what is there, a database is a valid one
+-- the result of reading: for known bytes, their result; if the contents are not known, a database in the result is
+-- valid
 abbrev pub Reads : Option Held → Result Stored FileFault → Type 0
 Reads (Some Missing) answer = ⊥
 Reads (Some (Bytes bytes)) answer = IsAnswer bytes answer
 Reads None (Ok database) = IsValidStored database
 Reads None (Err fault) = ⊤
 
--- nothing is there, as far as is known
+-- the storage does not exist, as far as is known
 abbrev pub MayMiss : Option Held → Type 0
 MayMiss None = ⊤
 MayMiss (Some Missing) = ⊤
 MayMiss (Some (Bytes bytes)) = ⊥
 
--- no database only where nothing is there; else the one that the bytes are the file of, or their fault
+-- no database only if the storage does not exist; otherwise the database whose file the bytes are, or the fault of the
+-- bytes
 abbrev pub Finds : Option Held → Result (Option Stored) TaskFault → Type 0
 Finds held (Ok None) = MayMiss held
 Finds held (Ok (Some database)) = Reads held (Ok database)
@@ -106,10 +109,10 @@ Finds held (Err CannotWrite) = ⊥
 Finds held (Err (Command fault)) = ⊥
 Finds held (Err (Stream fault)) = ⊥
 
--- ---- what is left
+-- ---- the contents after a write
 
--- the bytes take the place of what was there; or, after a write that failed, that stays, or the bytes are there, or a
--- front of them and not all
+-- these bytes replace the contents; after a failed write, the contents are the same as before, or these bytes, or a
+-- first part of these bytes and not all
 abbrev pub Replaces : {T : Type 0} → Option Held → Option Held → List ℕ → Result T TaskFault → Type 0
 Replaces old new bytes (Ok x) = Becomes old new bytes
 Replaces old new bytes (Err CannotWrite) = IsAfterFailure old new bytes
@@ -118,7 +121,7 @@ Replaces old new bytes (Err (File fault)) = ⊥
 Replaces old new bytes (Err (Command fault)) = ⊥
 Replaces old new bytes (Err (Stream fault)) = ⊥
 
--- the database, where there is one, is left as its layout
+-- if there is a database, its layout is left in the storage
 abbrev pub Leaves : {T : Type 0} → Option Stored → Option Held → Option Held → Result T TaskFault → Type 0
 Leaves None old new (Ok x) = Stays old new
 Leaves None old new (Err fault) = ⊥

@@ -11,7 +11,7 @@ use rrd_fixed::WriteFault;
 use rrd_tool::StreamFault;
 use std::io::Write;
 
-// Returns 0 if nothing was refused and nothing failed, 2 if the arguments were no command, 1 otherwise.
+// Returns 0 if nothing was refused and nothing failed, 2 if the arguments were not a command, 1 otherwise.
 fn single_status(end: Result<(), TaskFault>) -> u8
     ensures { result ≡ single_status end }
 {
@@ -59,8 +59,8 @@ fn write_batch_faults<W: Write>(
 
 /// Reports the fault of one command, if there is one, and returns the status of the program.
 ///
-/// The status is 0 if nothing was refused and nothing failed, 2 if the arguments were no command, 1 otherwise. If the
-/// report cannot be written, the status is the same.
+/// The status is 0 if nothing was refused and nothing failed, 2 if the arguments were not a command, 1 otherwise. If
+/// the report cannot be written, the status is the same.
 pub fn report_command<W: Write>(err: &mut W, end: Result<(), TaskFault>) -> u8
     ensures status { result ≡ single_status end }
     ensures told { Tells (W.contents err.old) (W.contents err.new) (report_if USAGE.now (result_err end)) }

@@ -28,7 +28,7 @@ pub enum TaskFault {
     CannotWrite,
 }
 
-// Converts the fault of arguments that are no command.
+// Converts the fault of arguments that are not a command.
 impl From<LineFault> for TaskFault {
     ghost use Rattle.std.specs.Prelude.{◌≡◌};
     ghost use Rattle.rrd_tool.specs.declared.faults.Fault.TheVariants.{Line};
@@ -68,7 +68,7 @@ impl TaskFault {
         }
     }
 
-    /// Checks whether the arguments were no command. The usage text follows the line of such a fault.
+    /// Checks whether the arguments were not a command. The usage text follows the line of such a fault.
     pub(crate) fn is_usage_error(self) -> bool
         ensures { result ≡ is_usage_error self }
     {
@@ -83,7 +83,8 @@ fn write_line<W: Write>(err: &mut W, fault: &TaskFault) -> Result<(), WriteFault
     write_error(err, fault.text().as_str())
 }
 
-/// Writes the line of a fault: `ERROR: `, the message and LF. The usage text follows if the arguments were no command.
+/// Writes the line of a fault: `ERROR: `, the message and LF. The usage text follows if the arguments were not a
+/// command.
 ///
 /// # Errors
 ///

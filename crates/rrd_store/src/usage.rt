@@ -2,7 +2,7 @@
 
 /// The usage text of the program.
 ///
-/// The program prints this text after `ERROR: usage`, if the program's arguments are no command. The version in the
+/// The program prints this text after `ERROR: usage`, if the program's arguments are not a command. The version in the
 /// last line is the version in the file `VERSION`.
 pub const USAGE: &str = "usage: rrdi COMMAND FILE ARGUMENT..
        rrdi batch [FILE]

@@ -11,7 +11,7 @@ pub record StandsAt (file : List ℕ) (at : ℕ) (bytes : List ℕ) : Type 0 whe
 abbrev pub begins_with : List ℕ → List ℕ → Bool
 begins_with file front = starts_with nat_eq file front
 
--- so many bytes, each given by its offset
+-- `count` bytes, each computed from its offset
 abbrev pub bytes_by : (ℕ → ℕ) → ℕ → List ℕ
 bytes_by byte zero = []
 bytes_by byte (suc n) = bytes_by byte n ++ byte n ∷ []

@@ -12,7 +12,7 @@ use Rattle.rrd_tail.specs.Settled.{old_byte, settled}
 
 -- ---- shapes
 
--- a file's own length never says that a record of its shape is at its end
+-- the length of a database is never a length at which a record of its shape ends
 abbrev pub LengthTells : ℕ → Type 0
 LengthTells n = n % 4096 ≢ size_of (shape_for n)
 
@@ -27,11 +27,11 @@ CutMarkIsRead shape file = StandsAt file 0 (cut_mark shape) → mark_of file ≡
 abbrev pub UndoMarkIsRead : ℕ → List ℕ → Type 0
 UndoMarkIsRead tail file = tail < 2 ^ 64 → StandsAt file 0 (undo_mark tail) → mark_of file ≡ Some (Undo tail)
 
--- a mark that is read is there
+-- a mark that is read is in the file
 abbrev pub MarkStands : Mark → List ℕ → Type 0
 MarkStands mark file = mark_of file ≡ Some mark → StandsAt file 0 (mark_bytes mark)
 
--- the first sixteen bytes say the mark
+-- the first sixteen bytes determine the mark
 abbrev pub FrontSaysMark : List ℕ → Type 0
 FrontSaysMark file = mark_of (take 16 file) ≡ mark_of file
 
@@ -40,24 +40,24 @@ FrontSaysMark file = mark_of (take 16 file) ≡ mark_of file
 abbrev pub RecordIsRead : ℕ → Record → List ℕ → Type 0
 RecordIsRead at r file = at < 2 ^ 64 → length r.first ≡ 16 → IsRightAt at r → StandsAt file at (record_bytes r) → record_at file at ≡ Some r
 
--- a record that is read is there, and right
+-- a record that is read is in the file, and right
 abbrev pub RecordStands : ℕ → Record → List ℕ → Type 0
 RecordStands at r file = record_at file at ≡ Some r → StandsAt file at (record_bytes r) × IsRightAt at r × (length r.first ≡ 16)
 
 abbrev pub NoRecordPastTheEnd : ℕ → List ℕ → Type 0
 NoRecordPastTheEnd at file = length file < at + 64 → record_at file at ≡ None
 
--- a record at a file's end, in the shape for its length, is the last one
+-- a record at the end of a file, in the shape for its length, is the last record
 abbrev pub LastRecordIsRead : Shape → ℕ → Record → List ℕ → Type 0
 LastRecordIsRead shape at r file =
     length file ≡ at + size_of shape → IsRightAt at r → record_at file at ≡ Some r → shape_for r.length ≡ shape
     → last_record shape file ≡ Some r
 
--- a file whose length does not say so has no last record
+-- a file whose length is not that of a file with a record has no last record
 abbrev pub NoLastRecord : Shape → List ℕ → Type 0
 NoLastRecord shape file = length file % 4096 ≢ size_of shape → last_record shape file ≡ None
 
--- a last record that is read is where the length says, in the shape for its own length
+-- a last record that is read is at the offset that the length gives, in the shape for its own length
 abbrev pub LastRecordStands : Shape → Record → List ℕ → Type 0
 LastRecordStands shape r file =
     last_record shape file ≡ Some r
@@ -77,7 +77,7 @@ SlotsAreInOrder tail file = AreSlots tail file (slots_in tail file)
 abbrev pub OnlySlots : ℕ → List ℕ → List Slot → Type 0
 OnlySlots tail file slots = AreSlots tail file slots → slots_in tail file ≡ slots
 
--- a slot that is read is there, and right
+-- a slot that is read is in the file, and right
 abbrev pub SlotStands : ℕ → ℕ → Slot → List ℕ → Type 0
 SlotStands tail i s file = slot_at tail file i ≡ Some s → StandsAt file (slot_offset tail i) (slot_bytes tail s) × IsRightSlot tail s
 
@@ -85,22 +85,22 @@ abbrev pub SlotIsRead : ℕ → ℕ → Slot → List ℕ → Type 0
 SlotIsRead tail i s file =
     tail < 2 ^ 64 → IsRightSlot tail s → StandsAt file (slot_offset tail i) (slot_bytes tail s) → slot_at tail file i ≡ Some s
 
--- the offset behind a file's slots
+-- the offset after a file's slots
 abbrev pub next_offset : ℕ → List ℕ → ℕ
 next_offset tail file = slot_offset tail (length (slots_in tail file))
 
--- a file that has the bytes of another one, and perhaps more behind them
+-- a file that begins with the bytes of another file, and may have more bytes after them
 abbrev pub Continues : List ℕ → List ℕ → Type 0
 Continues file new = (k : ℕ) → k < length file → slice_index new k ≡ slice_index file k
 
--- a slot that is put at the next offset, whatever the bytes before it, is one more
+-- a slot that is written at the next offset is one more slot, whatever the bytes there were
 abbrev pub SlotIsAppended : ℕ → Slot → List ℕ → List ℕ → Type 0
 SlotIsAppended tail s file new =
     tail < 2 ^ 64 → IsRightSlot tail s → length file ≤ next_offset tail file → Continues file new
     → StandsAt new (next_offset tail file) (slot_bytes tail s) → length new ≡ next_offset tail file + length (slot_bytes tail s)
     → slots_in tail new ≡ slots_in tail file ++ s ∷ []
 
--- a slot that is cut short is none
+-- an incomplete slot is not a slot
 abbrev pub CutSlotIsNotCounted : ℕ → Slot → List ℕ → List ℕ → Type 0
 CutSlotIsNotCounted tail s file new =
     tail < 2 ^ 64 → IsRightSlot tail s → length file ≤ length new → Continues file new
@@ -108,7 +108,7 @@ CutSlotIsNotCounted tail s file new =
     → ((i : ℕ) → next_offset tail file + i < length new → slice_index new (next_offset tail file + i) ≡ slice_index (slot_bytes tail s) i)
     → slots_in tail new ≡ slots_in tail file
 
--- zeros in place of a header are no slot, whatever follows
+-- zeros instead of a header are not a slot, whatever follows
 abbrev pub ZerosEndSlots : ℕ → List ℕ → List ℕ → Type 0
 ZerosEndSlots tail file new =
     length file ≤ length new → length file ≤ next_offset tail file → Continues file new
@@ -119,19 +119,19 @@ abbrev pub SlotsStay : ℕ → List ℕ → List ℕ → Type 0
 SlotsStay tail file new =
     length new ≡ length file → ((k : ℕ) → tail + 128 ≤ k → slice_index new k ≡ slice_index file k) → slots_in tail new ≡ slots_in tail file
 
--- a file that ends where the slots begin has none
+-- a file that ends at the offset of the first slot has no slot
 abbrev pub NoSlotsBelow : ℕ → List ℕ → Type 0
 NoSlotsBelow tail file = length file ≤ tail + 128 → slots_in tail file ≡ []
 
--- ---- what a file stands for
+-- ---- the bytes that a file represents
 
--- so many bytes of a file under its mark
+-- `count` bytes of a file, with the bytes that the mark replaced
 pub record IsUnmarked (file : List ℕ) (count : ℕ) (bytes : List ℕ) : Type 0 where
   pub len : length bytes ≡ count
   pub front : (k : ℕ) → k < 4 → k < count → slice_index bytes k ≡ slice_index database_mark k
   pub behind : (k : ℕ) → 4 ≤ k → k < count → slice_index bytes k ≡ slice_index file k
 
--- what a file was, by a record and slots
+-- the old bytes of a file, from a record and slots
 pub record IsUndone (r : Record) (slots : List Slot) (file bytes : List ℕ) : Type 0 where
   pub len : length bytes ≡ r.length
   pub each : (k : ℕ) → k < r.length → slice_index bytes k ≡ old_byte r slots file k

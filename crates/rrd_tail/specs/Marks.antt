@@ -11,16 +11,17 @@ use Rattle.rrd_tail.specs.Bytes.{begins_with}
 abbrev pub database_mark : List ℕ
 database_mark = codes "RRDI"
 
--- how many bytes a record of each shape takes
+-- the number of bytes of a record of each shape
 abbrev pub size_of : Shape → ℕ
 size_of Short = 64
 size_of Long = 128
 
--- the shape of the record of a file with this length: the length is never a page's multiple and that size
+-- the shape of the record of a file with this length: the length is never a multiple of a page plus the size of this
+-- shape
 abbrev pub shape_for : ℕ → Shape
 shape_for length = if length % 4096 == 64 then Long else Short
 
--- a file that is to be cut: four bytes
+-- the mark of a file that is to be truncated: four bytes
 abbrev pub cut_mark : Shape → List ℕ
 cut_mark Short = codes "RRDC"
 cut_mark Long = codes "RRDc"
@@ -33,7 +34,7 @@ abbrev pub mark_bytes : Mark → List ℕ
 mark_bytes (Cut shape) = cut_mark shape
 mark_bytes (Undo tail) = undo_mark tail
 
--- the offset that bytes spell, if they are an undo mark
+-- the offset that these bytes encode, if they are an undo mark
 abbrev pub spelled_tail : List ℕ → ℕ
 spelled_tail file = from_be_bytes w64 (slice_range file 8 16)
 

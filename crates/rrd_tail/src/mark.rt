@@ -24,7 +24,7 @@ pub enum Shape {
 /// The state of a file that begins with a mark.
 #[derive(Clone, Copy, PartialEq, Eq, Debug, Drop)]
 pub enum Mark {
-    /// The file is to be cut to the length in a record of this shape, if the file ends with one.
+    /// The file is to be truncated to the length in a record of this shape, if the file ends with one.
     Cut(Shape),
     /// The file's tail, which has the old bytes, begins at this byte.
     Undo(usize),
@@ -52,7 +52,7 @@ impl Shape {
         }
     }
 
-    /// Returns the mark of a file that is to be cut and may end with a record of this shape.
+    /// Returns the mark of a file that is to be truncated and may end with a record of this shape.
     pub fn cut_mark(self) -> [u8; 4]
         ensures { result ≡ marks.cut_mark self }
     {

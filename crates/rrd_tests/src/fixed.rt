@@ -87,7 +87,7 @@ const RATES: &[(Kind, &str, &str, u64, Option<i128>, Cell)] = &[
 #[test]
 fn rates(rt: HostRuntime) {
     for (kind, old, new, interval, max, wanted) in RATES {
-        assert!(rt; 1 <= *interval && *interval <= 10_000_000_000);
+        assert!(rt; 1 <= *interval && *interval <= 10_000_000_000, "{interval}");
         let (old, new) = (raw_of(*kind, old), raw_of(*kind, new));
         let found = rate(*kind, old, new, *interval, 600, None, *max);
         assert_eq!(rt; found, *wanted, "{old:?} to {new:?} in {interval}");
@@ -313,7 +313,7 @@ fn cells(rt: HostRuntime) -> Result<(), Fail> {
         let mut out = Vec::new(rt.alloc());
         assert!(rt; write_cell(&mut out, *cell).is_ok(), "{wanted}");
         assert_eq!(rt; out.as_slice(), wanted.as_bytes(), "{wanted}");
-        assert_eq!(rt; cell_string(*cell).as_str(), *wanted);
+        assert_eq!(rt; cell_string(*cell).as_str(), *wanted, "{cell:?}");
     }
     Ok(())
 }
@@ -337,7 +337,11 @@ fn raws(rt: HostRuntime) -> Result<(), Fail> {
         let mut out = Vec::new(rt.alloc());
         assert!(rt; write_raw(&mut out, *kind, *raw).is_ok(), "{wanted}");
         assert_eq!(rt; out.as_slice(), wanted.as_bytes(), "{wanted}");
-        assert_eq!(rt; raw_string(*kind, *raw).as_str(), *wanted);
+        assert_eq!(rt;
+            raw_string(*kind, *raw).as_str(),
+            *wanted,
+            "{kind:?} {raw:?}"
+        );
     }
     Ok(())
 }
@@ -348,7 +352,7 @@ fn times(rt: HostRuntime) -> Result<(), Fail> {
         let mut out = Vec::new(rt.alloc());
         assert!(rt; write_time(&mut out, seconds).is_ok(), "{wanted}");
         assert_eq!(rt; out.as_slice(), wanted.as_bytes(), "{wanted}");
-        assert_eq!(rt; time_string(seconds).as_str(), wanted);
+        assert_eq!(rt; time_string(seconds).as_str(), wanted, "{seconds}");
     }
     Ok(())
 }
@@ -373,7 +377,7 @@ fn names(rt: HostRuntime) {
             continue;
         };
         assert_eq!(rt; name.good(), *good, "{text}");
-        assert_eq!(rt; name.as_str(), *text);
+        assert_eq!(rt; name.as_str(), *text, "{text}");
         assert!(rt; name.same(&name.duplicate()), "{text}");
     }
 }

@@ -181,7 +181,10 @@ fn rows_are_put_round_the_end(rt: HostRuntime) -> Result<(), Fail> {
     for (first, cells, rows) in PUT {
         let mut archive = pushed_to_ten(&rt, alloc)?;
         let count = cells.len() as u64;
-        assert!(&rt; *first < archive.rows() && count <= archive.rows());
+        assert!(&rt;
+            *first < archive.rows() && count <= archive.rows(),
+            "{count} from {first}"
+        );
         archive.write_rows_wrapping(*first, count, cells);
         assert_rows(&rt, &archive, rows);
     }
@@ -202,7 +205,10 @@ fn rows_become_unknown_round_the_end(rt: HostRuntime) -> Result<(), Fail> {
     let alloc = rt.alloc();
     for (first, count, rows) in FORGOTTEN {
         let mut archive = pushed_to_ten(&rt, alloc)?;
-        assert!(&rt; *first < archive.rows() && *count <= archive.rows());
+        assert!(&rt;
+            *first < archive.rows() && *count <= archive.rows(),
+            "{count} from {first}"
+        );
         archive.clear_rows_wrapping(*first, *count);
         assert_rows(&rt, &archive, rows);
     }
@@ -227,7 +233,7 @@ fn rows_are_written_from_one_on(rt: HostRuntime) -> Result<(), Fail> {
 fn assert_runs<T: Table>(rt: &impl Abort, rows: &T, runs: &[&[Cell]]) {
     let mut first = 0;
     for cells in runs {
-        assert!(rt; first < rows.count());
+        assert!(rt; first < rows.count(), "from {first}");
         let (count, lent) = rows.together(first, rows.count() - first);
         assert_eq!(rt; lent, *cells, "from {first}");
         assert_eq!(rt; count, cells.len() as u64, "from {first}");
@@ -265,8 +271,8 @@ fn wider_rows_are_lent_as_asked(rt: HostRuntime) -> Result<(), Fail> {
         (2, 1, &[FIVE, SIX]),
     ] {
         let (count, lent) = archive.contiguous_rows(first, most);
-        assert_eq!(&rt; count, most);
-        assert_eq!(&rt; lent, cells);
+        assert_eq!(&rt; count, most, "{most} from {first}");
+        assert_eq!(&rt; lent, cells, "{most} from {first}");
     }
     Ok(())
 }

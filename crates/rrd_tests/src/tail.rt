@@ -47,7 +47,7 @@ fn marks(rt: HostRuntime) {
     assert_eq!(&rt; Shape::Long.cut_mark(), *b"RRDc");
     assert_eq!(&rt; undo_mark(0x12000), *UNDO);
     for (front, mark) in MARKS {
-        assert_eq!(&rt; read_mark(front), *mark);
+        assert_eq!(&rt; read_mark(front), *mark, "{front:?}");
     }
 }
 
@@ -61,7 +61,7 @@ const RECORD: [u8; 64] = [
 #[test]
 fn a_record(rt: HostRuntime) {
     let record = Record {
-        place: 65_536,
+        offset: 65_536,
         length: 4_160,
         first: [
             b'R', b'R', b'D', b'I', 20, 21, 22, 23, 24, 25, 26, 27, 28, 29, 30, 31,
@@ -87,7 +87,7 @@ fn a_slot(rt: HostRuntime) {
     slot[..32].copy_from_slice(&HEADER);
     slot[32..58].copy_from_slice(KEPT);
     let header = SlotHeader {
-        place: 16,
+        offset: 16,
         count: 26,
     };
     assert_eq!(&rt; read_slot(65_536, &slot), Some(header));

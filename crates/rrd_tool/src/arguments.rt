@@ -1,4 +1,4 @@
-//! Arguments as clap takes them, and words as it parses them.
+//! The arguments as clap takes them, and the words as clap parses them.
 ghost use Rattle.std.specs.Prelude.{◌≡◌, IfOk, false, map, option_map};
 ghost use Rattle.clap.specs.Words.{App, all_of, app_of, first_of, found_of, rows_of, rule_of};
 ghost use Rattle.rrd_tool.specs.Arguments.Shapes.{HasApp, IsParsedBy, Serves, app_with};
@@ -9,7 +9,7 @@ use clap::error::ErrorKind;
 use clap::{Arg, ArgAction, ArgMatches};
 use std::alloc::{AllocError, Global};
 
-/// `--long VALUE`.
+/// Returns the shape of an option `--long VALUE`.
 pub(crate) fn option_arg<'a>(alloc: Global, id: &'a str, long: &'a str) -> Arg<'a>
     ensures rule { rule_of result ≡ option_rule id.entry.now long.entry.now }
     ensures local { result.global ≡ false }
@@ -17,7 +17,7 @@ pub(crate) fn option_arg<'a>(alloc: Global, id: &'a str, long: &'a str) -> Arg<'
     Arg::new(alloc, id).long(long)
 }
 
-/// `--long VALUE` or `-letter VALUE`.
+/// Returns the shape of an option `--long VALUE` or `-letter VALUE`.
 pub(crate) fn letter_arg<'a>(alloc: Global, id: &'a str, long: &'a str, letter: char) -> Arg<'a>
     ensures rule { rule_of result ≡ letter_rule id.entry.now long.entry.now letter }
     ensures local { result.global ≡ false }
@@ -25,7 +25,7 @@ pub(crate) fn letter_arg<'a>(alloc: Global, id: &'a str, long: &'a str, letter: 
     Arg::new(alloc, id).long(long).short(letter)
 }
 
-/// A word that has to be there.
+/// Returns the shape of a required word.
 pub(crate) fn required_arg<'a>(alloc: Global, id: &'a str) -> Arg<'a>
     ensures rule { rule_of result ≡ required_rule id.entry.now }
     ensures local { result.global ≡ false }
@@ -33,7 +33,7 @@ pub(crate) fn required_arg<'a>(alloc: Global, id: &'a str) -> Arg<'a>
     Arg::new(alloc, id).required(true)
 }
 
-/// A word that may be there.
+/// Returns the shape of an optional word.
 pub(crate) fn word_arg<'a>(alloc: Global, id: &'a str) -> Arg<'a>
     ensures rule { rule_of result ≡ word_rule id.entry.now }
     ensures local { result.global ≡ false }
@@ -41,7 +41,7 @@ pub(crate) fn word_arg<'a>(alloc: Global, id: &'a str) -> Arg<'a>
     Arg::new(alloc, id)
 }
 
-/// Any number of words.
+/// Returns the shape of any number of words.
 pub(crate) fn many_arg<'a>(alloc: Global, id: &'a str) -> Arg<'a>
     ensures rule { rule_of result ≡ many_rule id.entry.now }
     ensures local { result.global ≡ false }
@@ -49,7 +49,7 @@ pub(crate) fn many_arg<'a>(alloc: Global, id: &'a str) -> Arg<'a>
     Arg::new(alloc, id).action(ArgAction::Append)
 }
 
-/// The command without its subcommands.
+/// Returns the shape of the program without subcommands.
 pub(crate) fn bare_command<'a>(alloc: Global) -> clap::Command<'a>
     ensures { HasApp bare_top result }
 {
@@ -59,7 +59,7 @@ pub(crate) fn bare_command<'a>(alloc: Global) -> clap::Command<'a>
         .disable_help_subcommand(true)
 }
 
-/// The command with just this subcommand.
+/// Returns the shape of the program with only this subcommand.
 pub(crate) fn command_with<'a>(
     alloc: Global,
     sub: clap::Command<'a>,
@@ -69,7 +69,8 @@ pub(crate) fn command_with<'a>(
     bare_command(alloc).subcommand(sub)
 }
 
-/// What clap makes of the words, by a command that takes and refuses them as the one of all subcommands does.
+/// Parses words with clap. The shape with one subcommand accepts and refuses the same words as the shape with all
+/// subcommands.
 pub(crate) fn parse<'a>(
     command: clap::Command<'a>,
     words: &'a Words<'_>,
@@ -89,14 +90,14 @@ pub(crate) fn parse<'a>(
     }
 }
 
-/// The value of an argument.
+/// Returns the value of an argument.
 pub(crate) fn text_of<'a>(matches: &ArgMatches<'a>, id: &str) -> Option<&'a str>
     ensures { option_map (λ s. s.now) result ≡ first_of id.now (rows_of (found_of matches.now)) }
 {
     matches.get_str(id)
 }
 
-/// All values of an argument.
+/// Returns all values of an argument.
 pub(crate) fn texts_of<'b, 'a>(matches: &'b ArgMatches<'a>, id: &str) -> Option<&'b [&'a str]>
     ensures { option_map (λ s. map (λ v. v.now) s.now) result ≡ all_of id.now (rows_of (found_of matches.entry.now)) }
 {

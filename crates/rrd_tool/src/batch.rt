@@ -1,4 +1,4 @@
-//! A batch: each line of an input is run, and what it prints or its fault is written.
+//! A batch: runs each line of an input, and writes the output or the fault of the line.
 ghost use Rattle.std.specs.Prelude.{◌≡◌, ◌<◌, ◌≤◌, ◌+◌, ◌^◌, ◌∷◌, ◌++◌, [], ℕ, false, List, Option, OnOk, IfSome, true, length, option_map};
 ghost use Rattle.std.specs.List.{list_all};
 ghost use Rattle.std.specs.Result.{result_err};
@@ -22,49 +22,49 @@ use rrd_fixed::{WriteFault, flush, read_some};
 use std::alloc::Global;
 use std::io::{Read, Write};
 
-/// The most bytes that are read at once. They are on the stack, of which a library may have little.
+/// The maximum number of bytes of one read. The bytes are on the stack, of which a library may have little.
 const CHUNK: usize = 8_192;
 
-/// Why a batch ended before its input did.
+/// The reason why a batch ended before its input.
 #[derive(Clone, Copy, Debug, PartialEq, Eq)]
 pub enum StreamFault {
-    /// A write failed: the run ended with the line that was being answered.
+    /// A write failed: the run ended with the line whose text was being written.
     Write,
-    /// A read failed, or there were 2^40: an unfinished line wasn't run.
+    /// A read failed, or there were 2^40 reads: an unfinished line was not run.
     Read,
-    /// There was no memory for a line, or for the numbers of the refused lines: nothing was read or written.
+    /// Memory ran out for a line, or for the numbers of the refused lines: nothing was read or written.
     OutOfMemory,
 }
 
-/// How a batch ended.
+/// The end of a batch.
 #[derive(Drop)]
 pub struct BatchEnd {
     /// The database after the lines that were run.
     pub database: Option<Database>,
-    /// How many fault lines were written whole.
+    /// The number of fault lines that were written completely.
     pub refused: u64,
-    /// The numbers of the lines that these answer, in order, as many as were asked for: the first line of the input
-    /// is 1, and lines without words count too.
+    /// The numbers of the refused lines, in order, as many as were requested. The first line of the input is 1, and
+    /// lines without words count too.
     pub lines: Vec<u64>,
-    /// Why the batch ended before its input did.
+    /// The reason why the batch ended before its input.
     pub stream: Option<StreamFault>,
 }
 
-// What stays over a batch: where memory comes from, and the present time.
+// The values that stay the same during a batch: the allocator, and the present time.
 #[derive(Clone, Copy)]
 struct Context {
     alloc: Global,
     now: u64,
 }
 
-// What moves: the database, and which lines were refused.
+// The values that change during a batch: the database, and the refused lines.
 #[derive(Drop)]
 struct Batch {
     database: Option<Database>,
     refusals: Refusals,
 }
 
-// What a line's text asks for; nothing where it has no words.
+// Parses the text of a line. Returns `None` if the line has no words.
 fn request(context: Context, text: Option<&[u8]>) -> Result<Option<Command>, LineFault>
     requires { IfSome text (λ bytes. list_all is_plain bytes.now ≡ true) }
     ensures { (line : List ℕ) → option_map (λ bytes. bytes.now) text.entry ≡ text_in line
@@ -81,7 +81,7 @@ fn request(context: Context, text: Option<&[u8]>) -> Result<Option<Command>, Lin
     Ok(Some(command))
 }
 
-// Runs a command. A command that changes the database prints nothing; what the others printed is handed on.
+// Runs a command. A command that changes the database prints nothing; the output of any other command is flushed.
 fn run_command<W: Write>(
     alloc: Global,
     database: &mut Option<Database>,
@@ -113,7 +113,7 @@ fn run_command<W: Write>(
     }
 }
 
-// Performs a line: its text is written, or its fault answered.
+// Runs a line: writes its text, or returns its fault.
 fn perform<W: Write>(
     context: Context,
     database: &mut Option<Database>,
@@ -131,7 +131,7 @@ fn perform<W: Write>(
     }
 }
 
-// Answers a line: its text or its fault's line is written and handed on.
+// Runs a line, and writes and flushes its text or the line of its fault.
 fn answer<W: Write>(
     context: Context,
     batch: &mut Batch,
@@ -154,7 +154,7 @@ fn answer<W: Write>(
     flush(out)
 }
 
-// Takes the bytes of a line up to its LF, and answers it. What stands whole in the bytes isn't copied.
+// Takes the bytes of a line up to its LF, and runs the line. Does not copy a line that is complete in the bytes.
 fn take_line<W: Write>(
     context: Context,
     batch: &mut Batch,
@@ -179,7 +179,7 @@ fn take_line<W: Write>(
     Ok(())
 }
 
-// Takes the bytes, and answers each line that is whole.
+// Takes the bytes, and runs each complete line.
 fn feed<W: Write>(
     context: Context,
     batch: &mut Batch,
@@ -203,7 +203,7 @@ fn feed<W: Write>(
     Ok(())
 }
 
-// Answers each line that the reader gives.
+// Runs each line of the reader.
 fn run_lines<R: Read, W: Write>(
     context: Context,
     batch: &mut Batch,
@@ -242,13 +242,12 @@ fn run_lines<R: Read, W: Write>(
     Err(StreamFault::Read)
 }
 
-/// Runs each line of the reader over the database: what it prints, or its fault's line, is written
-/// and handed on before the next line is run. LF ends a line, a CR right before it is dropped, and a
-/// last line without LF counts; spaces and tabs part words, and a line without words is skipped. A
-/// line over 65,536 bytes, or with a byte that is neither tab nor printable ASCII, is the usage
-/// fault. Takes 65,536 bytes for a line and 8 for each of the `numbered` numbers of refused lines that are kept at most,
-/// before it reads, and no memory for them later; reads at most 8,192 bytes at once, and at
-/// most 2^40 times. `now` is the present time in seconds since 1970.
+/// Runs each line of the reader on the database. Writes and flushes the output of a line, or the line of its fault,
+/// before the next line runs. LF ends a line, a CR directly before the LF is dropped, and a last line without LF
+/// counts. Spaces and tabs separate words, and a line without words is skipped. A line of more than 65,536 bytes, or
+/// with a byte that is neither tab nor printable ASCII, is a usage fault. Before reading, allocates 65,536 bytes for a
+/// line, and 8 bytes for each of the at most `numbered` numbers of refused lines; does not allocate for these later.
+/// Reads at most 8,192 bytes at once, and at most 2^40 times. `now` is the present time in seconds since 1970.
 pub fn run_batch<R: Read, W: Write>(
     alloc: Global,
     database: Option<Database>,

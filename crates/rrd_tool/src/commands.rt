@@ -45,7 +45,7 @@ pub enum Command {
         change: Change,
         rows: u64,
     },
-    /// Prints the rows that the request asks for (rrdfetch).
+    /// Prints the requested rows (rrdfetch).
     Fetch(FetchRequest),
     /// Prints the time of the oldest row of the archive with the number `archive` (rrdfirst).
     First {
@@ -97,7 +97,7 @@ impl CommandName {
     }
 }
 
-// Returns the name of the command that the words begin with; `None` if the first word is no command's name.
+// Returns the name of the command at the start of the words; `None` if the first word is not the name of a command.
 fn name_of(words: &Words) -> Option<CommandName>
     ensures { result ≡ first_name words.now }
 {
@@ -128,7 +128,7 @@ fn read_entered(
 ///
 /// # Errors
 ///
-/// - `Usage` if clap refuses the words, also if they ask for help.
+/// - `Usage` if clap refuses the words, or the words request help.
 /// - `BadWord` for the first part that cannot be parsed, in this order: of create step, start, journal, definitions; of
 ///   update template, samples; of tune heartbeat, minimum, maximum, type, rename, the archive's definition; of resize
 ///   archive, change, rows; of fetch function, resolution, start, end; of first archive.

@@ -1,4 +1,4 @@
-//! Running a command.
+//! Runs commands.
 ghost use Rattle.std.specs.Prelude.{◌≡◌, ℕ, List, Option, Some, None};
 ghost use Rattle.rrd_spec.specs.Journal.Survivors.{State};
 ghost use Rattle.rrd_fixed.specs.Written.{Writes};
@@ -14,14 +14,15 @@ use rrd_spec::laws;
 use std::alloc::Global;
 use std::io::Write;
 
-/// What a command came to.
+/// The outcome of a command.
 #[derive(Drop)]
 pub enum Outcome {
-    /// It is one that prints, and was done: its text was written. The database stays.
+    /// The command prints, and succeeded: its text was written. The database is unchanged.
     Printed(Database),
-    /// It was done, and changed the database or made it. It prints nothing.
+    /// The command succeeded, and changed or created the database. It prints nothing.
     Changed(Database),
-    /// It wasn't done, and the database stays; or `Output`: it was done, and a write of its text failed.
+    /// The command failed, and the database is unchanged; or `Output`: the command was done, but a write of its text
+    /// failed.
     Refused {
         database: Option<Database>,
         fault: Fault,
@@ -31,7 +32,7 @@ pub enum Outcome {
 impl Outcome {
     ghost use Rattle.std.specs.Prelude.{List, Option, ℕ};
 
-    /// What a command comes to that prints.
+    /// Returns the outcome of a command that prints.
     pub(crate) fn of_text(database: Database, written: Result<(), WriteFault>) -> Outcome
         ensures { (c0 : Option (List ℕ)) → (c1 : Option (List ℕ)) → (text : List ℕ)
             → Writes c0 c1 text written → Prints database c0 c1 text result }
@@ -46,10 +47,9 @@ impl Outcome {
     }
 }
 
-/// Runs a command and writes what it prints. Without a database every command but create is
-/// refused. A create that is accepted replaces the database; a refused command leaves it and writes
-/// nothing. `Fault::Output` comes where a write failed: the command was done, and a front of its
-/// text is written.
+/// Runs a command and writes its output. Without a database every command except create is refused. An accepted create
+/// replaces the database. A refused command leaves the database unchanged and writes nothing. `Fault::Output` means
+/// that a write failed: the command was done, and a first part of its text is written.
 pub fn execute<W: Write>(
     alloc: Global,
     database: Option<Database>,

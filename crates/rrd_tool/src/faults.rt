@@ -1,4 +1,4 @@
-//! Why a line is refused, and the line that says so.
+//! The reasons why a line is refused, and the line that reports a reason.
 ghost use Rattle.std.specs.Prelude.{◌≡◌, ◌≤◌, length};
 ghost use Rattle.rrd_fixed.specs.Written.{Writes};
 ghost use Rattle.rrd_tool.specs.Faults.{error_line, fault_line, fault_text, is_numbered, line_fault_text, unread_text, word_of};
@@ -11,7 +11,7 @@ use std::alloc::AllocError;
 use std::io::Write;
 use thiserror::Error;
 
-/// What a word is a part of, or stands for.
+/// The parts of a command that may be unreadable.
 #[derive(Clone, Copy, Debug, PartialEq, Eq)]
 pub enum Part {
     /// The step of a create: `step`.
@@ -28,9 +28,9 @@ pub enum Part {
     Sample,
     /// A source's new heartbeat: `heartbeat`.
     Heartbeat,
-    /// A source's new least rate: `minimum`.
+    /// A data source's new minimum rate: `minimum`.
     Minimum,
-    /// A source's new greatest rate: `maximum`.
+    /// A data source's new maximum rate: `maximum`.
     Maximum,
     /// A source's new type: `type`.
     Class,
@@ -40,7 +40,7 @@ pub enum Part {
     Archive,
     /// GROW or SHRINK: `change`.
     Change,
-    /// How many rows come or go: `rows`.
+    /// The number of rows to add or remove: `rows`.
     Rows,
     /// A consolidation function: `function`.
     Function,
@@ -51,7 +51,7 @@ pub enum Part {
 }
 
 impl Part {
-    /// The part's name, as faults print it.
+    /// Returns the name of the part, as faults print it.
     pub fn word(self) -> &'static str
         ensures { result.now ≡ word_of self }
     {
@@ -76,7 +76,7 @@ impl Part {
         }
     }
 
-    // Whether a command may have several of these parts, so that faults print the number too.
+    // Returns whether a command may have several of these parts, so that faults print the number too.
     fn is_numbered(self) -> bool
         ensures { result ≡ is_numbered self }
     {
@@ -84,20 +84,19 @@ impl Part {
     }
 }
 
-/// Why words are no command.
+/// The reason why words are not a command.
 #[derive(Clone, Copy, Debug, PartialEq, Eq, Error)]
 #[error("{}", self.text().as_str())]
 pub enum LineFault {
     /// clap refuses the words.
     Usage,
-    /// This part can't be read. Definitions and samples are numbered from 1; the number of another
-    /// part is 1.
+    /// This part cannot be read. Definitions and samples are numbered from 1; the number of any other part is 1.
     BadWord { part: Part, number: u64 },
-    /// There was no memory for reading the words.
+    /// Memory ran out while the words were read.
     OutOfMemory,
 }
 
-// A growth was refused.
+// A failed allocation becomes `OutOfMemory`.
 impl From<AllocError> for LineFault {
     ghost use Rattle.std.specs.Prelude.{◌≡◌};
     ghost use Rattle.rrd_tool.specs.declared.faults.LineFault.TheVariants.{OutOfMemory};
@@ -110,7 +109,7 @@ impl From<AllocError> for LineFault {
 }
 
 impl LineFault {
-    /// The text that says why, as faults print it: at most 60 bytes.
+    /// Returns the text of the reason, as faults print it: at most 60 bytes.
     pub fn text(self) -> ArrayString<96>
         ensures text { result.bytes ≡ line_fault_text self }
         ensures short { length result.bytes ≤ 60 }
@@ -123,7 +122,7 @@ impl LineFault {
     }
 }
 
-// The text of a part that can't be read.
+// Returns the text of an unreadable part.
 fn unread_string(part: Part, number: u64) -> ArrayString<96>
     ensures text { result.bytes ≡ unread_text part number }
     ensures short { length result.bytes ≤ 60 }
@@ -138,22 +137,22 @@ fn unread_string(part: Part, number: u64) -> ArrayString<96>
     text
 }
 
-/// Why a command wasn't done, or not whole.
+/// The reason why a command failed, or its output is incomplete.
 #[derive(Clone, Copy, Debug, PartialEq, Eq, Error)]
 #[error("{}", self.text().as_str())]
 pub enum Fault {
-    /// The words are no command.
+    /// The words are not a command.
     Line(LineFault),
     /// The database refused the command.
     Refused(Refusal),
-    /// There is no database.
+    /// A command needs a database, and there is none.
     NoDatabase,
     /// The command was done, but a write of its text failed.
     Output,
 }
 
 impl Fault {
-    /// The text that says why, without the mark before it: at most 60 bytes.
+    /// Returns the text of the reason, without `ERROR: `: at most 60 bytes.
     pub fn text(self) -> ArrayString<96>
         ensures text { result.bytes ≡ fault_text self }
         ensures short { length result.bytes ≤ 60 }
@@ -167,7 +166,7 @@ impl Fault {
     }
 }
 
-/// Writes a line that says why: `ERROR: `, a text of at most 60 bytes, and LF.
+/// Writes the line of a reason: `ERROR: `, a text of at most 60 bytes, and LF.
 pub fn write_error<W: Write>(out: &mut W, text: &str) -> Result<(), WriteFault>
     requires { length text.now ≤ 60 }
     ensures { Writes (W.contents out.old) (W.contents out.new) (error_line text.now) result }

@@ -1,4 +1,4 @@
-//! What texts stand for, and the parts of a command that are read from them.
+//! Parses texts as values, and the parts of a command.
 ghost use Rattle.std.specs.Prelude.{◌≡◌, ◌∷◌, ◌<◌, [], IfSome, length, option_map};
 ghost use Rattle.std.specs.Option.{option_map_or};
 ghost use Rattle.rrd_tool.specs.Fields.{bound_of, cut_of, each_in, function_of, function_text, kind_of, kind_text, name_of, named, pieces};
@@ -12,30 +12,30 @@ use rrd_fixed::{Kind, Name, read_number, read_whole};
 use rrd_fold::Function;
 use std::alloc::Global;
 
-/// What a text can stand for.
+/// A value that a text can represent.
 pub(crate) trait Field: Sized {
     ghost use Rattle.std.specs.Prelude.{◌≡◌, List, Option, ℕ};
 
     ghost meaning: { List ℕ → Option Self };
 
-    /// What the text stands for; none if it can't be read so.
+    /// Parses the text. Returns `None` if the text cannot be read as such a value.
     fn read(text: &str) -> Option<Self>
         ensures { result ≡ meaning text.now };
 }
 
-/// What has a word for each of its values.
+/// A type that has a word for each of its values.
 pub(crate) trait Worded: Copy {
     ghost use Rattle.std.specs.Prelude.{◌≡◌, ◌≤◌, List, length, ℕ};
 
     ghost word_of: { Self → List ℕ };
 
-    /// Its word, of at most 16 bytes.
+    /// Returns the word of the value, of at most 16 bytes.
     fn word(self) -> &'static str
         ensures word { result.now ≡ word_of self }
         ensures short { length result.now ≤ 16 };
 }
 
-/// The one of these that has this word.
+/// Returns the value that has this word.
 pub(crate) fn named<T: Worded>(all: &[T], text: &str) -> Option<T>
     ensures { result ≡ named T.word_of all.now text.now }
 {
@@ -47,7 +47,7 @@ pub(crate) fn named<T: Worded>(all: &[T], text: &str) -> Option<T>
     None
 }
 
-/// What was read, or else the fault of that part.
+/// Returns the value that was read, or the fault of the part.
 pub(crate) fn or_fault<T>(part: Part, number: u64, read: Option<T>) -> Result<T, LineFault>
     ensures { Meets (or_fault part number read) result }
 {
@@ -57,7 +57,7 @@ pub(crate) fn or_fault<T>(part: Part, number: u64, read: Option<T>) -> Result<T,
     }
 }
 
-/// A word that has to be there.
+/// Parses a required word.
 pub(crate) fn read_required<T: Field>(part: Part, text: Option<&str>) -> Result<T, LineFault>
     ensures { Meets (required T.meaning part (option_map (λ s. s.now) text.entry)) result }
 {
@@ -67,7 +67,7 @@ pub(crate) fn read_required<T: Field>(part: Part, text: Option<&str>) -> Result<
     }
 }
 
-/// An option, if it is given.
+/// Parses an option, if there is one.
 pub(crate) fn read_optional<T: Field>(
     part: Part,
     text: Option<&str>,
@@ -80,7 +80,7 @@ pub(crate) fn read_optional<T: Field>(
     }
 }
 
-/// An option, or what stands where it isn't given.
+/// Parses an option. Without the option, returns the default.
 pub(crate) fn read_or<T: Field + Drop>(
     part: Part,
     text: Option<&str>,
@@ -94,14 +94,14 @@ pub(crate) fn read_or<T: Field + Drop>(
     }
 }
 
-/// What stands before the first colon, and what behind it.
+/// Returns the text before the first colon, and the text after it.
 pub(crate) fn cut(text: &str) -> Option<(&str, &str)>
     ensures { option_map (λ p. (p.0.now, p.1.now)) result ≡ cut_of text.now }
 {
     text.split_once(':')
 }
 
-// What stands before the first colon, and behind it if there is one.
+// Returns the text before the first colon, and the text after it if there is a colon.
 #[tactic(auto, using(crate::proofs::Pieces::pieces_none, crate::proofs::Pieces::pieces_some))]
 fn first_piece(text: &str) -> (&str, Option<&str>)
     ensures split { pieces text.now ≡ result.0.now ∷ option_map_or (λ rest. pieces rest.now) result.1 [] }
@@ -113,7 +113,7 @@ fn first_piece(text: &str) -> (&str, Option<&str>)
     }
 }
 
-/// What stands between the colons.
+/// Returns the texts between the colons.
 pub(crate) fn read_pieces<T: Field + Drop>(
     alloc: Global,
     part: Part,
@@ -133,7 +133,7 @@ pub(crate) fn read_pieces<T: Field + Drop>(
     Ok(values)
 }
 
-// A whole number.
+// Parses a whole number.
 impl Field for u64 {
     ghost meaning = { whole_of };
 
@@ -142,7 +142,7 @@ impl Field for u64 {
     }
 }
 
-// A source's name.
+// Parses the name of a data source.
 impl Field for Name {
     ghost meaning = { name_of };
 
@@ -151,7 +151,7 @@ impl Field for Name {
     }
 }
 
-/// The types of sources.
+/// The types of data sources, with their words.
 const KINDS: [Kind; 4] = [Kind::Gauge, Kind::Counter, Kind::Derive, Kind::Absolute];
 
 impl Worded for Kind {
@@ -167,7 +167,7 @@ impl Worded for Kind {
     }
 }
 
-// A source's type (rrdcreate, "DS").
+// Parses the type of a data source (rrdcreate, "DS").
 impl Field for Kind {
     ghost meaning = { kind_of };
 
@@ -176,7 +176,7 @@ impl Field for Kind {
     }
 }
 
-/// The consolidation functions.
+/// The consolidation functions, with their words.
 const FUNCTIONS: [Function; 4] = [
     Function::Average,
     Function::Min,
@@ -197,7 +197,7 @@ impl Worded for Function {
     }
 }
 
-// A consolidation function (rrdcreate, "RRA").
+// Parses a consolidation function (rrdcreate, "RRA").
 impl Field for Function {
     ghost meaning = { function_of };
 
@@ -206,7 +206,7 @@ impl Field for Function {
     }
 }
 
-// A bound in millionths; `U` is no bound (rrdcreate, "DS").
+// Parses a bound. Returns millionths; `U` is no bound (rrdcreate, "DS").
 impl Field for Option<i128> {
     ghost meaning = { bound_of };
 

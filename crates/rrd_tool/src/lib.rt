@@ -1,5 +1,5 @@
-//! Commands over a database: read from words, run, printed.
-//! `rrd_tests/src/examples.rt` has a caller of it, from the first call to the last.
+//! Commands on a database: parses words, runs the command, and prints its output. `rrd_tests/src/examples.rt` shows how
+//! to call the crate.
 #![tactic(auto)]
 
 mod arguments;

@@ -7,11 +7,11 @@ use crate::Words;
 use memchr::memchr2;
 use std::alloc::{AllocError, Global};
 
-/// The most bytes of a line, without its end.
+/// The maximum number of bytes of a line, without its end.
 const MAX_LINE: usize = 65_536;
 
-/// What an unfinished line has come to: the plain bytes that are kept, these and a CR behind them, or
-/// that no line that begins so is a text.
+/// The state of an unfinished line: the plain bytes so far; these bytes and a CR after them; or bytes with which no
+/// text begins.
 #[derive(Clone, Copy)]
 pub(crate) enum Ending {
     Plain,
@@ -28,14 +28,14 @@ pub(crate) struct LineBuffer {
     ghost plain: { list_all is_plain bytes.items ≡ true },
 }
 
-// Whether a byte may stand in a line: tab, or printable ASCII.
+// Returns whether a byte is allowed in a line: tab, or printable ASCII.
 fn is_plain(byte: u8) -> bool
     ensures { result ≡ is_plain byte }
 {
     byte == b'\t' || (b' ' <= byte && byte <= b'~')
 }
 
-// Whether each byte may stand in a line. Looks at all of them, several at once, since nearly all lines are plain.
+// Returns whether each byte is allowed in a line. Checks several bytes at once, because nearly all lines are plain.
 fn all_plain(bytes: &[u8]) -> bool
     ensures { result ≡ list_all is_plain bytes.now }
 {
@@ -46,7 +46,7 @@ fn all_plain(bytes: &[u8]) -> bool
     plain
 }
 
-// A text, or none where the bytes are none.
+// Returns the bytes as a text; `None` if the bytes are not a text.
 fn read_text(bytes: &[u8]) -> Option<&[u8]>
     ensures text { option_map (λ text. text.now) result ≡ text_in bytes.now }
     ensures plain { IfSome result (λ text. list_all is_plain text.now ≡ true) }
@@ -57,7 +57,7 @@ fn read_text(bytes: &[u8]) -> Option<&[u8]>
     Some(bytes)
 }
 
-// A line without one CR at its end.
+// Returns a line without one CR at its end.
 fn drop_cr(line: &[u8]) -> &[u8]
     ensures { result.now ≡ without_cr line.now }
 {
@@ -70,8 +70,8 @@ fn drop_cr(line: &[u8]) -> &[u8]
     line
 }
 
-/// The text of a line that came whole, without one CR at its end. None if it is longer than 65,536 bytes or has a byte
-/// that is neither tab nor printable ASCII.
+/// Returns the text of a complete line, without one CR at its end. Returns `None` if the line is longer than 65,536
+/// bytes, or has a byte that is neither tab nor printable ASCII.
 pub(crate) fn text_of_line(line: &[u8]) -> Option<&[u8]>
     ensures text { option_map (λ text. text.now) result ≡ text_in (without_cr line.now) }
     ensures plain { IfSome result (λ text. list_all is_plain text.now ≡ true) }
@@ -83,7 +83,7 @@ impl LineBuffer {
     ghost use Rattle.rrd_tool.specs.Lines.Buffer.{Buffers};
     ghost use Rattle.rrd_tool.specs.declared.lines.Ending.TheVariants.{Plain};
 
-    /// An empty line, with room for 65,536 bytes.
+    /// Creates an empty line with room for 65,536 bytes.
     pub(crate) fn new(alloc: Global) -> Result<LineBuffer, AllocError>
         ensures { IfOk result (λ line. Buffers line []) }
     {
@@ -115,7 +115,7 @@ impl LineBuffer {
         }
     }
 
-    // Adds a byte other than LF behind plain ones.
+    // Adds a byte other than LF after plain bytes.
     fn push_behind_plain(&mut self, byte: u8)
         requires other { byte ≢ 10 }
         requires plain { self.old.ending ≡ Plain }
@@ -138,8 +138,8 @@ impl LineBuffer {
         };
     }
 
-    /// The text of the line that LF ends here, without one CR at its end. None if it is longer than
-    /// 65,536 bytes or has a byte that is neither tab nor printable ASCII.
+    /// Returns the text of the line, which an LF ends, without one CR at its end. Returns `None` if the line is longer
+    /// than 65,536 bytes, or has a byte that is neither tab nor printable ASCII.
     pub(crate) fn whole_line(&self) -> Option<&[u8]>
         ensures text { (unfinished : List ℕ) → Buffers self.now unfinished
             → option_map (λ text. text.now) result ≡ text_in (without_cr unfinished) }
@@ -151,8 +151,8 @@ impl LineBuffer {
         }
     }
 
-    /// The text of the line that the input ends here, without LF: a CR at its end stays, and makes
-    /// it none.
+    /// Returns the text of the line, which the end of the input ends. A CR at the end stays, and the line is then not a
+    /// text.
     pub(crate) fn last_line(&self) -> Option<&[u8]>
         ensures text { (unfinished : List ℕ) → Buffers self.now unfinished
             → option_map (λ text. text.now) result ≡ text_in unfinished }
@@ -164,7 +164,7 @@ impl LineBuffer {
         }
     }
 
-    /// Whether no byte came.
+    /// Returns whether the line has no byte.
     pub(crate) fn is_empty(&self) -> bool
         ensures { (unfinished : List ℕ) → Buffers self.now unfinished → result ≡ is_empty unfinished }
     {
@@ -174,7 +174,7 @@ impl LineBuffer {
         }
     }
 
-    /// Begins a new line.
+    /// Starts a new line.
     pub(crate) fn clear(&mut self)
         ensures { Buffers self.new [] }
     {
@@ -183,7 +183,7 @@ impl LineBuffer {
     }
 }
 
-// Adds a word, if it has a byte.
+// Adds a word, if the word has a byte.
 fn push_word<'a>(words: &mut Words<'a>, word: &'a [u8]) -> Result<(), AllocError>
     requires { list_all is_plain word.now ≡ true }
     ensures ok { OnOk result (words.new ≡ words.old ++ if_some word.entry.now) }
@@ -198,7 +198,7 @@ fn push_word<'a>(words: &mut Words<'a>, word: &'a [u8]) -> Result<(), AllocError
     words.push(text)
 }
 
-/// The words of a text, which spaces and tabs part. A text without words takes no memory.
+/// Returns the words of a text, which spaces and tabs separate. Does not allocate for a text without words.
 pub(crate) fn read_words(alloc: Global, text: &[u8]) -> Result<Words<'_>, AllocError>
     requires { list_all is_plain text.now ≡ true }
     ensures ok { IfOk result (λ words. words ≡ words_of text.now) }

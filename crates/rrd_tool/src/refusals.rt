@@ -1,10 +1,10 @@
-//! The lines of a batch that were refused, by their number.
+//! The numbers of the refused lines of a batch.
 ghost use Rattle.std.specs.Prelude.{◌≤◌, vec_capacity};
 
 use std::alloc::{AllocError, Global};
 
-/// Counts the lines of a batch, and keeps the numbers of those that were refused, as many as have room. Room is taken
-/// once, so counting needs no memory.
+/// Counts the lines of a batch, and keeps the numbers of refused lines, as many as have room. Allocates the room once,
+/// so counting does not allocate.
 #[derive(Drop)]
 pub(crate) struct Refusals {
     most: usize,
@@ -20,7 +20,7 @@ impl Refusals {
     ghost use Rattle.rrd_tool.specs.Batch.{Tally, no_lines, tallied};
     ghost use Rattle.rrd_tool.specs.Batch.Answers.{Tallies};
 
-    /// No line yet, and room for so many numbers.
+    /// Creates a count of no lines, with room for `most` numbers.
     pub(crate) fn new(alloc: Global, most: usize) -> Result<Refusals, AllocError>
         ensures none { IfOk result (λ kept. Tallies most kept no_lines) }
         ensures lines { IfOk result (λ kept. kept.lines ≡ 0) }
@@ -33,7 +33,7 @@ impl Refusals {
         })
     }
 
-    /// Begins a line.
+    /// Counts the next line.
     pub(crate) fn begin_line(&mut self)
         requires { self.old.lines + 1 < 2 ^ 64 }
         ensures tally { (most : ℕ) (t : Tally) → Tallies most self.old t → Tallies most self.new (tallied t false) }
@@ -43,7 +43,7 @@ impl Refusals {
         self.lines += 1;
     }
 
-    /// Counts the line that was begun as refused.
+    /// Counts the present line as refused.
     pub(crate) fn refuse(&mut self)
         requires { self.old.count < self.old.lines }
         ensures tally { (most : ℕ) (t : Tally) → Tallies most self.old (tallied t false) → Tallies most self.new (tallied t true) }

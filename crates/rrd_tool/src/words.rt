@@ -5,8 +5,8 @@ ghost use Rattle.rrd_tool.specs.Arguments.{begins_with_minus};
 use std::alloc::{AllocError, Global};
 use std::marker::Model;
 
-/// The words of one command, in the order in which they were pushed, borrowed from the line or the
-/// arguments that they are in. Contracts see them as the list of their texts.
+/// The words of one command, in the order in which they were pushed. The words are borrowed from the line or the
+/// arguments. Contracts see the words as the list of their texts.
 #[derive(Drop)]
 pub struct Words<'a> {
     items: Vec<&'a str>,
@@ -58,7 +58,7 @@ impl<'a> Words<'a> {
         Some(self.items[0])
     }
 
-    /// The words as clap takes them.
+    /// Returns the words in the form that clap takes.
     pub(crate) fn as_slice(&self) -> &[&'a str]
         ensures { map (λ word. word.now) result.now ≡ self.now }
     {

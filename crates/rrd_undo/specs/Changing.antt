@@ -14,17 +14,17 @@ pub record IsPage (new : List ℕ) (at : ℕ) (page : List ℕ) : Type 0 where
   pub len : length page ≡ min 4096 (length new - at)
   pub each : (i : ℕ) → i < length page → slice_index page i ≡ slice_index new (at + i)
 
--- the file is as it was, and in the pages below `done`, but for the first, it has the new bytes
+-- the file is unchanged, and its pages below `done`, except the first, agree with the new bytes
 pub record Agreeing (old new file : List ℕ) (done : ℕ) : Type 0 where
   pub same : file ≡ old
   pub within : (k : ℕ) → 4096 ≤ k → k < done → k < length new → k < length old
   pub put : (k : ℕ) → 4096 ≤ k → k < done → k < length new → slice_index old k ≡ slice_index new k
 
--- the pages below `done`, but for the first, have the new bytes
+-- the pages below `done`, except the first, have the new bytes
 abbrev pub ArePutBelow : ℕ → List ℕ → List ℕ → Type 0
 ArePutBelow done new file = (k : ℕ) → 4096 ≤ k → k < done → k < length new → slice_index file k ≡ slice_index new k
 
--- what is behind the first page is the old bytes
+-- the bytes after the first page are the old bytes
 abbrev pub StaysBehind : List ℕ → List ℕ → Type 0
 StaysBehind old file = (k : ℕ) → 4096 ≤ k → k < length old → slice_index file k ≡ slice_index old k
 
@@ -36,11 +36,11 @@ Holds Committing old new tail slots file done = ⊥
 Holds Unkept old new tail slots file done = ⊥
 Holds Invalid old new tail slots file done = (IsDatabase old → ⊥) × ArePutBelow done new file
 
--- the file is as it was, or its first page alone was put, and the file has this length
+-- the file is unchanged, or has this length and the old bytes after the first page
 abbrev pub IsFirstPut : List ℕ → ℕ → List ℕ → Type 0
 IsFirstPut old count file = (file ≡ old) ⊎ ((length file ≡ count) × (length old ≤ count) × StaysBehind old file)
 
--- the old bytes can be had back
+-- the old bytes can be restored
 abbrev pub IsLeft : Stage → List ℕ → ℕ → ℕ → List ℕ → Type 0
 IsLeft Untouched old tail count file = IsFirstPut old count file
 IsLeft Marked old tail count file = settled file ≡ old
@@ -56,7 +56,7 @@ IsStarted Committing = ⊥
 IsStarted Unkept = ⊥
 IsStarted Invalid = ⊤
 
--- what is known of the old bytes in memory
+-- the facts about the old bytes that the change keeps in memory
 pub record Knows (old : List ℕ) (c : Change) : Type 0 where
   pub old_length : c.old_length ≡ length old
   pub old_first : AreAt old 0 (min 4096 (length old)) c.old_first.items
@@ -73,14 +73,14 @@ pub record IsBroken (old : List ℕ) (c : Change) (file : List ℕ) : Type 0 whe
   pub knows : Knows old c
   pub left : IsLeft c.stage old c.tail.offset c.length file
 
--- the next one who opens the file has the old bytes, if they were a database
+-- if the old bytes are a database, the file represents the old bytes
 abbrev pub StandsForOld : List ℕ → List ℕ → Type 0
 StandsForOld old file = IsDatabase old → settled file ≡ old
 
--- or the new ones
+-- if the old bytes are a database, the file represents the old bytes or the new bytes
 abbrev pub StandsForEither : List ℕ → List ℕ → List ℕ → Type 0
 StandsForEither old new file = IsDatabase old → (settled file ≡ old) ⊎ (settled file ≡ new)
 
--- the old bytes can be had back: they are a database, or all in memory
+-- the old bytes can be restored: they are a database, or all of them are in memory
 abbrev pub CanRestore : List ℕ → Type 0
 CanRestore old = IsDatabase old ⊎ (length old < 16)

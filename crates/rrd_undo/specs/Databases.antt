@@ -2,7 +2,7 @@
 use Rattle.std.specs.Prelude.{◌≡◌, ℕ, ◌<◌, ◌≤◌, List, length, slice_index}
 use Rattle.rrd_tail.specs.Marks.{database_mark}
 
--- the bytes are as many as an undo mark or more, and begin with the mark of a database
+-- there are at least as many bytes as in an undo mark, and they begin with the mark of a database
 pub record IsDatabase (bytes : List ℕ) : Type 0 where
   pub enough : 16 ≤ length bytes
   pub begins : (i : ℕ) → i < 4 → slice_index bytes i ≡ slice_index database_mark i

@@ -8,23 +8,23 @@ use Rattle.rrd_tail.specs.declared.slot.SlotHeader.{SlotHeader}
 use Rattle.rrd_undo.specs.Databases.{IsDatabase}
 use Rattle.rrd_undo.specs.Undoing.{IsTail, Restores}
 
--- the old bytes can be had back from the tail of a file with an undo mark
+-- the old bytes can be restored from the tail of a file with an undo mark
 pub record IsUndone (old : List ℕ) (tail : ℕ) (file : List ℕ) : Type 0 where
   pub is : IsDatabase old
   pub is_tail : IsTail old tail
   pub marked : StandsAt file 0 (undo_mark tail)
   pub restores : Restores old tail file
 
--- and they are in the file, but for the first sixteen
+-- the old bytes except the first sixteen are in the file
 abbrev pub IsPutBack : List ℕ → List ℕ → Type 0
 IsPutBack old file = (k : ℕ) → 16 ≤ k → k < length old → slice_index file k ≡ slice_index old k
 
--- the header of slot i, whose bytes are in the buffer behind it, if the file has that slot
+-- the header of slot i, if the file has that slot; the buffer has the slot's bytes after the header
 abbrev pub IsSlotFound : ℕ → List ℕ → ℕ → List ℕ → Option SlotHeader → Type 0
 IsSlotFound tail file i buffer None = slot_at tail file i ≡ None
 IsSlotFound tail file i buffer (Some header) = (slot_at tail file i ≡ Some (slot_of header buffer)) × (32 + header.count ≤ length buffer)
 
--- how far slots are put back
+-- the first `number` slots are restored
 pub record IsBack (old : List ℕ) (tail number : ℕ) (f : List ℕ) : Type 0 where
   pub undone : IsUndone old tail f
   pub within : number ≤ length (slots_in tail f)

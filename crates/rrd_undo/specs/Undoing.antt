@@ -9,7 +9,7 @@ use Rattle.rrd_tail.specs.declared.record.Record.{Record}
 use Rattle.rrd_undo.specs.Calls.{AreAt}
 use Rattle.rrd_undo.specs.Databases.{IsDatabase}
 
--- a page begins there, and the old bytes don't reach it
+-- the tail begins at a multiple of a page, at or after the end of the old bytes
 pub record IsTail (old : List ℕ) (tail : ℕ) : Type 0 where
   pub page : tail % 4096 ≡ 0
   pub below : length old ≤ tail
@@ -19,13 +19,13 @@ pub record IsTail (old : List ℕ) (tail : ℕ) : Type 0 where
 abbrev pub record_of : ℕ → List ℕ → Record
 record_of offset bytes = record { offset = offset; length = length bytes; first = take 16 bytes }
 
--- the old bytes can be had back from the file's tail, whatever the first sixteen bytes are
+-- the old bytes can be restored from the tail of the file, whatever the first sixteen bytes are
 pub record Restores (old : List ℕ) (tail : ℕ) (file : List ℕ) : Type 0 where
   pub reaches : tail + 64 ≤ length file
   pub recorded : record_at file tail ≡ Some (record_of tail old)
   pub each : (k : ℕ) → 16 ≤ k → k < length old → all_laid (slots_in tail file) k (slice_index file k) ≡ slice_index old k
 
--- so they can, and the file has an undo mark, and room for another slot behind so many
+-- the old bytes can be restored, the file has an undo mark, and there is room for another slot after `slots` slots
 pub record Undoing (old : List ℕ) (tail slots : ℕ) (file : List ℕ) : Type 0 where
   pub restores : Restores old tail file
   pub marked : StandsAt file 0 (undo_mark tail)
@@ -35,7 +35,7 @@ pub record Undoing (old : List ℕ) (tail slots : ℕ) (file : List ℕ) : Type 
 abbrev pub EndsBelow : ℕ → Slot → Type 0
 EndsBelow done s = s.offset + length s.bytes ≤ done
 
--- these bytes are old ones, and can be kept in a slot
+-- these bytes are old bytes, and fit into a slot
 pub record IsOldPage (old : List ℕ) (at : ℕ) (bytes : List ℕ) : Type 0 where
   pub behind : 16 ≤ at
   pub few : length bytes ≤ 4096
@@ -45,28 +45,28 @@ pub record IsOldPage (old : List ℕ) (at : ℕ) (bytes : List ℕ) : Type 0 whe
 abbrev pub slot_of : ℕ → List ℕ → Slot
 slot_of offset bytes = record { offset = offset; bytes = bytes }
 
--- old bytes were kept in a slot, if there are any, and nothing below the tail was changed
+-- the old bytes were saved in a slot, if there are any, and no byte below the tail was changed
 pub record Keeps (old : List ℕ) (tail slots at : ℕ) (bytes file changed : List ℕ) : Type 0 where
   pub undoing : Undoing old tail slots changed
   pub same : (k : ℕ) → k < tail → slice_index changed k ≡ slice_index file k
   pub kept : ((length bytes ≡ 0) × (slots_in tail changed ≡ slots_in tail file))
       ⊎ ((1 ≤ length bytes) × (slots_in tail changed ≡ slots_in tail file ++ slot_of at bytes ∷ []))
 
--- old bytes were kept, and new ones put over them
+-- the old bytes were saved, and new bytes written over them
 pub record Turns (old : List ℕ) (tail slots at : ℕ) (page file changed : List ℕ) : Type 0 where
   pub undoing : Undoing old tail slots changed
   pub put : (i : ℕ) → i < length page → slice_index changed (at + i) ≡ slice_index page i
   pub same : (k : ℕ) → k < tail → (k < at) ⊎ (at + length page ≤ k) → slice_index changed k ≡ slice_index file k
   pub below : (done : ℕ) → at + length page ≤ done → All (EndsBelow done) (slots_in tail file) → All (EndsBelow done) (slots_in tail changed)
 
--- the new bytes are in the file below `done`, but for the first page, and no slot reaches further
+-- the new bytes below `done`, except the first page, are in the file, and no slot has a byte at or after `done`
 pub record Turning (old new : List ℕ) (tail slots : ℕ) (file : List ℕ) (done : ℕ) : Type 0 where
   pub undoing : Undoing old tail slots file
   pub below : All (EndsBelow done) (slots_in tail file)
   pub first : (k : ℕ) → 16 ≤ k → k < 4096 → k < length old → slice_index file k ≡ slice_index old k
   pub put : (k : ℕ) → 4096 ≤ k → k < done → k < length new → slice_index file k ≡ slice_index new k
 
--- all new bytes but the first sixteen are in the file
+-- all new bytes except the first sixteen are in the file
 pub record Paged (old new : List ℕ) (tail slots : ℕ) (file : List ℕ) : Type 0 where
   pub undoing : Undoing old tail slots file
   pub put : (k : ℕ) → 16 ≤ k → k < length new → slice_index file k ≡ slice_index new k
@@ -75,7 +75,7 @@ pub record Paged (old new : List ℕ) (tail slots : ℕ) (file : List ℕ) : Typ
 abbrev pub IsRecorded : List ℕ → List ℕ → Type 0
 IsRecorded bytes file = (r : Record) × (last_record (shape_for (length bytes)) file ≡ Some r) × (r.length ≡ length bytes)
 
--- and there is a record of the new bytes, too
+-- the old bytes can be restored, and the file has a record of the new bytes too
 pub record IsReady (old new : List ℕ) (tail : ℕ) (file : List ℕ) : Type 0 where
   pub is_tail : IsTail old tail
   pub restores : Restores old tail file
@@ -85,7 +85,7 @@ pub record IsReady (old new : List ℕ) (tail : ℕ) (file : List ℕ) : Type 0 
   pub longer : length new ≤ length file
   pub put : (k : ℕ) → 16 ≤ k → k < length new → slice_index file k ≡ slice_index new k
 
--- a file with a cut mark and a last record, which stands for these bytes
+-- a file with a cut mark and a last record, which represents these bytes
 pub record IsToCut (bytes file : List ℕ) : Type 0 where
   pub is : IsDatabase bytes
   pub marked : StandsAt file 0 (cut_mark (shape_for (length bytes)))
@@ -93,7 +93,7 @@ pub record IsToCut (bytes file : List ℕ) : Type 0 where
   pub longer : length bytes ≤ length file
   pub each : (k : ℕ) → 4 ≤ k → k < length bytes → slice_index file k ≡ slice_index bytes k
 
--- a file with a cut mark that has no more bytes than it stands for
+-- a file with a cut mark and exactly as many bytes as it represents
 pub record IsCut (bytes file : List ℕ) : Type 0 where
   pub is : IsDatabase bytes
   pub marked : StandsAt file 0 (cut_mark (shape_for (length bytes)))

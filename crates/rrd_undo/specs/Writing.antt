@@ -5,7 +5,8 @@ use Rattle.rrd_undo.specs.Changing.{IsAt, IsBroken}
 use Rattle.rrd_undo.specs.declared.writer.Pages.{Pages}
 use Rattle.rrd_undo.specs.declared.writer.PageWriter.{PageWriter}
 
--- these new bytes were taken: whole pages were put, the first page waits, and so do bytes that are not a page yet
+-- the writer took these new bytes: whole pages were written, except the first page, which waits, as do the bytes of an
+-- unfinished page
 pub record IsTaken (old new : List ℕ) (p : Pages) (file : List ℕ) : Type 0 where
   pub is_at : IsAt old new (max 4096 p.done) p.change file
   pub len : length new ≡ p.done + length p.page.items
@@ -14,7 +15,7 @@ pub record IsTaken (old new : List ℕ) (p : Pages) (file : List ℕ) : Type 0 w
   pub begins : (p.done ≡ 0) ⊎ (4096 ≤ p.done)
   pub first : 4096 ≤ p.done → AreAt new 0 4096 p.first.items
 
--- all of them were put, but for the first page
+-- all of these bytes were written, except the first page
 pub record IsGathered (old new : List ℕ) (p : Pages) (file : List ℕ) : Type 0 where
   pub is_at : IsAt old new p.done p.change file
   pub all : length new ≤ p.done
@@ -24,7 +25,7 @@ pub record IsGathered (old new : List ℕ) (p : Pages) (file : List ℕ) : Type 
 abbrev pub held_by : {F : Type 0} → (F → List ℕ) → PageWriter F → List ℕ
 held_by held w = held w.file
 
--- a writer took these new bytes, for a file that had the old ones
+-- a writer took these new bytes, for a file that had the old bytes
 abbrev pub IsWriting : {F : Type 0} → (F → List ℕ) → List ℕ → List ℕ → PageWriter F → Type 0
 IsWriting held old new w = IsTaken old new w.pages (held w.file)
 

@@ -10,7 +10,7 @@ use std::io;
 /// call may leave. These clauses assume two things about the system: a kill cuts neither a write within one page
 /// ([`Bytes::put_whole`]) nor a change of the length ([`Bytes::set_len`]).
 pub trait Bytes {
-    // The bytes that a kill leaves, and whether they are known: those of a file of the system aren't.
+    // The bytes that a kill leaves, and whether they are known: those of a file of the system are not.
     ghost held: { Self → List ℕ };
 
     ghost is_known: { Bool };
@@ -61,7 +61,7 @@ pub trait Bytes {
         ensures ok { OnOk result (IsTrue is_known → length (held self.old) ≤ at → ArePut at bytes.now (held self.old) (held self.new)) }
         ensures err { OnErr result (IsTrue is_known → length (held self.old) ≤ at → IsFrontPut at bytes.now (held self.old) (held self.new)) };
 
-    /// Sets the length of the file to `count` bytes: cuts the file, or appends zeros.
+    /// Sets the length of the file to `count` bytes: truncates the file, or appends zeros.
     ///
     /// # Errors
     ///

@@ -2,7 +2,7 @@
 //!
 //! A database is marked before its first page is replaced. Each old page is copied to the file's tail before the new
 //! page is written, and one call makes the file represent the new bytes. If only the first page differs, one call
-//! writes that page. A file that is no database is marked invalid until its new first page is written: a kill may
+//! writes that page. A file that is not a database is marked invalid until its new first page is written: a kill may
 //! lose such a file, but leaves nothing that reads as a database.
 ghost use Rattle.std.specs.Prelude.{◌≡◌, ◌⊎◌, ℕ, ◌+◌, ◌-◌, ◌%◌, ◌<◌, ◌≤◌, List, length, min, slice_index, IsTrue, IfOk, OnErr, OnOk};
 ghost use Rattle.rrd_tail.specs.Marks.{undo_mark};
@@ -33,9 +33,9 @@ pub(crate) enum Stage {
     Marked,
     /// The next call makes the file represent its new bytes.
     Committing,
-    /// The file is no database, and may have been extended for more bytes.
+    /// The file is not a database, and may have been extended for more bytes.
     Unkept,
-    /// The file is no database, and its first bytes are the invalid mark.
+    /// The file is not a database, and its first bytes are the invalid mark.
     Invalid,
 }
 
@@ -116,7 +116,7 @@ impl Change {
         Ok(page == self.old_page.as_slice())
     }
 
-    // Marks a file that is no database as invalid. A file of 16 bytes or more is first extended for the new bytes.
+    // Marks a file that is not a database as invalid. A file of 16 bytes or more is first extended for the new bytes.
     fn write_invalid_mark<F: Bytes>(&mut self, file: &mut F) -> io::Result<()>
         ensures frame { self.new ≡ record self.old { stage = self.new.stage; tail = record self.old.tail { buffer = self.new.tail.buffer } } }
         ensures started { OnOk result (IsStarted self.new.stage) }
@@ -348,7 +348,7 @@ impl Change {
         Ok(())
     }
 
-    // Restores the old first page and the old length of a file that is no database.
+    // Restores the old first page and the old length of a file that is not a database.
     fn restore<F: Bytes>(&self, file: &mut F) -> io::Result<()>
         ensures { OnOk result (IsTrue F.is_known → (old : List ℕ) → Knows old self.now → StaysBehind old (F.held file.old) → F.held file.new ≡ old) }
     {
@@ -372,7 +372,7 @@ impl Change {
 
     /// Undoes the change, after a call that failed.
     ///
-    /// A file that was no database and whose old bytes are not in memory keeps the first `count` of the new bytes
+    /// A file that was not a database and whose old bytes are not in memory keeps the first `count` of the new bytes
     /// instead. `first` is the new first page.
     pub(crate) fn take_back<F: Bytes>(
         &mut self,

@@ -32,7 +32,7 @@ pub enum Syncs {
     Ordered,
 }
 
-// Syncs the file, if `syncs` asks for syncs.
+// Syncs the file, if `syncs` requests syncs.
 pub(crate) fn sync<F: Bytes>(file: &mut F, syncs: Syncs) -> io::Result<()>
     ensures { F.held file.new ≡ F.held file.old }
 {
@@ -78,7 +78,7 @@ pub(crate) fn cut_front(shape: Shape, first: &[u8]) -> [u8; 16]
     front
 }
 
-/// Cuts a file with a cut mark to its new length, and writes the mark of a database.
+/// Truncates a file with a cut mark to its new length, and writes the mark of a database.
 pub(crate) fn finish<F: Bytes>(file: &mut F, new_length: usize, syncs: Syncs) -> io::Result<()>
     ensures stands { IsTrue F.is_known → (bytes : List ℕ) → new_length ≡ length bytes → IsToCut bytes (F.held file.old) → settled (F.held file.new) ≡ bytes }
     ensures ok { OnOk result (IsTrue F.is_known → (bytes : List ℕ) → new_length ≡ length bytes → IsToCut bytes (F.held file.old) → F.held file.new ≡ bytes) }

@@ -170,8 +170,8 @@ impl<F: Bytes + Drop> PageWriter<F> {
     ///
     /// # Errors
     ///
-    /// A call of the file failed, the bytes are no database, or `begin` announced another number of bytes. A database
-    /// then represents its old bytes or the new ones.
+    /// A call of the file failed, the bytes are not a database, or `begin` announced another number of bytes. A
+    /// database then represents its old bytes or the new ones.
     pub fn end(&mut self) -> io::Result<()>
         ensures ok { OnOk result (IsTrue F.is_known → (old new : List ℕ) → IsWriting F.held old new self.old
             → settled (held_by F.held self.new) ≡ new) }
@@ -183,7 +183,7 @@ impl<F: Bytes + Drop> PageWriter<F> {
 
     /// Takes the change back, after a call that failed.
     ///
-    /// The file has its old bytes again. A file that was no database and had 16 bytes or more is left with the first
+    /// The file has its old bytes again. A file that was not a database and had 16 bytes or more is left with the first
     /// part of the new bytes instead.
     ///
     /// # Errors
@@ -210,8 +210,8 @@ impl<F: Bytes + Drop> PageWriter<F> {
 ///
 /// # Errors
 ///
-/// A call of the file failed, memory ran out, or `new` is no database. A database then represents its old bytes or the
-/// new ones.
+/// A call of the file failed, memory ran out, or `new` is not a database. A database then represents its old bytes or
+/// the new ones.
 pub fn replace<F: Bytes>(alloc: Global, file: &mut F, new: &[u8], syncs: Syncs) -> io::Result<()>
     ensures ok { OnOk result (IsTrue F.is_known → settled (F.held file.new) ≡ new.now) }
     ensures stands { IsTrue F.is_known → IsDatabase (F.held file.old)

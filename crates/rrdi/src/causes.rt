@@ -1,4 +1,4 @@
-//! The reason why a file could not be opened or written, in plain English.
+//! The reason why a file could not be opened, read or written, in plain English.
 use rrd_disk::Settings;
 use rrd_fixed::write_bytes;
 use std::fmt::{self, Display, Formatter};
@@ -32,7 +32,7 @@ impl Display for Cause {
     }
 }
 
-/// Reports on standard error why the file at `path` could not be opened or written.
+/// Reports on standard error why the file at `path` could not be opened, read or written.
 ///
 /// The line is `rrdi: PATH: REASON`. If memory runs out for the line, or the write fails, nothing more is reported.
 pub(crate) fn report_cause(rt: &HostRuntime, path: &str, error: Error, settings: Settings) {

@@ -20,7 +20,7 @@ const USAGE_ERROR: TaskFault = TaskFault::Command(Fault::Line(LineFault::Usage))
 /// The fault if memory runs out for the arguments, or for the output.
 const NO_MEMORY: TaskFault = TaskFault::Command(Fault::Line(LineFault::OutOfMemory));
 
-// Runs the task that the program's arguments name, and returns the status. Arguments that are no text name no task.
+// Runs the task that the program's arguments name, and returns the status. Arguments that are not a text name no task.
 fn run(rt: &HostRuntime) -> u8 {
     let words: Vec<String> = match env::args(rt).and_then(|words| Ok(words.collect(rt.alloc())?)) {
         Ok(words) => words,

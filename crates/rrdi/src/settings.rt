@@ -19,7 +19,7 @@ fn wait_of(text: &str) -> u64
     }
 }
 
-// Returns the setting for syncs. `text` is `RRDI_SYNC`: `1` asks for syncs.
+// Returns the setting for syncs. `text` is `RRDI_SYNC`: `1` requests syncs.
 fn syncs_of(text: &str) -> Syncs
     ensures { result ≡ syncs_of text.now }
 {
@@ -32,7 +32,7 @@ fn syncs_of(text: &str) -> Syncs
 
 /// Returns the settings by which a run uses its file.
 ///
-/// `RRDI_WAIT` is the time in seconds for which the run waits for a lock, and `RRDI_SYNC=1` asks for syncs.
+/// `RRDI_WAIT` is the time in seconds for which the run waits for a lock, and `RRDI_SYNC=1` requests syncs.
 pub(crate) fn settings(rt: &HostRuntime) -> Settings {
     let mut settings = Settings::DEFAULT;
     if let Ok(text) = env::var(rt, "RRDI_WAIT") {

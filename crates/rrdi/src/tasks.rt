@@ -9,7 +9,8 @@ use rrd_store::{
     TaskFault, report_batch, report_command, report_file_batch, run_file_batch, run_file_command,
 };
 use rrd_tool::{Words, run_batch};
-use std::io::BufWriter;
+use std::cell::Cell;
+use std::io::{BufWriter, Error};
 
 /// The maximum number of bytes of output that one call writes.
 const OUTPUT: usize = 65_536;
@@ -35,17 +36,24 @@ pub(crate) fn batch(rt: &HostRuntime) -> u8 {
     report_batch(&mut rt.stderr(), end.refused, end.stream, None)
 }
 
-// Reports why the file could not be opened or written, if `fault` is such a fault.
-fn report(
-    rt: &HostRuntime,
+// Returns why the file could not be opened, read or written, if `fault` is such a fault. `failed_read` is the reason
+// why the last read failed; there is none if the fault is about the bytes that were read.
+fn cause_of(
     file: &FileStorage<'_, Host<'_>>,
-    path: &str,
+    failed_read: Option<Error>,
     fault: Option<TaskFault>,
-) {
-    if let Some(TaskFault::CannotOpen | TaskFault::CannotWrite) = fault {
-        if let Some(error) = file.cause() {
-            report_cause(rt, path, error, settings(rt));
-        }
+) -> Option<Error> {
+    match fault {
+        Some(TaskFault::CannotOpen | TaskFault::CannotWrite) => file.cause(),
+        Some(TaskFault::File(_)) => failed_read,
+        _ => None,
+    }
+}
+
+// Reports why a call on the file failed, if a call failed.
+fn report(rt: &HostRuntime, path: &str, cause: Option<Error>) {
+    if let Some(error) = cause {
+        report_cause(rt, path, error, settings(rt));
     }
 }
 
@@ -54,7 +62,8 @@ pub(crate) fn file_batch(rt: &HostRuntime, path: &str) -> u8 {
     let Ok(mut out) = BufWriter::with_capacity(rt.alloc(), OUTPUT, rt.stdout()) else {
         return fail(rt, NO_MEMORY);
     };
-    let disk = Host::new(rt);
+    let failed_read = Cell::new(None);
+    let disk = Host::new(rt, &failed_read);
     let mut file = FileStorage::new(&disk, path, settings(rt));
     let now = seconds_now(rt);
     let end = run_file_batch(rt.alloc(), now, 0, &mut file, &mut rt.stdin(), &mut out);
@@ -63,7 +72,7 @@ pub(crate) fn file_batch(rt: &HostRuntime, path: &str) -> u8 {
         Err(fault) => Some(*fault),
     };
     let status = report_file_batch(&mut rt.stderr(), end);
-    report(rt, &file, path, fault);
+    report(rt, path, cause_of(&file, failed_read.get(), fault));
     status
 }
 
@@ -72,10 +81,11 @@ pub(crate) fn single(rt: &HostRuntime, path: &str, words: &Words<'_>) -> u8 {
     let Ok(mut out) = BufWriter::with_capacity(rt.alloc(), OUTPUT, rt.stdout()) else {
         return fail(rt, NO_MEMORY);
     };
-    let disk = Host::new(rt);
+    let failed_read = Cell::new(None);
+    let disk = Host::new(rt, &failed_read);
     let mut file = FileStorage::new(&disk, path, settings(rt));
     let end = run_file_command(rt.alloc(), words, seconds_now(rt), &mut file, &mut out);
     let status = report_command(&mut rt.stderr(), end);
-    report(rt, &file, path, end.err());
+    report(rt, path, cause_of(&file, failed_read.get(), end.err()));
     status
 }

@@ -8,7 +8,7 @@ use rrd_fixed::{Name, Raw};
 
 /// Something that the entry of a tune holds of each data source that the tune named.
 pub(crate) trait Kept {
-    // It, as contracts see it.
+    // What is kept, as contracts see it.
     ghost kept: { SavedSource → Self };
 
     /// Returns what the entry holds of a source.

@@ -8,7 +8,8 @@ use std::marker::Model;
 
 /// The values of an archive that an update replaced.
 ///
-/// They are the partial row of each data source, and the oldest rows: as many as the update finishes, at most all.
+/// The saved values are the partial row of each data source, and the oldest rows: as many as the update finishes, at
+/// most all.
 #[derive(Drop)]
 pub struct SavedArchive {
     pub(crate) function: Function,

@@ -26,7 +26,7 @@ use rrd_spec::limits::MAX_SOURCES;
 
 // ---- rows
 
-// Returns whether a row has one cell for each data source, none larger in size than the maximum rate.
+// Returns whether a row has one cell for each data source, none with an absolute value above the maximum rate.
 fn is_row(cells: &[Cell], sources: usize) -> bool
     ensures good { result ≡ true → IsRow sources cells.now }
     ensures bad { IsRow sources cells.now → result ≡ true }
@@ -34,7 +34,7 @@ fn is_row(cells: &[Cell], sources: usize) -> bool
     cells.len() == sources && are_bounded(cells)
 }
 
-// Returns whether all rows have one cell for each data source, none larger in size than the maximum rate.
+// Returns whether all rows have one cell for each data source, none with an absolute value above the maximum rate.
 fn are_rows<T: Table>(rows: &T, sources: usize) -> bool
     ensures good { result ≡ true → AllByRecursion (IsRow sources) (T.table rows.now) }
     ensures bad { AllByRecursion (IsRow sources) (T.table rows.now) → result ≡ true }

@@ -7,7 +7,7 @@ use crate::create::is_bad_step;
 use rrd_spec::Version;
 use rrd_spec::limits::{MAX_SOURCES, MAX_TIME};
 
-/// What the header of a file says.
+/// The values in the header of a file.
 #[derive(Clone, Copy)]
 pub struct Header {
     /// The version of the layout. Its limits hold for all pieces.

@@ -67,7 +67,7 @@ pub fn is_bounded(cell: Cell) -> bool
     }
 }
 
-/// Returns whether no cell is larger in size than the maximum rate.
+/// Returns whether no cell has an absolute value above the maximum rate.
 pub(super) fn are_bounded(cells: &[Cell]) -> bool
     ensures good { result ≡ true → AllByRecursion IsBounded cells.now }
     ensures bad { AllByRecursion IsBounded cells.now → result ≡ true }

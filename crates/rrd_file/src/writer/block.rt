@@ -8,8 +8,8 @@ use crate::layout::{CELL_SIZE, MAX_ROW_CELLS};
 use rrd_fixed::Cell;
 use std::marker::Model;
 
-/// The number of bytes that fit into a block. A block is cleared before it is used, so a larger one costs each file
-/// more; a place that has to write more at once gathers blocks itself.
+/// The number of bytes that fit into a block. A block is cleared before it is used, so a larger block would cost each
+/// file more; code that has to write more at once gathers blocks itself.
 pub(crate) const BLOCK_SIZE: usize = 4_096;
 
 /// The number of bytes in the widest row. No piece has more.

@@ -37,7 +37,7 @@ first_refusal (check ∷ checks) = if check.wrong then Some check.refusal else f
 
 -- ---- names and settings
 
--- a bound larger in size than the maximum rate
+-- a bound with an absolute value above the maximum rate
 abbrev pub is_far : Limits → Option ℤ → Bool
 is_far limits None = false
 is_far limits (Some bound) = nat_lt limits.max_bound (unsigned_abs bound)

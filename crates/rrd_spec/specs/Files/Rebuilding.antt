@@ -25,8 +25,8 @@ limits f = limits_of f.header.version
 
 -- ---- which record is due
 
--- the archive that does not have a partial row for each data source yet, if there is one: archives are read one by one,
--- so it is the last one
+-- the archive that does not have a partial row for each data source yet, if there is one: the last archive, because
+-- archives are read one by one
 abbrev pub unprepared : ℕ → List Head → Option RraDef
 unprepared sources [] = None
 unprepared sources (head ∷ heads) =

@@ -77,8 +77,8 @@ reach_after step life since =
     reach (resolution step life.begun.def) (rows_at_end 0 life.begun.def.rows since)
     (fold moment_after life.birth since).last
 
--- the time up to which rows have been lost: an archive never shows a row again that it had no room for at some moment
--- since it began (rrdresize)
+-- the time up to which rows have been lost: if an archive had no room for a row at some moment since it began, the
+-- archive never shows this row again (rrdresize)
 abbrev pub horizon : ℕ → Life → ℤ
 horizon step life = greatest (map (reach_after step life) (prefixes life.since))
 
@@ -87,9 +87,9 @@ horizon step life = greatest (map (reach_after step life) (prefixes life.since))
 -- Each second by itself is `second` in History, and each step and row by itself is `step` and `row` in History/Steps
 -- and History/Rows.
 
--- the row at a time, a multiple of the resolution: unknown up to the horizon and after the end; up to the end of the
--- newest row that the archive began with, that row, which is the base's, or unknown in an archive that was added; and
--- after that the row of its steps (rrdresize)
+-- the row at a time, a multiple of the resolution. Up to the horizon, and after the end: unknown. Up to the end of the
+-- newest row that the archive began with: that row, which is the base's row, or unknown in an added archive. After
+-- that: the row of its steps (rrdresize)
 abbrev pub row_by_time : Content → Life → List Event → ℤ → List Cell
 row_by_time base life events time =
     let size = resolution base.step life.begun.def in

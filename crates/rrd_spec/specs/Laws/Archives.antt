@@ -14,7 +14,7 @@ CutsLives base es =
     IsBase base → IsHistory (moment_of base) es → (fs : List Event) → IsHistory (moment_at_end base es) fs
     → content_lived base (es ++ fs) ≡ content_lived (content_lived base es) fs
 
--- an archive that is added comes after the others, and is a new one; all else stays unchanged
+-- an archive that is added follows the others, and is a new one; all else stays unchanged
 abbrev pub AddChanges : Content → RraDef → Type 0
 AddChanges base def =
     IsBase base → 0 < def.steps → 0 < def.rows → content base (Added def ∷ [])

@@ -16,7 +16,7 @@ pub struct FetchRequest {
 
 /// The rows of an archive that a fetch reads.
 ///
-/// They are the rows at the multiples of `res` after `lo`, up to `hi`.
+/// The rows that a fetch reads: those at the multiples of `res` after `lo`, up to `hi`.
 #[derive(Clone, Copy, Debug, PartialEq, Eq)]
 pub struct Chosen {
     /// The number of the archive.

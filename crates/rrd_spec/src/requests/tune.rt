@@ -4,7 +4,7 @@ use rrd_fixed::{Kind, Name};
 
 /// The archive that a tune adds or removes (rrdtune).
 ///
-/// An added archive comes after the others. After a removal the higher numbers are one lower.
+/// An added archive follows the others. After a removal the higher numbers are one lower.
 #[derive(Drop)]
 pub enum ArchiveTune {
     Add(RraDef),

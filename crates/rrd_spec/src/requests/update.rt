@@ -2,7 +2,7 @@
 use crate::List;
 use rrd_fixed::{Name, Number};
 
-/// A value as it is given: `U`, or a number.
+/// A value of a sample: `U`, or a number.
 #[derive(Clone, Copy, Debug, PartialEq, Eq)]
 pub enum Given {
     /// No value: `U`.
@@ -27,7 +27,7 @@ pub struct Update {
     ///
     /// `None` means all data sources, in order.
     pub template: Option<List<Name>>,
-    /// The samples: at least one, each later than the one before.
+    /// The samples: at least one, each later than the previous sample.
     pub samples: List<Sample>,
 }
 

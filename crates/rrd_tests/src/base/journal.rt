@@ -152,7 +152,7 @@ fn assert_first_update_kept(rt: &impl Abort, database: &Database) {
     };
     assert_eq!(rt; (before.last, before.archives.len()), (0, 3));
     for kept in &before.archives {
-        assert_eq!(rt; kept.rows().len(), 0);
+        assert_eq!(rt; kept.rows().len(), 0, "{:?}", kept.function());
     }
 }
 
@@ -224,11 +224,11 @@ fn another_type_and_the_same(rt: HostRuntime) -> Result<(), Fail> {
     ] {
         done(alloc, &mut database, &Deed::Tune(tuned))?;
         assert_source(&rt, &database, name, kind, raw);
-        assert_eq!(&rt; (database.last(), database.undoable()), (10, 2));
+        assert_eq!(&rt; (database.last(), database.undoable()), (10, 2), "{name}");
         assert_counter_kept(&rt, &database);
         database.revert()?;
         assert_source(&rt, &database, "c", Kind::Counter, Raw::Known(7));
-        assert_eq!(&rt; (database.last(), database.undoable()), (10, 1));
+        assert_eq!(&rt; (database.last(), database.undoable()), (10, 1), "{name}");
     }
     Ok(())
 }

@@ -212,7 +212,7 @@ fn rows_that_come_at_once(rt: HostRuntime) -> Result<(), Fail> {
     // The last time is 10, in slot 1: the newest row stands there.
     let rows = database.rows(0);
     for (number, row) in [[NONE, NONE], [ONE, NONE], [NONE, ONE]].iter().enumerate() {
-        assert!(&rt; (number as u64) < rows.rows());
+        assert!(&rt; (number as u64) < rows.rows(), "{number}");
         assert_eq!(&rt; rows.row(number as u64), row.as_slice(), "{number}");
     }
     Ok(())

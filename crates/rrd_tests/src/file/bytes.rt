@@ -626,7 +626,12 @@ fn a_writer_that_fails_has_a_front(rt: HostRuntime) -> Result<(), Fail> {
         };
         let mut out = Taker::new(alloc, writing, PLAIN);
         assert_eq!(&rt; encode(&database, &mut out).is_ok(), *whole, "{room}");
-        assert_eq!(&rt; out.taken.as_slice(), new.get(..*room).ok_or("short")?);
+        assert_bytes(
+            &rt,
+            &out.taken,
+            new.get(..*room).ok_or("short")?,
+            "a writer that fails",
+        );
     }
     Ok(())
 }
@@ -671,6 +676,11 @@ fn assert_breaks_off(
     };
     let mut out = Taker::new(alloc, writing, PLAIN);
     assert!(rt; encode(database, &mut out).is_err());
-    assert_eq!(rt; out.taken.as_slice(), wanted.get(..33_000).ok_or("short")?);
+    assert_bytes(
+        rt,
+        &out.taken,
+        wanted.get(..33_000).ok_or("short")?,
+        "33,000 bytes",
+    );
     Ok(())
 }

@@ -510,7 +510,7 @@ fn rows_across_the_end_of_a_block(rt: HostRuntime) -> Result<(), Fail> {
     let alloc = rt.alloc();
     for known in [false, true] {
         let bytes = file_across(alloc, known)?;
-        assert_eq!(&rt; bytes.len(), 394 + 16 * 6_000);
+        assert_eq!(&rt; bytes.len(), 394 + 16 * 6_000, "{known}");
         assert_bytes(&rt, &again(alloc, &bytes)?, &bytes, ACROSS.name);
         // A cell past the greatest rate, at each place of the row across the end and of those beside it.
         for cell in 4_068..4_077 {

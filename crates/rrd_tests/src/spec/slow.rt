@@ -95,7 +95,11 @@ fn shown_by_slow_program(rt: &impl Abort, alloc: Global, example: Example<'_>) -
     );
     assert!(rt; !are_accepted(asked.spec.sources.as_slice(), &[]));
     for reading in readings.as_slice() {
-        assert!(rt; are_accepted(asked.spec.sources.as_slice(), reading.raws.as_slice()));
+        let time = reading.time;
+        assert!(rt;
+            are_accepted(asked.spec.sources.as_slice(), reading.raws.as_slice()),
+            "{time}"
+        );
     }
     let rows = rows(alloc, &asked.spec, number, readings.as_slice())?;
     let name = example.name;

@@ -1,9 +1,7 @@
 //! What the program tells on standard error, and its status.
 use crate::file::decoding::FILE_FAULTS;
 use rrd_base::Refusal;
-use rrd_store::{
-    TaskFault, USAGE, report_batch, report_command, report_file_batch,
-};
+use rrd_store::{TaskFault, USAGE, report_batch, report_command, report_file_batch};
 use rrd_tool::{Fault, LineFault, Part, StreamFault};
 use std::alloc::Global;
 use std::process::Abort;
@@ -97,7 +95,7 @@ fn ends_of_batches(rt: HostRuntime) -> Result<(), Fail> {
             *status,
             "{text}"
         );
-        assert_eq!(&rt; err.as_slice(), text.as_bytes());
+        assert_eq!(&rt; err.as_slice(), text.as_bytes(), "{text}");
     }
     let mut err = Vec::new(alloc);
     assert_eq!(&rt; report_file_batch(&mut err, Err(TaskFault::CannotOpen)), 1);
@@ -116,7 +114,7 @@ fn ends_of_commands(rt: HostRuntime) -> Result<(), Fail> {
     ] {
         let mut err = Vec::new(alloc);
         assert_eq!(&rt; report_command(&mut err, end), status, "{text}");
-        assert_eq!(&rt; err.as_slice(), text.as_bytes());
+        assert_eq!(&rt; err.as_slice(), text.as_bytes(), "{text}");
     }
     Ok(())
 }

@@ -1,6 +1,7 @@
 //! Single commands over a storage in memory that may fail.
 use super::storage::{Ending, InMemory};
 use crate::file::bytes::{new_file, sampled_file};
+use crate::shared::files::assert_bytes;
 use crate::shared::streams::{Manner, PLAIN, Taker};
 use crate::shared::words_of;
 use rrd_file::FileFault;
@@ -88,7 +89,7 @@ fn commands_over_one_place(rt: HostRuntime) -> Result<(), Fail> {
     for step in OVER_NOTHING {
         assert_step(&rt, alloc, &mut storage, step)?;
     }
-    assert_eq!(&rt; storage.bytes.as_slice(), new_file(alloc)?.as_slice());
+    assert_bytes(&rt, &storage.bytes, &new_file(alloc)?, "a new file");
     Ok(())
 }
 
@@ -112,7 +113,7 @@ fn commands_over_other_bytes(rt: HostRuntime) -> Result<(), Fail> {
     storage.opens = false;
     assert_step(&rt, alloc, &mut storage, &("last", "cannot open", "", 11))?;
     assert_step(&rt, alloc, &mut storage, &(CREATE, "", "", 224))?;
-    assert_eq!(&rt; storage.bytes.as_slice(), new_file(alloc)?.as_slice());
+    assert_bytes(&rt, &storage.bytes, &new_file(alloc)?, "a new file");
     Ok(())
 }
 
@@ -142,7 +143,7 @@ fn a_place_that_is_written_by_a_call_that_fails(rt: HostRuntime) -> Result<(), F
     let words = words_of(alloc, "update 10:1")?;
     let end = run_file_command(alloc, &words, 0, &mut storage, &mut out);
     assert_eq!(&rt; end.err(), Some(TaskFault::CannotWrite));
-    assert_eq!(&rt; storage.bytes.as_slice(), sampled_file(alloc)?.as_slice());
+    assert_bytes(&rt, &storage.bytes, &sampled_file(alloc)?, "a sampled file");
     assert_step(&rt, alloc, &mut storage, &("last", "", "10\n", 309))
 }
 
@@ -189,7 +190,7 @@ fn assert_breaks_off(
         let mut out = Vec::new(alloc);
         let end = run_file_command(alloc, &words, 0, &mut storage, &mut out);
         assert_eq!(rt; end.err(), Some(TaskFault::CannotWrite), "{line} {room}");
-        assert_eq!(rt; storage.bytes.as_slice(), new.get(..room).ok_or("short")?);
+        assert_bytes(rt, &storage.bytes, new.get(..room).ok_or("short")?, line);
         let at = room as u64;
         let end = run_file_command(alloc, &last, 0, &mut storage, &mut out);
         let cut = TaskFault::File(FileFault::Truncated { at });
@@ -219,6 +220,6 @@ fn output_that_fails(rt: HostRuntime) -> Result<(), Fail> {
     let mut stuck = Taker::new(alloc, PLAIN, Manner { room: 0, ..PLAIN });
     let end = run_file_command(alloc, &words, 0, &mut storage, &mut stuck);
     assert_eq!(&rt; end.err(), failed);
-    assert_eq!(&rt; storage.bytes.as_slice(), new_file(alloc)?.as_slice());
+    assert_bytes(&rt, &storage.bytes, &new_file(alloc)?, "a new file");
     Ok(())
 }

@@ -2,6 +2,7 @@
 use super::storage::InMemory;
 use crate::file::bytes::{new_file, sampled_file};
 use crate::file::decoding::{changed, in_first_version};
+use crate::shared::files::assert_bytes;
 use rrd_store::run_file_batch;
 use std::alloc::Global;
 use std::process::Abort;
@@ -36,10 +37,10 @@ fn a_counter_that_no_run_makes(rt: HostRuntime) -> Result<(), Fail> {
     let text = b"time: g\n10: 1000000\ntime: g\n20: 1.000000\n";
     assert_eq!(&rt; out.as_slice(), text.as_slice());
     let sampled = changed(alloc, &sampled_file(alloc)?, 50, 1)?;
-    assert_eq!(&rt; storage.bytes.as_slice(), sampled.as_slice());
+    assert_bytes(&rt, &storage.bytes, &sampled, "reverted once");
     assert!(&rt; printed(&rt, alloc, &mut storage, "revert\n")?.is_empty());
     let new = changed(alloc, &new_file(alloc)?, 50, 1)?;
-    assert_eq!(&rt; storage.bytes.as_slice(), new.as_slice());
+    assert_bytes(&rt, &storage.bytes, &new, "reverted twice");
     Ok(())
 }
 
@@ -62,10 +63,16 @@ fn a_revert_gives_the_file_back(rt: HostRuntime) -> Result<(), Fail> {
     let alloc = rt.alloc();
     for (made, lines) in TAKEN_BACK {
         let mut storage = InMemory::missing(alloc);
-        assert!(&rt; printed(&rt, alloc, &mut storage, made)?.is_empty());
+        assert!(&rt;
+            printed(&rt, alloc, &mut storage, made)?.is_empty(),
+            "{made}"
+        );
         let before = storage.bytes.clone()?;
-        assert!(&rt; printed(&rt, alloc, &mut storage, lines)?.is_empty());
-        assert_eq!(&rt; storage.bytes.as_slice(), before.as_slice(), "{lines}");
+        assert!(&rt;
+            printed(&rt, alloc, &mut storage, lines)?.is_empty(),
+            "{lines}"
+        );
+        assert_bytes(&rt, &storage.bytes, &before, lines);
     }
     Ok(())
 }

@@ -2,6 +2,7 @@
 use crate::file::bytes::{FOUR_CHANGES, file_of, new_file};
 use crate::shared::batches::{last_of, parts_of};
 use crate::shared::each_call::{FAULTS, INTERRUPTS, assert_front, failing_after, interrupted};
+use crate::shared::files::assert_bytes;
 use crate::shared::plans::{NEW, made};
 use crate::shared::streams::{Giver, Manner, PLAIN, Taker};
 use rrd_base::Database;
@@ -426,6 +427,6 @@ fn a_million_rows_break_off(rt: HostRuntime) -> Result<(), Fail> {
     assert_eq!(&rt; (end.fault, end.changed), (Some(Fault::Output), false));
     assert_eq!(&rt; out.taken.as_slice(), b"time: g\n".as_slice());
     let after = file_of(alloc, &end.database.ok_or("no database")?)?;
-    assert_eq!(&rt; after.as_slice(), new_file(alloc)?.as_slice());
+    assert_bytes(&rt, &after, &new_file(alloc)?, "a new file");
     Ok(())
 }

@@ -3,6 +3,7 @@
 use crate::file::bytes::{ARCHIVES_CHANGED, FOUR_CHANGES, SAMPLED, file_of};
 use crate::shared::batches::parts_of;
 use crate::shared::databases::command_of;
+use crate::shared::files::assert_bytes;
 use crate::shared::plans::{Plan, made};
 use crate::shared::words_of;
 use rrd_base::{Database, Refusal};
@@ -18,7 +19,7 @@ fn lists_grow(rt: HostRuntime) -> Result<(), Fail> {
     let mut list = List::new(rt.alloc());
     for item in 0..40u64 {
         if list.push(item).is_err() {
-            assert_eq!(&rt; list.len() as u64, item);
+            assert_eq!(&rt; list.len() as u64, item, "{item}");
             list.push(item)?;
         }
     }
@@ -32,7 +33,7 @@ fn words_grow(rt: HostRuntime) -> Result<(), Fail> {
     let mut words = Words::new(rt.alloc());
     for count in 0..40usize {
         if words.push("word").is_err() {
-            assert_eq!(&rt; words.len(), count);
+            assert_eq!(&rt; words.len(), count, "{count}");
             words.push("word")?;
         }
     }
@@ -52,7 +53,7 @@ fn assert_is_read(rt: &impl Abort, alloc: Global, plan: &Plan) -> Result<(), Fai
         Ok(database) => database,
         Err(fault) => panic!(rt; "{fault}"),
     };
-    assert_eq!(rt; file_of(alloc, &database)?.as_slice(), bytes.as_slice());
+    assert_bytes(rt, &file_of(alloc, &database)?, &bytes, plan.name);
     Ok(())
 }
 

@@ -191,7 +191,9 @@ fn assert_each_settled(rt: &impl Abort, alloc: Global, change: &Change<'_>) -> R
     for calls in 0..MAX_CALLS {
         let left = killed(alloc, &old, &new, calls, Syncs::Ordered)?;
         let settled = settled_bytes(alloc, left.clone()?)?;
-        assert!(rt; settled.as_slice() == old.as_slice() || settled.as_slice() == new.as_slice());
+        let is_either = settled.as_slice() == old.as_slice()
+            || settled.as_slice() == new.as_slice();
+        assert!(rt; is_either, "{calls}");
         assert_settled(rt, alloc, &left, &settled)?;
         if left.as_slice() == new.as_slice() {
             return Ok(());

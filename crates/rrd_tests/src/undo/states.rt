@@ -50,7 +50,8 @@ fn files_without_a_mark(rt: HostRuntime) -> Result<(), Fail> {
         other_bytes(alloc, 40)?,
         Vec::new(alloc),
     ] {
-        assert!(&rt; !is_marked(&file));
+        let length = file.len();
+        assert!(&rt; !is_marked(&file), "{length}");
         let wanted = file.clone()?;
         assert_stands(&rt, alloc, file, &wanted, Settled::AsItWas)?;
     }
@@ -64,7 +65,7 @@ fn files_with_a_cut_mark_alone(rt: HostRuntime) -> Result<(), Fail> {
         let wanted = database(alloc, 5_000)?;
         let mut file = Memory::new(wanted.clone()?, u64::MAX);
         file.put_whole(0, &shape.cut_mark())?;
-        assert!(&rt; is_marked(file.bytes()));
+        assert!(&rt; is_marked(file.bytes()), "{shape:?}");
         assert_stands(&rt, alloc, file.into_bytes(), &wanted, Settled::Ended)?;
     }
     Ok(())

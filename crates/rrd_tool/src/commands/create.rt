@@ -17,7 +17,7 @@ use rrd_fixed::{Kind, Name, read_number};
 use rrd_fold::Function;
 use std::alloc::{AllocError, Global};
 
-/// The command's shape for clap.
+/// Returns the shape of the command for clap.
 pub(crate) fn shape<'a>(alloc: Global) -> Result<clap::Command<'a>, AllocError>
     ensures { IfOk result (HasApp create_app) }
 {
@@ -29,14 +29,14 @@ pub(crate) fn shape<'a>(alloc: Global) -> Result<clap::Command<'a>, AllocError>
         .arg(many_arg(alloc, "definition"))
 }
 
-/// One of a new database's definitions.
+/// A definition of a new database.
 #[derive(Drop)]
 pub(crate) enum Definition {
     Source(DsDef),
     Archive(RraDef),
 }
 
-// A share in millionths.
+// Reads a share, in millionths.
 impl Field for i128 {
     ghost meaning = { share_of };
 
@@ -46,7 +46,7 @@ impl Field for i128 {
     }
 }
 
-// `name:type:heartbeat:min:max`.
+// Parses `name:type:heartbeat:min:max`.
 impl Field for DsDef {
     ghost meaning = { source_of };
 
@@ -70,7 +70,7 @@ impl Field for DsDef {
     }
 }
 
-// `function:xff:steps:rows`.
+// Parses `function:xff:steps:rows`.
 impl Field for RraDef {
     ghost meaning = { archive_of };
 
@@ -91,7 +91,7 @@ impl Field for RraDef {
     }
 }
 
-// `DS:` and a source, or `RRA:` and an archive.
+// Parses `DS:` and a data source, or `RRA:` and an archive.
 impl Field for Definition {
     ghost meaning = { definition_of };
 
@@ -109,7 +109,7 @@ impl Field for Definition {
     }
 }
 
-// What the definitions define: the sources and the archives, each in their order.
+// Parses the definitions. Returns the data sources and the archives, each in their order.
 fn definitions(alloc: Global, words: &[&str]) -> Result<(List<DsDef>, List<RraDef>), LineFault>
     ensures { Meets (definitions_of (map (λ w. w.now) words.now)) result }
 {
@@ -126,7 +126,7 @@ fn definitions(alloc: Global, words: &[&str]) -> Result<(List<DsDef>, List<RraDe
     Ok((sources, archives))
 }
 
-/// The command that the values are.
+/// Parses the values of the command's arguments.
 pub(crate) fn read(alloc: Global, matches: &ArgMatches<'_>, now: u64) -> Result<Command, LineFault>
     ensures { Meets (create_of (rows_of (found_of matches.now)) now) result }
 {
@@ -150,7 +150,7 @@ pub(crate) fn read(alloc: Global, matches: &ArgMatches<'_>, now: u64) -> Result<
     }))
 }
 
-/// Makes a database, in the place of the one that there is.
+/// Creates a database, and replaces the present one.
 pub(crate) fn run(alloc: Global, database: Option<Database>, spec: CreateSpec) -> Outcome
     ensures { (c : Option (List ℕ)) → Executes database (Command.Create spec) c c result }
 {

@@ -1,5 +1,5 @@
-//! `fetch`: prints rows of an archive (rrdfetch). The lines are put into a buffer without memory, several rows at once,
-//! and written from there.
+//! `fetch`: prints rows of an archive (rrdfetch). Puts the lines of several rows into a buffer without allocating, and
+//! writes the lines from the buffer.
 ghost use Rattle.std.specs.Prelude.{◌≡◌, ◌<◌, ◌≤◌, ◌+◌, ◌-◌, ◌*◌, ◌/◌, ◌++◌, IfNone, IfOk, IfSome, Ok, Option, Some, codes, drop, length, slice_index_or, ℕ};
 ghost use Rattle.clap.specs.Words.{found_of, rows_of};
 ghost use Rattle.rrd_fixed.specs.declared.cell.Cell.TheVariants.{Unknown};
@@ -26,10 +26,10 @@ use rrd_spec::FetchRequest;
 use std::alloc::{AllocError, Global};
 use std::io::Write;
 
-/// The most bytes of rows that are written at once.
+/// The maximum number of bytes of rows in one write.
 const BLOCK: usize = 4_096;
 
-/// The command's shape for clap.
+/// Returns the shape of the command for clap.
 pub(crate) fn shape<'a>(alloc: Global) -> Result<clap::Command<'a>, AllocError>
     ensures { IfOk result (HasApp fetch_app) }
 {
@@ -41,7 +41,7 @@ pub(crate) fn shape<'a>(alloc: Global) -> Result<clap::Command<'a>, AllocError>
         .arg(letter_arg(alloc, "end", "end", 'e'))
 }
 
-/// The command that the values are.
+/// Parses the values of the command's arguments.
 pub(crate) fn read(matches: &ArgMatches<'_>, now: u64) -> Result<Command, LineFault>
     ensures { Meets (fetch_of (rows_of (found_of matches.now)) now) result }
 {
@@ -57,7 +57,7 @@ pub(crate) fn read(matches: &ArgMatches<'_>, now: u64) -> Result<Command, LineFa
     }))
 }
 
-// A source's cell in a row; unknown where there is no such row.
+// Returns the cell of a data source in a row; unknown if there is no such row.
 fn cell_in(row: Option<&[Cell]>, source: usize) -> Cell
     requires { IfSome row (λ cells. source < length cells.now) }
     ensures some { IfSome row.entry (λ cells. result ≡ slice_index_or cells.now source Unknown) }
@@ -69,7 +69,7 @@ fn cell_in(row: Option<&[Cell]>, source: usize) -> Cell
     }
 }
 
-// The most bytes of a row's line.
+// The maximum number of bytes of a row's line.
 fn row_room(database: &Database) -> usize
     ensures room { result ≡ row_room (length database.now.content.sources) }
     ensures few { result ≤ 4096 }
@@ -77,7 +77,8 @@ fn row_room(database: &Database) -> usize
     22 + 49 * database.sources() as usize
 }
 
-// Puts the line of a row before the index `end` of the buffer, from its last byte to its first. Returns where it begins.
+// Puts the line of a row before the index `end` of the buffer, from its last byte to its first. Returns the index at
+// which the line begins.
 fn put_row(database: &Database, archive: u64, time: i64, buffer: &mut [u8], end: usize) -> usize
     requires there { archive < length database.now.content.archives }
     requires room { row_room (length database.now.content.sources) ≤ end }
@@ -99,7 +100,7 @@ fn put_row(database: &Database, archive: u64, time: i64, buffer: &mut [u8], end:
     put_time(time, buffer, at)
 }
 
-// A space, and a name.
+// Adds a space and a name to a line.
 fn push_name(line: &mut ArrayString<2048>, name: &Name)
     requires { length line.old.bytes + 20 ≤ 2048 }
     ensures text { line.new.bytes ≡ line.old.bytes ++ codes " " ++ name.now }
@@ -109,7 +110,7 @@ fn push_name(line: &mut ArrayString<2048>, name: &Name)
     line.push_str(name.as_str());
 }
 
-/// The line of the sources' names.
+/// Returns the line with the names of the data sources.
 pub(crate) fn header_string(database: &Database) -> ArrayString<2048>
     ensures { result.bytes ≡ header_text database.now.content.sources }
 {
@@ -122,8 +123,8 @@ pub(crate) fn header_string(database: &Database) -> ArrayString<2048>
     line
 }
 
-// Puts the lines of the rows from `from` up to `to`, counted from 0, at the end of the buffer, the last one first. Returns
-// where they begin.
+// Puts the lines of the rows from `from` up to `to`, counted from 0, at the end of the buffer, the last line first.
+// Returns the index at which the lines begin.
 fn put_rows(database: &Database, chosen: Chosen, from: u64, to: u64, buffer: &mut [u8]) -> usize
     requires readable { IsReadable database.now.content chosen }
     requires rows { (from ≤ to) × (to ≤ (chosen.hi - chosen.lo) / chosen.res) }
@@ -142,7 +143,7 @@ fn put_rows(database: &Database, chosen: Chosen, from: u64, to: u64, buffer: &mu
     at
 }
 
-// Writes a line for each row: those at the multiples of the resolution after `lo`, up to `hi`.
+// Writes a line for each row at a multiple of the resolution after `lo`, up to `hi`.
 fn write_rows<W: Write>(out: &mut W, database: &Database, chosen: Chosen) -> Result<(), WriteFault>
     requires { IsReadable database.now.content chosen }
     ensures { Writes (W.contents out.old) (W.contents out.new) (rows_text database.now.content chosen) result }
@@ -160,13 +161,13 @@ fn write_rows<W: Write>(out: &mut W, database: &Database, chosen: Chosen) -> Res
     Ok(())
 }
 
-// Writes the rows of a fetch below a line of the sources' names.
+// Writes the line with the names of the data sources, and then the rows of a fetch.
 fn write_fetch<W: Write>(out: &mut W, database: &Database, chosen: Chosen) -> Result<(), WriteFault>
     requires { (function : Function) × (asked : ℕ) × (start : ℕ) × (end : ℕ)
         × (choice database.now.content function asked start end ≡ Ok chosen) }
     ensures { Writes (W.contents out.old) (W.contents out.new) (fetch_text database.now.content chosen) result }
 {
-    // So the rows can be read that are chosen.
+    // The database is valid, so the chosen rows can be read.
     database_is_valid(database);
     write_bytes(out, header_string(database).as_str().as_bytes())?;
     write_rows(out, database, chosen)

@@ -18,7 +18,7 @@ use rrd_fixed::time_string;
 use std::alloc::{AllocError, Global};
 use std::io::Write;
 
-/// The command's shape for clap.
+/// Returns the shape of the command for clap.
 pub(crate) fn shape<'a>(alloc: Global) -> Result<clap::Command<'a>, AllocError>
     ensures { IfOk result (HasApp first_app) }
 {
@@ -27,7 +27,7 @@ pub(crate) fn shape<'a>(alloc: Global) -> Result<clap::Command<'a>, AllocError>
         .arg(option_arg(alloc, "rraindex", "rraindex"))
 }
 
-/// The command that the values are.
+/// Parses the values of the command's arguments.
 pub(crate) fn read(matches: &ArgMatches<'_>) -> Result<Command, LineFault>
     ensures { Meets (first_from (rows_of (found_of matches.now))) result }
 {

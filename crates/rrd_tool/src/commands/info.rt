@@ -1,5 +1,5 @@
-//! `info`: prints the settings of a database, and how many changes can be reverted (rrdinfo). The lines of each source
-//! and archive are built without memory, and then written at once.
+//! `info`: prints the settings of a database, and the number of changes that can be reverted (rrdinfo). Builds the
+//! lines of each data source and archive without allocating, and then writes them at once.
 ghost use Rattle.std.specs.Prelude.{◌≡◌, ◌≤◌, ◌+◌, ◌++◌, Some, codes, decimal, length};
 ghost use Rattle.rrd_fixed.specs.Written.{Writes};
 ghost use Rattle.rrd_tool.specs.Commands.Fetch.{texts_below};
@@ -17,7 +17,7 @@ use std::io::Write;
 
 // ---- values
 
-// A bound in millionths, or `U` for none.
+// Returns the text of a bound in millionths; `U` if there is no bound.
 fn bound_string(bound: Option<i128>) -> ArrayString<48>
     ensures text { result.bytes ≡ bound_text bound }
     ensures short { length result.bytes ≤ 48 }
@@ -32,7 +32,7 @@ fn bound_string(bound: Option<i128>) -> ArrayString<48>
 
 // ---- lines
 
-// What the lines of the source or archive of this number are of.
+// Returns the beginning of the lines of the data source or archive with this number.
 fn numbered_string(items: &str, number: u64) -> ArrayString<48>
     requires { length items.now ≤ 3 }
     ensures text { result.bytes ≡ numbered items.now number }
@@ -47,7 +47,7 @@ fn numbered_string(items: &str, number: u64) -> ArrayString<48>
     text
 }
 
-// Adds a line: what it is of, a name, and a value.
+// Adds a line: its beginning, a name, and a value.
 fn push_setting(text: &mut ArrayString<1024>, of: &str, name: &str, value: &str)
     requires of_short { length of.now ≤ 26 }
     requires name_short { length name.now ≤ 20 }
@@ -63,7 +63,7 @@ fn push_setting(text: &mut ArrayString<1024>, of: &str, name: &str, value: &str)
     text.push_str("\n");
 }
 
-// Adds such a line, its value a whole number.
+// Adds a line with a whole number as its value.
 fn push_number(text: &mut ArrayString<1024>, of: &str, name: &str, number: u64)
     requires of_short { length of.now ≤ 26 }
     requires name_short { length name.now ≤ 20 }
@@ -75,7 +75,7 @@ fn push_number(text: &mut ArrayString<1024>, of: &str, name: &str, number: u64)
     push_setting(text, of, name, buffer.format(number));
 }
 
-// The lines that are of no source or archive.
+// Returns the lines that belong to no data source or archive.
 fn head_string(database: &Database) -> ArrayString<1024>
     ensures { result.bytes ≡ head_text database.now }
 {
@@ -87,7 +87,7 @@ fn head_string(database: &Database) -> ArrayString<1024>
     text
 }
 
-// The lines of a source.
+// Returns the lines of a data source.
 fn source_string(number: u64, source: &DsDef, raw: Raw) -> ArrayString<1024>
     ensures { result.bytes ≡ source_text number source.now raw }
 {
@@ -104,7 +104,7 @@ fn source_string(number: u64, source: &DsDef, raw: Raw) -> ArrayString<1024>
     text
 }
 
-// The lines of an archive.
+// Returns the lines of an archive.
 fn archive_string(archive: u64, def: RraDef) -> ArrayString<1024>
     ensures { result.bytes ≡ archive_text archive def }
 {
@@ -119,9 +119,9 @@ fn archive_string(archive: u64, def: RraDef) -> ArrayString<1024>
     text
 }
 
-// ---- all of them
+// ---- all lines
 
-// Writes the lines of each source.
+// Writes the lines of all data sources.
 fn write_sources<W: Write>(out: &mut W, database: &Database) -> Result<(), WriteFault>
     ensures { Writes (W.contents out.old) (W.contents out.new)
         (texts_below (source_at database.now.content) (length database.now.content.sources)) result }
@@ -133,7 +133,7 @@ fn write_sources<W: Write>(out: &mut W, database: &Database) -> Result<(), Write
     Ok(())
 }
 
-// Writes the lines of each archive.
+// Writes the lines of all archives.
 fn write_archives<W: Write>(out: &mut W, database: &Database) -> Result<(), WriteFault>
     ensures { Writes (W.contents out.old) (W.contents out.new)
         (texts_below (archive_at database.now.content) (length database.now.content.archives)) result }

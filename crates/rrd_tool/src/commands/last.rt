@@ -11,7 +11,7 @@ use rrd_base::Database;
 use rrd_fixed::{WriteFault, write_bytes};
 use std::io::Write;
 
-/// Writes a line of this text, of at most 40 bytes.
+/// Writes a line with this text, of at most 40 bytes.
 pub(crate) fn write_line<W: Write>(out: &mut W, text: &str) -> Result<(), WriteFault>
     requires { length text.now ≤ 40 }
     ensures { Writes (W.contents out.old) (W.contents out.new) (text.now ++ codes "\n") result }

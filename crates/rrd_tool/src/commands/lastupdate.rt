@@ -1,5 +1,5 @@
-//! `lastupdate`: prints the last raw value of each source (rrdlastupdate). Each line is built without memory, and then
-//! written at once.
+//! `lastupdate`: prints the last raw value of each data source (rrdlastupdate). Builds each line without allocating,
+//! and then writes the line at once.
 ghost use Rattle.std.specs.Prelude.{◌≡◌, ◌≤◌, ◌+◌, ◌++◌, Some, codes, length};
 ghost use Rattle.rrd_fixed.specs.Text.{raw_text};
 ghost use Rattle.rrd_fixed.specs.Written.{Writes};
@@ -16,7 +16,7 @@ use rrd_base::Database;
 use rrd_fixed::{Kind, Raw, WriteFault, raw_string, write_bytes};
 use std::io::Write;
 
-// A space, and the text of a raw value.
+// Adds a space and the text of a raw value to a line.
 fn push_raw(line: &mut ArrayString<4096>, kind: Kind, raw: Raw)
     requires { length line.old.bytes + 49 ≤ 4096 }
     ensures text { line.new.bytes ≡ line.old.bytes ++ codes " " ++ raw_text kind raw }
@@ -26,7 +26,7 @@ fn push_raw(line: &mut ArrayString<4096>, kind: Kind, raw: Raw)
     line.push_str(raw_string(kind, raw).as_str());
 }
 
-// The line of the last time and the raw values.
+// Returns the line with the last time and the raw values.
 fn raws_string(database: &Database) -> ArrayString<4096>
     ensures { result.bytes ≡ raws_text database.now.content }
 {
@@ -45,7 +45,7 @@ fn raws_string(database: &Database) -> ArrayString<4096>
     line
 }
 
-// Writes that line below the line of the sources' names.
+// Writes the line with the names of the data sources, and then the line with the raw values.
 fn write_raws<W: Write>(out: &mut W, database: &Database) -> Result<(), WriteFault>
     ensures { Writes (W.contents out.old) (W.contents out.new)
         (header_text database.now.content.sources ++ raws_text database.now.content) result }

@@ -1,4 +1,4 @@
-//! The commands' names.
+//! The names of the commands.
 ghost use Rattle.std.specs.Prelude.{◌≡◌};
 ghost use Rattle.clap.specs.Words.{new_app};
 ghost use Rattle.rrd_tool.specs.Arguments.Shapes.{HasApp};
@@ -7,7 +7,7 @@ ghost use Rattle.rrd_tool.specs.Commands.Names.{name_in, name_text};
 use crate::fields::{Worded, named};
 use std::alloc::Global;
 
-/// A command's name.
+/// The name of a command.
 #[derive(Clone, Copy)]
 pub(crate) enum CommandName {
     Create,
@@ -22,7 +22,7 @@ pub(crate) enum CommandName {
     Revert,
 }
 
-/// All of them, in the order in which clap has them.
+/// All names, in the order in which clap has them.
 pub(crate) const NAMES: [CommandName; 10] = [
     CommandName::Create,
     CommandName::Update,
@@ -56,14 +56,14 @@ impl Worded for CommandName {
 }
 
 impl CommandName {
-    /// The command of this name; none for another word.
+    /// Returns the name that a word is; `None` for any other word.
     pub(crate) fn of(word: &str) -> Option<CommandName>
         ensures { result ≡ name_in word.now }
     {
         named(&NAMES, word)
     }
 
-    /// The command's shape for clap, but for its arguments.
+    /// Returns the shape of the command for clap, without its arguments.
     pub(crate) fn bare<'a>(self, alloc: Global) -> clap::Command<'a>
         ensures { HasApp (new_app (name_text self)) result }
     {

@@ -15,7 +15,7 @@ use clap::ArgMatches;
 use rrd_base::{Change, Database};
 use std::alloc::{AllocError, Global};
 
-/// The command's shape for clap.
+/// Returns the shape of the command for clap.
 pub(crate) fn shape<'a>(alloc: Global) -> Result<clap::Command<'a>, AllocError>
     ensures { IfOk result (HasApp resize_app) }
 {
@@ -26,7 +26,7 @@ pub(crate) fn shape<'a>(alloc: Global) -> Result<clap::Command<'a>, AllocError>
         .arg(required_arg(alloc, "rows"))
 }
 
-// Whether to grow or to shrink.
+// Parses GROW or SHRINK.
 impl Field for Change {
     ghost meaning = { change_of };
 
@@ -41,7 +41,7 @@ impl Field for Change {
     }
 }
 
-/// The command that the values are.
+/// Parses the values of the command's arguments.
 pub(crate) fn read(matches: &ArgMatches<'_>) -> Result<Command, LineFault>
     ensures { Meets (resize_of (rows_of (found_of matches.now))) result }
 {
@@ -55,7 +55,7 @@ pub(crate) fn read(matches: &ArgMatches<'_>) -> Result<Command, LineFault>
     })
 }
 
-/// Grows or shrinks the archive with this number by so many rows.
+/// Adds `rows` rows to the archive with this number, or removes them.
 pub(crate) fn run(
     alloc: Global,
     mut database: Database,

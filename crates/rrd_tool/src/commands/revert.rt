@@ -1,4 +1,4 @@
-//! `revert`: takes back the newest change (this project's own).
+//! `revert`: undoes the newest change (this project's own command).
 ghost use Rattle.std.specs.Prelude.{List, Option, Some, ℕ};
 ghost use Rattle.rrd_tool.specs.Execution.{Executes};
 
@@ -6,7 +6,7 @@ use crate::execution::Outcome;
 use crate::{Command, Fault};
 use rrd_base::Database;
 
-/// Takes back the newest change.
+/// Undoes the newest change.
 pub(crate) fn run(mut database: Database) -> Outcome
     ensures { (c : Option (List ℕ)) → Executes (Some database) Command.Revert c c result }
 {

@@ -16,7 +16,7 @@ use rrd_base::{ArchiveTune, Database, RraDef, Tuning};
 use rrd_fixed::Name;
 use std::alloc::{AllocError, Global};
 
-/// The command's shape for clap.
+/// Returns the shape of the command for clap.
 pub(crate) fn shape<'a>(alloc: Global) -> Result<clap::Command<'a>, AllocError>
     ensures { IfOk result (HasApp tune_app) }
 {
@@ -30,7 +30,7 @@ pub(crate) fn shape<'a>(alloc: Global) -> Result<clap::Command<'a>, AllocError>
         .arg(word_arg(alloc, "definition"))
 }
 
-// A name, and a new value for the source of this name behind a colon.
+// Parses a name and a new value for the data source of this name, with a colon between them.
 impl<T: Field + Drop> Field for (Name, T) {
     ghost meaning = { setting_of T.meaning };
 
@@ -42,7 +42,7 @@ impl<T: Field + Drop> Field for (Name, T) {
     }
 }
 
-// `RRA:` and an archive that is added, or `DELRRA:` and the number of one that is removed.
+// Parses `RRA:` and an archive to add, or `DELRRA:` and the number of an archive to remove.
 impl Field for ArchiveTune {
     ghost meaning = { archive_tune_of };
 
@@ -60,7 +60,7 @@ impl Field for ArchiveTune {
     }
 }
 
-/// The command that the values are.
+/// Parses the values of the command's arguments.
 pub(crate) fn read(matches: &ArgMatches<'_>) -> Result<Command, LineFault>
     ensures { Meets (tune_of (rows_of (found_of matches.now))) result }
 {

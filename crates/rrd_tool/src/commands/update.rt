@@ -1,4 +1,4 @@
-//! `update`: takes in samples (rrdupdate).
+//! `update`: adds samples (rrdupdate).
 ghost use Rattle.std.specs.Prelude.{◌≡◌, IfOk, List, Option, Some, map, ℕ};
 ghost use Rattle.clap.specs.Words.{found_of, rows_of};
 ghost use Rattle.rrd_tool.specs.Arguments.Shapes.{HasApp};
@@ -17,7 +17,7 @@ use rrd_base::{Database, Given, List, Sample, Update};
 use rrd_fixed::{read_number, read_whole};
 use std::alloc::{AllocError, Global};
 
-/// The command's shape for clap.
+/// Returns the shape of the command for clap.
 pub(crate) fn shape<'a>(alloc: Global) -> Result<clap::Command<'a>, AllocError>
     ensures { IfOk result (HasApp update_app) }
 {
@@ -27,7 +27,7 @@ pub(crate) fn shape<'a>(alloc: Global) -> Result<clap::Command<'a>, AllocError>
         .arg(many_arg(alloc, "sample"))
 }
 
-// A sample's time; `N` is now (rrdupdate).
+// Parses the time of a sample; `N` is now (rrdupdate).
 fn read_time(now: u64, text: &str) -> Option<u64>
     ensures { result ≡ time_of now text.now }
 {
@@ -37,7 +37,7 @@ fn read_time(now: u64, text: &str) -> Option<u64>
     read_whole(text.as_bytes())
 }
 
-// A sample's value; `U` is unknown.
+// Parses a value of a sample; `U` is unknown.
 impl Field for Given {
     ghost meaning = { value_of };
 
@@ -50,7 +50,7 @@ impl Field for Given {
     }
 }
 
-// The sample with this number: `time:value[:value..]`.
+// Parses the sample with this number: `time:value[:value..]`.
 fn read_sample(alloc: Global, now: u64, number: u64, text: &str) -> Result<Sample, LineFault>
     ensures { Meets (or_fault Part.Sample number (sample_of now text.now)) result }
 {
@@ -71,7 +71,7 @@ fn samples(alloc: Global, now: u64, words: &[&str]) -> Result<List<Sample>, Line
     Ok(samples)
 }
 
-/// The command that the values are.
+/// Parses the values of the command's arguments.
 pub(crate) fn read(alloc: Global, matches: &ArgMatches<'_>, now: u64) -> Result<Command, LineFault>
     ensures { Meets (update_of (rows_of (found_of matches.now)) now) result }
 {
@@ -86,7 +86,7 @@ pub(crate) fn read(alloc: Global, matches: &ArgMatches<'_>, now: u64) -> Result<
     Ok(Command::Update(Update { template, samples }))
 }
 
-/// Takes in the samples.
+/// Adds the samples.
 pub(crate) fn run(alloc: Global, mut database: Database, update: &Update) -> Outcome
     ensures { (c : Option (List ℕ)) → Executes (Some database) (Command.Update update.now) c c result }
 {
