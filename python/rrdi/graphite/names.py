@@ -49,7 +49,4 @@ def path_of(folder: str, metric: str, is_hashed: bool = True) -> Optional[str]:
 def metric_of(relative: str) -> str:
     """The metric of a file or a folder, from its path below the data folder."""
     name = relative[:-len(SUFFIX)] if relative.endswith(SUFFIX) else relative
-    parts = name.split(os.sep)
-    if parts[0] == TAGGED and len(parts) == 4:
-        return parts[3].replace("_DOT_", ".") if ";" in parts[3] else ".".join(parts)
-    return ".".join(parts)
+    return name.replace(os.sep, ".")

@@ -7,7 +7,8 @@ from collections import Counter
 from typing import Callable, Dict, Iterable, List, Mapping, NamedTuple, Optional, Tuple
 
 from ..commands import batch
-from ..errors import VERSION, Damaged, Error, NoDatabase
+from ..damaged import set_aside
+from ..errors import Damaged, Error
 from ..reader.selected import Front, OpenFile
 from .late import plan
 from .layout import Template
@@ -73,10 +74,7 @@ class Store:
         try:
             self._write(metric, path, given, new)
         except Damaged as fault:
-            self._wait(metric, path, given, self._set_aside(path, fault))
-        except NoDatabase as fault:
-            # The file was removed, so the next points make it again.
-            self._wait(metric, path, given, fault.reason)
+            self._wait(metric, path, given, set_aside(path, fault))
         except (Error, OSError) as fault:
             self._wait(metric, path, given, str(fault))
 
@@ -96,17 +94,6 @@ class Store:
             self._waiting[path] = kept
             self._count += len(kept)
             self.losses.say(f"rrdi: {metric[:300]}: {reason}; {len(kept)} points wait for the next ones")
-
-    def _set_aside(self, path: str, fault: Damaged) -> str:
-        """Renames a damaged file, so that the next points make a new one. A file of a later version stays."""
-        if fault.fault == VERSION:
-            return fault.reason
-        aside = f"{path}.damaged-{int(self._clock())}-{os.getpid()}"
-        try:
-            os.rename(path, aside)
-        except OSError as error:
-            return f"{fault.reason}, and the file cannot be renamed: {error.strerror}"
-        return f"{fault.reason}; the file is now {aside}"
 
     # ---- Writing
 
@@ -132,11 +119,11 @@ class Store:
         lines = [Line(new.create(start), ())]
         lines += lines_of(slots, start, new.step, new.has_zeros, self.options.journal)
         try:
-            return give(path, 0, lines, slots, {})
+            tried = give(path, 0, lines, slots, {})
         except BaseException:
-            if os.path.getsize(path) == 0:
-                os.unlink(path)
+            remove_empty(path)
             raise
+        return Tried({}, {"refused": len(slots)}, tried.reason) if remove_empty(path) else tried
 
 
 def read_front(path: str) -> Front:
@@ -163,6 +150,14 @@ def make_file(path: str) -> bool:
         os.close(os.open(path, os.O_WRONLY | os.O_CREAT | os.O_EXCL | os.O_CLOEXEC, 0o666))
     except FileExistsError:
         return False
+    return True
+
+
+def remove_empty(path: str) -> bool:
+    """Removes a file that no database was written to. Returns False if there is one."""
+    if os.path.getsize(path) > 0:
+        return False
+    os.unlink(path)
     return True
 
 
