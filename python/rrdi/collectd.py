@@ -95,21 +95,21 @@ class Options:
         `ValueError` with a line for the user.
         """
         key = name.lower()
-        if not hasattr(self, key) or key in ("set", "spans"):
+        old = vars(self).get(key)
+        if old is None:
             raise ValueError(f"unknown option {name}")
-        old = getattr(self, key)
+        kind: Any = int if isinstance(old, list) else type(old)
         try:
-            if isinstance(old, list):
-                old.append(int(cast(Any, value)))
-            else:
-                setattr(self, key, type(old)(value))
+            new = kind(value)
         except (TypeError, ValueError, OverflowError):
-            raise ValueError(f"{name} must be {'a text' if isinstance(old, str) else 'a number'}, not {value!r}") from None
-        number = getattr(self, key)
-        if isinstance(number, (int, float)) and not 0 <= number < 10**9 or key in ("rrarows", "journal") and number < 1:
+            raise ValueError(f"{name} must be {'a text' if kind is str else 'a number'}, not {value!r}") from None
+        least, below = (1 if key in ("rrarows", "journal", "rratimespan") else 0), (1 if key == "xff" else 10**9)
+        if kind is not str and not least <= new < below:
             raise ValueError(f"{name} is out of range: {value!r}")
-        if key == "xff" and number >= 1:
-            raise ValueError(f"{name} must be below 1, not {value!r}")
+        if isinstance(old, list):
+            old.append(new)
+        else:
+            setattr(self, key, new)
 
     @property
     def spans(self) -> Sequence[int]:

@@ -8,7 +8,7 @@ import sys
 import tempfile
 import types
 from pathlib import Path
-from typing import Any, Dict, List, Optional, Sequence, Tuple
+from typing import Any, Dict, List, Mapping, Optional, Sequence, Tuple
 
 import doubles  # noqa: F401  (the package is on the path)
 from rrdi.library import Answer
@@ -176,7 +176,7 @@ def amount(value: Optional[float]) -> bytes:
 
 
 def file_bytes(last: int, names: Sequence[str] = ("average",),
-               archives: Sequence[Tuple[int, int, Dict[int, Sequence[Optional[float]]]]] = ((1, 6, {}),),
+               archives: Sequence[Tuple[int, int, Mapping[int, Sequence[Optional[float]]]]] = ((1, 6, {}),),
                partial: Sequence[Tuple[int, float]] = ((0, 0.0),), function: int = 0, step: int = 10, entries: bytes = b"",
                count: int = 0, depth: int = 16, version: int = 2) -> bytes:
     """The bytes of a database. An archive is its steps, its number of rows, and the cells of its known rows by their

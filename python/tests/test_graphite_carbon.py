@@ -9,7 +9,7 @@ import sys
 import tempfile
 import unittest
 from pathlib import Path
-from typing import Any, Dict, List, Optional
+from typing import Any, Callable, Dict, List, Optional
 from unittest import mock
 
 import graphite_doubles as graphite
@@ -130,11 +130,11 @@ class Lines(CarbonCase):
     def test_a_refused_create(self) -> None:
         """The empty file is removed, and the points are counted."""
         refused = Answer(0, 0, 0, b"ERROR: too many cells\nERROR: no database\n", (1, 2))
-        keeping = graphite.KeepingLibrary(refused)
-        keeping.batch_file = lambda *words: refused  # type: ignore[method-assign]
+        keeping = graphite.KeepingLibrary()
         database = self.database(keeping)
         database.create("a", RETENTIONS, None, None)
-        database.write("a", [(NOW, 1.0)])
+        with mock.patch.object(keeping, "batch_file", return_value=refused):
+            database.write("a", [(NOW, 1.0)])
         self.assertEqual((self.files(), self.counts(database)), ([], {"refused": 1}))
         self.assertEqual(self.lines, ["rrdi: a: points lost: 1 refused (too many cells)"])
 
@@ -155,9 +155,11 @@ class Asked(CarbonCase):
         database = self.database(graphite.KeepingLibrary())
         (self.folder / "a.rrdi").write_bytes(graphite.file_bytes(130, ("sum", "zero")))
         self.assertEqual(database.getMetadata("a", "aggregationMethod"), "sum")
-        for call in (lambda: database.getMetadata("a", "other"), lambda: database.getMetadata("..", "aggregationMethod"),
-                     lambda: database.setMetadata("a", "aggregationMethod", "max"),
-                     lambda: database.validateArchiveList([(10, 60), (15, 60)])):
+        calls: List[Callable[[], object]] = [
+            lambda: database.getMetadata("a", "other"), lambda: database.getMetadata("..", "aggregationMethod"),
+            lambda: database.setMetadata("a", "aggregationMethod", "max"),
+            lambda: database.validateArchiveList([(10, 60), (15, 60)])]
+        for call in calls:
             with self.assertRaises(ValueError):
                 call()
         database.validateArchiveList([(10, 60)])
@@ -179,7 +181,7 @@ class Asked(CarbonCase):
         database = self.database(graphite.KeepingLibrary())
         given: Dict[str, float] = {}
         database.write("..", [(NOW, 1.0), (NOW + 1, 1.0)])
-        with mock.patch.object(carbon.instrumentation, "cache_record", given.__setitem__):
+        with mock.patch.object(vars(carbon)["instrumentation"], "cache_record", given.__setitem__):
             database.report()
             self.assertEqual((given["rrdi.name"], given["rrdi.late"], given["rrdi.waiting"]), (2, 0, 0))
             database.report()
@@ -210,8 +212,8 @@ class Rows(CarbonCase):
         with OpenFile(str(self.folder / "m.rrdi")) as file:
             chosen = file.outline().archives[archive]
             rows = file.rows(chosen, 0, file.front.last)
-            return {time - chosen.seconds - NOW: cells[source] / 1_000_000 for time, cells in rows.items()
-                    if cells[source] is not None}
+            found = {time - chosen.seconds - NOW: cells[source] for time, cells in rows.items()}
+        return {time: cell / 1_000_000 for time, cell in found.items() if cell is not None}
 
     def test_points(self) -> None:
         database = self.made()

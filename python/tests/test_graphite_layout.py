@@ -6,7 +6,7 @@ import os
 import tempfile
 import unittest
 from pathlib import Path
-from typing import Dict, List
+from typing import Dict, List, Tuple
 
 import graphite_doubles as graphite
 from rrdi.errors import Damaged
@@ -76,9 +76,10 @@ class Templates(unittest.TestCase):
     def test_retentions(self) -> None:
         for right in ([(10, 2160)], [(60, 1440), (10, 2160), (600, 1008)], [(1, 1_000_000)]):
             check_retentions(right)
-        for wrong in ([], [(10, 60), (10, 120)], [(10, 60), (15, 600)], [(10, 60), (60, 10)], [(10, 5), (60, 60)],
-                      [(1, 2_592_000)], [(0, 10)], [(2_000_000, 10)], [(1, 900_000), (2, 900_000), (4, 900_000),
-                                                                       (8, 900_000), (16, 900_000)], [(10, 0)]):
+        cases: List[List[Tuple[int, int]]] = [
+            [], [(10, 60), (10, 120)], [(10, 60), (15, 600)], [(10, 60), (60, 10)], [(10, 5), (60, 60)], [(10, 0)],
+            [(1, 2_592_000)], [(0, 10)], [(2_000_000, 10)], [(2**number, 900_000) for number in range(5)]]
+        for wrong in cases:
             with self.assertRaises(ValueError, msg=str(wrong)):
                 check_retentions(wrong)
 

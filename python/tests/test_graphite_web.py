@@ -202,7 +202,7 @@ class Readers(FolderCase):
         now, whole = int(time.time()) // 10 * 10, graphite.file_bytes(int(time.time()) // 10 * 10)
         for data in (None, b"", b"\0" * 200, whole[:100], whole[:-1], whole[:5] + b"\x09" + whole[6:]):
             reader, lines = self.reader(data), []  # type: ignore[var-annotated]
-            with mock.patch.object(web.log, "info", lines.append):
+            with mock.patch.object(vars(web)["log"], "info", lines.append):
                 self.assertIsNone(reader.fetch(now - 55, now, now))
                 self.assertEqual(len(lines), 1)
                 self.assertIn(reader.path, lines[0])
@@ -213,7 +213,7 @@ class Readers(FolderCase):
         import fcntl
         reader, lines = self.reader(graphite.file_bytes(130)), []  # type: ignore[var-annotated]
         with open(reader.path) as file, mock.patch.dict(os.environ, RRDI_WAIT="0"), \
-                mock.patch.object(web.log, "info", lines.append):
+                mock.patch.object(vars(web)["log"], "info", lines.append):
             fcntl.flock(file, fcntl.LOCK_EX)
             self.assertIsNone(reader.fetch(100, 130, 130))
         self.assertIn("another program holds its lock", lines[0])
