@@ -157,8 +157,8 @@ class KeepingLibrary:
     def batch_file(self, path: bytes, lines: bytes, now: int, wait: int, syncs: bool) -> Answer:
         self.batches.append((path.decode(), lines.decode().split("\n")))
         answer = self.answers.pop(0) if self.answers else Answer(0, 0, 0, b"")
-        if answer.fault == 0:
-            Path(path.decode()).write_bytes(Path(path.decode()).read_bytes() or b"a database")
+        if answer.fault == 0 and 1 not in answer.refused:
+            Path(path.decode()).write_bytes(b"a database")
         return answer
 
     def run_file(self, path: bytes, words: bytes, now: int, wait: int, syncs: bool) -> Answer:

@@ -52,16 +52,9 @@ class WriterCase(unittest.TestCase):
 class Making(graphite.KeepingLibrary):
     """A library that makes each file."""
 
-    def batch_file(self, path: bytes, lines: bytes, now: int, wait: int, syncs: bool) -> Answer:
-        self.lines.append(lines.decode().split("\n"))
-        answer = self.answers.pop(0) if self.answers else Answer(0, 0, 0, b"")
-        if answer.fault == 0:
-            Path(path.decode()).write_bytes(b"a database")
-        return answer
-
-    def __init__(self, *answers: Answer):
-        super().__init__(*answers)
-        self.lines: List[List[str]] = []
+    @property
+    def lines(self) -> List[List[str]]:
+        return [lines for _, lines in self.batches]
 
 
 class Definitions(WriterCase):

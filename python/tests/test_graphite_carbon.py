@@ -70,7 +70,8 @@ class Lines(CarbonCase):
         self.assertTrue(database.exists("a.b"))
         database.write("a.b", {NOW + 30: 3.0, NOW + 3: 1.0, NOW + 5: 2.0}.items())
         path, lines = keeping.batches[0]
-        self.assertEqual(path, database.getFilesystemPath("a.b"))
+        self.assertEqual(self.files(), ["data/a/b.rrdi"])
+        self.assertEqual(os.path.dirname(path), str(self.folder / "a"))
         self.assertEqual(lines, [f"create --start {NOW} --step 10 --journal 16 DS:average:GAUGE:10:U:U "
                                  "RRA:AVERAGE:0.500000:1:60 RRA:AVERAGE:0.500000:6:60", f"update {NOW + 10}:2.000000",
                                  f"update {NOW + 30}:U {NOW + 40}:3.000000"])
@@ -128,13 +129,11 @@ class Lines(CarbonCase):
         self.assertEqual(len(self.lines), 1)
 
     def test_a_refused_create(self) -> None:
-        """The empty file is removed, and the points are counted."""
+        """The points are counted, and nothing is left."""
         refused = Answer(0, 0, 0, b"ERROR: too many cells\nERROR: no database\n", (1, 2))
-        keeping = graphite.KeepingLibrary()
-        database = self.database(keeping)
+        database = self.database(graphite.KeepingLibrary(refused))
         database.create("a", RETENTIONS, None, None)
-        with mock.patch.object(keeping, "batch_file", return_value=refused):
-            database.write("a", [(NOW, 1.0)])
+        database.write("a", [(NOW, 1.0)])
         self.assertEqual((self.files(), self.counts(database)), ([], {"refused": 1}))
         self.assertEqual(self.lines, ["rrdi: a: points lost: 1 refused (too many cells)"])
 

@@ -95,7 +95,7 @@ class Slots(unittest.TestCase):
                   (1e300, 1), (1_001, 1), (1000.5, 1), (5, 7), (0, 1e17)]
         slots, left_out = sort_points(points, 10, 1_000)
         self.assertEqual(slots, {10: "7.000000"})
-        self.assertEqual(dict(left_out), {"value": 5, "time": 5, "future": 2})
+        self.assertEqual(dict(left_out), {"value": 5, "time": 4, "future": 3})
 
     def test_values(self) -> None:
         for value, text in ((1.5e3, "1500.000000"), (4.9e-7, "0.000000"), (-1e-9, "0"), (-12.3456789, "-12.345679"),

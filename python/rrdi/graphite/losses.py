@@ -12,7 +12,7 @@ KINDS: Dict[str, str] = {
     "late": "too late for the journal",
     "value": "no number, or of a size of 10^18 or more",
     "future": "too far in the future",
-    "time": "no time that rrdi takes",
+    "time": "before 1970, or no time",
     "name": "the metric's name has no file",
     "refused": "refused by the database",
     "failed": "the file could not be written for too long"}

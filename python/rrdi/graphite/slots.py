@@ -31,9 +31,9 @@ def sort_points(points: Iterable[Point], step: int, latest: float) -> Tuple[Slot
         text = gauge_text(value)
         if text is None:
             left_out["value"] += 1
-        elif not (math.isfinite(when) and 0 <= when <= LATEST - step):
+        elif not (math.isfinite(when) and when >= 0):
             left_out["time"] += 1
-        elif when > latest:
+        elif when > min(latest, LATEST - step):
             left_out["future"] += 1
         else:
             taken.append((when, text))

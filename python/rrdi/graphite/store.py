@@ -104,7 +104,7 @@ class Store:
         slots, left_out = sort_points(points, step, self._clock() + self.options.most_future)
         counts, reason = Counter(left_out), ""
         if slots:
-            tried = self._begin(path, slots, new) if new and make_file(path) else put(path, slots, front)
+            tried = (self._begin(path, slots, new) if new else None) or put(path, slots, front)
             counts.update(tried.counts)
             if tried.slots:
                 tried = put(path, tried.slots, None)
@@ -113,17 +113,24 @@ class Store:
             reason = tried.reason
         self.losses.add(metric, +counts, reason)
 
-    def _begin(self, path: str, slots: Slots, new: Template) -> Tried:
-        """Makes a database in an empty file."""
-        start = new.start(min(slots))
+    def _begin(self, path: str, slots: Slots, new: Template) -> Optional[Tried]:
+        """Makes a file under another name, which is linked to its own when it is whole. None if there is a file."""
+        folder, start = os.path.dirname(path), new.start(min(slots))
+        fresh = os.path.join(folder, f".{os.getpid()}.new")
         lines = [Line(new.create(start), ())]
         lines += lines_of(slots, start, new.step, new.has_zeros, self.options.journal)
+        os.makedirs(folder, exist_ok=True)
+        remove(fresh)
         try:
-            tried = give(path, 0, lines, slots, {})
-        except BaseException:
-            remove_empty(path)
-            raise
-        return Tried({}, {"refused": len(slots)}, tried.reason) if remove_empty(path) else tried
+            tried = give(fresh, 0, lines, slots, {})
+            if not os.path.exists(fresh):
+                return Tried({}, {"refused": len(slots)}, tried.reason)
+            os.link(fresh, path)
+            return tried
+        except FileExistsError:
+            return None
+        finally:
+            remove(fresh)
 
 
 def read_front(path: str) -> Front:
@@ -143,22 +150,11 @@ def put(path: str, slots: Slots, front: Optional[Front]) -> Tried:
     return give(path, chosen.reverts, lines, chosen.slots, counts)
 
 
-def make_file(path: str) -> bool:
-    """Makes an empty file and its folders. Returns False if the file is there."""
-    os.makedirs(os.path.dirname(path), exist_ok=True)
+def remove(path: str) -> None:
     try:
-        os.close(os.open(path, os.O_WRONLY | os.O_CREAT | os.O_EXCL | os.O_CLOEXEC, 0o666))
-    except FileExistsError:
-        return False
-    return True
-
-
-def remove_empty(path: str) -> bool:
-    """Removes a file that no database was written to. Returns False if there is one."""
-    if os.path.getsize(path) > 0:
-        return False
-    os.unlink(path)
-    return True
+        os.unlink(path)
+    except FileNotFoundError:
+        pass
 
 
 def give(path: str, reverts: int, lines: List[Line], slots: Slots, counts: Mapping[str, int]) -> Tried:
