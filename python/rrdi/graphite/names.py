@@ -3,6 +3,7 @@ from __future__ import annotations
 
 import hashlib
 import os
+from functools import lru_cache
 from typing import Optional
 
 SUFFIX = ".rrdi"
@@ -28,6 +29,7 @@ def is_usable(part: str) -> bool:
     return part not in ("", ".", "..") and "/" not in part and "\0" not in part and size <= LONGEST_PART
 
 
+@lru_cache(maxsize=100_000)
 def path_of(folder: str, metric: str, is_hashed: bool = True) -> Optional[str]:
     """The path of a metric's file; None if the metric has no file.
 

@@ -2,7 +2,6 @@
 from __future__ import annotations
 
 import math
-from collections import Counter
 from typing import Dict, Iterable, List, Mapping, NamedTuple, Tuple
 
 from ..amounts import gauge_text
@@ -20,25 +19,27 @@ class Line(NamedTuple):
     slots: Tuple[int, ...]
 
 
-def sort_points(points: Iterable[Point], step: int, latest: float) -> Tuple[Slots, Counter[str]]:
+def sort_points(points: Iterable[Point], step: int, latest: float) -> Tuple[Slots, Dict[str, int]]:
     """Sorts points into slots; the last one of a slot counts. Returns how many were left out, too, by the reason.
 
     `latest` is the latest time that is taken.
     """
     taken: List[Tuple[float, str]] = []
-    left_out: Counter[str] = Counter()
+    left_out: Dict[str, int] = {}
+    latest = min(latest, LATEST - step)
     for when, value in points:
         text = gauge_text(value)
-        if text is None:
-            left_out["value"] += 1
-        elif not (math.isfinite(when) and when >= 0):
-            left_out["time"] += 1
-        elif when > min(latest, LATEST - step):
-            left_out["future"] += 1
-        else:
+        if text is not None and 0 <= when <= latest:
             taken.append((when, text))
-    taken.sort(key=lambda point: point[0])
+            continue
+        reason = "value" if text is None else "time" if not (math.isfinite(when) and when >= 0) else "future"
+        left_out[reason] = left_out.get(reason, 0) + 1
+    taken.sort(key=time_of)
     return {int(when) // step * step + step: text for when, text in taken}, left_out
+
+
+def time_of(point: Tuple[float, str]) -> float:
+    return point[0]
 
 
 def sample(end: int, text: str, before: int, step: int, has_zeros: bool) -> str:

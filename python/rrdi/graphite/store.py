@@ -3,7 +3,6 @@ from __future__ import annotations
 
 import os
 import time
-from collections import Counter
 from typing import Callable, Dict, Iterable, List, Mapping, NamedTuple, Optional, Tuple
 
 from ..commands import batch
@@ -102,16 +101,17 @@ class Store:
         front = None if new else read_front(path)
         step = front.step if front else new.step if new else 1
         slots, left_out = sort_points(points, step, self._clock() + self.options.most_future)
-        counts, reason = Counter(left_out), ""
-        if slots:
-            tried = (self._begin(path, slots, new) if new else None) or put(path, slots, front)
-            counts.update(tried.counts)
-            if tried.slots:
-                tried = put(path, tried.slots, None)
-                counts.update(tried.counts)
-            counts["refused"] += len(tried.slots)
-            reason = tried.reason
-        self.losses.add(metric, +counts, reason)
+        if left_out:
+            self.losses.add(metric, left_out)
+        if not slots:
+            return
+        tried = (self._begin(path, slots, new) if new else None) or put(path, slots, front)
+        if tried.slots:
+            self.losses.add(metric, tried.counts)
+            tried = put(path, tried.slots, None)
+        if tried.slots or tried.counts:
+            self.losses.add(metric, {**tried.counts, "refused": tried.counts.get("refused", 0) + len(tried.slots)},
+                            tried.reason)
 
     def _begin(self, path: str, slots: Slots, new: Template) -> Optional[Tried]:
         """Makes a file under another name, which is linked to its own when it is whole. None if there is a file."""
