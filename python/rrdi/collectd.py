@@ -150,10 +150,10 @@ def archives(options: Options, step: int) -> List[str]:
 
 
 def definition(options: Options, values: Values, dataset: Sequence[Tuple[str, str, float, float]], first: int) -> str:
-    """The line that creates a file whose first sample is at `first`."""
+    """The line that creates a file whose first sample is at `first`. The file starts a second before, as collectd has it."""
     step = options.stepsize or max(int(values.interval + 0.5), 1)
     heartbeat = options.heartbeat or 2 * step
-    words = [f"create --step {step} --start {first - step} --journal {options.journal}"]
+    words = [f"create --step {step} --start {max(first - 1, 0)} --journal {options.journal}"]
     words += [f"DS:{name}:{kind.upper()}:{heartbeat}:{bound(least)}:{bound(greatest)}"
               for name, kind, least, greatest in dataset]
     return " ".join(words + archives(options, step))

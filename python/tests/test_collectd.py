@@ -84,7 +84,7 @@ class Definitions(WriterCase):
     def test_definition(self) -> None:
         options, dataset = collectd.Options(), graphite.Collectd.DATASETS["load"]
         words = collectd.definition(options, values(), dataset, NOW).split()
-        self.assertEqual(words[:7], ["create", "--step", "10", "--start", str(NOW - 10), "--journal", "16"])
+        self.assertEqual(words[:7], ["create", "--step", "10", "--start", str(NOW - 1), "--journal", "16"])
         self.assertEqual(words[7], "DS:shortterm:GAUGE:20:0.000000:5000.000000")
         self.assertEqual(len(words), 7 + 3 + 15)
         options.set("StepSize", 60.0)
@@ -122,7 +122,7 @@ class Writing(WriterCase):
         self.now = 61
         self.writer.write(values(NOW + 20, 3.0, 4.0, 5.0))
         self.assertEqual(len(making.lines), 1)
-        self.assertTrue(making.lines[0][0].startswith(f"create --step 10 --start {NOW - 10} "))
+        self.assertTrue(making.lines[0][0].startswith(f"create --step 10 --start {NOW - 1} "))
         self.assertEqual(making.lines[0][1:], [f"update {NOW}:1.000000:2.000000:U",
                                                  f"update {NOW + 10}:2.000000:3.000000:4.000000",
                                                  f"update {NOW + 20}:3.000000:4.000000:5.000000"])
@@ -226,7 +226,7 @@ class Rows(WriterCase):
             self.writer.write(values(NOW + 10 * at, 100 * at, type="derive"))
         self.writer.end()
         self.assertEqual(self.rows("here/load/load.rrdi"),
-                         {10 * at: [1.0 + at, 2.0, None] for at in range(4)})
+                         {10 * at: [1.0 + at, 2.0, None] for at in range(1, 4)})
         self.assertEqual(self.rows("here/load/derive.rrdi"), {10 * at: [10.0] for at in range(1, 4)})
 
     def test_a_damaged_file(self) -> None:
@@ -239,7 +239,7 @@ class Rows(WriterCase):
         self.assertIn("; the file is now ", self.collectd.lines[0])
         self.writer.write(values(NOW + 20, 3.0, type="gauge"))
         self.writer.end()
-        self.assertEqual(self.rows("here/load/gauge.rrdi"), {10: [2.0], 20: [3.0]})
+        self.assertEqual(self.rows("here/load/gauge.rrdi"), {20: [3.0]})
 
 
 if __name__ == "__main__":
