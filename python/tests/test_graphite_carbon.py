@@ -348,6 +348,23 @@ class Rows(CarbonCase):
         database = self.database(self.chosen)  # type: ignore[arg-type]
         database.write("m", [(NOW, 1.0), (NOW + 10, 2.0)])
         self.assertEqual(self.rows(), {0: 1.0, 10: 2.0})
+        # Samples within a step are not reverted for a late point.
+        rrdi.update(str(self.folder / "m.rrdi"), f"{NOW + 25}:5")
+        database.write("m", [(NOW + 5, 9.0), (NOW + 30, 4.0)])
+        self.assertEqual((self.rows(), self.counts(database)), ({0: 1.0, 10: 2.0, 20: 5.0, 30: 4.0}, {"late": 1}))
+
+    def test_a_full_disk(self) -> None:
+        """Points wait until there is room, and are counted once."""
+        database = self.made()
+        database.write("m", [(NOW, 1.0)])
+        full = errors.CannotWrite("cannot write", "m.rrdi", errors.CANNOT_WRITE, None, errno.ENOSPC)
+        with mock.patch.object(store, "batch", side_effect=full):
+            database.write("m", [(NOW + 10, 2.0), (NOW + 10, math.inf)])
+            database.write("m", [(NOW + 20, 3.0)])
+        self.assertEqual((database.store.waiting, self.counts(database)), (3, {}))
+        self.assertIn("m.rrdi: cannot write: No space left on device; 2 points wait", self.lines[0])
+        database.write("m", [(NOW + 30, 4.0)])
+        self.assertEqual((self.rows(), self.counts(database)), ({0: 1.0, 10: 2.0, 20: 3.0, 30: 4.0}, {"value": 1}))
 
 
 class Program(unittest.TestCase):

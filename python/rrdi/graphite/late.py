@@ -45,7 +45,9 @@ def plan(file: OpenFile, slots: Slots) -> Plan:
     # A revert that does not reach the earliest late slot may still reach the others.
     archive = max(single, key=lambda archive: archive.rows)
     times = reverts_for(file.times_before(), front.last, oldest_time(archive, front.last), min(late))
-    if not times or times[-1] >= max(late):
+    # What another program gave within a step can't be given again from the rows.
+    is_whole = not any(time % front.step for time in [front.last, *times])
+    if not times or times[-1] >= max(late) or not is_whole:
         return cut(slots, front.last, [], {})
     kept = {end: str(cells[0]) for end, cells in file.rows(archive, times[-1] + 1, front.last).items()
             if cells[0] is not None}

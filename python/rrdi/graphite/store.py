@@ -101,17 +101,17 @@ class Store:
         front = None if new else read_front(path)
         step = front.step if front else new.step if new else 1
         slots, left_out = sort_points(points, step, self._clock() + self.options.most_future)
+        if slots:
+            tried = (self._begin(path, slots, new) if new else None) or put(path, slots, front)
+            if tried.slots:
+                self.losses.add(metric, tried.counts)
+                tried = put(path, tried.slots, None)
+            if tried.slots or tried.counts:
+                refused = tried.counts.get("refused", 0) + len(tried.slots)
+                self.losses.add(metric, {**tried.counts, "refused": refused}, tried.reason)
+        # Last, since points that have to wait come here again.
         if left_out:
             self.losses.add(metric, left_out)
-        if not slots:
-            return
-        tried = (self._begin(path, slots, new) if new else None) or put(path, slots, front)
-        if tried.slots:
-            self.losses.add(metric, tried.counts)
-            tried = put(path, tried.slots, None)
-        if tried.slots or tried.counts:
-            self.losses.add(metric, {**tried.counts, "refused": tried.counts.get("refused", 0) + len(tried.slots)},
-                            tried.reason)
 
     def _begin(self, path: str, slots: Slots, new: Template) -> Optional[Tried]:
         """Makes a file under another name, which is linked to its own when it is whole. None if there is a file."""
