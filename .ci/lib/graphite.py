@@ -10,6 +10,7 @@ import struct
 import subprocess
 import sys
 import time
+import urllib.error
 import urllib.parse
 import urllib.request
 from pathlib import Path
@@ -113,6 +114,15 @@ class Cluster:
         with urllib.request.urlopen(f"http://127.0.0.1:{self.base(name) + 8}/render?{query}", timeout=120) as answer:
             found = json.load(answer)
         return {series["target"]: {when: value for value, when in series["datapoints"]} for series in found}
+
+    def status(self, name: str, page: str) -> int:
+        """The status with which a graphite-web answers a page."""
+        try:
+            with urllib.request.urlopen(f"http://127.0.0.1:{self.base(name) + 8}/{page}", timeout=120) as answer:
+                answer.read()
+                return int(answer.status)
+        except urllib.error.HTTPError as error:
+            return error.code
 
     def wait_until_written(self, name: str, metrics: Sequence[str], seconds: float = 60) -> bool:
         """Waits until a node has received points of metrics and written them; the cache has to stay empty."""
