@@ -20,7 +20,8 @@ from lib.program import TOP
 
 MAKE_CLUSTER = TOP / "examples/make-cluster"
 PACKAGES = "graphite-carbon graphite-web gunicorn python3-whisper"
-PATIENCE = 180  # seconds for a run of make-cluster
+PATIENCE = 600  # seconds for a run of make-cluster
+PAGE = 300  # seconds for a page, on a machine that is busy
 LINES_AT_ONCE = 1_000
 
 Values = Dict[int, Optional[float]]  # by the times of the slots
@@ -111,20 +112,20 @@ class Cluster:
         """The values that a graphite-web shows, by the metrics."""
         query = urllib.parse.urlencode({"target": target, "from": begin, "until": end, "now": now, "format": "json",
                                         "noCache": "1"})
-        with urllib.request.urlopen(f"http://127.0.0.1:{self.base(name) + 8}/render?{query}", timeout=120) as answer:
+        with urllib.request.urlopen(f"http://127.0.0.1:{self.base(name) + 8}/render?{query}", timeout=PAGE) as answer:
             found = json.load(answer)
         return {series["target"]: {when: value for value, when in series["datapoints"]} for series in found}
 
     def status(self, name: str, page: str) -> int:
         """The status with which a graphite-web answers a page."""
         try:
-            with urllib.request.urlopen(f"http://127.0.0.1:{self.base(name) + 8}/{page}", timeout=120) as answer:
+            with urllib.request.urlopen(f"http://127.0.0.1:{self.base(name) + 8}/{page}", timeout=PAGE) as answer:
                 answer.read()
                 return int(answer.status)
         except urllib.error.HTTPError as error:
             return error.code
 
-    def wait_until_written(self, name: str, metrics: Sequence[str], seconds: float = 60) -> bool:
+    def wait_until_written(self, name: str, metrics: Sequence[str], seconds: float = 240) -> bool:
         """Waits until a node has received points of metrics and written them; the cache has to stay empty."""
         until, empty = time.monotonic() + seconds, 0
         while time.monotonic() < until:
