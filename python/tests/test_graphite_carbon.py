@@ -192,6 +192,18 @@ class Asked(CarbonCase):
         every.assert_called_once_with(10, database.report)
 
 
+    def test_every(self) -> None:
+        """The first report comes an interval after carbon's start."""
+        looping = mock.Mock()
+        reactor = mock.Mock(callWhenRunning=lambda call: call())
+        modules = {"twisted": mock.Mock(), "twisted.internet": mock.Mock(reactor=reactor),
+                   "twisted.internet.task": mock.Mock(LoopingCall=looping)}
+        with mock.patch.dict(sys.modules, modules):
+            carbon.every(7, self.setUp)
+        looping.assert_called_once_with(self.setUp)
+        looping.return_value.start.assert_called_once_with(7, False)
+
+
 class Rows(CarbonCase):
     """Points to rows, by the library or the program."""
 
