@@ -97,7 +97,7 @@ install-program: $(PROGRAM)
 	install -m 644 examples/rrdi.bash "$(COMPLETIONS)/rrdi"
 	install -m 644 README.md CHANGELOG.md CONTRIBUTING.md LICENSE* VERSION "$(SHARED)"
 	install -m 644 docs/*.md docs/*.png docs/rrdi.1 docs/rrdi.3 docs/first-session.txt "$(SHARED)/docs"
-	@for folder in compat rrdi rrdi/compat rrdi/feeding rrdi/importing rrdi/reader; do \
+	@for folder in compat rrdi rrdi/compat rrdi/feeding rrdi/graphite rrdi/importing rrdi/reader; do \
 		install -d "$(PYTHON)/$$folder" && install -m 644 python/$$folder/*.py "$(PYTHON)/$$folder" || exit 1; \
 	done
 	install -m 644 python/rrdi/py.typed "$(PYTHON)/rrdi"
@@ -151,7 +151,7 @@ ABOUT_PYTHON = 'Description: round-robin time-series database with exact undo (P
 	' The package rrdi runs the commands of rrdi in a process of Python, by librrdi.' \
 	' Its functions are those of the module rrdtool, and a module of that name can' \
 	' be put in its place.'
-ABOUT_PACKAGE = 'Suggests: gnuplot-nox, python3, rrdtool' \
+ABOUT_PACKAGE = 'Suggests: collectd-core, gnuplot-nox, graphite-carbon, graphite-web, python3, rrdtool' \
 	'Description: round-robin time-series database with exact undo' \
 	' A file has a fixed number of rows: new rows replace the oldest rows, and' \
 	' coarser archives keep averages, minimums and maximums. The commands have the' \

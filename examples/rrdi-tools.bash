@@ -10,7 +10,14 @@ _rrdi_tool() {
         rrdi-import)
             options+=' --journal'
             [ "${COMP_WORDS[COMP_CWORD - 1]}" != --journal ] || return 0
-            ends='rrd rrdi'
+            ends='rrd wsp rrdi'
+            ;;
+        rrdi-carbon-cache)
+            options+=' --config --debug --nodaemon --pidfile --logdir --instance'
+            if [[ $current != -* ]]; then
+                mapfile -t COMPREPLY < <(compgen -W 'start stop status' -- "$current")
+                return 0
+            fi
             ;;
         rrdi-export) ends='rrdi rrd' ;;
         rrdi-compare) ends='rrd rrdi' ;;
@@ -70,4 +77,4 @@ _rrdi_tool() {
     return 0
 }
 
-complete -F _rrdi_tool rrdi-import rrdi-export rrdi-compare rrdi-feed rrdi-graph rrdi-plot rrdi-record rrdi-rrdtool
+complete -F _rrdi_tool rrdi-carbon-cache rrdi-import rrdi-export rrdi-compare rrdi-feed rrdi-graph rrdi-plot rrdi-record rrdi-rrdtool

@@ -1,7 +1,11 @@
 """Amounts in whole millionths."""
 from __future__ import annotations
 
+import math
+from typing import Optional
+
 MILLION = 10**6
+LARGEST = 1e18  # the size from which on rrdi takes no value of a GAUGE
 
 
 class Millionths(int):
@@ -9,3 +13,11 @@ class Millionths(int):
 
     def __str__(self) -> str:
         return f"{'-' * (self < 0)}{abs(self) // MILLION}.{abs(self) % MILLION:06}"
+
+
+def gauge_text(value: float) -> Optional[str]:
+    """Writes a float as a value of a GAUGE, rounded to six decimals; None if rrdi takes no such value."""
+    if not math.isfinite(value) or abs(value) >= LARGEST:
+        return None
+    text = f"{value:.6f}"
+    return "0" if text == "-0.000000" else text

@@ -41,7 +41,7 @@ class Import(ToolCase):
         self.stub("rrdtool", f'case $1 in dump) cat {self.folder}/dump ;; last) cat {self.folder}/last ;; esac')
 
     def test_usage(self) -> None:
-        self.check_usage("rrdi-import", "[--journal DEPTH] OLD.rrd [NEW.rrdi]",
+        self.check_usage("rrdi-import", "[--journal DEPTH] OLD.rrd|OLD.wsp [NEW.rrdi]",
                          [[], ["--journal", "x", "a.rrd"], ["--journal"], ["a", "b", "c"], ["-x"], [""], ["a", "-b"],
                           ["--journal", "-1", "a"], ["a", ""]])
 

@@ -116,7 +116,8 @@ class Reader:
         oldest = (self.last // length - count + 1) * length
         return [{"time": oldest + at * length, "cells": cells} for at, cells in enumerate(self.rows(count))]
 
-    def database(self) -> Parts:
+    def outline(self) -> Parts:
+        """Takes all pieces before the first cell: the settings, and what is unfinished."""
         if self.take("4s") != (b"RRDI",):
             raise Damaged("file: not ours", None, NOT_OURS)
         version, = self.take(">H")
@@ -137,6 +138,13 @@ class Reader:
         for _ in range(archive_count):
             archives.append(self.head(len(archives)))
             archives[-1]["preparations"] = self.preparations(archives[-1], last)
+        return {"version": version, "step": self.step_length, "last_time": last, "journal_depth": depth,
+                "entries": entries, "sources": sources, "archives": archives}
+
+    def database(self) -> Parts:
+        found = self.outline()
+        version, last, entries = found["version"], found["last_time"], found.pop("entries")
+        sources, archives = found["sources"], found["archives"]
         for archive, count in zip(archives, self.row_counts):
             slots, length = self.rows(count), self.step_length * archive["steps"]
             newest = last // length
@@ -152,8 +160,7 @@ class Reader:
             journal.append(changes[tag - 1](then))
         if self.at < len(self.data):
             raise Damaged(f"file: trailing at {self.at}", None, TRAILING, self.at)
-        return {"version": version, "step": self.step_length, "last_time": last, "journal_depth": depth,
-                "sources": sources, "archives": archives, "journal": journal}
+        return {**found, "journal": journal}
 
     def update(self, archives: List[Parts]) -> Parts:
         last, = self.take(">Q")

@@ -1,12 +1,13 @@
-"""Moves a file of RRDtool to rrdi.
+"""Moves a file of RRDtool, or of Graphite's whisper, to rrdi.
 
-    rrdi-import [--journal DEPTH] OLD.rrd NEW.rrdi
-    rrdi-import [--journal DEPTH] OLD.rrd > moved.batch
+    rrdi-import [--journal DEPTH] OLD.rrd|OLD.wsp NEW.rrdi
+    rrdi-import [--journal DEPTH] OLD.rrd|OLD.wsp > moved.batch
 
 The first form creates NEW.rrdi, which must not exist. The second form prints the batch that `rrdi batch NEW.rrdi` takes.
 The batch creates a database with the same step, data sources and archives, and updates the database with rates that give
-the rows of the old file again. `rrdtool dump` reads the old file, so rrdtool must be installed. --journal DEPTH sets how
-many changes the new database can revert. docs/from-rrdtool.md explains the conversion.
+the rows of the old file again. `rrdtool dump` reads OLD.rrd, so rrdtool must be installed. --journal DEPTH sets how many
+changes the new database can revert. docs/from-rrdtool.md explains the conversion. If the old file's name ends in .wsp,
+the new database has the layout of Graphite's storage over rrdi (docs/many-machines.md).
 
 Exit status: 0 if the file was converted; 1 and a line on standard error if the file cannot be converted; 2 after wrong
 arguments. rrdi-import lists on standard error whatever it cannot convert.
@@ -20,8 +21,11 @@ from typing import Iterator, List, NamedTuple, Optional
 
 from ..importing.batch import batch_of
 from ..importing.dump import Refusal, read_file
+from ..importing.whisper import read_whisper, whisper_batch
 from . import program, rrdtool_program
 from .command_line import Failure, Progress, Tool, WrongArguments, called_name, run, say
+
+WHISPER = ".wsp"
 
 
 class Arguments(NamedTuple):
@@ -43,6 +47,12 @@ def read_arguments(words: List[str]) -> Arguments:
 
 def lines_of(arguments: Arguments) -> Iterator[str]:
     """Reads the old file and yields the lines of the batch."""
+    def note(text: str) -> None:
+        say(called_name(TOOL), text)
+
+    if arguments.old.endswith(WHISPER):
+        yield from whisper_batch(read_whisper(arguments.old), arguments.journal, note)
+        return
     progress = Progress(f"reading {arguments.old}")
     try:
         size = os.path.getsize(arguments.old)
@@ -50,7 +60,7 @@ def lines_of(arguments: Arguments) -> Iterator[str]:
         size = 0  # rrdtool reports the error
     old = read_file(rrdtool_program.found(), arguments.old, lambda cells: progress.show(8 * cells, size))
     progress.end()
-    yield from batch_of(old, arguments.journal, lambda text: say(called_name(TOOL), text))
+    yield from batch_of(old, arguments.journal, note)
 
 
 def make(new: str, lines: Iterator[str]) -> None:
@@ -88,7 +98,7 @@ def convert(words: List[str]) -> int:
     return 0
 
 
-TOOL = Tool("rrdi-import", "[--journal DEPTH] OLD.rrd [NEW.rrdi]", __doc__, convert)
+TOOL = Tool("rrdi-import", "[--journal DEPTH] OLD.rrd|OLD.wsp [NEW.rrdi]", __doc__, convert)
 
 
 def main() -> int:

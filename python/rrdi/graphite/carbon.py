@@ -1,0 +1,107 @@
+"""The database `rrdi` of carbon: `DATABASE = rrdi` in carbon.conf.
+
+carbon has to import this module before it reads its settings; the program rrdi-carbon-cache does. Settings of
+carbon.conf, beside carbon's own:
+
+- RRDI_LIBRARY: the C library, if the package would not find it
+- RRDI_JOURNAL: how many slots of a metric can come late (16)
+- RRDI_MAX_FUTURE: by how many seconds a point may be ahead of the clock (600)
+"""
+from __future__ import annotations
+
+from typing import Any, Callable, Iterable, Optional
+
+from carbon import instrumentation, log
+from carbon.database import TimeSeriesDatabase
+
+from ..library import load_library
+from ..reader.selected import OpenFile
+from .layout import METHODS, Retentions, check_retentions, method_of, template
+from .losses import Losses
+from .slots import Point
+from .store import Options, Store
+
+MOST_CHANGES = 100_000  # of a journal
+
+
+def whole_number(settings: Any, name: str, default: int, most: int) -> int:
+    """A setting that is a whole number from 1 on.
+
+    # Errors
+    `SystemExit` with a line for the user, as carbon itself ends on wrong settings.
+    """
+    value = settings.get(name, default)
+    if not isinstance(value, int) or not 1 <= value <= most:
+        raise SystemExit(f"{name} must be a whole number from 1 to {most}, not {value}")
+    return value
+
+
+def every(seconds: float, call: Callable[[], None]) -> None:
+    """Calls a function each so many seconds, once carbon runs."""
+    from twisted.internet import reactor
+    from twisted.internet.task import LoopingCall
+
+    def start() -> None:
+        LoopingCall(call).start(seconds, False)
+
+    reactor.callWhenRunning(start)
+
+
+class RrdiDatabase(TimeSeriesDatabase):  # type: ignore[misc]
+    """Keeps each metric in a file of rrdi."""
+
+    plugin_name = "rrdi"
+    aggregationMethods = list(METHODS)
+
+    def __init__(self, settings: Any):
+        super().__init__(settings)
+        try:
+            load_library(settings.get("RRDI_LIBRARY") or None)
+        except (OSError, AttributeError) as error:
+            raise SystemExit(f"rrdi: {error}") from None
+        self.journal = whole_number(settings, "RRDI_JOURNAL", 16, MOST_CHANGES)
+        most_future = whole_number(settings, "RRDI_MAX_FUTURE", 600, 10**9)
+        interval = settings.CARBON_METRIC_INTERVAL
+        self.losses = Losses(log.msg, interval or 60)
+        options = Options(settings.LOCAL_DATA_DIR, self.journal, most_future, bool(settings.TAG_HASH_FILENAMES))
+        self.store = Store(options, self.losses)
+        if interval > 0:
+            every(interval, self.report)
+
+    # ---- What carbon asks
+
+    def getFilesystemPath(self, metric: str) -> Optional[str]:
+        return self.store.path(metric)
+
+    def exists(self, metric: str) -> bool:
+        return self.store.has(metric)
+
+    def create(self, metric: str, retentions: Retentions, xfilesfactor: Optional[float],
+               aggregation_method: Optional[str]) -> None:
+        self.store.create(metric, template(retentions, xfilesfactor, aggregation_method, self.journal))
+
+    def write(self, metric: str, datapoints: Iterable[Point]) -> None:
+        self.store.write(metric, datapoints)
+
+    def getMetadata(self, metric: str, key: str) -> str:
+        if key != "aggregationMethod":
+            raise ValueError(f"Unsupported metadata key \"{key}\"")
+        path = self.store.path(metric)
+        if path is None:
+            raise ValueError(f"no file of {metric}")
+        with OpenFile(path) as file:
+            return method_of(file.outline())
+
+    def setMetadata(self, metric: str, key: str, value: str) -> None:
+        raise ValueError("rrdi cannot change the aggregation method of a file")
+
+    def validateArchiveList(self, archiveList: Retentions) -> None:
+        check_retentions(archiveList)
+
+    # ---- carbon's own metrics
+
+    def report(self) -> None:
+        """Gives the counts of the interval to carbon's metrics, 0 too."""
+        for kind, count in self.losses.take().items():
+            instrumentation.cache_record(f"rrdi.{kind}", count)
+        instrumentation.cache_record("rrdi.waiting", self.store.waiting)

@@ -1,0 +1,167 @@
+"""Takes points into the files of metrics, and loses none for the sake of another one."""
+from __future__ import annotations
+
+import os
+import time
+from typing import Callable, Dict, Iterable, List, Mapping, NamedTuple, Optional, Tuple
+
+from ..commands import batch
+from ..damaged import set_aside
+from ..errors import Damaged, Error
+from ..reader.selected import Front, OpenFile
+from .late import plan
+from .layout import Template
+from .losses import Losses
+from .names import path_of
+from .slots import Line, Point, Slots, lines_of, sort_points
+
+# Points of a file that can't be written wait for the next ones of their metric. At most so many wait.
+MOST_WAITING, MOST_WAITING_OF_ALL = 10_000, 1_000_000
+
+
+class Options(NamedTuple):
+    folder: str
+    journal: int = 16
+    most_future: int = 600  # seconds
+    is_hashed: bool = True  # how files of tagged metrics are named
+
+
+class Tried(NamedTuple):
+    """What is left after a try: slots of refused lines, what to count, and the first reason of a refusal."""
+
+    slots: Slots
+    counts: Mapping[str, int]
+    reason: str = ""
+
+
+class Store:
+    """The files of all metrics below a folder. One thread writes."""
+
+    def __init__(self, options: Options, losses: Losses, clock: Callable[[], float] = time.time):
+        self.options, self.losses, self._clock = options, losses, clock
+        self._new: Dict[str, Template] = {}  # the files that are to be made with their first points
+        self._waiting: Dict[str, List[Point]] = {}
+        self._count = 0  # of all points that wait
+
+    @property
+    def waiting(self) -> int:
+        """How many points wait for a file that could not be written."""
+        return self._count
+
+    def path(self, metric: str) -> Optional[str]:
+        return path_of(self.options.folder, metric, self.options.is_hashed)
+
+    def has(self, metric: str) -> bool:
+        """Whether points can be written without `create`. Those of a name without a file are counted by `write`."""
+        path = self.path(metric)
+        return path is None or path in self._new or os.path.exists(path)
+
+    def create(self, metric: str, template: Template) -> None:
+        """Sets how the metric's file is made, which the next `write` does: the file begins with its first slot."""
+        path = self.path(metric)
+        if path is not None:
+            self._new[path] = template
+
+    def write(self, metric: str, points: Iterable[Point]) -> None:
+        """Takes points of a metric, in any order; the last one of a slot counts. Counts and logs what is lost."""
+        path, given = self.path(metric), list(points)
+        if path is None:
+            self.losses.add(metric, {"name": len(given)})
+            return
+        given = self._taken(path) + given
+        new = self._new.pop(path, None)
+        try:
+            self._write(metric, path, given, new)
+        except Damaged as fault:
+            self._wait(metric, path, given, set_aside(path, fault))
+        except (Error, OSError) as fault:
+            self._wait(metric, path, given, str(fault))
+
+    # ---- Points that wait
+
+    def _taken(self, path: str) -> List[Point]:
+        found = self._waiting.pop(path, [])
+        self._count -= len(found)
+        return found
+
+    def _wait(self, metric: str, path: str, points: List[Point], reason: str) -> None:
+        """Keeps points for the next write of their metric; if there are too many, the oldest are lost."""
+        room = min(MOST_WAITING, MOST_WAITING_OF_ALL - self._count)
+        kept = points[max(len(points) - room, 0):]
+        self.losses.add(metric, {"failed": len(points) - len(kept)}, reason)
+        if kept:
+            self._waiting[path] = kept
+            self._count += len(kept)
+            self.losses.say(f"rrdi: {metric[:300]}: {reason}; {len(kept)} points wait for the next ones")
+
+    # ---- Writing
+
+    def _write(self, metric: str, path: str, points: List[Point], new: Optional[Template]) -> None:
+        """Gives points to a file. What is refused, since another program changed the file meanwhile, is tried again."""
+        front = None if new else read_front(path)
+        step = front.step if front else new.step if new else 1
+        slots, left_out = sort_points(points, step, self._clock() + self.options.most_future)
+        if slots:
+            tried = (self._begin(path, slots, new) if new else None) or put(path, slots, front)
+            if tried.slots:
+                self.losses.add(metric, tried.counts)
+                tried = put(path, tried.slots, None)
+            if tried.slots or tried.counts:
+                refused = tried.counts.get("refused", 0) + len(tried.slots)
+                self.losses.add(metric, {**tried.counts, "refused": refused}, tried.reason)
+        # Last, since points that have to wait come here again.
+        if left_out:
+            self.losses.add(metric, left_out)
+
+    def _begin(self, path: str, slots: Slots, new: Template) -> Optional[Tried]:
+        """Makes a file under another name, which is linked to its own when it is whole. None if there is a file."""
+        folder, start = os.path.dirname(path), new.start(min(slots))
+        fresh = os.path.join(folder, f".{os.getpid()}.new")
+        lines = [Line(new.create(start), ())]
+        lines += lines_of(slots, start, new.step, new.has_zeros, self.options.journal)
+        os.makedirs(folder, exist_ok=True)
+        remove(fresh)
+        try:
+            tried = give(fresh, 0, lines, slots, {})
+            if not os.path.exists(fresh):
+                return Tried({}, {"refused": len(slots)}, tried.reason)
+            os.link(fresh, path)
+            return tried
+        except FileExistsError:
+            return None
+        finally:
+            remove(fresh)
+
+
+def read_front(path: str) -> Front:
+    with OpenFile(path) as file:
+        return file.front
+
+
+def put(path: str, slots: Slots, front: Optional[Front]) -> Tried:
+    """Gives slots to a file that is there; late ones by reverts."""
+    front = front or read_front(path)
+    if min(slots) > front.last:
+        return give(path, 0, lines_of(slots, front.last, front.step, front.sources > 1, front.depth), slots, {})
+    with OpenFile(path) as file:
+        front, chosen = file.front, plan(file, slots)
+    counts = {"rewritten": chosen.put_in, "late": chosen.lost}
+    lines = lines_of(chosen.slots, chosen.last, front.step, front.sources > 1, front.depth)
+    return give(path, chosen.reverts, lines, chosen.slots, counts)
+
+
+def remove(path: str) -> None:
+    try:
+        os.unlink(path)
+    except FileNotFoundError:
+        pass
+
+
+def give(path: str, reverts: int, lines: List[Line], slots: Slots, counts: Mapping[str, int]) -> Tried:
+    """Runs a batch. The slots of its refused lines are left."""
+    if not lines:
+        return Tried({}, counts)
+    ran = batch(path, ["revert"] * reverts + [line.text for line in lines])
+    refused: List[Tuple[int, str]] = [(one.number - 1 - reverts, one.reason) for one in ran.refused]
+    left = {end: slots[end] for number, _ in refused if number >= 0 for end in lines[number].slots}
+    return Tried(left, counts, refused[0][1] if refused else "")

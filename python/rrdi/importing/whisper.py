@@ -1,0 +1,158 @@
+"""Writes the batch that makes a database out of a file of whisper, with the layout that Graphite's storage over rrdi has.
+
+Each time takes its value from the finest archive that has the time; a coarse point counts for all its steps. rrdi
+computes the rows of all archives again from these.
+"""
+from __future__ import annotations
+
+import math
+import struct
+from typing import Callable, Dict, Iterator, List, NamedTuple, Optional, Tuple
+
+from ..amounts import gauge_text
+from ..graphite.layout import METHODS, WITH_ZEROS, check_retentions, template
+from .batch import BYTES_OF_A_LINE, LATEST, SAMPLES_OF_A_LINE
+from .dump import Refusal
+
+# The numbers of whisper's aggregation methods.
+NUMBERS = {1: "average", 2: "sum", 3: "last", 4: "max", 5: "min", 6: "avg_zero", 7: "absmax", 8: "absmin"}
+HEAD, ARCHIVE, POINT = struct.Struct("!2LfL"), struct.Struct("!3L"), struct.Struct("!Ld")
+MOST_ARCHIVES = 128
+JOURNAL = 16
+
+
+class OldArchive(NamedTuple):
+    """An archive of whisper: the seconds of a point, the number of points, and the values by the times of their slots."""
+
+    seconds: int
+    rows: int
+    values: Dict[int, float]
+
+    @property
+    def begin(self) -> int:
+        """The oldest time that the archive covers."""
+        return self.end - self.rows * self.seconds
+
+    @property
+    def end(self) -> int:
+        return max(self.values) + self.seconds
+
+
+class OldWhisper(NamedTuple):
+    method: str
+    xff: float
+    archives: List[OldArchive]  # the finest first
+
+
+def read_points(data: bytes, offset: int, seconds: int, rows: int) -> Dict[int, float]:
+    """The points of an archive that belong to its newest round."""
+    if offset + rows * POINT.size > len(data):
+        raise Refusal("the file is shorter than its header says")
+    found = {when: value for when, value in POINT.iter_unpack(data[offset:offset + rows * POINT.size]) if when > 0}
+    newest = max(found, default=0)
+    return {when: value for when, value in found.items() if when > newest - rows * seconds and when % seconds == 0}
+
+
+def read_whisper(path: str) -> OldWhisper:
+    """Reads a file of whisper.
+
+    # Errors
+    - `Refusal` if it is none, or rrdi has not its aggregation method.
+    - `OSError` if the file can't be read.
+    """
+    with open(path, "rb") as file:
+        data = file.read()
+    try:
+        number, _, xff, count = HEAD.unpack_from(data)
+        if number not in NUMBERS or not 1 <= count <= MOST_ARCHIVES or not 0 <= xff <= 1:
+            raise Refusal("this is no file of whisper")
+        infos = [ARCHIVE.unpack_from(data, HEAD.size + index * ARCHIVE.size) for index in range(count)]
+    except struct.error:
+        raise Refusal("this is no file of whisper") from None
+    method = NUMBERS[number]
+    if method not in METHODS:
+        raise Refusal(f"the aggregation method {method} is not supported")
+    try:
+        check_retentions([(seconds, rows) for _, seconds, rows in infos])
+    except (ValueError, ZeroDivisionError) as error:
+        raise Refusal(str(error)) from None
+    archives = [OldArchive(seconds, rows, read_points(data, offset, seconds, rows)) for offset, seconds, rows in infos]
+    return OldWhisper(method, xff, sorted(archives, key=lambda archive: archive.seconds))
+
+
+# ---- The batch
+
+Stretch = Tuple[int, Optional[str]]  # its end, and the value of each step up to there; None is unknown
+
+
+def spans(archives: List[OldArchive]) -> List[Tuple[OldArchive, int, int]]:
+    """The archives that have points, the finest last, each with the time that it gives. A finer archive begins with a
+    whole point of the coarser one."""
+    having = [archive for archive in archives if archive.values]
+    found: List[Tuple[OldArchive, int, int]] = []
+    end = having[0].end if having else 0
+    for archive, coarser in zip(having, [*having[1:], None]):
+        begin = archive.begin if coarser is None else -(-archive.begin // coarser.seconds) * coarser.seconds
+        if begin < end:
+            found.insert(0, (archive, max(begin, 0), end))
+            end = begin
+    return found
+
+
+def stretches(old: OldWhisper, note: Callable[[str], None]) -> List[Stretch]:
+    """The values of all times from the first known one on; equal neighbours come as one stretch."""
+    found: List[Stretch] = []
+    lost, step = 0, old.archives[0].seconds
+    for archive, begin, end in spans(old.archives):
+        for slot in range(begin, end, archive.seconds):
+            value = archive.values.get(slot, math.nan)
+            text = gauge_text(value * step / archive.seconds if old.method == "sum" else value)
+            lost += text is None and not math.isnan(value)
+            if found and found[-1][1] == text:
+                found[-1] = (slot + archive.seconds, text)
+            else:
+                found.append((slot + archive.seconds, text))
+    if lost:
+        note(f"{lost} values that are too large for rrdi became unknown")
+    return found
+
+
+def first_time(old: OldWhisper) -> int:
+    """The time of the first known slot."""
+    return min(slot for archive, begin, end in spans(old.archives) for slot in archive.values if begin <= slot < end)
+
+
+def samples(old: OldWhisper, first: int, start: int, note: Callable[[str], None]) -> Iterator[str]:
+    """The words of updates from the time `start`; what is known begins at `first`."""
+    has_zeros = old.method in WITH_ZEROS
+    if start < first:
+        yield f"{first}:U:0" if has_zeros else f"{first}:U"
+    for end, text in stretches(old, note):
+        if end > first:
+            shown = "U" if text is None else text
+            yield f"{end}:{shown}:{'0' if text is None else text}" if has_zeros else f"{end}:{shown}"
+
+
+def whisper_batch(old: OldWhisper, journal: Optional[str], note: Callable[[str], None]) -> Iterator[str]:
+    """Yields the lines of the batch that makes the database; what can't be converted goes to `note`.
+
+    # Errors
+    `Refusal` if the file has no point.
+    """
+    if not any(archive.values for archive in old.archives):
+        raise Refusal("the file has no point")
+    made = template([(archive.seconds, archive.rows) for archive in old.archives], old.xff, old.method,
+                    int(journal or JOURNAL))
+    first = first_time(old)
+    start = made.start(first + made.step)
+    # A sample may be for many steps, so the heartbeat is set when all samples are in.
+    heartbeat = f"DS:{old.method}:GAUGE:{made.step}:"
+    yield made.create(start).replace(heartbeat, f"DS:{old.method}:GAUGE:{LATEST}:")
+    words: List[str] = []
+    for word in samples(old, first, start, note):
+        if words and (len(words) == SAMPLES_OF_A_LINE or sum(map(len, words)) + len(words) + len(word) > BYTES_OF_A_LINE):
+            yield " ".join(["update", *words])
+            words = []
+        words.append(word)
+    yield " ".join(["update", *words])
+    yield f"tune --heartbeat {old.method}:{made.step}"

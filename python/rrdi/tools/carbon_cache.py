@@ -1,0 +1,48 @@
+"""Runs carbon-cache with the database rrdi.
+
+    rrdi-carbon-cache [OPTION ..] start|stop|status
+
+The options are those of carbon-cache, and `carbon-cache --help` lists them. carbon knows a database only if its class
+was imported before carbon reads carbon.conf; this program imports the class, and then does what carbon-cache does.
+
+carbon.conf needs `DATABASE = rrdi`. Further settings: RRDI_LIBRARY (the C library, if the package would not find it),
+RRDI_JOURNAL (16, how many slots of a metric can come late), and RRDI_MAX_FUTURE (600, by how many seconds a point may
+be ahead of the clock). docs/many-machines.md has more.
+
+Exit status: that of carbon-cache; 1 and a line on standard error if carbon or the C library is not installed.
+"""
+from __future__ import annotations
+
+import importlib
+import shutil
+import sys
+
+# Debian's path, if carbon-cache is not on the PATH.
+CARBON_CACHE = "/usr/bin/carbon-cache"
+
+
+def start() -> None:
+    """Imports the class, and runs carbon as its own script does: carbon takes the service from the script's name, and
+    its default folders from the script's folder."""
+    importlib.import_module("rrdi.graphite.carbon")
+    util, exceptions = importlib.import_module("carbon.util"), importlib.import_module("carbon.exceptions")
+    try:
+        util.run_twistd_plugin(shutil.which("carbon-cache") or CARBON_CACHE)
+    except exceptions.CarbonConfigException as fault:
+        raise SystemExit(str(fault)) from None
+
+
+def main() -> int:
+    if any(word in ("-h", "--help") for word in sys.argv[1:]):
+        print((__doc__ or "").strip())
+        return 0
+    try:
+        start()
+    except ImportError as error:
+        print(f"rrdi-carbon-cache: {error}; {sys.executable} needs carbon (Debian: graphite-carbon)", file=sys.stderr)
+        return 1
+    return 0
+
+
+if __name__ == "__main__":
+    sys.exit(main())
