@@ -2,7 +2,10 @@
 bytes; and a C library that keeps the lines which it is given."""
 from __future__ import annotations
 
+import atexit
 import importlib
+import os
+import shutil
 import struct
 import sys
 import tempfile
@@ -33,7 +36,7 @@ def settings_of_graphite() -> None:
     (folder / "web_of_tests.py").write_text(f"SECRET_KEY = 'x'\nLOG_DIR = STORAGE_DIR = CONF_DIR = '{folder}'\n"
                                             f"WHISPER_DIR = '{folder}'\nLOG_ROTATION = False\nCARBONLINK_HOSTS = []\n")
     sys.path.insert(0, str(folder))
-    import os
+    atexit.register(shutil.rmtree, folder, ignore_errors=True)
     os.environ["DJANGO_SETTINGS_MODULE"] = "graphite.settings"
     os.environ["GRAPHITE_SETTINGS_MODULE"] = "web_of_tests"
 
