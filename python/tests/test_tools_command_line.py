@@ -56,8 +56,11 @@ class Ends(ToolCase):
         self.assertEqual((ran, self.read("status")), (Ran(0, "0\n", ""), b"1\n"))
 
     def test_an_interrupt(self) -> None:
-        """Ctrl-C ends a tool without a traceback."""
-        text = TOOL.format(python=str(TOP / "python"), act="import time; print('begun', flush=True); time.sleep(60)")
+        """Ctrl-C ends a tool without a traceback. The tests may have inherited that SIGINT is ignored, as a shell sets it
+        for a command in the background, so the tool sets it again."""
+        act = "import signal, time; signal.signal(signal.SIGINT, signal.default_int_handler); " \
+              "print('begun', flush=True); time.sleep(60)"
+        text = TOOL.format(python=str(TOP / "python"), act=act)
         with subprocess.Popen([sys.executable, "-B", "-c", text], stdout=subprocess.PIPE, stderr=subprocess.PIPE,
                               env=self.env, text=True) as running:
             assert running.stdout and running.stderr
