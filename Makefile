@@ -48,12 +48,13 @@ library:
 # Other names than those of rrdi.h can't be seen of either library, so they can't clash with those of another one.
 link-library: $(BUILD)/librrdi.so.0 $(BUILD)/librrdi.a
 
+# librrdi.so is a copy and no link, because rt refuses links in the repository.
 $(BUILD)/librrdi.so.0: $(ARCHIVE) include/librrdi.map
 	mkdir -p $(BUILD)
 	$(CC) -shared -o $@ -Wl,-soname,librrdi.so.0 -Wl,--version-script=include/librrdi.map -Wl,--no-undefined \
 		-Wl,-z,relro,-z,now -Wl,--gc-sections -Wl,--as-needed \
 		-Wl,--whole-archive $(ARCHIVE) -Wl,--no-whole-archive $(OF_KIT)
-	ln -sf librrdi.so.0 $(BUILD)/librrdi.so
+	cp $@ $(BUILD)/librrdi.so
 
 $(BUILD)/librrdi.a: $(ARCHIVE)
 	mkdir -p $(BUILD)
