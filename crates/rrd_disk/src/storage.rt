@@ -7,6 +7,7 @@ use crate::writer::FileWriter;
 use crate::{Disk, DiskFile, Lock, Opening, Settings};
 use rrd_store::{Access, Storage};
 use std::io::{self, Error, ErrorKind};
+use std::path::Path;
 
 /// An open file, after the wait for its lock.
 #[derive(Drop)]
@@ -138,13 +139,38 @@ impl<'a, D: Disk> FileStorage<'a, D> {
         Ok(reader)
     }
 
+    // Checks that the directory exists in which a run may create the file. The check is for a batch, which creates a
+    // missing file only after its last line.
+    fn find_directory(&self) -> io::Result<()> {
+        let Some(directory) = Path::new(self.path).parent() else {
+            return Ok(());
+        };
+        if directory.as_str().is_empty() {
+            return Ok(());
+        }
+        match self.disk.open(directory.as_str(), Opening::Read) {
+            Err(error) if error.kind() == ErrorKind::NotFound => Err(error),
+            _ => Ok(()),
+        }
+    }
+
+    // Opens the file for reading, because the run cannot write the file for the reason `unwritable`. If there is no
+    // file, the run may create the file later.
+    fn open_unwritable(&mut self, unwritable: Error) -> io::Result<Option<FileReader<D::File>>> {
+        let opened = self.open_to_read(unwritable)?;
+        if opened.is_none() {
+            self.find_directory()?;
+        }
+        Ok(opened)
+    }
+
     // Opens the file under this run's own lock, for reading and then writing. If the run cannot write the file, the
     // run opens the file for reading. A directory, a device or a pipe is refused: a second opening of a pipe could
     // lose bytes that the pipe delivered, and wait for more.
     fn open_to_change(&mut self) -> io::Result<Option<FileReader<D::File>>> {
         let file = match self.disk.open(self.path, Opening::Write) {
             Ok(file) => file,
-            Err(error) => return self.open_to_read(error),
+            Err(error) => return self.open_unwritable(error),
         };
         match self.lock(file, Lock::Own)? {
             Locked::Regular(bytes, _) => Ok(Some(self.hold(bytes)?)),
