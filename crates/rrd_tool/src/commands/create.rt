@@ -115,8 +115,8 @@ fn definitions(alloc: Global, words: &[&str]) -> Result<(List<DsDef>, List<RraDe
 {
     let mut sources = List::new(alloc);
     let mut archives = List::new(alloc);
-    for (place, word) in words.iter().enumerate() {
-        let definition = or_fault(Part::Definition, place as u64 + 1, Definition::read(word))?;
+    for (index, word) in words.iter().enumerate() {
+        let definition = or_fault(Part::Definition, index as u64 + 1, Definition::read(word))?;
         let added = match definition {
             Definition::Source(source) => sources.push(source),
             Definition::Archive(archive) => archives.push(archive),

@@ -64,8 +64,8 @@ fn samples(alloc: Global, now: u64, words: &[&str]) -> Result<List<Sample>, Line
     ensures { Meets (each_of (sample_of now) Part.Sample 1 (map (λ w. w.now) words.now)) result }
 {
     let mut samples = List::new(alloc);
-    for (place, word) in words.iter().enumerate() {
-        let sample = read_sample(alloc, now, place as u64 + 1, word)?;
+    for (index, word) in words.iter().enumerate() {
+        let sample = read_sample(alloc, now, index as u64 + 1, word)?;
         samples.push(sample)?;
     }
     Ok(samples)
