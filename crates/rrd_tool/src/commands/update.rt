@@ -10,7 +10,7 @@ ghost use Rattle.rrd_tool.specs.Fields.Parts.{each_of, or_fault};
 use super::name::CommandName;
 use crate::arguments::{letter_arg, many_arg, text_of, texts_of};
 use crate::execution::Outcome;
-use crate::fields::{Field, cut, or_fault, read_pieces};
+use crate::fields::{Field, cut, or_fault, read_list};
 use crate::{Command, Fault, LineFault, Part};
 use clap::ArgMatches;
 use rrd_base::{Database, Given, List, Sample, Update};
@@ -56,7 +56,7 @@ fn read_sample(alloc: Global, now: u64, number: u64, text: &str) -> Result<Sampl
 {
     let (time, values) = or_fault(Part::Sample, number, cut(text))?;
     let time = or_fault(Part::Sample, number, read_time(now, time))?;
-    let values = read_pieces(alloc, Part::Sample, number, values)?;
+    let values = read_list(alloc, Part::Sample, number, values)?;
     Ok(Sample { time, values })
 }
 
@@ -77,7 +77,7 @@ pub(crate) fn read(alloc: Global, matches: &ArgMatches<'_>, now: u64) -> Result<
 {
     let template = match text_of(matches, "template") {
         None => None,
-        Some(text) => Some(read_pieces(alloc, Part::Template, 1, text)?),
+        Some(text) => Some(read_list(alloc, Part::Template, 1, text)?),
     };
     let samples = match texts_of(matches, "sample") {
         None => List::new(alloc),
