@@ -11,7 +11,7 @@ use super::name::CommandName;
 use crate::arguments::{letter_arg, many_arg, text_of, texts_of};
 use crate::execution::Outcome;
 use crate::fields::{Field, cut, or_fault, read_list};
-use crate::{Command, Fault, LineFault, Part};
+use crate::{Command, LineFault, Part};
 use clap::ArgMatches;
 use rrd_base::{Database, Given, List, Sample, Update};
 use rrd_fixed::{read_number, read_whole};
@@ -90,11 +90,6 @@ pub(crate) fn read(alloc: Global, matches: &ArgMatches<'_>, now: u64) -> Result<
 pub(crate) fn run(alloc: Global, mut database: Database, update: &Update) -> Outcome
     ensures { (c : Option (List ℕ)) → Executes (Some database) (Command.Update update.now) c c result }
 {
-    match database.update(alloc, update) {
-        Ok(_) => Outcome::Changed(database),
-        Err(refusal) => Outcome::Refused {
-            database: Some(database),
-            fault: Fault::Refused(refusal),
-        },
-    }
+    let updated = database.update(alloc, update);
+    Outcome::of_change(database, updated)
 }
