@@ -97,7 +97,7 @@ fn run_words<P: Storage, W: Write>(
 ///
 /// # Errors
 ///
-/// - `Command` if the arguments are not a command. `place` was not read.
+/// - `Command` if the arguments are not a command. `storage` was not read.
 /// - `CannotOpen` or `File` if no database can be read from `storage`.
 /// - `Command` if the command is refused, or a write of its output failed. `storage` is unchanged, as in the cases
 ///   above.

@@ -70,6 +70,7 @@ fn a_record(rt: HostRuntime) {
     assert!(&rt; record.bytes() == RECORD);
     assert_eq!(&rt; Record::read(65_536, &RECORD), Some(record));
     assert_eq!(&rt; Record::read(69_632, &RECORD), None);
+    assert_eq!(&rt; Record::read(65_536, &RECORD[..63]), None);
 }
 
 const KEPT: &[u8; 26] = b"sixteen old bytes and some";

@@ -14,7 +14,7 @@ use Rattle.rrd_spec.specs.Laws.Journal.{ActsOn, Begins}
 use Rattle.clap.specs.Words.{fault_of}
 use Rattle.rrd_fixed.specs.Writing.{Appends-kept}
 use Rattle.rrd_tool.specs.Batch.{Turn}
-use Rattle.rrd_tool.specs.Effects.{Effect, Makes, Changes, Reverts, Shows, StandsFor, is_change, stored_next, stored_of, next, revert_verdict, text_on, verdict_on, first_state}
+use Rattle.rrd_tool.specs.Effects.{Effect, Makes, Changes, Reverts, Shows, StandsFor, is_change, stored_next, stored_of, next, text_on, verdict_on, first_state}
 use Rattle.rrd_tool.specs.Execution.{Affects, Comes, IsFault, database_left, fault_left, has_changed}
 use Rattle.rrd_tool.specs.Batch.Answers.{Performs, Asks, line_turns}
 use Rattle.rrd_tool.specs.Execution.Printing.{Prints, PrintsBy}
@@ -220,7 +220,3 @@ shown_comes kept show text c0 c1 outcome e p =
 pub appends_nothing : (c : Option (List ℕ)) → Appends c c []
 appends_nothing None = tt
 appends_nothing (Some bytes) = sym (append-nil bytes)
-
-pub revert_accepted : (journal : List Entry) → journal ≢ [] → revert_verdict journal ≡ None
-revert_accepted [] h = absurd (h refl)
-revert_accepted (entry ∷ journal) h = refl

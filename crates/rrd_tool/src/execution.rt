@@ -8,7 +8,7 @@ ghost use Rattle.rrd_tool.specs.Effects.{StandsFor};
 
 use crate::commands::{run, run_without};
 use crate::{Command, Fault};
-use rrd_base::Database;
+use rrd_base::{Database, Refusal};
 use rrd_fixed::WriteFault;
 use rrd_spec::laws;
 use std::alloc::Global;
@@ -30,7 +30,7 @@ pub enum Outcome {
 }
 
 impl Outcome {
-    ghost use Rattle.std.specs.Prelude.{List, Option, ℕ};
+    ghost use Rattle.std.specs.Prelude.{◌≡◌, IfErr, IfOk, List, Option, Some, ℕ};
 
     /// Returns the outcome of a command that prints.
     pub(crate) fn of_text(database: Database, written: Result<(), WriteFault>) -> Outcome
@@ -43,6 +43,27 @@ impl Outcome {
                 database: Some(database),
                 fault: Fault::Output,
             },
+        }
+    }
+
+    /// Returns the outcome of a command that changes the database, from the result of the change.
+    pub(crate) fn of_change<T: Drop>(database: Database, changed: Result<T, Refusal>) -> Outcome
+        ensures ok { IfOk changed (λ _. result ≡ Outcome.Changed database) }
+        ensures err { IfErr changed (λ refusal. result ≡ Outcome.Refused (Some database) (Fault.Refused refusal)) }
+    {
+        match changed {
+            Ok(_) => Outcome::Changed(database),
+            Err(refusal) => Outcome::refused(Some(database), refusal),
+        }
+    }
+
+    /// Returns the outcome of a command that the database refuses.
+    pub(crate) fn refused(database: Option<Database>, refusal: Refusal) -> Outcome
+        ensures { result ≡ Outcome.Refused database (Fault.Refused refusal) }
+    {
+        Outcome::Refused {
+            database,
+            fault: Fault::Refused(refusal),
         }
     }
 }

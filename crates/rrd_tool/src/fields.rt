@@ -113,8 +113,8 @@ fn first_piece(text: &str) -> (&str, Option<&str>)
     }
 }
 
-/// Returns the texts between the colons.
-pub(crate) fn read_pieces<T: Field + Drop>(
+/// Parses each text between the colons. Returns the values in their order.
+pub(crate) fn read_list<T: Field + Drop>(
     alloc: Global,
     part: Part,
     number: u64,

@@ -658,11 +658,11 @@ fn a_long_file_goes_out_in_blocks(rt: HostRuntime) -> Result<(), Fail> {
     }
     assert_eq!(&rt; wanted.len(), 33_760);
     assert_bytes(&rt, &file_of(alloc, &database)?, &wanted, "2,100 rows");
-    assert_breaks_off(&rt, alloc, &database, &wanted)
+    assert_keeps_front(&rt, alloc, &database, &wanted)
 }
 
 // A writer that takes 33,000 bytes has so many of the file's.
-fn assert_breaks_off(
+fn assert_keeps_front(
     rt: &impl Abort,
     alloc: Global,
     database: &Database,

@@ -6,7 +6,7 @@ use rrd_file::{FileFault, decode};
 use std::alloc::Global;
 use std::test::Fail;
 
-fn fault_of(alloc: Global, bytes: &[u8]) -> Option<FileFault> {
+fn fault_with_memory(alloc: Global, bytes: &[u8]) -> Option<FileFault> {
     match decode(alloc, bytes) {
         Err(FileFault::OutOfMemory) => decode(alloc, bytes).err(),
         decoded => decoded.err(),
@@ -19,7 +19,7 @@ fn a_wrong_file_is_told(rt: HostRuntime) -> Result<(), Fail> {
     let bytes = sampled_file(alloc)?;
     for (at, byte, fault) in WRONG_IN_BOTH.iter().chain(WRONG_BYTES) {
         let wrong = changed(alloc, &bytes, *at, *byte)?;
-        assert_eq!(&rt; fault_of(alloc, &wrong), Some(*fault), "{at}");
+        assert_eq!(&rt; fault_with_memory(alloc, &wrong), Some(*fault), "{at}");
     }
     Ok(())
 }

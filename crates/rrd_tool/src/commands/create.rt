@@ -10,7 +10,7 @@ use super::name::CommandName;
 use crate::arguments::{letter_arg, many_arg, option_arg, text_of, texts_of};
 use crate::execution::Outcome;
 use crate::fields::{Field, cut, or_fault, read_or};
-use crate::{Command, Fault, LineFault, Part};
+use crate::{Command, LineFault, Part};
 use clap::ArgMatches;
 use rrd_base::{CreateSpec, Database, DsDef, List, RraDef};
 use rrd_fixed::{Kind, Name, read_number};
@@ -115,8 +115,8 @@ fn definitions(alloc: Global, words: &[&str]) -> Result<(List<DsDef>, List<RraDe
 {
     let mut sources = List::new(alloc);
     let mut archives = List::new(alloc);
-    for (place, word) in words.iter().enumerate() {
-        let definition = or_fault(Part::Definition, place as u64 + 1, Definition::read(word))?;
+    for (index, word) in words.iter().enumerate() {
+        let definition = or_fault(Part::Definition, index as u64 + 1, Definition::read(word))?;
         let added = match definition {
             Definition::Source(source) => sources.push(source),
             Definition::Archive(archive) => archives.push(archive),
@@ -156,9 +156,6 @@ pub(crate) fn run(alloc: Global, database: Option<Database>, spec: CreateSpec) -
 {
     match Database::create(alloc, spec) {
         Ok(made) => Outcome::Changed(made),
-        Err(refusal) => Outcome::Refused {
-            database,
-            fault: Fault::Refused(refusal),
-        },
+        Err(refusal) => Outcome::refused(database, refusal),
     }
 }

@@ -17,7 +17,7 @@ use super::name::CommandName;
 use crate::arguments::{letter_arg, required_arg, text_of};
 use crate::execution::Outcome;
 use crate::fields::{read_optional, read_or, read_required};
-use crate::{Command, Fault, LineFault, Part};
+use crate::{Command, LineFault, Part};
 use arrayvec::ArrayString;
 use clap::ArgMatches;
 use rrd_base::{Chosen, Database, database_is_valid};
@@ -182,9 +182,6 @@ pub(crate) fn run<W: Write>(database: Database, request: FetchRequest, out: &mut
             let written = write_fetch(out, &database, chosen);
             Outcome::of_text(database, written)
         }
-        Err(refusal) => Outcome::Refused {
-            database: Some(database),
-            fault: Fault::Refused(refusal),
-        },
+        Err(refusal) => Outcome::refused(Some(database), refusal),
     }
 }

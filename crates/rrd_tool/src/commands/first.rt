@@ -11,7 +11,7 @@ use super::name::CommandName;
 use crate::arguments::{option_arg, text_of};
 use crate::execution::Outcome;
 use crate::fields::read_or;
-use crate::{Command, Fault, LineFault, Part};
+use crate::{Command, LineFault, Part};
 use clap::ArgMatches;
 use rrd_base::Database;
 use rrd_fixed::time_string;
@@ -44,9 +44,6 @@ pub(crate) fn run<W: Write>(database: Database, archive: u64, out: &mut W) -> Ou
             let written = write_line(out, time_string(time).as_str());
             Outcome::of_text(database, written)
         }
-        Err(refusal) => Outcome::Refused {
-            database: Some(database),
-            fault: Fault::Refused(refusal),
-        },
+        Err(refusal) => Outcome::refused(Some(database), refusal),
     }
 }

@@ -10,7 +10,7 @@ use super::name::CommandName;
 use crate::arguments::{required_arg, text_of};
 use crate::execution::Outcome;
 use crate::fields::{Field, read_required};
-use crate::{Command, Fault, LineFault, Part};
+use crate::{Command, LineFault, Part};
 use clap::ArgMatches;
 use rrd_base::{Change, Database};
 use std::alloc::{AllocError, Global};
@@ -65,11 +65,6 @@ pub(crate) fn run(
 ) -> Outcome
     ensures { (c : Option (List ℕ)) → Executes (Some database) (Command.Resize archive change rows) c c result }
 {
-    match database.resize(alloc, archive, change, rows) {
-        Ok(()) => Outcome::Changed(database),
-        Err(refusal) => Outcome::Refused {
-            database: Some(database),
-            fault: Fault::Refused(refusal),
-        },
-    }
+    let resized = database.resize(alloc, archive, change, rows);
+    Outcome::of_change(database, resized)
 }

@@ -10,7 +10,7 @@ use super::name::CommandName;
 use crate::arguments::{letter_arg, option_arg, text_of, word_arg};
 use crate::execution::Outcome;
 use crate::fields::{Field, cut, read_optional};
-use crate::{Command, Fault, LineFault, Part};
+use crate::{Command, LineFault, Part};
 use clap::ArgMatches;
 use rrd_base::{ArchiveTune, Database, RraDef, Tuning};
 use rrd_fixed::Name;
@@ -84,11 +84,6 @@ pub(crate) fn read(matches: &ArgMatches<'_>) -> Result<Command, LineFault>
 pub(crate) fn run(alloc: Global, mut database: Database, tuning: &Tuning) -> Outcome
     ensures { (c : Option (List ℕ)) → Executes (Some database) (Command.Tune tuning.now) c c result }
 {
-    match database.tune(alloc, tuning) {
-        Ok(()) => Outcome::Changed(database),
-        Err(refusal) => Outcome::Refused {
-            database: Some(database),
-            fault: Fault::Refused(refusal),
-        },
-    }
+    let tuned = database.tune(alloc, tuning);
+    Outcome::of_change(database, tuned)
 }

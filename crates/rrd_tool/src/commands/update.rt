@@ -10,8 +10,8 @@ ghost use Rattle.rrd_tool.specs.Fields.Parts.{each_of, or_fault};
 use super::name::CommandName;
 use crate::arguments::{letter_arg, many_arg, text_of, texts_of};
 use crate::execution::Outcome;
-use crate::fields::{Field, cut, or_fault, read_pieces};
-use crate::{Command, Fault, LineFault, Part};
+use crate::fields::{Field, cut, or_fault, read_list};
+use crate::{Command, LineFault, Part};
 use clap::ArgMatches;
 use rrd_base::{Database, Given, List, Sample, Update};
 use rrd_fixed::{read_number, read_whole};
@@ -56,7 +56,7 @@ fn read_sample(alloc: Global, now: u64, number: u64, text: &str) -> Result<Sampl
 {
     let (time, values) = or_fault(Part::Sample, number, cut(text))?;
     let time = or_fault(Part::Sample, number, read_time(now, time))?;
-    let values = read_pieces(alloc, Part::Sample, number, values)?;
+    let values = read_list(alloc, Part::Sample, number, values)?;
     Ok(Sample { time, values })
 }
 
@@ -64,8 +64,8 @@ fn samples(alloc: Global, now: u64, words: &[&str]) -> Result<List<Sample>, Line
     ensures { Meets (each_of (sample_of now) Part.Sample 1 (map (λ w. w.now) words.now)) result }
 {
     let mut samples = List::new(alloc);
-    for (place, word) in words.iter().enumerate() {
-        let sample = read_sample(alloc, now, place as u64 + 1, word)?;
+    for (index, word) in words.iter().enumerate() {
+        let sample = read_sample(alloc, now, index as u64 + 1, word)?;
         samples.push(sample)?;
     }
     Ok(samples)
@@ -77,7 +77,7 @@ pub(crate) fn read(alloc: Global, matches: &ArgMatches<'_>, now: u64) -> Result<
 {
     let template = match text_of(matches, "template") {
         None => None,
-        Some(text) => Some(read_pieces(alloc, Part::Template, 1, text)?),
+        Some(text) => Some(read_list(alloc, Part::Template, 1, text)?),
     };
     let samples = match texts_of(matches, "sample") {
         None => List::new(alloc),
@@ -90,11 +90,6 @@ pub(crate) fn read(alloc: Global, matches: &ArgMatches<'_>, now: u64) -> Result<
 pub(crate) fn run(alloc: Global, mut database: Database, update: &Update) -> Outcome
     ensures { (c : Option (List ℕ)) → Executes (Some database) (Command.Update update.now) c c result }
 {
-    match database.update(alloc, update) {
-        Ok(_) => Outcome::Changed(database),
-        Err(refusal) => Outcome::Refused {
-            database: Some(database),
-            fault: Fault::Refused(refusal),
-        },
-    }
+    let updated = database.update(alloc, update);
+    Outcome::of_change(database, updated)
 }

@@ -2,5 +2,5 @@ use Rattle.std.proofs.Common.{map}
 use Rattle.rrd_tool.proofs.Defined.{HasRead}
 use Rattle.rrd_tool.proofs.commands.create.definitions.Given as goal
 
-abbrev pub invariant-loop-place : goal.invariant-loop-place
-invariant-loop-place l = HasRead (map (λ w. w.now) l.words) l.place l.sources l.archives
+abbrev pub invariant-loop-index : goal.invariant-loop-index
+invariant-loop-index l = HasRead (map (λ w. w.now) l.words) l.index l.sources l.archives

@@ -5,7 +5,7 @@ use Rattle.rrd_tool.specs.declared.faults.Part.TheVariants.{Sample}
 use Rattle.rrd_tool.proofs.Each.{prepend}
 use Rattle.rrd_tool.proofs.commands.update.samples.Given as goal
 
-abbrev pub invariant-loop-place : goal.invariant-loop-place
-invariant-loop-place l =
+abbrev pub invariant-loop-index : goal.invariant-loop-index
+invariant-loop-index l =
     each_of (sample_of l.now) Sample 1 (map (λ w. w.now) l.words)
-    ≡ prepend l.samples (each_of (sample_of l.now) Sample (l.place + 1) (drop l.place (map (λ w. w.now) l.words)))
+    ≡ prepend l.samples (each_of (sample_of l.now) Sample (l.index + 1) (drop l.index (map (λ w. w.now) l.words)))

@@ -2,7 +2,7 @@ use Rattle.std.proofs.Common.{◌≡◌, ◌+◌, [], length}
 use Rattle.std.specs.Option.{option_map_or}
 use Rattle.rrd_tool.specs.Fields.{each_in, pieces}
 use Rattle.rrd_tool.proofs.Each.{joined}
-use Rattle.rrd_tool.proofs.fields.read_pieces.Given as goal
+use Rattle.rrd_tool.proofs.fields.read_list.Given as goal
 
 abbrev pub invariant-loop-left : goal.invariant-loop-left
 invariant-loop-left g l =

@@ -1,7 +1,0 @@
-use Rattle.std.proofs.Common.{Some, ap, refl, option_map}
-use Rattle.rrd_tool.specs.declared.faults.Fault.TheVariants.{Refused}
-use Rattle.rrd_tool.proofs.RunLemmas.{appends_nothing}
-use Rattle.rrd_tool.proofs.commands.tune.run.Goals as goal
-
-pub returns-in-Ok : goal.returns-in-Ok
-returns-in-Ok c c0 = (ap (option_map Refused) c.in-Ok.ensures.verdict, ap Some c.in-Ok.ensures.ok, refl, appends_nothing c0)
