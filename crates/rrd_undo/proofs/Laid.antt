@@ -45,12 +45,6 @@ covered_same (s ∷ rest) zero offset bytes k x y is low high =
 covered_same (s ∷ rest) (suc j) offset bytes k x y is low high =
     covered_same rest j offset bytes k (laid s k x) (laid s k y) is low high
 
--- a slot of the list is as each of them
-pub All-slot : (P : Slot → Type 0) (slots : List Slot) (i offset : ℕ) (bytes : List ℕ) → IsSlot slots i offset bytes
-    → All P slots → P (slot_of offset bytes)
-All-slot P slots i offset bytes is all =
-    All-head P (slot_of offset bytes) (drop (suc i) slots) (All-same P _ _ (sym is) (All-drop P i slots all))
-
 pub on_ok : {T E : Type 0} (r : Result T E) (P Q : Type 0) → (P → Q) → OnOk r P → OnOk r Q
 on_ok (Ok x) P Q f h = f h
 on_ok (Err e) P Q f h = tt

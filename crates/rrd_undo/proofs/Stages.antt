@@ -353,12 +353,6 @@ restored_first old old_first file last old_length count are old_len same_len fir
     ] in
     put_whole old file last old_first (omega (arith, put.len, are.len, len)) behind are put
 
-pub restored_length : (old file : List ℕ) (n old_length count : ℕ) → n ≡ length file → n ≡ old_length → old_length ≡ length old → (old_length ≡ count → ⊥) → IsFirstPut old count file → file ≡ old
-restored_length old file n old_length count len same old_len other first = elim first as (λ _. file ≡ old) [
-  | inl is ↦ is
-  | inr was ↦ absurd (other (omega (arith, was.0, len, same, old_len)))
-]
-
 pub restored : (old old_first file changed last : List ℕ) (old_length : ℕ) → AreAt old 0 (min 4096 (length old)) old_first → StaysBehind old file
     → ArePut 0 old_first file changed → IsSized old_length changed last → old_length ≡ length old → last ≡ old
 restored old old_first file changed last old_length are behind put cut old_len =

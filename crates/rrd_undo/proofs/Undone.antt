@@ -228,9 +228,6 @@ module _ (old : List ℕ) (tail slots at : ℕ) (bytes f : List ℕ) (is : IsDat
   next_is : slot_offset tail (length (slots_in tail f)) ≡ slot_offset tail slots
   next_is = ap (slot_offset tail) undoing.counted
 
-  above_tail : tail + 64 ≤ slot_offset tail slots
-  above_tail = omega (arith, undoing.restores.reaches, undoing.room)
-
   -- old bytes don't change by a slot of old bytes
   laid_old : (k : ℕ) → 16 ≤ k → k < length old → laid (slot_of at bytes) k (slice_index old k) ≡ slice_index old k
   laid_old k high low = elim (cases_lt k at) as (λ _. laid (slot_of at bytes) k (slice_index old k) ≡ slice_index old k) [
@@ -360,6 +357,3 @@ taken_is taken b2 b1 b0 header bytes tail at e1 e2 e3 e4 e5 =
 
 pub kept_synced : (old : List ℕ) (tail slots at : ℕ) (bytes f g h : List ℕ) → Keeps old tail slots at bytes f g → h ≡ g → Keeps old tail slots at bytes f h
 kept_synced old tail slots at bytes f g h keeps synced = rw synced keeps
-
-pub cut_settled_synced : (old f h : List ℕ) → IsCut old f → h ≡ f → settled h ≡ old
-cut_settled_synced old f h cut synced = ap settled synced ∙ cut_settled old f cut

@@ -3,7 +3,7 @@ use Rattle.rrd_tail.specs.Marks.{shape_for}
 use Rattle.rrd_tail.specs.declared.record.Record.{Record}
 use Rattle.rrd_undo.proofs.Cutting.{cut_settled, to_cut_settled}
 use Rattle.rrd_undo.proofs.Laid.{always_err, on_any}
-use Rattle.rrd_undo.proofs.Undone.{cut_or_not, cut_settled_synced, cut_synced, old_recorded_or_not, record_is, recorded_synced, undo_or_not, undo_synced, undoing_synced}
+use Rattle.rrd_undo.proofs.Undone.{cut_or_not, cut_synced, old_recorded_or_not, record_is, recorded_synced, undo_or_not, undo_synced, undoing_synced}
 use Rattle.rrd_undo.proofs.tail.Tail.mark.Goals as goal
 
 pub returns-in_err-put_whole-clause-err : goal.returns-in_err-put_whole-clause-err
