@@ -38,10 +38,6 @@ range_read f buffer n at count most len counts are =
     ext_get_or 0 buffer (slice_range f at (at + most)) (omega (arith, are.len, range)) (λ k low.
     are.each k (omega (arith, are.len)) ∙ sym (get_or-drop at f k 0) ∙ sym (get_or-take (at + most - at) (drop at f) k 0 (omega (arith, are.len))))
 
-pub record_read : (f buffer : List ℕ) (n at count : ℕ) (result : Option Record) → n ≡ length f → count ≡ min (n - at) 64 → AreAt f at count buffer
-    → result ≡ read_record at buffer → result ≡ record_at f at
-record_read f buffer n at count result len counts are is = is ∙ ap (read_record at) (range_read f buffer n at count 64 len counts are)
-
 pub last_is : (s : Shape) (f : List ℕ) (n at : ℕ) → n ≡ length f → n % 4096 ≡ size_of s → at ≡ n - size_of s → last_record s f ≡ if_shaped s (record_at f at)
 unfolding last_record
 last_is s f n at len ends offset =
@@ -238,8 +234,8 @@ module _ (old : List ℕ) (tail number offset : ℕ) (bytes taken f : List ℕ) 
     ]
   ]
 
-  pub slot_back : (g : List ℕ) → ArePut offset taken f g → IsBack old tail (number + 1) g × (length g ≡ length f)
-  slot_back g put_taken =
+  pub slot_back : (n : ℕ) (g : List ℕ) → n ≡ length f → ArePut offset taken f g → IsBack old tail (number + 1) g × (n ≡ length g)
+  slot_back n g len put_taken =
       let put : ArePut offset bytes f g = rw taken_is at put_taken in
       let any : AreAny offset (length bytes) f g = record { longer = omega (arith, put.len); bound = omega (arith, put.len); outside = put.outside } in
       let slots : slots_in tail g ≡ slots_in tail f = any_slots g any in (
@@ -249,7 +245,7 @@ module _ (old : List ℕ) (tail number offset : ℕ) (bytes taken f : List ℕ) 
           laid = λ k high low. rw (slots, add-one) (sym (ap (λ (l : List Slot). all_laid l k (slice_index f k)) here.0
               ∙ ap (all_laid (drop (suc number) (slots_in tail f)) k) (sym (put_laid g put k))) ∙ back.laid k high low);
         },
-        any_length g any,
+        len ∙ sym (any_length g any),
       )
 
 -- ---- the room of the slots is freed
@@ -329,22 +325,8 @@ read_few tail buffer taken (Some header) same is = omega (arith, is.1, ap length
 
 -- ---- as the calls say it
 
-module _ (old : List ℕ) (tail number offset : ℕ) (bytes taken f read : List ℕ) (back : IsBack old tail number f) (found : slot_at tail f number ≡ Some (slot_of offset bytes))
-    (taken_is : taken ≡ bytes) (same : read ≡ f) where
-  pub slot_failed_read : (g : List ℕ) → AreAny offset (length taken) read g → IsUndone old tail g
-  slot_failed_read g any = slot_failed old tail number offset bytes taken f back found taken_is g (rw same at any)
-
-  pub slot_back_read : (n : ℕ) (g : List ℕ) → n ≡ length f → ArePut offset taken read g → IsBack old tail (number + 1) g × (n ≡ length g)
-  slot_back_read n g len put =
-      let after = slot_back old tail number offset bytes taken f back found taken_is g (rw same at put) in
-      (after.0, len ∙ sym after.1)
-
 pub record_stays : (old : List ℕ) (tail : ℕ) (f g : List ℕ) (r : Record) → IsUndone old tail f → IsUndone old tail g → record_at f tail ≡ Some r → record_at g tail ≡ Some r
 record_stays old tail f g r before after found = after.restores.recorded ∙ ap Some (sym (record_eq old tail f r before found))
-
-pub mark_said : (f buffer taken : List ℕ) (n count : ℕ) (result : Option Mark) → n ≡ length f → count ≡ min n 16 → AreAt f 0 count buffer → taken ≡ buffer → result ≡ mark_of taken
-    → mark_of f ≡ result
-mark_said f buffer taken n count result len counts are same is = sym (is ∙ ap mark_of same ∙ front_mark f buffer n count len counts are)
 
 module _ (old : List ℕ) (tail n : ℕ) (f : List ℕ) (r : Record) (is : IsUndone old tail f) (back : IsPutBack old f) (found : record_at f tail ≡ Some r) (s : Shape)
     (shape : s ≡ shape_for r.length) (size : ℕ) (size_is : size ≡ size_of s) (n_is : n ≡ tail + size) where

@@ -42,7 +42,7 @@ fn read_record<F: Bytes>(
     buffer: &mut Vec<u8>,
 ) -> io::Result<Option<Record>>
     ensures same { F.held file.new ≡ F.held file.old }
-    ensures ok { IfOk result (λ r. IsTrue F.is_known → file_length ≡ length (F.held file.old) → r ≡ record_at (F.held file.old) at) }
+    ensures ok { IfOk result (λ r. IsTrue F.is_known → file_length ≡ length (F.held file.new) → r ≡ record_at (F.held file.new) at) }
 {
     let count = file_length.saturating_sub(at).min(RECORD);
     file.read(at, count, buffer)?;
@@ -57,7 +57,7 @@ fn read_last<F: Bytes>(
     buffer: &mut Vec<u8>,
 ) -> io::Result<Option<Record>>
     ensures same { F.held file.new ≡ F.held file.old }
-    ensures ok { IfOk result (λ r. IsTrue F.is_known → file_length ≡ length (F.held file.old) → r ≡ last_record shape (F.held file.old)) }
+    ensures ok { IfOk result (λ r. IsTrue F.is_known → file_length ≡ length (F.held file.new) → r ≡ last_record shape (F.held file.new)) }
 {
     if file_length % PAGE != shape.size() {
         return Ok(None);
@@ -121,7 +121,7 @@ fn read_slot_at<F: Bytes>(
 ) -> io::Result<Option<SlotHeader>>
     ensures same { F.held file.new ≡ F.held file.old }
     ensures few { IfOk result (λ found. IfSome found (λ header. 32 + header.count ≤ length buffer.new.items)) }
-    ensures ok { IfOk result (λ found. IsTrue F.is_known → file_length ≡ length (F.held file.old) → IsSlotFound tail (F.held file.old) number buffer.new.items found) }
+    ensures ok { IfOk result (λ found. IsTrue F.is_known → file_length ≡ length (F.held file.new) → IsSlotFound tail (F.held file.new) number buffer.new.items found) }
 {
     let at = offset_of_slot(tail, number)?;
     if file_length <= at {
@@ -209,6 +209,25 @@ fn settle_undo<F: Bytes>(
     Ok(Settled::TakenBack)
 }
 
+// The length of a file in bytes, and the mark at the start of the file.
+#[derive(Drop)]
+struct Start {
+    length: usize,
+    mark: Option<Mark>,
+}
+
+// Reads the length and the mark of a file.
+fn read_start<F: Bytes>(file: &mut F, buffer: &mut Vec<u8>) -> io::Result<Start>
+    ensures same { F.held file.new ≡ F.held file.old }
+    ensures length { IfOk result (λ start. IsTrue F.is_known → start.length ≡ length (F.held file.new)) }
+    ensures mark { IfOk result (λ start. IsTrue F.is_known → start.mark ≡ mark_of (F.held file.new)) }
+{
+    let length = file.len()?;
+    file.read(0, length.min(MIN_DATABASE_SIZE), buffer)?;
+    let mark = read_mark(buffer);
+    Ok(Start { length, mark })
+}
+
 /// Makes a file have the bytes that the file represents.
 ///
 /// If a change was interrupted, `settle` ends the change or takes the change back. `buffer` receives the bytes that are
@@ -221,11 +240,10 @@ pub fn settle<F: Bytes>(file: &mut F, buffer: &mut Vec<u8>) -> io::Result<Settle
     ensures stands { IsTrue F.is_known → settled (F.held file.new) ≡ settled (F.held file.old) }
     ensures ok { OnOk result (IsTrue F.is_known → F.held file.new ≡ settled (F.held file.old)) }
 {
-    let file_length = file.len()?;
-    file.read(0, file_length.min(MIN_DATABASE_SIZE), buffer)?;
-    match read_mark(buffer) {
+    let start = read_start(file, buffer)?;
+    match start.mark {
         None => Ok(Settled::AsItWas),
-        Some(Mark::Cut(shape)) => settle_cut(file, file_length, shape, buffer),
-        Some(Mark::Undo(tail)) => settle_undo(file, file_length, tail, buffer),
+        Some(Mark::Cut(shape)) => settle_cut(file, start.length, shape, buffer),
+        Some(Mark::Undo(tail)) => settle_undo(file, start.length, tail, buffer),
     }
 }
