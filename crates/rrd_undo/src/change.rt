@@ -12,8 +12,7 @@ ghost use Rattle.rrd_undo.specs.Databases.{IsDatabase};
 
 use crate::Bytes;
 use crate::page::{
-    MIN_DATABASE_SIZE, difference_end, first_difference, front_page, is_database, next_page,
-    page_from, read_page,
+    MIN_DATABASE_SIZE, find_difference, front_page, is_database, next_page, page_from, read_page,
 };
 use crate::recovery::settle;
 use crate::tail::{Syncs, Tail, sync};
@@ -251,14 +250,10 @@ impl Change {
         if old.len() < MIN_DATABASE_SIZE || first.len() < MIN_DATABASE_SIZE {
             return Err(Error::from(ErrorKind::InvalidData));
         }
-        let from = first_difference(old, first);
-        let end = difference_end(old, first, from);
-        if from == end {
+        let Some(changed) = find_difference(old, first) else {
             return Ok(());
-        }
-        let last = end.min(old.len());
-        self.tail
-            .turn(file, from, &old[from..last], &first[from..end])
+        };
+        self.tail.turn(file, changed.at, changed.old, changed.new)
     }
 
     // Ends a change of a file that is marked.
