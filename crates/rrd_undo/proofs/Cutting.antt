@@ -1,20 +1,19 @@
 -- Files with a cut mark.
-use Rattle.std.proofs.Common.{◌≡◌, ◌⊎◌, ℕ, ◌+◌, ◌-◌, ◌%◌, ◌<◌, ◌≤◌, max, List, length, slice_index, Some, None, refl, sym, ◌∙◌, ap, inl, inr, arith}
+use Rattle.std.proofs.Common.{◌≡◌, ◌⊎◌, ℕ, ◌+◌, ◌%◌, ◌<◌, ◌≤◌, List, length, slice_index, None, refl, sym, ◌∙◌, ap, inl, inr, arith}
 use Rattle.std.proofs.lemmas.Bool.{cases_lt}
 use Rattle.std.proofs.lemmas.List.{ext_get_or}
 use Rattle.rrd_tail.specs.Bytes.{StandsAt}
 use Rattle.rrd_tail.specs.Laws.{IsUnmarked}
-use Rattle.rrd_tail.specs.Marks.{cut_mark, database_mark, mark_of, shape_for, size_of}
+use Rattle.rrd_tail.specs.Marks.{cut_mark, database_mark, shape_for}
 use Rattle.rrd_tail.specs.Records.{last_record}
 use Rattle.rrd_tail.specs.Settled.{settled}
 use Rattle.rrd_tail.specs.declared.mark.Shape.{Shape}
 use Rattle.rrd_tail.specs.declared.mark.Shape.TheVariants.{Short, Long}
-use Rattle.rrd_tail.specs.declared.mark.Mark.TheVariants.{Cut}
 use Rattle.rrd_tail.specs.declared.record.Record.{Record}
 use Rattle.rrd_undo.specs.Calls.{ArePut, AreWholeOrNot, IsSized}
 use Rattle.rrd_undo.specs.Databases.{IsDatabase}
 use Rattle.rrd_undo.specs.Undoing.{IsCut, IsToCut}
-use Rattle.rrd_tail.proofs.Lemmas.{cut_mark_is_read, cut_stands, length_tells, mark_stands, no_last_record, plain_has_no_mark, plain_stands, unmarked_stands}
+use Rattle.rrd_tail.proofs.Lemmas.{cut_mark_is_read, cut_stands, length_tells, no_last_record, plain_has_no_mark, plain_stands, unmarked_stands}
 
 pub cut_mark_length : (s : Shape) → length (cut_mark s) ≡ 4
 cut_mark_length Short = refl

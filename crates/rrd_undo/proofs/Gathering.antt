@@ -1,11 +1,9 @@
 -- Bytes are gathered to pages.
-use Rattle.std.proofs.Common.{◌≡◌, ◌⊎◌, ℕ, ◌+◌, ◌-◌, ◌<◌, ◌≤◌, min, max, List, [], ◌++◌, length, slice_index, refl, sym, ◌∙◌, ap, inl, inr, arith, length-append}
+use Rattle.std.proofs.Common.{◌≡◌, ◌⊎◌, ℕ, ◌+◌, ◌-◌, ◌<◌, ◌≤◌, max, List, ◌++◌, length, slice_index, sym, ◌∙◌, ap, inl, inr, arith, length-append}
 use Rattle.std.proofs.lemmas.Bool.{cases_lt}
 use Rattle.std.proofs.lemmas.List.{get_or-append-add, get_or_append_left}
-use Rattle.rrd_undo.specs.Calls.{AreAt}
-use Rattle.rrd_undo.specs.Changing.{Agreeing, Holds, IsAt, IsPage}
-use Rattle.rrd_undo.specs.Undoing.{Turning}
-use Rattle.rrd_undo.specs.Writing.{IsGathered, IsTaken}
+use Rattle.rrd_undo.specs.Changing.{Holds, IsAt}
+use Rattle.rrd_undo.specs.Writing.{IsTaken}
 use Rattle.rrd_undo.specs.declared.change.Stage.{Stage}
 use Rattle.rrd_undo.specs.declared.change.Stage.TheVariants.{Untouched, Marked, Committing, Unkept, Invalid}
 use Rattle.rrd_undo.specs.declared.writer.Pages.{Pages}

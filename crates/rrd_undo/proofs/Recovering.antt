@@ -1,25 +1,23 @@
 -- Files that are settled.
-use Rattle.std.proofs.Common.{◌≡◌, ◌≢◌, ◌⊎◌, ℕ, suc, ◌+◌, ◌-◌, ◌%◌, ◌^◌, ◌<◌, ◌≤◌, ◌==◌, true, min, max, List, [], ◌∷◌, ◌++◌, length, take, drop, slice_index, slice_index_or, slice_range, Option, Some, None, IfSome, refl, sym, ◌∙◌, ap, inl, inr, arith, add-one, eq-eqb, length-take, length-drop, get_or-take, get_or-drop, drop-cons}
+use Rattle.std.proofs.Common.{◌≡◌, ◌⊎◌, ℕ, suc, ◌+◌, ◌-◌, ◌%◌, ◌^◌, ◌<◌, ◌≤◌, min, List, [], ◌∷◌, length, take, drop, slice_index, slice_index_or, slice_range, Option, Some, None, IfSome, refl, sym, ◌∙◌, ap, inl, inr, arith, add-one, eq-eqb, length-take, length-drop, get_or-take, get_or-drop, drop-cons}
 use Rattle.std.proofs.lemmas.Bool.{cases_lt}
 use Rattle.std.proofs.lemmas.List.{drop_all, ext_get_or, take_all}
 use Rattle.rrd_tail.specs.Bytes.{StandsAt}
 use Rattle.rrd_tail.specs.Laws as laws
-use Rattle.rrd_tail.specs.Marks.{cut_mark, database_mark, mark_of, shape_for, size_of, undo_mark}
+use Rattle.rrd_tail.specs.Marks.{cut_mark, database_mark, mark_of, shape_for, size_of}
 use Rattle.rrd_tail.specs.Reads.{IsSlotRead}
-use Rattle.rrd_tail.specs.Records.{if_shaped, last_record, read_record, record_at, record_bytes, IsRightAt}
+use Rattle.rrd_tail.specs.Records.{if_shaped, last_record, record_at, record_bytes, IsRightAt}
 use Rattle.rrd_tail.specs.Settled.{settled}
 use Rattle.rrd_tail.specs.Slots.{IsRightSlot, Slot, all_laid, laid, slot_at, slot_offset, slots_in}
 use Rattle.rrd_tail.specs.declared.mark.Shape.{Shape}
-use Rattle.rrd_tail.specs.declared.mark.Mark.{Mark}
 use Rattle.rrd_tail.specs.declared.mark.Mark.TheVariants.{Cut, Undo}
 use Rattle.rrd_tail.specs.declared.record.Record.{Record}
 use Rattle.rrd_tail.specs.declared.slot.SlotHeader.{SlotHeader}
 use Rattle.rrd_tail.proofs.Slotted.{read_short}
 use Rattle.rrd_tail.proofs.Lemmas.{cut_mark_length, cut_stands, front_says_mark, last_record_is_read, last_record_stands, mark_stands, no_last_record, no_slots_below, plain_has_no_mark, plain_stands, record_bytes_length, record_is_read, record_stands, slot_stands, slots_are_in_order, slots_stay, undo_mark_length, undone_stands, unmarked_stands}
 use Rattle.rrd_undo.specs.Calls.{AreAny, AreAt, ArePut, AreWholeOrNot, IsSized}
-use Rattle.rrd_undo.specs.Databases.{IsDatabase}
 use Rattle.rrd_undo.specs.Settling.{IsBack, IsPutBack, IsSlotFound, IsUndone}
-use Rattle.rrd_undo.specs.Undoing.{IsReady, IsTail, IsToCut, Restores, record_of, slot_of}
+use Rattle.rrd_undo.specs.Undoing.{IsReady, IsToCut, record_of, slot_of}
 use Rattle.rrd_undo.proofs.Laid.{IsSlot, covered_same, laid_above, laid_below, laid_in}
 use Rattle.rrd_undo.proofs.Undone.{length-sixteen, old_byte_first, old_byte_rest, record_same, right_record_of, size_some, sixteen_at, undone_settled}
 

@@ -1,12 +1,12 @@
 -- The stages of a change.
-use Rattle.std.proofs.Common.{◌≡◌, ◌≢◌, ◌⊎◌, Bool, true, false, IsTrue, ℕ, ◌+◌, ◌-◌, ◌<◌, ◌≤◌, min, max, List, [], ◌∷◌, length, take, drop, slice_index, slice_range, refl, sym, ◌∙◌, ap, inl, inr, arith, length-take, length-drop, get_or-take, get_or-drop}
+use Rattle.std.proofs.Common.{◌≡◌, ◌≢◌, ◌⊎◌, Bool, true, false, IsTrue, ℕ, ◌+◌, ◌-◌, ◌<◌, ◌≤◌, min, List, [], ◌∷◌, length, slice_index, refl, sym, ◌∙◌, ap, inl, inr, arith}
 use Rattle.std.proofs.lemmas.Bool.{cases_lt}
 use Rattle.std.proofs.lemmas.List.{ext_get_or}
 use Rattle.std.proofs.lemmas.List.Elements.{All-nil, All-same, All-weaker}
 use Rattle.std.specs.List.{All}
 use Rattle.rrd_tail.specs.Settled.{settled}
-use Rattle.rrd_tail.specs.Slots.{Slot, all_laid, slots_in}
-use Rattle.rrd_undo.specs.Calls.{AreAny, AreAt, ArePut, AreWholeOrNot, IsSized}
+use Rattle.rrd_tail.specs.Slots.{Slot, slots_in}
+use Rattle.rrd_undo.specs.Calls.{AreAt, ArePut, IsSized}
 use Rattle.rrd_undo.specs.Changing.{Agreeing, ArePutBelow, Holds, IsAt, IsBroken, IsFirstPut, Knows, StandsForOld, IsLeft, IsPage, IsStarted, StaysBehind}
 use Rattle.rrd_undo.specs.Databases.{IsDatabase}
 use Rattle.rrd_undo.specs.Pages.{AreSame, IsDifference, IsSame}

@@ -1,5 +1,5 @@
 -- Pages that are turned, and the record of the new bytes.
-use Rattle.std.proofs.Common.{◌≡◌, ◌⊎◌, ℕ, ◌+◌, ◌-◌, ◌*◌, ◌%◌, ◌^◌, ◌<◌, ◌≤◌, min, max, List, [], ◌∷◌, ◌++◌, length, take, drop, slice_index, Some, refl, sym, ◌∙◌, ap, inl, inr, arith, length-append, length-take, length-drop, get_or-take, get_or-drop}
+use Rattle.std.proofs.Common.{◌≡◌, ◌⊎◌, ℕ, ◌+◌, ◌-◌, ◌%◌, ◌^◌, ◌<◌, ◌≤◌, min, List, [], ◌∷◌, ◌++◌, length, take, drop, slice_index, Some, refl, sym, ◌∙◌, ap, inl, inr, arith, length-append, length-drop, get_or-take, get_or-drop}
 use Rattle.std.proofs.lemmas.Bool.{cases_lt}
 use Rattle.std.proofs.lemmas.List.{get_or-append-add, get_or_append_left, get_or_past}
 use Rattle.std.proofs.lemmas.List.Elements.{All-push, All-same}
@@ -8,10 +8,10 @@ use Rattle.rrd_tail.specs.Bytes.{StandsAt}
 use Rattle.rrd_tail.specs.Marks.{cut_mark, shape_for, size_of, undo_mark}
 use Rattle.rrd_tail.specs.Records.{IsRightAt, record_at, shaped_bytes}
 use Rattle.rrd_tail.specs.Settled.{settled}
-use Rattle.rrd_tail.specs.Slots.{Slot, all_laid, laid, slot_offset, slots_in}
+use Rattle.rrd_tail.specs.Slots.{all_laid, slot_offset, slots_in}
 use Rattle.rrd_tail.specs.declared.mark.Shape.{Shape}
 use Rattle.rrd_tail.specs.declared.record.Record.{Record}
-use Rattle.rrd_undo.specs.Calls.{AreAny, AreAt, ArePut, AreWholeOrNot}
+use Rattle.rrd_undo.specs.Calls.{AreAny, ArePut, AreWholeOrNot}
 use Rattle.rrd_undo.specs.Databases.{IsDatabase}
 use Rattle.rrd_undo.specs.Undoing.{EndsBelow, IsOldPage, IsReady, IsRecorded, IsTail, IsToCut, Keeps, Paged, Restores, Turns, Undoing, record_of, slot_of}
 use Rattle.rrd_undo.proofs.Cutting.{cut_mark_length, put_stands, stands_same, to_cut_settled}

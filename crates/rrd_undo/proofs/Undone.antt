@@ -1,13 +1,11 @@
 -- Files with an undo mark.
-use Rattle.std.proofs.Common.{◌≡◌, ◌⊎◌, ℕ, suc, ◌+◌, ◌-◌, ◌*◌, ◌%◌, ◌^◌, ◌<◌, ◌≤◌, min, max, List, [], ◌∷◌, ◌++◌, length, take, drop, slice_index, Option, Some, None, refl, sym, ◌∙◌, ap, inl, inr, arith, length-take, length-drop, length-append, replicate, get_or-take, get_or-drop}
+use Rattle.std.proofs.Common.{◌≡◌, ◌⊎◌, ℕ, ◌+◌, ◌-◌, ◌%◌, ◌^◌, ◌<◌, ◌≤◌, min, List, [], ◌∷◌, ◌++◌, length, take, slice_index, Some, refl, sym, ◌∙◌, ap, inl, inr, arith, length-take, length-append, replicate, get_or-take}
 use Rattle.std.proofs.lemmas.Bool.{cases_lt, lt-ltb, le-ltb}
-use Rattle.std.proofs.lemmas.List.{ext_get_or, get_or-append-add, get_or_append_left, length-replicate, take_all}
-use Rattle.std.proofs.lemmas.List.Elements.{All-nil, All-push, All-same, All-weaker}
-use Rattle.std.specs.List.{All}
+use Rattle.std.proofs.lemmas.List.{ext_get_or, get_or_append_left, length-replicate, take_all}
 use Rattle.rrd_tail.specs.Bytes.{StandsAt}
 use Rattle.rrd_tail.specs.Laws.{IsUndone}
-use Rattle.rrd_tail.specs.Marks.{cut_mark, database_mark, mark_of, shape_for, size_of, undo_mark}
-use Rattle.rrd_tail.specs.Records.{IsRightAt, last_record, record_at, record_bytes, shaped_bytes}
+use Rattle.rrd_tail.specs.Marks.{cut_mark, shape_for, size_of, undo_mark}
+use Rattle.rrd_tail.specs.Records.{IsRightAt, record_at, record_bytes, shaped_bytes}
 use Rattle.rrd_tail.specs.Settled.{old_byte, settled}
 use Rattle.rrd_tail.specs.Slots.{IsRightSlot, Slot, all_laid, laid, slot_bytes, slot_header, slot_offset, slots_in}
 use Rattle.rrd_tail.specs.declared.mark.Shape.{Shape}
@@ -15,12 +13,12 @@ use Rattle.rrd_tail.specs.declared.mark.Shape.TheVariants.{Short, Long}
 use Rattle.rrd_tail.specs.declared.record.Record.{Record}
 use Rattle.rrd_tail.proofs.Recorded.{length-record}
 use Rattle.rrd_tail.proofs.Slotted.{length-slot}
-use Rattle.rrd_undo.specs.Calls.{AreAny, AreAt, ArePut, AreWholeOrNot, IsFrontPut}
+use Rattle.rrd_undo.specs.Calls.{AreAt, ArePut, AreWholeOrNot, IsFrontPut}
 use Rattle.rrd_undo.specs.Databases.{IsDatabase}
-use Rattle.rrd_undo.specs.Undoing.{EndsBelow, IsCut, IsOldPage, IsReady, IsRecorded, IsTail, IsToCut, Keeps, Paged, Restores, Turns, Undoing, record_of, slot_of}
-use Rattle.rrd_undo.proofs.Cutting.{cut_mark_length, cut_put_settled, cut_settled, put_stands, settled_plain, stands_same, to_cut_settled}
+use Rattle.rrd_undo.specs.Undoing.{IsCut, IsOldPage, IsTail, IsToCut, Keeps, Restores, Undoing, record_of, slot_of}
+use Rattle.rrd_undo.proofs.Cutting.{cut_mark_length, cut_settled, put_stands, settled_plain, stands_same, to_cut_settled}
 use Rattle.rrd_undo.proofs.Laid.{all_laid-append, laid_above, laid_below, laid_in}
-use Rattle.rrd_tail.proofs.Lemmas.{cut_slot_is_not_counted, last_record_is_read, no_slots_below, record_is_read, record_stands, slot_is_appended, slots_stay, undo_mark_is_read, undo_mark_length, undone_stands, zeros_end_slots}
+use Rattle.rrd_tail.proofs.Lemmas.{cut_slot_is_not_counted, last_record_is_read, no_slots_below, record_is_read, record_stands, slot_is_appended, slots_stay, undo_mark_is_read, undo_mark_length, undone_stands}
 
 -- a record that is in a file is in another one with the same bytes there
 pub record_same : (tail at : ℕ) (r : Record) (f g : List ℕ) → tail ≡ at → at < 2 ^ 64 → length f ≤ length g

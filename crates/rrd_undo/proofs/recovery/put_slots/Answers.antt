@@ -1,4 +1,4 @@
-use Rattle.std.proofs.Common.{◌≡◌, ◌≤◌, ◌+◌, ◌∙◌, ap, sym, List, ℕ, length, slice_range, arith}
+use Rattle.std.proofs.Common.{◌+◌, ap, List, ℕ, length, slice_range, arith}
 use Rattle.rrd_undo.proofs.Recovering.{back_begun, back_ended, slot_back, slot_failed, undone_synced}
 use Rattle.rrd_undo.proofs.recovery.put_slots.Goals as goal
 

@@ -1,4 +1,4 @@
-use Rattle.std.proofs.Common.{◌≡◌, ◌≤◌, ◌-◌, min, length, arith}
+use Rattle.std.proofs.Common.{arith}
 use Rattle.rrd_undo.proofs.Recovering.{no_slot_past, read_few, slot_found}
 use Rattle.rrd_undo.proofs.recovery.read_slot_at.Goals as goal
 

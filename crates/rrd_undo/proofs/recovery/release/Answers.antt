@@ -3,7 +3,7 @@ use Rattle.rrd_tail.specs.Settled.{settled}
 use Rattle.rrd_undo.proofs.Cutting.{to_cut_settled}
 use Rattle.rrd_undo.proofs.Laid.{always_err, on_any}
 use Rattle.rrd_undo.proofs.Recovering.{one_of, release_first, release_or_not, release_shape, release_sized}
-use Rattle.rrd_undo.proofs.Turned.{committed, committed_or_not, ready_settled, ready_synced, to_cut_synced}
+use Rattle.rrd_undo.proofs.Turned.{committed, committed_or_not, ready_synced, to_cut_synced}
 use Rattle.rrd_undo.proofs.recovery.release.Goals as goal
 
 pub returns-in_err-set_len-clause-err : goal.returns-in_err-set_len-clause-err

@@ -1,7 +1,6 @@
 use Rattle.std.proofs.Common.{◌∙◌}
 use Rattle.rrd_undo.proofs.Cutting.{cut_put, cut_put_settled, cut_settled, plain_same, sized_cut, sized_or_not}
 use Rattle.rrd_undo.proofs.Laid.{on_any}
-use Rattle.rrd_undo.proofs.Turned as turned
 use Rattle.rrd_undo.proofs.tail.finish.Goals as goal
 
 pub returns-in_err-set_len-clause-stands : goal.returns-in_err-set_len-clause-stands

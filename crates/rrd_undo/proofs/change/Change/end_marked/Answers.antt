@@ -1,4 +1,4 @@
-use Rattle.std.proofs.Common.{◌≡◌, ◌≤◌, ◌∙◌, ap, inl, length, arith}
+use Rattle.std.proofs.Common.{◌≡◌, inl, length, arith}
 use Rattle.rrd_undo.specs.Changing.{Knows}
 use Rattle.rrd_undo.proofs.Laid.{always_err, on_err, on_ok}
 use Rattle.rrd_undo.proofs.change.Change.end_marked.Goals as goal

@@ -1,4 +1,4 @@
-use Rattle.std.proofs.Common.{◌≡◌, ◌≤◌, ◌+◌, length, arith}
+use Rattle.std.proofs.Common.{◌≤◌, ◌+◌, length, arith}
 use Rattle.rrd_undo.specs.Changing.{Holds}
 use Rattle.rrd_undo.proofs.Laid.{always_err, on_err, on_ok}
 use Rattle.rrd_undo.proofs.Stages.{other_holds, other_left, other_invalid, page_of, put_below, turned_turning}

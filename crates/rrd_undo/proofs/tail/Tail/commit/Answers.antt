@@ -1,7 +1,5 @@
-use Rattle.std.proofs.Common.{◌≡◌, ◌∙◌, ap, sym, inr, length}
+use Rattle.std.proofs.Common.{◌∙◌, ap, inr}
 use Rattle.rrd_tail.specs.Marks.{shape_for}
-use Rattle.rrd_tail.specs.Settled.{settled}
-use Rattle.rrd_undo.specs.Undoing.{IsToCut}
 use Rattle.rrd_undo.proofs.Laid.{always_err}
 use Rattle.rrd_undo.proofs.Turned.{again_synced, committed, committed_or_not, either_synced, to_cut_synced, undone_again}
 use Rattle.rrd_undo.proofs.Undone.{sixteen_of}

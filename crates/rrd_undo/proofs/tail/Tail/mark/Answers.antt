@@ -1,4 +1,4 @@
-use Rattle.std.proofs.Common.{◌≡◌, ◌∙◌, ap, refl, length}
+use Rattle.std.proofs.Common.{◌∙◌, ap, refl}
 use Rattle.rrd_tail.specs.Marks.{shape_for}
 use Rattle.rrd_tail.specs.declared.record.Record.{Record}
 use Rattle.rrd_undo.proofs.Cutting.{cut_settled, to_cut_settled}
