@@ -90,24 +90,19 @@ cut_put bytes f g is put =
 
 -- the calls of `finish`
 module _ (bytes f : List ℕ) (n : ℕ) (counts : n ≡ length bytes) (is : IsToCut bytes f) where
+  pub sized_cut : (g : List ℕ) → IsSized n f g → IsCut bytes g
+  sized_cut g sized =
+      let sized_all : IsSized (length bytes) f g = rw (← counts) sized in
+      to_cut_sized bytes f g is sized_all
+
   pub sized_or_not : (g : List ℕ) → (g ≡ f) ⊎ IsSized n f g → settled g ≡ bytes
   sized_or_not g either = elim either as (λ _. settled g ≡ bytes) [
     | inl same ↦ ap settled same ∙ to_cut_settled bytes f is
-    | inr sized ↦
-        let sized_all : IsSized (length bytes) f g = rw (← counts) sized in
-        cut_settled bytes g (to_cut_sized bytes f g is sized_all)
+    | inr sized ↦ cut_settled bytes g (sized_cut g sized)
   ]
-
-  pub sized_cut : (g synced : List ℕ) → IsSized n f g → synced ≡ g → IsCut bytes synced
-  sized_cut g synced sized same =
-      let sized_all : IsSized (length bytes) f g = rw (← counts) sized in
-      rw same (to_cut_sized bytes f g is sized_all)
 
 pub cut_put_settled : (bytes g h : List ℕ) → IsCut bytes g → AreWholeOrNot 0 database_mark g h → settled h ≡ bytes
 cut_put_settled bytes g h cut either = elim either as (λ _. settled h ≡ bytes) [
   | inl same ↦ ap settled same ∙ cut_settled bytes g cut
   | inr put ↦ ap settled (cut_put bytes g h cut put) ∙ settled_plain bytes cut.is
 ]
-
-pub plain_same : (bytes h last : List ℕ) → IsDatabase bytes → h ≡ bytes → last ≡ h → settled last ≡ bytes
-plain_same bytes h last is whole same = ap settled (same ∙ whole) ∙ settled_plain bytes is

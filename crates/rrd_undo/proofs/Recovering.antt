@@ -72,7 +72,7 @@ module _ (s : Shape) (f : List ℕ) (mark : mark_of f ≡ Some (Cut s)) where
         | inr behind ↦ put.outside k (inr (omega arith)) ∙ sym (un.behind k behind (omega (arith, len)))
       ])
 
-  pub settled_again : last_record s f ≡ None → settled (settled f) ≡ settled f
+  settled_again : last_record s f ≡ None → settled (settled f) ≡ settled f
   settled_again none = plain_again f (settled f) (length f) (unmarked_stands s f mark none) (omega (arith, marked.within, cut_mark_length s))
 
   pub unmark_or_not : (g : List ℕ) → last_record s f ≡ None → AreWholeOrNot 0 database_mark f g → settled g ≡ settled f
@@ -326,19 +326,16 @@ read_few tail buffer taken (Some header) same is = omega (arith, is.1, ap length
 pub record_stays : (old : List ℕ) (tail : ℕ) (f g : List ℕ) (r : Record) → IsUndone old tail f → IsUndone old tail g → record_at f tail ≡ Some r → record_at g tail ≡ Some r
 record_stays old tail f g r before after found = after.restores.recorded ∙ ap Some (sym (record_eq old tail f r before found))
 
-module _ (old : List ℕ) (tail n : ℕ) (f : List ℕ) (r : Record) (is : IsUndone old tail f) (back : IsPutBack old f) (found : record_at f tail ≡ Some r) (s : Shape)
-    (shape : s ≡ shape_for r.length) (size : ℕ) (size_is : size ≡ size_of s) (n_is : n ≡ tail + size) where
-  length_is : r.length ≡ length old
-  length_is = ap (λ (q : Record). q.length) (record_eq old tail f r is found)
+module _ (old : List ℕ) (tail n : ℕ) (f : List ℕ) (r : Record) (is : IsUndone old tail f) (back : IsPutBack old f) (found : record_at f tail ≡ Some r)
+    (n_is : n ≡ tail + size_of (shape_for r.length)) where
+  pub release_length : r.length ≡ length old
+  release_length = ap (λ (q : Record). q.length) (record_eq old tail f r is found)
 
-  shape_is : s ≡ shape_for (length old)
-  shape_is = shape ∙ ap shape_for length_is
-
-  end_is : n ≡ tail + size_of (shape_for (length old))
-  end_is = n_is ∙ ap (λ (m : ℕ). tail + m) (size_is ∙ ap size_of shape_is)
+  pub release_first : take 16 r.first ≡ take 16 old
+  release_first = first_sixteen old r.first is.is.enough (ap (λ (q : Record). q.first) (record_eq old tail f r is found))
 
   pub release_sized : (g : List ℕ) → IsSized n f g → IsReady old old tail g
-  release_sized g sized = released old tail n f g is back end_is sized
+  release_sized g sized = released old tail n f g is back (n_is ∙ ap (λ (m : ℕ). tail + size_of (shape_for m)) release_length) sized
 
   pub release_or_not : (g : List ℕ) → (g ≡ f) ⊎ IsSized n f g → settled g ≡ old
   release_or_not g either = elim either as (λ _. settled g ≡ old) [
@@ -347,12 +344,6 @@ module _ (old : List ℕ) (tail n : ℕ) (f : List ℕ) (r : Record) (is : IsUnd
         let ready : IsReady old old tail g = release_sized g sized in
         undone_settled old tail g ready.is_tail ready.marked ready.restores
   ]
-
-  pub release_shape : s ≡ shape_for (length old)
-  release_shape = shape_is
-
-  pub release_first : take 16 r.first ≡ take 16 old
-  release_first = first_sixteen old r.first is.is.enough (ap (λ (q : Record). q.first) (record_eq old tail f r is found))
 
 pub one_of : (a b : List ℕ) → (settled a ≡ b) ⊎ (settled a ≡ b) → settled a ≡ b
 one_of a b either = elim either as (λ _. settled a ≡ b) [ inl x ↦ x | inr x ↦ x ]

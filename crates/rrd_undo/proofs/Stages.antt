@@ -339,16 +339,6 @@ first_read old opened bytes n count len same counts are =
 pub front_few : (old old_first taken : List ℕ) → AreAt old 0 (min 4096 (length old)) old_first → taken ≡ old_first → length taken ≤ 4096
 front_few old old_first taken are same = rw same (omega (arith, are.len))
 
-pub invalid_end_synced : (new file cut synced last first : List ℕ) (n done : ℕ) → n ≡ length new → length new ≤ done → AreAt new 0 (min 4096 (length new)) first → ArePutBelow done new file
-    → IsSized n file cut → synced ≡ cut → ArePut 0 first synced last → last ≡ new
-invalid_end_synced new file cut synced last first n done counts all are holds sized same put =
-    invalid_end new file cut last first n done counts all are holds sized (rw same at put)
-
-pub invalid_end_kept : (new file cut synced last kept first : List ℕ) (n done : ℕ) → n ≡ length new → length new ≤ done → AreAt new 0 (min 4096 (length new)) first
-    → ArePutBelow done new file → IsSized n file cut → synced ≡ cut → ArePut 0 first synced last → kept ≡ last → kept ≡ new
-invalid_end_kept new file cut synced last kept first n done counts all are holds sized same put again =
-    again ∙ invalid_end_synced new file cut synced last first n done counts all are holds sized same put
-
 pub not_true : (b : Bool) → b ≡ false → IsTrue b → ⊥
 not_true true e t = cc
 not_true false e t = cc

@@ -93,6 +93,13 @@ pub record IsToCut (bytes file : List ℕ) : Type 0 where
   pub longer : length bytes ≤ length file
   pub each : (k : ℕ) → 4 ≤ k → k < length bytes → slice_index file k ≡ slice_index bytes k
 
+-- a file with a cut mark, the old bytes, and the record of the old bytes at the end
+pub record IsOldRecorded (old : List ℕ) (tail : ℕ) (file : List ℕ) : Type 0 where
+  pub to_cut : IsToCut old file
+  pub reaches : tail + 64 ≤ length file
+  pub ends : length file ≤ tail + 128
+  pub recorded : record_at file tail ≡ Some (record_of tail old)
+
 -- a file with a cut mark and exactly as many bytes as it represents
 pub record IsCut (bytes file : List ℕ) : Type 0 where
   pub is : IsDatabase bytes

@@ -1,6 +1,6 @@
 //! Recovers a file after a change that was not ended.
 ghost use Rattle.std.specs.Prelude.{◌≡◌, ◌↔◌, ℕ, ◌%◌, ◌<◌, ◌≤◌, List, length, Option, Some, IfSome, IsSome, None, ◌+◌, IsTrue, IfOk, OnErr, OnOk};
-ghost use Rattle.rrd_tail.specs.Marks.{mark_of};
+ghost use Rattle.rrd_tail.specs.Marks.{mark_of, shape_for, size_of};
 ghost use Rattle.rrd_tail.specs.Records.{if_shaped, last_record, record_at};
 ghost use Rattle.rrd_tail.specs.Settled.{settled};
 ghost use Rattle.rrd_tail.specs.declared.mark.Mark.{Mark};
@@ -9,7 +9,9 @@ ghost use Rattle.rrd_undo.specs.Undoing.{IsToCut};
 
 use crate::Bytes;
 use crate::page::MIN_DATABASE_SIZE;
-use crate::tail::{SLOT, SLOT_HEADER, Syncs, cut_front, finish, offset_of_slot};
+use crate::tail::{
+    SLOT, SLOT_HEADER, Syncs, finish, offset_of_slot, put_and_sync, put_front, set_len_and_sync,
+};
 use rrd_tail::{DATABASE_MARK, Mark, PAGE, Record, Shape, SlotHeader, read_mark, read_slot};
 use std::io::{self, Error, ErrorKind};
 
@@ -88,8 +90,7 @@ fn unmark<F: Bytes>(file: &mut F) -> io::Result<()>
     ensures ok { OnOk result (IsTrue F.is_known → (shape : Shape) → mark_of (F.held file.old) ≡ Some (Mark.Cut shape) → last_record shape (F.held file.old) ≡ None
         → F.held file.new ≡ settled (F.held file.old)) }
 {
-    file.put_whole(0, &DATABASE_MARK)?;
-    file.sync()
+    put_and_sync(file, 0, &DATABASE_MARK, Syncs::Ordered)
 }
 
 // Settles a file with a cut mark.
@@ -161,14 +162,19 @@ fn release<F: Bytes>(file: &mut F, tail: usize, first: &Record) -> io::Result<()
     ensures err { OnErr result (IsTrue F.is_known → (old : List ℕ) → IsUndone old tail (F.held file.old) → IsPutBack old (F.held file.old) → record_at (F.held file.old) tail ≡ Some first.now
         → settled (F.held file.new) ≡ old) }
 {
-    let shape = Shape::for_length(first.length);
-    let Some(end) = tail.checked_add(shape.size()) else {
-        return Err(Error::from(ErrorKind::FileTooLarge));
-    };
-    file.set_len(end)?;
-    file.sync()?;
-    file.put_whole(0, &cut_front(shape, &first.first))?;
-    file.sync()
+    let end = record_end(tail, first.length)?;
+    set_len_and_sync(file, end, Syncs::Ordered)?;
+    put_front(file, first.length, &first.first, Syncs::Ordered)
+}
+
+// Returns the offset after the record at byte `tail`, if that is the record of a database of `count` bytes.
+fn record_end(tail: usize, count: usize) -> io::Result<usize>
+    ensures { IfOk result (λ end. end ≡ tail + size_of (shape_for count)) }
+{
+    match tail.checked_add(Shape::for_length(count).size()) {
+        Some(end) => Ok(end),
+        None => Err(Error::from(ErrorKind::FileTooLarge)),
+    }
 }
 
 // Takes back a change whose old bytes are in the tail.
