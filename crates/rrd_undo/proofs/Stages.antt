@@ -352,7 +352,7 @@ at_left old new done c f is_at = (
 )
 
 knows_page : (old : List ℕ) (c d : Change) → d ≡ record c { old_page = d.old_page } → Knows old c → Knows old d
-knows_page old c d frame knows = rw frame (record { old_length = knows.old_length; old_first = knows.old_first; tail = knows.tail; below = knows.below })
+knows_page old c d frame knows = rw frame knows
 
 pub at_same : (old new : List ℕ) (done : ℕ) (c d : Change) (f g : List ℕ) → d ≡ record c { old_page = d.old_page } → g ≡ f → IsAt old new done c f → IsAt old new done d g
 at_same old new done c d f g frame same is_at =
