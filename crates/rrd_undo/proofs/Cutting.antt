@@ -13,11 +13,7 @@ use Rattle.rrd_tail.specs.declared.record.Record.{Record}
 use Rattle.rrd_undo.specs.Calls.{ArePut, AreWholeOrNot, IsSized}
 use Rattle.rrd_undo.specs.Databases.{IsDatabase}
 use Rattle.rrd_undo.specs.Undoing.{IsCut, IsToCut}
-use Rattle.rrd_tail.proofs.Lemmas.{cut_mark_is_read, cut_stands, length_tells, no_last_record, plain_has_no_mark, plain_stands, unmarked_stands}
-
-pub cut_mark_length : (s : Shape) → length (cut_mark s) ≡ 4
-cut_mark_length Short = refl
-cut_mark_length Long = refl
+use Rattle.rrd_tail.proofs.Lemmas.{cut_mark_is_read, cut_mark_length, cut_stands, length_tells, no_last_record, plain_has_no_mark, plain_stands, unmarked_stands}
 
 -- what was put stands
 pub put_stands : (at : ℕ) (bytes old new : List ℕ) → ArePut at bytes old new → StandsAt new at bytes

@@ -13,7 +13,6 @@ use Rattle.rrd_tail.specs.declared.mark.Shape.{Shape}
 use Rattle.rrd_tail.specs.declared.mark.Mark.TheVariants.{Cut, Undo}
 use Rattle.rrd_tail.specs.declared.record.Record.{Record}
 use Rattle.rrd_tail.specs.declared.slot.SlotHeader.{SlotHeader}
-use Rattle.rrd_tail.proofs.Slotted.{read_short}
 use Rattle.rrd_tail.proofs.Lemmas.{cut_mark_length, cut_stands, front_says_mark, last_record_is_read, last_record_stands, mark_stands, no_last_record, no_slots_below, plain_has_no_mark, plain_stands, record_bytes_length, record_is_read, record_stands, slot_stands, slots_are_in_order, slots_stay, undo_mark_length, undone_stands, unmarked_stands}
 use Rattle.rrd_undo.specs.Calls.{AreAny, AreAt, ArePut, AreWholeOrNot, IsSized}
 use Rattle.rrd_undo.specs.Settling.{IsBack, IsPutBack, IsSlotFound, IsUndone}
@@ -286,12 +285,6 @@ released old tail n f g is back n_is sized =
 pub first_sixteen : (old first : List ℕ) → 16 ≤ length old → first ≡ take 16 old → take 16 first ≡ take 16 old
 first_sixteen old first enough same =
     take_all 16 first (omega (arith, ap length same, length-sixteen old enough)) ∙ same
-
--- a file that has no more bytes has no slot
-pub no_slot_past : (tail : ℕ) (f : List ℕ) (i at n : ℕ) → n ≡ length f → at ≡ slot_offset tail i → n ≤ at → slot_at tail f i ≡ None
-no_slot_past tail f i at n len offset past =
-    read_short tail (slice_range f (slot_offset tail i) (slot_offset tail i + 4128))
-    (omega (arith, length-take (slot_offset tail i + 4128 - slot_offset tail i) (drop (slot_offset tail i) f), length-drop (slot_offset tail i) f, len, offset))
 
 found_is : (tail : ℕ) (f : List ℕ) (i : ℕ) (buffer : List ℕ) (result : Option SlotHeader) → buffer ≡ slice_range f (slot_offset tail i) (slot_offset tail i + 4128)
     → IsSlotRead tail buffer result → IsSlotFound tail f i buffer result

@@ -14,9 +14,9 @@ use Rattle.rrd_tail.specs.declared.record.Record.{Record}
 use Rattle.rrd_undo.specs.Calls.{AreAny, ArePut, AreWholeOrNot}
 use Rattle.rrd_undo.specs.Databases.{IsDatabase}
 use Rattle.rrd_undo.specs.Undoing.{EndsBelow, IsOldPage, IsReady, IsRecorded, IsTail, IsToCut, Keeps, Paged, Restores, Turns, Undoing, record_of, slot_of}
-use Rattle.rrd_undo.proofs.Cutting.{cut_mark_length, put_stands, stands_same, to_cut_settled}
+use Rattle.rrd_undo.proofs.Cutting.{put_stands, stands_same, to_cut_settled}
 use Rattle.rrd_undo.proofs.Laid.{all_laid-append, laid_in}
-use Rattle.rrd_tail.proofs.Lemmas.{last_record_is_read, last_record_stands, record_is_read, record_stands, slots_stay, undo_mark_length, zeros_end_slots}
+use Rattle.rrd_tail.proofs.Lemmas.{cut_mark_length, last_record_is_read, last_record_stands, record_is_read, record_stands, slots_stay, undo_mark_length, zeros_end_slots}
 use Rattle.rrd_undo.proofs.Undone.{length-sixteen, marked_again, record_same, restores_same, right_record_of, shaped_length, shaped_stands, undone_settled}
 
 -- ---- a page is put

@@ -11,21 +11,19 @@ use Rattle.rrd_tail.specs.Slots.{IsRightSlot, Slot, all_laid, laid, slot_bytes, 
 use Rattle.rrd_tail.specs.declared.mark.Shape.{Shape}
 use Rattle.rrd_tail.specs.declared.mark.Shape.TheVariants.{Short, Long}
 use Rattle.rrd_tail.specs.declared.record.Record.{Record}
-use Rattle.rrd_tail.proofs.Recorded.{length-record}
-use Rattle.rrd_tail.proofs.Slotted.{length-slot}
 use Rattle.rrd_undo.specs.Calls.{AreAt, ArePut, AreWholeOrNot, IsFrontPut}
 use Rattle.rrd_undo.specs.Databases.{IsDatabase}
 use Rattle.rrd_undo.specs.Undoing.{IsCut, IsOldPage, IsOldRecorded, IsTail, Keeps, Restores, Undoing, record_of, slot_of}
-use Rattle.rrd_undo.proofs.Cutting.{cut_mark_length, cut_settled, put_stands, settled_plain, stands_same, to_cut_settled}
+use Rattle.rrd_undo.proofs.Cutting.{cut_settled, put_stands, settled_plain, stands_same, to_cut_settled}
 use Rattle.rrd_undo.proofs.Laid.{all_laid-append, laid_above, laid_below, laid_in}
-use Rattle.rrd_tail.proofs.Lemmas.{cut_slot_is_not_counted, last_record_is_read, no_slots_below, record_is_read, record_stands, slot_is_appended, slots_stay, undo_mark_is_read, undo_mark_length, undone_stands}
+use Rattle.rrd_tail.proofs.Lemmas.{cut_mark_length, cut_slot_is_not_counted, last_record_is_read, no_slots_below, record_bytes_length, record_is_read, record_stands, slot_bytes_length, slot_is_appended, slots_stay, undo_mark_is_read, undo_mark_length, undone_stands}
 
 -- a record that is in a file is in another one with the same bytes there
 pub record_same : (tail at : ℕ) (r : Record) (f g : List ℕ) → tail ≡ at → at < 2 ^ 64 → length f ≤ length g
     → ((k : ℕ) → at ≤ k → k < at + 64 → slice_index g k ≡ slice_index f k) → record_at f at ≡ Some r → record_at g at ≡ Some r
 record_same tail at r f g _ fits longer same is =
     let stands = record_stands at r f is in
-    let len : length (record_bytes r) ≡ 64 = omega (arith, length-record r, stands.2) in
+    let len : length (record_bytes r) ≡ 64 = record_bytes_length r stands.2 in
     record_is_read at r g fits stands.2 stands.1 (stands_same at (record_bytes r) f g longer (λ k high low. same k high (omega (arith, len))) stands.0)
 
 -- the first sixteen bytes
@@ -76,8 +74,8 @@ replicate_zeros : length (replicate {A = ℕ} 64 0) ≡ 64
 replicate_zeros = length-replicate {A = ℕ} 64 0
 
 pub shaped_length : (s : Shape) (r : Record) → length r.first ≡ 16 → length (shaped_bytes s r) ≡ size_of s
-shaped_length Short r first = omega (arith, length-record r)
-shaped_length Long r first = omega (arith, length-record r, length-append (record_bytes r) (replicate 64 0), replicate_zeros)
+shaped_length Short r first = record_bytes_length r first
+shaped_length Long r first = omega (arith, record_bytes_length r first, length-append (record_bytes r) (replicate 64 0), replicate_zeros)
 
 pub shaped_stands : (s : Shape) (at : ℕ) (r : Record) (f : List ℕ) → StandsAt f at (shaped_bytes s r) → StandsAt f at (record_bytes r)
 shaped_stands Short at r f stands = stands
@@ -211,7 +209,7 @@ module _ (old : List ℕ) (tail slots at : ℕ) (bytes f : List ℕ) (is : IsDat
   right_slot = record { behind = page.behind; some = some; most = page.few; below = omega (arith, page.within some, is_tail.below) }
 
   slot_length : length (slot_bytes tail (slot_of at bytes)) ≡ 32 + length bytes
-  slot_length = length-slot tail (slot_of at bytes)
+  slot_length = slot_bytes_length tail (slot_of at bytes)
 
   next_is : slot_offset tail (length (slots_in tail f)) ≡ slot_offset tail slots
   next_is = ap (slot_offset tail) undoing.counted
