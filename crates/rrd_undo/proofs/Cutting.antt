@@ -1,14 +1,12 @@
 -- Files with a cut mark.
-use Rattle.std.proofs.Common.{◌≡◌, ◌⊎◌, ℕ, ◌+◌, ◌%◌, ◌<◌, ◌≤◌, List, length, slice_index, None, refl, sym, ◌∙◌, ap, inl, inr, arith}
+use Rattle.std.proofs.Common.{◌≡◌, ◌⊎◌, ℕ, ◌+◌, ◌%◌, ◌<◌, ◌≤◌, List, length, slice_index, None, sym, ◌∙◌, ap, inl, inr, arith}
 use Rattle.std.proofs.lemmas.Bool.{cases_lt}
 use Rattle.std.proofs.lemmas.List.{ext_get_or}
 use Rattle.rrd_tail.specs.Bytes.{StandsAt}
 use Rattle.rrd_tail.specs.Laws.{IsUnmarked}
-use Rattle.rrd_tail.specs.Marks.{cut_mark, database_mark, shape_for}
+use Rattle.rrd_tail.specs.Marks.{database_mark, shape_for}
 use Rattle.rrd_tail.specs.Records.{last_record}
 use Rattle.rrd_tail.specs.Settled.{settled}
-use Rattle.rrd_tail.specs.declared.mark.Shape.{Shape}
-use Rattle.rrd_tail.specs.declared.mark.Shape.TheVariants.{Short, Long}
 use Rattle.rrd_tail.specs.declared.record.Record.{Record}
 use Rattle.rrd_undo.specs.Calls.{ArePut, AreWholeOrNot, IsSized}
 use Rattle.rrd_undo.specs.Databases.{IsDatabase}

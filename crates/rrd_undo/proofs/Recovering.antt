@@ -306,9 +306,6 @@ not_ends s f n size len sizes other =
 pub undone_synced : (old : List ℕ) (tail : ℕ) (f h : List ℕ) → IsUndone old tail f → h ≡ f → IsUndone old tail h
 undone_synced old tail f h is synced = rw synced is
 
-pub put_back_synced : (old f h : List ℕ) → IsPutBack old f → h ≡ f → IsPutBack old h
-put_back_synced old f h back synced = rw synced back
-
 pub read_few : (tail : ℕ) (buffer taken : List ℕ) (result : Option SlotHeader) → taken ≡ buffer → IsSlotRead tail taken result
     → IfSome result (λ header. 32 + header.count ≤ length buffer)
 read_few tail buffer taken None same is = tt

@@ -133,7 +133,7 @@ fn read_slot_at<F: Bytes>(
     Ok(read_slot(tail, buffer))
 }
 
-// Writes the bytes of each slot at their old offset.
+// Writes the bytes of each slot at their old offset, and then syncs the file.
 fn put_slots<F: Bytes>(
     file: &mut F,
     file_length: usize,
@@ -147,7 +147,7 @@ fn put_slots<F: Bytes>(
 {
     for number in 0..usize::MAX {
         let Some(slot) = read_slot_at(file, file_length, tail, number, buffer)? else {
-            return Ok(());
+            return file.sync();
         };
         let end = SLOT_HEADER + slot.count;
         file.put(slot.offset, &buffer[SLOT_HEADER..end])?;
@@ -191,7 +191,6 @@ fn undo<F: Bytes>(
         → F.held file.new ≡ old) }
 {
     put_slots(file, file_length, tail, buffer)?;
-    file.sync()?;
     release(file, tail, first)?;
     finish(file, first.length, Syncs::Ordered)
 }

@@ -1,4 +1,5 @@
-use Rattle.std.proofs.Common.{◌+◌, ap, List, ℕ, length, slice_range, arith}
+use Rattle.std.proofs.Common.{◌∙◌, ◌+◌, ap, List, ℕ, length, slice_range, arith}
+use Rattle.rrd_undo.proofs.Laid.{on_any}
 use Rattle.rrd_undo.proofs.Recovering.{back_begun, back_ended, slot_back, slot_failed, undone_synced}
 use Rattle.rrd_undo.proofs.recovery.put_slots.Goals as goal
 
@@ -15,10 +16,14 @@ loop-number-preserved g c = λ f old len is.
 pub returns-in_err-slot-clause-stands : goal.returns-in_err-slot-clause-stands
 returns-in_err-slot-clause-stands g c f old len is = undone_synced old c.args.tail _ _ (c.loop-number.invariant f old len is).0.undone c.read_slot_at.ensures.same
 
+pub returns-in_default-clause-stands : goal.returns-in_default-clause-stands
+returns-in_default-clause-stands g c f old len is =
+    undone_synced old c.args.tail _ _ (c.loop-number.invariant f old len is).0.undone (c.sync.ensures.same ∙ c.read_slot_at.ensures.same)
+
 pub returns-in_default-clause-ok : goal.returns-in_default-clause-ok
-returns-in_default-clause-ok g c f old len is =
+returns-in_default-clause-ok g c = on_any c.sync.result _ (λ f old len is.
     let inv = (rw (← c.read_slot_at.ensures.same) at (c.loop-number.invariant f old len is)) in
-    back_ended old c.args.tail c.loop-number.number _ inv.0 (rw c.in_default.is at (c.in_ok-slot.ensures.ok f inv.1))
+    rw c.sync.ensures.same (back_ended old c.args.tail c.loop-number.number _ inv.0 (rw c.in_default.is at (c.in_ok-slot.ensures.ok f inv.1))))
 
 pub returns-in_err-put-clause-stands : goal.returns-in_err-put-clause-stands
 returns-in_err-put-clause-stands g c f old len is =
