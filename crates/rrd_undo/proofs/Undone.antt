@@ -7,7 +7,7 @@ use Rattle.rrd_tail.specs.Laws.{IsUndone}
 use Rattle.rrd_tail.specs.Marks.{cut_mark, shape_for, size_of, undo_mark}
 use Rattle.rrd_tail.specs.Records.{IsRightAt, record_at, record_bytes, shaped_bytes}
 use Rattle.rrd_tail.specs.Settled.{old_byte, settled}
-use Rattle.rrd_tail.specs.Slots.{IsRightSlot, Slot, all_laid, laid, slot_bytes, slot_header, slot_offset, slots_in}
+use Rattle.rrd_tail.specs.Slots.{IsRightSlot, Slot, all_laid, laid, slot_bytes, slot_offset, slots_in}
 use Rattle.rrd_tail.specs.declared.mark.Shape.{Shape}
 use Rattle.rrd_tail.specs.declared.mark.Shape.TheVariants.{Short, Long}
 use Rattle.rrd_tail.specs.declared.record.Record.{Record}
@@ -305,12 +305,6 @@ module _ (old : List ℕ) (tail slots at : ℕ) (bytes f : List ℕ) (is : IsDat
   ]
 
 -- ---- as the calls say it
-
--- the bytes of a slot, as they are put together
-pub taken_is : (taken b2 b1 b0 header bytes : List ℕ) (tail at : ℕ) → taken ≡ b2 → b2 ≡ b1 ++ bytes → b1 ≡ b0 ++ header → b0 ≡ [] → header ≡ slot_header tail (slot_of at bytes)
-    → taken ≡ slot_bytes tail (slot_of at bytes)
-taken_is taken b2 b1 b0 header bytes tail at e1 e2 e3 e4 e5 =
-    e1 ∙ e2 ∙ ap (λ (b : List ℕ). b ++ bytes) (e3 ∙ ap (λ (b : List ℕ). b ++ header) e4 ∙ e5)
 
 pub kept_synced : (old : List ℕ) (tail slots at : ℕ) (bytes f g h : List ℕ) → Keeps old tail slots at bytes f g → h ≡ g → Keeps old tail slots at bytes f h
 kept_synced old tail slots at bytes f g h keeps synced = rw synced keeps

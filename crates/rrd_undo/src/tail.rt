@@ -4,9 +4,9 @@ ghost use Rattle.std.specs.Prelude.{◌≡◌, ◌⊎◌, ℕ, ◌+◌, ◌-◌,
 ghost use Rattle.rrd_tail.specs.Marks.{cut_mark, shape_for, undo_mark};
 ghost use Rattle.rrd_tail.specs.Records.{shaped_bytes};
 ghost use Rattle.rrd_tail.specs.Settled.{settled};
-ghost use Rattle.rrd_tail.specs.Slots.{slot_offset};
+ghost use Rattle.rrd_tail.specs.Slots.{slot_bytes, slot_offset};
 ghost use Rattle.rrd_undo.specs.Calls.{AreAt, ArePut, AreWholeOrNot, IsSized};
-ghost use Rattle.rrd_undo.specs.Undoing.{IsOldPage, IsOldRecorded, IsReady, IsTail, IsToCut, Keeps, Paged, Turns, Undoing, record_of};
+ghost use Rattle.rrd_undo.specs.Undoing.{IsOldPage, IsOldRecorded, IsReady, IsTail, IsToCut, Keeps, Paged, Turns, Undoing, record_of, slot_of};
 ghost use Rattle.rrd_undo.specs.Databases.{IsDatabase};
 
 use crate::Bytes;
@@ -170,6 +170,16 @@ pub(crate) fn offset_of_slot(tail: usize, number: usize) -> io::Result<usize>
     }
 }
 
+// Fills a buffer with a slot of the old bytes from byte `at` on.
+fn fill_slot(buffer: &mut Vec<u8>, tail: usize, at: usize, bytes: &[u8]) -> io::Result<()>
+    ensures { OnOk result (buffer.new.items ≡ slot_bytes tail (slot_of at bytes.now)) }
+{
+    buffer.clear();
+    buffer.extend_from_slice(&slot_header(tail, at, bytes))?;
+    buffer.extend_from_slice(bytes)?;
+    Ok(())
+}
+
 /// The tail of a file that is being changed.
 #[derive(Drop)]
 pub(crate) struct Tail {
@@ -231,10 +241,7 @@ impl Tail {
             return Ok(());
         }
         let offset = offset_of_slot(self.offset, self.slots)?;
-        self.buffer.clear();
-        self.buffer
-            .extend_from_slice(&slot_header(self.offset, at, bytes))?;
-        self.buffer.extend_from_slice(bytes)?;
+        fill_slot(&mut self.buffer, self.offset, at, bytes)?;
         file.append(offset, &self.buffer)?;
         self.slots += 1;
         sync(file, self.syncs)
