@@ -7,13 +7,13 @@ use Rattle.rrd_tail.specs.declared.record.Record.{Record}
 use Rattle.rrd_tail.specs.Laws as laws
 use Rattle.rrd_tail.specs.Marks.{cut_mark, undo_mark}
 use Rattle.rrd_tail.specs.Records.{record_bytes}
-use Rattle.rrd_tail.specs.Slots.{Slot, slot_header, slot_bytes, slots_in}
+use Rattle.rrd_tail.specs.Slots.{Slot, slot_bytes, slots_in}
 use Rattle.rrd_tail.proofs.Backs as backs
 use Rattle.rrd_tail.proofs.Marked as marked
 use Rattle.rrd_tail.proofs.Offsets as offsets
 use Rattle.rrd_tail.proofs.Recorded.{length-record}
 use Rattle.rrd_tail.proofs.Settling as settling
-use Rattle.rrd_tail.proofs.Slotted.{length-header, length-slot}
+use Rattle.rrd_tail.proofs.Slotted.{length-slot}
 
 -- ---- lengths
 
@@ -26,9 +26,6 @@ undo_mark_length tail = refl
 
 pub record_bytes_length : (r : Record) → length r.first ≡ 16 → length (record_bytes r) ≡ 64
 record_bytes_length r size = let all = length-record r in omega (arith, all, size)
-
-pub slot_header_length : (tail : ℕ) (s : Slot) → length (slot_header tail s) ≡ 32
-slot_header_length tail s = length-header tail s
 
 pub slot_bytes_length : (tail : ℕ) (s : Slot) → length (slot_bytes tail s) ≡ 32 + length s.bytes
 slot_bytes_length tail s = length-slot tail s
@@ -61,9 +58,6 @@ record_is_read at r file = backs.record_read at r file
 pub record_stands : (at : ℕ) (r : Record) (file : List ℕ) → laws.RecordStands at r file
 record_stands at r file = backs.record_stands at r file
 
-pub no_record_past_the_end : (at : ℕ) (file : List ℕ) → laws.NoRecordPastTheEnd at file
-no_record_past_the_end at file = backs.record_past at file
-
 pub last_record_is_read : (shape : Shape) (at : ℕ) (r : Record) (file : List ℕ) → laws.LastRecordIsRead shape at r file
 last_record_is_read shape at r file = backs.last_read shape at r file
 
@@ -75,11 +69,11 @@ last_record_stands shape r file = backs.last_stands shape r file
 
 -- ---- slots
 
-pub slot_is_read : (tail i : ℕ) (s : Slot) (file : List ℕ) → laws.SlotIsRead tail i s file
-slot_is_read tail i s file = offsets.slot_reads tail i s file
-
 pub slot_stands : (tail i : ℕ) (s : Slot) (file : List ℕ) → laws.SlotStands tail i s file
 slot_stands tail i s file = offsets.slot_stands tail i s file
+
+pub no_slot_past_the_end : (tail i : ℕ) (file : List ℕ) → laws.NoSlotPastTheEnd tail i file
+no_slot_past_the_end tail i file = offsets.slot_past tail i file
 
 pub slots_are_in_order : (tail : ℕ) (file : List ℕ) → laws.SlotsAreInOrder tail file
 slots_are_in_order tail file = offsets.in_order tail file

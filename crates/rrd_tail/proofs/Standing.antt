@@ -31,15 +31,6 @@ stands_from file at end bytes rest e some =
       each = λ i h. sym (get_or-part file at end i (omega (arith, fits, size, h))) ∙ front_reads 0 part bytes rest e i h;
     }
 
--- parts of files that have the same bytes are the same
-pub part_same : (file new : List ℕ) (at end : ℕ) → end ≤ length file → end ≤ length new → ((k : ℕ) → at ≤ k → k < end → get_or new k 0 ≡ get_or file k 0) →
-    slice_range new at end ≡ slice_range file at end
-part_same file new at end fits fits_new h =
-    let size = length-part file at end in
-    let size_new = length-part new at end in
-    ext_get_or 0 (slice_range new at end) (slice_range file at end) (omega (arith, size, size_new, fits, fits_new))
-    (λ i k. get_or-part new at end i (omega (arith, k, size_new)) ∙ h (at + i) (omega arith) (omega (arith, k, size_new)) ∙ sym (get_or-part file at end i (omega (arith, k, size_new))))
-
 pub drop_same : (file new : List ℕ) (at : ℕ) → length new ≡ length file → ((k : ℕ) → at ≤ k → get_or new k 0 ≡ get_or file k 0) → drop at new ≡ drop at file
 drop_same file new at len h =
     let size = length-drop at file in

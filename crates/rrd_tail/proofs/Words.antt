@@ -1,9 +1,9 @@
 -- Lemmas on the words of bytes.
-use Rattle.std.proofs.Common.{◌≡◌, ℕ, zero, suc, ◌+◌, ◌-◌, ◌*◌, ◌/◌, ◌%◌, ◌<◌, ◌≤◌, List, [], ◌∷◌, ◌++◌, length, take, drop, replicate, get_or, refl, sym, ◌∙◌, ap, add-one, arith}
+use Rattle.std.proofs.Common.{◌≡◌, ℕ, zero, suc, ◌+◌, ◌-◌, ◌*◌, ◌/◌, ◌%◌, ◌<◌, ◌≤◌, List, length, take, drop, get_or, refl, sym, ◌∙◌, ap, add-one, arith}
 use Rattle.std.specs.Int.{w64, from_be_bytes, sum_through, byte_worth}
 use Rattle.std.specs.Simd.{first_chunks}
 use Rattle.std.specs.List.{slice_range}
-use Rattle.std.proofs.lemmas.List.{drop-drop, get_or-drop, get_or-take}
+use Rattle.std.proofs.lemmas.List.{drop-drop, get_or-take}
 use Rattle.std.proofs.lemmas.Nat.{div-add-mod', div-mul-add, mod_below}
 use Rattle.rrd_tail.specs.Checksum.{mix, mix_words, word, mix_bytes}
 
@@ -19,17 +19,6 @@ pub from_be-same : (xs ys : List ℕ) → ((i : ℕ) → i < 8 → get_or xs i 0
 from_be-same xs ys h =
     sum-same (λ i. byte_worth (7 - i) (get_or xs i 0)) (λ i. byte_worth (7 - i) (get_or ys i 0)) 7
     (λ i k. ap (λ b. byte_worth (7 - i) b) (h i (omega (arith, k))))
-
-pub zeros : (n i : ℕ) → get_or {A = ℕ} (replicate n 0) i 0 ≡ 0
-zeros zero i = refl
-zeros (suc n) zero = refl
-zeros (suc n) (suc i) = zeros n i
-
--- zeros behind the bytes change no byte
-pub padded : (xs : List ℕ) (m n i : ℕ) → get_or (xs ++ drop m (replicate n 0)) i 0 ≡ get_or xs i 0
-padded [] m n i = get_or-drop m (replicate n 0) i 0 ∙ zeros n (m + i)
-padded (x ∷ xs) m n zero = refl
-padded (x ∷ xs) m n (suc i) = padded xs m n i
 
 pub chunk_at : (n k i : ℕ) (xs d : List ℕ) → i < k → get_or (first_chunks n k xs) i d ≡ take n (drop (n * i) xs)
 chunk_at n zero i xs d h = grind arith

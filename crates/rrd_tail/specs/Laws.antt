@@ -85,6 +85,9 @@ abbrev pub SlotIsRead : ℕ → ℕ → Slot → List ℕ → Type 0
 SlotIsRead tail i s file =
     tail < 2 ^ 64 → IsRightSlot tail s → StandsAt file (slot_offset tail i) (slot_bytes tail s) → slot_at tail file i ≡ Some s
 
+abbrev pub NoSlotPastTheEnd : ℕ → ℕ → List ℕ → Type 0
+NoSlotPastTheEnd tail i file = length file < slot_offset tail i + 32 → slot_at tail file i ≡ None
+
 -- the offset after a file's slots
 abbrev pub next_offset : ℕ → List ℕ → ℕ
 next_offset tail file = slot_offset tail (length (slots_in tail file))

@@ -41,6 +41,7 @@ pub fn last_records_are_read()
 pub fn slots_are_read()
     ensures read { (tail i : ℕ) (s : Slot) (file : List ℕ) → laws.SlotIsRead tail i s file }
     ensures stands { (tail i : ℕ) (s : Slot) (file : List ℕ) → laws.SlotStands tail i s file }
+    ensures past { (tail i : ℕ) (file : List ℕ) → laws.NoSlotPastTheEnd tail i file }
 {}
 
 /// Theorem: the slots of a file are the valid slots in order, up to the first slot offset without a valid slot.

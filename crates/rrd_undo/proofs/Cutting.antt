@@ -1,24 +1,17 @@
 -- Files with a cut mark.
-use Rattle.std.proofs.Common.{◌≡◌, ◌⊎◌, ℕ, ◌+◌, ◌-◌, ◌%◌, ◌<◌, ◌≤◌, max, List, length, slice_index, Some, None, refl, sym, ◌∙◌, ap, inl, inr, arith}
+use Rattle.std.proofs.Common.{◌≡◌, ◌⊎◌, ℕ, ◌+◌, ◌%◌, ◌<◌, ◌≤◌, List, length, slice_index, None, sym, ◌∙◌, ap, inl, inr, arith}
 use Rattle.std.proofs.lemmas.Bool.{cases_lt}
 use Rattle.std.proofs.lemmas.List.{ext_get_or}
 use Rattle.rrd_tail.specs.Bytes.{StandsAt}
 use Rattle.rrd_tail.specs.Laws.{IsUnmarked}
-use Rattle.rrd_tail.specs.Marks.{cut_mark, database_mark, mark_of, shape_for, size_of}
+use Rattle.rrd_tail.specs.Marks.{database_mark, shape_for}
 use Rattle.rrd_tail.specs.Records.{last_record}
 use Rattle.rrd_tail.specs.Settled.{settled}
-use Rattle.rrd_tail.specs.declared.mark.Shape.{Shape}
-use Rattle.rrd_tail.specs.declared.mark.Shape.TheVariants.{Short, Long}
-use Rattle.rrd_tail.specs.declared.mark.Mark.TheVariants.{Cut}
 use Rattle.rrd_tail.specs.declared.record.Record.{Record}
 use Rattle.rrd_undo.specs.Calls.{ArePut, AreWholeOrNot, IsSized}
 use Rattle.rrd_undo.specs.Databases.{IsDatabase}
 use Rattle.rrd_undo.specs.Undoing.{IsCut, IsToCut}
-use Rattle.rrd_tail.proofs.Lemmas.{cut_mark_is_read, cut_stands, length_tells, mark_stands, no_last_record, plain_has_no_mark, plain_stands, unmarked_stands}
-
-pub cut_mark_length : (s : Shape) → length (cut_mark s) ≡ 4
-cut_mark_length Short = refl
-cut_mark_length Long = refl
+use Rattle.rrd_tail.proofs.Lemmas.{cut_mark_is_read, cut_mark_length, cut_stands, length_tells, no_last_record, plain_has_no_mark, plain_stands, unmarked_stands}
 
 -- what was put stands
 pub put_stands : (at : ℕ) (bytes old new : List ℕ) → ArePut at bytes old new → StandsAt new at bytes
@@ -91,24 +84,19 @@ cut_put bytes f g is put =
 
 -- the calls of `finish`
 module _ (bytes f : List ℕ) (n : ℕ) (counts : n ≡ length bytes) (is : IsToCut bytes f) where
+  pub sized_cut : (g : List ℕ) → IsSized n f g → IsCut bytes g
+  sized_cut g sized =
+      let sized_all : IsSized (length bytes) f g = rw (← counts) sized in
+      to_cut_sized bytes f g is sized_all
+
   pub sized_or_not : (g : List ℕ) → (g ≡ f) ⊎ IsSized n f g → settled g ≡ bytes
   sized_or_not g either = elim either as (λ _. settled g ≡ bytes) [
     | inl same ↦ ap settled same ∙ to_cut_settled bytes f is
-    | inr sized ↦
-        let sized_all : IsSized (length bytes) f g = rw (← counts) sized in
-        cut_settled bytes g (to_cut_sized bytes f g is sized_all)
+    | inr sized ↦ cut_settled bytes g (sized_cut g sized)
   ]
-
-  pub sized_cut : (g synced : List ℕ) → IsSized n f g → synced ≡ g → IsCut bytes synced
-  sized_cut g synced sized same =
-      let sized_all : IsSized (length bytes) f g = rw (← counts) sized in
-      rw same (to_cut_sized bytes f g is sized_all)
 
 pub cut_put_settled : (bytes g h : List ℕ) → IsCut bytes g → AreWholeOrNot 0 database_mark g h → settled h ≡ bytes
 cut_put_settled bytes g h cut either = elim either as (λ _. settled h ≡ bytes) [
   | inl same ↦ ap settled same ∙ cut_settled bytes g cut
   | inr put ↦ ap settled (cut_put bytes g h cut put) ∙ settled_plain bytes cut.is
 ]
-
-pub plain_same : (bytes h last : List ℕ) → IsDatabase bytes → h ≡ bytes → last ≡ h → settled last ≡ bytes
-plain_same bytes h last is whole same = ap settled (same ∙ whole) ∙ settled_plain bytes is

@@ -1,11 +1,9 @@
 -- Bytes are gathered to pages.
-use Rattle.std.proofs.Common.{◌≡◌, ◌⊎◌, ℕ, ◌+◌, ◌-◌, ◌<◌, ◌≤◌, min, max, List, [], ◌++◌, length, slice_index, refl, sym, ◌∙◌, ap, inl, inr, arith, length-append}
+use Rattle.std.proofs.Common.{◌≡◌, ◌⊎◌, ℕ, ◌+◌, ◌-◌, ◌<◌, ◌≤◌, max, List, ◌++◌, length, slice_index, sym, ◌∙◌, ap, inl, inr, arith, length-append}
 use Rattle.std.proofs.lemmas.Bool.{cases_lt}
 use Rattle.std.proofs.lemmas.List.{get_or-append-add, get_or_append_left}
-use Rattle.rrd_undo.specs.Calls.{AreAt}
-use Rattle.rrd_undo.specs.Changing.{Agreeing, Holds, IsAt, IsPage}
-use Rattle.rrd_undo.specs.Undoing.{Turning}
-use Rattle.rrd_undo.specs.Writing.{IsGathered, IsTaken}
+use Rattle.rrd_undo.specs.Changing.{Holds, IsAt}
+use Rattle.rrd_undo.specs.Writing.{IsTaken}
 use Rattle.rrd_undo.specs.declared.change.Stage.{Stage}
 use Rattle.rrd_undo.specs.declared.change.Stage.TheVariants.{Untouched, Marked, Committing, Unkept, Invalid}
 use Rattle.rrd_undo.specs.declared.writer.Pages.{Pages}
@@ -45,22 +43,6 @@ holds_more Invalid old new more tail slots file at front holds = (
   holds.0,
   λ k high low within. holds.1 k high low (front_reaches at new more front k high low) ∙ sym (front.same k high low),
 )
-
--- a page that is whole was ended
-pub gathered_taken : (old new : List ℕ) (w v : Pages) (f g : List ℕ) → IsTaken old new w f
-    → IsGathered old new v g → v.done ≡ w.done + 4096 → v.page.items ≡ [] → 4096 ≤ length w.page.items → IsTaken old new v g
-gathered_taken old new w v f g is gathered done none full =
-    let max_is : max 4096 v.done ≡ v.done = omega (arith, gathered.high) in
-    let len : length v.page.items ≡ 0 = ap length none in
-    let whole : min 4096 (length new) ≡ 4096 = omega (arith, is.len, full) in
-    record {
-      is_at = rw max_is gathered.is_at;
-      len = omega (arith, is.len, is.few, full, done, len);
-      few = omega (arith, len);
-      page = λ i low. absurd (omega (arith, len));
-      begins = inr gathered.high;
-      first = λ _. rw whole at gathered.first;
-    }
 
 -- bytes are taken into the page
 pub taken_more : (old new more : List ℕ) (w v : Pages) (f : List ℕ) → IsTaken old new w f

@@ -1,7 +1,7 @@
 -- What is laid over a byte, and clauses on results.
 use Rattle.std.proofs.Common.{◌≡◌, ℕ, zero, suc, ◌+◌, ◌-◌, ◌<◌, ◌≤◌, List, [], ◌∷◌, ◌++◌, length, drop, slice_index, Result, Ok, Err, OnOk, OnErr, refl, sym, ◌∙◌, ap, arith}
 use Rattle.std.proofs.lemmas.Bool.{lt-ltb, le-ltb, lt-leb, le-leb}
-use Rattle.std.proofs.lemmas.List.Elements.{All-head, All-tail, All-same, All-drop}
+use Rattle.std.proofs.lemmas.List.Elements.{All-head, All-tail}
 use Rattle.std.specs.List.{All}
 use Rattle.rrd_tail.specs.Slots.{Slot, laid, all_laid}
 use Rattle.rrd_undo.specs.Undoing.{EndsBelow, slot_of}
@@ -45,12 +45,6 @@ covered_same (s ∷ rest) zero offset bytes k x y is low high =
 covered_same (s ∷ rest) (suc j) offset bytes k x y is low high =
     covered_same rest j offset bytes k (laid s k x) (laid s k y) is low high
 
--- a slot of the list is as each of them
-pub All-slot : (P : Slot → Type 0) (slots : List Slot) (i offset : ℕ) (bytes : List ℕ) → IsSlot slots i offset bytes
-    → All P slots → P (slot_of offset bytes)
-All-slot P slots i offset bytes is all =
-    All-head P (slot_of offset bytes) (drop (suc i) slots) (All-same P _ _ (sym is) (All-drop P i slots all))
-
 pub on_ok : {T E : Type 0} (r : Result T E) (P Q : Type 0) → (P → Q) → OnOk r P → OnOk r Q
 on_ok (Ok x) P Q f h = f h
 on_ok (Err e) P Q f h = tt
@@ -58,10 +52,6 @@ on_ok (Err e) P Q f h = tt
 pub on_err : {T E : Type 0} (r : Result T E) (P Q : Type 0) → (P → Q) → OnErr r P → OnErr r Q
 on_err (Ok x) P Q f h = tt
 on_err (Err e) P Q f h = f h
-
-pub always_ok : {T E : Type 0} (r : Result T E) (P : Type 0) → P → OnOk r P
-always_ok (Ok x) P h = h
-always_ok (Err e) P h = tt
 
 pub always_err : {T E : Type 0} (r : Result T E) (P : Type 0) → P → OnErr r P
 always_err (Ok x) P h = tt

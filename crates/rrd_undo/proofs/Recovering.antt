@@ -1,25 +1,22 @@
 -- Files that are settled.
-use Rattle.std.proofs.Common.{◌≡◌, ◌≢◌, ◌⊎◌, ℕ, suc, ◌+◌, ◌-◌, ◌%◌, ◌^◌, ◌<◌, ◌≤◌, ◌==◌, true, min, max, List, [], ◌∷◌, ◌++◌, length, take, drop, slice_index, slice_index_or, slice_range, Option, Some, None, IfSome, refl, sym, ◌∙◌, ap, inl, inr, arith, add-one, eq-eqb, length-take, length-drop, get_or-take, get_or-drop, drop-cons}
+use Rattle.std.proofs.Common.{◌≡◌, ◌⊎◌, ℕ, suc, ◌+◌, ◌-◌, ◌%◌, ◌^◌, ◌<◌, ◌≤◌, min, List, [], ◌∷◌, length, take, drop, slice_index, slice_index_or, slice_range, Option, Some, None, IfSome, refl, sym, ◌∙◌, ap, inl, inr, arith, add-one, eq-eqb, length-take, length-drop, get_or-take, get_or-drop, drop-cons}
 use Rattle.std.proofs.lemmas.Bool.{cases_lt}
 use Rattle.std.proofs.lemmas.List.{drop_all, ext_get_or, take_all}
 use Rattle.rrd_tail.specs.Bytes.{StandsAt}
 use Rattle.rrd_tail.specs.Laws as laws
-use Rattle.rrd_tail.specs.Marks.{cut_mark, database_mark, mark_of, shape_for, size_of, undo_mark}
+use Rattle.rrd_tail.specs.Marks.{cut_mark, database_mark, mark_of, shape_for, size_of}
 use Rattle.rrd_tail.specs.Reads.{IsSlotRead}
-use Rattle.rrd_tail.specs.Records.{if_shaped, last_record, read_record, record_at, record_bytes, IsRightAt}
+use Rattle.rrd_tail.specs.Records.{if_shaped, last_record, record_at, record_bytes, IsRightAt}
 use Rattle.rrd_tail.specs.Settled.{settled}
 use Rattle.rrd_tail.specs.Slots.{IsRightSlot, Slot, all_laid, laid, slot_at, slot_offset, slots_in}
 use Rattle.rrd_tail.specs.declared.mark.Shape.{Shape}
-use Rattle.rrd_tail.specs.declared.mark.Mark.{Mark}
 use Rattle.rrd_tail.specs.declared.mark.Mark.TheVariants.{Cut, Undo}
 use Rattle.rrd_tail.specs.declared.record.Record.{Record}
 use Rattle.rrd_tail.specs.declared.slot.SlotHeader.{SlotHeader}
-use Rattle.rrd_tail.proofs.Slotted.{read_short}
 use Rattle.rrd_tail.proofs.Lemmas.{cut_mark_length, cut_stands, front_says_mark, last_record_is_read, last_record_stands, mark_stands, no_last_record, no_slots_below, plain_has_no_mark, plain_stands, record_bytes_length, record_is_read, record_stands, slot_stands, slots_are_in_order, slots_stay, undo_mark_length, undone_stands, unmarked_stands}
 use Rattle.rrd_undo.specs.Calls.{AreAny, AreAt, ArePut, AreWholeOrNot, IsSized}
-use Rattle.rrd_undo.specs.Databases.{IsDatabase}
 use Rattle.rrd_undo.specs.Settling.{IsBack, IsPutBack, IsSlotFound, IsUndone}
-use Rattle.rrd_undo.specs.Undoing.{IsReady, IsTail, IsToCut, Restores, record_of, slot_of}
+use Rattle.rrd_undo.specs.Undoing.{IsReady, IsToCut, record_of, slot_of}
 use Rattle.rrd_undo.proofs.Laid.{IsSlot, covered_same, laid_above, laid_below, laid_in}
 use Rattle.rrd_undo.proofs.Undone.{length-sixteen, old_byte_first, old_byte_rest, record_same, right_record_of, size_some, sixteen_at, undone_settled}
 
@@ -37,10 +34,6 @@ range_read f buffer n at count most len counts are =
     let range : length (slice_range f at (at + most)) ≡ min most (length f - at) = omega (arith, length-take (at + most - at) (drop at f), length-drop at f) in
     ext_get_or 0 buffer (slice_range f at (at + most)) (omega (arith, are.len, range)) (λ k low.
     are.each k (omega (arith, are.len)) ∙ sym (get_or-drop at f k 0) ∙ sym (get_or-take (at + most - at) (drop at f) k 0 (omega (arith, are.len))))
-
-pub record_read : (f buffer : List ℕ) (n at count : ℕ) (result : Option Record) → n ≡ length f → count ≡ min (n - at) 64 → AreAt f at count buffer
-    → result ≡ read_record at buffer → result ≡ record_at f at
-record_read f buffer n at count result len counts are is = is ∙ ap (read_record at) (range_read f buffer n at count 64 len counts are)
 
 pub last_is : (s : Shape) (f : List ℕ) (n at : ℕ) → n ≡ length f → n % 4096 ≡ size_of s → at ≡ n - size_of s → last_record s f ≡ if_shaped s (record_at f at)
 unfolding last_record
@@ -78,7 +71,7 @@ module _ (s : Shape) (f : List ℕ) (mark : mark_of f ≡ Some (Cut s)) where
         | inr behind ↦ put.outside k (inr (omega arith)) ∙ sym (un.behind k behind (omega (arith, len)))
       ])
 
-  pub settled_again : last_record s f ≡ None → settled (settled f) ≡ settled f
+  settled_again : last_record s f ≡ None → settled (settled f) ≡ settled f
   settled_again none = plain_again f (settled f) (length f) (unmarked_stands s f mark none) (omega (arith, marked.within, cut_mark_length s))
 
   pub unmark_or_not : (g : List ℕ) → last_record s f ≡ None → AreWholeOrNot 0 database_mark f g → settled g ≡ settled f
@@ -238,8 +231,8 @@ module _ (old : List ℕ) (tail number offset : ℕ) (bytes taken f : List ℕ) 
     ]
   ]
 
-  pub slot_back : (g : List ℕ) → ArePut offset taken f g → IsBack old tail (number + 1) g × (length g ≡ length f)
-  slot_back g put_taken =
+  pub slot_back : (n : ℕ) (g : List ℕ) → n ≡ length f → ArePut offset taken f g → IsBack old tail (number + 1) g × (n ≡ length g)
+  slot_back n g len put_taken =
       let put : ArePut offset bytes f g = rw taken_is at put_taken in
       let any : AreAny offset (length bytes) f g = record { longer = omega (arith, put.len); bound = omega (arith, put.len); outside = put.outside } in
       let slots : slots_in tail g ≡ slots_in tail f = any_slots g any in (
@@ -249,7 +242,7 @@ module _ (old : List ℕ) (tail number offset : ℕ) (bytes taken f : List ℕ) 
           laid = λ k high low. rw (slots, add-one) (sym (ap (λ (l : List Slot). all_laid l k (slice_index f k)) here.0
               ∙ ap (all_laid (drop (suc number) (slots_in tail f)) k) (sym (put_laid g put k))) ∙ back.laid k high low);
         },
-        any_length g any,
+        len ∙ sym (any_length g any),
       )
 
 -- ---- the room of the slots is freed
@@ -293,12 +286,6 @@ pub first_sixteen : (old first : List ℕ) → 16 ≤ length old → first ≡ t
 first_sixteen old first enough same =
     take_all 16 first (omega (arith, ap length same, length-sixteen old enough)) ∙ same
 
--- a file that has no more bytes has no slot
-pub no_slot_past : (tail : ℕ) (f : List ℕ) (i at n : ℕ) → n ≡ length f → at ≡ slot_offset tail i → n ≤ at → slot_at tail f i ≡ None
-no_slot_past tail f i at n len offset past =
-    read_short tail (slice_range f (slot_offset tail i) (slot_offset tail i + 4128))
-    (omega (arith, length-take (slot_offset tail i + 4128 - slot_offset tail i) (drop (slot_offset tail i) f), length-drop (slot_offset tail i) f, len, offset))
-
 found_is : (tail : ℕ) (f : List ℕ) (i : ℕ) (buffer : List ℕ) (result : Option SlotHeader) → buffer ≡ slice_range f (slot_offset tail i) (slot_offset tail i + 4128)
     → IsSlotRead tail buffer result → IsSlotFound tail f i buffer result
 found_is tail f i buffer None same is = rw (← same) is
@@ -319,9 +306,6 @@ not_ends s f n size len sizes other =
 pub undone_synced : (old : List ℕ) (tail : ℕ) (f h : List ℕ) → IsUndone old tail f → h ≡ f → IsUndone old tail h
 undone_synced old tail f h is synced = rw synced is
 
-pub put_back_synced : (old f h : List ℕ) → IsPutBack old f → h ≡ f → IsPutBack old h
-put_back_synced old f h back synced = rw synced back
-
 pub read_few : (tail : ℕ) (buffer taken : List ℕ) (result : Option SlotHeader) → taken ≡ buffer → IsSlotRead tail taken result
     → IfSome result (λ header. 32 + header.count ≤ length buffer)
 read_few tail buffer taken None same is = tt
@@ -329,36 +313,19 @@ read_few tail buffer taken (Some header) same is = omega (arith, is.1, ap length
 
 -- ---- as the calls say it
 
-module _ (old : List ℕ) (tail number offset : ℕ) (bytes taken f read : List ℕ) (back : IsBack old tail number f) (found : slot_at tail f number ≡ Some (slot_of offset bytes))
-    (taken_is : taken ≡ bytes) (same : read ≡ f) where
-  pub slot_failed_read : (g : List ℕ) → AreAny offset (length taken) read g → IsUndone old tail g
-  slot_failed_read g any = slot_failed old tail number offset bytes taken f back found taken_is g (rw same at any)
-
-  pub slot_back_read : (n : ℕ) (g : List ℕ) → n ≡ length f → ArePut offset taken read g → IsBack old tail (number + 1) g × (n ≡ length g)
-  slot_back_read n g len put =
-      let after = slot_back old tail number offset bytes taken f back found taken_is g (rw same at put) in
-      (after.0, len ∙ sym after.1)
-
 pub record_stays : (old : List ℕ) (tail : ℕ) (f g : List ℕ) (r : Record) → IsUndone old tail f → IsUndone old tail g → record_at f tail ≡ Some r → record_at g tail ≡ Some r
 record_stays old tail f g r before after found = after.restores.recorded ∙ ap Some (sym (record_eq old tail f r before found))
 
-pub mark_said : (f buffer taken : List ℕ) (n count : ℕ) (result : Option Mark) → n ≡ length f → count ≡ min n 16 → AreAt f 0 count buffer → taken ≡ buffer → result ≡ mark_of taken
-    → mark_of f ≡ result
-mark_said f buffer taken n count result len counts are same is = sym (is ∙ ap mark_of same ∙ front_mark f buffer n count len counts are)
+module _ (old : List ℕ) (tail n : ℕ) (f : List ℕ) (r : Record) (is : IsUndone old tail f) (back : IsPutBack old f) (found : record_at f tail ≡ Some r)
+    (n_is : n ≡ tail + size_of (shape_for r.length)) where
+  pub release_length : r.length ≡ length old
+  release_length = ap (λ (q : Record). q.length) (record_eq old tail f r is found)
 
-module _ (old : List ℕ) (tail n : ℕ) (f : List ℕ) (r : Record) (is : IsUndone old tail f) (back : IsPutBack old f) (found : record_at f tail ≡ Some r) (s : Shape)
-    (shape : s ≡ shape_for r.length) (size : ℕ) (size_is : size ≡ size_of s) (n_is : n ≡ tail + size) where
-  length_is : r.length ≡ length old
-  length_is = ap (λ (q : Record). q.length) (record_eq old tail f r is found)
-
-  shape_is : s ≡ shape_for (length old)
-  shape_is = shape ∙ ap shape_for length_is
-
-  end_is : n ≡ tail + size_of (shape_for (length old))
-  end_is = n_is ∙ ap (λ (m : ℕ). tail + m) (size_is ∙ ap size_of shape_is)
+  pub release_first : take 16 r.first ≡ take 16 old
+  release_first = first_sixteen old r.first is.is.enough (ap (λ (q : Record). q.first) (record_eq old tail f r is found))
 
   pub release_sized : (g : List ℕ) → IsSized n f g → IsReady old old tail g
-  release_sized g sized = released old tail n f g is back end_is sized
+  release_sized g sized = released old tail n f g is back (n_is ∙ ap (λ (m : ℕ). tail + size_of (shape_for m)) release_length) sized
 
   pub release_or_not : (g : List ℕ) → (g ≡ f) ⊎ IsSized n f g → settled g ≡ old
   release_or_not g either = elim either as (λ _. settled g ≡ old) [
@@ -367,12 +334,6 @@ module _ (old : List ℕ) (tail n : ℕ) (f : List ℕ) (r : Record) (is : IsUnd
         let ready : IsReady old old tail g = release_sized g sized in
         undone_settled old tail g ready.is_tail ready.marked ready.restores
   ]
-
-  pub release_shape : s ≡ shape_for (length old)
-  release_shape = shape_is
-
-  pub release_first : take 16 r.first ≡ take 16 old
-  release_first = first_sixteen old r.first is.is.enough (ap (λ (q : Record). q.first) (record_eq old tail f r is found))
 
 pub one_of : (a b : List ℕ) → (settled a ≡ b) ⊎ (settled a ≡ b) → settled a ≡ b
 one_of a b either = elim either as (λ _. settled a ≡ b) [ inl x ↦ x | inr x ↦ x ]

@@ -1,14 +1,15 @@
 -- The stages of a change.
-use Rattle.std.proofs.Common.{◌≡◌, ◌≢◌, ◌⊎◌, Bool, true, false, IsTrue, ℕ, ◌+◌, ◌-◌, ◌<◌, ◌≤◌, min, max, List, [], ◌∷◌, length, take, drop, slice_index, slice_range, refl, sym, ◌∙◌, ap, inl, inr, arith, length-take, length-drop, get_or-take, get_or-drop}
+use Rattle.std.proofs.Common.{◌≡◌, ◌≢◌, ◌⊎◌, Bool, true, false, IsTrue, ℕ, ◌+◌, ◌-◌, ◌<◌, ◌≤◌, min, List, [], ◌∷◌, length, slice_index, refl, sym, ◌∙◌, ap, inl, inr, arith}
 use Rattle.std.proofs.lemmas.Bool.{cases_lt}
 use Rattle.std.proofs.lemmas.List.{ext_get_or}
 use Rattle.std.proofs.lemmas.List.Elements.{All-nil, All-same, All-weaker}
 use Rattle.std.specs.List.{All}
 use Rattle.rrd_tail.specs.Settled.{settled}
-use Rattle.rrd_tail.specs.Slots.{Slot, all_laid, slots_in}
-use Rattle.rrd_undo.specs.Calls.{AreAny, AreAt, ArePut, AreWholeOrNot, IsSized}
+use Rattle.rrd_tail.specs.Slots.{Slot, slots_in}
+use Rattle.rrd_undo.specs.Calls.{AreAt, ArePut, IsSized}
 use Rattle.rrd_undo.specs.Changing.{Agreeing, ArePutBelow, Holds, IsAt, IsBroken, IsFirstPut, Knows, StandsForOld, IsLeft, IsPage, IsStarted, StaysBehind}
 use Rattle.rrd_undo.specs.Databases.{IsDatabase}
+use Rattle.rrd_undo.specs.Pages.{AreSame, IsDifference, IsSame}
 use Rattle.rrd_undo.specs.Undoing.{EndsBelow, IsOldPage, IsTail, Paged, Turning, Turns, Undoing}
 use Rattle.rrd_undo.specs.declared.change.Change.{Change}
 use Rattle.rrd_undo.specs.declared.change.Stage.{Stage}
@@ -247,18 +248,8 @@ first_database old first are is = record {
 
 -- ---- the first page of a marked file
 
-range_length : (xs : List ℕ) (from to : ℕ) → to ≤ length xs → length (slice_range xs from to) ≡ to - from
-range_length xs from to within = omega (arith, length-take (to - from) (drop from xs), length-drop from xs)
-
-range_at : (xs : List ℕ) (from to i : ℕ) → i < to - from → slice_index (slice_range xs from to) i ≡ slice_index xs (from + i)
-range_at xs from to i low = get_or-take (to - from) (drop from xs) i 0 low ∙ get_or-drop from xs i 0
-
--- the pages differ from `from` on and below `end` alone, and there the new page has these bytes
-module _ (old new : List ℕ) (tail slots done : ℕ) (file first old_first : List ℕ) (from end : ℕ) (is : IsDatabase old) (t : Turning old new tail slots file done) (all : length new ≤ done)
-    (below : length new ≤ tail) (are : AreAt new 0 (min 4096 (length new)) first) (old_are : AreAt old 0 (min 4096 (length old)) old_first)
-    (behind : 16 ≤ from) (order : from ≤ end) (within_old : from ≤ length old_first) (within : end ≤ length first)
-    (same_below : (k : ℕ) → 16 ≤ k → k < from → slice_index old_first k ≡ slice_index first k)
-    (same_above : (k : ℕ) → end ≤ k → k < length first → (k < length old_first) × (slice_index old_first k ≡ slice_index first k)) where
+module _ (old new : List ℕ) (tail slots done : ℕ) (file first old_first : List ℕ) (t : Turning old new tail slots file done) (all : length new ≤ done)
+    (are : AreAt new 0 (min 4096 (length new)) first) (old_are : AreAt old 0 (min 4096 (length old)) old_first) where
   new_at : (k : ℕ) → k < length first → slice_index first k ≡ slice_index new k
   new_at k low =
       let there : 0 + k ≡ k = omega arith in
@@ -269,74 +260,46 @@ module _ (old new : List ℕ) (tail slots done : ℕ) (file first old_first : Li
       let there : 0 + k ≡ k = omega arith in
       old_are.each k (omega (arith, old_are.len)) ∙ ap (slice_index old) there
 
-  -- a byte of the file's first page that is the same in both
-  stays : (k : ℕ) → 16 ≤ k → k < length first → (k < from) ⊎ (end ≤ k) → slice_index file k ≡ slice_index new k
-  stays k high low outside =
-      let both : (k < length old_first) × (slice_index old_first k ≡ slice_index first k) = elim outside as (λ _. (k < length old_first) × (slice_index old_first k ≡ slice_index first k)) [
-        | inl under ↦ (omega (arith, under, within_old), same_below k high under)
-        | inr over ↦ same_above k over low
-      ] in
-      t.first k high (omega (arith, are.len, low)) (omega (arith, both.0, old_are.len)) ∙ sym (old_at k both.0) ∙ both.1 ∙ new_at k low
+  -- a byte that is the same in both pages, or is behind the first page
+  stays : (k : ℕ) → 16 ≤ k → k < length new → (k < length first → IsSame old_first first k) → slice_index file k ≡ slice_index new k
+  stays k high low same = elim (cases_lt k (length first)) as (λ _. slice_index file k ≡ slice_index new k) [
+    | inl page ↦
+        let both : IsSame old_first first k = same page in
+        t.first k high (omega (arith, are.len, page)) (omega (arith, both.0, old_are.len)) ∙ sym (old_at k both.0) ∙ both.1 ∙ new_at k page
+    | inr far ↦ t.put k (omega (arith, are.len)) (omega arith) low
+  ]
 
-  -- a byte behind it
-  follows : (k : ℕ) → length first ≤ k → k < length new → slice_index file k ≡ slice_index new k
-  follows k high low = t.put k (omega (arith, are.len)) (omega arith) low
+  pub first_same : AreSame old_first first → Paged old new tail slots file
+  first_same same = record { undoing = t.undoing; put = λ k high low. stays k high low (same k high) }
 
-  pub first_same : from ≡ end → Paged old new tail slots file
-  first_same none = record {
-    undoing = t.undoing;
-    put = λ k high low. elim (cases_lt k (length first)) as (λ _. slice_index file k ≡ slice_index new k) [
-      | inl page ↦ elim (cases_lt k from) as (λ _. slice_index file k ≡ slice_index new k) [
-        | inl under ↦ stays k high page (inl under)
-        | inr over ↦ stays k high page (inr (omega (arith, none, over)))
-      ]
-      | inr far ↦ follows k far low
-    ];
-  }
-
-  module _ (bytes rest : List ℕ) (last : ℕ) (last_is : last ≡ min end (length old_first)) (bytes_are : bytes ≡ slice_range old_first from last) (rest_are : rest ≡ slice_range first from end) where
-    bytes_length : length bytes ≡ last - from
-    bytes_length = ap length bytes_are ∙ range_length old_first from last (omega (arith, last_is))
-
-    rest_length : length rest ≡ end - from
-    rest_length = ap length rest_are ∙ range_length first from end within
-
-    pub first_old_page : IsOldPage old from bytes × (length bytes ≡ min (length old - from) (length rest)) × (from + length rest ≤ tail)
-    first_old_page = (
-      record {
-        behind = behind;
-        few = omega (arith, bytes_length, last_is, old_are.len);
-        within = λ some. omega (arith, bytes_length, last_is, old_are.len);
-        are = record {
-          len = refl;
-          each = λ i low. ap (λ (b : List ℕ). slice_index b i) bytes_are ∙ range_at old_first from last i (omega (arith, bytes_length))
-              ∙ old_at (from + i) (omega (arith, bytes_length, last_is));
-        };
-      },
-      omega (arith, bytes_length, rest_length, last_is, old_are.len, are.len, within, order),
-      omega (arith, rest_length, are.len, within, order, below),
-    )
-
-    pub first_turned : (after : ℕ) (changed : List ℕ) → Turns old tail after from rest file changed → Paged old new tail after changed
-    first_turned after changed turns = record {
+  -- the differing bytes fit into a slot, and the file has all new bytes when they are written
+  pub first_turned : (at : ℕ) (bytes rest : List ℕ) → length new ≤ tail → IsDifference old_first first at bytes rest
+      → IsOldPage old at bytes × (length bytes ≡ min (length old - at) (length rest)) × (at + length rest ≤ tail)
+      × ((after : ℕ) (changed : List ℕ) → Turns old tail after at rest file changed → Paged old new tail after changed)
+  first_turned at bytes rest below d = (
+    record {
+      behind = d.behind;
+      few = omega (arith, d.old_are.len, old_are.len);
+      within = λ some. omega (arith, d.old_are.len, old_are.len);
+      are = record { len = refl; each = λ i low. d.old_are.each i (omega (arith, d.old_are.len)) ∙ old_at (at + i) (omega (arith, d.old_are.len)) };
+    },
+    omega (arith, d.old_are.len, old_are.len, are.len, d.within),
+    omega (arith, d.within, are.len, below),
+    λ after changed turns. record {
       undoing = turns.undoing;
-      put = λ k high low. elim (cases_lt k from) as (λ _. slice_index changed k ≡ slice_index new k) [
-        | inl under ↦ turns.same k (omega (arith, below)) (inl under) ∙ stays k high (omega (arith, within, order)) (inl under)
-        | inr over ↦ elim (cases_lt k end) as (λ _. slice_index changed k ≡ slice_index new k) [
+      put = λ k high low. elim (cases_lt k at) as (λ _. slice_index changed k ≡ slice_index new k) [
+        | inl under ↦ turns.same k (omega (arith, below)) (inl under) ∙ stays k high low (λ page. d.outside k high page (inl under))
+        | inr over ↦ elim (cases_lt k (at + length rest)) as (λ _. slice_index changed k ≡ slice_index new k) [
           | inl inside ↦
-              let there : from + (k - from) ≡ k = omega (arith, over) in
-              let few : k - from < end - from = omega (arith, over, inside) in
-              ap (slice_index changed) (sym there) ∙ turns.put (k - from) (omega (arith, rest_length, few)) ∙ ap (λ (b : List ℕ). slice_index b (k - from)) rest_are
-              ∙ range_at first from end (k - from) few ∙ ap (slice_index first) there ∙ new_at k (omega (arith, within, inside))
-          | inr above ↦
-              turns.same k (omega (arith, below)) (inr (omega (arith, rest_length, order, above)))
-              ∙ elim (cases_lt k (length first)) as (λ _. slice_index file k ≡ slice_index new k) [
-                | inl page ↦ stays k high page (inr above)
-                | inr far ↦ follows k far low
-              ]
+              let there : at + (k - at) ≡ k = omega (arith, over) in
+              let few : k - at < length rest = omega (arith, over, inside) in
+              ap (slice_index changed) (sym there) ∙ turns.put (k - at) few ∙ d.new_are.each (k - at) few ∙ ap (slice_index first) there
+              ∙ new_at k (omega (arith, d.within, inside))
+          | inr above ↦ turns.same k (omega (arith, below)) (inr above) ∙ stays k high low (λ page. d.outside k high page (inr above))
         ]
       ];
-    }
+    },
+  )
 
 -- ---- taking back
 
@@ -352,12 +315,6 @@ restored_first old old_first file last old_length count are old_len same_len fir
       | inr was ↦ omega (arith, was.0, old_len, same_len)
     ] in
     put_whole old file last old_first (omega (arith, put.len, are.len, len)) behind are put
-
-pub restored_length : (old file : List ℕ) (n old_length count : ℕ) → n ≡ length file → n ≡ old_length → old_length ≡ length old → (old_length ≡ count → ⊥) → IsFirstPut old count file → file ≡ old
-restored_length old file n old_length count len same old_len other first = elim first as (λ _. file ≡ old) [
-  | inl is ↦ is
-  | inr was ↦ absurd (other (omega (arith, was.0, len, same, old_len)))
-]
 
 pub restored : (old old_first file changed last : List ℕ) (old_length : ℕ) → AreAt old 0 (min 4096 (length old)) old_first → StaysBehind old file
     → ArePut 0 old_first file changed → IsSized old_length changed last → old_length ≡ length old → last ≡ old
@@ -382,16 +339,6 @@ first_read old opened bytes n count len same counts are =
 pub front_few : (old old_first taken : List ℕ) → AreAt old 0 (min 4096 (length old)) old_first → taken ≡ old_first → length taken ≤ 4096
 front_few old old_first taken are same = rw same (omega (arith, are.len))
 
-pub invalid_end_synced : (new file cut synced last first : List ℕ) (n done : ℕ) → n ≡ length new → length new ≤ done → AreAt new 0 (min 4096 (length new)) first → ArePutBelow done new file
-    → IsSized n file cut → synced ≡ cut → ArePut 0 first synced last → last ≡ new
-invalid_end_synced new file cut synced last first n done counts all are holds sized same put =
-    invalid_end new file cut last first n done counts all are holds sized (rw same at put)
-
-pub invalid_end_kept : (new file cut synced last kept first : List ℕ) (n done : ℕ) → n ≡ length new → length new ≤ done → AreAt new 0 (min 4096 (length new)) first
-    → ArePutBelow done new file → IsSized n file cut → synced ≡ cut → ArePut 0 first synced last → kept ≡ last → kept ≡ new
-invalid_end_kept new file cut synced last kept first n done counts all are holds sized same put again =
-    again ∙ invalid_end_synced new file cut synced last first n done counts all are holds sized same put
-
 pub not_true : (b : Bool) → b ≡ false → IsTrue b → ⊥
 not_true true e t = cc
 not_true false e t = cc
@@ -405,7 +352,7 @@ at_left old new done c f is_at = (
 )
 
 knows_page : (old : List ℕ) (c d : Change) → d ≡ record c { old_page = d.old_page } → Knows old c → Knows old d
-knows_page old c d frame knows = rw frame (record { old_length = knows.old_length; old_first = knows.old_first; tail = knows.tail; below = knows.below })
+knows_page old c d frame knows = rw frame knows
 
 pub at_same : (old new : List ℕ) (done : ℕ) (c d : Change) (f g : List ℕ) → d ≡ record c { old_page = d.old_page } → g ≡ f → IsAt old new done c f → IsAt old new done d g
 at_same old new done c d f g frame same is_at =

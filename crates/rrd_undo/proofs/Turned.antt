@@ -1,5 +1,5 @@
 -- Pages that are turned, and the record of the new bytes.
-use Rattle.std.proofs.Common.{◌≡◌, ◌⊎◌, ℕ, ◌+◌, ◌-◌, ◌*◌, ◌%◌, ◌^◌, ◌<◌, ◌≤◌, min, max, List, [], ◌∷◌, ◌++◌, length, take, drop, slice_index, Some, refl, sym, ◌∙◌, ap, inl, inr, arith, length-append, length-take, length-drop, get_or-take, get_or-drop}
+use Rattle.std.proofs.Common.{◌≡◌, ◌⊎◌, ℕ, ◌+◌, ◌-◌, ◌%◌, ◌^◌, ◌<◌, ◌≤◌, min, List, [], ◌∷◌, ◌++◌, length, take, drop, slice_index, Some, refl, sym, ◌∙◌, ap, inl, inr, arith, length-append, length-drop, get_or-take, get_or-drop}
 use Rattle.std.proofs.lemmas.Bool.{cases_lt}
 use Rattle.std.proofs.lemmas.List.{get_or-append-add, get_or_append_left, get_or_past}
 use Rattle.std.proofs.lemmas.List.Elements.{All-push, All-same}
@@ -8,15 +8,15 @@ use Rattle.rrd_tail.specs.Bytes.{StandsAt}
 use Rattle.rrd_tail.specs.Marks.{cut_mark, shape_for, size_of, undo_mark}
 use Rattle.rrd_tail.specs.Records.{IsRightAt, record_at, shaped_bytes}
 use Rattle.rrd_tail.specs.Settled.{settled}
-use Rattle.rrd_tail.specs.Slots.{Slot, all_laid, laid, slot_offset, slots_in}
+use Rattle.rrd_tail.specs.Slots.{all_laid, slot_offset, slots_in}
 use Rattle.rrd_tail.specs.declared.mark.Shape.{Shape}
 use Rattle.rrd_tail.specs.declared.record.Record.{Record}
-use Rattle.rrd_undo.specs.Calls.{AreAny, AreAt, ArePut, AreWholeOrNot}
+use Rattle.rrd_undo.specs.Calls.{AreAny, ArePut, AreWholeOrNot}
 use Rattle.rrd_undo.specs.Databases.{IsDatabase}
 use Rattle.rrd_undo.specs.Undoing.{EndsBelow, IsOldPage, IsReady, IsRecorded, IsTail, IsToCut, Keeps, Paged, Restores, Turns, Undoing, record_of, slot_of}
-use Rattle.rrd_undo.proofs.Cutting.{cut_mark_length, put_stands, stands_same, to_cut_settled}
+use Rattle.rrd_undo.proofs.Cutting.{put_stands, stands_same, to_cut_settled}
 use Rattle.rrd_undo.proofs.Laid.{all_laid-append, laid_in}
-use Rattle.rrd_tail.proofs.Lemmas.{last_record_is_read, last_record_stands, record_is_read, record_stands, slots_stay, undo_mark_length, zeros_end_slots}
+use Rattle.rrd_tail.proofs.Lemmas.{cut_mark_length, last_record_is_read, last_record_stands, record_is_read, record_stands, slots_stay, undo_mark_length, zeros_end_slots}
 use Rattle.rrd_undo.proofs.Undone.{length-sixteen, marked_again, record_same, restores_same, right_record_of, shaped_length, shaped_stands, undone_settled}
 
 -- ---- a page is put
@@ -99,24 +99,23 @@ past f k high = get_or_past f k 0 high
 
 module _ (old new : List ℕ) (tail slots : ℕ) (f : List ℕ) (is_old : IsDatabase old) (is_new : IsDatabase new) (is_tail : IsTail old tail) (below : length new ≤ tail)
     (paged : Paged old new tail slots f) where
-  pub new_recorded : (offset : ℕ) (g : List ℕ) (s : Shape) (r : Record) → offset % 4096 ≡ 0 → slot_offset tail slots + 32 ≤ offset → offset < 2 ^ 64
-      → s ≡ shape_for (length new) → r ≡ record_of offset new → ArePut offset (shaped_bytes s r) f g → IsReady old new tail g
-  new_recorded offset g s r page behind fits shape record_eq put =
+  pub new_recorded : (offset : ℕ) (g : List ℕ) → offset % 4096 ≡ 0 → slot_offset tail slots + 32 ≤ offset → offset < 2 ^ 64
+      → ArePut offset (shaped_bytes (shape_for (length new)) (record_of offset new)) f g → IsReady old new tail g
+  new_recorded offset g page behind fits put =
       let the : Shape = shape_for (length new) in
-      let put_it : ArePut offset (shaped_bytes the (record_of offset new)) f g = rw (← shape, ← record_eq) put in
       let size : length (shaped_bytes the (record_of offset new)) ≡ size_of the = shaped_length the (record_of offset new) (length-sixteen new is_new.enough) in
       let room : length f ≤ slot_offset tail slots = paged.undoing.room in
-      let len : length g ≡ offset + size_of the = omega (arith, put_it.len, size, room) in
+      let len : length g ≡ offset + size_of the = omega (arith, put.len, size, room) in
       let longer : length f ≤ length g = omega (arith, len, room) in
       let next : slot_offset tail (length (slots_in tail f)) ≡ slot_offset tail slots = ap (slot_offset tail) paged.undoing.counted in
-      let same : (k : ℕ) → k < offset → slice_index g k ≡ slice_index f k = λ k low. put_it.outside k (inl low) in
+      let same : (k : ℕ) → k < offset → slice_index g k ≡ slice_index f k = λ k low. put.outside k (inl low) in
       let slots_same : slots_in tail g ≡ slots_in tail f =
       zeros_end_slots tail f g longer (omega (arith, next, room)) (λ k low. same k (omega (arith, room)))
       (λ i low. same _ (omega (arith, next)) ∙ past f _ (omega (arith, next, room))) in
       let right : IsRightAt offset (record_of offset new) = right_record_of new offset is_new page (omega (arith, below)) in
       let there : record_at g offset ≡ Some (record_of offset new) =
       record_is_read offset (record_of offset new) g fits (length-sixteen new is_new.enough) right
-      (shaped_stands the offset (record_of offset new) g (put_stands offset _ f g put_it)) in
+      (shaped_stands the offset (record_of offset new) g (put_stands offset _ f g put)) in
       record {
         is_tail = is_tail;
         restores = record {
@@ -133,20 +132,17 @@ module _ (old new : List ℕ) (tail slots : ℕ) (f : List ℕ) (is_old : IsData
         put = λ k high low. same k (omega arith) ∙ paged.put k high low;
       }
 
-  pub new_recorded_or_not : (offset : ℕ) (g : List ℕ) (s : Shape) (r : Record) → offset % 4096 ≡ 0 → slot_offset tail slots + 32 ≤ offset → offset < 2 ^ 64
-      → s ≡ shape_for (length new) → r ≡ record_of offset new → AreWholeOrNot offset (shaped_bytes s r) f g → settled g ≡ old
-  new_recorded_or_not offset g s r page behind fits shape record_eq either = elim either as (λ _. settled g ≡ old) [
+  pub new_recorded_or_not : (offset : ℕ) (g : List ℕ) → offset % 4096 ≡ 0 → slot_offset tail slots + 32 ≤ offset → offset < 2 ^ 64
+      → AreWholeOrNot offset (shaped_bytes (shape_for (length new)) (record_of offset new)) f g → settled g ≡ old
+  new_recorded_or_not offset g page behind fits either = elim either as (λ _. settled g ≡ old) [
     | inl none ↦ ap settled none ∙ undoing_settled old tail slots f is_tail paged.undoing
     | inr put ↦
-        let ready : IsReady old new tail g = new_recorded offset g s r page behind fits shape record_eq put in
+        let ready : IsReady old new tail g = new_recorded offset g page behind fits put in
         undone_settled old tail g is_tail ready.marked ready.restores
   ]
 
 pub ready_settled : (old new : List ℕ) (tail : ℕ) (f : List ℕ) → IsReady old new tail f → settled f ≡ old
 ready_settled old new tail f ready = undone_settled old tail f ready.is_tail ready.marked ready.restores
-
-pub ready_synced : (old new : List ℕ) (tail : ℕ) (f h : List ℕ) → IsReady old new tail f → h ≡ f → IsReady old new tail h
-ready_synced old new tail f h ready synced = rw synced ready
 
 -- a last record stays where only the first sixteen bytes change
 recorded_same : (f g new : List ℕ) → 16 ≤ length new → (recorded : IsRecorded new f) → recorded.0.offset < 2 ^ 64 → length g ≡ length f
@@ -163,21 +159,17 @@ recorded_same f g new enough recorded fits len same =
 
 -- ---- the commit
 
-module _ (old new : List ℕ) (tail : ℕ) (f first front : List ℕ) (s : Shape) (is_old : IsDatabase old) (is_new : IsDatabase new)
-    (shape : s ≡ shape_for (length new)) (are : take 16 first ≡ take 16 new)
-    (front_is : front ≡ cut_mark s ++ drop 4 (take 16 first)) (ready : IsReady old new tail f) where
-  the_front : front ≡ cut_mark (shape_for (length new)) ++ drop 4 (take 16 first)
-  the_front = rw (← shape) front_is
-
+module _ (old new : List ℕ) (tail : ℕ) (f first front : List ℕ) (is_old : IsDatabase old) (is_new : IsDatabase new) (are : take 16 first ≡ take 16 new)
+    (front_is : front ≡ cut_mark (shape_for (length new)) ++ drop 4 (take 16 first)) (ready : IsReady old new tail f) where
   first_length : length (take 16 first) ≡ 16
   first_length = ap length are ∙ length-sixteen new is_new.enough
 
   front_length : length front ≡ 16
-  front_length = ap length the_front
+  front_length = ap length front_is
       ∙ omega (arith, length-append (cut_mark (shape_for (length new))) (drop 4 (take 16 first)), cut_mark_length (shape_for (length new)), length-drop 4 (take 16 first), first_length)
 
   front_mark : (i : ℕ) → i < 4 → slice_index front i ≡ slice_index (cut_mark (shape_for (length new))) i
-  front_mark i low = ap (λ (b : List ℕ). slice_index b i) the_front
+  front_mark i low = ap (λ (b : List ℕ). slice_index b i) front_is
       ∙ get_or_append_left (cut_mark (shape_for (length new))) (drop 4 (take 16 first)) 0 i (omega (arith, cut_mark_length (shape_for (length new))))
 
   front_rest : (k : ℕ) → 4 ≤ k → k < 16 → slice_index front k ≡ slice_index new k
@@ -185,7 +177,7 @@ module _ (old new : List ℕ) (tail : ℕ) (f first front : List ℕ) (s : Shape
       let four : length (cut_mark (shape_for (length new))) ≡ 4 = cut_mark_length (shape_for (length new)) in
       let there : length (cut_mark (shape_for (length new))) + (k - 4) ≡ k = omega (arith, four) in
       let back : 4 + (k - 4) ≡ k = omega arith in
-      ap (λ (b : List ℕ). slice_index b k) the_front ∙ ap (slice_index (cut_mark (shape_for (length new)) ++ drop 4 (take 16 first))) (sym there)
+      ap (λ (b : List ℕ). slice_index b k) front_is ∙ ap (slice_index (cut_mark (shape_for (length new)) ++ drop 4 (take 16 first))) (sym there)
       ∙ get_or-append-add (cut_mark (shape_for (length new))) (drop 4 (take 16 first)) (k - 4) 0
       ∙ get_or-drop 4 (take 16 first) (k - 4) 0 ∙ ap (slice_index (take 16 first)) back
       ∙ ap (λ (b : List ℕ). slice_index b k) are ∙ get_or-take 16 new k 0 low
@@ -224,13 +216,3 @@ module _ (old new : List ℕ) (tail : ℕ) (f first front : List ℕ) (s : Shape
     | inr put ↦ marked_again old tail g h is_old ready.is_tail
         (restores_same old tail f g is_old ready.is_tail (same_length g put) (λ k high. put.outside k (inr (omega (arith, front_length)))) ready.restores) marked
   ]
-
-pub to_cut_synced : (new f h : List ℕ) → IsToCut new f → h ≡ f → IsToCut new h
-to_cut_synced new f h cut synced = rw synced cut
-
-pub either_synced : (old new f h : List ℕ) → (settled f ≡ old) ⊎ (settled f ≡ new) → h ≡ f → (settled h ≡ old) ⊎ (settled h ≡ new)
-either_synced old new f h either synced = rw synced either
-
-pub again_synced : (old : List ℕ) (tail : ℕ) (g g2 : List ℕ) → ((h : List ℕ) → ArePut 0 (undo_mark tail) g h → settled h ≡ old) → g2 ≡ g
-    → (h : List ℕ) → ArePut 0 (undo_mark tail) g2 h → settled h ≡ old
-again_synced old tail g g2 again synced h put = again h (rw synced at put)

@@ -1,33 +1,29 @@
 -- Files with an undo mark.
-use Rattle.std.proofs.Common.{◌≡◌, ◌⊎◌, ℕ, suc, ◌+◌, ◌-◌, ◌*◌, ◌%◌, ◌^◌, ◌<◌, ◌≤◌, min, max, List, [], ◌∷◌, ◌++◌, length, take, drop, slice_index, Option, Some, None, refl, sym, ◌∙◌, ap, inl, inr, arith, length-take, length-drop, length-append, replicate, get_or-take, get_or-drop}
+use Rattle.std.proofs.Common.{◌≡◌, ◌⊎◌, ℕ, ◌+◌, ◌-◌, ◌%◌, ◌^◌, ◌<◌, ◌≤◌, min, List, [], ◌∷◌, ◌++◌, length, take, slice_index, Some, refl, sym, ◌∙◌, ap, inl, inr, arith, length-take, length-append, replicate, get_or-take}
 use Rattle.std.proofs.lemmas.Bool.{cases_lt, lt-ltb, le-ltb}
-use Rattle.std.proofs.lemmas.List.{ext_get_or, get_or-append-add, get_or_append_left, length-replicate, take_all}
-use Rattle.std.proofs.lemmas.List.Elements.{All-nil, All-push, All-same, All-weaker}
-use Rattle.std.specs.List.{All}
+use Rattle.std.proofs.lemmas.List.{ext_get_or, get_or_append_left, length-replicate, take_all}
 use Rattle.rrd_tail.specs.Bytes.{StandsAt}
 use Rattle.rrd_tail.specs.Laws.{IsUndone}
-use Rattle.rrd_tail.specs.Marks.{cut_mark, database_mark, mark_of, shape_for, size_of, undo_mark}
-use Rattle.rrd_tail.specs.Records.{IsRightAt, last_record, record_at, record_bytes, shaped_bytes}
+use Rattle.rrd_tail.specs.Marks.{cut_mark, shape_for, size_of, undo_mark}
+use Rattle.rrd_tail.specs.Records.{IsRightAt, record_at, record_bytes, shaped_bytes}
 use Rattle.rrd_tail.specs.Settled.{old_byte, settled}
-use Rattle.rrd_tail.specs.Slots.{IsRightSlot, Slot, all_laid, laid, slot_bytes, slot_header, slot_offset, slots_in}
+use Rattle.rrd_tail.specs.Slots.{IsRightSlot, Slot, all_laid, laid, slot_bytes, slot_offset, slots_in}
 use Rattle.rrd_tail.specs.declared.mark.Shape.{Shape}
 use Rattle.rrd_tail.specs.declared.mark.Shape.TheVariants.{Short, Long}
 use Rattle.rrd_tail.specs.declared.record.Record.{Record}
-use Rattle.rrd_tail.proofs.Recorded.{length-record}
-use Rattle.rrd_tail.proofs.Slotted.{length-slot}
-use Rattle.rrd_undo.specs.Calls.{AreAny, AreAt, ArePut, AreWholeOrNot, IsFrontPut}
+use Rattle.rrd_undo.specs.Calls.{AreAt, ArePut, AreWholeOrNot, IsFrontPut}
 use Rattle.rrd_undo.specs.Databases.{IsDatabase}
-use Rattle.rrd_undo.specs.Undoing.{EndsBelow, IsCut, IsOldPage, IsReady, IsRecorded, IsTail, IsToCut, Keeps, Paged, Restores, Turns, Undoing, record_of, slot_of}
-use Rattle.rrd_undo.proofs.Cutting.{cut_mark_length, cut_put_settled, cut_settled, put_stands, settled_plain, stands_same, to_cut_settled}
+use Rattle.rrd_undo.specs.Undoing.{IsCut, IsOldPage, IsOldRecorded, IsTail, Keeps, Restores, Undoing, record_of, slot_of}
+use Rattle.rrd_undo.proofs.Cutting.{cut_settled, put_stands, settled_plain, stands_same, to_cut_settled}
 use Rattle.rrd_undo.proofs.Laid.{all_laid-append, laid_above, laid_below, laid_in}
-use Rattle.rrd_tail.proofs.Lemmas.{cut_slot_is_not_counted, last_record_is_read, no_slots_below, record_is_read, record_stands, slot_is_appended, slots_stay, undo_mark_is_read, undo_mark_length, undone_stands, zeros_end_slots}
+use Rattle.rrd_tail.proofs.Lemmas.{cut_mark_length, cut_slot_is_not_counted, last_record_is_read, no_slots_below, record_bytes_length, record_is_read, record_stands, slot_bytes_length, slot_is_appended, slots_stay, undo_mark_is_read, undo_mark_length, undone_stands}
 
 -- a record that is in a file is in another one with the same bytes there
 pub record_same : (tail at : ℕ) (r : Record) (f g : List ℕ) → tail ≡ at → at < 2 ^ 64 → length f ≤ length g
     → ((k : ℕ) → at ≤ k → k < at + 64 → slice_index g k ≡ slice_index f k) → record_at f at ≡ Some r → record_at g at ≡ Some r
 record_same tail at r f g _ fits longer same is =
     let stands = record_stands at r f is in
-    let len : length (record_bytes r) ≡ 64 = omega (arith, length-record r, stands.2) in
+    let len : length (record_bytes r) ≡ 64 = record_bytes_length r stands.2 in
     record_is_read at r g fits stands.2 stands.1 (stands_same at (record_bytes r) f g longer (λ k high low. same k high (omega (arith, len))) stands.0)
 
 -- the first sixteen bytes
@@ -78,8 +74,8 @@ replicate_zeros : length (replicate {A = ℕ} 64 0) ≡ 64
 replicate_zeros = length-replicate {A = ℕ} 64 0
 
 pub shaped_length : (s : Shape) (r : Record) → length r.first ≡ 16 → length (shaped_bytes s r) ≡ size_of s
-shaped_length Short r first = omega (arith, length-record r)
-shaped_length Long r first = omega (arith, length-record r, length-append (record_bytes r) (replicate 64 0), replicate_zeros)
+shaped_length Short r first = record_bytes_length r first
+shaped_length Long r first = omega (arith, record_bytes_length r first, length-append (record_bytes r) (replicate 64 0), replicate_zeros)
 
 pub shaped_stands : (s : Shape) (at : ℕ) (r : Record) (f : List ℕ) → StandsAt f at (shaped_bytes s r) → StandsAt f at (record_bytes r)
 shaped_stands Short at r f stands = stands
@@ -123,9 +119,9 @@ right_record_of bytes offset is page below = record {
 }
 
 -- the cut mark is put over a database
-pub cut_marked : (old f g : List ℕ) (s : Shape) → IsDatabase old → f ≡ old → s ≡ shape_for (length old) → ArePut 0 (cut_mark s) f g → IsCut old g
-cut_marked old f g s is same shape put =
-    let put_old : ArePut 0 (cut_mark (shape_for (length old))) old g = rw (← shape, ← same) put in
+pub cut_marked : (old f g : List ℕ) → IsDatabase old → f ≡ old → ArePut 0 (cut_mark (shape_for (length old))) f g → IsCut old g
+cut_marked old f g is same put =
+    let put_old : ArePut 0 (cut_mark (shape_for (length old))) old g = rw same at put in
     let four : length (cut_mark (shape_for (length old))) ≡ 4 = cut_mark_length (shape_for (length old)) in
     record {
       is = is;
@@ -134,58 +130,48 @@ cut_marked old f g s is same shape put =
       each = λ k high low. put_old.outside k (inr (omega (arith, four)));
     }
 
-pub cut_marked_or_not : (old f g : List ℕ) (s : Shape) → IsDatabase old → f ≡ old → s ≡ shape_for (length old) → AreWholeOrNot 0 (cut_mark s) f g → settled g ≡ old
-cut_marked_or_not old f g s is same shape either = elim either as (λ _. settled g ≡ old) [
+pub cut_marked_or_not : (old f g : List ℕ) → IsDatabase old → f ≡ old → AreWholeOrNot 0 (cut_mark (shape_for (length old))) f g → settled g ≡ old
+cut_marked_or_not old f g is same either = elim either as (λ _. settled g ≡ old) [
   | inl none ↦ ap settled (none ∙ same) ∙ settled_plain old is
-  | inr put ↦ cut_settled old g (cut_marked old f g s is same shape put)
+  | inr put ↦ cut_settled old g (cut_marked old f g is same put)
 ]
-
--- and the record of the old bytes behind it
-pub record Recorded (old : List ℕ) (tail : ℕ) (f : List ℕ) : Type 0 where
-  pub to_cut : IsToCut old f
-  pub reaches : tail + 64 ≤ length f
-  pub ends : length f ≤ tail + 128
-  pub recorded : record_at f tail ≡ Some (record_of tail old)
 
 module _ (old : List ℕ) (tail : ℕ) (is : IsDatabase old) (is_tail : IsTail old tail) where
   right_record : IsRightAt tail (record_of tail old)
   right_record = right_record_of old tail is is_tail.page is_tail.below
 
-  pub old_recorded : (f g : List ℕ) (s : Shape) (r : Record) → IsCut old f → s ≡ shape_for (length old) → r ≡ record_of tail old
-      → ArePut tail (shaped_bytes s r) f g → Recorded old tail g
-  old_recorded f g s r cut shape record_eq put =
+  pub old_recorded : (f g : List ℕ) → IsCut old f → ArePut tail (shaped_bytes (shape_for (length old)) (record_of tail old)) f g → IsOldRecorded old tail g
+  old_recorded f g cut put =
       let the : Shape = shape_for (length old) in
-      let put_it : ArePut tail (shaped_bytes the (record_of tail old)) f g = rw (← shape, ← record_eq) put in
       let size : length (shaped_bytes the (record_of tail old)) ≡ size_of the = shaped_length the (record_of tail old) (length-sixteen old is.enough) in
-      let len : length g ≡ tail + size_of the = omega (arith, put_it.len, size, cut.len, is_tail.below) in
+      let len : length g ≡ tail + size_of the = omega (arith, put.len, size, cut.len, is_tail.below) in
       let there : record_at g tail ≡ Some (record_of tail old) =
       record_is_read tail (record_of tail old) g is_tail.fits (length-sixteen old is.enough) right_record
-      (shaped_stands the tail (record_of tail old) g (put_stands tail _ f g put_it)) in
+      (shaped_stands the tail (record_of tail old) g (put_stands tail _ f g put)) in
       let marked : StandsAt g 0 (cut_mark the) =
       stands_same 0 (cut_mark the) f g (omega (arith, len, cut.len, is_tail.below))
-      (λ k high low. put_it.outside k (inl (omega (arith, cut_mark_length the, is.enough, is_tail.below)))) cut.marked in
+      (λ k high low. put.outside k (inl (omega (arith, cut_mark_length the, is.enough, is_tail.below)))) cut.marked in
       record {
         to_cut = record {
           is = is;
           marked = marked;
           recorded = (record_of tail old, last_record_is_read the tail (record_of tail old) g len right_record there refl, refl);
           longer = omega (arith, len, is_tail.below);
-          each = λ k high low. put_it.outside k (inl (omega (arith, is_tail.below))) ∙ cut.each k high low;
+          each = λ k high low. put.outside k (inl (omega (arith, is_tail.below))) ∙ cut.each k high low;
         };
         reaches = omega (arith, len, (size_some the).0);
         ends = omega (arith, len, (size_some the).1);
         recorded = there;
       }
 
-  pub old_recorded_or_not : (f g : List ℕ) (s : Shape) (r : Record) → IsCut old f → s ≡ shape_for (length old) → r ≡ record_of tail old
-      → AreWholeOrNot tail (shaped_bytes s r) f g → settled g ≡ old
-  old_recorded_or_not f g s r cut shape record_eq either = elim either as (λ _. settled g ≡ old) [
+  pub old_recorded_or_not : (f g : List ℕ) → IsCut old f → AreWholeOrNot tail (shaped_bytes (shape_for (length old)) (record_of tail old)) f g → settled g ≡ old
+  old_recorded_or_not f g cut either = elim either as (λ _. settled g ≡ old) [
     | inl none ↦ ap settled none ∙ cut_settled old f cut
-    | inr put ↦ to_cut_settled old g (old_recorded f g s r cut shape record_eq put).to_cut
+    | inr put ↦ to_cut_settled old g (old_recorded f g cut put).to_cut
   ]
 
   -- a file whose tail has a record and no slot, and that has the old bytes behind its first sixteen
-  pub no_slots_restore : (f g : List ℕ) → Recorded old tail f → length g ≡ length f → ((k : ℕ) → 16 ≤ k → slice_index g k ≡ slice_index f k) → Restores old tail g
+  pub no_slots_restore : (f g : List ℕ) → IsOldRecorded old tail f → length g ≡ length f → ((k : ℕ) → 16 ≤ k → slice_index g k ≡ slice_index f k) → Restores old tail g
   no_slots_restore f g recorded len same =
       let none : slots_in tail g ≡ [] = no_slots_below tail g (omega (arith, len, recorded.ends)) in
       record {
@@ -195,7 +181,7 @@ module _ (old : List ℕ) (tail : ℕ) (is : IsDatabase old) (is_tail : IsTail o
         each = λ k high low. rw none (same k high ∙ recorded.to_cut.each k (omega arith) low);
       }
 
-  pub undo_marked : (f g : List ℕ) → Recorded old tail f → ArePut 0 (undo_mark tail) f g → Undoing old tail 0 g
+  pub undo_marked : (f g : List ℕ) → IsOldRecorded old tail f → ArePut 0 (undo_mark tail) f g → Undoing old tail 0 g
   undo_marked f g recorded put =
       let len : length g ≡ length f = omega (arith, put.len, undo_mark_length tail, recorded.reaches, is.enough, is_tail.below) in
       let none : slots_in tail g ≡ [] = no_slots_below tail g (omega (arith, len, recorded.ends)) in
@@ -206,7 +192,7 @@ module _ (old : List ℕ) (tail : ℕ) (is : IsDatabase old) (is_tail : IsTail o
         room = omega (arith, len, recorded.ends);
       }
 
-  pub undo_marked_or_not : (f g : List ℕ) → Recorded old tail f → AreWholeOrNot 0 (undo_mark tail) f g → settled g ≡ old
+  pub undo_marked_or_not : (f g : List ℕ) → IsOldRecorded old tail f → AreWholeOrNot 0 (undo_mark tail) f g → settled g ≡ old
   undo_marked_or_not f g recorded either = elim either as (λ _. settled g ≡ old) [
     | inl none ↦ ap settled none ∙ to_cut_settled old f recorded.to_cut
     | inr put ↦ undone_settled old tail g is_tail (put_stands 0 (undo_mark tail) f g put) (undo_marked f g recorded put).restores
@@ -223,13 +209,10 @@ module _ (old : List ℕ) (tail slots at : ℕ) (bytes f : List ℕ) (is : IsDat
   right_slot = record { behind = page.behind; some = some; most = page.few; below = omega (arith, page.within some, is_tail.below) }
 
   slot_length : length (slot_bytes tail (slot_of at bytes)) ≡ 32 + length bytes
-  slot_length = length-slot tail (slot_of at bytes)
+  slot_length = slot_bytes_length tail (slot_of at bytes)
 
   next_is : slot_offset tail (length (slots_in tail f)) ≡ slot_offset tail slots
   next_is = ap (slot_offset tail) undoing.counted
-
-  above_tail : tail + 64 ≤ slot_offset tail slots
-  above_tail = omega (arith, undoing.restores.reaches, undoing.room)
 
   -- old bytes don't change by a slot of old bytes
   laid_old : (k : ℕ) → 16 ≤ k → k < length old → laid (slot_of at bytes) k (slice_index old k) ≡ slice_index old k
@@ -323,43 +306,5 @@ module _ (old : List ℕ) (tail slots at : ℕ) (bytes f : List ℕ) (is : IsDat
 
 -- ---- as the calls say it
 
-pub cut_or_not : (old f g mark : List ℕ) (s : Shape) → IsDatabase old → f ≡ old → s ≡ shape_for (length old) → mark ≡ cut_mark s → AreWholeOrNot 0 mark f g → settled g ≡ old
-cut_or_not old f g mark s is same shape mark_is either =
-    let either_is : AreWholeOrNot 0 (cut_mark s) f g = rw (← mark_is) either in
-    cut_marked_or_not old f g s is same shape either_is
-
-pub cut_synced : (old f g h mark : List ℕ) (s : Shape) → IsDatabase old → f ≡ old → s ≡ shape_for (length old) → mark ≡ cut_mark s → ArePut 0 mark f g → h ≡ g → IsCut old h
-cut_synced old f g h mark s is same shape mark_is put synced =
-    let put_is : ArePut 0 (cut_mark s) f g = rw (← mark_is) put in
-    rw synced (cut_marked old f g s is same shape put_is)
-
-pub recorded_synced : (old : List ℕ) (tail : ℕ) (f g h : List ℕ) (s : Shape) (r : Record) → IsDatabase old → IsTail old tail → IsCut old f → s ≡ shape_for (length old)
-    → r ≡ record_of tail old → ArePut tail (shaped_bytes s r) f g → h ≡ g → Recorded old tail h
-recorded_synced old tail f g h s r is is_tail cut shape record_eq put synced = rw synced (old_recorded old tail is is_tail f g s r cut shape record_eq put)
-
-pub undo_synced : (old : List ℕ) (tail : ℕ) (f g h mark : List ℕ) → IsDatabase old → IsTail old tail → Recorded old tail f → mark ≡ undo_mark tail → ArePut 0 mark f g
-    → h ≡ g → Undoing old tail 0 h
-undo_synced old tail f g h mark is is_tail recorded mark_is put synced =
-    let put_is : ArePut 0 (undo_mark tail) f g = rw (← mark_is) put in
-    rw synced (undo_marked old tail is is_tail f g recorded put_is)
-
-pub undo_or_not : (old : List ℕ) (tail : ℕ) (f g mark : List ℕ) → IsDatabase old → IsTail old tail → Recorded old tail f → mark ≡ undo_mark tail → AreWholeOrNot 0 mark f g
-    → settled g ≡ old
-undo_or_not old tail f g mark is is_tail recorded mark_is either =
-    let either_is : AreWholeOrNot 0 (undo_mark tail) f g = rw (← mark_is) either in
-    undo_marked_or_not old tail is is_tail f g recorded either_is
-
-pub undoing_synced : (old : List ℕ) (tail slots : ℕ) (f h : List ℕ) → IsTail old tail → Undoing old tail slots f → h ≡ f → settled h ≡ old
-undoing_synced old tail slots f h is_tail undoing synced = ap settled synced ∙ undone_settled old tail f is_tail undoing.marked undoing.restores
-
--- the bytes of a slot, as they are put together
-pub taken_is : (taken b2 b1 b0 header bytes : List ℕ) (tail at : ℕ) → taken ≡ b2 → b2 ≡ b1 ++ bytes → b1 ≡ b0 ++ header → b0 ≡ [] → header ≡ slot_header tail (slot_of at bytes)
-    → taken ≡ slot_bytes tail (slot_of at bytes)
-taken_is taken b2 b1 b0 header bytes tail at e1 e2 e3 e4 e5 =
-    e1 ∙ e2 ∙ ap (λ (b : List ℕ). b ++ bytes) (e3 ∙ ap (λ (b : List ℕ). b ++ header) e4 ∙ e5)
-
 pub kept_synced : (old : List ℕ) (tail slots at : ℕ) (bytes f g h : List ℕ) → Keeps old tail slots at bytes f g → h ≡ g → Keeps old tail slots at bytes f h
 kept_synced old tail slots at bytes f g h keeps synced = rw synced keeps
-
-pub cut_settled_synced : (old f h : List ℕ) → IsCut old f → h ≡ f → settled h ≡ old
-cut_settled_synced old f h cut synced = ap settled synced ∙ cut_settled old f cut

@@ -56,12 +56,16 @@ IsStarted Committing = ⊥
 IsStarted Unkept = ⊥
 IsStarted Invalid = ⊤
 
+-- the old bytes have this length and this first page, and the tail begins after them and after as many new bytes
+pub record AreKnown (old : List ℕ) (count : ℕ) (page : List ℕ) (offset new_count : ℕ) : Type 0 where
+  pub old_length : count ≡ length old
+  pub old_first : AreAt old 0 (min 4096 (length old)) page
+  pub tail : IsTail old offset
+  pub below : new_count ≤ offset
+
 -- the facts about the old bytes that the change keeps in memory
-pub record Knows (old : List ℕ) (c : Change) : Type 0 where
-  pub old_length : c.old_length ≡ length old
-  pub old_first : AreAt old 0 (min 4096 (length old)) c.old_first.items
-  pub tail : IsTail old c.tail.offset
-  pub below : c.length ≤ c.tail.offset
+abbrev pub Knows : List ℕ → Change → Type 0
+Knows old c = AreKnown old c.old_length c.old_first.items c.tail.offset c.length
 
 -- the new pages below `done`, but for the first, are in the file
 pub record IsAt (old new : List ℕ) (done : ℕ) (c : Change) (file : List ℕ) : Type 0 where

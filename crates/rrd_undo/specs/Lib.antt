@@ -1,5 +1,6 @@
 pub mod Calls
 pub mod Databases
+pub mod Pages
 pub mod Undoing
 pub mod Settling
 pub mod Changing

@@ -1,5 +1,5 @@
 -- Glue: the undoing of a change by the file's tail, and what each step of a change preserves (own).
-use Rattle.std.specs.Prelude.{◌≡◌, ◌⊎◌, ℕ, ◌+◌, ◌%◌, ◌^◌, ◌<◌, ◌≤◌, List, [], ◌∷◌, ◌++◌, length, take, slice_index, Option, Some}
+use Rattle.std.specs.Prelude.{◌≡◌, ◌⊎◌, ℕ, ◌+◌, ◌%◌, ◌^◌, ◌<◌, ◌≤◌, List, [], ◌∷◌, ◌++◌, length, take, slice_index, Some}
 use Rattle.std.specs.List.{All}
 use Rattle.rrd_tail.specs.Bytes.{StandsAt}
 use Rattle.rrd_tail.specs.Marks.{cut_mark, shape_for, undo_mark}
@@ -92,6 +92,13 @@ pub record IsToCut (bytes file : List ℕ) : Type 0 where
   pub recorded : IsRecorded bytes file
   pub longer : length bytes ≤ length file
   pub each : (k : ℕ) → 4 ≤ k → k < length bytes → slice_index file k ≡ slice_index bytes k
+
+-- a file with a cut mark, the old bytes, and the record of the old bytes at the end
+pub record IsOldRecorded (old : List ℕ) (tail : ℕ) (file : List ℕ) : Type 0 where
+  pub to_cut : IsToCut old file
+  pub reaches : tail + 64 ≤ length file
+  pub ends : length file ≤ tail + 128
+  pub recorded : record_at file tail ≡ Some (record_of tail old)
 
 -- a file with a cut mark and exactly as many bytes as it represents
 pub record IsCut (bytes file : List ℕ) : Type 0 where

@@ -12,11 +12,10 @@ ghost use Rattle.rrd_undo.specs.Databases.{IsDatabase};
 
 use crate::Bytes;
 use crate::page::{
-    MIN_DATABASE_SIZE, difference_end, first_difference, front_page, is_database, next_page,
-    page_from, read_page,
+    MIN_DATABASE_SIZE, find_difference, front_page, is_database, next_page, page_from, read_page,
 };
 use crate::recovery::settle;
-use crate::tail::{Syncs, Tail, sync};
+use crate::tail::{Syncs, Tail, put_and_sync, set_len_and_sync};
 use rrd_tail::{PAGE, undo_mark};
 use std::alloc::Global;
 use std::io::{self, Error, ErrorKind};
@@ -251,14 +250,10 @@ impl Change {
         if old.len() < MIN_DATABASE_SIZE || first.len() < MIN_DATABASE_SIZE {
             return Err(Error::from(ErrorKind::InvalidData));
         }
-        let from = first_difference(old, first);
-        let end = difference_end(old, first, from);
-        if from == end {
+        let Some(changed) = find_difference(old, first) else {
             return Ok(());
-        }
-        let last = end.min(old.len());
-        self.tail
-            .turn(file, from, &old[from..last], &first[from..end])
+        };
+        self.tail.turn(file, changed.at, changed.old, changed.new)
     }
 
     // Ends a change of a file that is marked.
@@ -284,10 +279,8 @@ impl Change {
         ensures ok { OnOk result (IsTrue F.is_known → (new : List ℕ) (done : ℕ) → self.old.length ≡ length new → length new ≤ done
             → AreAt new 0 (min 4096 (length new)) first.now → ArePutBelow done new (F.held file.old) → F.held file.new ≡ new) }
     {
-        file.set_len(self.length)?;
-        sync(file, self.tail.syncs)?;
-        file.put_whole(0, first)?;
-        sync(file, self.tail.syncs)
+        set_len_and_sync(file, self.length, self.tail.syncs)?;
+        put_and_sync(file, 0, first, self.tail.syncs)
     }
 
     // Ends a change that one call cannot make.

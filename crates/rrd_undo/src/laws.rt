@@ -1,13 +1,35 @@
-//! Theorems about the bytes that a kill leaves in a file in memory.
+//! Theorems about the bytes that a change leaves in a file if calls fail, and that a kill leaves in a file in memory.
 //!
 //! The module is public only for readers of the contracts and for tests: the program calls none of these functions.
 ghost use Rattle.std.specs.Prelude.{◌≡◌, ◌⊎◌, IfOk, IsTrue, List, ℕ, OnErr, OnOk};
 ghost use Rattle.rrd_tail.specs.Settled.{settled};
 ghost use Rattle.rrd_undo.specs.Databases.{IsDatabase};
 
-use crate::{Memory, Syncs, replace, settle};
+use crate::{Bytes, Memory, Syncs, replace, settle};
 use std::alloc::Global;
 use std::io;
+
+/// Replaces the bytes of a file, and then settles the file.
+///
+/// Theorem: if the file's bytes are known and are a database, the file then has its old bytes or the new ones. Each call
+/// of `replace` may have failed and have left what [`Bytes`] allows after an error, such as a part of its bytes.
+///
+/// # Errors
+///
+/// A call of `settle` failed, or memory ran out.
+pub fn change_settled<F: Bytes>(
+    alloc: Global,
+    file: &mut F,
+    new: &[u8],
+    syncs: Syncs,
+) -> io::Result<()>
+    ensures { OnOk result (IsTrue F.is_known → IsDatabase (F.held file.old) → (F.held file.new ≡ F.held file.old) ⊎ (F.held file.new ≡ new.now)) }
+{
+    let _replaced = replace(alloc, file, new, syncs);
+    let mut buffer = Vec::new(alloc);
+    settle(file, &mut buffer)?;
+    Ok(())
+}
 
 /// Replaces the bytes of a file that fails after `calls` calls, and then settles the file.
 ///

@@ -1,7 +1,8 @@
 //! Pages of a file: the offsets of pages, and the differences between pages.
-ghost use Rattle.std.specs.Prelude.{◌≡◌, ◌↔◌, ◌≤◌, ◌+◌, ◌%◌, ◌^◌, ◌<◌, ℕ, length, slice_index, IsTrue, IfOk, OnOk};
+ghost use Rattle.std.specs.Prelude.{◌≡◌, ◌↔◌, ◌≤◌, ◌+◌, ◌%◌, ◌^◌, ◌<◌, ℕ, length, slice_index, IsNone, IsTrue, IfOk, IfSome, OnOk};
 ghost use Rattle.rrd_undo.specs.Calls.{AreAt};
 ghost use Rattle.rrd_undo.specs.Databases.{IsDatabase};
+ghost use Rattle.rrd_undo.specs.Pages.{AreSame, IsDifference, IsSame};
 
 use crate::Bytes;
 use rrd_tail::{DATABASE_MARK, PAGE};
@@ -59,10 +60,39 @@ pub(crate) fn front_page(bytes: &[u8]) -> &[u8]
     &bytes[..bytes.len().min(PAGE)]
 }
 
-/// Returns the index of the first byte in which two pages differ, after their first 16 bytes.
-///
-/// If no such byte differs, returns the length of the shorter page.
-pub(crate) fn first_difference(old: &[u8], new: &[u8]) -> usize
+/// The bytes in which a new page differs from the old page.
+#[derive(Drop)]
+pub(crate) struct Difference<'a> {
+    /// The offset of these bytes in both pages.
+    pub(crate) at: usize,
+    /// The old bytes: fewer than the new bytes, if the old page is shorter.
+    pub(crate) old: &'a [u8],
+    pub(crate) new: &'a [u8],
+}
+
+/// Returns the bytes in which a new page differs from the old page, after the first 16 bytes.
+pub(crate) fn find_difference<'a>(old: &'a [u8], new: &'a [u8]) -> Option<Difference<'a>>
+    requires old { 16 ≤ length old.now }
+    requires new { 16 ≤ length new.now }
+    ensures some { IfSome result (λ d. IsDifference old.now new.now d.at d.old.now d.new.now) }
+    ensures none { IsNone result → AreSame old.now new.now }
+{
+    let at = first_difference(old, new);
+    let end = difference_end(old, new, at);
+    if at == end {
+        return None;
+    }
+    Some(Difference {
+        at,
+        old: &old[at..end.min(old.len())],
+        new: &new[at..end],
+    })
+}
+
+// Returns the index of the first byte in which two pages differ, after their first 16 bytes.
+//
+// If no such byte differs, returns the length of the shorter page.
+fn first_difference(old: &[u8], new: &[u8]) -> usize
     requires old { 16 ≤ length old.now }
     requires new { 16 ≤ length new.now }
     ensures least { 16 ≤ result }
@@ -77,14 +107,14 @@ pub(crate) fn first_difference(old: &[u8], new: &[u8]) -> usize
     at
 }
 
-/// Returns the index after the last byte in which a new page differs from the old page.
-///
-/// Returns `from` if that index is smaller, or if no byte differs.
-pub(crate) fn difference_end(old: &[u8], new: &[u8], from: usize) -> usize
+// Returns the index after the last byte in which a new page differs from the old page.
+//
+// Returns `from` if that index is smaller, or if no byte differs.
+fn difference_end(old: &[u8], new: &[u8], from: usize) -> usize
     requires { from ≤ length new.now }
     ensures from { from ≤ result }
     ensures within { result ≤ length new.now }
-    ensures same { (k : ℕ) → result ≤ k → k < length new.now → (k < length old.now) × (slice_index old.now k ≡ slice_index new.now k) }
+    ensures same { (k : ℕ) → result ≤ k → k < length new.now → IsSame old.now new.now k }
 {
     let mut end = new.len();
     while end > from && end <= old.len() && old[end - 1] == new[end - 1] {

@@ -1,6 +1,6 @@
 //! Recovers a file after a change that was not ended.
 ghost use Rattle.std.specs.Prelude.{◌≡◌, ◌↔◌, ℕ, ◌%◌, ◌<◌, ◌≤◌, List, length, Option, Some, IfSome, IsSome, None, ◌+◌, IsTrue, IfOk, OnErr, OnOk};
-ghost use Rattle.rrd_tail.specs.Marks.{mark_of};
+ghost use Rattle.rrd_tail.specs.Marks.{mark_of, shape_for, size_of};
 ghost use Rattle.rrd_tail.specs.Records.{if_shaped, last_record, record_at};
 ghost use Rattle.rrd_tail.specs.Settled.{settled};
 ghost use Rattle.rrd_tail.specs.declared.mark.Mark.{Mark};
@@ -9,7 +9,9 @@ ghost use Rattle.rrd_undo.specs.Undoing.{IsToCut};
 
 use crate::Bytes;
 use crate::page::MIN_DATABASE_SIZE;
-use crate::tail::{SLOT, SLOT_HEADER, Syncs, cut_front, finish, offset_of_slot};
+use crate::tail::{
+    SLOT, SLOT_HEADER, Syncs, finish, offset_of_slot, put_and_sync, put_front, set_len_and_sync,
+};
 use rrd_tail::{DATABASE_MARK, Mark, PAGE, Record, Shape, SlotHeader, read_mark, read_slot};
 use std::io::{self, Error, ErrorKind};
 
@@ -42,7 +44,7 @@ fn read_record<F: Bytes>(
     buffer: &mut Vec<u8>,
 ) -> io::Result<Option<Record>>
     ensures same { F.held file.new ≡ F.held file.old }
-    ensures ok { IfOk result (λ r. IsTrue F.is_known → file_length ≡ length (F.held file.old) → r ≡ record_at (F.held file.old) at) }
+    ensures ok { IfOk result (λ r. IsTrue F.is_known → file_length ≡ length (F.held file.new) → r ≡ record_at (F.held file.new) at) }
 {
     let count = file_length.saturating_sub(at).min(RECORD);
     file.read(at, count, buffer)?;
@@ -57,7 +59,7 @@ fn read_last<F: Bytes>(
     buffer: &mut Vec<u8>,
 ) -> io::Result<Option<Record>>
     ensures same { F.held file.new ≡ F.held file.old }
-    ensures ok { IfOk result (λ r. IsTrue F.is_known → file_length ≡ length (F.held file.old) → r ≡ last_record shape (F.held file.old)) }
+    ensures ok { IfOk result (λ r. IsTrue F.is_known → file_length ≡ length (F.held file.new) → r ≡ last_record shape (F.held file.new)) }
 {
     if file_length % PAGE != shape.size() {
         return Ok(None);
@@ -88,8 +90,7 @@ fn unmark<F: Bytes>(file: &mut F) -> io::Result<()>
     ensures ok { OnOk result (IsTrue F.is_known → (shape : Shape) → mark_of (F.held file.old) ≡ Some (Mark.Cut shape) → last_record shape (F.held file.old) ≡ None
         → F.held file.new ≡ settled (F.held file.old)) }
 {
-    file.put_whole(0, &DATABASE_MARK)?;
-    file.sync()
+    put_and_sync(file, 0, &DATABASE_MARK, Syncs::Ordered)
 }
 
 // Settles a file with a cut mark.
@@ -121,7 +122,7 @@ fn read_slot_at<F: Bytes>(
 ) -> io::Result<Option<SlotHeader>>
     ensures same { F.held file.new ≡ F.held file.old }
     ensures few { IfOk result (λ found. IfSome found (λ header. 32 + header.count ≤ length buffer.new.items)) }
-    ensures ok { IfOk result (λ found. IsTrue F.is_known → file_length ≡ length (F.held file.old) → IsSlotFound tail (F.held file.old) number buffer.new.items found) }
+    ensures ok { IfOk result (λ found. IsTrue F.is_known → file_length ≡ length (F.held file.new) → IsSlotFound tail (F.held file.new) number buffer.new.items found) }
 {
     let at = offset_of_slot(tail, number)?;
     if file_length <= at {
@@ -132,7 +133,7 @@ fn read_slot_at<F: Bytes>(
     Ok(read_slot(tail, buffer))
 }
 
-// Writes the bytes of each slot at their old offset.
+// Writes the bytes of each slot at their old offset, and then syncs the file.
 fn put_slots<F: Bytes>(
     file: &mut F,
     file_length: usize,
@@ -146,7 +147,7 @@ fn put_slots<F: Bytes>(
 {
     for number in 0..usize::MAX {
         let Some(slot) = read_slot_at(file, file_length, tail, number, buffer)? else {
-            return Ok(());
+            return file.sync();
         };
         let end = SLOT_HEADER + slot.count;
         file.put(slot.offset, &buffer[SLOT_HEADER..end])?;
@@ -161,14 +162,19 @@ fn release<F: Bytes>(file: &mut F, tail: usize, first: &Record) -> io::Result<()
     ensures err { OnErr result (IsTrue F.is_known → (old : List ℕ) → IsUndone old tail (F.held file.old) → IsPutBack old (F.held file.old) → record_at (F.held file.old) tail ≡ Some first.now
         → settled (F.held file.new) ≡ old) }
 {
-    let shape = Shape::for_length(first.length);
-    let Some(end) = tail.checked_add(shape.size()) else {
-        return Err(Error::from(ErrorKind::FileTooLarge));
-    };
-    file.set_len(end)?;
-    file.sync()?;
-    file.put_whole(0, &cut_front(shape, &first.first))?;
-    file.sync()
+    let end = record_end(tail, first.length)?;
+    set_len_and_sync(file, end, Syncs::Ordered)?;
+    put_front(file, first.length, &first.first, Syncs::Ordered)
+}
+
+// Returns the offset after the record at byte `tail`, if that is the record of a database of `count` bytes.
+fn record_end(tail: usize, count: usize) -> io::Result<usize>
+    ensures { IfOk result (λ end. end ≡ tail + size_of (shape_for count)) }
+{
+    match tail.checked_add(Shape::for_length(count).size()) {
+        Some(end) => Ok(end),
+        None => Err(Error::from(ErrorKind::FileTooLarge)),
+    }
 }
 
 // Takes back a change whose old bytes are in the tail.
@@ -185,7 +191,6 @@ fn undo<F: Bytes>(
         → F.held file.new ≡ old) }
 {
     put_slots(file, file_length, tail, buffer)?;
-    file.sync()?;
     release(file, tail, first)?;
     finish(file, first.length, Syncs::Ordered)
 }
@@ -209,6 +214,25 @@ fn settle_undo<F: Bytes>(
     Ok(Settled::TakenBack)
 }
 
+// The length of a file in bytes, and the mark at the start of the file.
+#[derive(Drop)]
+struct Start {
+    length: usize,
+    mark: Option<Mark>,
+}
+
+// Reads the length and the mark of a file.
+fn read_start<F: Bytes>(file: &mut F, buffer: &mut Vec<u8>) -> io::Result<Start>
+    ensures same { F.held file.new ≡ F.held file.old }
+    ensures length { IfOk result (λ start. IsTrue F.is_known → start.length ≡ length (F.held file.new)) }
+    ensures mark { IfOk result (λ start. IsTrue F.is_known → start.mark ≡ mark_of (F.held file.new)) }
+{
+    let length = file.len()?;
+    file.read(0, length.min(MIN_DATABASE_SIZE), buffer)?;
+    let mark = read_mark(buffer);
+    Ok(Start { length, mark })
+}
+
 /// Makes a file have the bytes that the file represents.
 ///
 /// If a change was interrupted, `settle` ends the change or takes the change back. `buffer` receives the bytes that are
@@ -221,11 +245,10 @@ pub fn settle<F: Bytes>(file: &mut F, buffer: &mut Vec<u8>) -> io::Result<Settle
     ensures stands { IsTrue F.is_known → settled (F.held file.new) ≡ settled (F.held file.old) }
     ensures ok { OnOk result (IsTrue F.is_known → F.held file.new ≡ settled (F.held file.old)) }
 {
-    let file_length = file.len()?;
-    file.read(0, file_length.min(MIN_DATABASE_SIZE), buffer)?;
-    match read_mark(buffer) {
+    let start = read_start(file, buffer)?;
+    match start.mark {
         None => Ok(Settled::AsItWas),
-        Some(Mark::Cut(shape)) => settle_cut(file, file_length, shape, buffer),
-        Some(Mark::Undo(tail)) => settle_undo(file, file_length, tail, buffer),
+        Some(Mark::Cut(shape)) => settle_cut(file, start.length, shape, buffer),
+        Some(Mark::Undo(tail)) => settle_undo(file, start.length, tail, buffer),
     }
 }

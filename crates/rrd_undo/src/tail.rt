@@ -1,12 +1,12 @@
 //! The tail of a file that is being changed: a record of the old database, and a slot for each old page that a new
 //! page replaces.
-ghost use Rattle.std.specs.Prelude.{◌≡◌, ◌⊎◌, ℕ, ◌+◌, ◌-◌, ◌%◌, ◌<◌, ◌≤◌, ◌++◌, min, List, length, take, drop, IsTrue, IfOk, OnErr, OnOk};
-ghost use Rattle.rrd_tail.specs.Marks.{cut_mark, undo_mark};
+ghost use Rattle.std.specs.Prelude.{◌≡◌, ◌⊎◌, ℕ, ◌+◌, ◌-◌, ◌%◌, ◌^◌, ◌<◌, ◌≤◌, ◌++◌, min, List, length, take, drop, IsTrue, IfOk, OnErr, OnOk};
+ghost use Rattle.rrd_tail.specs.Marks.{cut_mark, shape_for, undo_mark};
 ghost use Rattle.rrd_tail.specs.Records.{shaped_bytes};
 ghost use Rattle.rrd_tail.specs.Settled.{settled};
-ghost use Rattle.rrd_tail.specs.Slots.{slot_offset};
-ghost use Rattle.rrd_undo.specs.Calls.{AreAt, ArePut, AreWholeOrNot};
-ghost use Rattle.rrd_undo.specs.Undoing.{IsOldPage, IsReady, IsTail, IsToCut, Keeps, Paged, Turns, Undoing};
+ghost use Rattle.rrd_tail.specs.Slots.{slot_bytes, slot_offset};
+ghost use Rattle.rrd_undo.specs.Calls.{AreAt, ArePut, AreWholeOrNot, IsSized};
+ghost use Rattle.rrd_undo.specs.Undoing.{IsOldPage, IsOldRecorded, IsReady, IsTail, IsToCut, Keeps, Paged, Turns, Undoing, record_of, slot_of};
 ghost use Rattle.rrd_undo.specs.Databases.{IsDatabase};
 
 use crate::Bytes;
@@ -42,6 +42,30 @@ pub(crate) fn sync<F: Bytes>(file: &mut F, syncs: Syncs) -> io::Result<()>
     }
 }
 
+/// Writes bytes that lie within one page, and then syncs the file.
+pub(crate) fn put_and_sync<F: Bytes>(
+    file: &mut F,
+    at: usize,
+    bytes: &[u8],
+    syncs: Syncs,
+) -> io::Result<()>
+    requires { at % 4096 + length bytes.now ≤ 4096 }
+    ensures ok { OnOk result (IsTrue F.is_known → ArePut at bytes.now (F.held file.old) (F.held file.new)) }
+    ensures either { IsTrue F.is_known → AreWholeOrNot at bytes.now (F.held file.old) (F.held file.new) }
+{
+    file.put_whole(at, bytes)?;
+    sync(file, syncs)
+}
+
+/// Sets the length of the file, and then syncs the file.
+pub(crate) fn set_len_and_sync<F: Bytes>(file: &mut F, count: usize, syncs: Syncs) -> io::Result<()>
+    ensures ok { OnOk result (IsTrue F.is_known → IsSized count (F.held file.old) (F.held file.new)) }
+    ensures either { IsTrue F.is_known → (F.held file.new ≡ F.held file.old) ⊎ IsSized count (F.held file.old) (F.held file.new) }
+{
+    file.set_len(count)?;
+    sync(file, syncs)
+}
+
 // Returns the first 16 bytes of `bytes`.
 fn sixteen(bytes: &[u8]) -> [u8; 16]
     requires { 16 ≤ length bytes.now }
@@ -52,24 +76,47 @@ fn sixteen(bytes: &[u8]) -> [u8; 16]
     first
 }
 
-// Writes a record at its offset.
-fn put_record<F: Bytes>(file: &mut F, shape: Shape, entry: &Record) -> io::Result<()>
+// Writes a record at its offset, and then syncs the file.
+fn put_shaped<F: Bytes>(file: &mut F, shape: Shape, entry: &Record, syncs: Syncs) -> io::Result<()>
     requires { entry.now.offset % 4096 ≡ 0 }
     ensures ok { OnOk result (IsTrue F.is_known → ArePut entry.now.offset (shaped_bytes shape entry.now) (F.held file.old) (F.held file.new)) }
-    ensures err { OnErr result (IsTrue F.is_known → AreWholeOrNot entry.now.offset (shaped_bytes shape entry.now) (F.held file.old) (F.held file.new)) }
+    ensures either { IsTrue F.is_known → AreWholeOrNot entry.now.offset (shaped_bytes shape entry.now) (F.held file.old) (F.held file.new) }
 {
     match shape {
-        Shape::Short => file.put_whole(entry.offset, &entry.bytes()),
+        Shape::Short => put_and_sync(file, entry.offset, &entry.bytes(), syncs),
         Shape::Long => {
             let mut bytes = [0; 128];
             bytes[..64].copy_from_slice(&entry.bytes());
-            file.put_whole(entry.offset, &bytes)
+            put_and_sync(file, entry.offset, &bytes, syncs)
         }
     }
 }
 
+// Writes the record of a database of `count` bytes, of which `first` are the first, and then syncs the file.
+fn put_record<F: Bytes>(
+    file: &mut F,
+    offset: usize,
+    count: usize,
+    first: &[u8],
+    syncs: Syncs,
+) -> io::Result<()>
+    requires page { offset % 4096 ≡ 0 }
+    requires enough { 16 ≤ length first.now }
+    ensures ok { OnOk result (IsTrue F.is_known → (bytes : List ℕ) → IsDatabase bytes → count ≡ length bytes → AreAt bytes 0 (min 4096 (length bytes)) first.now
+        → ArePut offset (shaped_bytes (shape_for (length bytes)) (record_of offset bytes)) (F.held file.old) (F.held file.new)) }
+    ensures either { IsTrue F.is_known → (bytes : List ℕ) → IsDatabase bytes → count ≡ length bytes → AreAt bytes 0 (min 4096 (length bytes)) first.now
+        → AreWholeOrNot offset (shaped_bytes (shape_for (length bytes)) (record_of offset bytes)) (F.held file.old) (F.held file.new) }
+{
+    let record = Record {
+        offset,
+        length: count,
+        first: sixteen(first),
+    };
+    put_shaped(file, Shape::for_length(count), &record, syncs)
+}
+
 // Returns the first 16 bytes of a file that represents new bytes: a cut mark, and the new bytes after the mark.
-pub(crate) fn cut_front(shape: Shape, first: &[u8]) -> [u8; 16]
+fn cut_front(shape: Shape, first: &[u8]) -> [u8; 16]
     requires { 16 ≤ length first.now }
     ensures { result ≡ cut_mark shape ++ drop 4 (take 16 first.now) }
 {
@@ -78,15 +125,33 @@ pub(crate) fn cut_front(shape: Shape, first: &[u8]) -> [u8; 16]
     front
 }
 
+/// Makes a file represent `count` new bytes, of which `first` are the first, by one call. Then syncs the file.
+pub(crate) fn put_front<F: Bytes>(
+    file: &mut F,
+    count: usize,
+    first: &[u8],
+    syncs: Syncs,
+) -> io::Result<()>
+    requires { 16 ≤ length first.now }
+    ensures ok { OnOk result (IsTrue F.is_known → (old new : List ℕ) (tail : ℕ) → IsDatabase old → IsDatabase new → count ≡ length new
+        → take 16 first.now ≡ take 16 new → IsReady old new tail (F.held file.old) → IsToCut new (F.held file.new)) }
+    ensures either { IsTrue F.is_known → (old new : List ℕ) (tail : ℕ) → IsDatabase old → IsDatabase new → count ≡ length new
+        → take 16 first.now ≡ take 16 new → IsReady old new tail (F.held file.old)
+        → (settled (F.held file.new) ≡ old) ⊎ (settled (F.held file.new) ≡ new) }
+    ensures again { IsTrue F.is_known → (old new : List ℕ) (tail : ℕ) → IsDatabase old → IsDatabase new → count ≡ length new
+        → take 16 first.now ≡ take 16 new → IsReady old new tail (F.held file.old)
+        → (f : List ℕ) → ArePut 0 (undo_mark tail) (F.held file.new) f → settled f ≡ old }
+{
+    put_and_sync(file, 0, &cut_front(Shape::for_length(count), first), syncs)
+}
+
 /// Truncates a file with a cut mark to its new length, and writes the mark of a database.
 pub(crate) fn finish<F: Bytes>(file: &mut F, new_length: usize, syncs: Syncs) -> io::Result<()>
     ensures stands { IsTrue F.is_known → (bytes : List ℕ) → new_length ≡ length bytes → IsToCut bytes (F.held file.old) → settled (F.held file.new) ≡ bytes }
     ensures ok { OnOk result (IsTrue F.is_known → (bytes : List ℕ) → new_length ≡ length bytes → IsToCut bytes (F.held file.old) → F.held file.new ≡ bytes) }
 {
-    file.set_len(new_length)?;
-    sync(file, syncs)?;
-    file.put_whole(0, &DATABASE_MARK)?;
-    sync(file, syncs)
+    set_len_and_sync(file, new_length, syncs)?;
+    put_and_sync(file, 0, &DATABASE_MARK, syncs)
 }
 
 /// Returns the offset of the slot with this number.
@@ -103,6 +168,16 @@ pub(crate) fn offset_of_slot(tail: usize, number: usize) -> io::Result<usize>
         },
         None => Err(Error::from(ErrorKind::FileTooLarge)),
     }
+}
+
+// Fills a buffer with a slot of the old bytes from byte `at` on.
+fn fill_slot(buffer: &mut Vec<u8>, tail: usize, at: usize, bytes: &[u8]) -> io::Result<()>
+    ensures { OnOk result (buffer.new.items ≡ slot_bytes tail (slot_of at bytes.now)) }
+{
+    buffer.clear();
+    buffer.extend_from_slice(&slot_header(tail, at, bytes))?;
+    buffer.extend_from_slice(bytes)?;
+    Ok(())
 }
 
 /// The tail of a file that is being changed.
@@ -135,18 +210,22 @@ impl Tail {
             → AreAt old 0 (min 4096 (length old)) first.now → F.held file.old ≡ old → settled (F.held file.new) ≡ old) }
     {
         self.slots = 0;
-        let shape = Shape::for_length(old_length);
-        file.put_whole(0, &shape.cut_mark())?;
-        sync(file, self.syncs)?;
-        let record = Record {
-            offset: self.offset,
-            length: old_length,
-            first: sixteen(first),
-        };
-        put_record(file, shape, &record)?;
-        sync(file, self.syncs)?;
-        file.put_whole(0, &undo_mark(self.offset))?;
-        sync(file, self.syncs)
+        self.record_old(file, old_length, first)?;
+        put_and_sync(file, 0, &undo_mark(self.offset), self.syncs)
+    }
+
+    // Writes a cut mark over the mark of a database, and then the record of the old bytes.
+    fn record_old<F: Bytes>(&self, file: &mut F, old_length: usize, first: &[u8]) -> io::Result<()>
+        requires page { self.now.offset % 4096 ≡ 0 }
+        requires enough { 16 ≤ length first.now }
+        ensures stands { IsTrue F.is_known → (old : List ℕ) → IsDatabase old → IsTail old self.now.offset → old_length ≡ length old
+            → AreAt old 0 (min 4096 (length old)) first.now → F.held file.old ≡ old → settled (F.held file.new) ≡ old }
+        ensures ok { OnOk result (IsTrue F.is_known → (old : List ℕ) → IsDatabase old → IsTail old self.now.offset → old_length ≡ length old
+            → AreAt old 0 (min 4096 (length old)) first.now → F.held file.old ≡ old → IsOldRecorded old self.now.offset (F.held file.new)) }
+    {
+        let mark = Shape::for_length(old_length).cut_mark();
+        put_and_sync(file, 0, &mark, self.syncs)?;
+        put_record(file, self.offset, old_length, first, self.syncs)
     }
 
     // Copies the old bytes from byte `at` on to a slot, if there are any.
@@ -162,10 +241,7 @@ impl Tail {
             return Ok(());
         }
         let offset = offset_of_slot(self.offset, self.slots)?;
-        self.buffer.clear();
-        self.buffer
-            .extend_from_slice(&slot_header(self.offset, at, bytes))?;
-        self.buffer.extend_from_slice(bytes)?;
+        fill_slot(&mut self.buffer, self.offset, at, bytes)?;
         file.append(offset, &self.buffer)?;
         self.slots += 1;
         sync(file, self.syncs)
@@ -207,16 +283,20 @@ impl Tail {
             → new_length ≡ length new → AreAt new 0 (min 4096 (length new)) first.now → Paged old new self.now.offset self.now.slots (F.held file.old)
             → settled (F.held file.new) ≡ old) }
     {
-        let Some(zeros) = offset_of_slot(self.offset, self.slots)?.checked_add(SLOT_HEADER) else {
-            return Err(Error::from(ErrorKind::FileTooLarge));
-        };
-        let record = Record {
-            offset: page_from(zeros)?,
-            length: new_length,
-            first: sixteen(first),
-        };
-        put_record(file, Shape::for_length(new_length), &record)?;
-        sync(file, self.syncs)
+        let offset = self.record_offset()?;
+        put_record(file, offset, new_length, first, self.syncs)
+    }
+
+    // Returns the offset of the record of the new bytes: the first page after all slots and the zeros that end them.
+    fn record_offset(&self) -> io::Result<usize>
+        ensures page { IfOk result (λ offset. offset % 4096 ≡ 0) }
+        ensures behind { IfOk result (λ offset. slot_offset self.now.offset self.now.slots + 32 ≤ offset) }
+        ensures fits { IfOk result (λ offset. offset < 2 ^ 64) }
+    {
+        match offset_of_slot(self.offset, self.slots)?.checked_add(SLOT_HEADER) {
+            Some(zeros) => page_from(zeros),
+            None => Err(Error::from(ErrorKind::FileTooLarge)),
+        }
     }
 
     /// Makes a file represent its new bytes, by one call.
@@ -234,8 +314,7 @@ impl Tail {
             → ((settled (F.held file.new) ≡ old) ⊎ (settled (F.held file.new) ≡ new))
             × ((f : List ℕ) → ArePut 0 (undo_mark self.now.offset) (F.held file.new) f → settled f ≡ old)) }
     {
-        file.put_whole(0, &cut_front(Shape::for_length(new_length), first))?;
-        sync(file, self.syncs)?;
+        put_front(file, new_length, first, self.syncs)?;
         // The file represents its new bytes: if a later call fails, the next program that opens the file does the rest.
         let _finished = finish(file, new_length, self.syncs);
         Ok(())

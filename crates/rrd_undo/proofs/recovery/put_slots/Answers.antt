@@ -1,5 +1,6 @@
-use Rattle.std.proofs.Common.{◌≡◌, ◌≤◌, ◌+◌, ◌∙◌, ap, sym, List, ℕ, length, slice_range, arith}
-use Rattle.rrd_undo.proofs.Recovering.{back_begun, back_ended, put_back_synced, slot_back_read, slot_failed_read, undone_synced}
+use Rattle.std.proofs.Common.{◌∙◌, ◌+◌, ap, List, ℕ, length, slice_range, arith}
+use Rattle.rrd_undo.proofs.Laid.{on_any}
+use Rattle.rrd_undo.proofs.Recovering.{back_begun, back_ended, slot_back, slot_failed, undone_synced}
 use Rattle.rrd_undo.proofs.recovery.put_slots.Goals as goal
 
 pub loop-number-init : goal.loop-number-init
@@ -7,26 +8,29 @@ loop-number-init g c = λ f old len is. (back_begun old c.args.tail _ is, len)
 
 pub loop-number-preserved : goal.loop-number-preserved
 loop-number-preserved g c = λ f old len is.
-    let inv = c.loop-number.invariant f old len is in
+    let inv = (rw (← c.read_slot_at.ensures.same) at (c.loop-number.invariant f old len is)) in
     let found = (rw c.in-Some.is at (c.in_ok-slot.ensures.ok f inv.1)) in
-    slot_back_read old c.args.tail c.loop-number.number c.in-Some.slot.offset _ _ _ _ inv.0 found.0
-    (ap (λ (b : List ℕ). slice_range b 32 (32 + c.in-Some.slot.count)) c.deref.ensures.value) c.read_slot_at.ensures.same c.args.file_length _ inv.1 (c.in_ok-put.ensures.ok f)
+    slot_back old c.args.tail c.loop-number.number c.in-Some.slot.offset _ _ _ inv.0 found.0
+    (ap (λ (b : List ℕ). slice_range b 32 (32 + c.in-Some.slot.count)) c.deref.ensures.value) c.args.file_length _ inv.1 (c.in_ok-put.ensures.ok f)
 
 pub returns-in_err-slot-clause-stands : goal.returns-in_err-slot-clause-stands
 returns-in_err-slot-clause-stands g c f old len is = undone_synced old c.args.tail _ _ (c.loop-number.invariant f old len is).0.undone c.read_slot_at.ensures.same
 
+pub returns-in_default-clause-stands : goal.returns-in_default-clause-stands
+returns-in_default-clause-stands g c f old len is =
+    undone_synced old c.args.tail _ _ (c.loop-number.invariant f old len is).0.undone (c.sync.ensures.same ∙ c.read_slot_at.ensures.same)
+
 pub returns-in_default-clause-ok : goal.returns-in_default-clause-ok
-returns-in_default-clause-ok g c f old len is =
-    let inv = c.loop-number.invariant f old len is in
-    let none = (rw c.in_default.is at (c.in_ok-slot.ensures.ok f inv.1)) in
-    put_back_synced old _ _ (back_ended old c.args.tail c.loop-number.number _ inv.0 none) c.read_slot_at.ensures.same
+returns-in_default-clause-ok g c = on_any c.sync.result _ (λ f old len is.
+    let inv = (rw (← c.read_slot_at.ensures.same) at (c.loop-number.invariant f old len is)) in
+    rw c.sync.ensures.same (back_ended old c.args.tail c.loop-number.number _ inv.0 (rw c.in_default.is at (c.in_ok-slot.ensures.ok f inv.1))))
 
 pub returns-in_err-put-clause-stands : goal.returns-in_err-put-clause-stands
 returns-in_err-put-clause-stands g c f old len is =
-    let inv = c.loop-number.invariant f old len is in
+    let inv = (rw (← c.read_slot_at.ensures.same) at (c.loop-number.invariant f old len is)) in
     let found = (rw c.in-Some.is at (c.in_ok-slot.ensures.ok f inv.1)) in
-    slot_failed_read old c.args.tail c.loop-number.number c.in-Some.slot.offset _ _ _ _ inv.0 found.0
-    (ap (λ (b : List ℕ). slice_range b 32 (32 + c.in-Some.slot.count)) c.deref.ensures.value) c.read_slot_at.ensures.same _ (c.in_err-put.ensures.err f)
+    slot_failed old c.args.tail c.loop-number.number c.in-Some.slot.offset _ _ _ inv.0 found.0
+    (ap (λ (b : List ℕ). slice_range b 32 (32 + c.in-Some.slot.count)) c.deref.ensures.value) _ (c.in_err-put.ensures.err f)
 
 pub overflow_add-end : goal.overflow_add-end
 overflow_add-end g c = let few = (rw c.in-Some.is at c.in_ok-slot.ensures.few) in omega (arith, few)

@@ -1,5 +1,4 @@
 use Rattle.std.proofs.Common.{rules, ◌≡◌, ◌%◌, ◌-◌, ◌∙◌, ap, sym}
-use Rattle.rrd_tail.specs.Marks.{size_of}
 use Rattle.rrd_tail.specs.Records.{if_shaped}
 use Rattle.rrd_undo.proofs.Recovering.{last_is, not_ends}
 use Rattle.rrd_undo.proofs.recovery.read_last.Goals as goal

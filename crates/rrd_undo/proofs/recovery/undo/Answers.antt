@@ -1,16 +1,18 @@
-use Rattle.std.proofs.Common.{◌∙◌, ap}
-use Rattle.rrd_tail.specs.Settled.{settled}
-use Rattle.rrd_undo.proofs.Recovering.{put_back_synced, record_stays, undone_stands_for, undone_synced}
+use Rattle.std.proofs.Common.{ap}
+use Rattle.rrd_tail.specs.declared.record.Record.{Record}
+use Rattle.rrd_undo.proofs.Recovering.{record_eq, record_stays, undone_stands_for}
 use Rattle.rrd_undo.proofs.recovery.undo.Goals as goal
 
 pub returns-in_err-put_slots-clause-stands : goal.returns-in_err-put_slots-clause-stands
 returns-in_err-put_slots-clause-stands g c f old len is found = undone_stands_for old c.args.tail _ (c.put_slots.ensures.stands f old len is)
 
-pub returns-in_err-sync-clause-stands : goal.returns-in_err-sync-clause-stands
-returns-in_err-sync-clause-stands g c f old len is found = ap settled c.sync.ensures.same ∙ undone_stands_for old c.args.tail _ (c.put_slots.ensures.stands f old len is)
-
 pub returns-in_err-release-clause-stands : goal.returns-in_err-release-clause-stands
 returns-in_err-release-clause-stands g c f old len is found =
-    let undone = undone_synced old c.args.tail _ _ (c.put_slots.ensures.stands f old len is) c.sync.ensures.same in
-    let back = put_back_synced old _ _ (c.in_ok-put_slots.ensures.ok f old len is) c.sync.ensures.same in
-    c.in_err-release.ensures.err f old undone back (record_stays old c.args.tail _ _ c.args.first.now is undone found)
+    let undone = c.put_slots.ensures.stands f old len is in
+    c.in_err-release.ensures.err f old undone (c.in_ok-put_slots.ensures.ok f old len is) (record_stays old c.args.tail _ _ c.args.first.now is undone found)
+
+pub returns-clause-stands : goal.returns-clause-stands
+returns-clause-stands g c f old len is found =
+    let undone = c.put_slots.ensures.stands f old len is in
+    let cut = c.in_ok-release.ensures.ok f old undone (c.in_ok-put_slots.ensures.ok f old len is) (record_stays old c.args.tail _ _ c.args.first.now is undone found) in
+    c.finish.ensures.stands f old (ap (λ (r : Record). r.length) (record_eq old c.args.tail _ c.args.first.now is found)) cut

@@ -1,4 +1,4 @@
-use Rattle.std.proofs.Common.{◌≡◌, ◌∙◌, ap, sym, inl, List, ℕ, ◌+◌, ◌-◌, ◌≤◌, ◌++◌, length, take, drop, slice_range, arith, length-take, length-drop}
+use Rattle.std.proofs.Common.{◌≡◌, ◌∙◌, ap, sym, inl, List, ℕ, ◌+◌, ◌-◌, ◌++◌, length, take, drop, slice_range, arith, length-take, length-drop}
 use Rattle.std.proofs.Math.Seq.{take-add}
 use Rattle.std.proofs.lemmas.List.{take_all}
 use Rattle.rrd_undo.proofs.Laid.{always_err, on_err, on_ok}

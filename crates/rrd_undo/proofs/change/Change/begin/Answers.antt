@@ -1,5 +1,4 @@
-use Rattle.std.proofs.Common.{◌≡◌, ◌≤◌, ◌∙◌, sym, length, min, arith}
-use Rattle.rrd_undo.specs.Calls.{AreAt}
+use Rattle.std.proofs.Common.{◌∙◌, arith}
 use Rattle.rrd_undo.proofs.Laid.{on_ok}
 use Rattle.rrd_undo.proofs.Stages.{begun, first_read}
 use Rattle.rrd_undo.proofs.change.Change.begin.Goals as goal

@@ -1,4 +1,4 @@
-use Rattle.std.proofs.Common.{rules, ◌≡◌, ◌≤◌, ◌+◌, ◌∙◌, ap, sym, length, IsTrue, arith}
+use Rattle.std.proofs.Common.{rules, ◌≤◌, ◌+◌, ap, length, IsTrue, arith}
 use Rattle.rrd_undo.proofs.Laid.{always_err, on_err, on_ok}
 use Rattle.rrd_undo.proofs.Stages.{at_left, at_old_page, at_page_same, at_same, same_length}
 use Rattle.rrd_undo.proofs.change.Change.put.Goals as goal

@@ -1,4 +1,4 @@
-use Rattle.std.proofs.Common.{rules, ◌≡◌, ◌∙◌, sym, length, inl, inr, ◌⊎◌, arith}
+use Rattle.std.proofs.Common.{rules, ◌≡◌, ◌∙◌, sym, inl, inr, ◌⊎◌}
 use Rattle.rrd_undo.proofs.Laid.{on_err, on_ok}
 use Rattle.rrd_undo.proofs.Stages.{alone_put, alone_same}
 use Rattle.rrd_undo.proofs.change.Change.put_alone.Goals as goal

@@ -1,4 +1,4 @@
-use Rattle.std.proofs.Common.{◌≡◌, ◌≤◌, ◌+◌, length, arith}
+use Rattle.std.proofs.Common.{◌≤◌, ◌+◌, length, arith}
 use Rattle.rrd_undo.specs.Changing.{Holds}
 use Rattle.rrd_undo.proofs.Laid.{always_err, on_err, on_ok}
 use Rattle.rrd_undo.proofs.Stages.{other_holds, other_left, other_invalid, page_of, put_below, turned_turning}
@@ -12,10 +12,7 @@ returns-in-Marked-clause-ok g c = on_ok c.turn.result _ _ (λ h f old new is wit
     let turns = h f old marked.0 is_at.knows.tail page.0 page.1 below marked.1.undoing in
     let holds : Holds c.args.self.now.stage old new c.args.self.now.tail.offset c.turn.new.self.slots (g.F.Bytes.held c.turn.new.file) (c.args.at + 4096) =
     rw c.in-Marked.is (marked.0, turned_turning old new _ _ _ c.args.at c.args.page.now _ _ c.requires is below marked.1 turns) in
-    rw c.turn.ensures.frame (record {
-      knows = record { old_length = is_at.knows.old_length; old_first = is_at.knows.old_first; tail = is_at.knows.tail; below = is_at.knows.below };
-      holds = holds;
-    })) c.turn.ensures.ok
+    rw c.turn.ensures.frame (record { knows = is_at.knows; holds = holds })) c.turn.ensures.ok
 
 pub returns-in-Marked-clause-err : goal.returns-in-Marked-clause-err
 returns-in-Marked-clause-err g c = on_err c.turn.result _ _ (λ h f old new is within started pages is_at.
@@ -23,10 +20,7 @@ returns-in-Marked-clause-err g c = on_err c.turn.result _ _ (λ h f old new is w
     let page = page_of old c.args.at c.args.page.now c.args.self.now.old_page.items c.deref.result.now (omega (arith, c.requires)) (omega (arith, is.len)) (pages marked.0) c.deref.ensures.value in
     let below : c.args.at + length c.args.page.now ≤ c.args.self.now.tail.offset = omega (arith, within, is_at.knows.below) in
     let stands = h f old marked.0 is_at.knows.tail page.0 page.1 below marked.1.undoing in (
-      rw c.turn.ensures.frame (record {
-        knows = record { old_length = is_at.knows.old_length; old_first = is_at.knows.old_first; tail = is_at.knows.tail; below = is_at.knows.below };
-        left = rw c.in-Marked.is stands;
-      }),
+      rw c.turn.ensures.frame (record { knows = is_at.knows; left = rw c.in-Marked.is stands }),
       λ is_db. stands,
     )) c.turn.ensures.err
 

@@ -1,5 +1,5 @@
-use Rattle.std.proofs.Common.{◌≡◌, ◌≤◌, ◌∙◌, List, ℕ, length, min, arith}
-use Rattle.rrd_undo.specs.Calls.{AreAt, ArePut}
+use Rattle.std.proofs.Common.{◌∙◌}
+use Rattle.rrd_undo.specs.Calls.{ArePut}
 use Rattle.rrd_undo.proofs.Laid.{on_ok}
 use Rattle.rrd_undo.proofs.Stages.{front_few, restored}
 use Rattle.rrd_undo.proofs.change.Change.restore.Goals as goal

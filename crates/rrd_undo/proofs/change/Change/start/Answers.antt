@@ -1,4 +1,4 @@
-use Rattle.std.proofs.Common.{rules, ◌≡◌, IsTrue}
+use Rattle.std.proofs.Common.{rules, IsTrue}
 use Rattle.rrd_undo.specs.Databases.{IsDatabase}
 use Rattle.rrd_undo.specs.Changing.{Agreeing}
 use Rattle.rrd_undo.proofs.Laid.{on_err, on_ok}

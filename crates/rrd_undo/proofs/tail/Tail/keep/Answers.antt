@@ -2,7 +2,7 @@ use Rattle.std.proofs.Common.{rules, ◌≡◌, ◌≤◌, ◌∙◌, ap, length
 use Rattle.rrd_tail.specs.Settled.{settled}
 use Rattle.rrd_undo.proofs.Laid.{always_err, on_any}
 use Rattle.rrd_undo.proofs.Turned.{keeps_none, keeps_settled, undoing_settled}
-use Rattle.rrd_undo.proofs.Undone.{kept_front, kept_put, kept_synced, taken_is}
+use Rattle.rrd_undo.proofs.Undone.{kept_front, kept_put, kept_synced}
 use Rattle.rrd_undo.proofs.tail.Tail.keep.Goals as goal
 
 pub returns-then-is_empty-clause-ok : goal.returns-then-is_empty-clause-ok
@@ -13,32 +13,23 @@ returns-then-is_empty-clause-ok g c f old is is_tail page undoing =
 pub returns-in_err-offset-clause-err : goal.returns-in_err-offset-clause-err
 returns-in_err-offset-clause-err g c = always_err c.from_residual.result _ (λ f old is is_tail page undoing. undoing_settled old _ _ _ is_tail undoing)
 
-pub returns-in_err-extend_from_slice-clause-err : goal.returns-in_err-extend_from_slice-clause-err
-returns-in_err-extend_from_slice-clause-err g c = always_err c.from_residual-in_err-extend_from_slice.result _ (λ f old is is_tail page undoing. undoing_settled old _ _ _ is_tail undoing)
-
-pub returns-in_err-extend_from_slice-2-clause-err : goal.returns-in_err-extend_from_slice-2-clause-err
-returns-in_err-extend_from_slice-2-clause-err g c = always_err c.from_residual-in_err-extend_from_slice-2.result _ (λ f old is is_tail page undoing. undoing_settled old _ _ _ is_tail undoing)
+pub returns-in_err-fill_slot-clause-err : goal.returns-in_err-fill_slot-clause-err
+returns-in_err-fill_slot-clause-err g c = always_err c.from_residual-in_err-fill_slot.result _ (λ f old is is_tail page undoing. undoing_settled old _ _ _ is_tail undoing)
 
 pub returns-in_err-append-clause-err : goal.returns-in_err-append-clause-err
 returns-in_err-append-clause-err g c = always_err c.from_residual-in_err-append.result _ (λ f old is is_tail page undoing.
     let some : 1 ≤ length c.args.bytes.now = search rules in
-    let takes = taken_is _ _ _ _ _ c.args.bytes.now c.args.self.now.offset c.args.at c.deref.ensures.value c.in_ok-extend_from_slice-2.ensures.items
-    c.in_ok-extend_from_slice.ensures.items c.clear.ensures.items c.slot_header.ensures in
-    kept_front old c.args.self.now.offset c.args.self.now.slots c.args.at c.args.bytes.now _ is is_tail page undoing some _ _ c.in_ok-offset.offset c.in_ok-offset.ensures takes
-    (c.in_err-append.ensures.err f (omega (arith, undoing.room, c.in_ok-offset.ensures))))
+    kept_front old c.args.self.now.offset c.args.self.now.slots c.args.at c.args.bytes.now _ is is_tail page undoing some _ _ c.in_ok-offset.offset c.in_ok-offset.ensures
+    (c.deref.ensures.value ∙ c.in_ok-fill_slot.ensures) (c.in_err-append.ensures.err f (omega (arith, undoing.room, c.in_ok-offset.ensures))))
 
 pub returns-clause-ok : goal.returns-clause-ok
 returns-clause-ok g c = on_any c.sync.result _ (λ f old is is_tail page undoing.
     let some : 1 ≤ length c.args.bytes.now = search rules in
-    let takes = taken_is _ _ _ _ _ c.args.bytes.now c.args.self.now.offset c.args.at c.deref.ensures.value c.in_ok-extend_from_slice-2.ensures.items
-    c.in_ok-extend_from_slice.ensures.items c.clear.ensures.items c.slot_header.ensures in
-    kept_synced old _ _ _ _ _ _ _ (kept_put old c.args.self.now.offset c.args.self.now.slots c.args.at c.args.bytes.now _ is is_tail page undoing some _ _ c.in_ok-offset.offset c.in_ok-offset.ensures takes
-    (c.in_ok-append.ensures.ok f (omega (arith, undoing.room, c.in_ok-offset.ensures)))) c.sync.ensures)
+    kept_synced old _ _ _ _ _ _ _ (kept_put old c.args.self.now.offset c.args.self.now.slots c.args.at c.args.bytes.now _ is is_tail page undoing some _ _ c.in_ok-offset.offset c.in_ok-offset.ensures
+    (c.deref.ensures.value ∙ c.in_ok-fill_slot.ensures) (c.in_ok-append.ensures.ok f (omega (arith, undoing.room, c.in_ok-offset.ensures)))) c.sync.ensures)
 
 pub returns-clause-err : goal.returns-clause-err
 returns-clause-err g c = always_err c.sync.result _ (λ f old is is_tail page undoing.
     let some : 1 ≤ length c.args.bytes.now = search rules in
-    let takes = taken_is _ _ _ _ _ c.args.bytes.now c.args.self.now.offset c.args.at c.deref.ensures.value c.in_ok-extend_from_slice-2.ensures.items
-    c.in_ok-extend_from_slice.ensures.items c.clear.ensures.items c.slot_header.ensures in
     ap settled c.sync.ensures ∙ keeps_settled old _ _ _ _ _ _ is_tail (kept_put old c.args.self.now.offset c.args.self.now.slots c.args.at c.args.bytes.now _ is is_tail page undoing some _ _
-    c.in_ok-offset.offset c.in_ok-offset.ensures takes (c.in_ok-append.ensures.ok f (omega (arith, undoing.room, c.in_ok-offset.ensures)))))
+    c.in_ok-offset.offset c.in_ok-offset.ensures (c.deref.ensures.value ∙ c.in_ok-fill_slot.ensures) (c.in_ok-append.ensures.ok f (omega (arith, undoing.room, c.in_ok-offset.ensures)))))

@@ -1,4 +1,4 @@
-use Rattle.std.proofs.Common.{◌≡◌, ◌≤◌, ℕ, List, [], length, ap, arith, inl, refl}
+use Rattle.std.proofs.Common.{◌≡◌, [], length, ap, arith, inl, refl}
 use Rattle.rrd_undo.proofs.writer.Pages.begin.Goals as goal
 
 pub returns-clause-ok : goal.returns-clause-ok

@@ -1,4 +1,4 @@
-use Rattle.std.proofs.Common.{◌≡◌, ◌≤◌, ◌++◌, ℕ, List, length, take, arith, refl, ap, ◌∙◌, length-append, length-take}
+use Rattle.std.proofs.Common.{◌≡◌, ◌≤◌, ◌++◌, length, take, arith, refl, ap, length-append, length-take}
 use Rattle.rrd_undo.proofs.Gathering.{taken_more}
 use Rattle.rrd_undo.proofs.Laid.{always_err}
 use Rattle.rrd_undo.proofs.Stages.{at_left}
