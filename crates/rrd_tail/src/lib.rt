@@ -6,9 +6,7 @@ pub mod laws;
 mod mark;
 mod record;
 mod slot;
-#[cfg(test)]
-mod tests;
 
 pub use mark::{DATABASE_MARK, Mark, PAGE, Shape, read_mark, undo_mark};
-pub use record::Record;
-pub use slot::{SlotHeader, read_slot, slot_header};
+pub use record::{RECORD_SIZE, Record};
+pub use slot::{SLOT_HEADER_SIZE, SlotHeader, read_slot, slot_header};

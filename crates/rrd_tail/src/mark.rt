@@ -3,6 +3,8 @@ ghost use Rattle.std.specs.Prelude.{◌≡◌, ◌+◌, ◌≤◌, length, slice
 ghost use Rattle.std.specs.Int.{w64, from_be_bytes};
 ghost use Rattle.rrd_tail.specs.Marks as marks;
 
+use crate::record::RECORD_SIZE;
+
 /// The length of a page in bytes. The system stores files in memory in such pages.
 pub const PAGE: usize = 4_096;
 
@@ -15,9 +17,9 @@ const UNDO_WORD: [u8; 8] = [b'R', b'R', b'D', b'U', b'n', b'd', b'o', 0];
 /// The size of the record at the end of a file.
 #[derive(Clone, Copy, PartialEq, Eq, Debug, Drop)]
 pub enum Shape {
-    /// 64 bytes.
+    /// The size of the record alone.
     Short,
-    /// 128 bytes.
+    /// Twice the size of the record.
     Long,
 }
 
@@ -35,7 +37,7 @@ impl Shape {
     pub fn for_length(length: usize) -> Shape
         ensures { result ≡ marks.shape_for length }
     {
-        if length % PAGE == 64 {
+        if length % PAGE == RECORD_SIZE {
             Shape::Long
         } else {
             Shape::Short
@@ -47,8 +49,8 @@ impl Shape {
         ensures { result ≡ marks.size_of self }
     {
         match self {
-            Shape::Short => 64,
-            Shape::Long => 128,
+            Shape::Short => RECORD_SIZE,
+            Shape::Long => 2 * RECORD_SIZE,
         }
     }
 

@@ -5,6 +5,9 @@ ghost use Rattle.rrd_tail.specs.Records as records;
 use crate::checksum::{SEED, mix_bytes};
 use crate::mark::{DATABASE_MARK, PAGE, number_at};
 
+/// The size of a record in bytes.
+pub const RECORD_SIZE: usize = 64;
+
 // The first eight bytes of a record.
 const RECORD_WORD: [u8; 8] = [b'R', b'R', b'D', b'T', b'a', b'i', b'l', 0];
 
@@ -34,12 +37,12 @@ impl Record {
 
     /// Returns the encoded record, with its checksum.
     #[tactic(auto, unfolding(crate::specs::Records::record_bytes))]
-    pub fn bytes(&self) -> [u8; 64]
+    pub fn bytes(&self) -> [u8; RECORD_SIZE]
         ensures { result ≡ records.record_bytes self.now }
     {
         let front = self.front();
         let sum = mix_bytes(SEED, &front);
-        let mut bytes = [0; 64];
+        let mut bytes = [0; RECORD_SIZE];
         bytes[..56].copy_from_slice(&front);
         bytes[56..].copy_from_slice(&sum.to_be_bytes());
         bytes
@@ -76,7 +79,7 @@ impl Record {
     pub fn read(at: usize, bytes: &[u8]) -> Option<Record>
         ensures { result ≡ records.read_record at bytes.now }
     {
-        if bytes.len() != 64 {
+        if bytes.len() != RECORD_SIZE {
             return None;
         }
         let record = Record::spelled(bytes);

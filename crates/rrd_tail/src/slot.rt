@@ -6,6 +6,9 @@ ghost use Rattle.rrd_tail.specs.Reads.{IsSlotRead};
 use crate::checksum::{SEED, mix, mix_bytes};
 use crate::mark::{PAGE, number_at};
 
+/// The size of a slot's header in bytes.
+pub const SLOT_HEADER_SIZE: usize = 32;
+
 /// The header of a slot.
 #[derive(Clone, Copy, PartialEq, Eq, Debug, Drop)]
 pub struct SlotHeader {
@@ -29,10 +32,10 @@ fn slot_sum(tail: usize, offset: usize, bytes: &[u8]) -> u64
 ///
 /// The old file had `bytes` from byte `offset` on. The tail begins at byte `tail`.
 #[tactic(auto, unfolding(crate::specs::Slots::slot_header))]
-pub fn slot_header(tail: usize, offset: usize, bytes: &[u8]) -> [u8; 32]
+pub fn slot_header(tail: usize, offset: usize, bytes: &[u8]) -> [u8; SLOT_HEADER_SIZE]
     ensures { result ≡ slots.slot_header tail (record { offset = offset; bytes = bytes.now }) }
 {
-    let mut header = [0; 32];
+    let mut header = [0; SLOT_HEADER_SIZE];
     header[..8].copy_from_slice(&offset.to_be_bytes());
     header[8..16].copy_from_slice(&bytes.len().to_be_bytes());
     header[16..24].copy_from_slice(&tail.to_be_bytes());
@@ -57,16 +60,18 @@ fn is_right(tail: usize, offset: usize, bytes: &[u8]) -> bool
 pub fn read_slot(tail: usize, bytes: &[u8]) -> Option<SlotHeader>
     ensures { IsSlotRead tail bytes.now result }
 {
-    if bytes.len() < 32 {
+    if bytes.len() < SLOT_HEADER_SIZE {
         return None;
     }
     let offset = number_at(bytes, 0);
     let count = number_at(bytes, 8);
-    if bytes.len() - 32 < count {
+    if bytes.len() - SLOT_HEADER_SIZE < count {
         return None;
     }
-    let old = &bytes[32..32 + count];
-    if is_right(tail, offset, old) && bytes[..32] == slot_header(tail, offset, old)[..] {
+    let old = &bytes[SLOT_HEADER_SIZE..SLOT_HEADER_SIZE + count];
+    if is_right(tail, offset, old)
+        && bytes[..SLOT_HEADER_SIZE] == slot_header(tail, offset, old)[..]
+    {
         Some(SlotHeader { offset, count })
     } else {
         None

@@ -9,14 +9,12 @@ ghost use Rattle.rrd_undo.specs.Undoing.{IsToCut};
 
 use crate::Bytes;
 use crate::page::MIN_DATABASE_SIZE;
-use crate::tail::{
-    SLOT, SLOT_HEADER, Syncs, finish, offset_of_slot, put_and_sync, put_front, set_len_and_sync,
+use crate::tail::{SLOT, Syncs, finish, offset_of_slot, put_and_sync, put_front, set_len_and_sync};
+use rrd_tail::{
+    DATABASE_MARK, Mark, PAGE, RECORD_SIZE, Record, SLOT_HEADER_SIZE, Shape, SlotHeader, read_mark,
+    read_slot,
 };
-use rrd_tail::{DATABASE_MARK, Mark, PAGE, Record, Shape, SlotHeader, read_mark, read_slot};
 use std::io::{self, Error, ErrorKind};
-
-// The number of bytes of a record that are read.
-const RECORD: usize = 64;
 
 /// The effect of [`settle`] on a file.
 #[derive(Clone, Copy, PartialEq, Eq, Debug, Drop)]
@@ -46,7 +44,7 @@ fn read_record<F: Bytes>(
     ensures same { F.held file.new ≡ F.held file.old }
     ensures ok { IfOk result (λ r. IsTrue F.is_known → file_length ≡ length (F.held file.new) → r ≡ record_at (F.held file.new) at) }
 {
-    let count = file_length.saturating_sub(at).min(RECORD);
+    let count = file_length.saturating_sub(at).min(RECORD_SIZE);
     file.read(at, count, buffer)?;
     Ok(Record::read(at, buffer))
 }
@@ -149,8 +147,8 @@ fn put_slots<F: Bytes>(
         let Some(slot) = read_slot_at(file, file_length, tail, number, buffer)? else {
             return file.sync();
         };
-        let end = SLOT_HEADER + slot.count;
-        file.put(slot.offset, &buffer[SLOT_HEADER..end])?;
+        let end = SLOT_HEADER_SIZE + slot.count;
+        file.put(slot.offset, &buffer[SLOT_HEADER_SIZE..end])?;
     }
     Err(Error::from(ErrorKind::FileTooLarge))
 }

@@ -11,17 +11,16 @@ ghost use Rattle.rrd_undo.specs.Databases.{IsDatabase};
 
 use crate::Bytes;
 use crate::page::page_from;
-use rrd_tail::{DATABASE_MARK, Record, Shape, slot_header, undo_mark};
+use rrd_tail::{
+    DATABASE_MARK, PAGE, RECORD_SIZE, Record, SLOT_HEADER_SIZE, Shape, slot_header, undo_mark,
+};
 use std::io::{self, Error, ErrorKind};
 
 /// The distance between the starts of two slots, in bytes.
-pub(crate) const SLOT: usize = 4_128;
+pub(crate) const SLOT: usize = SLOT_HEADER_SIZE + PAGE;
 
 // The size of a long record, in bytes.
-const LONG_RECORD: usize = 128;
-
-/// The size of a slot's header, in bytes.
-pub(crate) const SLOT_HEADER: usize = 32;
+const LONG_RECORD: usize = 2 * RECORD_SIZE;
 
 /// When a change calls [`Bytes::sync`].
 #[derive(Clone, Copy, PartialEq, Eq, Debug, Drop)]
@@ -85,8 +84,8 @@ fn put_shaped<F: Bytes>(file: &mut F, shape: Shape, entry: &Record, syncs: Syncs
     match shape {
         Shape::Short => put_and_sync(file, entry.offset, &entry.bytes(), syncs),
         Shape::Long => {
-            let mut bytes = [0; 128];
-            bytes[..64].copy_from_slice(&entry.bytes());
+            let mut bytes = [0; LONG_RECORD];
+            bytes[..RECORD_SIZE].copy_from_slice(&entry.bytes());
             put_and_sync(file, entry.offset, &bytes, syncs)
         }
     }
@@ -293,7 +292,7 @@ impl Tail {
         ensures behind { IfOk result (λ offset. slot_offset self.now.offset self.now.slots + 32 ≤ offset) }
         ensures fits { IfOk result (λ offset. offset < 2 ^ 64) }
     {
-        match offset_of_slot(self.offset, self.slots)?.checked_add(SLOT_HEADER) {
+        match offset_of_slot(self.offset, self.slots)?.checked_add(SLOT_HEADER_SIZE) {
             Some(zeros) => page_from(zeros),
             None => Err(Error::from(ErrorKind::FileTooLarge)),
         }

@@ -12,8 +12,8 @@ use Rattle.rrd_tail.proofs.slot.read_slot.Goals.{else-is_right-via-then-is_right
 abbrev read_values : ℕ → ℕ → List ℕ → Slot
 read_values offset count bytes = record { offset = offset; bytes = slice_range bytes 32 (32 + count) }
 
-pub returns-then-bytes-lt32 : goal.returns-then-bytes-lt32
-returns-then-bytes-lt32 c = read_short c.args.tail c.args.bytes.now c.if-bytes-lt32.true
+pub returns-then-bytes-lt-SLOT_HEADER_SIZE : goal.returns-then-bytes-lt-SLOT_HEADER_SIZE
+returns-then-bytes-lt-SLOT_HEADER_SIZE c = read_short c.args.tail c.args.bytes.now c.if-bytes-lt-SLOT_HEADER_SIZE.true
 
 pub returns-then-bytes-count : goal.returns-then-bytes-count
 returns-then-bytes-count c =
@@ -38,7 +38,7 @@ returns-then-eq c =
     (bytes_eq-Decides (take 32 bytes) c.slot_header.result).0 (sym c.eq.ensures ∙ c.if-eq.true) ∙ c.slot_header.ensures ∙ ap (λ v. slot_header tail v) same in
     let right = right_from tail s (ap (λ v. is_right_slot tail v) (sym same) ∙ sym c.is_right.ensures ∙ c.if-is_right.true) in
     let begins = begins_slot tail s bytes (32 + from_be_bytes w64 (slice_range bytes 8 16)) header refl in
-    (read_found tail bytes begins right ∙ ap Some (sym same), omega (arith, c.if-bytes-count.false, c.if-bytes-lt32.false))
+    (read_found tail bytes begins right ∙ ap Some (sym same), omega (arith, c.if-bytes-count.false, c.if-bytes-lt-SLOT_HEADER_SIZE.false))
 
 pub returns-else-is_right : goal.returns-else-is_right
 returns-else-is_right c =

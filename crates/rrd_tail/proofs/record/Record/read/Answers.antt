@@ -5,8 +5,8 @@ use Rattle.rrd_tail.proofs.Recorded.{read_some, read_other, read_wrong, read_siz
 use Rattle.rrd_tail.proofs.record.Record.read.Goals as goal
 use Rattle.rrd_tail.proofs.record.Record.read.Goals.{else-eq-via-then-eq+else-is_right_at, else-eq-via-else-eq}
 
-pub returns-then-bytes-ne64 : goal.returns-then-bytes-ne64
-returns-then-bytes-ne64 c = sym (read_size c.args.at c.args.bytes.now c.if-bytes-ne64.true)
+pub returns-then-bytes-ne-RECORD_SIZE : goal.returns-then-bytes-ne-RECORD_SIZE
+returns-then-bytes-ne-RECORD_SIZE c = sym (read_size c.args.at c.args.bytes.now c.if-bytes-ne-RECORD_SIZE.true)
 
 pub returns-then-is_right_at : goal.returns-then-is_right_at
 returns-then-is_right_at c =
