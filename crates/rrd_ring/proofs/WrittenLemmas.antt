@@ -8,7 +8,7 @@ use Rattle.rrd_fixed.specs.declared.cell.Cell.{Cell}
 use Rattle.rrd_fixed.specs.declared.cell.Cell.TheVariants.{Unknown}
 use Rattle.rrd_ring.specs.Rows.{width, newest_rows, unknown_rows}
 use Rattle.rrd_ring.specs.Ring.{from_index, ring_rows, rows_of, with_unwritten, AreRows, AreWhole, ArePartlyWritten, IsRing, IsPartlyWritten}
-use Rattle.rrd_ring.proofs.RingLemmas.{cells_le, with_cells, length-with_cells, ring_fits, ring_take, ring_unknown, rows_of_unknown}
+use Rattle.rrd_ring.proofs.RingLemmas.{cells_le, with_cells, length-with_cells, ring_fits, ring_len, ring_push, ring_take, ring_unknown, ring_width, rows_len, rows_of_unknown}
 
 -- ---- the cells
 
@@ -162,6 +162,16 @@ forgotten all start n end xs new fits is some items =
 
 -- ---- the invariant
 
+-- how many rows there are, and how many cells each has
+pub row_count : {rows w index : ℕ} {v : Vec Cell Global} {all : List (List Cell)} → IsPartlyWritten rows w index v → ring_rows rows w index (with_unwritten (rows * w) v.items) ≡ all → length all ≡ rows
+row_count {rows} {w} {index} {v} {all} is view = ring_len rows w index (with_unwritten (rows * w) v.items) all view
+
+pub row_width : {rows w index : ℕ} {v : Vec Cell Global} {all : List (List Cell)} → IsPartlyWritten rows w index v → ring_rows rows w index (with_unwritten (rows * w) v.items) ≡ all → width all ≡ w
+row_width {rows} {w} {index} {v} {all} is view = ring_width rows w index (with_unwritten (rows * w) v.items) all is.ring view
+
+pub dropped_count : {rows w : ℕ} {v : Vec Cell Global} {all : List (List Cell)} → ArePartlyWritten rows w v → rows_of rows w (with_unwritten (rows * w) v.items) ≡ all → length all ≡ rows
+dropped_count {rows} {w} {v} {all} are view = rows_len rows w (with_unwritten (rows * w) v.items) all view
+
 pub ring_le : (rows w index : ℕ) (v : Vec Cell Global) → IsPartlyWritten rows w index v → length v.items ≤ rows * w
 ring_le rows w index v is = written_le (rows * w) v.items is.ring.whole
 
@@ -204,20 +214,30 @@ run_one w index n written xs some is behind past = ⊎_elim
     (λ (after : written ≤ index). let one : 1 * w ≡ w = omega arith in ap (λ (k : ℕ). k * w) (behind after) ∙ one)
     (cases_lt index written)
 
--- filled up as far as some row, it is the same ring
-pub filled_ring : (rows w index k : ℕ) (v new : Vec Cell Global) → IsPartlyWritten rows w index v → k ≤ rows → new.items ≡ with_unwritten (k * w) v.items → vec_capacity v ≤ vec_capacity new
-    → IsPartlyWritten rows w index new
-filled_ring rows w index k v new is h items room =
+-- filled up as far as row k, it is the same ring
+pub record IsFilled (rows w index k : ℕ) (all : List (List Cell)) (new : Vec Cell Global) : Type 0 where
+  pub is : IsPartlyWritten rows w index new
+  pub view : ring_rows rows w index (with_unwritten (rows * w) new.items) ≡ all
+  pub long : k * w ≤ length new.items
+
+pub ring_filled : {rows w index k end : ℕ} {v new : Vec Cell Global} {all : List (List Cell)} → IsPartlyWritten rows w index v → ring_rows rows w index (with_unwritten (rows * w) v.items) ≡ all → k ≤ rows → end ≡ k * w → new.items ≡ with_unwritten end v.items → vec_capacity v ≤ vec_capacity new
+    → IsFilled rows w index k all new
+ring_filled {rows} {w} {index} {k} {end} {v} {new} is view h end_is put room =
+    let items : new.items ≡ with_unwritten (k * w) v.items = put ∙ ap (λ (n : ℕ). with_unwritten n v.items) end_is in
     let same : with_unwritten (rows * w) new.items ≡ with_unwritten (rows * w) v.items = ap (with_unwritten (rows * w)) items ∙ filled_further (rows * w) (k * w) v.items (cells_le k rows w h) in
     let had : rows * w ≤ vec_capacity v = is.room in
     record {
-      ring = subst (IsRing rows w index) (sym same) is.ring;
-      room = omega (arith, had, room);
-      ends = subst (AreWhole w) (sym items) (whole_filled w k v.items is.ends);
+      is = record {
+        ring = subst (IsRing rows w index) (sym same) is.ring;
+        room = omega (arith, had, room);
+        ends = subst (AreWhole w) (sym items) (whole_filled w k v.items is.ends);
+      };
+      view = ap (ring_rows rows w index) same ∙ view;
+      long = omega (arith, ap length items, filled_long (k * w) v.items);
     }
 
 -- the ring with a row in the place of its oldest one
-pub pushed_cells : (rows w index : ℕ) (v : Vec Cell Global) (row : List Cell) → IsPartlyWritten rows w index v → index * w ≤ length v.items → length row ≡ w
+pushed_cells : (rows w index : ℕ) (v : Vec Cell Global) (row : List Cell) → IsPartlyWritten rows w index v → index * w ≤ length v.items → length row ≡ w
     → with_unwritten (rows * w) (take (index * w) v.items ++ (row ++ drop (length row) (drop (index * w) v.items))) ≡ with_cells w index (with_unwritten (rows * w) v.items) row
 pushed_cells rows w index v row is le e =
     let within : index < rows = is.ring.index_within in
@@ -244,25 +264,34 @@ pushed_ends w index ys row is le e =
     (λ (behind : index * w ≡ length ys). let it : AreWhole w new = record { count = index + 1; whole = length-put_behind (index * w) w ys row e behind ∙ sym next } in it)
     (next_row w index ys is le)
 
-pub pushed : (rows w index : ℕ) (v new : Vec Cell Global) (row : List Cell) → IsPartlyWritten rows w index v → index * w ≤ length v.items → length row ≡ w
-    → new.items ≡ take (index * w) v.items ++ (row ++ drop (length row) (drop (index * w) v.items)) → vec_capacity new ≡ vec_capacity v
-    → IsPartlyWritten rows w ((index + 1) % rows) new
-pushed rows w index v new row is le e items room =
+pub record IsPushed (rows w index : ℕ) (all : List (List Cell)) (new : Vec Cell Global) (row : List Cell) : Type 0 where
+  pub is : IsPartlyWritten rows w ((index + 1) % rows) new
+  pub rows_are : ring_rows rows w ((index + 1) % rows) (with_unwritten (rows * w) new.items) ≡ drop 1 (all ++ row ∷ [])
+
+pub row_pushed : {rows w index start : ℕ} {v new : Vec Cell Global} {all : List (List Cell)} {row : List Cell} → IsFilled rows w index index all v → start ≡ index * w → length row ≡ width all
+    → new.items ≡ take start v.items ++ (row ++ drop (length row) (drop start v.items)) → vec_capacity new ≡ vec_capacity v → IsPushed rows w index all new row
+row_pushed {rows} {w} {index} {start} {v} {new} {all} {row} filled start_is one_each put room =
+    let is = filled.is in
     let xs = with_unwritten (rows * w) v.items in
+    let e : length row ≡ w = one_each ∙ row_width is filled.view in
+    let items : new.items ≡ take (index * w) v.items ++ (row ++ drop (length row) (drop (index * w) v.items)) = put ∙ ap (λ (k : ℕ). take k v.items ++ (row ++ drop (length row) (drop k v.items))) start_is in
+    let cells : with_unwritten (rows * w) new.items ≡ with_cells w index xs row = ap (with_unwritten (rows * w)) items ∙ pushed_cells rows w index v row is filled.long e in
     record {
-      ring = record {
-        some_rows = is.ring.some_rows;
-        few_rows = is.ring.few_rows;
-        some_sources = is.ring.some_sources;
-        few_sources = is.ring.few_sources;
-        whole = ap (λ (ys : List Cell). length (with_unwritten (rows * w) ys)) items
-            ∙ ap length (pushed_cells rows w index v row is le e)
-            ∙ length-with_cells w index xs row (ring_fits rows w index index xs is.ring is.ring.index_within) e
-            ∙ is.ring.whole;
-        index_within = mod_below (index + 1) rows is.ring.some_rows;
+      is = record {
+        ring = record {
+          some_rows = is.ring.some_rows;
+          few_rows = is.ring.few_rows;
+          some_sources = is.ring.some_sources;
+          few_sources = is.ring.few_sources;
+          whole = ap length cells ∙ length-with_cells w index xs row (ring_fits rows w index index xs is.ring is.ring.index_within) e ∙ is.ring.whole;
+          index_within = mod_below (index + 1) rows is.ring.some_rows;
+        };
+        room = subst (λ (n : ℕ). rows * w ≤ n) (sym room) is.room;
+        ends = subst (AreWhole w) (sym items) (pushed_ends w index v.items row is.ends filled.long e);
       };
-      room = subst (λ (n : ℕ). rows * w ≤ n) (sym room) is.room;
-      ends = subst (AreWhole w) (sym items) (pushed_ends w index v.items row is.ends le e);
+      rows_are = ap (ring_rows rows w ((index + 1) % rows)) cells
+          ∙ ring_push rows w index xs row is.ring e
+          ∙ ap (λ (rs : List (List Cell)). drop 1 (rs ++ row ∷ [])) filled.view;
     }
 
 -- all of it is written
@@ -399,14 +428,25 @@ part_copied all s n xs fits h =
 
 -- ---- rows that fell out
 
-pub filled_rows : (rows w k : ℕ) (v new : Vec Cell Global) → ArePartlyWritten rows w v → k ≤ rows → new.items ≡ with_unwritten (k * w) v.items → vec_capacity v ≤ vec_capacity new → ArePartlyWritten rows w new
-filled_rows rows w k v new are h items room =
+pub record AreFilled (rows w k : ℕ) (all : List (List Cell)) (new : Vec Cell Global) : Type 0 where
+  pub are : ArePartlyWritten rows w new
+  pub view : rows_of rows w (with_unwritten (rows * w) new.items) ≡ all
+  pub long : k * w ≤ length new.items
+
+pub rows_filled : {rows w k end : ℕ} {v new : Vec Cell Global} {all : List (List Cell)} → ArePartlyWritten rows w v → rows_of rows w (with_unwritten (rows * w) v.items) ≡ all → k ≤ rows → end ≡ k * w → new.items ≡ with_unwritten end v.items → vec_capacity v ≤ vec_capacity new
+    → AreFilled rows w k all new
+rows_filled {rows} {w} {k} {end} {v} {new} are view h end_is put room =
+    let items : new.items ≡ with_unwritten (k * w) v.items = put ∙ ap (λ (n : ℕ). with_unwritten n v.items) end_is in
     let same : with_unwritten (rows * w) new.items ≡ with_unwritten (rows * w) v.items = ap (with_unwritten (rows * w)) items ∙ filled_further (rows * w) (k * w) v.items (cells_le k rows w h) in
     let had : rows * w ≤ vec_capacity v = are.room in
     record {
-      rows_are = subst (AreRows rows w) (sym same) are.rows_are;
-      room = omega (arith, had, room);
-      ends = subst (AreWhole w) (sym items) (whole_filled w k v.items are.ends);
+      are = record {
+        rows_are = subst (AreRows rows w) (sym same) are.rows_are;
+        room = omega (arith, had, room);
+        ends = subst (AreWhole w) (sym items) (whole_filled w k v.items are.ends);
+      };
+      view = ap (rows_of rows w) same ∙ view;
+      long = omega (arith, ap length items, filled_long (k * w) v.items);
     }
 
 -- all of them are written

@@ -7,8 +7,8 @@ ghost use Rattle.rrd_ring.specs.Rows.{nth_row, row_cells, width, HasWidth, with_
 
 use crate::dropped::Dropped;
 use crate::ring::{
-    cells_of, contiguous_count, fill_up, forget, push_from, row_from, row_mut, rows_written,
-    unknown_cells, wrap, write_cells, write_from, write_row_at,
+    cells_of, contiguous_count, fill_up, forget, index_of, parts_of, push_from, row_from, row_mut,
+    rows_written, unknown_cells, wrap, write_cells, write_from, write_row_at,
 };
 use rrd_fixed::{Cell, Meter};
 use std::alloc::{AllocError, Global};
@@ -130,7 +130,7 @@ impl Archive {
         requires { i < length self.now }
         ensures { result.now ≡ nth_row self.now i }
     {
-        let index = wrap(self.oldest + i as usize, self.rows);
+        let index = index_of(i, self.oldest, self.rows);
         let start = cells_of(index, self.sources);
         row_from(&self.cells, start, self.sources)
     }
@@ -146,7 +146,7 @@ impl Archive {
         ensures few { result.0 ≤ most }
         ensures cells { result.1.now ≡ row_cells (take result.0 (drop first self.now)) }
     {
-        let index = wrap(self.oldest + first as usize, self.rows);
+        let index = index_of(first, self.oldest, self.rows);
         let count = contiguous_count(self.cells.len() / self.sources, index, most as usize);
         let start = cells_of(index, self.sources);
         let cells = row_from(&self.cells, start, cells_of(count, self.sources));
@@ -163,7 +163,7 @@ impl Archive {
         ensures same_width { (cells : List Cell) → length cells ≡ length (nth_row self.old i)
             → with_row self.old i cells ≡ slice_set self.old i cells }
     {
-        let index = wrap(self.oldest + i as usize, self.rows);
+        let index = index_of(i, self.oldest, self.rows);
         let start = cells_of(index, self.sources);
         fill_up(&mut self.cells, start + self.sources);
         row_mut(&mut self.cells, start, start + self.sources)
@@ -179,10 +179,9 @@ impl Archive {
         requires one_each { length cells.now ≡ count * width self.old }
         ensures { self.new ≡ with_rows count (width self.old) self.old i cells.now }
     {
-        let index = wrap(self.oldest + i as usize, self.rows);
-        let first = (self.rows - index).min(count as usize);
-        let (front, rest) = cells.split_at(cells_of(first, self.sources));
-        write_cells(&mut self.cells, cells_of(index, self.sources), front);
+        let parts = parts_of(i, count, self.oldest, self.rows, self.sources);
+        let (front, rest) = cells.split_at(parts.front);
+        write_cells(&mut self.cells, parts.start, front);
         write_cells(&mut self.cells, 0, rest);
     }
 
@@ -196,15 +195,9 @@ impl Archive {
         ensures { let cells = replicate (count * width self.old) Unknown in
             self.new ≡ with_rows count (width self.old) self.old i cells }
     {
-        let index = wrap(self.oldest + i as usize, self.rows);
-        let first = (self.rows - index).min(count as usize);
-        let rest = count as usize - first;
-        forget(
-            &mut self.cells,
-            cells_of(index, self.sources),
-            cells_of(first, self.sources),
-        );
-        forget(&mut self.cells, 0, cells_of(rest, self.sources));
+        let parts = parts_of(i, count, self.oldest, self.rows, self.sources);
+        forget(&mut self.cells, parts.start, parts.front);
+        forget(&mut self.cells, 0, parts.rest);
     }
 
     /// Drops the oldest row, and adds `cells` as the newest, one for each data source.

@@ -3,7 +3,7 @@ ghost use Rattle.std.specs.Prelude.{ℕ, ◌≡◌, ◌+◌, ◌*◌, ◌%◌, �
 ghost use Rattle.std.specs.Borrow.{sem};
 ghost use Rattle.rrd_fixed.specs.declared.cell.Cell.TheVariants.{Unknown};
 ghost use Rattle.rrd_ring.specs.Ring.Slices.{LendsPart, LendsAsMany};
-ghost use Rattle.rrd_ring.specs.Ring.{from_index, with_unwritten};
+ghost use Rattle.rrd_ring.specs.Ring.{from_index, with_unwritten, AreParts};
 ghost use Rattle.rrd_ring.specs.Rows.{max_rows, max_sources};
 
 use rrd_fixed::{Cell, Meter};
@@ -22,6 +22,17 @@ pub(crate) fn wrap(index: usize, rows: usize) -> usize
     if index < rows { index } else { index - rows }
 }
 
+// Returns the index in a ring's vector of the ring's row `i`, if row 0 has the index `oldest`.
+pub(crate) fn index_of(i: u64, oldest: usize, rows: usize) -> usize
+    requires there { i < rows }
+    requires within { oldest < rows }
+    requires few_rows { rows ≤ max_rows }
+    ensures index { result ≡ (oldest + i) % rows }
+    ensures within { result < rows }
+{
+    wrap(oldest + i as usize, rows)
+}
+
 // Returns the number of cells in `rows` rows of `sources` cells each.
 pub(crate) fn cells_of(rows: usize, sources: usize) -> usize
     requires few_rows { rows ≤ max_rows }
@@ -30,6 +41,37 @@ pub(crate) fn cells_of(rows: usize, sources: usize) -> usize
     ensures few { result ≤ max_rows * max_sources }
 {
     rows * sources
+}
+
+// Where some rows of a ring are in its vector, in cells: `front` cells from cell `start` on, at most to the last cell, and
+// the other `rest` cells from the first cell on.
+#[derive(Clone, Copy)]
+pub(crate) struct Parts {
+    pub(crate) start: usize,
+    pub(crate) front: usize,
+    pub(crate) rest: usize,
+}
+
+// Returns where `count` rows of a ring are in its vector, from the ring's row `i` on, if row 0 has the index `oldest`.
+pub(crate) fn parts_of(i: u64, count: u64, oldest: usize, rows: usize, sources: usize) -> Parts
+    requires there { i < rows }
+    requires few { count ≤ rows }
+    requires within { oldest < rows }
+    requires few_rows { rows ≤ max_rows }
+    requires few_sources { sources ≤ max_sources }
+    ensures parts { AreParts rows sources oldest i count result.start result.front result.rest }
+    ensures before_end { result.start + result.front ≤ rows * sources }
+    ensures before_start { result.rest ≤ result.start }
+    ensures all { result.front + result.rest ≡ count * sources }
+{
+    let index = index_of(i, oldest, rows);
+    let count = count as usize;
+    let first = count.min(rows - index);
+    Parts {
+        start: cells_of(index, sources),
+        front: cells_of(first, sources),
+        rest: cells_of(count - first, sources),
+    }
 }
 
 // Creates a vector of `count` unknown cells, with capacity for at least `room` cells.

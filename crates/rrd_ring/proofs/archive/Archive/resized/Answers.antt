@@ -5,8 +5,8 @@ use Rattle.rrd_fixed.specs.declared.cell.Cell.TheVariants.{Unknown}
 use Rattle.rrd_ring.specs.Rows.{unknown_rows}
 use Rattle.rrd_ring.specs.Ring.{from_index, ring_rows, with_unwritten}
 use Rattle.std.proofs.lemmas.Nat.{mod_below}
-use Rattle.rrd_ring.proofs.RingLemmas.{cells_le, length-resized, ring_len, ring_resized, ring_width}
-use Rattle.rrd_ring.proofs.WrittenLemmas.{AreWritten, all_written, are_few, newest_of_known, unwritten_rows, wholly}
+use Rattle.rrd_ring.proofs.RingLemmas.{cells_le, length-resized, ring_resized}
+use Rattle.rrd_ring.proofs.WrittenLemmas.{AreWritten, all_written, are_few, newest_of_known, row_count, row_width, unwritten_rows, wholly}
 use Rattle.rrd_ring.proofs.archive.Archive.resized.Goals as goal
 
 pub push_from-requires-clause-within : goal.push_from-requires-clause-within
@@ -60,8 +60,8 @@ returns c =
     let are = subst (λ len. AreWritten a.rows a.sources a.oldest len known) c.len.ensures (c.rows_written-written.ensures.none, c.rows_written-written.ensures.part, c.rows_written-written.ensures.all) in
     let few = are_few a.rows a.sources a.oldest known a.cells c.self.invariant are in
     let rows = c.args.self.now in
-    let long = ring_len a.rows a.sources a.oldest xs rows c.self.view_is in
-    let wide = ring_width a.rows a.sources a.oldest xs rows c.self.invariant.ring c.self.view_is in
+    let long = row_count c.self.invariant c.self.view_is in
+    let wide = row_width c.self.invariant c.self.view_is in
     let fewer : kept ≤ wanted = omega (arith, least) in
     let within : kept ≤ a.rows = omega (arith, least, few) in
     let all_rows : wanted ≡ wanted - kept + kept = omega arith in

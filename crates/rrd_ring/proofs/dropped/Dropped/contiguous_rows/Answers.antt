@@ -2,14 +2,12 @@ use Rattle.std.proofs.Common.{◌+◌, ◌*◌, ◌/◌, ◌≤◌, ◌∙◌, s
 use Rattle.std.proofs.Math.Nat.{add-mul}
 use Rattle.rrd_ring.specs.Rows.{row_cells}
 use Rattle.rrd_ring.specs.Ring.{with_unwritten}
-use Rattle.rrd_ring.proofs.RingLemmas.{cells_le, rows_len, rows_run}
-use Rattle.rrd_ring.proofs.WrittenLemmas.{rows_in, run_one, run_whole}
+use Rattle.rrd_ring.proofs.RingLemmas.{cells_le, rows_run}
+use Rattle.rrd_ring.proofs.WrittenLemmas.{dropped_count, rows_in, run_one, run_whole}
 use Rattle.rrd_ring.proofs.dropped.Dropped.contiguous_rows.Goals as goal
 
 pub cells_of-start-requires-clause-few_rows : goal.cells_of-start-requires-clause-few_rows
-cells_of-start-requires-clause-few_rows c =
-    let a = c.self.inside in
-    omega (arith, c.requires.some, c.requires.there, c.self.invariant.rows_are.few_rows, rows_len a.rows a.sources (with_unwritten (a.rows * a.sources) a.cells.items) c.args.self.now c.self.view_is)
+cells_of-start-requires-clause-few_rows c = omega (arith, c.requires.some, c.requires.there, c.self.invariant.rows_are.few_rows, dropped_count c.self.invariant c.self.view_is)
 
 pub row_from-cells-requires-clause-few : goal.row_from-cells-requires-clause-few
 row_from-cells-requires-clause-few c = λ past.
@@ -36,7 +34,7 @@ returns-clause-cells c =
     let n = c.contiguous_count-count.result in
     let start = c.cells_of-start.ensures.count in
     let count = c.cells_of.ensures.count in
-    let rows = rows_len a.rows a.sources xs c.args.self.now c.self.view_is in
+    let rows = dropped_count c.self.invariant c.self.view_is in
     let whole = c.self.invariant.rows_are.whole in
     let fits : i + n ≤ a.rows = omega (arith, rows, c.requires.there, c.contiguous_count-count.ensures.few) in
     c.row_from-cells.ensures all (omega (arith, start, count, add-mul i n a.sources, cells_le (i + n) a.rows a.sources fits))

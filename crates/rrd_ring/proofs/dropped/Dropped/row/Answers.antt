@@ -2,14 +2,12 @@ use Rattle.std.proofs.Common.{◌*◌, ◌<◌, ◌∙◌, sym, ap, length, take
 use Rattle.std.proofs.lemmas.Nat.{row_fits}
 use Rattle.rrd_ring.specs.Rows.{nth_row}
 use Rattle.rrd_ring.specs.Ring.{with_unwritten}
-use Rattle.rrd_ring.proofs.RingLemmas.{rows_len, nth_row-rows_of}
-use Rattle.rrd_ring.proofs.WrittenLemmas.{whole_row}
+use Rattle.rrd_ring.proofs.RingLemmas.{nth_row-rows_of}
+use Rattle.rrd_ring.proofs.WrittenLemmas.{dropped_count, whole_row}
 use Rattle.rrd_ring.proofs.dropped.Dropped.row.Goals as goal
 
 pub cells_of-start-requires-clause-few_rows : goal.cells_of-start-requires-clause-few_rows
-cells_of-start-requires-clause-few_rows c =
-    let a = c.self.inside in
-    omega (arith, c.requires, c.self.invariant.rows_are.few_rows, rows_len a.rows a.sources (with_unwritten (a.rows * a.sources) a.cells.items) c.args.self.now c.self.view_is)
+cells_of-start-requires-clause-few_rows c = omega (arith, c.requires, c.self.invariant.rows_are.few_rows, dropped_count c.self.invariant c.self.view_is)
 
 pub row_from-requires-clause-whole : goal.row_from-requires-clause-whole
 row_from-requires-clause-whole c =
@@ -23,7 +21,7 @@ returns c =
     let a = c.self.inside in
     let all = a.rows * a.sources in
     let xs = with_unwritten all a.cells.items in
-    let within : c.args.i < a.rows = omega (arith, c.requires, rows_len a.rows a.sources xs c.args.self.now c.self.view_is) in
+    let within : c.args.i < a.rows = omega (arith, c.requires, dropped_count c.self.invariant c.self.view_is) in
     let begins = c.cells_of-start.ensures.count in
     let fits = row_fits c.args.i a.sources a.rows a.sources within (omega arith) in
     c.row_from.ensures all (omega (arith, begins, fits))
