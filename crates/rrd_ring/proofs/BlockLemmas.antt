@@ -11,7 +11,7 @@ use Rattle.rrd_ring.specs.Rows.{nth_row, width, with_row, with_rows}
 use Rattle.rrd_ring.specs.Ring.{row_of, rows_of, ring_rows, with_unwritten, AreParts, ArePartlyWritten, AreWhole, IsRing, IsPartlyWritten}
 use Rattle.std.specs.List.{refill, length_refill}
 use Rattle.std.specs.Vec.{with_items_from}
-use Rattle.rrd_ring.proofs.RingLemmas.{cells_le, length-row_of, length-ring_rows, length-with_cells, nth_row-ring_rows, nth_row-rows_of, ring_fits, ring_written, rows_fit, rows_written, vec_written, with_cells}
+use Rattle.rrd_ring.proofs.RingLemmas.{cells_le, length-row_of, length-ring_rows, length-with_cells, nth_row-ring_rows, nth_row-rows_of, parts_all, ring_fits, ring_written, rows_fit, rows_written, vec_written, with_cells}
 use Rattle.rrd_ring.proofs.WrittenLemmas.{AreFilled, IsFilled, dropped_count, filled_further, filled_long, length-put, ring_le, row_count, row_width, row_written, whole_filled, written_over}
 
 -- the cells with those of so many rows in place of the ones from row k on
@@ -222,8 +222,7 @@ are_put {rows} {w} {index} {i} {count} {start} {v} {one} {two} {all} {cells} {fr
     let below : at < rows = mod_below (index + i) rows is.ring.some_rows in
     let fewer : count ≤ rows = omega (arith, few, row_count is view) in
     let whole : length cells ≡ count * w = long ∙ ap (λ (k : ℕ). count * k) (row_width is view) in
-    let sum : n + (count - n) ≡ count = omega arith in
-    let both : count * w ≡ n * w + (count - n) * w = ap (λ (k : ℕ). k * w) (sym sum) ∙ add-mul n (count - n) w in
+    let both : count * w ≡ n * w + (count - n) * w = omega (arith, parts.in_front, parts.others, parts_all parts) in
     let left : length behind ≡ (count - n) * w = omega (arith, length-drop (n * w) cells, whole, both) in
     let later_whole : later ≡ take ((count - n) * w) behind = later_is ∙ ap (λ (k : ℕ). drop k cells) parts.in_front ∙ sym (take_all ((count - n) * w) behind (omega (arith, left))) in
     let x = block_put rows w index at n v one cells front start is (omega (arith, below)) (omega (arith, whole, both)) (front_is ∙ ap (λ (k : ℕ). take k cells) parts.in_front) parts.starts a in
@@ -267,8 +266,7 @@ are_forgotten {rows} {w} {index} {i} {count} {start} {first} {rest} {v} {one} {t
     let later = drop (n * w) cells in
     let below : at < rows = mod_below (index + i) rows is.ring.some_rows in
     let fewer : count ≤ rows = omega (arith, few, row_count is view) in
-    let sum : n + (count - n) ≡ count = omega arith in
-    let both : count * w ≡ n * w + (count - n) * w = ap (λ (k : ℕ). k * w) (sym sum) ∙ add-mul n (count - n) w in
+    let both : count * w ≡ n * w + (count - n) * w = omega (arith, parts.in_front, parts.others, parts_all parts) in
     let long = length-replicate (count * w) Unknown in
     let left : later ≡ replicate (count * w - n * w) Unknown = drop-replicate (n * w) (count * w) Unknown in
     let has : (count - n) * w ≤ length later = omega (arith, both, long, length-drop (n * w) cells) in

@@ -3,7 +3,7 @@ ghost use Rattle.std.specs.Prelude.{ℕ, ◌≡◌, ◌+◌, ◌*◌, ◌%◌, �
 ghost use Rattle.std.specs.Borrow.{sem};
 ghost use Rattle.rrd_fixed.specs.declared.cell.Cell.TheVariants.{Unknown};
 ghost use Rattle.rrd_ring.specs.Ring.Slices.{LendsPart, LendsAsMany};
-ghost use Rattle.rrd_ring.specs.Ring.{from_index, with_unwritten, AreParts};
+ghost use Rattle.rrd_ring.specs.Ring.{cells_in, from_index, with_unwritten, AreParts, AreWritten};
 ghost use Rattle.rrd_ring.specs.Rows.{max_rows, max_sources};
 
 use rrd_fixed::{Cell, Meter};
@@ -17,20 +17,21 @@ static UNWRITTEN: [Cell; 64] = [Cell::Unknown; 64];
 pub(crate) fn wrap(index: usize, rows: usize) -> usize
     requires some { 0 < rows }
     requires once { index < 2 * rows }
-    ensures { result ≡ index % rows }
+    ensures index { result ≡ index % rows }
+    ensures within { result < rows }
 {
     if index < rows { index } else { index - rows }
 }
 
 // Returns the index in a ring's vector of the ring's row `i`, if row 0 has the index `oldest`.
-pub(crate) fn index_of(i: u64, oldest: usize, rows: usize) -> usize
-    requires there { i < rows }
+pub(crate) fn index_of(i: usize, oldest: usize, rows: usize) -> usize
+    requires there { i ≤ rows }
     requires within { oldest < rows }
     requires few_rows { rows ≤ max_rows }
     ensures index { result ≡ (oldest + i) % rows }
     ensures within { result < rows }
 {
-    wrap(oldest + i as usize, rows)
+    wrap(oldest + i, rows)
 }
 
 // Returns the number of cells in `rows` rows of `sources` cells each.
@@ -53,8 +54,8 @@ pub(crate) struct Parts {
 }
 
 // Returns where `count` rows of a ring are in its vector, from the ring's row `i` on, if row 0 has the index `oldest`.
-pub(crate) fn parts_of(i: u64, count: u64, oldest: usize, rows: usize, sources: usize) -> Parts
-    requires there { i < rows }
+pub(crate) fn parts_of(i: usize, count: usize, oldest: usize, rows: usize, sources: usize) -> Parts
+    requires there { i ≤ rows }
     requires few { count ≤ rows }
     requires within { oldest < rows }
     requires few_rows { rows ≤ max_rows }
@@ -63,9 +64,10 @@ pub(crate) fn parts_of(i: u64, count: u64, oldest: usize, rows: usize, sources: 
     ensures before_end { result.start + result.front ≤ rows * sources }
     ensures before_start { result.rest ≤ result.start }
     ensures all { result.front + result.rest ≡ count * sources }
+    ensures few_in_front { result.front ≤ max_rows * max_sources }
+    ensures few_others { result.rest ≤ max_rows * max_sources }
 {
     let index = index_of(i, oldest, rows);
-    let count = count as usize;
     let first = count.min(rows - index);
     Parts {
         start: cells_of(index, sources),
@@ -94,9 +96,8 @@ pub(crate) fn rows_written(cells: usize, rows: usize, sources: usize, oldest: us
     requires few_rows { rows ≤ max_rows }
     requires few_sources { sources ≤ max_sources }
     requires within { oldest < rows }
-    ensures none { cells ≡ 0 → result ≡ 0 }
-    ensures part { 0 < cells → cells ≤ oldest * sources → result ≡ oldest }
-    ensures all { oldest * sources < cells → result ≡ rows }
+    ensures written { AreWritten rows sources oldest cells result }
+    ensures few { result ≤ rows }
 {
     if cells == 0 {
         return 0;
@@ -145,7 +146,8 @@ fn push_part(
 ) -> Result<(), AllocError>
     requires few { count ≤ max_rows * max_sources }
     requires short { vec_len copies.old ≤ 2 * max_rows * max_sources }
-    ensures { (all : ℕ) → length ring.now ≤ all → start + count ≤ all → OnOk result (copies.new.items
+    ensures count { OnOk result (vec_len copies.new ≡ vec_len copies.old + count) }
+    ensures items { (all : ℕ) → length ring.now ≤ all → start + count ≤ all → OnOk result (copies.new.items
         ≡ copies.old.items ++ take count (drop start (with_unwritten all ring.now))) }
 {
     let first = start.min(ring.len());
@@ -155,26 +157,21 @@ fn push_part(
     Ok(())
 }
 
-// Appends copies of `count` cells of a ring of `all` cells from cell `start` on, wrapping from the last cell to the
-// first. The first cells of the ring's vector are written. The vector needs at most two slices.
-pub(crate) fn push_from(
+// Appends copies of some rows of a ring, whose vector begins with the cells of `ring`. Cells that are not written are
+// unknown. The vector needs at most two slices.
+pub(crate) fn push_parts(
     copies: &mut Vec<Cell>,
     ring: &[Cell],
-    all: usize,
-    start: usize,
-    count: usize,
+    parts: Parts,
 ) -> Result<(), AllocError>
-    requires within { start ≤ all }
-    requires written { length ring.now ≤ all }
-    requires few { count ≤ all }
-    requires small { all ≤ max_rows * max_sources }
+    requires few_in_front { parts.front ≤ max_rows * max_sources }
+    requires few_others { parts.rest ≤ max_rows * max_sources }
     requires short { vec_len copies.old ≤ max_rows * max_sources }
-    ensures { OnOk result (copies.new.items
-        ≡ copies.old.items ++ take count (from_index start (with_unwritten all ring.now))) }
+    ensures { (all : ℕ) → length ring.now ≤ all → parts.start + parts.front ≤ all → parts.rest ≤ all
+        → OnOk result (copies.new.items ≡ copies.old.items ++ cells_in parts.start parts.front parts.rest (with_unwritten all ring.now)) }
 {
-    let first = count.min(all - start);
-    push_part(copies, ring, start, first)?;
-    push_part(copies, ring, 0, count - first)?;
+    push_part(copies, ring, parts.start, parts.front)?;
+    push_part(copies, ring, 0, parts.rest)?;
     Ok(())
 }
 

@@ -38,9 +38,9 @@ pushed c full = row_pushed full c.cells_of-start.ensures.count c.requires.one_ea
 pub invariant_of-self : goal.invariant_of-self
 invariant_of-self c =
     let steps = goal.at.invariant_of-self c in
-    subst (λ index. IsPartlyWritten c.self.inside.rows c.self.inside.sources index c.write_row_at.new.cells) (sym c.wrap-self-inside.ensures) (pushed steps.After-write_row_at (filled steps.After-fill_up)).is
+    subst (λ index. IsPartlyWritten c.self.inside.rows c.self.inside.sources index c.write_row_at.new.cells) (sym c.wrap-self-inside.ensures.index) (pushed steps.After-write_row_at (filled steps.After-fill_up)).is
 
 pub returns-clause-rows : goal.returns-clause-rows
 returns-clause-rows c =
     let steps = goal.at.returns-clause-rows c in
-    rw c.wrap-self-inside.ensures (pushed steps.After-write_row_at (filled steps.After-fill_up)).rows_are
+    rw c.wrap-self-inside.ensures.index (pushed steps.After-write_row_at (filled steps.After-fill_up)).rows_are
