@@ -191,9 +191,9 @@ next_row w k xs is le = ⊎_elim
     (cases_lt (k * w) (length xs))
 
 -- so many rows are written
-pub rows_in : (w len : ℕ) (xs : List Cell) → 0 < w → AreWhole w xs → len ≡ length xs → len / w * w ≡ length xs
-rows_in w len xs some is e =
-    let count : len / w ≡ is.count = ap (λ (n : ℕ). n / w) (e ∙ is.whole) ∙ mul-div_cancel is.count some in
+pub rows_in : (w : ℕ) (xs : List Cell) → 0 < w → AreWhole w xs → length xs / w * w ≡ length xs
+rows_in w xs some is =
+    let count : length xs / w ≡ is.count = ap (λ (n : ℕ). n / w) is.whole ∙ mul-div_cancel is.count some in
     ap (λ (n : ℕ). n * w) count ∙ sym is.whole
 
 -- of rows that lie together, as far as they are written or one that isn't, there are no more than all

@@ -7,8 +7,8 @@ ghost use Rattle.rrd_ring.specs.Rows.{nth_row, row_cells, width, HasWidth, with_
 
 use crate::dropped::Dropped;
 use crate::ring::{
-    cells_of, contiguous_count, fill_up, forget, index_of, parts_of, push_parts, row_from, row_mut,
-    rows_written, unknown_cells, wrap, write_cells, write_from, write_row_at,
+    cells_of, fill_up, forget, index_of, parts_of, push_parts, row_from, row_mut, rows_written,
+    run_from, unknown_cells, wrap, write_cells, write_from, write_row_at,
 };
 use rrd_fixed::{Cell, Meter};
 use std::alloc::{AllocError, Global};
@@ -147,9 +147,7 @@ impl Archive {
         ensures cells { result.1.now ≡ row_cells (take result.0 (drop first self.now)) }
     {
         let index = index_of(first as usize, self.oldest, self.rows);
-        let count = contiguous_count(self.cells.len() / self.sources, index, most as usize);
-        let start = cells_of(index, self.sources);
-        let cells = row_from(&self.cells, start, cells_of(count, self.sources));
+        let (count, cells) = run_from(&self.cells, self.sources, index, most as usize);
         (count as u64, cells)
     }
 

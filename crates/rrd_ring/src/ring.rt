@@ -3,7 +3,7 @@ ghost use Rattle.std.specs.Prelude.{ℕ, ◌≡◌, ◌+◌, ◌*◌, ◌%◌, �
 ghost use Rattle.std.specs.Borrow.{sem};
 ghost use Rattle.rrd_fixed.specs.declared.cell.Cell.TheVariants.{Unknown};
 ghost use Rattle.rrd_ring.specs.Ring.Slices.{LendsPart, LendsAsMany};
-ghost use Rattle.rrd_ring.specs.Ring.{cells_in, from_index, with_unwritten, AreParts, AreWritten};
+ghost use Rattle.rrd_ring.specs.Ring.{cells_in, from_index, with_unwritten, AreParts, AreWhole, AreWritten};
 ghost use Rattle.rrd_ring.specs.Rows.{max_rows, max_sources};
 
 use rrd_fixed::{Cell, Meter};
@@ -110,7 +110,7 @@ pub(crate) fn rows_written(cells: usize, rows: usize, sources: usize, oldest: us
 
 // Returns how many of `most` rows from row `index` of the vector on are consecutive: up to the end of the `written`
 // rows, or only the first row if it is not written.
-pub(crate) fn contiguous_count(written: usize, index: usize, most: usize) -> usize
+fn contiguous_count(written: usize, index: usize, most: usize) -> usize
     requires { 0 < most }
     ensures some { 0 < result }
     ensures few { result ≤ most }
@@ -135,6 +135,31 @@ pub(crate) fn row_from(cells: &[Cell], start: usize, count: usize) -> &[Cell]
         return &cells[start..start + count];
     }
     &UNWRITTEN[..count]
+}
+
+// Returns how many of `most` rows from row `index` of the vector on are consecutive in memory, and their cells. A row that
+// is not written is returned alone.
+pub(crate) fn run_from(
+    cells: &[Cell],
+    sources: usize,
+    index: usize,
+    most: usize,
+) -> (usize, &[Cell])
+    requires whole { AreWhole sources cells.now }
+    requires some_sources { 0 < sources }
+    requires few_sources { sources ≤ max_sources }
+    requires within { index < max_rows }
+    requires some { 0 < most }
+    requires few { most ≤ max_rows }
+    ensures some { 0 < result.0 }
+    ensures few { result.0 ≤ most }
+    ensures within { (rows : ℕ) → length cells.now ≤ rows * sources → index < rows → index + result.0 ≤ rows }
+    ensures cells { (rows : ℕ) → index + result.0 ≤ rows → result.1.now
+        ≡ take (result.0 * sources) (drop (index * sources) (with_unwritten (rows * sources) cells.now)) }
+{
+    let count = contiguous_count(cells.len() / sources, index, most);
+    let start = cells_of(index, sources);
+    (count, row_from(cells, start, cells_of(count, sources)))
 }
 
 // Appends copies of `count` cells of a ring's vector from cell `start` on. Cells that are not written are unknown.
