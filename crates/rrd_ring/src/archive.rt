@@ -7,7 +7,7 @@ ghost use Rattle.rrd_ring.specs.Rows.{nth_row, row_cells, width, HasWidth, with_
 
 use crate::dropped::Dropped;
 use crate::ring::{
-    cells_of, fill_up, forget, index_of, parts_of, push_parts, row_from, row_mut, rows_written,
+    cells_of, fill_up, forget, index_of, parts_of, push_parts, row_at, row_mut, rows_written,
     run_from, unknown_cells, wrap, write_cells, write_from, write_row_at,
 };
 use rrd_fixed::{Cell, Meter};
@@ -131,8 +131,7 @@ impl Archive {
         ensures { result.now ≡ nth_row self.now i }
     {
         let index = index_of(i as usize, self.oldest, self.rows);
-        let start = cells_of(index, self.sources);
-        row_from(&self.cells, start, self.sources)
+        row_at(&self.cells, self.sources, index)
     }
 
     /// Returns the first of `most` rows from row `first` on that are consecutive in memory.

@@ -3,7 +3,7 @@ ghost use Rattle.std.specs.Prelude.{ℕ, ◌≡◌, ◌+◌, ◌*◌, ◌%◌, �
 ghost use Rattle.std.specs.Borrow.{sem};
 ghost use Rattle.rrd_fixed.specs.declared.cell.Cell.TheVariants.{Unknown};
 ghost use Rattle.rrd_ring.specs.Ring.Slices.{LendsPart, LendsAsMany};
-ghost use Rattle.rrd_ring.specs.Ring.{cells_in, from_index, with_unwritten, AreParts, AreWhole, AreWritten};
+ghost use Rattle.rrd_ring.specs.Ring.{cells_in, from_index, row_of, with_unwritten, AreParts, AreWhole, AreWritten};
 ghost use Rattle.rrd_ring.specs.Rows.{max_rows, max_sources};
 
 use rrd_fixed::{Cell, Meter};
@@ -125,7 +125,7 @@ fn contiguous_count(written: usize, index: usize, most: usize) -> usize
 
 // Returns `count` cells of a ring's vector from cell `start` on. These are the cells of whole written rows, or of one
 // row that is not written.
-pub(crate) fn row_from(cells: &[Cell], start: usize, count: usize) -> &[Cell]
+fn row_from(cells: &[Cell], start: usize, count: usize) -> &[Cell]
     requires few { length cells.now ≤ start → count ≤ max_sources }
     requires whole { start < length cells.now → start + count ≤ length cells.now }
     ensures { (all : ℕ) → start + count ≤ all
@@ -135,6 +135,16 @@ pub(crate) fn row_from(cells: &[Cell], start: usize, count: usize) -> &[Cell]
         return &cells[start..start + count];
     }
     &UNWRITTEN[..count]
+}
+
+// Returns the cells of the vector's row `index`.
+pub(crate) fn row_at(cells: &[Cell], sources: usize, index: usize) -> &[Cell]
+    requires whole { AreWhole sources cells.now }
+    requires few_sources { sources ≤ max_sources }
+    requires within { index < max_rows }
+    ensures { (rows : ℕ) → index < rows → result.now ≡ row_of sources (with_unwritten (rows * sources) cells.now) index }
+{
+    row_from(cells, cells_of(index, sources), sources)
 }
 
 // Returns how many of `most` rows from row `index` of the vector on are consecutive in memory, and their cells. A row that

@@ -1,32 +1,19 @@
-use Rattle.std.proofs.Common.{◌*◌, ◌<◌, ◌∙◌, sym, ap, length, take, drop, arith}
-use Rattle.std.proofs.lemmas.Nat.{row_fits}
+use Rattle.std.proofs.Common.{◌*◌, ◌<◌, ◌∙◌, sym, ap, arith}
 use Rattle.rrd_ring.specs.Rows.{nth_row}
 use Rattle.rrd_ring.specs.Ring.{row_of, with_unwritten}
 use Rattle.rrd_ring.proofs.RingLemmas.{nth_row-ring_rows}
-use Rattle.rrd_ring.proofs.WrittenLemmas.{row_count, whole_row}
+use Rattle.rrd_ring.proofs.WrittenLemmas.{row_count}
 use Rattle.rrd_ring.proofs.archive.Archive.row.Goals as goal
 
 pub index_of-index-requires-clause-there : goal.index_of-index-requires-clause-there
 index_of-index-requires-clause-there c = omega (arith, c.requires, row_count c.self.invariant c.self.view_is)
 
-pub row_from-requires-clause-whole : goal.row_from-requires-clause-whole
-row_from-requires-clause-whole c =
-    λ below.
-    let a = c.self.inside in
-    rw (c.deref.ensures.value)
-    (omega (arith, c.cells_of-start.ensures.count, whole_row a.sources c.index_of-index.result a.cells.items c.self.invariant.ends (omega (arith, below, c.cells_of-start.ensures.count, ap length c.deref.ensures.value))))
-
 pub returns : goal.returns
 returns c =
     let a = c.self.inside in
-    let all = a.rows * a.sources in
-    let xs = with_unwritten all a.cells.items in
+    let xs = with_unwritten (a.rows * a.sources) a.cells.items in
     let within : c.args.i < a.rows = omega (arith, c.requires, row_count c.self.invariant c.self.view_is) in
-    let begins = c.cells_of-start.ensures.count in
-    let fits = row_fits c.index_of-index.result a.sources a.rows a.sources c.index_of-index.ensures.within (omega arith) in
-    c.row_from.ensures all (omega (arith, begins, fits))
-    ∙ ap (λ ys. take a.sources (drop c.cells_of-start.result (with_unwritten all ys))) c.deref.ensures.value
-    ∙ ap (λ k. take a.sources (drop k xs)) begins
+    (rw c.deref.ensures.value at (c.row_at.ensures a.rows c.index_of-index.ensures.within))
     ∙ ap (row_of a.sources xs) c.index_of-index.ensures.index
     ∙ sym (nth_row-ring_rows a.rows a.sources a.oldest xs c.args.i within)
     ∙ ap (λ rows. nth_row rows c.args.i) c.self.view_is
