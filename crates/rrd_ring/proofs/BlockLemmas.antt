@@ -12,7 +12,7 @@ use Rattle.rrd_ring.specs.Ring.{row_of, rows_of, ring_rows, with_unwritten, AreP
 use Rattle.std.specs.List.{refill, length_refill}
 use Rattle.std.specs.Vec.{with_items_from}
 use Rattle.rrd_ring.proofs.RingLemmas.{cells_le, length-row_of, length-ring_rows, length-with_cells, nth_row-ring_rows, nth_row-rows_of, parts_all, ring_fits, ring_written, rows_fit, rows_written, vec_written, with_cells}
-use Rattle.rrd_ring.proofs.WrittenLemmas.{AreFilled, IsFilled, dropped_count, filled_further, filled_long, length-put, ring_le, row_count, row_width, row_written, whole_filled, written_over}
+use Rattle.rrd_ring.proofs.WrittenLemmas.{AreFilled, IsFilled, dropped_count, same_ring, filled_further, filled_long, length-put, ring_le, row_count, row_width, row_written, still_ring, still_rows, whole_filled, written_over}
 
 -- the cells with those of so many rows in place of the ones from row k on
 abbrev pub with_block : ℕ → ℕ → ℕ → List Cell → List Cell → List Cell
@@ -49,11 +49,8 @@ block_more w k n xs cells fits has =
     ∙ ap (λ (ys : List Cell). front ++ (ys ++ drop w rest)) next
     ∙ ap (λ (ys : List Cell). front ++ (take ((n + 1) * w) cells ++ ys)) later
 
-IsRing-same : (rows w index : ℕ) (xs ys : List Cell) → IsRing rows w index xs → length ys ≡ length xs → IsRing rows w index ys
-IsRing-same rows w index xs ys is e = record { some_rows = is.some_rows; few_rows = is.few_rows; some_sources = is.some_sources; few_sources = is.few_sources; whole = e ∙ is.whole; index_within = is.index_within }
-
 pub block_ring : (rows w index k n : ℕ) (xs cells : List Cell) → IsRing rows w index xs → k + n ≤ rows → n * w ≤ length cells → IsRing rows w index (with_block w k n xs cells)
-block_ring rows w index k n xs cells is fits has = IsRing-same rows w index xs (with_block w k n xs cells) is (length-with_block w k n xs cells (omega (arith, is.whole, cells_le (k + n) rows w fits)) has)
+block_ring rows w index k n xs cells is fits has = same_ring rows w index xs (with_block w k n xs cells) is (length-with_block w k n xs cells (omega (arith, is.whole, cells_le (k + n) rows w fits)) has)
 
 mod_right : (a b m : ℕ) → (a + b % m) % m ≡ (a + b) % m
 mod_right a b m =
@@ -153,13 +150,9 @@ block_put rows w index k n v new cells part start is fits has part_is start_is p
     ∙ ap (λ (ys : List Cell). take (k * w) xs ++ (ys ++ drop (n * w) (drop (k * w) xs))) part_is in
     let as_long : length new.items ≡ length filled = ap length put.items ∙ length-put start (length part) filled part refl long in
     let whole : AreWhole w filled = subst (AreWhole w) (sym turned) (whole_filled w (k + n) v.items is.ends) in
-    let had : all ≤ vec_capacity v = is.room in
+    let kept = length-with_block w k n xs cells (omega (arith, is.ring.whole, top)) has in
     record {
-      is = record {
-        ring = subst (IsRing rows w index) (sym cells_are) (block_ring rows w index k n xs cells is.ring fits has);
-        room = omega (arith, had, put.room);
-        ends = record { count = whole.count; whole = as_long ∙ whole.whole };
-      };
+      is = still_ring is (ap length cells_are ∙ kept) put.room (record { count = whole.count; whole = as_long ∙ whole.whole });
       items = cells_are;
     }
 
@@ -242,18 +235,15 @@ block_forgotten : (rows w index k n start count : ℕ) (v new : Vec Cell Global)
 block_forgotten rows w index k n start count v new cells is fits has unknown start_is count_is gone =
     let all = rows * w in
     let xs = with_unwritten all v.items in
-    let had : all ≤ vec_capacity v = is.room in
+    let top : (k + n) * w ≤ all = cells_le (k + n) rows w fits in
     let cells_are : with_unwritten all new.items ≡ with_block w k n xs cells =
-    gone.cells all (ring_le rows w index v is) (omega (arith, start_is, count_is, add-mul k n w, cells_le (k + n) rows w fits))
+    gone.cells all (ring_le rows w index v is) (omega (arith, start_is, count_is, add-mul k n w, top))
     ∙ ap (λ (m : ℕ). take m xs ++ (replicate count Unknown ++ drop count (drop m xs))) start_is
     ∙ ap (λ (m : ℕ). take (k * w) xs ++ (replicate m Unknown ++ drop m (drop (k * w) xs))) count_is
     ∙ ap (λ (ys : List Cell). take (k * w) xs ++ (ys ++ drop (n * w) (drop (k * w) xs))) (sym unknown) in
+    let kept = length-with_block w k n xs cells (omega (arith, is.ring.whole, top)) has in
     record {
-      is = record {
-        ring = subst (IsRing rows w index) (sym cells_are) (block_ring rows w index k n xs cells is.ring fits has);
-        room = omega (arith, had, gone.room);
-        ends = record { count = is.ends.count; whole = gone.as_many ∙ is.ends.whole };
-      };
+      is = still_ring is (ap length cells_are ∙ kept) gone.room (record { count = is.ends.count; whole = gone.as_many ∙ is.ends.whole });
       items = cells_are;
     }
 
@@ -277,14 +267,6 @@ are_forgotten {rows} {w} {index} {i} {count} {start} {first} {rest} {v} {one} {t
 
 -- ---- a row is lent, and comes back with as many cells
 
-record HasCameBack (rows w index at : ℕ) (v new : Vec Cell Global) (row : List Cell) : Type 0 where
-  pub is : IsPartlyWritten rows w index new
-  pub items : with_unwritten (rows * w) new.items ≡ with_cells w at (with_unwritten (rows * w) v.items) row
-
-record HasDroppedBack (rows w at : ℕ) (v new : Vec Cell Global) (row : List Cell) : Type 0 where
-  pub are : ArePartlyWritten rows w new
-  pub items : with_unwritten (rows * w) new.items ≡ with_cells w at (with_unwritten (rows * w) v.items) row
-
 came_back : (all w at start : ℕ) (v : Vec Cell Global) (row : List Cell) → at * w + w ≤ length v.items → length row ≡ w → start ≡ at * w
     → with_unwritten all (with_items_from v start row).items ≡ with_cells w at (with_unwritten all v.items) row
 came_back all w at start v row fits e start_is =
@@ -296,36 +278,6 @@ came_back all w at start v row fits e start_is =
 whole_back : (w at start : ℕ) (v : Vec Cell Global) (row : List Cell) → AreWhole w v.items → at * w + w ≤ length v.items → length row ≡ w → start ≡ at * w → AreWhole w (with_items_from v start row).items
 whole_back w at start v row ends fits e start_is =
     record { count = ends.count; whole = ap length (vec_written v w at start row start_is fits e) ∙ length-with_cells w at v.items row fits e ∙ ends.whole }
-
-row_back : (rows w index at start : ℕ) (v : Vec Cell Global) (row : List Cell) → IsPartlyWritten rows w index v → at < rows → at * w + w ≤ length v.items → length row ≡ w → start ≡ at * w
-    → HasCameBack rows w index at v (with_items_from v start row) row
-row_back rows w index at start v row is below fits e start_is =
-    let all = rows * w in
-    let ys = with_unwritten all v.items in
-    let over = came_back all w at start v row fits e start_is in
-    record {
-      is = record {
-        ring = IsRing-same rows w index ys (with_unwritten all (with_items_from v start row).items) is.ring (ap length over ∙ length-with_cells w at ys row (ring_fits rows w index at ys is.ring below) e);
-        room = is.room;
-        ends = whole_back w at start v row is.ends fits e start_is;
-      };
-      items = over;
-    }
-
-dropped_back : (rows w at start : ℕ) (v : Vec Cell Global) (row : List Cell) → ArePartlyWritten rows w v → at < rows → at * w + w ≤ length v.items → length row ≡ w → start ≡ at * w
-    → HasDroppedBack rows w at v (with_items_from v start row) row
-dropped_back rows w at start v row are below fits e start_is =
-    let all = rows * w in
-    let ys = with_unwritten all v.items in
-    let over = came_back all w at start v row fits e start_is in
-    record {
-      are = record {
-        rows_are = record { few_rows = are.rows_are.few_rows; some_sources = are.rows_are.some_sources; few_sources = are.rows_are.few_sources; whole = ap length over ∙ length-with_cells w at ys row (rows_fit rows w at ys are.rows_are below) e ∙ are.rows_are.whole };
-        room = are.room;
-        ends = whole_back w at start v row are.ends fits e start_is;
-      };
-      items = over;
-    }
 
 -- the row in the vector that is lent, with other cells
 abbrev pub lent : ℕ → ℕ → Vec Cell Global → List Cell
@@ -361,12 +313,14 @@ row_lent {rows} {w} {index} {at} {i} {start} {v} {all} filled at_is within start
     ∙ sym (nth_row-ring_rows rows w index ys i there)
     ∙ ap (λ (rs : List (List Cell)). nth_row rs i) filled.view in
     let wide : (cells : List Cell) → length (came w start v cells) ≡ w = λ cells. length-came w at start v cells start_is fits in
-    let back : (cells : List Cell) → HasCameBack rows w index at v (with_items_from v start (came w start v cells)) (came w start v cells) = λ cells. row_back rows w index at start v (came w start v cells) filled.is below fits (wide cells) start_is in
+    let back : (cells : List Cell) → with_unwritten (rows * w) (with_items_from v start (came w start v cells)).items ≡ with_cells w at ys (came w start v cells) = λ cells. came_back (rows * w) w at start v (came w start v cells) fits (wide cells) start_is in
+    let whole = ring_fits rows w index at ys filled.is.ring below in
     record {
       value = value;
-      is = λ cells. (back cells).is;
+      is = λ cells. let new = came w start v cells in
+          still_ring filled.is (ap length (back cells) ∙ length-with_cells w at ys new whole (wide cells)) (omega arith) (whole_back w at start v new filled.is.ends fits (wide cells) start_is);
       rows_are = λ cells. let new = came w start v cells in
-          ap (ring_rows rows w index) ((back cells).items ∙ ap (λ (k : ℕ). with_cells w k ys new) at_is)
+          ap (ring_rows rows w index) (back cells ∙ ap (λ (k : ℕ). with_cells w k ys new) at_is)
           ∙ ring_written rows w index i ys new filled.is.ring there (wide cells)
           ∙ ap (λ (rs : List (List Cell)). set rs i new) filled.view
           ∙ ap (λ (row : List Cell). set all i (refill (length row) row cells)) value;
@@ -388,12 +342,14 @@ dropped_lent {rows} {w} {i} {start} {v} {all} filled within start_is =
     ∙ sym (nth_row-rows_of rows w ys i there)
     ∙ ap (λ (rs : List (List Cell)). nth_row rs i) filled.view in
     let wide : (cells : List Cell) → length (came w start v cells) ≡ w = λ cells. length-came w i start v cells start_is fits in
-    let back : (cells : List Cell) → HasDroppedBack rows w i v (with_items_from v start (came w start v cells)) (came w start v cells) = λ cells. dropped_back rows w i start v (came w start v cells) filled.are there fits (wide cells) start_is in
+    let back : (cells : List Cell) → with_unwritten (rows * w) (with_items_from v start (came w start v cells)).items ≡ with_cells w i ys (came w start v cells) = λ cells. came_back (rows * w) w i start v (came w start v cells) fits (wide cells) start_is in
+    let whole = rows_fit rows w i ys filled.are.rows_are there in
     record {
       value = value;
-      are = λ cells. (back cells).are;
+      are = λ cells. let new = came w start v cells in
+          still_rows filled.are (ap length (back cells) ∙ length-with_cells w i ys new whole (wide cells)) (omega arith) (whole_back w i start v new filled.are.ends fits (wide cells) start_is);
       rows_are = λ cells. let new = came w start v cells in
-          ap (rows_of rows w) (back cells).items
+          ap (rows_of rows w) (back cells)
           ∙ rows_written rows w i ys new filled.are.rows_are there (wide cells)
           ∙ ap (λ (rs : List (List Cell)). set rs i new) filled.view
           ∙ ap (λ (row : List Cell). set all i (refill (length row) row cells)) value;

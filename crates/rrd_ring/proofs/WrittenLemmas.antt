@@ -215,6 +215,24 @@ run_one w index n written xs some is behind past = ⊎_elim
     (λ (after : written ≤ index). let one : 1 * w ≡ w = omega arith in ap (λ (k : ℕ). k * w) (behind after) ∙ one)
     (cases_lt index written)
 
+-- other cells, if they are as many and in whole rows
+pub same_ring : (rows w index : ℕ) (xs ys : List Cell) → IsRing rows w index xs → length ys ≡ length xs → IsRing rows w index ys
+same_ring rows w index xs ys is e = record { some_rows = is.some_rows; few_rows = is.few_rows; some_sources = is.some_sources; few_sources = is.few_sources; whole = e ∙ is.whole; index_within = is.index_within }
+
+pub still_ring : {rows w index : ℕ} {v new : Vec Cell Global} → IsPartlyWritten rows w index v → length (with_unwritten (rows * w) new.items) ≡ length (with_unwritten (rows * w) v.items) → vec_capacity v ≤ vec_capacity new → AreWhole w new.items → IsPartlyWritten rows w index new
+still_ring {rows} {w} {index} {v} {new} is as_long room ends =
+    let had : rows * w ≤ vec_capacity v = is.room in
+    record { ring = same_ring rows w index (with_unwritten (rows * w) v.items) (with_unwritten (rows * w) new.items) is.ring as_long; room = omega (arith, had, room); ends = ends }
+
+pub still_rows : {rows w : ℕ} {v new : Vec Cell Global} → ArePartlyWritten rows w v → length (with_unwritten (rows * w) new.items) ≡ length (with_unwritten (rows * w) v.items) → vec_capacity v ≤ vec_capacity new → AreWhole w new.items → ArePartlyWritten rows w new
+still_rows {rows} {w} {v} {new} are as_long room ends =
+    let had : rows * w ≤ vec_capacity v = are.room in
+    record {
+      rows_are = record { few_rows = are.rows_are.few_rows; some_sources = are.rows_are.some_sources; few_sources = are.rows_are.few_sources; whole = as_long ∙ are.rows_are.whole };
+      room = omega (arith, had, room);
+      ends = ends;
+    }
+
 -- filled up as far as row k, it is the same ring
 pub record IsFilled (rows w index k : ℕ) (all : List (List Cell)) (new : Vec Cell Global) : Type 0 where
   pub is : IsPartlyWritten rows w index new
@@ -226,13 +244,8 @@ pub ring_filled : {rows w index k end : ℕ} {v new : Vec Cell Global} {all : Li
 ring_filled {rows} {w} {index} {k} {end} {v} {new} is view h end_is put room =
     let items : new.items ≡ with_unwritten (k * w) v.items = put ∙ ap (λ (n : ℕ). with_unwritten n v.items) end_is in
     let same : with_unwritten (rows * w) new.items ≡ with_unwritten (rows * w) v.items = ap (with_unwritten (rows * w)) items ∙ filled_further (rows * w) (k * w) v.items (cells_le k rows w h) in
-    let had : rows * w ≤ vec_capacity v = is.room in
     record {
-      is = record {
-        ring = subst (IsRing rows w index) (sym same) is.ring;
-        room = omega (arith, had, room);
-        ends = subst (AreWhole w) (sym items) (whole_filled w k v.items is.ends);
-      };
+      is = still_ring is (ap length same) room (subst (AreWhole w) (sym items) (whole_filled w k v.items is.ends));
       view = ap (ring_rows rows w index) same ∙ view;
       long = omega (arith, ap length items, filled_long (k * w) v.items);
     }
@@ -431,13 +444,8 @@ pub rows_filled : {rows w k end : ℕ} {v new : Vec Cell Global} {all : List (Li
 rows_filled {rows} {w} {k} {end} {v} {new} are view h end_is put room =
     let items : new.items ≡ with_unwritten (k * w) v.items = put ∙ ap (λ (n : ℕ). with_unwritten n v.items) end_is in
     let same : with_unwritten (rows * w) new.items ≡ with_unwritten (rows * w) v.items = ap (with_unwritten (rows * w)) items ∙ filled_further (rows * w) (k * w) v.items (cells_le k rows w h) in
-    let had : rows * w ≤ vec_capacity v = are.room in
     record {
-      are = record {
-        rows_are = subst (AreRows rows w) (sym same) are.rows_are;
-        room = omega (arith, had, room);
-        ends = subst (AreWhole w) (sym items) (whole_filled w k v.items are.ends);
-      };
+      are = still_rows are (ap length same) room (subst (AreWhole w) (sym items) (whole_filled w k v.items are.ends));
       view = ap (rows_of rows w) same ∙ view;
       long = omega (arith, ap length items, filled_long (k * w) v.items);
     }
