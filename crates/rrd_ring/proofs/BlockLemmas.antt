@@ -279,10 +279,11 @@ whole_back : (w at start : ℕ) (v : Vec Cell Global) (row : List Cell) → AreW
 whole_back w at start v row ends fits e start_is =
     record { count = ends.count; whole = ap length (vec_written v w at start row start_is fits e) ∙ length-with_cells w at v.items row fits e ∙ ends.whole }
 
--- the row in the vector that is lent, with other cells
+-- the cells that are lent
 abbrev pub lent : ℕ → ℕ → Vec Cell Global → List Cell
 lent w start v = slice_range v.items start (start + w)
 
+-- and as they come back
 abbrev pub came : ℕ → ℕ → Vec Cell Global → List Cell → List Cell
 came w start v cells = refill (length (lent w start v)) (lent w start v) cells
 
@@ -295,6 +296,7 @@ length-came : (w at start : ℕ) (v : Vec Cell Global) (cells : List Cell) → s
 length-came w at start v cells start_is fits =
     sym (length_refill (length (lent w start v)) (lent w start v) cells refl) ∙ ap length (lent_is w at start v start_is) ∙ length-row_of w v.items at fits
 
+-- what the loan of row i says of the rows
 pub record IsLent (rows w index i start : ℕ) (all : List (List Cell)) (v : Vec Cell Global) : Type 0 where
   pub value : lent w start v ≡ nth_row all i
   pub is : (cells : List Cell) → IsPartlyWritten rows w index (with_items_from v start (came w start v cells))
@@ -326,6 +328,7 @@ row_lent {rows} {w} {index} {at} {i} {start} {v} {all} filled at_is within start
           ∙ ap (λ (row : List Cell). set all i (refill (length row) row cells)) value;
     }
 
+-- and of rows that were dropped
 pub record AreLent (rows w i start : ℕ) (all : List (List Cell)) (v : Vec Cell Global) : Type 0 where
   pub value : lent w start v ≡ nth_row all i
   pub are : (cells : List Cell) → ArePartlyWritten rows w (with_items_from v start (came w start v cells))

@@ -9,10 +9,10 @@ use Rattle.std.proofs.lemmas.List.FromFn.{length-map-range_with_len, get_or-map-
 use Rattle.std.specs.Vec.{with_items_from}
 use Rattle.rrd_fixed.specs.declared.cell.Cell.{Cell}
 use Rattle.rrd_fixed.specs.declared.cell.Cell.TheVariants.{Unknown}
-use Rattle.rrd_ring.specs.Rows.{nth_row, row_cells, width, HasWidth, unknown_rows, IsArchive, AreDropped, max_rows}
+use Rattle.rrd_ring.specs.Rows.{nth_row, row_cells, width, HasWidth, unknown_rows, AreDropped, max_rows}
 use Rattle.rrd_ring.specs.Ring.{row_of, rows_of, ring_rows, cells_in, from_index, AreParts, IsRing, AreRows}
 use Rattle.rrd_ring.specs.Widths.{width_is}
-use Rattle.rrd_ring.proofs.RowLemmas.{IsArchive-from_width, AreDropped-from_width}
+use Rattle.rrd_ring.proofs.RowLemmas.{AreDropped-from_width}
 
 -- ---- places
 
@@ -199,13 +199,6 @@ HasWidth-ring_rows rows w index xs is =
     subst (λ (all : List (List Cell)). HasWidth w all) (sym (ring_rows-from_index rows w index xs is.index_within is.whole))
     (HasWidth-rows_of rows w (from_index (index * w) xs) (length-turned rows w index xs is))
 
-pub IsArchive-ring_rows : (rows w index : ℕ) (xs : List Cell) → IsRing rows w index xs → IsArchive (ring_rows rows w index xs)
-IsArchive-ring_rows rows w index xs is =
-    let count = length-ring_rows rows w index xs in
-    let some : 0 < rows = is.some_rows in
-    let few : rows ≤ max_rows = is.few_rows in
-    IsArchive-from_width w (ring_rows rows w index xs) (HasWidth-ring_rows rows w index xs is) (omega arith) (omega arith) is.some_sources is.few_sources
-
 pub ring_len : (rows w index : ℕ) (xs : List Cell) (all : List (List Cell)) → ring_rows rows w index xs ≡ all → length all ≡ rows
 ring_len rows w index xs all e = ap length (sym e) ∙ length-ring_rows rows w index xs
 
@@ -310,7 +303,7 @@ ring_push rows w index xs row is e =
     ∙ ap (λ (zs : List (List Cell)). drop 1 (ring_rows rows w index xs) ++ zs) (rows_of_one w row e)
     ∙ sym (drop-append-le 1 (ring_rows rows w index xs) (row ∷ []) (omega (arith, length-ring_rows rows w index xs)))
 
--- ---- rows come back, and the oldest and the newest are copied
+-- ---- rows are put back
 
 -- rows of one width have as many cells as their numbers say
 same_width : (n v w : ℕ) (ys : List Cell) → 0 < n → length ys ≡ n * v → HasWidth w (rows_of n v ys) → v ≡ w
@@ -329,10 +322,6 @@ same_rows (suc n) v w ys e h = ap (λ (k : ℕ). rows_of (suc n) k ys) (same_wid
 pub ring_take : (n rows w index : ℕ) (xs : List Cell) → n ≤ rows → IsRing rows w index xs → rows_of n w (take (n * w) (from_index (index * w) xs)) ≡ take n (ring_rows rows w index xs)
 ring_take n rows w index xs h is =
     rows_of-take n rows w (from_index (index * w) xs) h (length-turned rows w index xs is) ∙ ap (take n) (sym (ring_rows-from_index rows w index xs is.index_within is.whole))
-
-pub ring_drop : (n rows w index : ℕ) (xs : List Cell) → n ≤ rows → IsRing rows w index xs → rows_of (rows - n) w (drop (n * w) (from_index (index * w) xs)) ≡ drop n (ring_rows rows w index xs)
-ring_drop n rows w index xs h is =
-    rows_of-drop n rows w (from_index (index * w) xs) h (length-turned rows w index xs is) ∙ ap (drop n) (sym (ring_rows-from_index rows w index xs is.index_within is.whole))
 
 pub ring_put_back : (n rows w index : ℕ) (xs new ds : List Cell) → n ≤ rows → IsRing rows w index xs → length new ≡ length xs → length ds ≡ n * w
     → from_index (((index + (rows - n)) % rows) * w) new ≡ ds ++ drop (length ds) (from_index (((index + (rows - n)) % rows) * w) xs)

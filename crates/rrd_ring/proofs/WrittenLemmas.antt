@@ -47,12 +47,6 @@ filled_further all n xs h = ⊎_elim
 pub filled_long : (n : ℕ) (xs : List Cell) → n ≤ length (with_unwritten n xs)
 filled_long n xs = omega (arith, length-append xs (replicate (n - length xs) Unknown), length-replicate (n - length xs) Unknown)
 
--- a vector is filled up by a resize
-pub filled_up : (end n : ℕ) (xs : List Cell) → n ≡ length xs → length xs ≤ end → take end xs ++ replicate (end - n) Unknown ≡ with_unwritten end xs
-filled_up end n xs e h =
-    ap (λ (zs : List Cell). zs ++ replicate (end - n) Unknown) (take_all end xs h)
-    ∙ ap (λ (k : ℕ). xs ++ replicate (end - k) Unknown) e
-
 -- whole rows stay whole
 pub whole_filled : (w k : ℕ) (xs : List Cell) → AreWhole w xs → AreWhole w (with_unwritten (k * w) xs)
 whole_filled w k xs is = ⊎_elim
@@ -278,6 +272,7 @@ pushed_ends w index ys row is le e =
     (λ (behind : index * w ≡ length ys). let it : AreWhole w new = record { count = index + 1; whole = length-put_behind (index * w) w ys row e behind ∙ sym next } in it)
     (next_row w index ys is le)
 
+-- a row was pushed
 pub record IsPushed (rows w index : ℕ) (all : List (List Cell)) (new : Vec Cell Global) (row : List Cell) : Type 0 where
   pub is : IsPartlyWritten rows w ((index + 1) % rows) new
   pub rows_are : ring_rows rows w ((index + 1) % rows) (with_unwritten (rows * w) new.items) ≡ drop 1 (all ++ row ∷ [])
@@ -434,6 +429,7 @@ part_copied all s n xs fits h =
 
 -- ---- rows that fell out
 
+-- filled up as far as row k, they are the same rows
 pub record AreFilled (rows w k : ℕ) (all : List (List Cell)) (new : Vec Cell Global) : Type 0 where
   pub are : ArePartlyWritten rows w new
   pub view : rows_of rows w (with_unwritten (rows * w) new.items) ≡ all

@@ -48,8 +48,8 @@ pub record IsPartlyWritten (rows sources index : ℕ) (written : Vec Cell Global
   pub room : rows * sources ≤ vec_capacity written
   pub ends : AreWhole sources written.items
 
--- where `count` rows of a ring are in its vector, from the ring's row i on, in cells: `front` cells from cell `start` on,
--- at most to the last cell, and the other `rest` cells from the first cell on
+-- where `count` rows of a ring are in its vector, from the ring's row i on, in cells: `front` cells from cell `start`
+-- on, at most to the last cell, and the other `rest` cells from the first cell on
 pub record AreParts (rows sources index i count start front rest : ℕ) : Type 0 where
   pub starts : start ≡ ((index + i) % rows) * sources
   pub in_front : front ≡ min count (rows - (index + i) % rows) * sources

@@ -23,7 +23,8 @@ pub(crate) fn wrap(index: usize, rows: usize) -> usize
     if index < rows { index } else { index - rows }
 }
 
-// Returns the index in a ring's vector of the ring's row `i`, if row 0 has the index `oldest`.
+// Returns the index in a ring's vector of the ring's row `i`, if row 0 has the index `oldest`. Row `rows` is row 0
+// again.
 pub(crate) fn index_of(i: usize, oldest: usize, rows: usize) -> usize
     requires there { i ≤ rows }
     requires within { oldest < rows }
@@ -44,8 +45,8 @@ pub(crate) fn cells_of(rows: usize, sources: usize) -> usize
     rows * sources
 }
 
-// Where some rows of a ring are in its vector, in cells: `front` cells from cell `start` on, at most to the last cell, and
-// the other `rest` cells from the first cell on.
+// Where some rows of a ring are in its vector, in cells: `front` cells from cell `start` on, at most to the last cell,
+// and the other `rest` cells from the first cell on.
 #[derive(Clone, Copy)]
 pub(crate) struct Parts {
     pub(crate) start: usize,
@@ -142,13 +143,14 @@ pub(crate) fn row_at(cells: &[Cell], sources: usize, index: usize) -> &[Cell]
     requires whole { AreWhole sources cells.now }
     requires few_sources { sources ≤ max_sources }
     requires within { index < max_rows }
-    ensures { (rows : ℕ) → index < rows → result.now ≡ row_of sources (with_unwritten (rows * sources) cells.now) index }
+    ensures { (rows : ℕ) → index < rows
+        → result.now ≡ row_of sources (with_unwritten (rows * sources) cells.now) index }
 {
     row_from(cells, cells_of(index, sources), sources)
 }
 
-// Returns how many of `most` rows from row `index` of the vector on are consecutive in memory, and their cells. A row that
-// is not written is returned alone.
+// Returns how many of `most` rows from row `index` of the vector on are consecutive in memory, and their cells. A row
+// that is not written is returned alone.
 pub(crate) fn run_from(
     cells: &[Cell],
     sources: usize,
@@ -203,7 +205,8 @@ pub(crate) fn push_parts(
     requires few_others { parts.rest ≤ max_rows * max_sources }
     requires short { vec_len copies.old ≤ max_rows * max_sources }
     ensures { (all : ℕ) → length ring.now ≤ all → parts.start + parts.front ≤ all → parts.rest ≤ all
-        → OnOk result (copies.new.items ≡ copies.old.items ++ cells_in parts.start parts.front parts.rest (with_unwritten all ring.now)) }
+        → OnOk result (copies.new.items
+        ≡ copies.old.items ++ cells_in parts.start parts.front parts.rest (with_unwritten all ring.now)) }
 {
     push_part(copies, ring, parts.start, parts.front)?;
     push_part(copies, ring, 0, parts.rest)?;
