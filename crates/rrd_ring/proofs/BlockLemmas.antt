@@ -1,5 +1,5 @@
 -- Rows that come as one list of cells are written into a ring.
-use Rattle.std.proofs.Common.{Vec, Global, ◌≡◌, ⊎_elim, refl, sym, ◌∙◌, ap, subst, ℕ, zero, suc, ◌+◌, ◌-◌, ◌*◌, ◌/◌, ◌%◌, ◌<◌, ◌≤◌, List, ◌++◌, length, min, replicate, set, take, drop, arith, length-append, length-drop, length-set, vec_capacity}
+use Rattle.std.proofs.Common.{Vec, Global, ◌≡◌, ⊎_elim, refl, sym, ◌∙◌, ap, subst, ℕ, zero, suc, ◌+◌, ◌-◌, ◌*◌, ◌/◌, ◌%◌, ◌<◌, ◌≤◌, List, ◌++◌, length, min, replicate, set, take, drop, slice_range, arith, length-append, length-drop, length-set, vec_capacity}
 use Rattle.std.proofs.Math.Nat.{add-mul, add-mul-mod_self_right, mod-add-div', mod-eq_of_lt, mod_self}
 use Rattle.std.proofs.Math.Seq.{take-add}
 use Rattle.std.proofs.lemmas.Bool.{cases_lt}
@@ -7,11 +7,12 @@ use Rattle.std.proofs.lemmas.Nat.{mod_below}
 use Rattle.std.proofs.lemmas.List.{append_assoc, length-take-le, take-append-drop, drop-drop, take_all, take_at, drop_at, length-replicate, take-replicate, drop-replicate}
 use Rattle.rrd_fixed.specs.declared.cell.Cell.{Cell}
 use Rattle.rrd_fixed.specs.declared.cell.Cell.TheVariants.{Unknown}
-use Rattle.rrd_ring.specs.Rows.{with_rows}
-use Rattle.rrd_ring.specs.Ring.{row_of, ring_rows, with_unwritten, ArePartlyWritten, AreWhole, IsRing, IsPartlyWritten}
+use Rattle.rrd_ring.specs.Rows.{nth_row, width, with_row, with_rows}
+use Rattle.rrd_ring.specs.Ring.{row_of, rows_of, ring_rows, with_unwritten, AreParts, ArePartlyWritten, AreWhole, IsRing, IsPartlyWritten}
+use Rattle.std.specs.List.{refill, length_refill}
 use Rattle.std.specs.Vec.{with_items_from}
-use Rattle.rrd_ring.proofs.RingLemmas.{cells_le, length-row_of, length-ring_rows, length-with_cells, ring_fits, ring_written, rows_fit, vec_written, with_cells}
-use Rattle.rrd_ring.proofs.WrittenLemmas.{filled_further, filled_long, length-put, ring_le, whole_filled, written_over}
+use Rattle.rrd_ring.proofs.RingLemmas.{cells_le, length-row_of, length-ring_rows, length-with_cells, nth_row-ring_rows, nth_row-rows_of, parts_all, ring_fits, ring_written, rows_fit, rows_written, vec_written, with_cells}
+use Rattle.rrd_ring.proofs.WrittenLemmas.{AreFilled, IsFilled, dropped_count, same_ring, filled_further, filled_long, length-put, ring_le, row_count, row_width, row_written, still_ring, still_rows, whole_filled, written_over}
 
 -- the cells with those of so many rows in place of the ones from row k on
 abbrev pub with_block : ℕ → ℕ → ℕ → List Cell → List Cell → List Cell
@@ -48,11 +49,8 @@ block_more w k n xs cells fits has =
     ∙ ap (λ (ys : List Cell). front ++ (ys ++ drop w rest)) next
     ∙ ap (λ (ys : List Cell). front ++ (take ((n + 1) * w) cells ++ ys)) later
 
-IsRing-same : (rows w index : ℕ) (xs ys : List Cell) → IsRing rows w index xs → length ys ≡ length xs → IsRing rows w index ys
-IsRing-same rows w index xs ys is e = record { some_rows = is.some_rows; few_rows = is.few_rows; some_sources = is.some_sources; few_sources = is.few_sources; whole = e ∙ is.whole; index_within = is.index_within }
-
 pub block_ring : (rows w index k n : ℕ) (xs cells : List Cell) → IsRing rows w index xs → k + n ≤ rows → n * w ≤ length cells → IsRing rows w index (with_block w k n xs cells)
-block_ring rows w index k n xs cells is fits has = IsRing-same rows w index xs (with_block w k n xs cells) is (length-with_block w k n xs cells (omega (arith, is.whole, cells_le (k + n) rows w fits)) has)
+block_ring rows w index k n xs cells is fits has = same_ring rows w index xs (with_block w k n xs cells) is (length-with_block w k n xs cells (omega (arith, is.whole, cells_le (k + n) rows w fits)) has)
 
 mod_right : (a b m : ℕ) → (a + b % m) % m ≡ (a + b) % m
 mod_right a b m =
@@ -124,10 +122,15 @@ pub record IsPutInto (rows w index k n : ℕ) (v new : Vec Cell Global) (cells :
   pub is : IsPartlyWritten rows w index new
   pub items : with_unwritten (rows * w) new.items ≡ with_block w k n (with_unwritten (rows * w) v.items) cells
 
-pub block_put : (rows w index k n : ℕ) (v new : Vec Cell Global) (cells part : List Cell) (start : ℕ) → IsPartlyWritten rows w index v → k + n ≤ rows → n * w ≤ length cells → part ≡ take (n * w) cells → start ≡ k * w
-    → new.items ≡ take start (with_unwritten (start + length part) v.items) ++ (part ++ drop (length part) (drop start (with_unwritten (start + length part) v.items)))
-    → vec_capacity v ≤ vec_capacity new → IsPutInto rows w index k n v new cells
-block_put rows w index k n v new cells part start is fits has part_is start_is items room =
+-- what a vector is once cells were put from an index on
+pub record Puts (start : ℕ) (part : List Cell) (v new : Vec Cell Global) : Type 0 where
+  pub items : let filled = with_unwritten (start + length part) v.items in
+      new.items ≡ take start filled ++ (part ++ drop (length part) (drop start filled))
+  pub room : vec_capacity v ≤ vec_capacity new
+
+block_put : (rows w index k n : ℕ) (v new : Vec Cell Global) (cells part : List Cell) (start : ℕ) → IsPartlyWritten rows w index v → k + n ≤ rows → n * w ≤ length cells → part ≡ take (n * w) cells → start ≡ k * w
+    → Puts start part v new → IsPutInto rows w index k n v new cells
+block_put rows w index k n v new cells part start is fits has part_is start_is put =
     let all = rows * w in
     let count : length part ≡ n * w = ap length part_is ∙ length-take-le (n * w) cells has in
     let end : start + length part ≡ (k + n) * w = omega (arith, count, start_is, add-mul k n w) in
@@ -139,21 +142,17 @@ block_put rows w index k n v new cells part start is fits has part_is start_is i
     let same : with_unwritten all filled ≡ xs = filled_further all (start + length part) v.items (omega (arith, end, top)) in
     let new_is = take start filled ++ (part ++ drop (length part) (drop start filled)) in
     let cells_are : with_unwritten all new.items ≡ with_block w k n xs cells =
-    ap (with_unwritten all) items
+    ap (with_unwritten all) put.items
     ∙ written_over all (length part) start filled part long refl
     ∙ ap (λ (ys : List Cell). take start ys ++ (part ++ drop (length part) (drop start ys))) same
     ∙ ap (λ (m : ℕ). take start xs ++ (part ++ drop m (drop start xs))) count
     ∙ ap (λ (m : ℕ). take m xs ++ (part ++ drop (n * w) (drop m xs))) start_is
     ∙ ap (λ (ys : List Cell). take (k * w) xs ++ (ys ++ drop (n * w) (drop (k * w) xs))) part_is in
-    let as_long : length new.items ≡ length filled = ap length items ∙ length-put start (length part) filled part refl long in
+    let as_long : length new.items ≡ length filled = ap length put.items ∙ length-put start (length part) filled part refl long in
     let whole : AreWhole w filled = subst (AreWhole w) (sym turned) (whole_filled w (k + n) v.items is.ends) in
-    let had : all ≤ vec_capacity v = is.room in
+    let kept = length-with_block w k n xs cells (omega (arith, is.ring.whole, top)) has in
     record {
-      is = record {
-        ring = subst (IsRing rows w index) (sym cells_are) (block_ring rows w index k n xs cells is.ring fits has);
-        room = omega (arith, had, room);
-        ends = record { count = whole.count; whole = as_long ∙ whole.whole };
-      };
+      is = still_ring is (ap length cells_are ∙ kept) put.room (record { count = whole.count; whole = as_long ∙ whole.whole });
       items = cells_are;
     }
 
@@ -163,23 +162,21 @@ no_block w xs cells =
     ap (λ (m : ℕ). take m xs ++ (take m cells ++ drop m (drop m xs))) none
 
 -- rows up to the vector's end, and the others from its first row on
-pub record ArePut (rows w index i count : ℕ) (v new : Vec Cell Global) (cells : List Cell) : Type 0 where
+pub record ArePut (rows w index i count : ℕ) (all : List (List Cell)) (new : Vec Cell Global) (cells : List Cell) : Type 0 where
   pub is : IsPartlyWritten rows w index new
-  pub rows_are : ring_rows rows w index (with_unwritten (rows * w) new.items) ≡ with_rows count w (ring_rows rows w index (with_unwritten (rows * w) v.items)) i cells
+  pub rows_are : ring_rows rows w index (with_unwritten (rows * w) new.items) ≡ with_rows count (width all) all i cells
 
-pub rows_put : (rows w index i first rest : ℕ) (v one two : Vec Cell Global) (cells : List Cell) → i < rows → (index + i) % rows + first ≤ rows → rest ≤ rows → (0 < rest → (index + i) % rows + first ≡ rows) → (first + rest) * w ≤ length cells
-    → IsPutInto rows w index ((index + i) % rows) first v one cells → IsPutInto rows w index 0 rest one two (drop (first * w) cells) → IsPartlyWritten rows w index v → ArePut rows w index i (first + rest) v two cells
-rows_put rows w index i first rest v one two cells there fits few turns has a b is =
-    let all = rows * w in
-    let xs = with_unwritten all v.items in
-    let ys = with_unwritten all one.items in
+rows_put : (rows w index i first rest : ℕ) (v one two : Vec Cell Global) (cells : List Cell) (all : List (List Cell)) → IsPartlyWritten rows w index v → ring_rows rows w index (with_unwritten (rows * w) v.items) ≡ all → (index + i) % rows + first ≤ rows → rest ≤ rows → (0 < rest → (index + i) % rows + first ≡ rows) → (first + rest) * w ≤ length cells
+    → IsPutInto rows w index ((index + i) % rows) first v one cells → IsPutInto rows w index 0 rest one two (drop (first * w) cells) → ArePut rows w index i (first + rest) all two cells
+rows_put rows w index i first rest v one two cells all is view fits few turns has a b =
+    let xs = with_unwritten (rows * w) v.items in
+    let ys = with_unwritten (rows * w) one.items in
     let later = drop (first * w) cells in
-    let at = (index + i) % rows in
     let next = (i + first) % rows in
-    let ring = ring_rows rows w index xs in
     let sum = add-mul first rest w in
-    let front : ring_rows rows w index ys ≡ with_rows first w ring i cells = ap (ring_rows rows w index) a.items ∙ block_written rows w index i first xs cells is.ring fits (omega (arith, has, sum)) in
-    let back : ring_rows rows w index (with_unwritten all two.items) ≡ with_rows rest w (ring_rows rows w index ys) next later =
+    let front : ring_rows rows w index ys ≡ with_rows first w all i cells =
+    ap (ring_rows rows w index) a.items ∙ block_written rows w index i first xs cells is.ring fits (omega (arith, has, sum)) ∙ ap (λ (rs : List (List Cell)). with_rows first w rs i cells) view in
+    let back : ring_rows rows w index (with_unwritten (rows * w) two.items) ≡ with_rows rest w (ring_rows rows w index ys) next later =
     ⊎_elim (λ (some : 0 < rest).
     let sum_of : index + (i + first) ≡ (index + i) + first = omega arith in
     let zeroth : (index + next) % rows ≡ 0 = mod_right index (i + first) rows ∙ ap (λ (m : ℕ). m % rows) sum_of ∙ sym (mod_left (index + i) first rows) ∙ ap (λ (m : ℕ). m % rows) (turns some) ∙ mod_self rows in
@@ -194,31 +191,36 @@ rows_put rows w index i first rest v one two cells there fits few turns has a b 
       is = b.is;
       rows_are = back
           ∙ ap (λ (rs : List (List Cell)). with_rows rest w rs next later) front
-          ∙ ap (λ (m : ℕ). with_rows rest w (with_rows first w ring i cells) ((i + first) % m) later) (sym (length-ring_rows rows w index xs))
-          ∙ rows_on first rest w ring i cells;
+          ∙ ap (λ (m : ℕ). with_rows rest w (with_rows first w all i cells) ((i + first) % m) later) (sym (row_count is view))
+          ∙ rows_on first rest w all i cells
+          ∙ ap (λ (m : ℕ). with_rows (first + rest) m all i cells) (sym (row_width is view));
     }
 
--- what a vector is once cells were put from an index on
-pub record Puts (start : ℕ) (part : List Cell) (v new : Vec Cell Global) : Type 0 where
-  pub items : let filled = with_unwritten (start + length part) v.items in
-      new.items ≡ take start filled ++ (part ++ drop (length part) (drop start filled))
-  pub room : vec_capacity v ≤ vec_capacity new
+-- all of them, once each part is put
+parts_put : (rows w index i count : ℕ) (v one two : Vec Cell Global) (cells : List Cell) (all : List (List Cell)) → IsPartlyWritten rows w index v → ring_rows rows w index (with_unwritten (rows * w) v.items) ≡ all → count ≤ rows → count * w ≤ length cells
+    → let first = min count (rows - (index + i) % rows) in IsPutInto rows w index ((index + i) % rows) first v one cells → IsPutInto rows w index 0 (count - first) one two (drop (first * w) cells) → ArePut rows w index i count all two cells
+parts_put rows w index i count v one two cells all is view few has a b =
+    let first = min count (rows - (index + i) % rows) in
+    let below : (index + i) % rows < rows = mod_below (index + i) rows is.ring.some_rows in
+    let sum : first + (count - first) ≡ count = omega arith in
+    subst (λ (n : ℕ). ArePut rows w index i n all two cells) sum
+    (rows_put rows w index i first (count - first) v one two cells all is view (omega (arith, below)) (omega (arith, few)) (λ some. omega (arith, some, below)) (omega (arith, has, ap (λ (n : ℕ). n * w) sum)) a b)
 
-pub are_put : (rows w index i count first start : ℕ) (v one two : Vec Cell Global) (cells front later : List Cell) → IsPartlyWritten rows w index v → i < rows → count ≤ rows → length cells ≡ count * w → first ≡ min (rows - (index + i) % rows) count
-    → start ≡ ((index + i) % rows) * w → front ≡ take (first * w) cells → later ≡ drop (first * w) cells → Puts start front v one → Puts 0 later one two → ArePut rows w index i count v two cells
-are_put rows w index i count first start v one two cells front later is there few long least start_is front_is later_is a b =
+pub are_put : {rows w index i count start first rest : ℕ} {v one two : Vec Cell Global} {all : List (List Cell)} {cells front later : List Cell} → IsPartlyWritten rows w index v → ring_rows rows w index (with_unwritten (rows * w) v.items) ≡ all → AreParts rows w index i count start first rest
+    → count ≤ length all → length cells ≡ count * width all → front ≡ take first cells → later ≡ drop first cells → Puts start front v one → Puts 0 later one two → ArePut rows w index i count all two cells
+are_put {rows} {w} {index} {i} {count} {start} {v} {one} {two} {all} {cells} {front} {later} is view parts few long front_is later_is a b =
     let at = (index + i) % rows in
-    let rest = count - first in
-    let behind = drop (first * w) cells in
+    let n = min count (rows - at) in
+    let behind = drop (n * w) cells in
     let below : at < rows = mod_below (index + i) rows is.ring.some_rows in
-    let sum : first + rest ≡ count = omega (arith, least) in
-    let both : count * w ≡ first * w + rest * w = ap (λ (n : ℕ). n * w) (sym sum) ∙ add-mul first rest w in
-    let left : length behind ≡ rest * w = omega (arith, length-drop (first * w) cells, long, both) in
-    let whole : later ≡ take (rest * w) behind = later_is ∙ sym (take_all (rest * w) behind (omega (arith, left))) in
-    let x = block_put rows w index at first v one cells front start is (omega (arith, least, below)) (omega (arith, long, both)) front_is start_is a.items a.room in
-    let y = block_put rows w index 0 rest one two behind later 0 x.is (omega (arith, few)) (omega (arith, left)) whole (omega arith) b.items b.room in
-    subst (λ (n : ℕ). ArePut rows w index i n v two cells) sum
-    (rows_put rows w index i first rest v one two cells there (omega (arith, least, below)) (omega (arith, few)) (λ some. omega (arith, some, least, below)) (omega (arith, long, ap (λ (n : ℕ). n * w) sum)) x y is)
+    let fewer : count ≤ rows = omega (arith, few, row_count is view) in
+    let whole : length cells ≡ count * w = long ∙ ap (λ (k : ℕ). count * k) (row_width is view) in
+    let both : count * w ≡ n * w + (count - n) * w = omega (arith, parts.in_front, parts.others, parts_all parts) in
+    let left : length behind ≡ (count - n) * w = omega (arith, length-drop (n * w) cells, whole, both) in
+    let later_whole : later ≡ take ((count - n) * w) behind = later_is ∙ ap (λ (k : ℕ). drop k cells) parts.in_front ∙ sym (take_all ((count - n) * w) behind (omega (arith, left))) in
+    let x = block_put rows w index at n v one cells front start is (omega (arith, below)) (omega (arith, whole, both)) (front_is ∙ ap (λ (k : ℕ). take k cells) parts.in_front) parts.starts a in
+    let y = block_put rows w index 0 (count - n) one two behind later 0 x.is (omega (arith, fewer)) (omega (arith, left)) later_whole (omega arith) b in
+    parts_put rows w index i count v one two cells all is view fewer (omega (arith, whole)) x y
 
 -- ---- rows are made unknown
 
@@ -233,48 +235,37 @@ block_forgotten : (rows w index k n start count : ℕ) (v new : Vec Cell Global)
 block_forgotten rows w index k n start count v new cells is fits has unknown start_is count_is gone =
     let all = rows * w in
     let xs = with_unwritten all v.items in
-    let had : all ≤ vec_capacity v = is.room in
+    let top : (k + n) * w ≤ all = cells_le (k + n) rows w fits in
     let cells_are : with_unwritten all new.items ≡ with_block w k n xs cells =
-    gone.cells all (ring_le rows w index v is) (omega (arith, start_is, count_is, add-mul k n w, cells_le (k + n) rows w fits))
+    gone.cells all (ring_le rows w index v is) (omega (arith, start_is, count_is, add-mul k n w, top))
     ∙ ap (λ (m : ℕ). take m xs ++ (replicate count Unknown ++ drop count (drop m xs))) start_is
     ∙ ap (λ (m : ℕ). take (k * w) xs ++ (replicate m Unknown ++ drop m (drop (k * w) xs))) count_is
     ∙ ap (λ (ys : List Cell). take (k * w) xs ++ (ys ++ drop (n * w) (drop (k * w) xs))) (sym unknown) in
+    let kept = length-with_block w k n xs cells (omega (arith, is.ring.whole, top)) has in
     record {
-      is = record {
-        ring = subst (IsRing rows w index) (sym cells_are) (block_ring rows w index k n xs cells is.ring fits has);
-        room = omega (arith, had, gone.room);
-        ends = record { count = is.ends.count; whole = gone.as_many ∙ is.ends.whole };
-      };
+      is = still_ring is (ap length cells_are ∙ kept) gone.room (record { count = is.ends.count; whole = gone.as_many ∙ is.ends.whole });
       items = cells_are;
     }
 
-pub are_forgotten : (rows w index i count first start many others : ℕ) (v one two : Vec Cell Global) → IsPartlyWritten rows w index v → i < rows → count ≤ rows → first ≡ min (rows - (index + i) % rows) count
-    → start ≡ ((index + i) % rows) * w → many ≡ first * w → others ≡ (count - first) * w → Forgets start many v one → Forgets 0 others one two → ArePut rows w index i count v two (replicate (count * w) Unknown)
-are_forgotten rows w index i count first start many others v one two is there few least start_is many_is others_is a b =
+pub are_forgotten : {rows w index i count start first rest : ℕ} {v one two : Vec Cell Global} {all : List (List Cell)} → IsPartlyWritten rows w index v → ring_rows rows w index (with_unwritten (rows * w) v.items) ≡ all → AreParts rows w index i count start first rest
+    → count ≤ length all → Forgets start first v one → Forgets 0 rest one two → ArePut rows w index i count all two (replicate (count * width all) Unknown)
+are_forgotten {rows} {w} {index} {i} {count} {start} {first} {rest} {v} {one} {two} {all} is view parts few a b =
     let at = (index + i) % rows in
-    let rest = count - first in
+    let n = min count (rows - at) in
     let cells = replicate (count * w) Unknown in
-    let later = drop (first * w) cells in
+    let later = drop (n * w) cells in
     let below : at < rows = mod_below (index + i) rows is.ring.some_rows in
-    let sum : first + rest ≡ count = omega (arith, least) in
-    let both : count * w ≡ first * w + rest * w = ap (λ (n : ℕ). n * w) (sym sum) ∙ add-mul first rest w in
+    let fewer : count ≤ rows = omega (arith, few, row_count is view) in
+    let both : count * w ≡ n * w + (count - n) * w = omega (arith, parts.in_front, parts.others, parts_all parts) in
     let long = length-replicate (count * w) Unknown in
-    let left : later ≡ replicate (count * w - first * w) Unknown = drop-replicate (first * w) (count * w) Unknown in
-    let has : rest * w ≤ length later = omega (arith, both, long, length-drop (first * w) cells) in
-    let x = block_forgotten rows w index at first start many v one cells is (omega (arith, least, below)) (omega (arith, both, long)) (take-replicate (first * w) (count * w) Unknown (omega (arith, both))) start_is many_is a in
-    let y = block_forgotten rows w index 0 rest 0 others one two later x.is (omega (arith, few)) has (ap (take (rest * w)) left ∙ take-replicate (rest * w) (count * w - first * w) Unknown (omega (arith, both))) (omega arith) others_is b in
-    subst (λ (n : ℕ). ArePut rows w index i n v two cells) sum
-    (rows_put rows w index i first rest v one two cells there (omega (arith, least, below)) (omega (arith, few)) (λ some. omega (arith, some, least, below)) (omega (arith, long, ap (λ (n : ℕ). n * w) sum)) x y is)
+    let left : later ≡ replicate (count * w - n * w) Unknown = drop-replicate (n * w) (count * w) Unknown in
+    let has : (count - n) * w ≤ length later = omega (arith, both, long, length-drop (n * w) cells) in
+    let x = block_forgotten rows w index at n start first v one cells is (omega (arith, below)) (omega (arith, both, long)) (take-replicate (n * w) (count * w) Unknown (omega (arith, both))) parts.starts parts.in_front a in
+    let y = block_forgotten rows w index 0 (count - n) 0 rest one two later x.is (omega (arith, fewer)) has (ap (take ((count - n) * w)) left ∙ take-replicate ((count - n) * w) (count * w - n * w) Unknown (omega (arith, both))) (omega arith) parts.others b in
+    subst (λ (k : ℕ). ArePut rows w index i count all two (replicate (count * k) Unknown)) (sym (row_width is view))
+    (parts_put rows w index i count v one two cells all is view fewer (omega (arith, long)) x y)
 
--- ---- a row that was lent has come back with as many cells
-
-pub record HasCameBack (rows w index at : ℕ) (v new : Vec Cell Global) (row : List Cell) : Type 0 where
-  pub is : IsPartlyWritten rows w index new
-  pub items : with_unwritten (rows * w) new.items ≡ with_cells w at (with_unwritten (rows * w) v.items) row
-
-pub record HasDroppedBack (rows w at : ℕ) (v new : Vec Cell Global) (row : List Cell) : Type 0 where
-  pub are : ArePartlyWritten rows w new
-  pub items : with_unwritten (rows * w) new.items ≡ with_cells w at (with_unwritten (rows * w) v.items) row
+-- ---- a row is lent, and comes back with as many cells
 
 came_back : (all w at start : ℕ) (v : Vec Cell Global) (row : List Cell) → at * w + w ≤ length v.items → length row ≡ w → start ≡ at * w
     → with_unwritten all (with_items_from v start row).items ≡ with_cells w at (with_unwritten all v.items) row
@@ -288,32 +279,81 @@ whole_back : (w at start : ℕ) (v : Vec Cell Global) (row : List Cell) → AreW
 whole_back w at start v row ends fits e start_is =
     record { count = ends.count; whole = ap length (vec_written v w at start row start_is fits e) ∙ length-with_cells w at v.items row fits e ∙ ends.whole }
 
-pub row_back : (rows w index at start : ℕ) (v : Vec Cell Global) (row : List Cell) → IsPartlyWritten rows w index v → at < rows → at * w + w ≤ length v.items → length row ≡ w → start ≡ at * w
-    → HasCameBack rows w index at v (with_items_from v start row) row
-row_back rows w index at start v row is below fits e start_is =
-    let all = rows * w in
-    let ys = with_unwritten all v.items in
-    let over = came_back all w at start v row fits e start_is in
+-- the cells that are lent
+abbrev pub lent : ℕ → ℕ → Vec Cell Global → List Cell
+lent w start v = slice_range v.items start (start + w)
+
+-- and as they come back
+abbrev pub came : ℕ → ℕ → Vec Cell Global → List Cell → List Cell
+came w start v cells = refill (length (lent w start v)) (lent w start v) cells
+
+lent_is : (w at start : ℕ) (v : Vec Cell Global) → start ≡ at * w → lent w start v ≡ row_of w v.items at
+lent_is w at start v start_is =
+    let long : start + w - start ≡ w = omega arith in
+    ap (λ (n : ℕ). take n (drop start v.items)) long ∙ ap (λ (k : ℕ). take w (drop k v.items)) start_is
+
+length-came : (w at start : ℕ) (v : Vec Cell Global) (cells : List Cell) → start ≡ at * w → at * w + w ≤ length v.items → length (came w start v cells) ≡ w
+length-came w at start v cells start_is fits =
+    sym (length_refill (length (lent w start v)) (lent w start v) cells refl) ∙ ap length (lent_is w at start v start_is) ∙ length-row_of w v.items at fits
+
+-- what the loan of row i says of the rows
+pub record IsLent (rows w index i start : ℕ) (all : List (List Cell)) (v : Vec Cell Global) : Type 0 where
+  pub value : lent w start v ≡ nth_row all i
+  pub is : (cells : List Cell) → IsPartlyWritten rows w index (with_items_from v start (came w start v cells))
+  pub rows_are : (cells : List Cell) → ring_rows rows w index (with_unwritten (rows * w) (with_items_from v start (came w start v cells)).items) ≡ with_row all i cells
+
+pub row_lent : {rows w index at i start : ℕ} {v : Vec Cell Global} {all : List (List Cell)} → IsFilled rows w index (at + 1) all v → at ≡ (index + i) % rows → i < length all → start ≡ at * w → IsLent rows w index i start all v
+row_lent {rows} {w} {index} {at} {i} {start} {v} {all} filled at_is within start_is =
+    let xs = v.items in
+    let ys = with_unwritten (rows * w) xs in
+    let there : i < rows = omega (arith, row_count filled.is filled.view) in
+    let below : at < rows = omega (arith, at_is, mod_below (index + i) rows filled.is.ring.some_rows) in
+    let fits : at * w + w ≤ length xs = omega (arith, filled.long, one_more at w) in
+    let value : lent w start v ≡ nth_row all i = lent_is w at start v start_is
+    ∙ row_written (rows * w) (at * w) w xs fits
+    ∙ ap (λ (k : ℕ). row_of w ys k) at_is
+    ∙ sym (nth_row-ring_rows rows w index ys i there)
+    ∙ ap (λ (rs : List (List Cell)). nth_row rs i) filled.view in
+    let wide : (cells : List Cell) → length (came w start v cells) ≡ w = λ cells. length-came w at start v cells start_is fits in
+    let back : (cells : List Cell) → with_unwritten (rows * w) (with_items_from v start (came w start v cells)).items ≡ with_cells w at ys (came w start v cells) = λ cells. came_back (rows * w) w at start v (came w start v cells) fits (wide cells) start_is in
+    let whole = ring_fits rows w index at ys filled.is.ring below in
     record {
-      is = record {
-        ring = IsRing-same rows w index ys (with_unwritten all (with_items_from v start row).items) is.ring (ap length over ∙ length-with_cells w at ys row (ring_fits rows w index at ys is.ring below) e);
-        room = is.room;
-        ends = whole_back w at start v row is.ends fits e start_is;
-      };
-      items = over;
+      value = value;
+      is = λ cells. let new = came w start v cells in
+          still_ring filled.is (ap length (back cells) ∙ length-with_cells w at ys new whole (wide cells)) (omega arith) (whole_back w at start v new filled.is.ends fits (wide cells) start_is);
+      rows_are = λ cells. let new = came w start v cells in
+          ap (ring_rows rows w index) (back cells ∙ ap (λ (k : ℕ). with_cells w k ys new) at_is)
+          ∙ ring_written rows w index i ys new filled.is.ring there (wide cells)
+          ∙ ap (λ (rs : List (List Cell)). set rs i new) filled.view
+          ∙ ap (λ (row : List Cell). set all i (refill (length row) row cells)) value;
     }
 
-pub dropped_back : (rows w at start : ℕ) (v : Vec Cell Global) (row : List Cell) → ArePartlyWritten rows w v → at < rows → at * w + w ≤ length v.items → length row ≡ w → start ≡ at * w
-    → HasDroppedBack rows w at v (with_items_from v start row) row
-dropped_back rows w at start v row are below fits e start_is =
-    let all = rows * w in
-    let ys = with_unwritten all v.items in
-    let over = came_back all w at start v row fits e start_is in
+-- and of rows that were dropped
+pub record AreLent (rows w i start : ℕ) (all : List (List Cell)) (v : Vec Cell Global) : Type 0 where
+  pub value : lent w start v ≡ nth_row all i
+  pub are : (cells : List Cell) → ArePartlyWritten rows w (with_items_from v start (came w start v cells))
+  pub rows_are : (cells : List Cell) → rows_of rows w (with_unwritten (rows * w) (with_items_from v start (came w start v cells)).items) ≡ with_row all i cells
+
+pub dropped_lent : {rows w i start : ℕ} {v : Vec Cell Global} {all : List (List Cell)} → AreFilled rows w (i + 1) all v → i < length all → start ≡ i * w → AreLent rows w i start all v
+dropped_lent {rows} {w} {i} {start} {v} {all} filled within start_is =
+    let xs = v.items in
+    let ys = with_unwritten (rows * w) xs in
+    let there : i < rows = omega (arith, dropped_count filled.are filled.view) in
+    let fits : i * w + w ≤ length xs = omega (arith, filled.long, one_more i w) in
+    let value : lent w start v ≡ nth_row all i = lent_is w i start v start_is
+    ∙ row_written (rows * w) (i * w) w xs fits
+    ∙ sym (nth_row-rows_of rows w ys i there)
+    ∙ ap (λ (rs : List (List Cell)). nth_row rs i) filled.view in
+    let wide : (cells : List Cell) → length (came w start v cells) ≡ w = λ cells. length-came w i start v cells start_is fits in
+    let back : (cells : List Cell) → with_unwritten (rows * w) (with_items_from v start (came w start v cells)).items ≡ with_cells w i ys (came w start v cells) = λ cells. came_back (rows * w) w i start v (came w start v cells) fits (wide cells) start_is in
+    let whole = rows_fit rows w i ys filled.are.rows_are there in
     record {
-      are = record {
-        rows_are = record { few_rows = are.rows_are.few_rows; some_sources = are.rows_are.some_sources; few_sources = are.rows_are.few_sources; whole = ap length over ∙ length-with_cells w at ys row (rows_fit rows w at ys are.rows_are below) e ∙ are.rows_are.whole };
-        room = are.room;
-        ends = whole_back w at start v row are.ends fits e start_is;
-      };
-      items = over;
+      value = value;
+      are = λ cells. let new = came w start v cells in
+          still_rows filled.are (ap length (back cells) ∙ length-with_cells w i ys new whole (wide cells)) (omega arith) (whole_back w i start v new filled.are.ends fits (wide cells) start_is);
+      rows_are = λ cells. let new = came w start v cells in
+          ap (rows_of rows w) (back cells)
+          ∙ rows_written rows w i ys new filled.are.rows_are there (wide cells)
+          ∙ ap (λ (rs : List (List Cell)). set rs i new) filled.view
+          ∙ ap (λ (row : List Cell). set all i (refill (length row) row cells)) value;
     }

@@ -1,5 +1,5 @@
 -- Rows of cells in one vector, and rings of them.
-use Rattle.std.proofs.Common.{Vec, Global, ◌≡◌, ◌⊎◌, inl, inr, set, refl, sym, ◌∙◌, ap, subst, ℕ, zero, suc, ◌+◌, ◌-◌, ◌*◌, ◌%◌, ◌<◌, ◌≤◌, List, [], ◌∷◌, ◌++◌, length, get_or, take, drop, replicate, ⊎_elim, arith, length-append, length-drop}
+use Rattle.std.proofs.Common.{Vec, Global, ◌≡◌, ◌⊎◌, inl, inr, set, refl, sym, ◌∙◌, ap, subst, ℕ, zero, suc, ◌+◌, ◌-◌, ◌*◌, ◌%◌, ◌<◌, ◌≤◌, List, [], ◌∷◌, ◌++◌, length, min, get_or, take, drop, replicate, ⊎_elim, arith, length-append, length-drop}
 use Rattle.std.proofs.Math.Seq.{take-append-add}
 use Rattle.std.proofs.Math.Nat.{add-mul, mod-eq_of_lt, mod-eq-sub-mod}
 use Rattle.std.proofs.lemmas.Bool.{cases_lt}
@@ -9,10 +9,10 @@ use Rattle.std.proofs.lemmas.List.FromFn.{length-map-range_with_len, get_or-map-
 use Rattle.std.specs.Vec.{with_items_from}
 use Rattle.rrd_fixed.specs.declared.cell.Cell.{Cell}
 use Rattle.rrd_fixed.specs.declared.cell.Cell.TheVariants.{Unknown}
-use Rattle.rrd_ring.specs.Rows.{nth_row, row_cells, width, HasWidth, unknown_rows, IsArchive, AreDropped, max_rows}
-use Rattle.rrd_ring.specs.Ring.{row_of, rows_of, ring_rows, from_index, IsRing, AreRows}
+use Rattle.rrd_ring.specs.Rows.{nth_row, row_cells, width, HasWidth, unknown_rows, AreDropped, max_rows}
+use Rattle.rrd_ring.specs.Ring.{row_of, rows_of, ring_rows, cells_in, from_index, AreParts, IsRing, AreRows}
 use Rattle.rrd_ring.specs.Widths.{width_is}
-use Rattle.rrd_ring.proofs.RowLemmas.{IsArchive-from_width, AreDropped-from_width}
+use Rattle.rrd_ring.proofs.RowLemmas.{AreDropped-from_width}
 
 -- ---- places
 
@@ -199,13 +199,6 @@ HasWidth-ring_rows rows w index xs is =
     subst (λ (all : List (List Cell)). HasWidth w all) (sym (ring_rows-from_index rows w index xs is.index_within is.whole))
     (HasWidth-rows_of rows w (from_index (index * w) xs) (length-turned rows w index xs is))
 
-pub IsArchive-ring_rows : (rows w index : ℕ) (xs : List Cell) → IsRing rows w index xs → IsArchive (ring_rows rows w index xs)
-IsArchive-ring_rows rows w index xs is =
-    let count = length-ring_rows rows w index xs in
-    let some : 0 < rows = is.some_rows in
-    let few : rows ≤ max_rows = is.few_rows in
-    IsArchive-from_width w (ring_rows rows w index xs) (HasWidth-ring_rows rows w index xs is) (omega arith) (omega arith) is.some_sources is.few_sources
-
 pub ring_len : (rows w index : ℕ) (xs : List Cell) (all : List (List Cell)) → ring_rows rows w index xs ≡ all → length all ≡ rows
 ring_len rows w index xs all e = ap length (sym e) ∙ length-ring_rows rows w index xs
 
@@ -310,7 +303,7 @@ ring_push rows w index xs row is e =
     ∙ ap (λ (zs : List (List Cell)). drop 1 (ring_rows rows w index xs) ++ zs) (rows_of_one w row e)
     ∙ sym (drop-append-le 1 (ring_rows rows w index xs) (row ∷ []) (omega (arith, length-ring_rows rows w index xs)))
 
--- ---- rows come back, and the oldest and the newest are copied
+-- ---- rows are put back
 
 -- rows of one width have as many cells as their numbers say
 same_width : (n v w : ℕ) (ys : List Cell) → 0 < n → length ys ≡ n * v → HasWidth w (rows_of n v ys) → v ≡ w
@@ -329,10 +322,6 @@ same_rows (suc n) v w ys e h = ap (λ (k : ℕ). rows_of (suc n) k ys) (same_wid
 pub ring_take : (n rows w index : ℕ) (xs : List Cell) → n ≤ rows → IsRing rows w index xs → rows_of n w (take (n * w) (from_index (index * w) xs)) ≡ take n (ring_rows rows w index xs)
 ring_take n rows w index xs h is =
     rows_of-take n rows w (from_index (index * w) xs) h (length-turned rows w index xs is) ∙ ap (take n) (sym (ring_rows-from_index rows w index xs is.index_within is.whole))
-
-pub ring_drop : (n rows w index : ℕ) (xs : List Cell) → n ≤ rows → IsRing rows w index xs → rows_of (rows - n) w (drop (n * w) (from_index (index * w) xs)) ≡ drop n (ring_rows rows w index xs)
-ring_drop n rows w index xs h is =
-    rows_of-drop n rows w (from_index (index * w) xs) h (length-turned rows w index xs is) ∙ ap (drop n) (sym (ring_rows-from_index rows w index xs is.index_within is.whole))
 
 pub ring_put_back : (n rows w index : ℕ) (xs new ds : List Cell) → n ≤ rows → IsRing rows w index xs → length new ≡ length xs → length ds ≡ n * w
     → from_index (((index + (rows - n)) % rows) * w) new ≡ ds ++ drop (length ds) (from_index (((index + (rows - n)) % rows) * w) xs)
@@ -354,26 +343,10 @@ ring_put_back n rows w index xs new ds h is l ld e =
     ∙ rows_of-append n kept w ds (take (kept * w) turned) ld
     ∙ ap (λ (zs : List (List Cell)). rows_of n w ds ++ zs) (ring_take kept rows w index xs (omega arith) is)
 
--- the newest rows, in as many cells as they have
-pub ring_newest : (kept rows w index : ℕ) (xs : List Cell) → kept ≤ rows → IsRing rows w index xs
-    → rows_of kept w (take (kept * w) (from_index (((index + (rows - kept)) % rows) * w) xs)) ≡ drop (rows - kept) (ring_rows rows w index xs)
-ring_newest kept rows w index xs h is =
-    let gone = rows - kept in
-    let turned = from_index (index * w) xs in
-    let lt = length-turned rows w index xs is in
-    let all_rows : rows ≡ gone + kept = omega arith in
-    let left : rows - gone ≡ kept = omega arith in
-    let count : rows * w ≡ gone * w + kept * w = ap (λ (k : ℕ). k * w) all_rows ∙ add-mul gone kept w in
-    let ending : length (drop (gone * w) turned) ≡ kept * w = omega (arith, length-drop (gone * w) turned) in
-    ap (λ (zs : List Cell). rows_of kept w (take (kept * w) zs)) (sym (from_index-rows rows w index gone xs is.whole is.index_within (omega arith)))
-    ∙ ap (rows_of kept w) (take_at (drop (gone * w) turned) (take (gone * w) turned) (kept * w) ending)
-    ∙ ap (λ (k : ℕ). rows_of k w (drop (gone * w) turned)) (sym left)
-    ∙ ring_drop gone rows w index xs (omega arith) is
-
 -- ---- two pieces of a vector
 
 -- the cells before the end, and those that are left from the front
-pub copied_from : (xs : List Cell) (s f g : ℕ) → s ≤ length xs → f ≤ length xs - s → g ≤ s → (g ≡ 0) ⊎ (length xs - s ≤ f) → take f (drop s xs) ++ take g xs ≡ take (f + g) (from_index s xs)
+copied_from : (xs : List Cell) (s f g : ℕ) → s ≤ length xs → f ≤ length xs - s → g ≤ s → (g ≡ 0) ⊎ (length xs - s ≤ f) → take f (drop s xs) ++ take g xs ≡ take (f + g) (from_index s xs)
 copied_from xs s f g hs hf hg which =
     let lb = length-drop s xs in
     ⊎_elim (λ (none : g ≡ 0).
@@ -445,40 +418,52 @@ ring_unknown rows w index within =
     ∙ ap (λ (n : ℕ). replicate n Unknown) sum in
     ring_rows-from_index rows w index (replicate all Unknown) within (length-replicate all Unknown) ∙ ap (rows_of rows w) same ∙ rows_of_unknown rows w
 
-pub AreRows-take : (n rows w index : ℕ) (xs : List Cell) → n ≤ rows → IsRing rows w index xs → AreRows n w (take (n * w) (from_index (index * w) xs))
-AreRows-take n rows w index xs h is =
-    let few : rows ≤ max_rows = is.few_rows in
-    record {
-      few_rows = omega arith;
-      some_sources = is.some_sources;
-      few_sources = is.few_sources;
-      whole = length-take-le (n * w) (from_index (index * w) xs) (omega (arith, length-turned rows w index xs is, cells_le n rows w h));
-    }
+-- ---- some rows of a ring, in two parts of its vector
 
--- the cells of the newest rows, after unknown ones
-pub length-resized : (n kept rows w index : ℕ) (xs : List Cell) → kept ≤ n → kept ≤ rows → IsRing rows w index xs
-    → length (replicate ((n - kept) * w) Unknown ++ take (kept * w) (from_index (((index + (rows - kept)) % rows) * w) xs)) ≡ n * w
-length-resized n kept rows w index xs h k is =
-    let some : 0 < rows = is.some_rows in
-    let start = ((index + (rows - kept)) % rows) * w in
-    let below : (index + (rows - kept)) % rows < rows = mod_below (index + (rows - kept)) rows some in
-    let within : start ≤ length xs = omega (arith, is.whole, cells_le ((index + (rows - kept)) % rows) rows w (omega arith)) in
-    let part : length (take (kept * w) (from_index start xs)) ≡ kept * w = length-take-le (kept * w) (from_index start xs) (omega (arith, length-from_index start xs within, is.whole, cells_le kept rows w k)) in
-    let all_rows : n ≡ n - kept + kept = omega arith in
-    let count : n * w ≡ (n - kept) * w + kept * w = ap (λ (m : ℕ). m * w) all_rows ∙ add-mul (n - kept) kept w in
-    omega (arith, length-append (replicate ((n - kept) * w) Unknown) (take (kept * w) (from_index start xs)), length-replicate ((n - kept) * w) Unknown, part, count)
+pub parts_all : {rows w index i count start front rest : ℕ} → AreParts rows w index i count start front rest → front + rest ≡ count * w
+parts_all {rows} {w} {index} {i} {count} parts =
+    let first = min count (rows - (index + i) % rows) in
+    let sum : first + (count - first) ≡ count = omega arith in
+    omega (arith, parts.in_front, parts.others, add-mul first (count - first) w, ap (λ (n : ℕ). n * w) sum)
 
-pub ring_resized : (n kept rows w index : ℕ) (xs : List Cell) (all : List (List Cell)) → 0 < n → kept ≤ n → kept ≤ rows → IsRing rows w index xs → ring_rows rows w index xs ≡ all
-    → ring_rows n w 0 (replicate ((n - kept) * w) Unknown ++ take (kept * w) (from_index (((index + (rows - kept)) % rows) * w) xs)) ≡ unknown_rows (n - kept) w ++ drop (rows - kept) all
-ring_resized n kept rows w index xs all some fewer within is e =
-    let unknown = replicate ((n - kept) * w) Unknown in
-    let part = take (kept * w) (from_index (((index + (rows - kept)) % rows) * w) xs) in
-    let all_rows : n ≡ n - kept + kept = omega arith in
-    ring_at_front n w (unknown ++ part) some (length-resized n kept rows w index xs fewer within is)
-    ∙ ap (λ (k : ℕ). rows_of k w (unknown ++ part)) all_rows
-    ∙ rows_of-append (n - kept) kept w unknown part (length-replicate ((n - kept) * w) Unknown)
-    ∙ ap (λ (zs : List (List Cell)). zs ++ rows_of kept w part) (rows_of_unknown (n - kept) w)
-    ∙ ap (λ (zs : List (List Cell)). unknown_rows (n - kept) w ++ zs) (ring_newest kept rows w index xs within is ∙ ap (drop (rows - kept)) e)
+parts_from : {rows w index i count start front rest : ℕ} (xs : List Cell) → AreParts rows w index i count start front rest → IsRing rows w index xs → count ≤ rows
+    → cells_in start front rest xs ≡ take (count * w) (from_index (((index + i) % rows) * w) xs)
+parts_from {rows} {w} {index} {i} {count} {start} {front} {rest} xs parts is few =
+    let at = (index + i) % rows in
+    let below : at < rows = mod_below (index + i) rows is.some_rows in
+    let sum : at + (rows - at) ≡ rows = omega arith in
+    let left : length xs - start ≡ (rows - at) * w = omega (arith, is.whole, parts.starts, add-mul at (rows - at) w, ap (λ (n : ℕ). n * w) sum) in
+    let within : start ≤ length xs = omega (arith, is.whole, parts.starts, cells_le at rows w (omega arith)) in
+    let fits : front ≤ length xs - start = omega (arith, left, parts.in_front, cells_le (min count (rows - at)) (rows - at) w (omega arith)) in
+    let before : rest ≤ start = omega (arith, parts.starts, parts.others, cells_le (count - min count (rows - at)) at w (omega arith)) in
+    let which : (rest ≡ 0) ⊎ (length xs - start ≤ front) =
+    ⊎_elim (λ (more : rows - at < count). let full : min count (rows - at) ≡ rows - at = omega arith in inr (omega (arith, left, parts.in_front, ap (λ (n : ℕ). n * w) full)))
+    (λ (enough : count ≤ rows - at). let none : count - min count (rows - at) ≡ 0 = omega arith in inl (omega (arith, parts.others, ap (λ (n : ℕ). n * w) none)))
+    (cases_lt (rows - at) count) in
+    copied_from xs start front rest within fits before which
+    ∙ ap (λ (n : ℕ). take n (from_index start xs)) (parts_all parts)
+    ∙ ap (λ (n : ℕ). take (count * w) (from_index n xs)) parts.starts
+
+pub length-parts : {rows w index i count start front rest : ℕ} (xs : List Cell) → AreParts rows w index i count start front rest → IsRing rows w index xs → count ≤ rows → length (cells_in start front rest xs) ≡ count * w
+length-parts {rows} {w} {index} {i} {count} xs parts is few =
+    let at = (index + i) % rows in
+    let below : at < rows = mod_below (index + i) rows is.some_rows in
+    let within : at * w ≤ length xs = omega (arith, is.whole, cells_le at rows w (omega arith)) in
+    ap length (parts_from xs parts is few) ∙ length-take-le (count * w) (from_index (at * w) xs) (omega (arith, length-from_index (at * w) xs within, is.whole, cells_le count rows w few))
+
+pub rows_of-parts : {rows w index i count start front rest : ℕ} (xs : List Cell) → AreParts rows w index i count start front rest → IsRing rows w index xs → i + count ≤ rows
+    → rows_of count w (cells_in start front rest xs) ≡ take count (drop i (ring_rows rows w index xs))
+rows_of-parts {rows} {w} {index} {i} {count} xs parts is fits =
+    let turned = from_index (index * w) xs in
+    let lt = length-turned rows w index xs is in
+    let back = drop (i * w) turned in
+    let sum : i + (rows - i) ≡ rows = omega arith in
+    let long : length back ≡ (rows - i) * w = omega (arith, length-drop (i * w) turned, lt, add-mul i (rows - i) w, ap (λ (n : ℕ). n * w) sum) in
+    ap (rows_of count w) (parts_from xs parts is (omega arith)
+    ∙ ap (take (count * w)) (sym (from_index-rows rows w index i xs is.whole is.index_within (omega arith)))
+    ∙ take-append-le (count * w) back (take (i * w) turned) (omega (arith, long, cells_le count (rows - i) w (omega arith))))
+    ∙ rows_of-take count (rows - i) w back (omega arith) long
+    ∙ ap (take count) (rows_of-drop i rows w turned (omega arith) lt ∙ ap (drop i) (sym (ring_rows-from_index rows w index xs is.index_within is.whole)))
 
 -- ---- a row is written over
 

@@ -3,12 +3,13 @@ use Rattle.std.proofs.Common.{Vec, Global, ◌≡◌, ◌⊎◌, inl, inr, min, 
 use Rattle.std.proofs.Math.Nat.{add-mul, mul-div_cancel}
 use Rattle.std.proofs.lemmas.Bool.{cases_lt}
 use Rattle.std.proofs.lemmas.Nat.{row_fits, mod_below}
-use Rattle.std.proofs.lemmas.List.{append_assoc, append-nil, take-append-drop, replicate-append-replicate, length-take-le, length-replicate, take-append-le, take_min, drop-append-le, drop-drop, take_at, drop_at, take_all, drop_all, take-replicate, drop-replicate}
+use Rattle.std.proofs.lemmas.List.{append_assoc, append-nil, take-append-drop, replicate-append-replicate, length-take-le, length-replicate, take-append-le, take_min, drop-append-le, drop-drop, take_at, drop_at, take_all, drop_all, take-replicate, drop-replicate, with_items_is}
 use Rattle.rrd_fixed.specs.declared.cell.Cell.{Cell}
 use Rattle.rrd_fixed.specs.declared.cell.Cell.TheVariants.{Unknown}
-use Rattle.rrd_ring.specs.Rows.{width, newest_rows, unknown_rows}
-use Rattle.rrd_ring.specs.Ring.{from_index, ring_rows, rows_of, with_unwritten, AreRows, AreWhole, ArePartlyWritten, IsRing, IsPartlyWritten}
-use Rattle.rrd_ring.proofs.RingLemmas.{cells_le, with_cells, length-with_cells, ring_fits, ring_take, ring_unknown, rows_of_unknown}
+use Rattle.rrd_ring.specs.Rows.{HasWidth, width, max_rows, newest_rows, unknown_rows}
+use Rattle.rrd_ring.specs.Ring.{cells_in, from_index, ring_rows, rows_of, with_unwritten, AreParts, AreRows, AreWhole, AreWritten, ArePartlyWritten, IsRing, IsPartlyWritten}
+use Rattle.rrd_ring.proofs.RingLemmas.{cells_le, with_cells, length-parts, length-ring_rows, length-rows_of, length-with_cells, ring_at_front, ring_fits, ring_len, ring_push, ring_put_back, ring_take, ring_unknown, ring_width, rows_len, rows_of-append, rows_of-parts, rows_of_unknown, same_cells, same_rows}
+use Rattle.std.specs.Vec.{with_items}
 
 -- ---- the cells
 
@@ -45,12 +46,6 @@ filled_further all n xs h = ⊎_elim
 
 pub filled_long : (n : ℕ) (xs : List Cell) → n ≤ length (with_unwritten n xs)
 filled_long n xs = omega (arith, length-append xs (replicate (n - length xs) Unknown), length-replicate (n - length xs) Unknown)
-
--- a vector is filled up by a resize
-pub filled_up : (end n : ℕ) (xs : List Cell) → n ≡ length xs → length xs ≤ end → take end xs ++ replicate (end - n) Unknown ≡ with_unwritten end xs
-filled_up end n xs e h =
-    ap (λ (zs : List Cell). zs ++ replicate (end - n) Unknown) (take_all end xs h)
-    ∙ ap (λ (k : ℕ). xs ++ replicate (end - k) Unknown) e
 
 -- whole rows stay whole
 pub whole_filled : (w k : ℕ) (xs : List Cell) → AreWhole w xs → AreWhole w (with_unwritten (k * w) xs)
@@ -162,6 +157,16 @@ forgotten all start n end xs new fits is some items =
 
 -- ---- the invariant
 
+-- how many rows there are, and how many cells each has
+pub row_count : {rows w index : ℕ} {v : Vec Cell Global} {all : List (List Cell)} → IsPartlyWritten rows w index v → ring_rows rows w index (with_unwritten (rows * w) v.items) ≡ all → length all ≡ rows
+row_count {rows} {w} {index} {v} {all} is view = ring_len rows w index (with_unwritten (rows * w) v.items) all view
+
+pub row_width : {rows w index : ℕ} {v : Vec Cell Global} {all : List (List Cell)} → IsPartlyWritten rows w index v → ring_rows rows w index (with_unwritten (rows * w) v.items) ≡ all → width all ≡ w
+row_width {rows} {w} {index} {v} {all} is view = ring_width rows w index (with_unwritten (rows * w) v.items) all is.ring view
+
+pub dropped_count : {rows w : ℕ} {v : Vec Cell Global} {all : List (List Cell)} → ArePartlyWritten rows w v → rows_of rows w (with_unwritten (rows * w) v.items) ≡ all → length all ≡ rows
+dropped_count {rows} {w} {v} {all} are view = rows_len rows w (with_unwritten (rows * w) v.items) all view
+
 pub ring_le : (rows w index : ℕ) (v : Vec Cell Global) → IsPartlyWritten rows w index v → length v.items ≤ rows * w
 ring_le rows w index v is = written_le (rows * w) v.items is.ring.whole
 
@@ -180,9 +185,9 @@ next_row w k xs is le = ⊎_elim
     (cases_lt (k * w) (length xs))
 
 -- so many rows are written
-pub rows_in : (w len : ℕ) (xs : List Cell) → 0 < w → AreWhole w xs → len ≡ length xs → len / w * w ≡ length xs
-rows_in w len xs some is e =
-    let count : len / w ≡ is.count = ap (λ (n : ℕ). n / w) (e ∙ is.whole) ∙ mul-div_cancel is.count some in
+pub rows_in : (w : ℕ) (xs : List Cell) → 0 < w → AreWhole w xs → length xs / w * w ≡ length xs
+rows_in w xs some is =
+    let count : length xs / w ≡ is.count = ap (λ (n : ℕ). n / w) is.whole ∙ mul-div_cancel is.count some in
     ap (λ (n : ℕ). n * w) count ∙ sym is.whole
 
 -- of rows that lie together, as far as they are written or one that isn't, there are no more than all
@@ -204,20 +209,43 @@ run_one w index n written xs some is behind past = ⊎_elim
     (λ (after : written ≤ index). let one : 1 * w ≡ w = omega arith in ap (λ (k : ℕ). k * w) (behind after) ∙ one)
     (cases_lt index written)
 
--- filled up as far as some row, it is the same ring
-pub filled_ring : (rows w index k : ℕ) (v new : Vec Cell Global) → IsPartlyWritten rows w index v → k ≤ rows → new.items ≡ with_unwritten (k * w) v.items → vec_capacity v ≤ vec_capacity new
-    → IsPartlyWritten rows w index new
-filled_ring rows w index k v new is h items room =
-    let same : with_unwritten (rows * w) new.items ≡ with_unwritten (rows * w) v.items = ap (with_unwritten (rows * w)) items ∙ filled_further (rows * w) (k * w) v.items (cells_le k rows w h) in
+-- other cells, if they are as many and in whole rows
+pub same_ring : (rows w index : ℕ) (xs ys : List Cell) → IsRing rows w index xs → length ys ≡ length xs → IsRing rows w index ys
+same_ring rows w index xs ys is e = record { some_rows = is.some_rows; few_rows = is.few_rows; some_sources = is.some_sources; few_sources = is.few_sources; whole = e ∙ is.whole; index_within = is.index_within }
+
+pub still_ring : {rows w index : ℕ} {v new : Vec Cell Global} → IsPartlyWritten rows w index v → length (with_unwritten (rows * w) new.items) ≡ length (with_unwritten (rows * w) v.items) → vec_capacity v ≤ vec_capacity new → AreWhole w new.items → IsPartlyWritten rows w index new
+still_ring {rows} {w} {index} {v} {new} is as_long room ends =
     let had : rows * w ≤ vec_capacity v = is.room in
+    record { ring = same_ring rows w index (with_unwritten (rows * w) v.items) (with_unwritten (rows * w) new.items) is.ring as_long; room = omega (arith, had, room); ends = ends }
+
+pub still_rows : {rows w : ℕ} {v new : Vec Cell Global} → ArePartlyWritten rows w v → length (with_unwritten (rows * w) new.items) ≡ length (with_unwritten (rows * w) v.items) → vec_capacity v ≤ vec_capacity new → AreWhole w new.items → ArePartlyWritten rows w new
+still_rows {rows} {w} {v} {new} are as_long room ends =
+    let had : rows * w ≤ vec_capacity v = are.room in
     record {
-      ring = subst (IsRing rows w index) (sym same) is.ring;
+      rows_are = record { few_rows = are.rows_are.few_rows; some_sources = are.rows_are.some_sources; few_sources = are.rows_are.few_sources; whole = as_long ∙ are.rows_are.whole };
       room = omega (arith, had, room);
-      ends = subst (AreWhole w) (sym items) (whole_filled w k v.items is.ends);
+      ends = ends;
+    }
+
+-- filled up as far as row k, it is the same ring
+pub record IsFilled (rows w index k : ℕ) (all : List (List Cell)) (new : Vec Cell Global) : Type 0 where
+  pub is : IsPartlyWritten rows w index new
+  pub view : ring_rows rows w index (with_unwritten (rows * w) new.items) ≡ all
+  pub long : k * w ≤ length new.items
+
+pub ring_filled : {rows w index k end : ℕ} {v new : Vec Cell Global} {all : List (List Cell)} → IsPartlyWritten rows w index v → ring_rows rows w index (with_unwritten (rows * w) v.items) ≡ all → k ≤ rows → end ≡ k * w → new.items ≡ with_unwritten end v.items → vec_capacity v ≤ vec_capacity new
+    → IsFilled rows w index k all new
+ring_filled {rows} {w} {index} {k} {end} {v} {new} is view h end_is put room =
+    let items : new.items ≡ with_unwritten (k * w) v.items = put ∙ ap (λ (n : ℕ). with_unwritten n v.items) end_is in
+    let same : with_unwritten (rows * w) new.items ≡ with_unwritten (rows * w) v.items = ap (with_unwritten (rows * w)) items ∙ filled_further (rows * w) (k * w) v.items (cells_le k rows w h) in
+    record {
+      is = still_ring is (ap length same) room (subst (AreWhole w) (sym items) (whole_filled w k v.items is.ends));
+      view = ap (ring_rows rows w index) same ∙ view;
+      long = omega (arith, ap length items, filled_long (k * w) v.items);
     }
 
 -- the ring with a row in the place of its oldest one
-pub pushed_cells : (rows w index : ℕ) (v : Vec Cell Global) (row : List Cell) → IsPartlyWritten rows w index v → index * w ≤ length v.items → length row ≡ w
+pushed_cells : (rows w index : ℕ) (v : Vec Cell Global) (row : List Cell) → IsPartlyWritten rows w index v → index * w ≤ length v.items → length row ≡ w
     → with_unwritten (rows * w) (take (index * w) v.items ++ (row ++ drop (length row) (drop (index * w) v.items))) ≡ with_cells w index (with_unwritten (rows * w) v.items) row
 pushed_cells rows w index v row is le e =
     let within : index < rows = is.ring.index_within in
@@ -244,25 +272,35 @@ pushed_ends w index ys row is le e =
     (λ (behind : index * w ≡ length ys). let it : AreWhole w new = record { count = index + 1; whole = length-put_behind (index * w) w ys row e behind ∙ sym next } in it)
     (next_row w index ys is le)
 
-pub pushed : (rows w index : ℕ) (v new : Vec Cell Global) (row : List Cell) → IsPartlyWritten rows w index v → index * w ≤ length v.items → length row ≡ w
-    → new.items ≡ take (index * w) v.items ++ (row ++ drop (length row) (drop (index * w) v.items)) → vec_capacity new ≡ vec_capacity v
-    → IsPartlyWritten rows w ((index + 1) % rows) new
-pushed rows w index v new row is le e items room =
+-- a row was pushed
+pub record IsPushed (rows w index : ℕ) (all : List (List Cell)) (new : Vec Cell Global) (row : List Cell) : Type 0 where
+  pub is : IsPartlyWritten rows w ((index + 1) % rows) new
+  pub rows_are : ring_rows rows w ((index + 1) % rows) (with_unwritten (rows * w) new.items) ≡ drop 1 (all ++ row ∷ [])
+
+pub row_pushed : {rows w index start : ℕ} {v new : Vec Cell Global} {all : List (List Cell)} {row : List Cell} → IsFilled rows w index index all v → start ≡ index * w → length row ≡ width all
+    → new.items ≡ take start v.items ++ (row ++ drop (length row) (drop start v.items)) → vec_capacity new ≡ vec_capacity v → IsPushed rows w index all new row
+row_pushed {rows} {w} {index} {start} {v} {new} {all} {row} filled start_is one_each put room =
+    let is = filled.is in
     let xs = with_unwritten (rows * w) v.items in
+    let e : length row ≡ w = one_each ∙ row_width is filled.view in
+    let items : new.items ≡ take (index * w) v.items ++ (row ++ drop (length row) (drop (index * w) v.items)) = put ∙ ap (λ (k : ℕ). take k v.items ++ (row ++ drop (length row) (drop k v.items))) start_is in
+    let cells : with_unwritten (rows * w) new.items ≡ with_cells w index xs row = ap (with_unwritten (rows * w)) items ∙ pushed_cells rows w index v row is filled.long e in
     record {
-      ring = record {
-        some_rows = is.ring.some_rows;
-        few_rows = is.ring.few_rows;
-        some_sources = is.ring.some_sources;
-        few_sources = is.ring.few_sources;
-        whole = ap (λ (ys : List Cell). length (with_unwritten (rows * w) ys)) items
-            ∙ ap length (pushed_cells rows w index v row is le e)
-            ∙ length-with_cells w index xs row (ring_fits rows w index index xs is.ring is.ring.index_within) e
-            ∙ is.ring.whole;
-        index_within = mod_below (index + 1) rows is.ring.some_rows;
+      is = record {
+        ring = record {
+          some_rows = is.ring.some_rows;
+          few_rows = is.ring.few_rows;
+          some_sources = is.ring.some_sources;
+          few_sources = is.ring.few_sources;
+          whole = ap length cells ∙ length-with_cells w index xs row (ring_fits rows w index index xs is.ring is.ring.index_within) e ∙ is.ring.whole;
+          index_within = mod_below (index + 1) rows is.ring.some_rows;
+        };
+        room = subst (λ (n : ℕ). rows * w ≤ n) (sym room) is.room;
+        ends = subst (AreWhole w) (sym items) (pushed_ends w index v.items row is.ends filled.long e);
       };
-      room = subst (λ (n : ℕ). rows * w ≤ n) (sym room) is.room;
-      ends = subst (AreWhole w) (sym items) (pushed_ends w index v.items row is.ends le e);
+      rows_are = ap (ring_rows rows w ((index + 1) % rows)) cells
+          ∙ ring_push rows w index xs row is.ring e
+          ∙ ap (λ (rs : List (List Cell)). drop 1 (rs ++ row ∷ [])) filled.view;
     }
 
 -- all of it is written
@@ -275,30 +313,17 @@ wholly rows w index v is = record {
 
 -- ---- what isn't written
 
--- so many of the newest rows can be written: none where no cell is, those before the oldest one's index where what is
--- written ends there or before it, and else all
-abbrev pub AreWritten : ℕ → ℕ → ℕ → ℕ → ℕ → Type 0
-AreWritten rows w index len written = (len ≡ 0 → written ≡ 0) × (0 < len → len ≤ index * w → written ≡ index) × (index * w < len → written ≡ rows)
-
 which : (rows w index written : ℕ) (v : Vec Cell Global) → AreWritten rows w index (vec_len v) written → (written ≡ rows) ⊎ (((written ≡ index) × (length v.items ≤ index * w)) ⊎ ((written ≡ 0) × (length v.items ≡ 0)))
 which rows w index written v are =
     let len = v.ok.0 in
-    ⊎_elim (λ (behind : index * w < vec_len v). inl (are.2 behind))
-    (λ (within : vec_len v ≤ index * w). inr (⊎_elim (λ (some : 0 < vec_len v). inl (are.1 some within, omega (arith, len, within)))
-    (λ (least : vec_len v ≤ 0). let none : vec_len v ≡ 0 = omega (arith, least) in inr (are.0 none, omega (arith, len, none)))
+    ⊎_elim (λ (behind : index * w < vec_len v). inl (are.all behind))
+    (λ (within : vec_len v ≤ index * w). inr (⊎_elim (λ (some : 0 < vec_len v). inl (are.part some within, omega (arith, len, within)))
+    (λ (least : vec_len v ≤ 0). let none : vec_len v ≡ 0 = omega (arith, least) in inr (are.none none, omega (arith, len, none)))
     (cases_lt 0 (vec_len v))))
     (cases_lt (index * w) (vec_len v))
 
-pub are_few : (rows w index written : ℕ) (v : Vec Cell Global) → IsPartlyWritten rows w index v → AreWritten rows w index (vec_len v) written → written ≤ rows
-are_few rows w index written v is are =
-    let within : index < rows = is.ring.index_within in
-    ⊎_elim (λ (all : written ≡ rows). omega (arith, all))
-    (λ (fewer : ((written ≡ index) × (length v.items ≤ index * w)) ⊎ ((written ≡ 0) × (length v.items ≡ 0))).
-    ⊎_elim (λ (part : (written ≡ index) × (length v.items ≤ index * w)). omega (arith, part.0)) (λ (none : (written ≡ 0) × (length v.items ≡ 0)). omega (arith, none.0)) fewer)
-    (which rows w index written v are)
-
 -- the others are the oldest, and unknown
-pub unwritten_rows : (rows w index written : ℕ) (v : Vec Cell Global) → IsPartlyWritten rows w index v → AreWritten rows w index (vec_len v) written
+unwritten_rows : (rows w index written : ℕ) (v : Vec Cell Global) → IsPartlyWritten rows w index v → AreWritten rows w index (vec_len v) written
     → take (rows - written) (ring_rows rows w index (with_unwritten (rows * w) v.items)) ≡ unknown_rows (rows - written) w
 unwritten_rows rows w index written v is are =
     let xs = v.items in
@@ -328,8 +353,13 @@ unwritten_rows rows w index written v is are =
     fewer)
     (which rows w index written v are)
 
+pub never_written_rows : {rows w index len written : ℕ} {v : Vec Cell Global} {all : List (List Cell)} → IsPartlyWritten rows w index v → ring_rows rows w index (with_unwritten (rows * w) v.items) ≡ all → len ≡ vec_len v → AreWritten rows w index len written
+    → take (rows - written) all ≡ unknown_rows (rows - written) w
+never_written_rows {rows} {w} {index} {len} {written} {v} is view len_is are =
+    ap (take (rows - written)) (sym view) ∙ unwritten_rows rows w index written v is (subst (λ (n : ℕ). AreWritten rows w index n written) len_is are)
+
 -- the newest rows, where the oldest of them are unknown: as many as there are of the others, after unknown ones
-pub newest_of_known : (n known w : ℕ) (rows : List (List Cell)) → known ≤ length rows → width rows ≡ w → take (length rows - known) rows ≡ unknown_rows (length rows - known) w
+newest_of_known : (n known w : ℕ) (rows : List (List Cell)) → known ≤ length rows → width rows ≡ w → take (length rows - known) rows ≡ unknown_rows (length rows - known) w
     → unknown_rows (n - min n known) w ++ drop (length rows - min n known) rows ≡ newest_rows n rows
 newest_of_known n known w rows few e unknown =
     let gap = length rows - known in
@@ -399,14 +429,21 @@ part_copied all s n xs fits h =
 
 -- ---- rows that fell out
 
-pub filled_rows : (rows w k : ℕ) (v new : Vec Cell Global) → ArePartlyWritten rows w v → k ≤ rows → new.items ≡ with_unwritten (k * w) v.items → vec_capacity v ≤ vec_capacity new → ArePartlyWritten rows w new
-filled_rows rows w k v new are h items room =
+-- filled up as far as row k, they are the same rows
+pub record AreFilled (rows w k : ℕ) (all : List (List Cell)) (new : Vec Cell Global) : Type 0 where
+  pub are : ArePartlyWritten rows w new
+  pub view : rows_of rows w (with_unwritten (rows * w) new.items) ≡ all
+  pub long : k * w ≤ length new.items
+
+pub rows_filled : {rows w k end : ℕ} {v new : Vec Cell Global} {all : List (List Cell)} → ArePartlyWritten rows w v → rows_of rows w (with_unwritten (rows * w) v.items) ≡ all → k ≤ rows → end ≡ k * w → new.items ≡ with_unwritten end v.items → vec_capacity v ≤ vec_capacity new
+    → AreFilled rows w k all new
+rows_filled {rows} {w} {k} {end} {v} {new} are view h end_is put room =
+    let items : new.items ≡ with_unwritten (k * w) v.items = put ∙ ap (λ (n : ℕ). with_unwritten n v.items) end_is in
     let same : with_unwritten (rows * w) new.items ≡ with_unwritten (rows * w) v.items = ap (with_unwritten (rows * w)) items ∙ filled_further (rows * w) (k * w) v.items (cells_le k rows w h) in
-    let had : rows * w ≤ vec_capacity v = are.room in
     record {
-      rows_are = subst (AreRows rows w) (sym same) are.rows_are;
-      room = omega (arith, had, room);
-      ends = subst (AreWhole w) (sym items) (whole_filled w k v.items are.ends);
+      are = still_rows are (ap length same) room (subst (AreWhole w) (sym items) (whole_filled w k v.items are.ends));
+      view = ap (rows_of rows w) same ∙ view;
+      long = omega (arith, ap length items, filled_long (k * w) v.items);
     }
 
 -- all of them are written
@@ -416,3 +453,114 @@ wholly_rows rows w v are = record {
   room = let within : vec_len v ≤ vec_capacity v = v.ok.1 in omega (arith, within, v.ok.0, are.whole);
   ends = record { count = rows; whole = are.whole };
 }
+
+-- ---- rows are copied
+
+pub record AreCopied (n w : ℕ) (old : List (List Cell)) (new : Vec Cell Global) : Type 0 where
+  pub are : ArePartlyWritten n w new
+  pub rows_are : rows_of n w (with_unwritten (n * w) new.items) ≡ take n old
+
+-- the oldest
+pub oldest_copied : {rows w index n start front rest : ℕ} {v new : Vec Cell Global} {all : List (List Cell)} → IsPartlyWritten rows w index v → ring_rows rows w index (with_unwritten (rows * w) v.items) ≡ all → AreParts rows w index 0 n start front rest → n ≤ length all
+    → new.items ≡ cells_in start front rest (with_unwritten (rows * w) v.items) → AreCopied n w all new
+oldest_copied {rows} {w} {index} {n} {v} {new} {all} is view parts few items =
+    let xs = with_unwritten (rows * w) v.items in
+    let fewer : n ≤ rows = omega (arith, row_count is view) in
+    let few_rows : rows ≤ max_rows = is.ring.few_rows in
+    let long : length new.items ≡ n * w = ap length items ∙ length-parts xs parts is.ring fewer in
+    record {
+      are = wholly_rows n w new (record { few_rows = omega arith; some_sources = is.ring.some_sources; few_sources = is.ring.few_sources; whole = long });
+      rows_are = ap (rows_of n w) (all_written (n * w) new.items long ∙ items) ∙ rows_of-parts xs parts is.ring (omega arith) ∙ ap (take n) view;
+    }
+
+-- the newest, after unknown ones
+pub record IsResized (n w : ℕ) (old : List (List Cell)) (new : Vec Cell Global) : Type 0 where
+  pub is : IsPartlyWritten n w 0 new
+  pub rows_are : ring_rows n w 0 (with_unwritten (n * w) new.items) ≡ newest_rows n old
+
+pub newest_copied : {rows w index len known n kept start front rest : ℕ} {v new : Vec Cell Global} {all : List (List Cell)} → IsPartlyWritten rows w index v → ring_rows rows w index (with_unwritten (rows * w) v.items) ≡ all → len ≡ vec_len v → AreWritten rows w index len known → known ≤ rows → 0 < n → n ≤ max_rows → kept ≡ min n known
+    → AreParts rows w index (rows - kept) kept start front rest → new.items ≡ replicate ((n - kept) * w) Unknown ++ cells_in start front rest (with_unwritten (rows * w) v.items) → IsResized n w all new
+newest_copied {rows} {w} {index} {len} {known} {n} {kept} {start} {front} {rest} {v} {new} {all} is view len_is are few some few_rows least parts items =
+    let xs = with_unwritten (rows * w) v.items in
+    let ring = ring_rows rows w index xs in
+    let unknown = replicate ((n - kept) * w) Unknown in
+    let part = cells_in start front rest xs in
+    let count = row_count is view in
+    let within : kept ≤ rows = omega arith in
+    let all_rows : n ≡ n - kept + kept = omega arith in
+    let sum : n * w ≡ (n - kept) * w + kept * w = ap (λ (k : ℕ). k * w) all_rows ∙ add-mul (n - kept) kept w in
+    let both : length (unknown ++ part) ≡ n * w = omega (arith, length-append unknown part, length-replicate ((n - kept) * w) Unknown, length-parts xs parts is.ring within, sum) in
+    let long = ap length items ∙ both in
+    let newest : take kept (drop (rows - kept) ring) ≡ drop (rows - kept) all = take_all kept (drop (rows - kept) ring) (omega (arith, length-drop (rows - kept) ring, ap length view, count)) ∙ ap (drop (rows - kept)) view in
+    let oldest : take (length all - known) all ≡ unknown_rows (length all - known) w = rw count (never_written_rows is view len_is are) in
+    record {
+      is = wholly n w 0 new (record { some_rows = some; few_rows = few_rows; some_sources = is.ring.some_sources; few_sources = is.ring.few_sources; whole = long; index_within = some });
+      rows_are = ap (ring_rows n w 0) (all_written (n * w) new.items long)
+          ∙ ring_at_front n w new.items some long
+          ∙ ap (rows_of n w) items
+          ∙ ap (λ (k : ℕ). rows_of k w (unknown ++ part)) all_rows
+          ∙ rows_of-append (n - kept) kept w unknown part (length-replicate ((n - kept) * w) Unknown)
+          ∙ ap (λ (zs : List (List Cell)). zs ++ rows_of kept w part) (rows_of_unknown (n - kept) w)
+          ∙ ap (λ (zs : List (List Cell)). unknown_rows (n - kept) w ++ zs) (rows_of-parts xs parts is.ring (omega arith) ∙ newest)
+          ∙ ap (λ (k : ℕ). unknown_rows (n - kept) w ++ drop (k - kept) all) (sym count)
+          ∙ ap (λ (k : ℕ). unknown_rows (n - k) w ++ drop (length all - k) all) least
+          ∙ newest_of_known n known w all (omega (arith, count)) (row_width is view) oldest;
+    }
+
+-- ---- rows are put back
+
+-- the rows are no more than all and as wide, and all cells of both are written
+pub record MayPutBack (rows w index n : ℕ) (all old : List (List Cell)) (xs ds : List Cell) : Type 0 where
+  pub is : IsRing rows w index xs
+  pub view : ring_rows rows w index xs ≡ all
+  pub fewer : n ≤ rows
+  pub cells : length ds ≡ n * w
+  pub rows_are : rows_of n w ds ≡ old
+
+pub both_filled : {rows w index n u end last : ℕ} {v d : Vec Cell Global} {all old : List (List Cell)} {xs ds : List Cell} → IsPartlyWritten rows w index v → ring_rows rows w index (with_unwritten (rows * w) v.items) ≡ all → ArePartlyWritten n u d → rows_of n u (with_unwritten (n * u) d.items) ≡ old
+    → length old ≤ length all → HasWidth (width all) old → end ≡ rows * w → xs ≡ with_unwritten end v.items → last ≡ n * u → ds ≡ with_unwritten last d.items → MayPutBack rows w index n all old xs ds
+both_filled {rows} {w} {index} {n} {u} {v} {d} {all} {old} {xs} {ds} is view are dropped fits one_width end_is filled last_is filled_ds =
+    let items : xs ≡ with_unwritten (rows * w) v.items = filled ∙ ap (λ (m : ℕ). with_unwritten m v.items) end_is in
+    let items_ds : ds ≡ with_unwritten (n * u) d.items = filled_ds ∙ ap (λ (m : ℕ). with_unwritten m d.items) last_is in
+    let named : rows_of n u ds ≡ old = ap (rows_of n u) items_ds ∙ dropped in
+    let whole : length ds ≡ n * u = ap length items_ds ∙ are.rows_are.whole in
+    let wide : HasWidth w (rows_of n u ds) = subst (HasWidth w) (sym named) (subst (λ (m : ℕ). HasWidth m old) (row_width is view) one_width) in
+    record {
+      is = subst (IsRing rows w index) (sym items) is.ring;
+      view = ap (ring_rows rows w index) items ∙ view;
+      fewer = omega (arith, fits, row_count is view, dropped_count are dropped);
+      cells = same_cells n u w ds whole wide;
+      rows_are = sym (same_rows n u w ds whole wide) ∙ named;
+    }
+
+pub record IsPutBack (rows w index : ℕ) (all old : List (List Cell)) (new : Vec Cell Global) : Type 0 where
+  pub is : IsPartlyWritten rows w index new
+  pub rows_are : ring_rows rows w index (with_unwritten (rows * w) new.items) ≡ old ++ take (length all - length old) all
+
+pub are_put_back : {rows w index n at start : ℕ} {all old : List (List Cell)} {ds : List Cell} (v : Vec Cell Global) (new : List Cell) → MayPutBack rows w index n all old v.items ds → at ≡ (index + (rows - n)) % rows → start ≡ at * w → length new ≡ length v.items
+    → from_index start new ≡ ds ++ drop (length ds) (from_index start v.items) → IsPutBack rows w at all old (with_items v new)
+are_put_back {rows} {w} {index} {n} {at} {start} {all} {old} {ds} v new before at_is start_is as_long written =
+    let is = before.is in
+    let last = (index + (rows - n)) % rows in
+    let long : length new ≡ rows * w = as_long ∙ is.whole in
+    let items : (with_items v new).items ≡ new = with_items_is v new (as_long ∙ sym v.ok.0) in
+    let last_is : start ≡ last * w = start_is ∙ ap (λ (k : ℕ). k * w) at_is in
+    let turned = subst (λ (k : ℕ). from_index k new ≡ ds ++ drop (length ds) (from_index k v.items)) last_is written in
+    let kept : rows - n ≡ length all - length old = omega (arith, ap length before.view, length-ring_rows rows w index v.items, ap length before.rows_are, length-rows_of n w ds) in
+    record {
+      is = wholly rows w at (with_items v new) (record {
+        some_rows = is.some_rows;
+        few_rows = is.few_rows;
+        some_sources = is.some_sources;
+        few_sources = is.few_sources;
+        whole = ap length items ∙ long;
+        index_within = omega (arith, at_is, mod_below (index + (rows - n)) rows is.some_rows);
+      });
+      rows_are = ap (λ (ys : List Cell). ring_rows rows w at (with_unwritten (rows * w) ys)) items
+          ∙ ap (ring_rows rows w at) (all_written (rows * w) new long)
+          ∙ ap (λ (k : ℕ). ring_rows rows w k new) at_is
+          ∙ ring_put_back n rows w index v.items new ds before.fewer is as_long before.cells turned
+          ∙ ap (λ (rs : List (List Cell)). rs ++ take (rows - n) (ring_rows rows w index v.items)) before.rows_are
+          ∙ ap (λ (rs : List (List Cell)). old ++ take (rows - n) rs) before.view
+          ∙ ap (λ (k : ℕ). old ++ take k all) kept;
+    }

@@ -1,5 +1,5 @@
 -- Glue: rows of cells in one vector, one row after another, and rings of such rows.
-use Rattle.std.specs.Prelude.{◌≡◌, ℕ, ◌+◌, ◌*◌, ◌-◌, ◌%◌, ◌<◌, ◌≤◌, List, Vec, ◌++◌, length, take, drop, map, replicate, vec_capacity}
+use Rattle.std.specs.Prelude.{◌≡◌, ℕ, ◌+◌, ◌*◌, ◌-◌, ◌%◌, ◌<◌, ◌≤◌, List, Vec, ◌++◌, length, min, take, drop, map, replicate, vec_capacity}
 use Rattle.std.specs.Global.{Global}
 use Rattle.std.specs.List.{range_with_len}
 use Rattle.rrd_fixed.specs.declared.cell.Cell.{Cell}
@@ -48,6 +48,17 @@ pub record IsPartlyWritten (rows sources index : ℕ) (written : Vec Cell Global
   pub room : rows * sources ≤ vec_capacity written
   pub ends : AreWhole sources written.items
 
+-- where `count` rows of a ring are in its vector, from the ring's row i on, in cells: `front` cells from cell `start`
+-- on, at most to the last cell, and the other `rest` cells from the first cell on
+pub record AreParts (rows sources index i count start front rest : ℕ) : Type 0 where
+  pub starts : start ≡ ((index + i) % rows) * sources
+  pub in_front : front ≡ min count (rows - (index + i) % rows) * sources
+  pub others : rest ≡ (count - min count (rows - (index + i) % rows)) * sources
+
+-- these cells
+abbrev pub cells_in : ℕ → ℕ → ℕ → List Cell → List Cell
+cells_in start front rest cells = take front (drop start cells) ++ take rest cells
+
 -- rows with the same number of cells, in one vector
 pub record AreRows (rows sources : ℕ) (cells : List Cell) : Type 0 where
   pub few_rows : rows ≤ max_rows
@@ -60,3 +71,10 @@ pub record ArePartlyWritten (rows sources : ℕ) (written : Vec Cell Global) : T
   pub rows_are : AreRows rows sources (with_unwritten (rows * sources) written.items)
   pub room : rows * sources ≤ vec_capacity written
   pub ends : AreWhole sources written.items
+
+-- how many of the newest rows of a ring may be written, if its vector has so many written cells: none if there is no
+-- written cell; the rows before the oldest row's index if the written cells end at this index or before; otherwise all
+pub record AreWritten (rows sources index cells written : ℕ) : Type 0 where
+  pub none : cells ≡ 0 → written ≡ 0
+  pub part : 0 < cells → cells ≤ index * sources → written ≡ index
+  pub all : index * sources < cells → written ≡ rows

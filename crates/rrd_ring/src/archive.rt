@@ -7,8 +7,8 @@ ghost use Rattle.rrd_ring.specs.Rows.{nth_row, row_cells, width, HasWidth, with_
 
 use crate::dropped::Dropped;
 use crate::ring::{
-    cells_of, contiguous_count, fill_up, forget, push_from, row_from, row_mut, rows_written,
-    unknown_cells, wrap, write_cells, write_from, write_row_at,
+    cells_of, fill_up, forget, index_of, parts_of, push_parts, row_at, row_mut, rows_written,
+    run_from, unknown_cells, wrap, write_cells, write_from, write_row_at,
 };
 use rrd_fixed::{Cell, Meter};
 use std::alloc::{AllocError, Global};
@@ -130,9 +130,8 @@ impl Archive {
         requires { i < length self.now }
         ensures { result.now ≡ nth_row self.now i }
     {
-        let index = wrap(self.oldest + i as usize, self.rows);
-        let start = cells_of(index, self.sources);
-        row_from(&self.cells, start, self.sources)
+        let index = index_of(i as usize, self.oldest, self.rows);
+        row_at(&self.cells, self.sources, index)
     }
 
     /// Returns the first of `most` rows from row `first` on that are consecutive in memory.
@@ -146,10 +145,8 @@ impl Archive {
         ensures few { result.0 ≤ most }
         ensures cells { result.1.now ≡ row_cells (take result.0 (drop first self.now)) }
     {
-        let index = wrap(self.oldest + first as usize, self.rows);
-        let count = contiguous_count(self.cells.len() / self.sources, index, most as usize);
-        let start = cells_of(index, self.sources);
-        let cells = row_from(&self.cells, start, cells_of(count, self.sources));
+        let index = index_of(first as usize, self.oldest, self.rows);
+        let (count, cells) = run_from(&self.cells, self.sources, index, most as usize);
         (count as u64, cells)
     }
 
@@ -163,7 +160,7 @@ impl Archive {
         ensures same_width { (cells : List Cell) → length cells ≡ length (nth_row self.old i)
             → with_row self.old i cells ≡ slice_set self.old i cells }
     {
-        let index = wrap(self.oldest + i as usize, self.rows);
+        let index = index_of(i as usize, self.oldest, self.rows);
         let start = cells_of(index, self.sources);
         fill_up(&mut self.cells, start + self.sources);
         row_mut(&mut self.cells, start, start + self.sources)
@@ -179,10 +176,10 @@ impl Archive {
         requires one_each { length cells.now ≡ count * width self.old }
         ensures { self.new ≡ with_rows count (width self.old) self.old i cells.now }
     {
-        let index = wrap(self.oldest + i as usize, self.rows);
-        let first = (self.rows - index).min(count as usize);
-        let (front, rest) = cells.split_at(cells_of(first, self.sources));
-        write_cells(&mut self.cells, cells_of(index, self.sources), front);
+        let (i, count) = (i as usize, count as usize);
+        let parts = parts_of(i, count, self.oldest, self.rows, self.sources);
+        let (front, rest) = cells.split_at(parts.front);
+        write_cells(&mut self.cells, parts.start, front);
         write_cells(&mut self.cells, 0, rest);
     }
 
@@ -196,15 +193,10 @@ impl Archive {
         ensures { let cells = replicate (count * width self.old) Unknown in
             self.new ≡ with_rows count (width self.old) self.old i cells }
     {
-        let index = wrap(self.oldest + i as usize, self.rows);
-        let first = (self.rows - index).min(count as usize);
-        let rest = count as usize - first;
-        forget(
-            &mut self.cells,
-            cells_of(index, self.sources),
-            cells_of(first, self.sources),
-        );
-        forget(&mut self.cells, 0, cells_of(rest, self.sources));
+        let (i, count) = (i as usize, count as usize);
+        let parts = parts_of(i, count, self.oldest, self.rows, self.sources);
+        forget(&mut self.cells, parts.start, parts.front);
+        forget(&mut self.cells, 0, parts.rest);
     }
 
     /// Drops the oldest row, and adds `cells` as the newest, one for each data source.
@@ -233,11 +225,9 @@ impl Archive {
         ensures { IfOk result (λ dropped. dropped ≡ take n self.now) }
     {
         let rows = n as usize;
-        let start = cells_of(self.oldest, self.sources);
-        let count = cells_of(rows, self.sources);
-        let all = cells_of(self.rows, self.sources);
-        let mut cells = Vec::with_capacity(alloc, count)?;
-        push_from(&mut cells, &self.cells, all, start, count)?;
+        let parts = parts_of(0, rows, self.oldest, self.rows, self.sources);
+        let mut cells = Vec::with_capacity(alloc, cells_of(rows, self.sources))?;
+        push_parts(&mut cells, &self.cells, parts)?;
         Ok(Dropped {
             cells,
             rows,
@@ -279,13 +269,11 @@ impl Archive {
         let wanted = rows as usize;
         let written = rows_written(self.cells.len(), self.rows, self.sources, self.oldest);
         let kept = wanted.min(written);
-        let first = wrap(self.oldest + (self.rows - kept), self.rows);
-        let start = cells_of(first, self.sources);
-        let count = cells_of(kept, self.sources);
+        let gone = self.rows - kept;
+        let parts = parts_of(gone, kept, self.oldest, self.rows, self.sources);
         let room = cells_of(wanted, self.sources);
-        let all = cells_of(self.rows, self.sources);
-        let mut cells = unknown_cells(alloc, room, room - count)?;
-        push_from(&mut cells, &self.cells, all, start, count)?;
+        let mut cells = unknown_cells(alloc, room, cells_of(wanted - kept, self.sources))?;
+        push_parts(&mut cells, &self.cells, parts)?;
         Ok(Archive {
             cells,
             rows: wanted,

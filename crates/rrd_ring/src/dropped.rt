@@ -4,7 +4,7 @@ ghost use Rattle.std.specs.Borrow.{sem};
 ghost use Rattle.rrd_fixed.specs.declared.cell.Cell.{Cell};
 ghost use Rattle.rrd_ring.specs.Rows.{nth_row, row_cells, width, HasWidth, with_row, unknown_rows, max_rows, max_sources};
 
-use crate::ring::{cells_of, contiguous_count, fill_up, row_from, row_mut};
+use crate::ring::{cells_of, fill_up, row_at, row_mut, run_from};
 use rrd_fixed::Cell;
 use std::alloc::{AllocError, Global};
 use std::marker::Model;
@@ -71,8 +71,7 @@ impl Dropped {
         requires { i < length self.now }
         ensures { result.now ≡ nth_row self.now i }
     {
-        let start = cells_of(i as usize, self.sources);
-        row_from(&self.cells, start, self.sources)
+        row_at(&self.cells, self.sources, i as usize)
     }
 
     /// Returns the first of `most` rows from row `first` on that are consecutive in memory.
@@ -86,10 +85,7 @@ impl Dropped {
         ensures few { result.0 ≤ most }
         ensures cells { result.1.now ≡ row_cells (take result.0 (drop first self.now)) }
     {
-        let first = first as usize;
-        let count = contiguous_count(self.cells.len() / self.sources, first, most as usize);
-        let start = cells_of(first, self.sources);
-        let cells = row_from(&self.cells, start, cells_of(count, self.sources));
+        let (count, cells) = run_from(&self.cells, self.sources, first as usize, most as usize);
         (count as u64, cells)
     }
 

@@ -3,7 +3,7 @@ ghost use Rattle.std.specs.Prelude.{ℕ, ◌≡◌, ◌+◌, ◌*◌, ◌%◌, �
 ghost use Rattle.std.specs.Borrow.{sem};
 ghost use Rattle.rrd_fixed.specs.declared.cell.Cell.TheVariants.{Unknown};
 ghost use Rattle.rrd_ring.specs.Ring.Slices.{LendsPart, LendsAsMany};
-ghost use Rattle.rrd_ring.specs.Ring.{from_index, with_unwritten};
+ghost use Rattle.rrd_ring.specs.Ring.{cells_in, from_index, row_of, with_unwritten, AreParts, AreWhole, AreWritten};
 ghost use Rattle.rrd_ring.specs.Rows.{max_rows, max_sources};
 
 use rrd_fixed::{Cell, Meter};
@@ -17,9 +17,22 @@ static UNWRITTEN: [Cell; 64] = [Cell::Unknown; 64];
 pub(crate) fn wrap(index: usize, rows: usize) -> usize
     requires some { 0 < rows }
     requires once { index < 2 * rows }
-    ensures { result ≡ index % rows }
+    ensures index { result ≡ index % rows }
+    ensures within { result < rows }
 {
     if index < rows { index } else { index - rows }
+}
+
+// Returns the index in a ring's vector of the ring's row `i`, if row 0 has the index `oldest`. Row `rows` is row 0
+// again.
+pub(crate) fn index_of(i: usize, oldest: usize, rows: usize) -> usize
+    requires there { i ≤ rows }
+    requires within { oldest < rows }
+    requires few_rows { rows ≤ max_rows }
+    ensures index { result ≡ (oldest + i) % rows }
+    ensures within { result < rows }
+{
+    wrap(oldest + i, rows)
 }
 
 // Returns the number of cells in `rows` rows of `sources` cells each.
@@ -30,6 +43,38 @@ pub(crate) fn cells_of(rows: usize, sources: usize) -> usize
     ensures few { result ≤ max_rows * max_sources }
 {
     rows * sources
+}
+
+// Where some rows of a ring are in its vector, in cells: `front` cells from cell `start` on, at most to the last cell,
+// and the other `rest` cells from the first cell on.
+#[derive(Clone, Copy)]
+pub(crate) struct Parts {
+    pub(crate) start: usize,
+    pub(crate) front: usize,
+    pub(crate) rest: usize,
+}
+
+// Returns where `count` rows of a ring are in its vector, from the ring's row `i` on, if row 0 has the index `oldest`.
+pub(crate) fn parts_of(i: usize, count: usize, oldest: usize, rows: usize, sources: usize) -> Parts
+    requires there { i ≤ rows }
+    requires few { count ≤ rows }
+    requires within { oldest < rows }
+    requires few_rows { rows ≤ max_rows }
+    requires few_sources { sources ≤ max_sources }
+    ensures parts { AreParts rows sources oldest i count result.start result.front result.rest }
+    ensures before_end { result.start + result.front ≤ rows * sources }
+    ensures before_start { result.rest ≤ result.start }
+    ensures all { result.front + result.rest ≡ count * sources }
+    ensures few_in_front { result.front ≤ max_rows * max_sources }
+    ensures few_others { result.rest ≤ max_rows * max_sources }
+{
+    let index = index_of(i, oldest, rows);
+    let first = count.min(rows - index);
+    Parts {
+        start: cells_of(index, sources),
+        front: cells_of(first, sources),
+        rest: cells_of(count - first, sources),
+    }
 }
 
 // Creates a vector of `count` unknown cells, with capacity for at least `room` cells.
@@ -52,9 +97,8 @@ pub(crate) fn rows_written(cells: usize, rows: usize, sources: usize, oldest: us
     requires few_rows { rows ≤ max_rows }
     requires few_sources { sources ≤ max_sources }
     requires within { oldest < rows }
-    ensures none { cells ≡ 0 → result ≡ 0 }
-    ensures part { 0 < cells → cells ≤ oldest * sources → result ≡ oldest }
-    ensures all { oldest * sources < cells → result ≡ rows }
+    ensures written { AreWritten rows sources oldest cells result }
+    ensures few { result ≤ rows }
 {
     if cells == 0 {
         return 0;
@@ -67,7 +111,7 @@ pub(crate) fn rows_written(cells: usize, rows: usize, sources: usize, oldest: us
 
 // Returns how many of `most` rows from row `index` of the vector on are consecutive: up to the end of the `written`
 // rows, or only the first row if it is not written.
-pub(crate) fn contiguous_count(written: usize, index: usize, most: usize) -> usize
+fn contiguous_count(written: usize, index: usize, most: usize) -> usize
     requires { 0 < most }
     ensures some { 0 < result }
     ensures few { result ≤ most }
@@ -82,7 +126,7 @@ pub(crate) fn contiguous_count(written: usize, index: usize, most: usize) -> usi
 
 // Returns `count` cells of a ring's vector from cell `start` on. These are the cells of whole written rows, or of one
 // row that is not written.
-pub(crate) fn row_from(cells: &[Cell], start: usize, count: usize) -> &[Cell]
+fn row_from(cells: &[Cell], start: usize, count: usize) -> &[Cell]
     requires few { length cells.now ≤ start → count ≤ max_sources }
     requires whole { start < length cells.now → start + count ≤ length cells.now }
     ensures { (all : ℕ) → start + count ≤ all
@@ -94,6 +138,42 @@ pub(crate) fn row_from(cells: &[Cell], start: usize, count: usize) -> &[Cell]
     &UNWRITTEN[..count]
 }
 
+// Returns the cells of the vector's row `index`.
+pub(crate) fn row_at(cells: &[Cell], sources: usize, index: usize) -> &[Cell]
+    requires whole { AreWhole sources cells.now }
+    requires few_sources { sources ≤ max_sources }
+    requires within { index < max_rows }
+    ensures { (rows : ℕ) → index < rows
+        → result.now ≡ row_of sources (with_unwritten (rows * sources) cells.now) index }
+{
+    row_from(cells, cells_of(index, sources), sources)
+}
+
+// Returns how many of `most` rows from row `index` of the vector on are consecutive in memory, and their cells. A row
+// that is not written is returned alone.
+pub(crate) fn run_from(
+    cells: &[Cell],
+    sources: usize,
+    index: usize,
+    most: usize,
+) -> (usize, &[Cell])
+    requires whole { AreWhole sources cells.now }
+    requires some_sources { 0 < sources }
+    requires few_sources { sources ≤ max_sources }
+    requires within { index < max_rows }
+    requires some { 0 < most }
+    requires few { most ≤ max_rows }
+    ensures some { 0 < result.0 }
+    ensures few { result.0 ≤ most }
+    ensures within { (rows : ℕ) → length cells.now ≤ rows * sources → index < rows → index + result.0 ≤ rows }
+    ensures cells { (rows : ℕ) → index + result.0 ≤ rows → result.1.now
+        ≡ take (result.0 * sources) (drop (index * sources) (with_unwritten (rows * sources) cells.now)) }
+{
+    let count = contiguous_count(cells.len() / sources, index, most);
+    let start = cells_of(index, sources);
+    (count, row_from(cells, start, cells_of(count, sources)))
+}
+
 // Appends copies of `count` cells of a ring's vector from cell `start` on. Cells that are not written are unknown.
 fn push_part(
     copies: &mut Vec<Cell>,
@@ -103,7 +183,8 @@ fn push_part(
 ) -> Result<(), AllocError>
     requires few { count ≤ max_rows * max_sources }
     requires short { vec_len copies.old ≤ 2 * max_rows * max_sources }
-    ensures { (all : ℕ) → length ring.now ≤ all → start + count ≤ all → OnOk result (copies.new.items
+    ensures count { OnOk result (vec_len copies.new ≡ vec_len copies.old + count) }
+    ensures items { (all : ℕ) → length ring.now ≤ all → start + count ≤ all → OnOk result (copies.new.items
         ≡ copies.old.items ++ take count (drop start (with_unwritten all ring.now))) }
 {
     let first = start.min(ring.len());
@@ -113,26 +194,22 @@ fn push_part(
     Ok(())
 }
 
-// Appends copies of `count` cells of a ring of `all` cells from cell `start` on, wrapping from the last cell to the
-// first. The first cells of the ring's vector are written. The vector needs at most two slices.
-pub(crate) fn push_from(
+// Appends copies of some rows of a ring, whose vector begins with the cells of `ring`. Cells that are not written are
+// unknown. The vector needs at most two slices.
+pub(crate) fn push_parts(
     copies: &mut Vec<Cell>,
     ring: &[Cell],
-    all: usize,
-    start: usize,
-    count: usize,
+    parts: Parts,
 ) -> Result<(), AllocError>
-    requires within { start ≤ all }
-    requires written { length ring.now ≤ all }
-    requires few { count ≤ all }
-    requires small { all ≤ max_rows * max_sources }
+    requires few_in_front { parts.front ≤ max_rows * max_sources }
+    requires few_others { parts.rest ≤ max_rows * max_sources }
     requires short { vec_len copies.old ≤ max_rows * max_sources }
-    ensures { OnOk result (copies.new.items
-        ≡ copies.old.items ++ take count (from_index start (with_unwritten all ring.now))) }
+    ensures { (all : ℕ) → length ring.now ≤ all → parts.start + parts.front ≤ all → parts.rest ≤ all
+        → OnOk result (copies.new.items
+        ≡ copies.old.items ++ cells_in parts.start parts.front parts.rest (with_unwritten all ring.now)) }
 {
-    let first = count.min(all - start);
-    push_part(copies, ring, start, first)?;
-    push_part(copies, ring, 0, count - first)?;
+    push_part(copies, ring, parts.start, parts.front)?;
+    push_part(copies, ring, 0, parts.rest)?;
     Ok(())
 }
 

@@ -1,6 +1,6 @@
 //! The buffer of bytes that were read and wait to be taken.
-ghost use Rattle.std.specs.Prelude.{◌≡◌, ◌+◌, ◌++◌, ◌<◌, ◌≤◌, [], IfOk, OnErr, drop, length, take, vec_capacity, vec_len};
-ghost use Rattle.std.specs.Io.KnownBytes.{IsAtEnd, Keeps, prepend_known};
+ghost use Rattle.std.specs.Prelude.{◌≡◌, ◌+◌, ◌-◌, ◌++◌, ◌<◌, ◌≤◌, [], IfOk, OnErr, drop, length, slice_range, take, vec_capacity, vec_len};
+ghost use Rattle.std.specs.Io.KnownBytes.{Consumes, IsAtEnd, Keeps, prepend_known};
 
 use rrd_fixed::{ReadFault, read_some};
 use std::alloc::{AllocError, Global};
@@ -96,11 +96,10 @@ impl Waiting {
         ensures err { OnErr result (self.new ≡ self.old) }
         ensures end { IfOk result (λ n. n ≡ 0 → IsAtEnd (R.remaining reader.new)) }
     {
-        make_room(&mut self.bytes, self.end);
-        self.bytes.copy_within(self.from..self.end, 0);
+        move_to_front(&mut self.bytes, self.from, self.end);
         self.end -= self.from;
         self.from = 0;
-        let count = read_some(reader, &mut self.bytes[self.end..])?;
+        let count = read_behind(reader, &mut self.bytes, self.end)?;
         self.end += count;
         Ok(count)
     }
@@ -124,4 +123,34 @@ fn make_room(bytes: &mut Vec<u8>, end: usize)
     let size = (bytes.len() * 2).clamp(FIRST, ROOM);
     // The capacity suffices, so this does not allocate and does not fail.
     let _ = bytes.resize(size, 0);
+}
+
+// Moves the bytes from `from` to before `end` to the front of the buffer, and makes room behind them.
+fn move_to_front(bytes: &mut Vec<u8>, from: usize, end: usize)
+    requires ordered { from ≤ end }
+    requires within { end ≤ vec_len bytes.old }
+    requires few { vec_len bytes.old ≤ ROOM }
+    requires capacity { ROOM ≤ vec_capacity bytes.old }
+    ensures front { slice_range bytes.new.items 0 (end - from) ≡ slice_range bytes.old.items from end }
+    ensures room { end - from < ROOM → end - from < vec_len bytes.new }
+    ensures few { vec_len bytes.new ≤ ROOM }
+    ensures capacity { ROOM ≤ vec_capacity bytes.new }
+{
+    make_room(bytes, end);
+    bytes.copy_within(from..end, 0);
+}
+
+// Reads once into the buffer behind the bytes before `end`, and returns how many bytes were read.
+fn read_behind<R: Read>(reader: &mut R, bytes: &mut Vec<u8>, end: usize) -> Result<usize, ReadFault>
+    requires { end ≤ vec_len bytes.old }
+    ensures front { slice_range bytes.new.items 0 end ≡ slice_range bytes.old.items 0 end }
+    ensures size { vec_len bytes.new ≡ vec_len bytes.old }
+    ensures capacity { vec_capacity bytes.new ≡ vec_capacity bytes.old }
+    ensures few { IfOk result (λ n. end + n ≤ vec_len bytes.new) }
+    ensures came { IfOk result (λ n. Consumes (R.remaining reader.old) (R.remaining reader.new)
+        (slice_range bytes.new.items end (end + n))) }
+    ensures at_end { IfOk result (λ n. n ≡ 0 → end < vec_len bytes.old → IsAtEnd (R.remaining reader.new)) }
+    ensures err { OnErr result (Keeps (R.remaining reader.old) (R.remaining reader.new)) }
+{
+    read_some(reader, &mut bytes[end..])
 }

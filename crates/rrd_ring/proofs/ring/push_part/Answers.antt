@@ -5,8 +5,8 @@ use Rattle.rrd_fixed.specs.declared.cell.Cell.TheVariants.{Unknown}
 use Rattle.rrd_ring.proofs.WrittenLemmas.{part_copied}
 use Rattle.rrd_ring.proofs.ring.push_part.Goals as goal
 
-pub returns : goal.returns
-returns c = λ all fits h.
+pub returns-clause-items : goal.returns-clause-items
+returns-clause-items c = λ all fits h.
     let xs = c.args.ring.now in
     let old = c.args.copies.now.items in
     let count = c.args.count in

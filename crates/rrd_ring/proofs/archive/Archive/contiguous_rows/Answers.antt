@@ -1,56 +1,25 @@
-use Rattle.std.proofs.Common.{◌+◌, ◌*◌, ◌/◌, ◌%◌, ◌<◌, ◌≤◌, ◌∙◌, sym, ap, length, take, drop, arith}
-use Rattle.std.proofs.Math.Nat.{add-mul}
-use Rattle.std.proofs.lemmas.Nat.{mod_below}
+use Rattle.std.proofs.Common.{◌+◌, ◌*◌, ◌≤◌, ◌∙◌, sym, ap, take, drop, arith}
 use Rattle.rrd_ring.specs.Rows.{row_cells}
 use Rattle.rrd_ring.specs.Ring.{with_unwritten}
-use Rattle.rrd_ring.proofs.RingLemmas.{cells_le, ring_len, ring_run}
-use Rattle.rrd_ring.proofs.WrittenLemmas.{ring_le, rows_in, run_fits, run_one, run_whole}
+use Rattle.rrd_ring.proofs.RingLemmas.{ring_run}
+use Rattle.rrd_ring.proofs.WrittenLemmas.{ring_le, row_count}
 use Rattle.rrd_ring.proofs.archive.Archive.contiguous_rows.Goals as goal
 
-pub overflow_add-self-inside : goal.overflow_add-self-inside
-overflow_add-self-inside c =
-    let a = c.self.inside in
-    omega (arith, c.requires.some, c.requires.there, c.self.invariant.ring.few_rows, c.self.invariant.ring.index_within, ring_len a.rows a.sources a.oldest (with_unwritten (a.rows * a.sources) a.cells.items) c.args.self.now c.self.view_is)
+pub index_of-index-requires-clause-there : goal.index_of-index-requires-clause-there
+index_of-index-requires-clause-there c = omega (arith, c.requires.there, row_count c.self.invariant c.self.view_is)
 
-pub wrap-index-requires-clause-once : goal.wrap-index-requires-clause-once
-wrap-index-requires-clause-once c =
-    let a = c.self.inside in
-    omega (arith, c.requires.some, c.requires.there, c.self.invariant.ring.index_within, ring_len a.rows a.sources a.oldest (with_unwritten (a.rows * a.sources) a.cells.items) c.args.self.now c.self.view_is)
-
-pub row_from-cells-requires-clause-few : goal.row_from-cells-requires-clause-few
-row_from-cells-requires-clause-few c = λ past.
-    let a = c.self.inside in
-    let written = rows_in a.sources c.len.result a.cells.items c.self.invariant.ring.some_sources c.self.invariant.ends (c.len.ensures ∙ a.cells.ok.0) in
-    let start = c.cells_of-start.ensures.count in
-    let one = run_one a.sources c.wrap-index.result c.contiguous_count-count.result (c.len.result / a.sources) a.cells.items c.self.invariant.ring.some_sources written c.contiguous_count-count.ensures.behind (omega (arith, past, start, ap length c.deref.ensures.value)) in
-    omega (arith, c.cells_of.ensures.count, one, c.self.invariant.ring.few_sources)
-
-pub row_from-cells-requires-clause-whole : goal.row_from-cells-requires-clause-whole
-row_from-cells-requires-clause-whole c = λ below.
-    let a = c.self.inside in
-    let written = rows_in a.sources c.len.result a.cells.items c.self.invariant.ring.some_sources c.self.invariant.ends (c.len.ensures ∙ a.cells.ok.0) in
-    let start = c.cells_of-start.ensures.count in
-    let whole = run_whole a.sources c.wrap-index.result c.contiguous_count-count.result (c.len.result / a.sources) a.cells.items written c.contiguous_count-count.ensures.within (omega (arith, below, start, ap length c.deref.ensures.value)) in
-    omega (arith, start, c.cells_of.ensures.count, whole, ap length c.deref.ensures.value)
+pub run_from-count-requires-clause-few : goal.run_from-count-requires-clause-few
+run_from-count-requires-clause-few c = omega (arith, c.requires.there, row_count c.self.invariant c.self.view_is, c.self.invariant.ring.few_rows)
 
 pub returns-clause-cells : goal.returns-clause-cells
 returns-clause-cells c =
     let a = c.self.inside in
-    let all = a.rows * a.sources in
-    let xs = with_unwritten all a.cells.items in
-    let i = c.args.first in
-    let n = c.contiguous_count-count.result in
-    let at = (a.oldest + i) % a.rows in
-    let index = c.wrap-index.ensures in
-    let start = c.cells_of-start.ensures.count in
-    let count = c.cells_of.ensures.count in
-    let rows = ring_len a.rows a.sources a.oldest xs c.args.self.now c.self.view_is in
-    let written = rows_in a.sources c.len.result a.cells.items c.self.invariant.ring.some_sources c.self.invariant.ends (c.len.ensures ∙ a.cells.ok.0) in
-    let below : at < a.rows = mod_below (a.oldest + i) a.rows c.self.invariant.ring.some_rows in
-    let fits : c.wrap-index.result + n ≤ a.rows = run_fits a.rows a.sources c.wrap-index.result n (c.len.result / a.sources) a.cells.items c.self.invariant.ring.some_sources written (ring_le a.rows a.sources a.oldest a.cells c.self.invariant) (omega (arith, index, below)) c.contiguous_count-count.ensures.within c.contiguous_count-count.ensures.behind in
-    c.row_from-cells.ensures all (omega (arith, start, count, add-mul c.wrap-index.result n a.sources, cells_le (c.wrap-index.result + n) a.rows a.sources fits))
-    ∙ ap (λ ys. take c.cells_of.result (drop c.cells_of-start.result (with_unwritten all ys))) c.deref.ensures.value
-    ∙ ap (λ k. take k (drop c.cells_of-start.result xs)) count
-    ∙ ap (λ k. take (n * a.sources) (drop k xs)) (start ∙ ap (λ k. k * a.sources) index)
-    ∙ sym (ring_run a.rows a.sources a.oldest i n xs c.self.invariant.ring (omega (arith, rows, c.requires.there, c.contiguous_count-count.ensures.few)) (omega (arith, index, fits)))
-    ∙ ap (λ rs. row_cells (take n (drop i rs))) c.self.view_is
+    let xs = with_unwritten (a.rows * a.sources) a.cells.items in
+    let n = c.run_from-count.result.0 in
+    let run = c.run_from-count.ensures in
+    let fits : c.index_of-index.result + n ≤ a.rows = run.within a.rows (rw c.deref.ensures.value (ring_le _ _ _ _ c.self.invariant)) c.index_of-index.ensures.within in
+    let there : c.args.first + n ≤ a.rows = omega (arith, c.requires.there, run.few, row_count c.self.invariant c.self.view_is) in
+    (rw c.deref.ensures.value at (run.cells a.rows fits))
+    ∙ ap (λ k. take (n * a.sources) (drop (k * a.sources) xs)) c.index_of-index.ensures.index
+    ∙ sym (ring_run a.rows a.sources a.oldest c.args.first n xs c.self.invariant.ring there (omega (arith, c.index_of-index.ensures.index, fits)))
+    ∙ ap (λ rs. row_cells (take n (drop c.args.first rs))) c.self.view_is

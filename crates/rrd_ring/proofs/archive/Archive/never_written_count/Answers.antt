@@ -1,22 +1,11 @@
-use Rattle.std.proofs.Common.{◌∙◌, ◌*◌, ◌-◌, sym, ap, take, subst, arith}
+use Rattle.std.proofs.Common.{◌-◌, ◌∙◌, sym, ap, arith}
 use Rattle.rrd_ring.specs.Rows.{unknown_rows}
-use Rattle.rrd_ring.specs.Ring.{with_unwritten}
-use Rattle.rrd_ring.proofs.RingLemmas.{ring_len, ring_width}
-use Rattle.rrd_ring.proofs.WrittenLemmas.{AreWritten, unwritten_rows}
+use Rattle.rrd_ring.proofs.WrittenLemmas.{never_written_rows, row_count, row_width}
 use Rattle.rrd_ring.proofs.archive.Archive.never_written_count.Goals as goal
 
 pub returns-clause-few : goal.returns-clause-few
-returns-clause-few c =
-    let a = c.self.inside in
-    let xs = with_unwritten (a.rows * a.sources) a.cells.items in
-    omega (arith, ring_len a.rows a.sources a.oldest xs c.args.self.now c.self.view_is)
+returns-clause-few c = omega (arith, row_count c.self.invariant c.self.view_is)
 
 pub returns-clause-unknown : goal.returns-clause-unknown
 returns-clause-unknown c =
-    let a = c.self.inside in
-    let xs = with_unwritten (a.rows * a.sources) a.cells.items in
-    let written = c.rows_written-written.result in
-    let are = subst (λ len. AreWritten a.rows a.sources a.oldest len written) c.len.ensures (c.rows_written-written.ensures.none, c.rows_written-written.ensures.part, c.rows_written-written.ensures.all) in
-    ap (take (a.rows - written)) (sym c.self.view_is)
-    ∙ unwritten_rows a.rows a.sources a.oldest written a.cells c.self.invariant are
-    ∙ ap (unknown_rows (a.rows - written)) (sym (ring_width a.rows a.sources a.oldest xs c.args.self.now c.self.invariant.ring c.self.view_is))
+    never_written_rows c.self.invariant c.self.view_is c.len.ensures c.rows_written-written.ensures.written ∙ ap (unknown_rows (c.self.inside.rows - c.rows_written-written.result)) (sym (row_width c.self.invariant c.self.view_is))

@@ -14,7 +14,7 @@ returns c =
     let empty : List Cell = [] in
     let none : all - length empty ≡ all = omega arith in
     let index = (rows - c.args.first) % rows in
-    ap (λ n. ring_rows rows sources n (with_unwritten all c.in_ok-cells.cells.items)) c.wrap.ensures
+    ap (λ n. ring_rows rows sources n (with_unwritten all c.in_ok-cells.cells.items)) c.wrap.ensures.index
     ∙ ap (λ (xs : List Cell). ring_rows rows sources index (with_unwritten all xs)) c.in_ok-cells.ensures.items
     ∙ ap (λ n. ring_rows rows sources index (replicate n Unknown)) none
     ∙ ring_unknown rows sources index (mod_below (rows - c.args.first) rows (omega (arith, c.requires.there)))

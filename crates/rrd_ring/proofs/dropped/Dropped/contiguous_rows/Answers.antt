@@ -1,47 +1,22 @@
-use Rattle.std.proofs.Common.{◌+◌, ◌*◌, ◌/◌, ◌≤◌, ◌∙◌, sym, ap, length, take, drop, arith}
-use Rattle.std.proofs.Math.Nat.{add-mul}
+use Rattle.std.proofs.Common.{◌+◌, ◌*◌, ◌≤◌, ◌∙◌, sym, ap, take, drop, arith}
 use Rattle.rrd_ring.specs.Rows.{row_cells}
 use Rattle.rrd_ring.specs.Ring.{with_unwritten}
-use Rattle.rrd_ring.proofs.RingLemmas.{cells_le, rows_len, rows_run}
-use Rattle.rrd_ring.proofs.WrittenLemmas.{rows_in, run_one, run_whole}
+use Rattle.rrd_ring.proofs.RingLemmas.{rows_run}
+use Rattle.rrd_ring.proofs.WrittenLemmas.{dropped_count}
 use Rattle.rrd_ring.proofs.dropped.Dropped.contiguous_rows.Goals as goal
 
-pub cells_of-start-requires-clause-few_rows : goal.cells_of-start-requires-clause-few_rows
-cells_of-start-requires-clause-few_rows c =
-    let a = c.self.inside in
-    omega (arith, c.requires.some, c.requires.there, c.self.invariant.rows_are.few_rows, rows_len a.rows a.sources (with_unwritten (a.rows * a.sources) a.cells.items) c.args.self.now c.self.view_is)
+pub run_from-count-requires-clause-within : goal.run_from-count-requires-clause-within
+run_from-count-requires-clause-within c = omega (arith, c.requires, dropped_count c.self.invariant c.self.view_is, c.self.invariant.rows_are.few_rows)
 
-pub row_from-cells-requires-clause-few : goal.row_from-cells-requires-clause-few
-row_from-cells-requires-clause-few c = λ past.
-    let a = c.self.inside in
-    let written = rows_in a.sources c.len.result a.cells.items c.self.invariant.rows_are.some_sources c.self.invariant.ends (c.len.ensures ∙ a.cells.ok.0) in
-    let start = c.cells_of-start.ensures.count in
-    let one = run_one a.sources c.args.first c.contiguous_count-count.result (c.len.result / a.sources) a.cells.items c.self.invariant.rows_are.some_sources written c.contiguous_count-count.ensures.behind (omega (arith, past, start, ap length c.deref.ensures.value)) in
-    omega (arith, c.cells_of.ensures.count, one, c.self.invariant.rows_are.few_sources)
-
-pub row_from-cells-requires-clause-whole : goal.row_from-cells-requires-clause-whole
-row_from-cells-requires-clause-whole c = λ below.
-    let a = c.self.inside in
-    let written = rows_in a.sources c.len.result a.cells.items c.self.invariant.rows_are.some_sources c.self.invariant.ends (c.len.ensures ∙ a.cells.ok.0) in
-    let start = c.cells_of-start.ensures.count in
-    let whole = run_whole a.sources c.args.first c.contiguous_count-count.result (c.len.result / a.sources) a.cells.items written c.contiguous_count-count.ensures.within (omega (arith, below, start, ap length c.deref.ensures.value)) in
-    omega (arith, start, c.cells_of.ensures.count, whole, ap length c.deref.ensures.value)
+pub run_from-count-requires-clause-few : goal.run_from-count-requires-clause-few
+run_from-count-requires-clause-few c = omega (arith, c.requires.there, dropped_count c.self.invariant c.self.view_is, c.self.invariant.rows_are.few_rows)
 
 pub returns-clause-cells : goal.returns-clause-cells
 returns-clause-cells c =
     let a = c.self.inside in
-    let all = a.rows * a.sources in
-    let xs = with_unwritten all a.cells.items in
-    let i = c.args.first in
-    let n = c.contiguous_count-count.result in
-    let start = c.cells_of-start.ensures.count in
-    let count = c.cells_of.ensures.count in
-    let rows = rows_len a.rows a.sources xs c.args.self.now c.self.view_is in
-    let whole = c.self.invariant.rows_are.whole in
-    let fits : i + n ≤ a.rows = omega (arith, rows, c.requires.there, c.contiguous_count-count.ensures.few) in
-    c.row_from-cells.ensures all (omega (arith, start, count, add-mul i n a.sources, cells_le (i + n) a.rows a.sources fits))
-    ∙ ap (λ ys. take c.cells_of.result (drop c.cells_of-start.result (with_unwritten all ys))) c.deref.ensures.value
-    ∙ ap (λ k. take k (drop c.cells_of-start.result xs)) count
-    ∙ ap (λ k. take (n * a.sources) (drop k xs)) start
-    ∙ sym (rows_run a.rows a.sources i n xs whole fits)
-    ∙ ap (λ rs. row_cells (take n (drop i rs))) c.self.view_is
+    let xs = with_unwritten (a.rows * a.sources) a.cells.items in
+    let n = c.run_from-count.result.0 in
+    let fits : c.args.first + n ≤ a.rows = omega (arith, c.requires.there, c.run_from-count.ensures.few, dropped_count c.self.invariant c.self.view_is) in
+    (rw c.deref.ensures.value at (c.run_from-count.ensures.cells a.rows fits))
+    ∙ sym (rows_run a.rows a.sources c.args.first n xs c.self.invariant.rows_are.whole fits)
+    ∙ ap (λ rs. row_cells (take n (drop c.args.first rs))) c.self.view_is
