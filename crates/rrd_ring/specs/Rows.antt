@@ -46,14 +46,6 @@ max_rows = 1000000
 abbrev pub max_sources : ℕ
 max_sources = 64
 
--- the rows of an archive, which all have the same number of cells
-pub record IsArchive (rows : List (List Cell)) : Type 0 where
-  pub some_rows : 0 < length rows
-  pub few_rows : length rows ≤ max_rows
-  pub some_sources : 0 < width rows
-  pub few_sources : width rows ≤ max_sources
-  pub one_width : HasWidth (width rows) rows
-
 -- rows that an archive dropped, which all have the same number of cells
 pub record AreDropped (rows : List (List Cell)) : Type 0 where
   pub few_rows : length rows ≤ max_rows
