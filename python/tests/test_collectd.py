@@ -6,19 +6,16 @@ import errno
 import importlib
 import math
 import sys
-import tempfile
-import threading
 import types
 import unittest
-from pathlib import Path
 from typing import Any, Dict, List, Optional, Tuple
 from unittest import mock
 
 import graphite_doubles as graphite
+from cases import DataCase, run_in_threads, use_any_library, use_library
 from rrdi import collectd, errors, library
 from rrdi.library import Answer
 from rrdi.reader import read_file
-from test_graphite_carbon import chosen_library
 
 NOW = 1_700_000_000
 BUSY = Answer(errors.CANNOT_OPEN, errno.EAGAIN, 0, b"cannot open")
@@ -30,23 +27,16 @@ def values(time: float = NOW, *amounts: float, host: str = "here", plugin: str =
                                  type_instance=type_instance, time=time, interval=interval, values=list(amounts))
 
 
-class WriterCase(unittest.TestCase):
+class WriterCase(DataCase):
     def setUp(self) -> None:
-        folder = tempfile.TemporaryDirectory()
-        self.addCleanup(folder.cleanup)
-        self.folder = Path(folder.name) / "data"
-        self.folder.mkdir()
+        super().setUp()
         self.collectd, self.now = graphite.Collectd(), 0.0
         self.writer = collectd.Writer(self.collectd, lambda: self.now)
         self.writer.options.datadir = str(self.folder)
 
     def use(self, chosen: Any) -> Any:
-        library.use_library(chosen)
-        self.addCleanup(library.use_library, None)
+        use_library(self, chosen)
         return chosen
-
-    def files(self) -> List[str]:
-        return sorted(str(path.relative_to(self.folder.parent)) for path in self.folder.parent.rglob("*") if path.is_file())
 
 
 class Making(graphite.KeepingLibrary):
@@ -183,11 +173,7 @@ class Writing(WriterCase):
             for at in range(200):
                 self.writer.write(values(NOW + at, at, type="derive", plugin=f"p{number}"))
                 self.writer.flush(0)
-        threads = [threading.Thread(target=send, args=(number,)) for number in range(8)]
-        for thread in threads:
-            thread.start()
-        for thread in threads:
-            thread.join()
+        run_in_threads(8, send)
         self.writer.end()
         lines = [line for batch in making.lines for line in batch]
         self.assertEqual(sum(line.startswith("create") for line in lines), 8)
@@ -210,10 +196,7 @@ class Rows(WriterCase):
 
     def setUp(self) -> None:
         super().setUp()
-        chosen = chosen_library()
-        if chosen is None:
-            self.skipTest("there is no built program and no library")
-        self.use(chosen)
+        use_any_library(self)
 
     def rows(self, name: str) -> Dict[int, Optional[List[Optional[float]]]]:
         archive = read_file(str(self.folder / name))["archives"][0]

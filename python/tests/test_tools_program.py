@@ -6,7 +6,9 @@ import unittest
 from typing import List, Optional
 from unittest import mock
 
-from tool_case import NO_RRDI, RRDI, ToolCase
+from cases import NO_LIBRARY, needs_program
+from doubles import PROGRAM
+from tool_case import ToolCase
 
 from rrdi.library import CLibrary, library_path
 from rrdi.tools import program
@@ -14,7 +16,6 @@ from rrdi.tools.command_line import Failure
 from rrdi.tools.program import Ran
 
 LIBRARY: Optional[str] = os.environ.get("RRDI_TOOLS_BY") or library_path()
-NO_LIBRARY = "there is no librrdi.so.0: type make library"
 
 
 def library() -> CLibrary:
@@ -41,7 +42,7 @@ class Words(ToolCase):
             program.run(["last", "f.rrdi"])
 
 
-@unittest.skipUnless(RRDI, NO_RRDI)
+@needs_program
 @unittest.skipUnless(LIBRARY, NO_LIBRARY)
 class InProcess(ToolCase):
     COMMANDS = ["create {} --step 10 --start 1000000000 DS:g:GAUGE:60:-5:U DS:c:COUNTER:60:0:U RRA:AVERAGE:0.5:1:900 RRA:MAX:0.5:3:4",
@@ -54,8 +55,8 @@ class InProcess(ToolCase):
 
     def both(self, words: List[str], given: str = "") -> "tuple[Ran, Ran]":
         """The results of the program and of the library, each with a file of its own."""
-        assert RRDI
-        with mock.patch.dict(os.environ, {"RRDI": RRDI}):
+        assert PROGRAM
+        with mock.patch.dict(os.environ, {"RRDI": PROGRAM}):
             by_program = program.run([word.replace("{}", "a.rrdi") for word in words], given)
         by_library = program.run_in_process(library(), [word.replace("{}", "b.rrdi") for word in words], given)
         return by_program, by_library
