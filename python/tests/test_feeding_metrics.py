@@ -1,4 +1,4 @@
-"""Tests of the lines of Graphite: rules, names, numbers, and files that are created."""
+"""Tests of `rrdi.feeding.metrics`: rules, names, numbers, and files that are created."""
 from __future__ import annotations
 
 import os
@@ -12,9 +12,9 @@ from unittest import mock
 from cases import new_folder
 from tool_case import EachWriter, finished, taken
 
-from rrdi.feeding import graphite
+from rrdi.feeding import metrics
 from rrdi.feeding.feeder import Options
-from rrdi.feeding.graphite import Creating, GraphiteFeeder, as_sample, with_start
+from rrdi.feeding.metrics import Creating, MetricFeeder, as_sample, with_start
 from rrdi.feeding.rules import EACH_NAME, BadLine, BadRule, Names, read_rules
 from rrdi.feeding.writers import ByProgram, Outcome, Writer
 
@@ -121,8 +121,8 @@ class Rules(unittest.TestCase):
 
 
 class Lines(unittest.TestCase):
-    def taken(self, text: bytes, rules: str = EACH_NAME) -> Tuple[GraphiteFeeder, str]:
-        feeder = GraphiteFeeder(Options(), Stub(), Names(b"/d", read_rules(rules)))
+    def taken(self, text: bytes, rules: str = EACH_NAME) -> Tuple[MetricFeeder, str]:
+        feeder = MetricFeeder(Options(), Stub(), Names(b"/d", read_rules(rules)))
         self.addCleanup(feeder.threads.shutdown)
         return feeder, taken(feeder, text)
 
@@ -189,8 +189,8 @@ class New(EachWriter, unittest.TestCase):
         return sorted(os.fsdecode(os.path.relpath(os.path.join(root, name), self.folder))
                       for root, _, names in os.walk(self.folder) for name in names)
 
-    def fed(self, text: bytes, rules: str, writer: Writer, **options: int) -> Tuple[GraphiteFeeder, str]:
-        feeder = GraphiteFeeder(Options(**options), writer, Names(self.folder, read_rules(rules)))
+    def fed(self, text: bytes, rules: str, writer: Writer, **options: int) -> Tuple[MetricFeeder, str]:
+        feeder = MetricFeeder(Options(**options), writer, Names(self.folder, read_rules(rules)))
         said = taken(feeder, text) + finished(feeder)
         return feeder, said
 
@@ -238,7 +238,7 @@ class New(EachWriter, unittest.TestCase):
     def test_a_creation_is_tried_again(self) -> None:
         writer = Stub("cannot write")
         with mock.patch.object(writer, "create", side_effect=["cannot write", "cannot write", ""]) as create, \
-                mock.patch.object(graphite, "name_if_free"):
+                mock.patch.object(metrics, "name_if_free"):
             feeder, said = self.fed(b"f 1 20\nf 2 30", f"** x/** {ARGUMENTS}", writer)
         self.assertEqual((create.call_count, said, feeder.has_failed), (3, "", False))
         self.assertEqual(writer.batches, [(os.path.join(self.folder, b"x/f"), [b"20:1", b"30:2"])])
