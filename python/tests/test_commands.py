@@ -281,7 +281,7 @@ class Commands(OfFiles):
     def test_wait_of_the_environment(self: Any) -> None:
         for text, wanted in (("0", 0), ("7", 7_000), ("99999", 3_600_000), ("x", 5_000), ("-1", 5_000), ("", 5_000)):
             with mock.patch.dict(os.environ, {"RRDI_WAIT": text}):
-                self.assertEqual(words._wait_of_environment(), wanted)
+                self.assertEqual(words.wait_of_environment(), wanted)
         file = self.fill()
         with open(file, "rb") as other, mock.patch("rrdi.words.WAIT", 0):
             fcntl.flock(other, fcntl.LOCK_EX)

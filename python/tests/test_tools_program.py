@@ -10,7 +10,7 @@ from cases import NO_LIBRARY, needs_program
 from doubles import PROGRAM
 from tool_case import ToolCase
 
-from rrdi.library import CLibrary, library_path
+from rrdi.library import Answer, CLibrary, library_path
 from rrdi.tools import program
 from rrdi.tools.command_line import Failure
 from rrdi.tools.program import Ran
@@ -32,6 +32,18 @@ class Words(ToolCase):
     def test_reasons(self) -> None:
         for text, wanted in (("ERROR: usage\nusage: rrdi", "usage"), ("", ""), ("other\n", "other")):
             self.assertEqual(program.reason_of(text), wanted)
+
+    def test_the_environment(self) -> None:
+        """The library waits and flushes as RRDI_WAIT and RRDI_SYNC tell the program to."""
+        library = mock.Mock()
+        library.run_file.return_value = library.batch_file.return_value = Answer(0, 0, 0, b"")
+        for text, wait in (("", 5_000), ("0", 0), ("7", 7_000), ("3601", 3_600_000), ("-1", 5_000), ("x", 5_000)):
+            for sync in ("", "1"):
+                with mock.patch.dict(os.environ, {"RRDI_WAIT": text, "RRDI_SYNC": sync}):
+                    program.run_in_process(library, ["last", "f.rrdi"], "")
+                    program.run_in_process(library, ["batch", "f.rrdi"], "last\n")
+                for call in (library.run_file.call_args, library.batch_file.call_args):
+                    self.assertEqual(call[0][3:], (wait, bool(sync)), text)
 
     def test_zero_bytes(self) -> None:
         with self.assertRaisesRegex(Failure, "an argument has a zero byte"):
