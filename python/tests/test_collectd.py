@@ -2,7 +2,6 @@
 if one is there."""
 from __future__ import annotations
 
-import errno
 import importlib
 import math
 import sys
@@ -13,12 +12,11 @@ from unittest import mock
 
 import graphite_doubles as graphite
 from cases import DataCase, run_in_threads, use_any_library, use_library
-from rrdi import collectd, errors, library
+from rrdi import collectd, library
 from rrdi.library import Answer
 from rrdi.reader import read_file
 
 NOW = 1_700_000_000
-BUSY = Answer(errors.CANNOT_OPEN, errno.EAGAIN, 0, b"cannot open")
 
 
 def values(time: float = NOW, *amounts: float, host: str = "here", plugin: str = "load", plugin_instance: str = "",
@@ -146,7 +144,7 @@ class Writing(WriterCase):
         self.assertEqual(self.files(), ["data/.._.._../load/derive.rrdi"])
 
     def test_a_file_that_is_locked(self) -> None:
-        making = self.use(Making(BUSY))
+        making = self.use(Making(graphite.BUSY))
         self.writer.write(values(NOW, 1, type="derive"))
         self.now = 61
         self.writer.take_in(60)
@@ -157,7 +155,7 @@ class Writing(WriterCase):
         self.assertEqual(self.collectd.lines[1:], ["rrdi: 2 samples taken in, 0 lost"])
 
     def test_too_many_samples_wait(self) -> None:
-        self.use(Making(*[BUSY] * 3))
+        self.use(Making(*[graphite.BUSY] * 3))
         with mock.patch.object(collectd, "MOST_LINES", 2):
             for number in range(3):
                 self.writer.write(values(NOW + number, number, type="derive"))

@@ -22,7 +22,6 @@ from test_graphite_layout import WRONG_NAMES
 
 NOW = 1_700_000_000  # a multiple of 10
 RETENTIONS = [(10, 60), (60, 60)]
-BUSY = Answer(errors.CANNOT_OPEN, errno.EAGAIN, 0, b"cannot open")
 
 
 class CarbonCase(DataCase):
@@ -83,7 +82,7 @@ class Lines(CarbonCase):
         self.assertEqual(self.counts(database), {"name": len(WRONG_NAMES)})
 
     def test_points_wait_while_the_file_is_busy(self) -> None:
-        keeping = graphite.KeepingLibrary(BUSY)
+        keeping = graphite.KeepingLibrary(graphite.BUSY)
         database = self.database(keeping)
         database.create("a", RETENTIONS, None, None)
         database.write("a", [(NOW, 1.0)])
@@ -96,7 +95,7 @@ class Lines(CarbonCase):
         self.assertEqual((database.store.waiting, self.counts(database)), (0, {}))
 
     def test_too_many_points_wait(self) -> None:
-        database = self.database(graphite.KeepingLibrary(*[BUSY] * 3))
+        database = self.database(graphite.KeepingLibrary(*[graphite.BUSY] * 3))
         with mock.patch.object(store, "MOST_WAITING", 3):
             for number in range(3):
                 database.create("a", RETENTIONS, None, None)
