@@ -106,7 +106,7 @@ class Import(ToolCase):
                          Ran(1, "", NOTE + "rrdi-import: cannot write\n"))
         self.assertEqual([path.name for path in self.folder.glob("new.rrdi*")], [])
         self.assertEqual(self.tool("rrdi-import", "old.rrd", "/nowhere/new.rrdi").err,
-                         NOTE + "rrdi-import: cannot write\n")
+                         NOTE + "rrdi-import: cannot open\n")
 
     def test_a_link_is_no_rrdtool(self) -> None:
         (self.bin / "rrdtool").unlink()
