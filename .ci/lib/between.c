@@ -229,28 +229,19 @@ static long noted(const char *name, long file, long size, long got, long at) {
     return got;
 }
 
-static int opened(const char *path, int flags, int mode) {
+int open(const char *path, int flags, ...) {
+    va_list rest;
+    va_start(rest, flags);
+    int mode = va_arg(rest, int);
+    va_end(rest);
     int file = may("open", -1, 0) ? syscall(SYS_openat, AT_FDCWD, path, flags, mode) : -1, error = errno;
     note(log_file, "open -1 0 %d %d %.100s\n", file, flags, path);
     errno = error;
     return file;
 }
 
-int open(const char *path, int flags, ...) {
-    va_list rest;
-    va_start(rest, flags);
-    int mode = va_arg(rest, int);
-    va_end(rest);
-    return opened(path, flags, mode);
-}
-
-int open64(const char *path, int flags, ...) {
-    va_list rest;
-    va_start(rest, flags);
-    int mode = va_arg(rest, int);
-    va_end(rest);
-    return opened(path, flags, mode);
-}
+/* A function cannot pass on its optional arguments, so open64 is a second name of open. */
+int open64(const char *path, int flags, ...) __attribute__((alias("open")));
 
 int fcntl(int file, int what, ...) {
     va_list rest;

@@ -3,11 +3,16 @@
 This module is for scripts that kill a program at each call, or let each call fail."""
 from __future__ import annotations
 
+import argparse
+import tempfile
+from concurrent.futures import ProcessPoolExecutor
 from dataclasses import dataclass
 from pathlib import Path
+from typing import Any, Callable, Sequence
 
-from lib import between
+from lib import between, command_line
 from lib.program import Answer, Program, held, put
+from lib.tally import Tally
 
 FILE = "net.rrdi"
 READERS = frozenset({"fetch", "last", "info"})
@@ -174,3 +179,27 @@ def locks_of(calls: list[between.Event], file: str, changes: bool) -> list[str]:
             if kind == 0 or needed == LOCK_EX and kind != LOCK_EX:
                 faults.append(f"call {number}, {call.kind} of {file}, is made under {('no', 'a shared')[kind]} lock")
     return faults
+
+
+# ---- The work of a script, in parts
+
+def parser_of_changes(doc: str | None, short: str) -> command_line.Parser:
+    """Returns a parser of a script that tries changes, whose tests end after the first task with a wrong result."""
+    parser = command_line.parser_of_tasks(doc, short)
+    parser.add_argument("--first", action="store_true", help="stop after the first task with a wrong result")
+    return parser
+
+
+def try_parts(path: str, work: Callable[..., Tally], parts: Sequence[Any], options: argparse.Namespace) -> Tally:
+    """Tries the parts of a script's work, several at a time, and adds up the tallies. Calls `work` with the program, the
+    library between the program and the system, a folder, a part and the options."""
+    tally = Tally(is_quiet=options.quiet)
+    with tempfile.TemporaryDirectory() as folder, ProcessPoolExecutor(options.jobs) as pool:
+        library, program = between.build(folder, only_calls=True), str(Path(path).resolve())
+        waited = [pool.submit(work, program, library, folder, part, options) for part in parts]
+        for future in waited:
+            tally.add(future.result())
+            if options.first and tally.wrong:
+                pool.shutdown(cancel_futures=True)
+                break
+    return tally

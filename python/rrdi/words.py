@@ -90,13 +90,19 @@ def present(now: Optional[int]) -> int:
     return seconds if seconds > 0 else 0
 
 
-def _wait_of_environment() -> int:
+def wait_of_environment() -> int:
+    """Returns the milliseconds to wait for a lock: those of RRDI_WAIT, or 5 seconds."""
     text = os.environ.get("RRDI_WAIT", "")
-    return min(int(text), 3_600) * 1_000 if text.isascii() and text.isdigit() else 5_000
+    return min(int(text), int(LONGEST_WAIT)) * 1_000 if text.isascii() and text.isdigit() else 5_000
+
+
+def sync_of_environment() -> bool:
+    """Returns whether RRDI_SYNC asks that each change is flushed to the disk."""
+    return os.environ.get("RRDI_SYNC") == "1"
 
 
 # The program reads these variables at its start; the package reads them when it is imported.
-WAIT, SYNC = _wait_of_environment(), os.environ.get("RRDI_SYNC") == "1"
+WAIT, SYNC = wait_of_environment(), sync_of_environment()
 
 
 def milliseconds(busy_timeout: Optional[float]) -> int:

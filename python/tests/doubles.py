@@ -1,9 +1,10 @@
-"""Puts the package on the path, replaces the C library by the built program, and finds both."""
+"""Puts the package on the path, finds the C library and the program, and replaces the library by the program."""
 from __future__ import annotations
 
 import errno
 import fcntl
 import os
+import shutil
 import subprocess
 import sys
 import tempfile
@@ -17,7 +18,17 @@ sys.dont_write_bytecode = True
 from rrdi import errors  # noqa: E402
 from rrdi.library import Answer, library_path  # noqa: E402
 
-PROGRAM = os.environ.get("RRDI", str(TOP / "crates/rrdi/out/rrdi"))
+
+def find_program() -> Optional[str]:
+    """Finds the program: the one that the variable RRDI names, otherwise the built one, or rrdi on the PATH."""
+    named, built = os.environ.get("RRDI"), str(TOP / "crates/rrdi/out/rrdi")
+    for path in (named,) if named else (built, shutil.which("rrdi")):
+        if path and os.access(path, os.X_OK):
+            return os.path.abspath(path)
+    return None
+
+
+PROGRAM = find_program()
 FAULTS = {"usage": errors.USAGE, "no database": errors.NO_DATABASE, "cannot open": errors.CANNOT_OPEN,
           "cannot write": errors.CANNOT_WRITE, "out of memory": errors.NO_MEMORY, "file: not ours": errors.NOT_OURS,
           "file: version": errors.VERSION, "file: read failed": errors.READ_FAILED}
@@ -26,10 +37,6 @@ WITH_A_PLACE = {"file: truncated at ": errors.TRUNCATED, "file: bad block at ": 
 # A batch prints this line after each line; no test has this line.
 AFTER = "resize / GROW 1"
 PRINTED_AFTER = "ERROR: unreadable archive"
-
-
-def has_program() -> bool:
-    return os.access(PROGRAM, os.X_OK)
 
 
 def has_library() -> bool:
@@ -48,9 +55,6 @@ def fault_of(reason: str) -> Tuple[int, int]:
 
 class ByProgram:
     """The library's four functions by runs of the program, which uses its own clock as now."""
-
-    def __init__(self, program: str = PROGRAM):
-        self.program = program
 
     def run_file(self, path: bytes, words: bytes, now: int, wait: int, syncs: bool) -> Answer:
         command, *others = words.decode().split("\0")
@@ -92,7 +96,8 @@ class ByProgram:
 
     def _ran(self, words: "List[object]", given: bytes, wait: int, syncs: bool) -> "subprocess.CompletedProcess[bytes]":
         env = {**os.environ, "RRDI_WAIT": str(wait // 1_000), "RRDI_SYNC": "1" if syncs else "0"}
-        return subprocess.run([self.program, *words], input=given, stdout=subprocess.PIPE,  # type: ignore[list-item]
+        assert PROGRAM
+        return subprocess.run([PROGRAM, *words], input=given, stdout=subprocess.PIPE,  # type: ignore[list-item]
                               stderr=subprocess.PIPE, env=env)
 
     def _answer(self, path: bytes, ran: "subprocess.CompletedProcess[bytes]") -> Answer:

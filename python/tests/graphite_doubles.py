@@ -3,6 +3,7 @@ bytes; and a C library that keeps the lines which it is given."""
 from __future__ import annotations
 
 import atexit
+import errno
 import importlib
 import os
 import shutil
@@ -14,6 +15,7 @@ from pathlib import Path
 from typing import Any, Dict, List, Mapping, Optional, Sequence, Tuple
 
 import doubles  # noqa: F401  (the package is on the path)
+from rrdi.errors import CANNOT_OPEN
 from rrdi.library import Answer
 
 UNKNOWN = -2**127
@@ -149,6 +151,10 @@ class Collectd:
 
 
 # ---- Files and the library
+
+# The answer if another program holds the lock of a file.
+BUSY = Answer(CANNOT_OPEN, errno.EAGAIN, 0, b"cannot open")
+
 
 class KeepingLibrary:
     """A C library that keeps the batches, and answers each with the next answer, or that all is well."""

@@ -2,26 +2,21 @@
 if one is there."""
 from __future__ import annotations
 
-import errno
 import importlib
 import math
 import sys
-import tempfile
-import threading
 import types
 import unittest
-from pathlib import Path
 from typing import Any, Dict, List, Optional, Tuple
 from unittest import mock
 
 import graphite_doubles as graphite
-from rrdi import collectd, errors, library
+from cases import DataCase, run_in_threads, use_any_library, use_library
+from rrdi import collectd, library
 from rrdi.library import Answer
 from rrdi.reader import read_file
-from test_graphite_carbon import chosen_library
 
 NOW = 1_700_000_000
-BUSY = Answer(errors.CANNOT_OPEN, errno.EAGAIN, 0, b"cannot open")
 
 
 def values(time: float = NOW, *amounts: float, host: str = "here", plugin: str = "load", plugin_instance: str = "",
@@ -30,23 +25,16 @@ def values(time: float = NOW, *amounts: float, host: str = "here", plugin: str =
                                  type_instance=type_instance, time=time, interval=interval, values=list(amounts))
 
 
-class WriterCase(unittest.TestCase):
+class WriterCase(DataCase):
     def setUp(self) -> None:
-        folder = tempfile.TemporaryDirectory()
-        self.addCleanup(folder.cleanup)
-        self.folder = Path(folder.name) / "data"
-        self.folder.mkdir()
+        super().setUp()
         self.collectd, self.now = graphite.Collectd(), 0.0
         self.writer = collectd.Writer(self.collectd, lambda: self.now)
         self.writer.options.datadir = str(self.folder)
 
     def use(self, chosen: Any) -> Any:
-        library.use_library(chosen)
-        self.addCleanup(library.use_library, None)
+        use_library(self, chosen)
         return chosen
-
-    def files(self) -> List[str]:
-        return sorted(str(path.relative_to(self.folder.parent)) for path in self.folder.parent.rglob("*") if path.is_file())
 
 
 class Making(graphite.KeepingLibrary):
@@ -156,7 +144,7 @@ class Writing(WriterCase):
         self.assertEqual(self.files(), ["data/.._.._../load/derive.rrdi"])
 
     def test_a_file_that_is_locked(self) -> None:
-        making = self.use(Making(BUSY))
+        making = self.use(Making(graphite.BUSY))
         self.writer.write(values(NOW, 1, type="derive"))
         self.now = 61
         self.writer.take_in(60)
@@ -167,7 +155,7 @@ class Writing(WriterCase):
         self.assertEqual(self.collectd.lines[1:], ["rrdi: 2 samples taken in, 0 lost"])
 
     def test_too_many_samples_wait(self) -> None:
-        self.use(Making(*[BUSY] * 3))
+        self.use(Making(*[graphite.BUSY] * 3))
         with mock.patch.object(collectd, "MOST_LINES", 2):
             for number in range(3):
                 self.writer.write(values(NOW + number, number, type="derive"))
@@ -183,11 +171,7 @@ class Writing(WriterCase):
             for at in range(200):
                 self.writer.write(values(NOW + at, at, type="derive", plugin=f"p{number}"))
                 self.writer.flush(0)
-        threads = [threading.Thread(target=send, args=(number,)) for number in range(8)]
-        for thread in threads:
-            thread.start()
-        for thread in threads:
-            thread.join()
+        run_in_threads(8, send)
         self.writer.end()
         lines = [line for batch in making.lines for line in batch]
         self.assertEqual(sum(line.startswith("create") for line in lines), 8)
@@ -210,10 +194,7 @@ class Rows(WriterCase):
 
     def setUp(self) -> None:
         super().setUp()
-        chosen = chosen_library()
-        if chosen is None:
-            self.skipTest("there is no built program and no library")
-        self.use(chosen)
+        use_any_library(self)
 
     def rows(self, name: str) -> Dict[int, Optional[List[Optional[float]]]]:
         archive = read_file(str(self.folder / name))["archives"][0]

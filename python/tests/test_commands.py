@@ -7,19 +7,17 @@ import datetime
 import fcntl
 import os
 import pickle
-import tempfile
 import threading
 import time
 import unittest
 from decimal import Decimal
-from pathlib import Path
 from typing import Any, List
 from unittest import mock
 
-import doubles
+from cases import WithLibrary, WithProgram, new_folder, run_in_threads, use_library
+
 import rrdi
 from rrdi import words
-from rrdi.library import the_library, use_library
 
 LAST = 1_600_000_030
 BOTH = ("DS:g:GAUGE:100:-10:U", "DS:c:COUNTER:100:0:50", "RRA:AVERAGE:0.5:1:4", "RRA:MAX:0.25:2:4")
@@ -29,12 +27,9 @@ class OfFiles:
     """Tests in a folder of their own. A class of tests adds which library they call."""
 
     def setUp(self: Any) -> None:
-        folder = tempfile.TemporaryDirectory()
-        self.addCleanup(folder.cleanup)
-        self.folder = Path(folder.name)
+        self.folder = new_folder(self)
         self.file = self.folder / "f.rrdi"
-        use_library(self.library())
-        self.addCleanup(use_library, None)
+        use_library(self, self.library())
 
     def create(self: Any, *definitions: str) -> Any:
         rrdi.create(self.file, *(definitions or BOTH), step=10, start=1_600_000_000)
@@ -286,7 +281,7 @@ class Commands(OfFiles):
     def test_wait_of_the_environment(self: Any) -> None:
         for text, wanted in (("0", 0), ("7", 7_000), ("99999", 3_600_000), ("x", 5_000), ("-1", 5_000), ("", 5_000)):
             with mock.patch.dict(os.environ, {"RRDI_WAIT": text}):
-                self.assertEqual(words._wait_of_environment(), wanted)
+                self.assertEqual(words.wait_of_environment(), wanted)
         file = self.fill()
         with open(file, "rb") as other, mock.patch("rrdi.words.WAIT", 0):
             fcntl.flock(other, fcntl.LOCK_EX)
@@ -310,11 +305,7 @@ class Commands(OfFiles):
             except BaseException as error:
                 failed.append(error)
 
-        threads = [threading.Thread(target=work, args=(number,)) for number in range(8)]
-        for thread in threads:
-            thread.start()
-        for thread in threads:
-            thread.join()
+        run_in_threads(8, work)
         self.assertEqual(failed, [])
         self.assertEqual(rrdi.info(self.file)["undoable"], 200)
         self.assertEqual([rrdi.last(self.folder / f"{number}.rrdi") for number in range(8)], [250] * 8)
@@ -521,35 +512,23 @@ class InMemory(OfFiles):
         self.assertEqual(output.splitlines()[1:], [f"{time}: {time % 7}.000000" for time in range(1, 20_001)])
 
 
-@unittest.skipUnless(doubles.has_program(), "there is no built program")
-class CommandsByProgram(Commands, unittest.TestCase):
-    def library(self) -> Any:
-        return doubles.ByProgram()
+class CommandsByProgram(WithProgram, Commands, unittest.TestCase):
+    pass
 
 
-@unittest.skipUnless(doubles.has_program(), "there is no built program")
-class BatchesByProgram(Batches, unittest.TestCase):
-    def library(self) -> Any:
-        return doubles.ByProgram()
+class BatchesByProgram(WithProgram, Batches, unittest.TestCase):
+    pass
 
 
-@unittest.skipUnless(doubles.has_program(), "there is no built program")
-class DatabasesByProgram(Databases, unittest.TestCase):
-    def library(self) -> Any:
-        return doubles.ByProgram()
+class DatabasesByProgram(WithProgram, Databases, unittest.TestCase):
+    pass
 
 
-@unittest.skipUnless(doubles.has_program(), "there is no built program")
-class InMemoryByProgram(InMemory, unittest.TestCase):
-    def library(self) -> Any:
-        return doubles.ByProgram()
+class InMemoryByProgram(WithProgram, InMemory, unittest.TestCase):
+    pass
 
 
-@unittest.skipUnless(doubles.has_library(), "there is no C library")
-class CommandsByLibrary(Commands, unittest.TestCase):
-    def library(self) -> Any:
-        return None
-
+class CommandsByLibrary(WithLibrary, Commands, unittest.TestCase):
     def test_now(self) -> None:
         """A time for now, which the program takes from its clock."""
         rrdi.create(self.file, *BOTH, step=10, now=1_600_000_010)
@@ -583,22 +562,16 @@ class CommandsByLibrary(Commands, unittest.TestCase):
         self.assertGreater(turns, 10)
 
 
-@unittest.skipUnless(doubles.has_library(), "there is no C library")
-class BatchesByLibrary(Batches, unittest.TestCase):
-    def library(self) -> Any:
-        return None
+class BatchesByLibrary(WithLibrary, Batches, unittest.TestCase):
+    pass
 
 
-@unittest.skipUnless(doubles.has_library(), "there is no C library")
-class DatabasesByLibrary(Databases, unittest.TestCase):
-    def library(self) -> Any:
-        return None
+class DatabasesByLibrary(WithLibrary, Databases, unittest.TestCase):
+    pass
 
 
-@unittest.skipUnless(doubles.has_library(), "there is no C library")
-class InMemoryByLibrary(InMemory, unittest.TestCase):
-    def library(self) -> Any:
-        return None
+class InMemoryByLibrary(WithLibrary, InMemory, unittest.TestCase):
+    pass
 
 
 if __name__ == "__main__":

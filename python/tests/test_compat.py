@@ -7,18 +7,18 @@ import datetime
 import os
 import subprocess
 import sys
-import tempfile
 import unittest
 from pathlib import Path
 from typing import Any, List
 
-import doubles
+from cases import WithLibrary, WithProgram, new_folder, use_library
+from doubles import TOP
+
 import rrdi
 from rrdi.compat import rrdtool
 from rrdi.compat.syntax import Untranslatable, read_length, read_number
 from rrdi.compat.times import Moment
 from rrdi.compat.translate import translate
-from rrdi.library import use_library
 
 NOW = 1_700_000_000
 # Where Debian's package python3-rrdtool can be imported.
@@ -113,12 +113,10 @@ class Module:
     """The module's functions. A class of tests adds which library they call."""
 
     def setUp(self: Any) -> None:
-        folder = tempfile.TemporaryDirectory()
-        self.addCleanup(folder.cleanup)
+        folder = new_folder(self)
         self.addCleanup(os.chdir, os.getcwd())
-        os.chdir(folder.name)
-        use_library(self.library())
-        self.addCleanup(use_library, None)
+        os.chdir(folder)
+        use_library(self, self.library())
 
     def fill(self: Any) -> None:
         rrdtool.create("f.rrd", "-s", "10", "--start", "1600000000", ["DS:g:GAUGE:1m:U:U", "DS:c:COUNTER:60:0:1e2"],
@@ -258,22 +256,18 @@ class Stub(unittest.TestCase):
         """A program that says `import rrdtool` gets this module if the stub's folder is first on its path."""
         asks = "import rrdtool; print(rrdtool.fetch.__module__, rrdtool.__version__, " \
                "rrdtool.OperationalError.__module__)"
-        env = {**os.environ, "PYTHONPATH": str(doubles.TOP / "python/compat")}
+        env = {**os.environ, "PYTHONPATH": str(TOP / "python/compat")}
         ran = subprocess.run([sys.executable, "-B", "-c", asks], env=env, stdout=subprocess.PIPE,
                              universal_newlines=True)
         self.assertEqual(ran.stdout, f"rrdi.compat.rrdtool {rrdi.__version__} rrdi.errors\n")
 
 
-@unittest.skipUnless(doubles.has_program(), "there is no built program")
-class ModuleByProgram(Module, unittest.TestCase):
-    def library(self) -> Any:
-        return doubles.ByProgram()
+class ModuleByProgram(WithProgram, Module, unittest.TestCase):
+    pass
 
 
-@unittest.skipUnless(doubles.has_library(), "there is no C library")
-class ModuleByLibrary(Module, unittest.TestCase):
-    def library(self) -> Any:
-        return None
+class ModuleByLibrary(WithLibrary, Module, unittest.TestCase):
+    pass
 
 
 if __name__ == "__main__":

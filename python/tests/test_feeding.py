@@ -5,20 +5,21 @@ import contextlib
 import errno
 import io
 import os
-import tempfile
 import time
 import unittest
-from pathlib import Path
 from typing import Dict, List, Sequence, Tuple
 from unittest import mock
 
 import doubles
+from cases import new_folder, use_library
+from tool_case import EachWriter, finished, taken
+
 import rrdi
 from rrdi.errors import CANNOT_OPEN, CANNOT_WRITE, NO_MEMORY
 from rrdi.feeding import writers
 from rrdi.feeding.feeder import Feeder, Options, shown
 from rrdi.feeding.writers import ByLibrary, ByProgram, Outcome, chosen_writer
-from rrdi.library import Answer, load_library
+from rrdi.library import Answer
 
 
 class Stub:
@@ -45,9 +46,7 @@ class Lines(unittest.TestCase):
 
     def taken(self, text: bytes, **options: int) -> Tuple[Feeder, str]:
         feeder = self.feeder(**options)
-        with contextlib.redirect_stderr(io.StringIO()) as said:
-            feeder.take_all(text.split(b"\n"))
-        return feeder, said.getvalue()
+        return feeder, taken(feeder, text)
 
     def test_lines(self) -> None:
         text = b"a 10:1\n\nUPDATE b 10:5 20:6\n a\t20:2 \nupdate a 30:3\nb 30:1\r\nc/d 5:U 6:1"
@@ -122,11 +121,8 @@ class Batches(unittest.TestCase):
         writer = Stub()
         writer.outcomes = outcomes
         feeder = Feeder(Options(**options), writer)
-        with contextlib.redirect_stderr(io.StringIO()) as said:
-            feeder.take_all(text.split(b"\n"))
-            feeder.end()
-            feeder.finish()
-        return writer, feeder, said.getvalue()
+        said = taken(feeder, text) + finished(feeder)
+        return writer, feeder, said
 
     def test_one_batch_a_file(self) -> None:
         writer, feeder, said = self.fed(b"a 10:1\nb 10:2\na 20:3", {}, jobs=1)
@@ -151,11 +147,7 @@ class Batches(unittest.TestCase):
 
     def test_a_writer_that_fails(self) -> None:
         feeder = Feeder(Options(), mock.Mock(write=mock.Mock(side_effect=MemoryError("none"))))
-        with contextlib.redirect_stderr(io.StringIO()) as said:
-            feeder.take_all([b"a 10:1"])
-            feeder.end()
-            feeder.finish()
-        self.assertEqual(said.getvalue(),
+        self.assertEqual(taken(feeder, b"a 10:1") + finished(feeder),
                          "rrdi-feed: a: MemoryError: none; 1 samples may be lost\nrrdi-feed: may be lost: a 10:1\n")
 
     def test_newer_samples_follow_those_that_wait(self) -> None:
@@ -188,7 +180,7 @@ class FakeLibrary:
         return self.answer
 
 
-class Writers(unittest.TestCase):
+class Writers(EachWriter, unittest.TestCase):
     def outcome(self, answer: Answer) -> Outcome:
         library = FakeLibrary(answer)
         outcome = ByLibrary(library).write(b"a", [b"10:1", b"20:2", b"30:3"])  # type: ignore[arg-type]
@@ -222,20 +214,11 @@ class Writers(unittest.TestCase):
             if doubles.has_library():
                 self.assertIsInstance(chosen_writer(), ByLibrary)
 
-    @unittest.skipUnless(doubles.has_program(), "there is no built program")
-    def test_by_program(self) -> None:
-        self.of_files(ByProgram(doubles.PROGRAM))
-
-    @unittest.skipUnless(doubles.has_library(), "there is no C library")
-    def test_by_the_library_itself(self) -> None:
-        self.of_files(ByLibrary(load_library()))
-
     def of_files(self, writer: "writers.Writer") -> None:
         """Both writers do the same to files."""
-        with tempfile.TemporaryDirectory() as folder, mock.patch("rrdi.words.WAIT", 0):
-            file = Path(folder, "f.rrdi")
-            rrdi.library.use_library(None if isinstance(writer, ByLibrary) else doubles.ByProgram())
-            self.addCleanup(rrdi.library.use_library, None)
+        file = new_folder(self) / "f.rrdi"
+        use_library(self, None if isinstance(writer, ByLibrary) else doubles.ByProgram())
+        with mock.patch("rrdi.words.WAIT", 0):
             name = os.fsencode(file)
             self.assertEqual(writer.write(name, [b"10:1"]), Outcome(refused=((b"10:1", "no database"),)))
             rrdi.create(file, "DS:g:GAUGE:99:U:U", "RRA:LAST:0:1:9", step=10, start=0)

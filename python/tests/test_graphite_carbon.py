@@ -6,17 +6,15 @@ import errno
 import math
 import os
 import sys
-import tempfile
 import unittest
-from pathlib import Path
 from typing import Any, Callable, Dict, List, Optional
 from unittest import mock
 
 import graphite_doubles as graphite
-import doubles
+from cases import DataCase, use_any_library
+from doubles import TOP
 from rrdi import errors, library
 from rrdi.graphite import carbon, store
-from rrdi.graphite.losses import Losses
 from rrdi.library import Answer, Library
 from rrdi.reader import read_file
 from rrdi.reader.selected import OpenFile
@@ -24,22 +22,11 @@ from test_graphite_layout import WRONG_NAMES
 
 NOW = 1_700_000_000  # a multiple of 10
 RETENTIONS = [(10, 60), (60, 60)]
-BUSY = Answer(errors.CANNOT_OPEN, errno.EAGAIN, 0, b"cannot open")
 
 
-def chosen_library() -> Optional[Library]:
-    """The C library, or the program in its place; None if there is neither."""
-    if doubles.has_library():
-        return library.load_library()
-    return doubles.ByProgram() if doubles.has_program() else None
-
-
-class CarbonCase(unittest.TestCase):
+class CarbonCase(DataCase):
     def setUp(self) -> None:
-        folder = tempfile.TemporaryDirectory()
-        self.addCleanup(folder.cleanup)
-        self.folder = Path(folder.name) / "data"
-        self.folder.mkdir()
+        super().setUp()
         self.lines: List[str] = []
         self.metrics: Dict[str, float] = {}
 
@@ -54,9 +41,6 @@ class CarbonCase(unittest.TestCase):
 
     def counts(self, database: Any) -> Dict[str, int]:
         return {kind: count for kind, count in database.losses.take().items() if count}
-
-    def files(self) -> List[str]:
-        return sorted(str(path.relative_to(self.folder.parent)) for path in self.folder.parent.rglob("*") if path.is_file())
 
 
 class Lines(CarbonCase):
@@ -98,7 +82,7 @@ class Lines(CarbonCase):
         self.assertEqual(self.counts(database), {"name": len(WRONG_NAMES)})
 
     def test_points_wait_while_the_file_is_busy(self) -> None:
-        keeping = graphite.KeepingLibrary(BUSY)
+        keeping = graphite.KeepingLibrary(graphite.BUSY)
         database = self.database(keeping)
         database.create("a", RETENTIONS, None, None)
         database.write("a", [(NOW, 1.0)])
@@ -111,7 +95,7 @@ class Lines(CarbonCase):
         self.assertEqual((database.store.waiting, self.counts(database)), (0, {}))
 
     def test_too_many_points_wait(self) -> None:
-        database = self.database(graphite.KeepingLibrary(*[BUSY] * 3))
+        database = self.database(graphite.KeepingLibrary(*[graphite.BUSY] * 3))
         with mock.patch.object(store, "MOST_WAITING", 3):
             for number in range(3):
                 database.create("a", RETENTIONS, None, None)
@@ -209,12 +193,10 @@ class Rows(CarbonCase):
 
     def setUp(self) -> None:
         super().setUp()
-        self.chosen = chosen_library()
-        if self.chosen is None:
-            self.skipTest("there is no built program and no library")
+        self.chosen = use_any_library(self)
 
     def made(self, method: str = "average", **settings: object) -> Any:
-        database = self.database(self.chosen, **settings)  # type: ignore[arg-type]
+        database = self.database(self.chosen, **settings)
         database.create("m", RETENTIONS, 0.5, method)
         return database
 
@@ -354,10 +336,8 @@ class Rows(CarbonCase):
     def test_files_of_users(self) -> None:
         """A file that was made by hand takes points too."""
         import rrdi
-        library.use_library(self.chosen)
-        self.addCleanup(library.use_library, None)
         rrdi.create(str(self.folder / "m.rrdi"), "DS:temp:GAUGE:60:U:U", "RRA:MAX:0.5:1:10", step=10, start=NOW)
-        database = self.database(self.chosen)  # type: ignore[arg-type]
+        database = self.database(self.chosen)
         database.write("m", [(NOW, 1.0), (NOW + 10, 2.0)])
         self.assertEqual(self.rows(), {0: 1.0, 10: 2.0})
         # Samples within a step are not reverted for a late point.
@@ -384,7 +364,7 @@ class Program(unittest.TestCase):
 
     def test_help(self) -> None:
         import subprocess
-        ran = subprocess.run([sys.executable, str(doubles.TOP / "tools/rrdi-carbon-cache"), "--help"], capture_output=True,
+        ran = subprocess.run([sys.executable, str(TOP / "tools/rrdi-carbon-cache"), "--help"], capture_output=True,
                              text=True)
         self.assertEqual((ran.returncode, ran.stderr), (0, ""))
         self.assertIn("Exit status:", ran.stdout)
@@ -392,7 +372,7 @@ class Program(unittest.TestCase):
     @unittest.skipIf(graphite.HAS_CARBON, "carbon is installed for this Python")
     def test_without_carbon(self) -> None:
         import subprocess
-        ran = subprocess.run([sys.executable, str(doubles.TOP / "tools/rrdi-carbon-cache"), "status"], capture_output=True,
+        ran = subprocess.run([sys.executable, str(TOP / "tools/rrdi-carbon-cache"), "status"], capture_output=True,
                              text=True)
         self.assertEqual((ran.returncode, ran.stdout), (1, ""))
         self.assertRegex(ran.stderr, r"^rrdi-carbon-cache: No module named 'carbon'; .* needs carbon .*\n$")

@@ -3,12 +3,11 @@ from __future__ import annotations
 
 import math
 import os
-import tempfile
 import unittest
-from pathlib import Path
 from typing import Dict, List, Tuple
 
 import graphite_doubles as graphite
+from cases import new_folder
 from rrdi.errors import Damaged
 from rrdi.graphite.late import plan, reverts_for
 from rrdi.graphite.layout import archives_of, check_retentions, method_of, template, unknown_share
@@ -121,9 +120,7 @@ class Parts(unittest.TestCase):
     """Files that are read in parts, and late points."""
 
     def setUp(self) -> None:
-        folder = tempfile.TemporaryDirectory()
-        self.addCleanup(folder.cleanup)
-        self.path = Path(folder.name, "m.rrdi")
+        self.path = new_folder(self) / "m.rrdi"
 
     def open(self, data: bytes) -> OpenFile:
         self.path.write_bytes(data)

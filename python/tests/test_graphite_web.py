@@ -2,7 +2,6 @@
 from __future__ import annotations
 
 import os
-import tempfile
 import time
 import unittest
 from pathlib import Path
@@ -10,6 +9,7 @@ from typing import Any, Dict, List, Optional, Sequence, Tuple
 from unittest import mock
 
 import graphite_doubles as graphite
+from cases import DataCase
 from rrdi.graphite import finding, web
 from rrdi.graphite.names import path_of
 from rrdi.graphite.series import Series, read_series
@@ -19,13 +19,7 @@ NOW = 1_700_000_400  # a multiple of 600
 METRICS = ["app.host1.cpu", "app.host1.mem", "app.host2.cpu", "app.host2.disk.sda", "app.total", "other", "app2.x"]
 
 
-class FolderCase(unittest.TestCase):
-    def setUp(self) -> None:
-        folder = tempfile.TemporaryDirectory()
-        self.addCleanup(folder.cleanup)
-        self.folder = Path(folder.name) / "data"
-        self.folder.mkdir()
-
+class FolderCase(DataCase):
     def put(self, metric: str, data: bytes) -> str:
         path = path_of(str(self.folder), metric)
         assert path is not None

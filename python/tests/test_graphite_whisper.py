@@ -5,13 +5,12 @@ from __future__ import annotations
 import math
 import random
 import struct
-import tempfile
 import unittest
 from pathlib import Path
 from typing import Dict, List, Mapping, Optional, Sequence, Tuple
 
 import graphite_doubles as graphite
-from rrdi import library
+from cases import new_folder, use_any_library
 from rrdi.commands import batch
 from rrdi.graphite.layout import METHODS, template
 from rrdi.graphite.losses import Losses
@@ -20,7 +19,6 @@ from rrdi.graphite.store import Options, Store
 from rrdi.importing.dump import Refusal
 from rrdi.importing.whisper import NUMBERS, read_whisper, whisper_batch
 from rrdi.reader.selected import OpenFile
-from test_graphite_carbon import chosen_library
 
 NOW = 1_700_000_400  # a multiple of 600
 RETENTIONS = [(10, 60), (60, 120)]
@@ -42,17 +40,8 @@ def whisper_bytes(archives: Sequence[Tuple[int, int, Mapping[int, float]]], meth
 
 class FolderCase(unittest.TestCase):
     def setUp(self) -> None:
-        folder = tempfile.TemporaryDirectory()
-        self.addCleanup(folder.cleanup)
-        self.folder = Path(folder.name)
+        self.folder = new_folder(self)
         self.old, self.new = str(self.folder / "m.wsp"), str(self.folder / "m.rrdi")
-
-    def use_library(self) -> None:
-        chosen = chosen_library()
-        if chosen is None:
-            self.skipTest("there is no built program and no library")
-        library.use_library(chosen)
-        self.addCleanup(library.use_library, None)
 
     def values(self, start: int, end: int, now: int) -> Tuple[Tuple[int, int, int], List[Optional[float]]]:
         with OpenFile(self.new) as file:
@@ -113,7 +102,7 @@ class AsInWhisper(FolderCase):
         return counted
 
     def test_random_points(self) -> None:
-        self.use_library()
+        use_any_library(self)
         for method in METHODS:
             counted = sum(self.try_method(method, seed) for seed in range(6))
             self.assertGreater(counted, 1_000)
@@ -164,7 +153,7 @@ class Moving(FolderCase):
 
     def test_rows(self) -> None:
         """The finest archive is as it was, and of all methods the next one too."""
-        self.use_library()
+        use_any_library(self)
         for number, method in NUMBERS.items():
             if method not in METHODS:
                 continue

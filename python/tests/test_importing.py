@@ -6,7 +6,7 @@ import math
 import unittest
 import xml.etree.ElementTree as ElementTree
 from array import array
-from typing import Any, Dict, List
+from typing import Any, Dict
 
 import doubles  # noqa: F401
 from rrdi.importing.amounts import Losses, as_text, millionths, raw_value

@@ -4,18 +4,18 @@ from __future__ import annotations
 
 import ctypes
 import os
-import tempfile
 import threading
 import unittest
-from pathlib import Path
 from types import SimpleNamespace
 from typing import Any, Callable, Dict, List, Tuple
 from unittest import mock
 
-import doubles
+from cases import new_folder, use_library
+from doubles import has_library
+
 import rrdi
 from rrdi import library
-from rrdi.library import FIRST_ROOM, CLibrary, load_library, use_library
+from rrdi.library import FIRST_ROOM, CLibrary, load_library
 
 POINTER, LENGTH, NUMBER = ctypes.c_void_p, ctypes.c_size_t, ctypes.c_uint64
 IN_MEMORY = [ctypes.c_bool, POINTER, LENGTH, POINTER, LENGTH, NUMBER, POINTER, LENGTH, POINTER, LENGTH]
@@ -133,9 +133,9 @@ class Places(unittest.TestCase):
         self.assertEqual((ctypes.sizeof(library._Answer), ctypes.alignment(library._Answer)), (304, 8))
 
     def test_places(self) -> None:
-        with tempfile.TemporaryDirectory() as name, mock.patch.dict(os.environ):
+        folder = new_folder(self)
+        with mock.patch.dict(os.environ):
             os.environ.pop("RRDI_LIBRARY", None)
-            folder = Path(name)
             for place, found in (("repository/python/rrdi", "repository/out"), ("site/rrdi", "site/rrdi"),
                                  ("usr/share/rrdi/python/rrdi", "usr/lib")):
                 (folder / place).mkdir(parents=True)
@@ -148,12 +148,12 @@ class Places(unittest.TestCase):
                     os.environ.pop("RRDI_LIBRARY")
 
     def test_loading(self) -> None:
-        self.addCleanup(use_library, None)
+        use_library(self, None)
         with self.assertRaises(OSError):
             load_library("/nowhere/librrdi.so.0")
         with self.assertRaises(AttributeError):
             load_library("libc.so.6")
-        if doubles.has_library():
+        if has_library():
             self.assertIs(load_library(), library.the_library())
 
 

@@ -6,12 +6,12 @@ import os
 import struct
 import subprocess
 import sys
-import tempfile
 import unittest
-from pathlib import Path
 from typing import List, Tuple
 
-import doubles
+from cases import new_folder
+from doubles import TOP
+
 import rrdi
 from rrdi import reader
 
@@ -63,20 +63,18 @@ class Reading(unittest.TestCase):
 
 class CommandLine(unittest.TestCase):
     def setUp(self) -> None:
-        folder = tempfile.TemporaryDirectory()
-        self.addCleanup(folder.cleanup)
-        self.folder = folder.name
-        Path(self.folder, "f.rrdi").write_bytes(file_bytes())
-        Path(self.folder, "cut").write_bytes(file_bytes()[:30])
+        self.folder = new_folder(self)
+        (self.folder / "f.rrdi").write_bytes(file_bytes())
+        (self.folder / "cut").write_bytes(file_bytes()[:30])
 
     def ran(self, *words: str) -> Tuple[int, str, str]:
-        env = {**os.environ, "PYTHONPATH": str(doubles.TOP / "python")}
+        env = {**os.environ, "PYTHONPATH": str(TOP / "python")}
         ran = subprocess.run([sys.executable, "-B", *words], cwd=self.folder, env=env, stdout=subprocess.PIPE,
                              stderr=subprocess.PIPE, universal_newlines=True)
         return ran.returncode, ran.stdout, ran.stderr
 
     def test_both_ways(self) -> None:
-        script = str(doubles.TOP / "examples/rrdi.py")
+        script = str(TOP / "examples/rrdi.py")
         ways: List[Tuple[List[str], str]] = [(["-m", "rrdi.reader"], "rrdi.reader"), ([script], "rrdi.py")]
         for way, name in ways:
             csv = "archive,function,seconds,time,g\n0,LAST,10,20,2.500000\n"
@@ -90,16 +88,16 @@ class CommandLine(unittest.TestCase):
 
     def test_import_of_the_script(self) -> None:
         """A program that finds the script first gets the package."""
-        asks = f"import sys; sys.path.insert(0, {str(doubles.TOP / 'examples')!r}); import rrdi; " \
+        asks = f"import sys; sys.path.insert(0, {str(TOP / 'examples')!r}); import rrdi; " \
                "print(rrdi.read_file('f.rrdi')['last_time'], rrdi.__path__ != [], rrdi.Fault.__name__)"
         self.assertEqual(self.ran("-c", asks), (0, "20 True Damaged\n", ""))
 
 
 class Package(unittest.TestCase):
     def test_version(self) -> None:
-        version = (doubles.TOP / "VERSION").read_text().strip()
+        version = (TOP / "VERSION").read_text().strip()
         self.assertEqual(rrdi.__version__, version)
-        self.assertIn(f'\nversion = "{version}"\n', (doubles.TOP / "python/pyproject.toml").read_text())
+        self.assertIn(f'\nversion = "{version}"\n', (TOP / "python/pyproject.toml").read_text())
 
     def test_names(self) -> None:
         for name in rrdi.__all__:
@@ -109,9 +107,9 @@ class Package(unittest.TestCase):
 
     def test_packages(self) -> None:
         """pyproject.toml has each folder of the package."""
-        found = {".".join(path.parent.relative_to(doubles.TOP / "python").parts)
-                 for path in (doubles.TOP / "python/rrdi").rglob("__init__.py")}
-        listed = [line for line in (doubles.TOP / "python/pyproject.toml").read_text().splitlines()
+        found = {".".join(path.parent.relative_to(TOP / "python").parts)
+                 for path in (TOP / "python/rrdi").rglob("__init__.py")}
+        listed = [line for line in (TOP / "python/pyproject.toml").read_text().splitlines()
                   if line.startswith("packages = [\"rrdi\", ")]
         self.assertEqual(listed, [f"packages = [{', '.join(f'{name!r}' for name in sorted(found))}]".replace("'", '"')])
 
@@ -119,7 +117,7 @@ class Package(unittest.TestCase):
         """Without the C library the package can be imported, and its reader works; a command says what is missing."""
         asks = "import rrdi\nfrom rrdi import library\nlibrary.NAMES = ('nothing.so',)\n" \
                "try:\n    rrdi.last('f')\nexcept OSError as error:\n    print(error)"
-        env = {**os.environ, "PYTHONPATH": str(doubles.TOP / "python")}
+        env = {**os.environ, "PYTHONPATH": str(TOP / "python")}
         env.pop("RRDI_LIBRARY", None)
         ran = subprocess.run([sys.executable, "-B", "-c", asks], env=env, stdout=subprocess.PIPE,
                              universal_newlines=True)

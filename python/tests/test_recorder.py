@@ -9,7 +9,9 @@ import threading
 import unittest
 from typing import List, Optional, Tuple
 
-from tool_case import NO_RRDI, RRDI, TOP, ToolCase
+from cases import needs_program, run_in_threads
+from doubles import TOP
+from tool_case import ToolCase
 
 from rrdi.compat.syntax import read_number
 
@@ -48,7 +50,7 @@ class Recorder:
         return self.error()
 
 
-@unittest.skipUnless(RRDI, NO_RRDI)
+@needs_program
 @unittest.skipUnless(os.path.exists(PATH), NO_RECORDER)
 class Record(ToolCase):
     def setUp(self) -> None:
@@ -157,11 +159,7 @@ class Record(ToolCase):
             if number == 0:
                 errors.append(self.recorder.update(file, "g", "5:1").replace(file, "f"))
 
-        threads = [threading.Thread(target=run, args=(number,)) for number in range(8)]
-        for thread in threads:
-            thread.start()
-        for thread in threads:
-            thread.join()
+        run_in_threads(8, run)
         self.assertEqual(sorted(errors), [""] * 240 + ["f: sample 1 of 1: not later than 1000000029"])
 
 

@@ -7,7 +7,8 @@ import sys
 import time
 import unittest
 
-from tool_case import TOP, Ran, ToolCase
+from doubles import TOP
+from tool_case import Ran, ToolCase
 
 TOOL = """import errno, sys
 sys.path.insert(0, {python!r})

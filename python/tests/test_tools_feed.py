@@ -14,7 +14,9 @@ import unittest
 from pathlib import Path
 from typing import Dict, List, Optional
 
-from tool_case import NO_RRDI, RRDI, TOP, Ran, ToolCase
+from cases import needs_program
+from doubles import TOP
+from tool_case import Ran, ToolCase
 
 from rrdi.feeding.feeder import Options
 from rrdi.tools.command_line import WrongArguments
@@ -177,7 +179,7 @@ class Feed(ToolCase):
         self.assertEqual(self.logged(), ["a 10:1", "a 20:1"])
 
 
-@unittest.skipUnless(RRDI, NO_RRDI)
+@needs_program
 class Files(ToolCase):
     """With the program, or the library."""
 

@@ -9,7 +9,9 @@ import unittest
 import zlib
 from typing import List, Tuple
 
-from tool_case import NO_RRDI, NO_RRDTOOL, RRDI, RRDTOOL, TOP, Ran, ToolCase
+from cases import needs_program
+from doubles import PROGRAM, TOP
+from tool_case import NO_RRDTOOL, RRDTOOL, Ran, ToolCase
 
 from rrdi.tools import graphing, librrd
 from rrdi.tools.command_line import Failure
@@ -66,7 +68,7 @@ class Words(ToolCase):
         self.check_usage("rrdi-graph", "PICTURE ARGUMENTS OF RRDTOOL GRAPH..", [[], ["a.png"], ["--start", "5"], ["", "a"]])
 
 
-@unittest.skipUnless(RRDI, NO_RRDI)
+@needs_program
 @unittest.skipUnless(RRDTOOL and has_library(), NO_RRDTOOL)
 class Pictures(ToolCase):
     """All cells have few binary digits, so that RRDtool and rrdi know the same numbers."""
@@ -205,7 +207,7 @@ class Pictures(ToolCase):
         grapher = graphing.Grapher()
         # The library frees the memory that it requests: the process does not grow.
         import os
-        os.environ["RRDI"] = RRDI or ""
+        os.environ["RRDI"] = PROGRAM or ""
         words = ["-s", str(self.START), "-e", str(self.end), f"DEF:a={self.folder}/f.rrdi:g:AVERAGE", "LINE1:a#ff0000"]
         first = grapher.graph(["-", *words])
         sizes = []

@@ -11,7 +11,9 @@ import unittest
 from typing import List
 from unittest import mock
 
-from tool_case import NO_RRDI, NO_RRDTOOL, RRDI, RRDTOOL, TOP, Ran, ToolCase
+from cases import needs_program
+from doubles import TOP
+from tool_case import NO_RRDTOOL, RRDTOOL, Ran, ToolCase
 
 from rrdi.tools.command_line import Progress
 
@@ -50,7 +52,7 @@ class Import(ToolCase):
         ran = self.tool("rrdi-import", "--journal", "7", "old.rrd")
         self.assertEqual(ran.out, BATCH.replace(" DS:", " --journal 7 DS:"))
 
-    @unittest.skipUnless(RRDI, NO_RRDI)
+    @needs_program
     def test_a_new_file(self) -> None:
         self.assertEqual(self.tool("rrdi-import", "--journal", "9", "old.rrd", "new.rrdi"), Ran(0, "", NOTE))
         self.assertEqual(self.rrdi("fetch", "new.rrdi", "AVERAGE", "-s", "1600000000", "-e", "1600000029"),
@@ -98,13 +100,13 @@ class Import(ToolCase):
         self.assertEqual(self.tool("rrdi-import", "old.rrd", stdout="/dev/full"),
                          Ran(1, "", NOTE + "rrdi-import: No space left on device\n"))
 
-    @unittest.skipUnless(RRDI, NO_RRDI)
+    @needs_program
     def test_a_full_disk_leaves_no_file(self) -> None:
         self.assertEqual(self.tool("rrdi-import", "old.rrd", "new.rrdi", size=50),
                          Ran(1, "", NOTE + "rrdi-import: cannot write\n"))
         self.assertEqual([path.name for path in self.folder.glob("new.rrdi*")], [])
         self.assertEqual(self.tool("rrdi-import", "old.rrd", "/nowhere/new.rrdi").err,
-                         NOTE + "rrdi-import: cannot write\n")
+                         NOTE + "rrdi-import: cannot open\n")
 
     def test_a_link_is_no_rrdtool(self) -> None:
         (self.bin / "rrdtool").unlink()
@@ -139,7 +141,7 @@ class LongMoves(ToolCase):
                              f"dump) cat {self.folder}/begin; sleep 1.3; cat {self.folder}/end ;; esac")
         self.is_shown("rrdi-import", "old.rrd", shown="reading old.rrd: (20|40|60|80|100) %")
 
-    @unittest.skipUnless(RRDI, NO_RRDI)
+    @needs_program
     def test_export(self) -> None:
         self.create("f.rrdi", "DS:g:GAUGE:100:-5:U", "RRA:AVERAGE:0.5:1:20000")
         self.stub("rrdtool", "sleep 1.3; cat >new.rrd")
@@ -184,7 +186,7 @@ class Shown(unittest.TestCase):
         self.assertEqual(seen, "\rlines: 1,234,567\x1b[K\r\x1b[K")
 
 
-@unittest.skipUnless(RRDI, NO_RRDI)
+@needs_program
 class Export(ToolCase):
     def setUp(self) -> None:
         super().setUp()
@@ -232,7 +234,7 @@ class Export(ToolCase):
         return f"{TOP}/tools/rrdi-export"
 
 
-@unittest.skipUnless(RRDI, NO_RRDI)
+@needs_program
 class Compare(ToolCase):
     """Of an archive of steps 1, nan and 2, and one of the maximum of three; rrdtool prints other numbers in turn."""
 
@@ -297,7 +299,7 @@ class Compare(ToolCase):
                          Ran(1, "", "rrdi-compare: rrdtool is not installed (Debian: apt install rrdtool)\n"))
 
 
-@unittest.skipUnless(RRDI, NO_RRDI)
+@needs_program
 @unittest.skipUnless(RRDTOOL, NO_RRDTOOL)
 class ThereAndBack(ToolCase):
     """The programs themselves move random files of RRDtool to rrdi, and back to RRDtool."""

@@ -7,7 +7,9 @@ import subprocess
 import unittest
 from typing import Dict, Optional
 
-from tool_case import NO_RRDI, RRDI, TOP, Ran, ToolCase
+from cases import needs_program
+from doubles import PROGRAM, TOP
+from tool_case import Ran, ToolCase
 
 PERL = shutil.which("perl")
 SHOW = r"""
@@ -64,7 +66,8 @@ def has_module() -> bool:
     return bool(PERL) and subprocess.run([str(PERL), "-MRRDs", "-e", "1"], capture_output=True).returncode == 0
 
 
-@unittest.skipUnless(PERL and RRDI, NO_RRDI)
+@needs_program
+@unittest.skipUnless(PERL, "perl is not installed")
 class PerlCase(ToolCase):
     def perl(self, script: str, env: Optional[Dict[str, str]] = None, is_ours: bool = True) -> Ran:
         assert PERL
@@ -166,7 +169,7 @@ $ENV{TZ} = 'XXX-5'; show east => RRDs::times('noon 20240101', 'start+1h');
                 self.assertEqual(self.lines(f"use utf8; show last => RRDs::last('{quoted}.rrdi');"), ["last: 0; error undef"])
 
     def test_a_call_that_is_broken_off(self) -> None:
-        slow = self.stub("slow", f'case $2 in */slow.rrdi|slow.rrdi) sleep 5 ;; esac; exec {RRDI} "$@"')
+        slow = self.stub("slow", f'case $2 in */slow.rrdi|slow.rrdi) sleep 5 ;; esac; exec {PROGRAM} "$@"')
         lines = self.lines(r"""
 my $last = eval { local $SIG{ALRM} = sub { die "late\n" }; alarm 1; RRDs::last('slow.rrdi') };
 print "broken off: $@"; alarm 0;

@@ -6,15 +6,16 @@ import unittest
 from typing import List, Optional
 from unittest import mock
 
-from tool_case import NO_RRDI, RRDI, ToolCase
+from cases import NO_LIBRARY, needs_program
+from doubles import PROGRAM
+from tool_case import ToolCase
 
-from rrdi.library import CLibrary, library_path
+from rrdi.library import Answer, CLibrary, library_path
 from rrdi.tools import program
 from rrdi.tools.command_line import Failure
 from rrdi.tools.program import Ran
 
 LIBRARY: Optional[str] = os.environ.get("RRDI_TOOLS_BY") or library_path()
-NO_LIBRARY = "there is no librrdi.so.0: type make library"
 
 
 def library() -> CLibrary:
@@ -32,6 +33,18 @@ class Words(ToolCase):
         for text, wanted in (("ERROR: usage\nusage: rrdi", "usage"), ("", ""), ("other\n", "other")):
             self.assertEqual(program.reason_of(text), wanted)
 
+    def test_the_environment(self) -> None:
+        """The library waits and flushes as RRDI_WAIT and RRDI_SYNC tell the program to."""
+        library = mock.Mock()
+        library.run_file.return_value = library.batch_file.return_value = Answer(0, 0, 0, b"")
+        for text, wait in (("", 5_000), ("0", 0), ("7", 7_000), ("3601", 3_600_000), ("-1", 5_000), ("x", 5_000)):
+            for sync in ("", "1"):
+                with mock.patch.dict(os.environ, {"RRDI_WAIT": text, "RRDI_SYNC": sync}):
+                    program.run_in_process(library, ["last", "f.rrdi"], "")
+                    program.run_in_process(library, ["batch", "f.rrdi"], "last\n")
+                for call in (library.run_file.call_args, library.batch_file.call_args):
+                    self.assertEqual(call[0][3:], (wait, bool(sync)), text)
+
     def test_zero_bytes(self) -> None:
         with self.assertRaisesRegex(Failure, "an argument has a zero byte"):
             program.run(["update", "f.rrdi", "10:1\0--template=x"])
@@ -41,7 +54,7 @@ class Words(ToolCase):
             program.run(["last", "f.rrdi"])
 
 
-@unittest.skipUnless(RRDI, NO_RRDI)
+@needs_program
 @unittest.skipUnless(LIBRARY, NO_LIBRARY)
 class InProcess(ToolCase):
     COMMANDS = ["create {} --step 10 --start 1000000000 DS:g:GAUGE:60:-5:U DS:c:COUNTER:60:0:U RRA:AVERAGE:0.5:1:900 RRA:MAX:0.5:3:4",
@@ -54,8 +67,8 @@ class InProcess(ToolCase):
 
     def both(self, words: List[str], given: str = "") -> "tuple[Ran, Ran]":
         """The results of the program and of the library, each with a file of its own."""
-        assert RRDI
-        with mock.patch.dict(os.environ, {"RRDI": RRDI}):
+        assert PROGRAM
+        with mock.patch.dict(os.environ, {"RRDI": PROGRAM}):
             by_program = program.run([word.replace("{}", "a.rrdi") for word in words], given)
         by_library = program.run_in_process(library(), [word.replace("{}", "b.rrdi") for word in words], given)
         return by_program, by_library

@@ -11,7 +11,9 @@ import unittest
 from typing import Dict, List, Optional
 from unittest import mock
 
-from tool_case import NO_RRDI, RRDI, TOP, Ran, ToolCase
+from cases import needs_program
+from doubles import PROGRAM, TOP
+from tool_case import Ran, ToolCase
 
 from rrdi.tools import plot, record
 from rrdi.tools.command_line import Failure
@@ -70,7 +72,7 @@ class Labels(unittest.TestCase):
                 plot.points_of(["g"], rows)
 
 
-@unittest.skipUnless(RRDI, NO_RRDI)
+@needs_program
 class Plot(ToolCase):
     START = 1_700_000_400
 
@@ -139,7 +141,7 @@ class Plot(ToolCase):
         self.assertFalse((self.folder / "p.png").exists())
 
 
-@unittest.skipUnless(RRDI, NO_RRDI)
+@needs_program
 class Record(ToolCase):
     def setUp(self) -> None:
         super().setUp()
@@ -172,7 +174,7 @@ class Record(ToolCase):
     def test_it_flushes_to_the_disk(self) -> None:
         self.make("a.rrdi", self.now - 120)
         shown = self.stub("shown", f'case $1 in update) echo "${{RRDI_SYNC-}} $*" >{self.folder}/seen ;; esac\n'
-                                   f'exec {RRDI} "$@"')
+                                   f'exec {PROGRAM} "$@"')
         self.assertEqual(self.record("a.rrdi", RRDI=shown), Ran(0, "", ""))
         self.assertEqual(self.read("seen"), b"1 update a.rrdi N:1.25:2.50:3.75\n")
 

@@ -7,7 +7,9 @@ import unittest
 from typing import List
 from unittest import mock
 
-from tool_case import NO_RRDI, NO_RRDTOOL, RRDI, RRDTOOL, TOP, Ran, ToolCase
+from cases import needs_program
+from doubles import TOP
+from tool_case import NO_RRDTOOL, RRDTOOL, Ran, ToolCase
 
 from rrdi.tools import fetching, program
 from rrdi.tools.command_line import Failure
@@ -94,7 +96,7 @@ class Choice(unittest.TestCase):
         asked.assert_not_called()
 
 
-@unittest.skipUnless(RRDI, NO_RRDI)
+@needs_program
 class RRDtoolOutput(ToolCase):
     def make(self) -> None:
         self.assertEqual(self.tool(TOOL, "create", "x.rrdi", *DEFINITIONS), Ran(0, "", ""))
@@ -217,7 +219,7 @@ class RRDtoolOutput(ToolCase):
                          "ERROR: cannot read the output of " + str(self.bin / "odd") + " info\n")
 
 
-@unittest.skipUnless(RRDI, NO_RRDI)
+@needs_program
 class PipeMode(ToolCase):
     def pipe(self, lines: str, *words: str) -> Ran:
         ran = self.tool(TOOL, "-", *words, given=lines)
@@ -283,7 +285,7 @@ class PipeMode(ToolCase):
         self.assertIn("377", ran.out)
 
 
-@unittest.skipUnless(RRDI, NO_RRDI)
+@needs_program
 @unittest.skipUnless(RRDTOOL, NO_RRDTOOL)
 class BesideRRDtool(ToolCase):
     """The same lines by rrdtool and by rrdi-rrdtool. All rates have few binary digits, so that both know them exactly."""

@@ -1,40 +1,25 @@
-"""The parts that the tests of the tools share: a folder, runs of the tools, and small scripts that replace other programs."""
+"""The parts that the tests of the tools share: a folder, runs of the tools, small scripts that replace other programs, and
+how rrdi-feed takes lines and passes them on."""
 from __future__ import annotations
 
+import contextlib
+import io
 import os
 import pty
 import resource
-import shutil
 import subprocess
 import sys
-import tempfile
 import unittest
-from pathlib import Path
-from typing import Dict, List, NamedTuple, Optional
+from typing import Any, Dict, List, NamedTuple, Optional
 
-TOP = Path(__file__).resolve().parent.parent.parent
-sys.path.insert(0, str(TOP / "python"))
+from cases import needs_library, needs_program, new_folder
+from doubles import PROGRAM, TOP
+from rrdi.feeding.feeder import Feeder
+from rrdi.feeding.writers import ByLibrary, ByProgram
+from rrdi.library import load_library
+from rrdi.tools import rrdtool_program
 
-
-def find_rrdi() -> Optional[str]:
-    """Finds the program: the one that the variable RRDI names, the built one, or rrdi on the PATH."""
-    built = TOP / "crates/rrdi/out/rrdi"
-    for path in (os.environ.get("RRDI"), str(built), shutil.which("rrdi")):
-        if path and os.access(path, os.X_OK):
-            return os.path.abspath(path)
-    return None
-
-
-RRDI = find_rrdi()
-NO_RRDI = "there is no program rrdi: build it, or name it by RRDI"
-
-
-def find_rrdtool() -> Optional[str]:
-    from rrdi.tools import rrdtool_program
-    return rrdtool_program.find()
-
-
-RRDTOOL = find_rrdtool()
+RRDTOOL = rrdtool_program.find()
 NO_RRDTOOL = "rrdtool is not installed"
 
 
@@ -44,16 +29,42 @@ class Ran(NamedTuple):
     err: str
 
 
+def taken(feeder: Feeder, text: bytes) -> str:
+    """Passes lines to a feeder. Returns what the feeder reports."""
+    with contextlib.redirect_stderr(io.StringIO()) as said:
+        feeder.take_all(text.split(b"\n"))
+    return said.getvalue()
+
+
+def finished(feeder: Feeder) -> str:
+    """Ends the input of a feeder. Returns what the feeder reports up to its end."""
+    with contextlib.redirect_stderr(io.StringIO()) as said:
+        feeder.end()
+        feeder.finish()
+    return said.getvalue()
+
+
+class EachWriter:
+    """Runs the checks `of_files` by each writer of rrdi-feed."""
+
+    @needs_program
+    def test_by_program(self: Any) -> None:
+        self.of_files(ByProgram(PROGRAM or ""))
+
+    @needs_library
+    def test_by_the_library_itself(self: Any) -> None:
+        self.of_files(ByLibrary(load_library()))
+
+
 class ToolCase(unittest.TestCase):
     """Runs tools in a folder of their own. Nothing that the caller's environment sets changes what they do."""
 
     def setUp(self) -> None:
-        self.folder = Path(tempfile.mkdtemp(prefix="rrdi-tools"))
-        self.addCleanup(shutil.rmtree, self.folder, ignore_errors=True)
+        self.folder = new_folder(self)
         self.bin = self.folder / "bin"
         self.bin.mkdir()
         self.env: Dict[str, str] = {"PATH": f"{self.bin}:{os.environ['PATH']}", "HOME": str(self.folder), "TZ": "UTC",
-                                    "LC_ALL": "C.UTF-8", "RRDI": RRDI or "rrdi", "RRDI_WAIT": "0"}
+                                    "LC_ALL": "C.UTF-8", "RRDI": PROGRAM or "rrdi", "RRDI_WAIT": "0"}
         # The same tests by the C library: RRDI_TOOLS_BY names it.
         if "RRDI_TOOLS_BY" in os.environ:
             self.env["RRDI_LIBRARY"] = os.environ["RRDI_TOOLS_BY"]
@@ -104,8 +115,8 @@ class ToolCase(unittest.TestCase):
         return running.returncode, seen.decode()
 
     def rrdi(self, *words: str, given: str = "") -> str:
-        assert RRDI
-        ran = self.run_command([RRDI, *words], given)
+        assert PROGRAM
+        ran = self.run_command([PROGRAM, *words], given)
         self.assertEqual((ran.status, ran.err), (0, ""), words)
         return ran.out
 

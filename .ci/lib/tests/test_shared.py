@@ -1,6 +1,7 @@
 """The tally, runs, the pieces of a file, the forms of the commands, and the definitions."""
 from __future__ import annotations
 
+import argparse
 import contextlib
 import io
 import tempfile
@@ -9,7 +10,7 @@ from pathlib import Path
 
 from lib import command_line, definitions, layout, manual
 from lib.between import Event
-from lib.changes import FILE, changes, is_refused, locks_of, readings
+from lib.changes import FILE, changes, is_refused, locks_of, parser_of_changes, readings, try_parts
 from lib.program import TOP, Answer, Program, environment, error, held, parted, put, waited
 from lib.self_test import SelfTest, answering
 from lib.tally import Tally, number_tried
@@ -59,10 +60,35 @@ class Faults(unittest.TestCase):
                          ["waited 0 seconds)", "waited 1 second)", "waited 5 seconds)"])
 
 
+def wrong_part(program: str, library: str, folder: str, part: int, options: argparse.Namespace) -> Tally:
+    """A script's work: one result for each part, which is wrong for part 0."""
+    tally = Tally(is_quiet=True)
+    tally.count("parts")
+    tally.want(part > 0 and Path(program).is_absolute() and Path(library).parent == Path(folder), "a part")
+    return tally
+
+
 class Scripts(unittest.TestCase):
+    def test_program(self) -> None:
+        parser = command_line.parser_of_program("what it does", Path("/built"))
+        self.assertEqual([parser.parse_args(words).program for words in ([], ["p"])], ["/built", "p"])
+        with self.assertRaises(SystemExit), contextlib.redirect_stderr(io.StringIO()):
+            command_line.parser_of_program("what it does").parse_args([])
+
+    def test_tasks(self) -> None:
+        options = parser_of_changes("what it does", "try less").parse_args(["p", "--only", "tune", "--jobs", "3"])
+        self.assertEqual((options.program, options.only, options.jobs, options.short, options.quiet, options.first),
+                         ("p", "tune", 3, False, False, False))
+
+    def test_parts(self) -> None:
+        """All parts are tried, or with --first those up to a wrong result."""
+        for words, wanted in (([], (5, 1)), (["--first"], (1, 1))):
+            options = parser_of_changes("what it does", "").parse_args(["p", "--jobs", "1", *words])
+            tally = try_parts("p", wrong_part, range(5), options)
+            self.assertEqual((tally.tried["parts"], tally.wrong), wanted)
+
     def test_status(self) -> None:
-        parser = command_line.parser_of("what it does")
-        parser.add_argument("program")
+        parser = command_line.parser_of_program("what it does")
         for words, wanted in ((["--self-test"], 5), (["p"], 3)):
             with self.assertRaises(SystemExit) as ended:
                 command_line.run(parser, lambda options: 3, lambda: 5, words)

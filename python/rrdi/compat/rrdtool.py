@@ -14,16 +14,15 @@ from __future__ import annotations
 import builtins
 import os
 import time
-from typing import List, NoReturn, Optional, Tuple, Union
+from typing import Callable, List, NoReturn, Optional, Tuple, Union
 
+from .. import __version__ as __version__
 from .. import commands
 from ..errors import Error, OperationalError, ProgrammingError
 from ..reader import read_bytes
 from ..results import Info, LastUpdate, Table, info_of, last_update
 from .syntax import Untranslatable
 from .translate import Command, translate
-
-__version__ = "0.2.0"
 
 Words = Union[str, List[str]]
 
@@ -167,50 +166,21 @@ def lib_version() -> str:
 
 # ---- Functions that rrdi does not have
 
-def _lacks(command: str) -> NoReturn:
-    raise OperationalError(f"rrdi has no command {command}")
+def _lacking(command: str) -> Callable[..., NoReturn]:
+    """Returns the function of a command that rrdi does not have."""
+    def function(*words: object) -> NoReturn:
+        """Raises `OperationalError`."""
+        raise OperationalError(f"rrdi has no command {command}")
+    function.__name__ = function.__qualname__ = command
+    return function
 
 
-def dump(*words: object) -> NoReturn:
-    """Raises `OperationalError`."""
-    _lacks("dump")
-
-
-def flushcached(*words: object) -> NoReturn:
-    """Raises `OperationalError`."""
-    _lacks("flushcached")
-
-
-def graph(*words: object) -> NoReturn:
-    """Raises `OperationalError`."""
-    _lacks("graph")
-
-
-def graphv(*words: object) -> NoReturn:
-    """Raises `OperationalError`."""
-    _lacks("graphv")
-
-
-def list(*words: object) -> NoReturn:
-    """Raises `OperationalError`."""
-    _lacks("list")
-
-
-def register_fetch_cb(*words: object) -> NoReturn:
-    """Raises `OperationalError`."""
-    _lacks("register_fetch_cb")
-
-
-def clear_fetch_cb(*words: object) -> NoReturn:
-    """Raises `OperationalError`."""
-    _lacks("clear_fetch_cb")
-
-
-def updatev(*words: object) -> NoReturn:
-    """Raises `OperationalError`."""
-    _lacks("updatev")
-
-
-def xport(*words: object) -> NoReturn:
-    """Raises `OperationalError`."""
-    _lacks("xport")
+clear_fetch_cb = _lacking("clear_fetch_cb")
+dump = _lacking("dump")
+flushcached = _lacking("flushcached")
+graph = _lacking("graph")
+graphv = _lacking("graphv")
+list = _lacking("list")
+register_fetch_cb = _lacking("register_fetch_cb")
+updatev = _lacking("updatev")
+xport = _lacking("xport")

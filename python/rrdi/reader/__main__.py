@@ -12,36 +12,26 @@ line has the first fault, as rrdi reports it. docs/reading.md also explains how 
 """
 from __future__ import annotations
 
-import os
 import sys
+from typing import List
 
-from ..errors import Damaged
-from .files import read_file
+from ..tools.command_line import Tool, WrongArguments, run
+from ..tools.reading import read_file
 from .printing import WAYS
+
+
+def show(words: List[str]) -> int:
+    if len(words) != 2 or words[0] not in WAYS:
+        raise WrongArguments
+    way, file = words
+    for line in WAYS[way](read_file(file), file):
+        print(line)
+    return 0
 
 
 def main(name: str = "rrdi.reader") -> int:
     """Runs the command line; `name` is the name of the program in messages."""
-    if any(word in ("-h", "--help") for word in sys.argv[1:]):
-        print((__doc__ or "").strip())
-        return 0
-    if len(sys.argv) != 3 or sys.argv[1] not in WAYS:
-        print(f"usage: {name} json|csv|openmetrics|check FILE", file=sys.stderr)
-        return 2
-    try:
-        for line in WAYS[sys.argv[1]](read_file(sys.argv[2]), sys.argv[2]):
-            print(line)
-        sys.stdout.flush()
-    except BrokenPipeError:
-        os.dup2(os.open(os.devnull, os.O_WRONLY), sys.stdout.fileno())
-        return 1
-    except OSError as error:
-        print(f"{name}: {sys.argv[2]}: {error.strerror}", file=sys.stderr)
-        return 1
-    except Damaged as fault:
-        print(f"{name}: {sys.argv[2]}: {fault}", file=sys.stderr)
-        return 1
-    return 0
+    return run(Tool(name, "json|csv|openmetrics|check FILE", __doc__, show))
 
 
 if __name__ == "__main__":

@@ -3,9 +3,9 @@ from __future__ import annotations
 
 import errno
 import fcntl
-import os
 import time
 
+from ..words import wait_of_environment
 from .pieces import Parts, Reader
 from .undo import settled
 
@@ -25,8 +25,7 @@ def lock_shared(file: int) -> None:
     # Errors
     `OSError` if another program holds the lock for longer than RRDI_WAIT seconds, 5 by default.
     """
-    wait = os.environ.get("RRDI_WAIT", "")
-    until = time.monotonic() + (min(int(wait), 3_600) if wait.isascii() and wait.isdigit() else 5)
+    until = time.monotonic() + wait_of_environment() / 1_000
     pause = 0.001
     while True:
         try:

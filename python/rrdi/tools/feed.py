@@ -33,7 +33,7 @@ import tempfile
 from typing import List, NamedTuple, Optional
 
 from ..feeding.feeder import Feeder, Options
-from ..feeding.graphite import Creating, GraphiteFeeder
+from ..feeding.metrics import Creating, MetricFeeder
 from ..feeding.rules import EACH_NAME, BadRule, Names, Rule, read_rules
 from ..feeding.writers import Writer, chosen_writer
 from .command_line import Failure, Tool, WrongArguments, called_name, run
@@ -95,7 +95,7 @@ def feeder_of(arguments: Arguments) -> Feeder:
     if not os.path.isdir(arguments.directory):
         raise Failure(f"{arguments.directory} is not a directory")
     names = Names(os.fsencode(os.path.abspath(arguments.directory)), rules_of(arguments.rules, writer))
-    return GraphiteFeeder(arguments.options, writer, names, name)
+    return MetricFeeder(arguments.options, writer, names, name)
 
 
 def feed(words: List[str]) -> int:

@@ -4,7 +4,7 @@ from __future__ import annotations
 from typing import Any, Dict, List, NamedTuple, Optional
 
 from .. import reader
-from .command_line import Failure, error_text
+from .reading import reporting
 
 
 class PartialStep(NamedTuple):
@@ -51,13 +51,9 @@ def read_outline(file: str) -> Outline:
     # Errors
     `Failure` if the file cannot be opened, locked or read, or is not a database.
     """
-    try:
+    with reporting(file):
         reading = WithoutRows(reader.settled(reader.read_bytes(file)))
         return as_outline(reading.database(), reading.first_row or 0)
-    except OSError as error:
-        raise Failure(f"{file}: {error.strerror or error_text(error)}") from None
-    except reader.Fault as fault:
-        raise Failure(f"{file}: {fault}") from None
 
 
 def as_outline(database: Dict[str, Any], header_size: int) -> Outline:

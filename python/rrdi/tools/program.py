@@ -14,6 +14,7 @@ from typing import Dict, Iterable, List, NamedTuple, Optional
 
 from ..errors import CANNOT_WRITE, NO_MEMORY, OK, USAGE
 from ..library import Answer, Library, library_path, load_library
+from ..words import sync_of_environment, wait_of_environment
 from .command_line import Failure, error_text
 
 ERROR = "ERROR: "
@@ -90,8 +91,6 @@ def loaded_library() -> Optional[Library]:
 
 # The faults of a batch that happen after its lines were run.
 AFTER_LINES = {CANNOT_WRITE: "cannot write", NO_MEMORY: "out of memory"}
-# How long a command waits for a file that another program has locked, in milliseconds: as long as the program does.
-WAIT = 5_000
 
 
 def as_bytes(text: str) -> bytes:
@@ -101,12 +100,12 @@ def as_bytes(text: str) -> bytes:
 def run_in_process(library: Library, words: List[str], given: str) -> Ran:
     """Runs a command, or a batch, by the library. The result is the same as the program's."""
     name, file, *others = words
-    now, syncs = int(time.time()), os.environ.get("RRDI_SYNC") == "1"
+    now, wait, syncs = int(time.time()), wait_of_environment(), sync_of_environment()
     answer: Answer
     if name == "batch":
-        answer = library.batch_file(as_bytes(file), as_bytes(given), now, WAIT, syncs)
+        answer = library.batch_file(as_bytes(file), as_bytes(given), now, wait, syncs)
     else:
-        answer = library.run_file(as_bytes(file), b"\0".join(map(as_bytes, [name, *others])), now, WAIT, syncs)
+        answer = library.run_file(as_bytes(file), b"\0".join(map(as_bytes, [name, *others])), now, wait, syncs)
     printed = answer.output.decode(errors="surrogateescape")
     if name == "batch" and answer.fault in AFTER_LINES:
         # The lines were run, and the output is the output of the lines.

@@ -1,10 +1,22 @@
 """Reads databases from their files, by the reader of this package."""
 from __future__ import annotations
 
-from typing import Any, Dict
+from contextlib import contextmanager
+from typing import Any, Dict, Iterator
 
 from .. import reader
 from .command_line import Failure, error_text
+
+
+@contextmanager
+def reporting(file: str) -> Iterator[None]:
+    """Reports by a `Failure` that a file cannot be opened, locked or read, or is not a database."""
+    try:
+        yield
+    except OSError as error:
+        raise Failure(f"{file}: {error.strerror or error_text(error)}") from None
+    except reader.Fault as fault:
+        raise Failure(f"{file}: {fault}") from None
 
 
 def read_file(file: str) -> Dict[str, Any]:
@@ -13,9 +25,5 @@ def read_file(file: str) -> Dict[str, Any]:
     # Errors
     `Failure` if the file cannot be opened, locked or read, or is not a database.
     """
-    try:
+    with reporting(file):
         return reader.read_file(file)
-    except OSError as error:
-        raise Failure(f"{file}: {error.strerror or error_text(error)}") from None
-    except reader.Fault as fault:
-        raise Failure(f"{file}: {fault}") from None

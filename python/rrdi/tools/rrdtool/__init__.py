@@ -19,7 +19,6 @@ the status is 0 at the end of the input and after quit.
 """
 from __future__ import annotations
 
-import os
 import shlex
 import sys
 from functools import lru_cache
@@ -67,9 +66,9 @@ def run_pipe(words: List[str]) -> int:
         raise WrongArguments
     if words:
         try:
-            os.chdir(words[0])
-        except OSError as error:
-            print(f"ERROR: chdir {words[0]} {error.strerror}", file=sys.stderr)
+            Pipe.change_directory(words)
+        except Failure as failure:
+            print(f"ERROR: {failure}", file=sys.stderr)
             return 2
     commands = Commands()
     pipe = Pipe(lambda name, others: run_command(commands, name, others), HELP, sys.stdout.buffer)

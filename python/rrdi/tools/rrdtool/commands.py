@@ -5,7 +5,8 @@ import os
 import re
 import shutil
 import time
-from typing import Callable, Dict, List, Tuple
+from contextlib import contextmanager
+from typing import Callable, Dict, Iterator, List, Tuple
 
 from ...compat.syntax import Untranslatable, read_length, read_options
 from ...compat.translate import Command, Translation, translate
@@ -25,10 +26,8 @@ class Questions:
     """The facts about a file that the translation of some arguments needs."""
 
     def last(self, file: str) -> int:
-        try:
+        with explaining(file):
             return program.last(file)
-        except Refused as refused:
-            raise Failure(explain(file, str(refused))) from None
 
     def info(self, file: str) -> str:
         ran = program.run(["info", program.file_argument(file)])
@@ -42,6 +41,15 @@ def explain(file: str, reason: str) -> str:
     if reason == "file: not ours" and is_of_rrdtool(file):
         return f"'{file}' is a file of RRDtool; move it with rrdi-import"
     return f"{file}: {reason}"
+
+
+@contextmanager
+def explaining(file: str) -> Iterator[None]:
+    """Reports a refusal of rrdi in RRDtool's form."""
+    try:
+        yield
+    except Refused as refused:
+        raise Failure(explain(file, str(refused))) from None
 
 
 def is_of_rrdtool(file: str) -> bool:
@@ -177,14 +185,12 @@ class Commands:
         """Tunes. Leaves out options that change nothing, so that they use no journal entry."""
         for command in self.translated("tune", words):
             file, *others = command[1:]
-            try:
+            with explaining(file):
                 if others[0].startswith("-"):
                     settings, pairs = program.settings(file), zip(others[::2], others[1::2])
                     others = [word for pair in pairs if needed(settings, *pair) for word in pair]
                 if others:
                     program.ask(["tune", program.file_argument(file), *others])
-            except Refused as refused:
-                raise Failure(explain(file, str(refused))) from None
         return ""
 
     def resize(self, words: List[str]) -> str:
@@ -223,10 +229,8 @@ class Commands:
         resolution = int(read_length(given.get("--resolution", "1"), "resolution")) or 1
         if "--align-start" in given:
             start, end = start - start % resolution, end - start % resolution
-        try:
+        with explaining(file):
             return fetch(file, function, start, end, resolution)
-        except Refused as refused:
-            raise Failure(explain(file, str(refused))) from None
 
     def fetch(self, words: List[str]) -> str:
         return fetch_text(self.fetched(words))
@@ -245,16 +249,12 @@ class Commands:
         return self.ask(file, ["last", program.file_argument(file)])
 
     def ask(self, file: str, words: List[str]) -> str:
-        try:
+        with explaining(file):
             return program.ask(words)
-        except Refused as refused:
-            raise Failure(explain(file, str(refused))) from None
 
     def settings(self, file: str) -> Settings:
-        try:
+        with explaining(file):
             return program.settings(file)
-        except Refused as refused:
-            raise Failure(explain(file, str(refused))) from None
 
     def last_update(self, words: List[str]) -> str:
         file, _ = self.one_file("lastupdate", words)

@@ -1,4 +1,5 @@
-"""Feeds files from Graphite's lines, `NAME VALUE TIME`, and creates the files that do not exist."""
+"""Feeds files from the values of metrics, in lines `NAME VALUE TIME` as Graphite's programs send them, and creates the files
+that do not exist."""
 from __future__ import annotations
 
 import os
@@ -39,8 +40,8 @@ def as_sample(value: bytes, moment: bytes) -> bytes:
     return b"%d:" % seconds + read_number(value.decode("ascii")).encode()
 
 
-class GraphiteFeeder(Feeder):
-    """Reads lines, each with a name, a value and a time."""
+class MetricFeeder(Feeder):
+    """Reads lines, each with the name of a metric, a value and a time."""
 
     def __init__(self, options: Options, writer: Writer, names: Names, name: str = "rrdi-feed"):
         self.names, self.creating = names, Creating(writer)

@@ -1,25 +1,22 @@
-"""Tests of the lines of Graphite: rules, names, numbers, and files that are created."""
+"""Tests of `rrdi.feeding.metrics`: rules, names, numbers, and files that are created."""
 from __future__ import annotations
 
-import contextlib
-import io
 import os
 import random
-import tempfile
 import time
 import unittest
 from pathlib import Path
 from typing import List, Sequence, Tuple
 from unittest import mock
 
-import doubles
+from cases import new_folder
+from tool_case import EachWriter, finished, taken
 
-from rrdi.feeding import graphite
+from rrdi.feeding import metrics
 from rrdi.feeding.feeder import Options
-from rrdi.feeding.graphite import Creating, GraphiteFeeder, as_sample, with_start
+from rrdi.feeding.metrics import Creating, MetricFeeder, as_sample, with_start
 from rrdi.feeding.rules import EACH_NAME, BadLine, BadRule, Names, read_rules
-from rrdi.feeding.writers import ByLibrary, ByProgram, Outcome, Writer
-from rrdi.library import load_library
+from rrdi.feeding.writers import ByProgram, Outcome, Writer
 
 ARGUMENTS = "--step 10 DS:v:GAUGE:60:U:U RRA:AVERAGE:0.5:1:9"
 
@@ -124,12 +121,10 @@ class Rules(unittest.TestCase):
 
 
 class Lines(unittest.TestCase):
-    def taken(self, text: bytes, rules: str = EACH_NAME) -> Tuple[GraphiteFeeder, str]:
-        feeder = GraphiteFeeder(Options(), Stub(), Names(b"/d", read_rules(rules)))
+    def taken(self, text: bytes, rules: str = EACH_NAME) -> Tuple[MetricFeeder, str]:
+        feeder = MetricFeeder(Options(), Stub(), Names(b"/d", read_rules(rules)))
         self.addCleanup(feeder.threads.shutdown)
-        with contextlib.redirect_stderr(io.StringIO()) as said:
-            feeder.take_all(text.split(b"\n"))
-        return feeder, said.getvalue()
+        return feeder, taken(feeder, text)
 
     def test_samples(self) -> None:
         for value, moment, sample in ((b"1", b"10", b"10:1"), (b"-0.5", b"10.9", b"10:-0.5"), (b"1e3", b"10.", b"10:1000"),
@@ -171,10 +166,7 @@ class Lines(unittest.TestCase):
         self.assertEqual([line.partition(", got: ")[2] for line in lines], bad)
         self.assertTrue(all(line.startswith("rrdi-feed: ") for line in lines))
         self.assertEqual(lines[:2], [f"rrdi-feed: expected NAME VALUE TIME, got: {line}" for line in bad[:2]])
-        with contextlib.redirect_stderr(io.StringIO()) as last:
-            feeder.end()
-            feeder.finish()
-        self.assertEqual((last.getvalue(), feeder.bad_lines), ("rrdi-feed: bad lines: 9\n", 9))
+        self.assertEqual((finished(feeder), feeder.bad_lines), ("rrdi-feed: bad lines: 9\n", 9))
         self.assertTrue(feeder.has_failed)
 
     def test_any_bytes(self) -> None:
@@ -187,25 +179,20 @@ class Lines(unittest.TestCase):
             self.assertEqual(feeder.count + feeder.bad_lines, 1 + bool(text.split()), text)
 
 
-class New(unittest.TestCase):
+class New(EachWriter, unittest.TestCase):
     """Files that are created."""
 
     def setUp(self) -> None:
-        held = tempfile.TemporaryDirectory()
-        self.addCleanup(held.cleanup)
-        self.folder = os.fsencode(held.name)
+        self.folder = os.fsencode(new_folder(self))
 
     def names(self) -> List[str]:
         return sorted(os.fsdecode(os.path.relpath(os.path.join(root, name), self.folder))
                       for root, _, names in os.walk(self.folder) for name in names)
 
-    def fed(self, text: bytes, rules: str, writer: Writer, **options: int) -> Tuple[GraphiteFeeder, str]:
-        feeder = GraphiteFeeder(Options(**options), writer, Names(self.folder, read_rules(rules)))
-        with contextlib.redirect_stderr(io.StringIO()) as said:
-            feeder.take_all(text.split(b"\n"))
-            feeder.end()
-            feeder.finish()
-        return feeder, said.getvalue()
+    def fed(self, text: bytes, rules: str, writer: Writer, **options: int) -> Tuple[MetricFeeder, str]:
+        feeder = MetricFeeder(Options(**options), writer, Names(self.folder, read_rules(rules)))
+        said = taken(feeder, text) + finished(feeder)
+        return feeder, said
 
     def test_the_start(self) -> None:
         arguments = ["--step", "10", "DS:b:GAUGE:9:U:U"]
@@ -251,18 +238,10 @@ class New(unittest.TestCase):
     def test_a_creation_is_tried_again(self) -> None:
         writer = Stub("cannot write")
         with mock.patch.object(writer, "create", side_effect=["cannot write", "cannot write", ""]) as create, \
-                mock.patch.object(graphite, "name_if_free"):
+                mock.patch.object(metrics, "name_if_free"):
             feeder, said = self.fed(b"f 1 20\nf 2 30", f"** x/** {ARGUMENTS}", writer)
         self.assertEqual((create.call_count, said, feeder.has_failed), (3, "", False))
         self.assertEqual(writer.batches, [(os.path.join(self.folder, b"x/f"), [b"20:1", b"30:2"])])
-
-    @unittest.skipUnless(doubles.has_program(), "there is no built program")
-    def test_by_program(self) -> None:
-        self.of_files(ByProgram(doubles.PROGRAM))
-
-    @unittest.skipUnless(doubles.has_library(), "there is no C library")
-    def test_by_the_library_itself(self) -> None:
-        self.of_files(ByLibrary(load_library()))
 
     def of_files(self, writer: Writer) -> None:
         """Both writers create and fill the same files."""

@@ -1,0 +1,78 @@
+"""The parts that many tests share: folders, threads, the library that a test calls, and tests that run twice."""
+from __future__ import annotations
+
+import shutil
+import tempfile
+import threading
+import unittest
+from pathlib import Path
+from typing import Any, Callable, List, Optional
+
+from doubles import PROGRAM, ByProgram, has_library
+from rrdi import library
+from rrdi.library import Library
+
+NO_PROGRAM = "rrdi not found: build it, or name it by the variable RRDI"
+NO_LIBRARY = "librrdi.so.0 not found: type make library"
+needs_program = unittest.skipUnless(PROGRAM, NO_PROGRAM)
+needs_library = unittest.skipUnless(has_library(), NO_LIBRARY)
+
+
+def new_folder(case: unittest.TestCase) -> Path:
+    """Creates a folder, which is removed at the end of the test."""
+    folder = Path(tempfile.mkdtemp(prefix="rrdi-tests"))
+    case.addCleanup(shutil.rmtree, folder, ignore_errors=True)
+    return folder
+
+
+def run_in_threads(count: int, work: Callable[[int], object]) -> None:
+    """Runs `work` in `count` threads, each with its number, and waits until all have ended."""
+    threads = [threading.Thread(target=work, args=(number,)) for number in range(count)]
+    for thread in threads:
+        thread.start()
+    for thread in threads:
+        thread.join()
+
+
+def use_library(case: unittest.TestCase, chosen: Optional[Library]) -> None:
+    """Passes the commands of a test to `chosen`; `None` is the C library itself."""
+    library.use_library(chosen)
+    case.addCleanup(library.use_library, None)
+
+
+def use_any_library(case: unittest.TestCase) -> Library:
+    """Passes the commands of a test to the C library, or to the program in its place. Skips the test without both."""
+    if not has_library() and not PROGRAM:
+        case.skipTest("neither librrdi.so.0 nor rrdi found")
+    chosen = library.load_library() if has_library() else ByProgram()
+    use_library(case, chosen)
+    return chosen
+
+
+@needs_program
+class WithProgram:
+    """Runs the tests of a class by the program in place of the C library."""
+
+    def library(self) -> Any:
+        return ByProgram()
+
+
+@needs_library
+class WithLibrary:
+    """Runs the tests of a class by the C library."""
+
+    def library(self) -> Any:
+        return None
+
+
+class DataCase(unittest.TestCase):
+    """Tests with a folder for databases, which is in a folder of the test's own."""
+
+    def setUp(self) -> None:
+        self.folder = new_folder(self) / "data"
+        self.folder.mkdir()
+
+    def files(self) -> List[str]:
+        """Returns the files in both folders."""
+        outer = self.folder.parent
+        return sorted(str(path.relative_to(outer)) for path in outer.rglob("*") if path.is_file())
