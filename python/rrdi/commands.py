@@ -95,17 +95,17 @@ def revert(path: FilePath, *, now: Optional[int] = None, busy_timeout: Optional[
 def first(path: FilePath, *words: Words, rraindex: Optional[int] = None, now: Optional[int] = None,
           busy_timeout: Optional[float] = None) -> int:
     """Returns the time of the oldest row of an archive, in seconds since 1970."""
-    return int(run_on(path, ["first", *options(rraindex=rraindex), *flat(words)], now, busy_timeout, False))
+    return int(run_on(path, ["first", *options(rraindex=rraindex), *flat(words)], now, busy_timeout, None))
 
 
 def last(path: FilePath, *, now: Optional[int] = None, busy_timeout: Optional[float] = None) -> int:
     """Returns the time of the last sample, or the start, in seconds since 1970."""
-    return int(run_on(path, ["last"], now, busy_timeout, False))
+    return int(run_on(path, ["last"], now, busy_timeout, None))
 
 
 def info(path: FilePath, *, now: Optional[int] = None, busy_timeout: Optional[float] = None) -> Info:
     """Returns the settings by RRDtool's names, and `journal` and `undoable` by rrdi's."""
-    return info_of(run_on(path, ["info"], now, busy_timeout, False), os.fsdecode(path))
+    return info_of(run_on(path, ["info"], now, busy_timeout, None), os.fsdecode(path))
 
 
 @overload
@@ -124,7 +124,7 @@ def lastupdate(path: FilePath, *, values: type = float, now: Optional[int] = Non
 
     `values` is as in `fetch`. The date is a local time without a zone, as in Python's module `rrdtool`.
     """
-    return last_update(run_on(path, ["lastupdate"], now, busy_timeout, False), values)
+    return last_update(run_on(path, ["lastupdate"], now, busy_timeout, None), values)
 
 
 @overload
@@ -149,7 +149,7 @@ def fetch(path: FilePath, function: Words, *words: Words, values: type = float, 
     """
     time = present(now)
     asked = [*options(resolution=resolution, start=start, end=end), *flat([function, *words])]
-    return fetched(lambda line: run_on(path, line, time, busy_timeout, False), asked, time, values)
+    return fetched(lambda line: run_on(path, line, time, busy_timeout, None), asked, time, values)
 
 
 # ---- Lines

@@ -142,7 +142,7 @@ class Database:
     def _ask(self, words: List[str]) -> str:
         """Runs the waiting changes and then a query; returns the output of the query."""
         if not self._waiting:
-            return run_on(self.path, words, self.now, self.busy_timeout, False)
+            return run_on(self.path, words, self.now, self.busy_timeout, None)
         before = len(self.refused)
         output = self._run([line_of(words)])
         if len(self.refused) > before and self.refused[-1].number == self._count + 1:

@@ -18,6 +18,8 @@ from cases import WithLibrary, WithProgram, new_folder, run_in_threads, use_libr
 
 import rrdi
 from rrdi import words
+from rrdi.errors import OK
+from rrdi.library import Answer
 
 LAST = 1_600_000_030
 BOTH = ("DS:g:GAUGE:100:-10:U", "DS:c:COUNTER:100:0:50", "RRA:AVERAGE:0.5:1:4", "RRA:MAX:0.25:2:4")
@@ -277,6 +279,17 @@ class Commands(OfFiles):
         self.addCleanup(timer.join)
         rrdi.update(file, "1600000040:1:2", busy_timeout=30)
         self.assertEqual(rrdi.last(file), 1_600_000_040)
+
+    def test_a_reading_function_flushes_as_the_environment_says(self: Any) -> None:
+        """A reading function may repair a file."""
+        library = mock.Mock()
+        library.run_file.return_value = Answer(OK, 0, 0, b"10\n")
+        for sync in (False, True):
+            with mock.patch.object(words, "SYNC", sync), mock.patch("rrdi.commands.the_library", lambda: library):
+                rrdi.last(self.file)
+                rrdi.first(self.file)
+            self.assertEqual([call[0][4] for call in library.run_file.call_args_list], [sync, sync])
+            library.run_file.reset_mock()
 
     def test_wait_of_the_environment(self: Any) -> None:
         for text, wanted in (("0", 0), ("7", 7_000), ("99999", 3_600_000), ("x", 5_000), ("-1", 5_000), ("", 5_000)):

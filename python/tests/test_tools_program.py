@@ -102,7 +102,10 @@ class InProcess(ToolCase):
             self.assertEqual(by_library, by_program, lines[:90])
             self.assertEqual(self.read("a.rrdi"), self.read("b.rrdi"))
         self.assertEqual(*self.both(["batch", "cut.rrdi"], "last\n"))
-        self.alike(*self.both(["batch", "/nowhere/f.rrdi"], "last\n" + self.COMMANDS[0].replace(" {}", "") + "\nlast\n"))
+        lines = "last\n" + self.COMMANDS[0].replace(" {}", "") + "\nlast\n"
+        self.alike(*self.both(["batch", "/nowhere/f.rrdi"], lines))
+        os.symlink("/nowhere/f.rrdi", "link.rrdi")
+        self.alike(*self.both(["batch", "link.rrdi"], lines))
         self.alike(*self.both(["batch", str(self.folder)], "last\n"))
 
     def test_which_one_is_called(self) -> None:

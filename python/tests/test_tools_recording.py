@@ -172,11 +172,14 @@ class Record(ToolCase):
             self.assertIn(line, info)
 
     def test_it_flushes_to_the_disk(self) -> None:
+        """Each command flushes: also `create`, and `last`, which may repair the file."""
         self.make("a.rrdi", self.now - 120)
-        shown = self.stub("shown", f'case $1 in update) echo "${{RRDI_SYNC-}} $*" >{self.folder}/seen ;; esac\n'
-                                   f'exec {PROGRAM} "$@"')
+        shown = self.stub("shown", f'echo "${{RRDI_SYNC-}} $1 $2" >>{self.folder}/seen\nexec {PROGRAM} "$@"')
         self.assertEqual(self.record("a.rrdi", RRDI=shown), Ran(0, "", ""))
-        self.assertEqual(self.read("seen"), b"1 update a.rrdi N:1.25:2.50:3.75\n")
+        self.assertEqual(self.read("seen"), b"1 last a.rrdi\n1 last a.rrdi.1\n1 update a.rrdi\n")
+        self.assertEqual(self.record("new.rrdi", RRDI=shown), Ran(0, "", ""))
+        self.assertIn(b"1 create new.rrdi.new\n", self.read("seen"))
+        self.assertEqual({line[:2] for line in self.read("seen").splitlines()}, {b"1 "})
 
     def test_copies(self) -> None:
         for name, start in (("b.rrdi", self.now - 100), ("b.rrdi.1", self.now - 3_700), ("b.rrdi.2", self.now - 8_000)):

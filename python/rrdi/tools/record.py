@@ -2,7 +2,7 @@
 
     * * * * * RRDI=/usr/local/bin/rrdi /usr/local/bin/rrdi-record /var/lib/rrdi/load.rrdi
 
-rrdi-record writes with RRDI_SYNC=1, and holds the lock FILE.lock while it runs. FILE.1, FILE.2 and FILE.3 are copies,
+rrdi-record runs rrdi with RRDI_SYNC=1, and holds the lock FILE.lock while it runs. FILE.1, FILE.2 and FILE.3 are copies,
 made an hour apart, the newest first. If FILE is no longer a database, rrdi-record keeps it as FILE.refused and restores
 the newest readable copy. docs/recording.md has more. The program is rrdi, or the program that the variable RRDI names.
 The variable LOADAVG names the file with the load averages, instead of /proc/loadavg.
@@ -123,10 +123,10 @@ def record(words: List[str]) -> int:
     if len(words) != 1 or not words[0] or words[0].startswith("-"):
         raise WrongArguments
     file = words[0]
+    os.environ["RRDI_SYNC"] = "1"
     held = lock(file + ".lock")
     try:
         keep_copies(file, make_ready(file))
-        os.environ["RRDI_SYNC"] = "1"
         program.ask(["update", file, ":".join(["N", *read_loads()])])
     finally:
         os.close(held)
