@@ -221,7 +221,7 @@ fn may_remove(validator: &EntryValidator, archive: u64, old: &Rra) -> bool
     validator.is_valid_removed_number(archive)
         && validator.accepts_archive(&def)
         && are_preps(validator, validator.outline().last, &def, old.preps())
-        && old.rows() == def.rows
+        && old.archive().rows() == def.rows
         && are_rows(old.archive(), validator.outline().sources.len())
 }
 
