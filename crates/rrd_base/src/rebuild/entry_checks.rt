@@ -55,7 +55,10 @@ fn are_step_parts(validator: &EntryValidator, last: u64, preps: &[StepPrep]) -> 
     ensures bad { AllByRecursion (IsPart Average (last % validator.now.step)) preps.now → result ≡ true }
 {
     for prep in preps {
-        if !validator.is_step_part(last, prep.known(), prep.sum()) {
+        if validator
+            .step_part(last, prep.known(), prep.sum())
+            .is_none()
+        {
             return false;
         }
     }
@@ -71,7 +74,10 @@ fn are_row_parts(validator: &EntryValidator, last: u64, def: &RraDef, preps: &[R
         → result ≡ true }
 {
     for prep in preps {
-        if !validator.is_row_part(last, def, prep.known(), prep.value()) {
+        if validator
+            .row_part(last, def, prep.known(), prep.value())
+            .is_none()
+        {
             return false;
         }
     }

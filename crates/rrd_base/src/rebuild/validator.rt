@@ -135,16 +135,6 @@ impl EntryValidator {
         last < self.outline.last
     }
 
-    /// Returns whether these values can be a data source's partial step at `last`, in seconds since 1970. `known` is
-    /// the number of known seconds, and `sum` the sum of their rates in millionths.
-    pub(super) fn is_step_part(&self, last: u64, known: u64, sum: i128) -> bool
-        ensures few { result ≡ true → known ≤ present.max_step_seconds }
-        ensures good { result ≡ true → IsPart Average (last % self.now.step) (record { known = known; value = sum }) }
-        ensures bad { IsPart Average (last % self.now.step) (record { known = known; value = sum }) → result ≡ true }
-    {
-        is_part(Function::Average, last % self.step, known, sum)
-    }
-
     /// Returns the partial step with these values at `last`, in seconds since 1970.
     ///
     /// `known` is the number of known seconds, and `sum` the sum of their rates in millionths. Returns `None` if no
@@ -155,24 +145,10 @@ impl EntryValidator {
         ensures none { result ≡ None
             → IsPart Average (last % self.now.step) (record { known = known; value = sum }) → ⊥ }
     {
-        if !self.is_step_part(last, known, sum) {
+        if !is_part(Function::Average, last % self.step, known, sum) {
             return None;
         }
         Some(StepPrep::from_part(known, sum))
-    }
-
-    /// Returns whether these values can be a partial row at `last`, in seconds since 1970, in an archive with these
-    /// settings. `known` is the number of known steps, and `value` their sum, minimum, maximum or last value in
-    /// millionths.
-    pub(super) fn is_row_part(&self, last: u64, def: &RraDef, known: u64, value: i128) -> bool
-        requires some_steps { 0 < def.now.steps }
-        requires few_steps { def.now.steps ≤ present.max_steps_per_row }
-        ensures good { result ≡ true
-            → IsRowPart self.now.step last def.now (record { known = known; value = value }) }
-        ensures bad { IsRowPart self.now.step last def.now (record { known = known; value = value })
-            → result ≡ true }
-    {
-        is_part(def.function, last / self.step % def.steps, known, value)
     }
 
     /// Returns the partial row with these values at `last`, in an archive with these settings.
@@ -187,7 +163,7 @@ impl EntryValidator {
         ensures none { result ≡ None
             → IsRowPart self.now.step last def.now (record { known = known; value = value }) → ⊥ }
     {
-        if !self.is_row_part(last, def, known, value) {
+        if !is_part(def.function, last / self.step % def.steps, known, value) {
             return None;
         }
         Some(RowPrep::from_part(def.function, known, value))
