@@ -2,10 +2,11 @@
 //!
 //! Each rule of an entry is here once: a reader checks each record of an entry by it, and `may_undo` checks the
 //! complete entry.
-ghost use Rattle.std.specs.Prelude.{◌≡◌, ◌++◌, ◌∷◌, [], ◌%◌, ◌<◌, ◌≤◌, IfOk, IfSome, None, OnErr, OnOk, Some, length, min, slice_get, true};
+ghost use Rattle.std.specs.Prelude.{◌≡◌, ◌++◌, ◌∷◌, [], ◌%◌, ◌<◌, ◌≤◌, IfOk, IfSome, None, OnErr, OnOk, Some, length, min, slice_get, slice_index_or, true};
 ghost use Rattle.rrd_base.specs.Journal.{entry_of};
 ghost use Rattle.rrd_base.specs.Rebuild.EntryChecks.{HasPlace, IsOutline};
 ghost use Rattle.rrd_base.specs.Rebuild.Validators.{EntryValidator};
+ghost use Rattle.rrd_fixed.specs.Rate.{IsAccepted};
 ghost use Rattle.rrd_fold.specs.declared.function.Function.TheVariants.{Average};
 ghost use Rattle.rrd_spec.specs.Files.Rebuilding.{IsRowPart};
 ghost use Rattle.rrd_spec.specs.Journal.Entries.{rows_between};
@@ -13,6 +14,7 @@ ghost use Rattle.rrd_spec.specs.Journal.Fitting.{AreOldRows, AreRemovedSettings,
 ghost use Rattle.rrd_spec.specs.Journal.Outlines.{outline_undone};
 ghost use Rattle.rrd_spec.specs.Limits.{allows_archive_changes_of, limits_of, max_tuned, present};
 ghost use Rattle.rrd_spec.specs.Validity.{IsPart};
+ghost use Rattle.rrd_spec.specs.declared.settings.DsDef.{DsDef};
 
 use super::outline::undo;
 use super::piece_checks::{is_archive, is_part, is_source};
@@ -20,6 +22,7 @@ use crate::create::{has_too_many_cells, is_bad_rows};
 use crate::journal::Entry;
 use crate::rows::{all_rows, rows_between};
 use crate::{ArchiveList, DsDef, List, Outline, RraDef, SavedSource};
+use rrd_fixed::Raw;
 use rrd_fold::{Function, RowPrep, StepPrep};
 use rrd_spec::Version;
 use rrd_spec::limits::MAX_TUNED;
@@ -133,6 +136,17 @@ impl EntryValidator {
         ensures bad { last < self.now.outline.last → result ≡ true }
     {
         last < self.outline.last
+    }
+
+    /// Returns whether a data source accepts a raw value: the last one before an update.
+    pub fn accepts_raw(&self, source: usize, raw: Raw) -> bool
+        requires { source < length self.now.outline.sources }
+        ensures good { result ≡ true
+            → (d : DsDef) → IsAccepted (slice_index_or self.now.outline.sources source d).kind raw }
+        ensures bad { (d : DsDef) → IsAccepted (slice_index_or self.now.outline.sources source d).kind raw
+            → result ≡ true }
+    {
+        self.outline.sources.get(source).kind.accepts(raw)
     }
 
     /// Returns the partial step with these values at `last`, in seconds since 1970.
