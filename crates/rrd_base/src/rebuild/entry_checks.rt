@@ -136,8 +136,8 @@ fn may_save_each(validator: &EntryValidator, from: u64, olds: &[SavedArchive]) -
     if olds.len() != archives {
         return false;
     }
-    for place in 0..archives {
-        if !may_save(validator, from, validator.archive(place), &olds[place]) {
+    for archive in 0..archives {
+        if !may_save(validator, from, validator.archive(archive), &olds[archive]) {
             return false;
         }
     }
