@@ -107,6 +107,8 @@ impl Model for Rebuild {
 impl Rebuild {
     /// Starts a database with the values of a header, as `with_header` does.
     ///
+    /// For other callers and readers of the contracts; the program uses [`Rebuild::with_header`].
+    ///
     /// # Errors
     /// - `Bad`: a value is outside its range, which `Header` says.
     /// - `OutOfMemory`: memory runs out.
@@ -544,6 +546,9 @@ impl Rebuild {
 }
 
 // Adds the settings of a data source in two lists, its raw value and its partial step; all or none.
+//
+// This function takes four fields and is no method: a method would have to prove the invariant of `Rebuild` at each of
+// its exits.
 fn push_source(
     sources: &mut Vec<DsDef>,
     raws: &mut Vec<Raw>,
