@@ -52,7 +52,7 @@ double_more (m ∷ ns) n a b =
     let q = or_parts (same_name m n) (list_any (λ (m : Name). same_name m n) ns) b in
     or_from _ _ (none_more m ns n p.0 q.0) (double_more ns n p.1 q.1)
 
-accepted_more : (defs : List DsDef) (raws : List Raw) (def : DsDef) (raw : Raw) → AreAccepted defs raws → IsAccepted def.kind raw → AreAccepted (defs ++ def ∷ []) (raws ++ raw ∷ [])
+pub accepted_more : (defs : List DsDef) (raws : List Raw) (def : DsDef) (raw : Raw) → AreAccepted defs raws → IsAccepted def.kind raw → AreAccepted (defs ++ def ∷ []) (raws ++ raw ∷ [])
 accepted_more [] [] def raw is one = (one, tt)
 accepted_more [] (r ∷ raws) def raw is one = absurd is
 accepted_more (d ∷ defs) [] def raw is one = absurd is

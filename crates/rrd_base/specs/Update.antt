@@ -22,12 +22,12 @@ end_time update = last_time update.samples
 -- the value at an index, if there is one
 abbrev pub value_in : List Given → Option ℕ → Given
 value_in values None = Given.Unknown
-value_in values (Some place) = slice_index_or values place Given.Unknown
+value_in values (Some index) = slice_index_or values index Given.Unknown
 
 -- an index for each data source: that of its value by the template
 pub record AreColumns (sources : List DsDef) (columns : Columns) : Type 0 where
-  pub one_each : length columns.places.items ≡ length sources
-  pub places :
+  pub one_each : length columns.indexes.items ≡ length sources
+  pub indexes :
       (source : ℕ) (d : DsDef) (values : List Given) → source < length sources
-      → value_in values (slice_index_or columns.places.items source None)
+      → value_in values (slice_index_or columns.indexes.items source None)
       ≡ value_for (template_of sources columns.template.now) values (slice_index_or sources source d)

@@ -1,5 +1,5 @@
 //! The index in a sample of each data source's value.
-ghost use Rattle.std.specs.Prelude.{◌≡◌, List, ◌<◌, ◌≤◌, false, length, slice_index_or, None as NoPlace};
+ghost use Rattle.std.specs.Prelude.{◌≡◌, List, ◌<◌, ◌≤◌, false, length, slice_index_or, None as NoIndex};
 ghost use Rattle.rrd_spec.specs.declared.requests.update.Given.{Given};
 ghost use Rattle.rrd_spec.specs.declared.settings.DsDef.{DsDef};
 ghost use Rattle.rrd_spec.specs.Commands.{value_for};
@@ -20,16 +20,16 @@ pub(crate) struct Columns<'a> {
     /// The template.
     pub(crate) template: &'a Option<List<Name>>,
     /// The index of each data source's value; `None` if the template does not name the data source.
-    pub(crate) places: ArrayVec<Option<usize>, MAX_SOURCES>,
+    pub(crate) indexes: ArrayVec<Option<usize>, MAX_SOURCES>,
 }
 
 // Returns the index of a data source's name; `None` if there is no such name.
-fn place_named(names: &[Name], source: &DsDef) -> Option<usize>
+fn index_named(names: &[Name], source: &DsDef) -> Option<usize>
     ensures { (values : List Given) → value_in values result ≡ value_for names.now values source.now }
 {
-    for place in 0..names.len() {
-        if names[place].same(&source.name) {
-            return Some(place);
+    for index in 0..names.len() {
+        if names[index].same(&source.name) {
+            return Some(index);
         }
     }
     None
@@ -37,14 +37,14 @@ fn place_named(names: &[Name], source: &DsDef) -> Option<usize>
 
 // Returns the index of a data source's value. Without a template this is the data source's own number, since the names
 // of data sources differ.
-fn place_of(template: &Option<List<Name>>, sources: &[DsDef], source: usize) -> Option<usize>
+fn index_of(template: &Option<List<Name>>, sources: &[DsDef], source: usize) -> Option<usize>
     requires there { source < length sources.now }
     requires names_differ { is_double (names sources.now) ≡ false }
     ensures { (values : List Given) (d : DsDef) → value_in values result
         ≡ value_for (template_of sources.now template.now) values (slice_index_or sources.now source d) }
 {
     match template {
-        Some(names) => place_named(names.as_slice(), &sources[source]),
+        Some(names) => index_named(names.as_slice(), &sources[source]),
         None => Some(source),
     }
 }
@@ -54,23 +54,23 @@ impl<'a> Columns<'a> {
     pub(crate) fn new(template: &'a Option<List<Name>>, sources: &[DsDef]) -> Columns<'a>
         requires names_differ { is_double (names sources.now) ≡ false }
         requires few { length sources.now ≤ present.max_sources }
-        ensures places { AreColumns sources.now result }
+        ensures indexes { AreColumns sources.now result }
         ensures template { result.template.now ≡ template.now }
     {
-        let mut places = ArrayVec::new();
+        let mut indexes = ArrayVec::new();
         for source in 0..sources.len() {
-            places.push(place_of(template, sources, source));
+            indexes.push(index_of(template, sources, source));
         }
-        Columns { template, places }
+        Columns { template, indexes }
     }
 
     /// Returns the value of a data source; `Unknown` if there is none.
     pub(crate) fn value(&self, values: &[Given], source: usize) -> Given
-        requires { source < length self.now.places.items }
-        ensures { result ≡ value_in values.now (slice_index_or self.now.places.items source NoPlace) }
+        requires { source < length self.now.indexes.items }
+        ensures { result ≡ value_in values.now (slice_index_or self.now.indexes.items source NoIndex) }
     {
-        match self.places.as_slice()[source] {
-            Some(place) if place < values.len() => values[place],
+        match self.indexes.as_slice()[source] {
+            Some(index) if index < values.len() => values[index],
             _ => Given::Unknown,
         }
     }

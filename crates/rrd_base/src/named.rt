@@ -52,8 +52,8 @@ pub(crate) fn has_source(sources: &[DsDef], name: &Name) -> bool
 pub(crate) fn has_double_name<T: Named>(named: &[T]) -> bool
     ensures { result ≡ is_double (map T.called named.now) }
 {
-    for (place, one) in named.iter().enumerate() {
-        if is_among(one.name(), &named[place + 1..]) {
+    for (index, one) in named.iter().enumerate() {
+        if is_among(one.name(), &named[index + 1..]) {
             return true;
         }
     }

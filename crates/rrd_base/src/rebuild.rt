@@ -3,9 +3,10 @@
 //! How it works: contracts see the records that were read as lists (`Filed`), and a database only in the result of
 //! `finish`. Each rule of the layout is checked at the first record that can break it, so the first record that is
 //! refused is the file's first error, and `decode` need not check again. A new rule belongs in the definition of its
-//! record (`MaySource`, `MayHead`, ..) and in the check of that name; the contract of `finish` shows if a rule is
-//! missing. A rule of an entry belongs in `EntryValidator`: a reader checks each record of an entry by it, and this
-//! module checks the complete entry.
+//! record (`MaySource`, `MayHead`, ..) and in the function whose contract names that definition; the contract of
+//! `finish` shows if a rule is missing. A rule of an entry, a partial step, a partial row or an archive's settings
+//! belongs in `EntryValidator`: a reader checks each record of an entry by it, and this module checks the complete
+//! entry, and the records before the entries.
 //!
 //! Pitfalls:
 //!
@@ -17,7 +18,7 @@
 //!   changes nothing before all its memory is there.
 //! - Rows come by slot, not by time: only `Cursor` knows which row is next, and where it goes.
 //! - `whole_rows` takes whole rows at once, and must have the same effect as `cell` for one cell after another.
-ghost use Rattle.std.specs.Prelude.{◌≡◌, ◌++◌, ◌∷◌, [], ◌<◌, ◌≤◌, length, replicate, take, true, IfErr, OnOk, OnErr};
+ghost use Rattle.std.specs.Prelude.{◌≡◌, ◌++◌, ◌∷◌, [], ◌<◌, ◌≤◌, length, replicate, take, true, IfErr, IfSome, None, OnOk, OnErr};
 ghost use Rattle.std.specs.List.{AllByRecursion};
 ghost use Rattle.rrd_fixed.specs.Rate.{IsBounded};
 ghost use Rattle.rrd_fixed.specs.declared.cell.Cell.TheVariants.{Unknown as CellUnknown};
@@ -42,9 +43,9 @@ use crate::rra::Rra;
 use crate::{ArchiveList, Database, DsDef, Due, Outline, RraDef};
 use circular_buffer::HeapCircularBuffer;
 use cursor::Cursor;
-use piece_checks::{is_part, is_source};
+use piece_checks::is_source;
 use rrd_fixed::{Cell, Raw};
-use rrd_fold::{Function, RowPrep, StepPrep};
+use rrd_fold::{RowPrep, StepPrep};
 use rrd_spec::{Version, first_slot_row, laws};
 use std::alloc::{AllocError, Global};
 use std::marker::Model;
@@ -105,6 +106,8 @@ impl Model for Rebuild {
 
 impl Rebuild {
     /// Starts a database with the values of a header, as `with_header` does.
+    ///
+    /// For other callers and readers of the contracts; the program uses [`Rebuild::with_header`].
     ///
     /// # Errors
     /// - `Bad`: a value is outside its range, which `Header` says.
@@ -226,30 +229,22 @@ impl Rebuild {
         &self.validator
     }
 
-    // Returns whether a data source may come.
-    fn may_source(&self, def: &DsDef, raw: Raw, known: u64, sum: i128) -> bool
-        ensures good { let source : Source =
+    // Returns the partial step of a data source; `None` if the data source may not come.
+    fn next_step_part(&self, def: &DsDef, raw: Raw, known: u64, sum: i128) -> Option<StepPrep>
+        ensures some { let source : Source =
             record { def = def.now; raw = raw; part = record { known = known; value = sum } } in
-            result ≡ true → MaySource self.now source }
-        ensures bad { let source : Source =
+            IfSome result (λ prep. MaySource self.now source × (prep ≡ source.part)) }
+        ensures none { let source : Source =
             record { def = def.now; raw = raw; part = record { known = known; value = sum } } in
-            MaySource self.now source → result ≡ true }
+            result ≡ None → MaySource self.now source → ⊥ }
     {
         let Due::SourceDue = self.due() else {
-            return false;
+            return None;
         };
-        if !is_source(def) || !def.kind.accepts(raw) {
-            return false;
+        if !is_source(def) || !def.kind.accepts(raw) || has_source(&self.sources, &def.name) {
+            return None;
         }
-        if !is_part(
-            Function::Average,
-            self.header.last % self.header.step,
-            known,
-            sum,
-        ) {
-            return false;
-        }
-        !has_source(&self.sources, &def.name)
+        self.validator.step_part(self.header.last, known, sum)
     }
 
     /// Adds the next data source, with its last raw value and its partial step.
@@ -272,10 +267,9 @@ impl Rebuild {
             IfErr result (λ e. e ≡ OutOfMemory → MaySource self.old source) }
         ensures err { OnErr result (self.new ≡ self.old) }
     {
-        if !self.may_source(&def, raw, known, sum) {
+        let Some(prep) = self.next_step_part(&def, raw, known, sum) else {
             return Err(PieceFault::Bad);
-        }
-        let prep = StepPrep::from_part(known, sum);
+        };
         push_source(
             &mut self.sources,
             &mut self.raws,
@@ -324,16 +318,18 @@ impl Rebuild {
         Ok(())
     }
 
-    // Returns whether a partial row may come.
-    fn may_prep(&self, known: u64, value: i128) -> bool
-        ensures good { result ≡ true → MayPrep self.now (record { known = known; value = value }) }
-        ensures bad { MayPrep self.now (record { known = known; value = value }) → result ≡ true }
+    // Returns the partial row with these values, which has the function of its archive; `None` if it may not come.
+    fn next_row_part(&self, known: u64, value: i128) -> Option<RowPrep>
+        ensures some { let part : Part = record { known = known; value = value } in
+            IfSome result (λ prep. (may : MayPrep self.now part)
+            × (prep ≡ record { function = may.def.function; part = part })) }
+        ensures none { result ≡ None → MayPrep self.now (record { known = known; value = value }) → ⊥ }
     {
         let Due::PrepDue(def) = self.due() else {
-            return false;
+            return None;
         };
-        let passed = self.header.last / self.header.step % def.steps;
-        is_part(def.function, passed, known, value)
+        self.validator
+            .row_part(self.header.last, &def, known, value)
     }
 
     /// Adds the next partial row of the archive that came last.
@@ -352,12 +348,10 @@ impl Rebuild {
             → MayPrep self.old (record { known = known; value = value })) }
         ensures err { OnErr result (self.new ≡ self.old) }
     {
-        if !self.may_prep(known, value) {
+        let Some(prep) = self.next_row_part(known, value) else {
             return Err(PieceFault::Bad);
-        }
+        };
         let last = self.archives.len() - 1;
-        let function = self.archives.get(last).def().function;
-        let prep = RowPrep::from_part(function, known, value);
         self.archives.get_mut(last).push_prep(prep)?;
         Ok(())
     }
@@ -552,6 +546,9 @@ impl Rebuild {
 }
 
 // Adds the settings of a data source in two lists, its raw value and its partial step; all or none.
+//
+// This function takes four fields and is no method: a method would have to prove the invariant of `Rebuild` at each of
+// its exits.
 fn push_source(
     sources: &mut Vec<DsDef>,
     raws: &mut Vec<Raw>,

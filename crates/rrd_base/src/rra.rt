@@ -162,21 +162,6 @@ impl Rra {
         self.def
     }
 
-    /// Returns the number of rows.
-    pub(crate) fn rows(&self) -> u64
-        ensures { result ≡ length self.now.rows }
-    {
-        self.rows.rows()
-    }
-
-    /// Returns the cells of the row at index `place`. Row 0 is the oldest.
-    pub(crate) fn row(&self, place: u64) -> &[Cell]
-        requires { place < length self.now.rows }
-        ensures { result.now ≡ nth_row self.now.rows place }
-    {
-        self.rows.row(place)
-    }
-
     /// Returns how many of the oldest rows were certainly never written, so that all their cells are unknown.
     pub(crate) fn never_written_rows(&self) -> u64
         ensures few { result ≤ length self.now.rows }
@@ -190,11 +175,11 @@ impl Rra {
         ensures some { IfSome result (λ row. (unknown : List Cell) → row_of_age self.now.rows unknown age ≡ row.now) }
         ensures none { IfNone result ((unknown : List Cell) → row_of_age self.now.rows unknown age ≡ unknown) }
     {
-        let rows = self.rows();
+        let rows = self.rows.rows();
         if age < 0 || age >= i128::from(rows) {
             return None;
         }
-        Some(self.row(rows - 1 - age as u64))
+        Some(self.rows.row(rows - 1 - age as u64))
     }
 
     /// Returns the partial row of each data source.

@@ -267,10 +267,10 @@ fn tune_all(sources: &mut [DsDef], raws: &mut [Raw], tuning: &Tuning)
     ensures sources { sources.new ≡ map (commands.tuned tuning.now) sources.old }
     ensures raws { raws.new ≡ raws_under sources.old (map (commands.tuned tuning.now) sources.old) raws.old }
 {
-    for place in 0..sources.len() {
-        let new = settings_after(tuning, &sources[place]);
-        raws[place] = raw_under(sources[place].kind, new.kind, raws[place]);
-        sources[place] = new;
+    for number in 0..sources.len() {
+        let new = settings_after(tuning, &sources[number]);
+        raws[number] = raw_under(sources[number].kind, new.kind, raws[number]);
+        sources[number] = new;
     }
 }
 
@@ -308,13 +308,13 @@ fn keep_sources(
     ensures { result.items ≡ entries.saved_sources tuning.now 0 sources.now raws.now }
 {
     let mut kept = ArrayVec::new();
-    for place in 0..sources.len() {
-        let source = &sources[place];
+    for number in 0..sources.len() {
+        let source = &sources[number];
         if is_named(tuning, source) {
             kept.push(SavedSource {
-                number: place as u64,
+                number: number as u64,
                 source: source.duplicate(),
-                raw: raws[place],
+                raw: raws[number],
             });
         }
     }

@@ -49,8 +49,8 @@ fn are_admitted(columns: &Columns, sources: &[DsDef], values: &[Given]) -> bool
     ensures { let template = template_of sources.now columns.now.template.now in
         result ≡ list_all (λ source. is_admitted source (value_for template values.now source)) sources.now }
 {
-    for place in 0..sources.len() {
-        if !is_admitted(&sources[place], columns.value(values, place)) {
+    for number in 0..sources.len() {
+        if !is_admitted(&sources[number], columns.value(values, number)) {
             return false;
         }
     }
@@ -168,8 +168,8 @@ pub(crate) fn raws_into(columns: &Columns, sources: &[DsDef], values: &[Given], 
     ensures value { let template = template_of sources.now columns.now.template.now in
         raws.new ≡ map (λ source. raw_of source.kind (value_for template values.now source)) sources.now }
 {
-    for place in 0..sources.len() {
-        raws[place] = raw_of(&sources[place], columns.value(values, place));
+    for number in 0..sources.len() {
+        raws[number] = raw_of(&sources[number], columns.value(values, number));
     }
 }
 

@@ -1,6 +1,6 @@
 -- What one more turn of a loop over an entry's pieces adds, and what is due then.
 use Rattle.std.proofs.Common.{◌≡◌, ◌∙◌, ◌++◌, ◌∷◌, ◌+◌, ◌-◌, ◌*◌, ◌<◌, ◌≤◌, ◌⊎◌, inl, inr, ℕ, zero, suc, List, [], Bool, sym, ap, subst, refl, length, take, drop, map, arith, append_assoc, append-nil}
-use Rattle.std.specs.Prelude.{Some, nat_lt, if◌then◌else◌, replicate, slice_get, slice_index_or, slice_set}
+use Rattle.std.specs.Prelude.{Some, nat_lt, if◌then◌else◌, replicate, slice_get, slice_set}
 use Rattle.std.specs.List.{flat_map}
 use Rattle.std.proofs.lemmas.Bool.{le-ltb}
 use Rattle.std.proofs.lemmas.Grind.{flat_map-append}
@@ -137,11 +137,6 @@ shaped_more sources (d ∷ defs) (suc j) def [] old e h k = absurd h
 shaped_more sources (d ∷ defs) (suc j) def (o ∷ olds) old e h k =
     let next : suc (j + 1) ≡ suc j + 1 = omega arith in
     subst (λ (n : ℕ). AreSavedShaped sources (take n (d ∷ defs)) (o ∷ (olds ++ old ∷ []))) next (h.0, shaped_more sources defs j def olds old e h.1 k)
-
-pub got : {A : Type 0} (xs : List A) (i : ℕ) (x d : A) → slice_get xs i ≡ Some x → d ≡ slice_index_or xs i d → d ≡ x
-got [] i x d e h = absurd cc
-got (y ∷ xs) zero x d e h = cc
-got (y ∷ xs) (suc i) x d e h = got xs i x d e h
 
 pub all_more : (function : Function) (preps : List Consolidating) (prep : Consolidating) → AllOf function preps → prep.function ≡ function → AllOf function (preps ++ prep ∷ [])
 all_more function [] prep h e = (e, tt)

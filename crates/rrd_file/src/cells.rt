@@ -90,11 +90,11 @@ fn write_rows_between<W: Write, T: Table>(
     ensures { Gathers W.contents out.old out.new
         (spelled (row_pieces (slice_range (T.table rows.now) from to))) result }
 {
-    let mut place = from;
-    while place < to {
-        let (count, cells) = rows.together(place, to - place);
+    let mut index = from;
+    while index < to {
+        let (count, cells) = rows.together(index, to - index);
         write_each(out, cells)?;
-        place += count;
+        index += count;
     }
     Ok(())
 }
@@ -201,16 +201,16 @@ pub(crate) fn cell_of(bytes: &[u8]) -> (Cell, &[u8])
 
 // Writes the cell of a number, and returns true, unless the number has an absolute value above the maximum rate. Both
 // branches write: choosing a cell first and writing it after would take longer.
-fn put_number(place: &mut Cell, number: i128) -> bool
-    ensures spelled { result ≡ true → spelling.signed_bytes number ≡ spelling.cell_bytes place.new }
-    ensures bounded { result ≡ true → IsBounded place.new }
+fn put_number(into: &mut Cell, number: i128) -> bool
+    ensures spelled { result ≡ true → spelling.signed_bytes number ≡ spelling.cell_bytes into.new }
+    ensures bounded { result ≡ true → IsBounded into.new }
 {
     if is_bounded(Cell::Known(number)) {
-        *place = Cell::Known(number);
+        *into = Cell::Known(number);
         return true;
     }
     if number == ABSENT {
-        *place = Cell::Unknown;
+        *into = Cell::Unknown;
         return true;
     }
     false

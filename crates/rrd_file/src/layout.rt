@@ -76,11 +76,11 @@ pub(crate) const ABSENT_HIGH: u64 = ((ABSENT >> 64) & 0xffff_ffff_ffff_ffff) as 
 pub(crate) const ABSENT_LOW: u64 = (ABSENT & 0xffff_ffff_ffff_ffff) as u64;
 
 /// The first byte of `ABSENT`. All other bytes are zero.
-const TOP: u8 = (ABSENT_HIGH >> 56) as u8;
+const FIRST_BYTE: u8 = (ABSENT_HIGH >> 56) as u8;
 
 /// The bytes of `ABSENT`. The proof of `unknown_bytes` shows that they are those of unknown cells.
 const ABSENT_BYTES: [u8; CELL_SIZE] = [
-    TOP, 0, 0, 0, 0, 0, 0, 0, 0, 0, 0, 0, 0, 0, 0, 0, //
+    FIRST_BYTE, 0, 0, 0, 0, 0, 0, 0, 0, 0, 0, 0, 0, 0, 0, 0, //
 ];
 
 /// The maximum number of cells in a row.

@@ -1,4 +1,4 @@
-//! The position of the next cell of a file.
+//! The position of the next cell of a file. A place is the index of a row in an archive: 0 is the oldest row.
 ghost use Rattle.std.specs.Prelude.{◌≡◌, ◌+◌, ◌%◌, ◌<◌, ◌≤◌};
 ghost use Rattle.rrd_base.specs.Rebuild.Cursors.{Advances, KnowsPlace, Passes};
 ghost use Rattle.rrd_spec.specs.Limits.{present};

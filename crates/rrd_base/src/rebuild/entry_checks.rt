@@ -9,7 +9,7 @@ ghost use Rattle.rrd_spec.specs.Journal.Entries.{AddedEntry};
 ghost use Rattle.rrd_spec.specs.Journal.Outlines.{with_sources};
 ghost use Rattle.rrd_spec.specs.Journal.Fitting.{IsArchiveDef, IsSavedSource, MayRemove, MayResize, MaySave, MaySaveEach, MayTune, MayUndo, MayUpdate};
 ghost use Rattle.rrd_spec.specs.Settings.{names};
-ghost use Rattle.rrd_spec.specs.Validity.{AreParts, IsPart, IsRow, Rise};
+ghost use Rattle.rrd_spec.specs.Validity.{AreAccepted, AreParts, IsPart, IsRow, Rise};
 
 use super::piece_checks::are_bounded;
 use super::validator::EntryValidator;
@@ -18,10 +18,9 @@ use crate::named::has_double_name;
 use crate::rra::Rra;
 use crate::{DsDef, RraDef, SavedSource};
 use arrayvec::ArrayVec;
-use rrd_fixed::{Cell, Name};
+use rrd_fixed::{Cell, Name, Raw};
 use rrd_fold::{RowPrep, StepPrep};
 use rrd_ring::{Archive, Table};
-use rrd_spec::are_accepted;
 use rrd_spec::limits::MAX_SOURCES;
 
 // ---- rows
@@ -49,13 +48,33 @@ fn are_rows<T: Table>(rows: &T, sources: usize) -> bool
 
 // ---- entries of updates
 
+// Returns whether each data source accepts its raw value.
+fn are_raws(validator: &EntryValidator, raws: &[Raw]) -> bool
+    ensures good { result ≡ true → AreAccepted validator.now.outline.sources raws.now }
+    ensures bad { AreAccepted validator.now.outline.sources raws.now → result ≡ true }
+{
+    let sources = validator.outline().sources.len();
+    if raws.len() != sources {
+        return false;
+    }
+    for source in 0..sources {
+        if !validator.accepts_raw(source, raws[source]) {
+            return false;
+        }
+    }
+    true
+}
+
 // Returns whether these can be the partial steps of data sources at `last`.
 fn are_step_parts(validator: &EntryValidator, last: u64, preps: &[StepPrep]) -> bool
     ensures good { result ≡ true → AllByRecursion (IsPart Average (last % validator.now.step)) preps.now }
     ensures bad { AllByRecursion (IsPart Average (last % validator.now.step)) preps.now → result ≡ true }
 {
     for prep in preps {
-        if !validator.is_step_part(last, prep.known(), prep.sum()) {
+        if validator
+            .step_part(last, prep.known(), prep.sum())
+            .is_none()
+        {
             return false;
         }
     }
@@ -71,7 +90,10 @@ fn are_row_parts(validator: &EntryValidator, last: u64, def: &RraDef, preps: &[R
         → result ≡ true }
 {
     for prep in preps {
-        if !validator.is_row_part(last, def, prep.known(), prep.value()) {
+        if validator
+            .row_part(last, def, prep.known(), prep.value())
+            .is_none()
+        {
             return false;
         }
     }
@@ -114,8 +136,8 @@ fn may_save_each(validator: &EntryValidator, from: u64, olds: &[SavedArchive]) -
     if olds.len() != archives {
         return false;
     }
-    for place in 0..archives {
-        if !may_save(validator, from, validator.archive(place), &olds[place]) {
+    for archive in 0..archives {
+        if !may_save(validator, from, validator.archive(archive), &olds[archive]) {
             return false;
         }
     }
@@ -127,10 +149,9 @@ fn may_update(validator: &EntryValidator, old: &BeforeUpdate) -> bool
     ensures good { result ≡ true → MayUpdate validator.now.step validator.now.outline (update_of old.now) }
     ensures bad { MayUpdate validator.now.step validator.now.outline (update_of old.now) → result ≡ true }
 {
-    let sources = validator.outline().sources.as_slice();
     validator.is_before_last_time(old.last)
-        && old.preps.len() == sources.len()
-        && are_accepted(sources, &old.raws)
+        && old.preps.len() == validator.outline().sources.len()
+        && are_raws(validator, &old.raws)
         && are_step_parts(validator, old.last, &old.preps)
         && may_save_each(validator, old.last, &old.archives)
 }
@@ -221,7 +242,7 @@ fn may_remove(validator: &EntryValidator, archive: u64, old: &Rra) -> bool
     validator.is_valid_removed_number(archive)
         && validator.accepts_archive(&def)
         && are_preps(validator, validator.outline().last, &def, old.preps())
-        && old.rows() == def.rows
+        && old.archive().rows() == def.rows
         && are_rows(old.archive(), validator.outline().sources.len())
 }
 

@@ -2,10 +2,11 @@
 //!
 //! Each rule of an entry is here once: a reader checks each record of an entry by it, and `may_undo` checks the
 //! complete entry.
-ghost use Rattle.std.specs.Prelude.{◌≡◌, ◌++◌, ◌∷◌, [], ◌%◌, ◌<◌, ◌≤◌, IfOk, IfSome, None, OnErr, OnOk, Some, length, min, slice_get, true};
+ghost use Rattle.std.specs.Prelude.{◌≡◌, ◌++◌, ◌∷◌, [], ◌%◌, ◌<◌, ◌≤◌, IfOk, IfSome, None, OnErr, OnOk, Some, length, min, slice_get, slice_index_or, true};
 ghost use Rattle.rrd_base.specs.Journal.{entry_of};
 ghost use Rattle.rrd_base.specs.Rebuild.EntryChecks.{HasPlace, IsOutline};
 ghost use Rattle.rrd_base.specs.Rebuild.Validators.{EntryValidator};
+ghost use Rattle.rrd_fixed.specs.Rate.{IsAccepted};
 ghost use Rattle.rrd_fold.specs.declared.function.Function.TheVariants.{Average};
 ghost use Rattle.rrd_spec.specs.Files.Rebuilding.{IsRowPart};
 ghost use Rattle.rrd_spec.specs.Journal.Entries.{rows_between};
@@ -13,6 +14,7 @@ ghost use Rattle.rrd_spec.specs.Journal.Fitting.{AreOldRows, AreRemovedSettings,
 ghost use Rattle.rrd_spec.specs.Journal.Outlines.{outline_undone};
 ghost use Rattle.rrd_spec.specs.Limits.{allows_archive_changes_of, limits_of, max_tuned, present};
 ghost use Rattle.rrd_spec.specs.Validity.{IsPart};
+ghost use Rattle.rrd_spec.specs.declared.settings.DsDef.{DsDef};
 
 use super::outline::undo;
 use super::piece_checks::{is_archive, is_part, is_source};
@@ -20,6 +22,7 @@ use crate::create::{has_too_many_cells, is_bad_rows};
 use crate::journal::Entry;
 use crate::rows::{all_rows, rows_between};
 use crate::{ArchiveList, DsDef, List, Outline, RraDef, SavedSource};
+use rrd_fixed::Raw;
 use rrd_fold::{Function, RowPrep, StepPrep};
 use rrd_spec::Version;
 use rrd_spec::limits::MAX_TUNED;
@@ -135,14 +138,15 @@ impl EntryValidator {
         last < self.outline.last
     }
 
-    /// Returns whether these values can be a data source's partial step at `last`, in seconds since 1970. `known` is
-    /// the number of known seconds, and `sum` the sum of their rates in millionths.
-    pub(super) fn is_step_part(&self, last: u64, known: u64, sum: i128) -> bool
-        ensures few { result ≡ true → known ≤ present.max_step_seconds }
-        ensures good { result ≡ true → IsPart Average (last % self.now.step) (record { known = known; value = sum }) }
-        ensures bad { IsPart Average (last % self.now.step) (record { known = known; value = sum }) → result ≡ true }
+    /// Returns whether a data source accepts a raw value: the last one before an update.
+    pub fn accepts_raw(&self, source: usize, raw: Raw) -> bool
+        requires { source < length self.now.outline.sources }
+        ensures good { result ≡ true
+            → (d : DsDef) → IsAccepted (slice_index_or self.now.outline.sources source d).kind raw }
+        ensures bad { (d : DsDef) → IsAccepted (slice_index_or self.now.outline.sources source d).kind raw
+            → result ≡ true }
     {
-        is_part(Function::Average, last % self.step, known, sum)
+        self.outline.sources.get(source).kind.accepts(raw)
     }
 
     /// Returns the partial step with these values at `last`, in seconds since 1970.
@@ -155,24 +159,10 @@ impl EntryValidator {
         ensures none { result ≡ None
             → IsPart Average (last % self.now.step) (record { known = known; value = sum }) → ⊥ }
     {
-        if !self.is_step_part(last, known, sum) {
+        if !is_part(Function::Average, last % self.step, known, sum) {
             return None;
         }
         Some(StepPrep::from_part(known, sum))
-    }
-
-    /// Returns whether these values can be a partial row at `last`, in seconds since 1970, in an archive with these
-    /// settings. `known` is the number of known steps, and `value` their sum, minimum, maximum or last value in
-    /// millionths.
-    pub(super) fn is_row_part(&self, last: u64, def: &RraDef, known: u64, value: i128) -> bool
-        requires some_steps { 0 < def.now.steps }
-        requires few_steps { def.now.steps ≤ present.max_steps_per_row }
-        ensures good { result ≡ true
-            → IsRowPart self.now.step last def.now (record { known = known; value = value }) }
-        ensures bad { IsRowPart self.now.step last def.now (record { known = known; value = value })
-            → result ≡ true }
-    {
-        is_part(def.function, last / self.step % def.steps, known, value)
     }
 
     /// Returns the partial row with these values at `last`, in an archive with these settings.
@@ -187,7 +177,7 @@ impl EntryValidator {
         ensures none { result ≡ None
             → IsRowPart self.now.step last def.now (record { known = known; value = value }) → ⊥ }
     {
-        if !self.is_row_part(last, def, known, value) {
+        if !is_part(def.function, last / self.step % def.steps, known, value) {
             return None;
         }
         Some(RowPrep::from_part(def.function, known, value))

@@ -162,7 +162,7 @@ fn read_raw_and_part<R: Read + Drop>(
     let mut piece = [0u8; BEFORE_UPDATE_SIZE];
     input.piece(&mut piece)?;
     let (raw, known, sum) = before_of(&piece);
-    if !build.undone().sources.get(source).kind.accepts(raw) {
+    if !build.validator().accepts_raw(source, raw) {
         return Err(bad_entry(build));
     }
     match build.validator().step_part(last, known, sum) {

@@ -87,23 +87,23 @@ impl Block {
 }
 
 // Writes a cell over sixteen bytes.
-fn put_cell(place: &mut [u8], cell: Cell)
-    requires { length place.old ≡ CELL_SIZE }
-    ensures { place.new ≡ spelling.cell_bytes cell }
+fn put_cell(into: &mut [u8], cell: Cell)
+    requires { length into.old ≡ CELL_SIZE }
+    ensures { into.new ≡ spelling.cell_bytes cell }
 {
     let halves = cell_halves(cell);
-    place[..8].copy_from_slice(&halves.high.to_be_bytes());
-    place[8..].copy_from_slice(&halves.low.to_be_bytes());
+    into[..8].copy_from_slice(&halves.high.to_be_bytes());
+    into[8..].copy_from_slice(&halves.low.to_be_bytes());
 }
 
 // Writes cells over bytes, sixteen for each.
-fn put_cells(place: &mut [u8], cells: &[Cell])
-    requires { length place.old ≡ CELL_SIZE * length cells.now }
-    ensures { place.new ≡ flat_map spelling.cell_bytes cells.now }
+fn put_cells(into: &mut [u8], cells: &[Cell])
+    requires { length into.old ≡ CELL_SIZE * length cells.now }
+    ensures { into.new ≡ flat_map spelling.cell_bytes cells.now }
 {
     for i in 0..cells.len() {
         put_cell(
-            &mut place[CELL_SIZE * i..CELL_SIZE * i + CELL_SIZE],
+            &mut into[CELL_SIZE * i..CELL_SIZE * i + CELL_SIZE],
             cells[i],
         );
     }

@@ -21,7 +21,7 @@ double_at {A = A} called named i d name found h is e =
     ∙ ap (λ b. b || is_double (map called rest)) (any_called called name rest ∙ ap (list_any (λ other. same_name name (called other))) whole ∙ e)
 
 pub returns-then-is_among : goal.returns-then-is_among
-returns-then-is_among g c = let called = g.T.Named.called in sym (double_at called c.args.named.now c.loop-place.place c.index-named-place.result c.name.result.now true c.loop-place-test.true (c.name.ensures ∙ ap called c.index-named-place.is) (sym c.is_among.ensures ∙ c.if-is_among.true)) ∙ c.loop-place.invariant
+returns-then-is_among g c = let called = g.T.Named.called in sym (double_at called c.args.named.now c.loop-index.index c.index-named-index.result c.name.result.now true c.loop-index-test.true (c.name.ensures ∙ ap called c.index-named-index.is) (sym c.is_among.ensures ∙ c.if-is_among.true)) ∙ c.loop-index.invariant
 
-pub loop-place-preserved : goal.loop-place-preserved
-loop-place-preserved g c = let called = g.T.Named.called in sym (double_at called c.args.named.now c.loop-place.place c.index-named-place.result c.name.result.now false c.loop-place-test.true (c.name.ensures ∙ ap called c.index-named-place.is) (sym c.is_among.ensures ∙ c.if-is_among.false)) ∙ c.loop-place.invariant
+pub loop-index-preserved : goal.loop-index-preserved
+loop-index-preserved g c = let called = g.T.Named.called in sym (double_at called c.args.named.now c.loop-index.index c.index-named-index.result c.name.result.now false c.loop-index-test.true (c.name.ensures ∙ ap called c.index-named-index.is) (sym c.is_among.ensures ∙ c.if-is_among.false)) ∙ c.loop-index.invariant

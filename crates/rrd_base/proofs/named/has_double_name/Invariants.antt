@@ -2,5 +2,5 @@ use Rattle.std.proofs.Common.{◌≡◌, drop, map}
 use Rattle.rrd_spec.specs.Settings.{is_double}
 use Rattle.rrd_base.proofs.named.has_double_name.Given as goal
 
-abbrev pub invariant-loop-place : goal.invariant-loop-place
-invariant-loop-place g l = is_double (map g.T.Named.called (drop l.place l.named)) ≡ is_double (map g.T.Named.called l.named)
+abbrev pub invariant-loop-index : goal.invariant-loop-index
+invariant-loop-index g l = is_double (map g.T.Named.called (drop l.index l.named)) ≡ is_double (map g.T.Named.called l.named)

@@ -1,4 +1,4 @@
-use Rattle.std.proofs.Common.{◌≡◌, ◌∙◌, ap, sym, ◌+◌, ◌*◌, ◌||◌, ◌++◌, ◌∷◌, [], length, sum, arith}
+use Rattle.std.proofs.Common.{◌≡◌, ◌∙◌, ap, ◌+◌, ◌*◌, ◌||◌, ◌++◌, ◌∷◌, [], length, sum, arith}
 use Rattle.std.specs.Prelude.{nat_lt}
 use Rattle.std.proofs.lemmas.List.{length-map, length_push}
 use Rattle.rrd_spec.specs.Commands.{rows_of_archives}

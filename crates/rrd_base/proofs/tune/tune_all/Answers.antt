@@ -8,23 +8,23 @@ use Rattle.rrd_spec.specs.Lemmas.Lists.{map_more, map_next}
 use Rattle.rrd_base.proofs.TuneLemmas.{raws_more, raws_next}
 use Rattle.rrd_base.proofs.tune.tune_all.Goals as goal
 
-pub loop-place-preserved : goal.loop-place-preserved
-loop-place-preserved c =
-    let i = c.loop-place.place in
+pub loop-number-preserved : goal.loop-number-preserved
+loop-number-preserved c =
+    let i = c.loop-number.number in
     let sources = c.args.sources.now in
     let raws = c.args.raws.now in
     let f = commands.tuned c.args.tuning.now in
-    let d = c.index-sources-place.result in
-    let was = c.loop-place.invariant in
+    let d = c.index-sources-number.result in
+    let was = c.loop-number.invariant in
     let within : i < length sources = omega arith in
-    let same : get_or c.loop-place.sources i d ≡ get_or sources i d = ap (λ zs. get_or zs i d) was.sources_are ∙ map_next f sources sources i d within within in
+    let same : get_or c.loop-number.sources i d ≡ get_or sources i d = ap (λ zs. get_or zs i d) was.sources_are ∙ map_next f sources sources i d within within in
     let new : c.settings_after-new.result ≡ f (get_or sources i d) = c.settings_after-new.ensures ∙ ap f same in
-    let e = c.index-sources-place-in-loop-place.result in
-    let again : get_or c.loop-place.sources i e ≡ get_or sources i d = ap (λ zs. get_or zs i e) was.sources_are ∙ map_next f sources sources i e within within ∙ get_or_default sources i e d within in
-    let raw : get_or c.loop-place.raws i Unknown ≡ get_or raws i Unknown = ap (λ zs. get_or zs i Unknown) was.raws_are ∙ raws_next f sources raws i Unknown in
+    let e = c.index-sources-number-in-loop-number.result in
+    let again : get_or c.loop-number.sources i e ≡ get_or sources i d = ap (λ zs. get_or zs i e) was.sources_are ∙ map_next f sources sources i e within within ∙ get_or_default sources i e d within in
+    let raw : get_or c.loop-number.raws i Unknown ≡ get_or raws i Unknown = ap (λ zs. get_or zs i Unknown) was.raws_are ∙ raws_next f sources raws i Unknown in
     let under : c.raw_under.result ≡ commands.raw_under (get_or sources i d).kind (f (get_or sources i d)).kind (get_or raws i Unknown)
-    = c.raw_under.ensures ∙ ap (λ (x : DsDef). commands.raw_under x.kind c.settings_after-new.result.kind (get_or c.loop-place.raws i Unknown)) again
-    ∙ ap (λ (x : DsDef). commands.raw_under (get_or sources i d).kind x.kind (get_or c.loop-place.raws i Unknown)) new
+    = c.raw_under.ensures ∙ ap (λ (x : DsDef). commands.raw_under x.kind c.settings_after-new.result.kind (get_or c.loop-number.raws i Unknown)) again
+    ∙ ap (λ (x : DsDef). commands.raw_under (get_or sources i d).kind x.kind (get_or c.loop-number.raws i Unknown)) new
     ∙ ap (commands.raw_under (get_or sources i d).kind (f (get_or sources i d)).kind) raw in
     record {
       sources_are = ap (λ zs. set zs i c.settings_after-new.result) was.sources_are

@@ -8,7 +8,7 @@ pub loop-i-preserved : goal.loop-i-preserved
 loop-i-preserved c =
     let cells = c.loop-i.cells in
     let i = c.loop-i.i in
-    let cell = c.put_number.new.place in
+    let cell = c.put_number.new.into in
     let within : i < length cells = omega (arith, c.loop-i-test.true, c.loop-i.auto.cells) in
     let more = c.signed_of-number.result.1.now in
     let good = c.if-not-put_number.false in

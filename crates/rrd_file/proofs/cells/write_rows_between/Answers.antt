@@ -14,33 +14,33 @@ returns-in_err-write_each g c =
     let rows = g.T.Table.table c.args.rows.now in
     let from = c.args.from in
     let to = c.args.to in
-    let place = c.loop-place.place in
+    let index = c.loop-index.index in
     let n = c.together-count.result.0 in
-    let after : from ≤ place = c.loop-place.invariant.after in
-    let left = to - (place + n) in
-    let end : place + n + left - from ≡ to - from = omega (arith, c.together-count.ensures.few, c.loop-place-test.true) in
-    let same = ap (λ (cells : List Cell). spelled (map OfCell cells)) c.together-count.ensures.cells ∙ rows_spelled (take n (drop place rows)) in
-    let behind = spelled (row_pieces (take left (drop (place + n) rows))) in
-    let whole = ap (λ l. l ++ behind) (ap (λ l. spelled (row_pieces (take (place - from) (drop from rows))) ++ l) same ∙ rows_on rows from place n after)
-    ∙ rows_on rows from (place + n) left (omega (arith, after)) ∙ ap (λ k. spelled (row_pieces (take k (drop from rows)))) end in
-    rw p.1 (subst (Breaks _ _ _) whole (breaks_stop behind (breaks_then c.loop-place.invariant.added c.in_err-write_each.ensures)))
+    let after : from ≤ index = c.loop-index.invariant.after in
+    let left = to - (index + n) in
+    let end : index + n + left - from ≡ to - from = omega (arith, c.together-count.ensures.few, c.loop-index-test.true) in
+    let same = ap (λ (cells : List Cell). spelled (map OfCell cells)) c.together-count.ensures.cells ∙ rows_spelled (take n (drop index rows)) in
+    let behind = spelled (row_pieces (take left (drop (index + n) rows))) in
+    let whole = ap (λ l. l ++ behind) (ap (λ l. spelled (row_pieces (take (index - from) (drop from rows))) ++ l) same ∙ rows_on rows from index n after)
+    ∙ rows_on rows from (index + n) left (omega (arith, after)) ∙ ap (λ k. spelled (row_pieces (take k (drop from rows)))) end in
+    rw p.1 (subst (Breaks _ _ _) whole (breaks_stop behind (breaks_then c.loop-index.invariant.added c.in_err-write_each.ensures)))
 
-pub loop-place-preserved : goal.loop-place-preserved
-loop-place-preserved g c =
+pub loop-index-preserved : goal.loop-index-preserved
+loop-index-preserved g c =
     let rows = g.T.Table.table c.args.rows.now in
     let from = c.args.from in
-    let place = c.loop-place.place in
+    let index = c.loop-index.index in
     let n = c.together-count.result.0 in
-    let after : from ≤ place = c.loop-place.invariant.after in
-    let same = ap (λ (cells : List Cell). spelled (map OfCell cells)) c.together-count.ensures.cells ∙ rows_spelled (take n (drop place rows)) in
+    let after : from ≤ index = c.loop-index.invariant.after in
+    let same = ap (λ (cells : List Cell). spelled (map OfCell cells)) c.together-count.ensures.cells ∙ rows_spelled (take n (drop index rows)) in
     record {
       after = omega (arith, after);
-      most = omega (arith, after, c.together-count.ensures.few, c.loop-place-test.true);
-      added = subst (Adds _ _ _) (ap (λ l. spelled (row_pieces (take (place - from) (drop from rows))) ++ l) same ∙ rows_on rows from place n after) (adds_then c.loop-place.invariant.added c.in_ok-write_each.ensures);
+      most = omega (arith, after, c.together-count.ensures.few, c.loop-index-test.true);
+      added = subst (Adds _ _ _) (ap (λ l. spelled (row_pieces (take (index - from) (drop from rows))) ++ l) same ∙ rows_on rows from index n after) (adds_then c.loop-index.invariant.added c.in_ok-write_each.ensures);
     }
 
 pub returns : goal.returns
 returns g c =
     let rows = g.T.Table.table c.args.rows.now in
-    let all : c.loop-place.place - c.args.from ≡ c.args.to - c.args.from = omega (arith, c.loop-place.invariant.most, c.loop-place-test.false) in
-    subst (Adds _ _ _) (ap (λ k. spelled (row_pieces (take k (drop c.args.from rows)))) all) c.loop-place.invariant.added
+    let all : c.loop-index.index - c.args.from ≡ c.args.to - c.args.from = omega (arith, c.loop-index.invariant.most, c.loop-index-test.false) in
+    subst (Adds _ _ _) (ap (λ k. spelled (row_pieces (take k (drop c.args.from rows)))) all) c.loop-index.invariant.added

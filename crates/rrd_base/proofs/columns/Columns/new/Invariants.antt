@@ -7,6 +7,6 @@ use Rattle.rrd_base.proofs.columns.Columns.new.Given as goal
 
 abbrev pub invariant-loop-source : goal.invariant-loop-source
 invariant-loop-source l = record {
-  count : length l.places.items ≡ l.source;
-  places : (source : ℕ) (d : DsDef) (values : List Given) → source < l.source → value_in values (get_or l.places.items source None) ≡ value_for (template_of l.sources l.template) values (get_or l.sources source d);
+  count : length l.indexes.items ≡ l.source;
+  indexes : (source : ℕ) (d : DsDef) (values : List Given) → source < l.source → value_in values (get_or l.indexes.items source None) ≡ value_for (template_of l.sources l.template) values (get_or l.sources source d);
 }

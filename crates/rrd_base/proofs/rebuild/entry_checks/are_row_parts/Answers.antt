@@ -1,4 +1,4 @@
-use Rattle.std.proofs.Common.{◌≡◌, ◌∙◌, ◌/◌, ◌%◌, ◌<◌, length, subst, sym, arith}
+use Rattle.std.proofs.Common.{◌≡◌, ◌∙◌, ◌/◌, ◌%◌, ◌<◌, length, subst, sym, arith, rules}
 use Rattle.std.specs.Int.{w128}
 use mir.Facts.{to_z-of_z}
 use mir.Val.{of_z, to_z}
@@ -7,8 +7,8 @@ use Rattle.rrd_spec.specs.Validity.{IsPart}
 use Rattle.rrd_base.proofs.FittingLemmas.{All_here_part}
 use Rattle.rrd_base.proofs.rebuild.entry_checks.are_row_parts.Goals as goal
 
-pub returns-then-not-is_row_part-clause-bad : goal.returns-then-not-is_row_part-clause-bad
-returns-then-not-is_row_part-clause-bad c = λ all.
+pub returns-then-is_none-clause-bad : goal.returns-then-is_none-clause-bad
+returns-then-is_none-clause-bad c = λ all.
     let i = c.loop-prep.prep-index in
     let h : i < length c.args.preps.now = omega arith in
     let one = All_here_part (IsPart c.args.def.now.function (c.args.last / c.args.validator.now.step % c.args.def.now.steps)) c.args.preps.now i c.prep-item.result h c.prep-item.is all in
@@ -17,5 +17,4 @@ returns-then-not-is_row_part-clause-bad c = λ all.
     let known = c.known.ensures.value in
     let value = c.value.ensures.value in
     let path : c.prep-item.result.part ≡ part = λ j. let p : Part = record { known = sym known j; value = (sym value ∙ sym same) j } in p in
-    let e = c.is_row_part.ensures.bad (subst (IsPart c.args.def.now.function (c.args.last / c.args.validator.now.step % c.args.def.now.steps)) path one) in
-    cc
+    absurd (c.row_part.ensures.none (search rules) (subst (IsPart c.args.def.now.function (c.args.last / c.args.validator.now.step % c.args.def.now.steps)) path one))

@@ -2,5 +2,5 @@ use Rattle.std.proofs.Common.{length, take}
 use Rattle.rrd_spec.specs.Journal.Fitting.{MaySaveEach}
 use Rattle.rrd_base.proofs.rebuild.entry_checks.may_save_each.Given as goal
 
-abbrev pub invariant-loop-place : goal.invariant-loop-place
-invariant-loop-place l = MaySaveEach l.validator.step l.from l.validator.outline.last (length l.validator.outline.sources) (take l.place l.validator.outline.archives) (take l.place l.olds)
+abbrev pub invariant-loop-archive : goal.invariant-loop-archive
+invariant-loop-archive l = MaySaveEach l.validator.step l.from l.validator.outline.last (length l.validator.outline.sources) (take l.archive l.validator.outline.archives) (take l.archive l.olds)

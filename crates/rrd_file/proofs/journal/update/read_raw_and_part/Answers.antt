@@ -1,11 +1,11 @@
-use Rattle.std.proofs.Common.{◌≡◌, ◌∙◌, ◌%◌, ◌++◌, ◌∷◌, [], sym, subst, length, rules, to_z-of_z, FitsSigned}
+use Rattle.std.proofs.Common.{◌≡◌, ◌∙◌, ◌%◌, ◌++◌, ◌∷◌, [], ap, sym, subst, length, rules, to_z-of_z, FitsSigned}
 use Rattle.std.specs.Prelude.{false, slice_index_or, true}
 use Rattle.std.specs.Int.{w128}
+use Rattle.std.proofs.lemmas.Option.{get_or_from_slice_get}
 use Rattle.std.proofs.lemmas.Result.{err_from_is_err_and}
 use Rattle.rrd_fixed.specs.Rate.{IsAccepted}
 use Rattle.rrd_fold.specs.declared.function.Function.TheVariants.{Average}
 use Rattle.rrd_fold.specs.Parts.{Part}
-use Rattle.rrd_spec.specs.declared.outline.Outline.{Outline}
 use Rattle.rrd_spec.specs.declared.settings.DsDef.{DsDef}
 use Rattle.rrd_spec.specs.Files.Rebuilding.{outline_left}
 use Rattle.rrd_spec.specs.Validity.{IsPart}
@@ -16,7 +16,6 @@ use Rattle.rrd_file.specs.Progress.{Comes}
 use Rattle.rrd_file.specs.Layout.Fitting.{FitsPart}
 use Rattle.rrd_file.proofs.Coming.{cut_within}
 use Rattle.rrd_file.proofs.Kept.{ReadRawAndPart, broken, kept}
-use Rattle.rrd_file.proofs.Turns.{got}
 use Rattle.rrd_file.proofs.journal.update.read_raw_and_part.Goals as goal
 
 pub returns-in_err-piece : goal.returns-in_err-piece
@@ -25,19 +24,18 @@ returns-in_err-piece g c = λ bytes pieces later def e st.
     let len : length c.piece.new.piece ≡ 36 = search rules in
     rw (p.1, p.2) (cut_within bytes c.args.build.now pieces (BeforeDue c.args.last def) later c.args.input.now _ _ st (sym len) c.in_err-piece.ensures.read)
 
-pub returns-then-not-accepts : goal.returns-then-not-accepts
-returns-then-not-accepts g c = λ bytes pieces later def e st.
+pub returns-then-not-accepts_raw : goal.returns-then-not-accepts_raw
+returns-then-not-accepts_raw g c = λ bytes pieces later def e st.
     let len : length c.piece.new.piece ≡ 36 = search rules in
     let fits : FitsSigned w128 c.before_of-raw.result.2 = search rules in
     let raw = c.before_of-raw.result.0 in
     let part : Part = record { known = c.before_of-raw.result.1; value = c.before_of-raw.result.2 } in
     let is : spell (OfRawAndPart raw part) ≡ c.piece.new.piece = c.before_of-raw.ensures.spelled in
     let fit : FitsPart part = c.before_of-raw.ensures.part in
-    let item : c.get.result.now ≡ slice_index_or (outline_left c.args.build.now).sources c.args.source c.get.result.now = subst (λ (o : Outline). c.get.result.now ≡ slice_index_or o.sources c.args.source c.get.result.now) c.undone.ensures c.get.ensures in
-    let same : c.get.result.now ≡ def = got (outline_left c.args.build.now).sources c.args.source def c.get.result.now e item in
+    let same : slice_index_or c.validator.result.now.outline.sources c.args.source def ≡ def = ap (λ (j : EntryValidator). slice_index_or j.outline.sources c.args.source def) c.validator.ensures ∙ get_or_from_slice_get (outline_left c.args.build.now).sources c.args.source def def e in
     rw c.bad_entry.ensures
     (broken bytes c.args.build.now pieces (BeforeDue c.args.last def) later c.args.input.now c.piece.new.self (OfRawAndPart raw part) c.piece.new.piece st c.in_ok-piece.ensures.read is (sym len) (ReadRawAndPart c.args.last def raw part c.before_of-raw.ensures.raw fit)
-    (λ k. let bad : false ≡ true = sym c.if-not-accepts.true ∙ c.accepts.ensures.bad (subst (λ (x : DsDef). IsAccepted x.kind raw) (sym same) k.0) in absurd cc))
+    (λ k. let bad : false ≡ true = sym c.if-not-accepts_raw.true ∙ c.accepts_raw.ensures.bad def (subst (λ (x : DsDef). IsAccepted x.kind raw) (sym same) k.0) in absurd cc))
 
 pub returns-in-Some : goal.returns-in-Some
 returns-in-Some g c = λ bytes pieces later def e st.
@@ -47,12 +45,11 @@ returns-in-Some g c = λ bytes pieces later def e st.
     let part : Part = record { known = c.before_of-raw.result.1; value = c.before_of-raw.result.2 } in
     let is : spell (OfRawAndPart raw part) ≡ c.piece.new.piece = c.before_of-raw.ensures.spelled in
     let fit : FitsPart part = c.before_of-raw.ensures.part in
-    let item : c.get.result.now ≡ slice_index_or (outline_left c.args.build.now).sources c.args.source c.get.result.now = subst (λ (o : Outline). c.get.result.now ≡ slice_index_or o.sources c.args.source c.get.result.now) c.undone.ensures c.get.ensures in
-    let same : c.get.result.now ≡ def = got (outline_left c.args.build.now).sources c.args.source def c.get.result.now e item in
+    let same : slice_index_or c.validator.result.now.outline.sources c.args.source def ≡ def = ap (λ (j : EntryValidator). slice_index_or j.outline.sources c.args.source def) c.validator.ensures ∙ get_or_from_slice_get (outline_left c.args.build.now).sources c.args.source def def e in
     let both = simp (to_z-of_z {w = w128} fits) at c.in-Some.ensures.some in
     subst (λ (x : Part). Comes bytes c.args.build.now (pieces ++ OfRawAndPart raw x ∷ []) later c.piece.new.self) (sym both.1)
     (kept bytes c.args.build.now pieces (BeforeDue c.args.last def) later c.args.input.now c.piece.new.self (OfRawAndPart raw part) c.piece.new.piece st c.in_ok-piece.ensures.read is (sym len) (ReadRawAndPart c.args.last def raw part c.before_of-raw.ensures.raw fit)
-    (subst (λ (x : DsDef). IsAccepted x.kind raw) same (c.accepts.ensures.good c.if-not-accepts.false), subst (λ (j : EntryValidator). IsPart Average (c.args.last % j.step) part) c.validator.ensures (subst (λ (x : Part). IsPart Average (c.args.last % c.validator.result.now.step) x) both.1 both.0)))
+    (subst (λ (x : DsDef). IsAccepted x.kind raw) same (c.accepts_raw.ensures.good c.if-not-accepts_raw.false def), subst (λ (j : EntryValidator). IsPart Average (c.args.last % j.step) part) c.validator-2.ensures (subst (λ (x : Part). IsPart Average (c.args.last % c.validator-2.result.now.step) x) both.1 both.0)))
 
 pub returns-in-None : goal.returns-in-None
 returns-in-None g c = λ bytes pieces later def e st.
@@ -62,8 +59,6 @@ returns-in-None g c = λ bytes pieces later def e st.
     let part : Part = record { known = c.before_of-raw.result.1; value = c.before_of-raw.result.2 } in
     let is : spell (OfRawAndPart raw part) ≡ c.piece.new.piece = c.before_of-raw.ensures.spelled in
     let fit : FitsPart part = c.before_of-raw.ensures.part in
-    let item : c.get.result.now ≡ slice_index_or (outline_left c.args.build.now).sources c.args.source c.get.result.now = subst (λ (o : Outline). c.get.result.now ≡ slice_index_or o.sources c.args.source c.get.result.now) c.undone.ensures c.get.ensures in
-    let same : c.get.result.now ≡ def = got (outline_left c.args.build.now).sources c.args.source def c.get.result.now e item in
     rw c.bad_entry-in-None.ensures
     (broken bytes c.args.build.now pieces (BeforeDue c.args.last def) later c.args.input.now c.piece.new.self (OfRawAndPart raw part) c.piece.new.piece st c.in_ok-piece.ensures.read is (sym len) (ReadRawAndPart c.args.last def raw part c.before_of-raw.ensures.raw fit)
-    (λ k. c.step_part.ensures.none (search rules) (rw (to_z-of_z {w = w128} fits) (subst (λ (j : EntryValidator). IsPart Average (c.args.last % j.step) part) (sym c.validator.ensures) k.1))))
+    (λ k. c.step_part.ensures.none (search rules) (rw (to_z-of_z {w = w128} fits) (subst (λ (j : EntryValidator). IsPart Average (c.args.last % j.step) part) (sym c.validator-2.ensures) k.1))))

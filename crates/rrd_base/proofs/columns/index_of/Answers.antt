@@ -2,7 +2,7 @@ use Rattle.std.proofs.Common.{sym, ◌∙◌, ap, get_or}
 use Rattle.rrd_spec.specs.Commands.{value_for}
 use Rattle.rrd_base.specs.Update.{template_of}
 use Rattle.rrd_base.proofs.UpdatingLemmas.{own_value}
-use Rattle.rrd_base.proofs.columns.place_of.Goals as goal
+use Rattle.rrd_base.proofs.columns.index_of.Goals as goal
 
 pub returns-in-None : goal.returns-in-None
 returns-in-None c = λ values d.

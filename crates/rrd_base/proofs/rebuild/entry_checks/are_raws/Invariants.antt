@@ -1,0 +1,6 @@
+use Rattle.std.proofs.Common.{take}
+use Rattle.rrd_spec.specs.Validity.{AreAccepted}
+use Rattle.rrd_base.proofs.rebuild.entry_checks.are_raws.Given as goal
+
+abbrev pub invariant-loop-source : goal.invariant-loop-source
+invariant-loop-source l = AreAccepted (take l.source l.validator.outline.sources) (take l.source l.raws)
