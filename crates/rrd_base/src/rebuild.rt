@@ -1,12 +1,12 @@
-//! A database that is read from the records of a file, in the order of the layout.
+//! A database that is read from the pieces of a file, in the order of the layout.
 //!
-//! How it works: contracts see the records that were read as lists (`Filed`), and a database only in the result of
-//! `finish`. Each rule of the layout is checked at the first record that can break it, so the first record that is
+//! How it works: contracts see the pieces that were read as lists (`Filed`), and a database only in the result of
+//! `finish`. Each rule of the layout is checked at the first piece that can break it, so the first piece that is
 //! refused is the file's first error, and `decode` need not check again. A new rule belongs in the definition of its
-//! record (`MaySource`, `MayHead`, ..) and in the function whose contract names that definition; the contract of
+//! piece (`MaySource`, `MayHead`, ..) and in the function whose contract names that definition; the contract of
 //! `finish` shows if a rule is missing. A rule of an entry, a partial step, a partial row or an archive's settings
-//! belongs in `EntryValidator`: a reader checks each record of an entry by it, and this module checks the complete
-//! entry, and the records before the entries.
+//! belongs in `EntryValidator`: a reader checks each piece of an entry by it, and this module checks the complete
+//! entry, and the pieces before the entries.
 //!
 //! Pitfalls:
 //!
@@ -14,7 +14,7 @@
 //!   undone, not against the present settings: names, numbers and types of archives and data sources were different
 //!   then.
 //! - The limits are those of the header's version, in entries too.
-//! - A record is checked before memory is allocated for it, so that running out of memory hides no error; and a record
+//! - A piece is checked before memory is allocated for it, so that running out of memory hides no error; and a piece
 //!   changes nothing before all its memory is there.
 //! - Rows come by slot, not by time: only `Cursor` knows which row is next, and where it goes.
 //! - `whole_rows` takes whole rows at once, and must have the same effect as `cell` for one cell after another.
@@ -61,12 +61,12 @@ pub use header::Header;
 pub use piece_checks::is_bounded;
 pub use validator::EntryValidator;
 
-/// The reason for which a record is not taken.
+/// The reason for which a piece is not taken.
 #[derive(Clone, Copy, Debug, PartialEq, Eq)]
 pub enum PieceFault {
-    /// The record breaks a rule, or another record is due.
+    /// The piece breaks a rule, or another piece is due.
     Bad,
-    /// Memory for the record runs out.
+    /// Memory for the piece runs out.
     OutOfMemory,
 }
 
@@ -78,7 +78,7 @@ impl From<AllocError> for PieceFault {
     }
 }
 
-/// A database of which some of a file's records were read. Contracts see the lists of these records.
+/// A database of which some of a file's pieces were read. Contracts see the lists of these pieces.
 #[derive(Drop)]
 pub struct Rebuild {
     alloc: Global,
@@ -189,7 +189,7 @@ impl Rebuild {
         None
     }
 
-    /// Returns which record is due.
+    /// Returns which piece is due.
     pub fn due(&self) -> Due
         ensures { result ≡ due self.now }
     {
@@ -253,7 +253,7 @@ impl Rebuild {
     ///
     /// # Errors
     /// The database is then unchanged:
-    /// - `Bad`: another record is due, or a rule is broken.
+    /// - `Bad`: another piece is due, or a rule is broken.
     /// - `OutOfMemory`: memory runs out.
     pub fn source(&mut self, def: DsDef, raw: Raw, known: u64, sum: i128) -> Result<(), PieceFault>
         ensures ok { let source : Source =
@@ -299,7 +299,7 @@ impl Rebuild {
     ///
     /// # Errors
     /// The database is then unchanged:
-    /// - `Bad`: another record is due, or a rule is broken; there may be at most 8,000,000 cells (in version 1,
+    /// - `Bad`: another piece is due, or a rule is broken; there may be at most 8,000,000 cells (in version 1,
     ///   4,000,000).
     /// - `OutOfMemory`: memory runs out.
     pub fn archive(&mut self, def: RraDef) -> Result<(), PieceFault>
@@ -338,7 +338,7 @@ impl Rebuild {
     ///
     /// # Errors
     /// The database is then unchanged:
-    /// - `Bad`: another record is due, or a rule is broken.
+    /// - `Bad`: another piece is due, or a rule is broken.
     /// - `OutOfMemory`: memory runs out.
     pub fn prep(&mut self, known: u64, value: i128) -> Result<(), PieceFault>
         ensures ok { let part : Part = record { known = known; value = value } in
@@ -381,7 +381,7 @@ impl Rebuild {
     /// Cells come by archive, then by slot, then by data source. Does not allocate.
     ///
     /// # Errors
-    /// - `Bad`: another record is due, or the cell has an absolute value above the maximum rate. The database is
+    /// - `Bad`: another piece is due, or the cell has an absolute value above the maximum rate. The database is
     ///   unchanged.
     pub fn cell(&mut self, cell: Cell) -> Result<(), PieceFault>
         ensures ok { OnOk result (MayCell self.old cell × (self.new ≡ with_cell self.old cell)) }
@@ -404,7 +404,7 @@ impl Rebuild {
     }
 
     // Adds the first of these cells that make whole rows of an archive, if the next cell begins a row, and returns how
-    // many. The due record and the index are found once for all of them.
+    // many. The due piece and the index are found once for all of them.
     fn whole_rows(&mut self, cells: CellRun) -> usize
         requires { AllByRecursion IsBounded (run_cells cells) }
         ensures few { result ≤ length (run_cells cells.entry) }
@@ -495,7 +495,7 @@ impl Rebuild {
     /// Does not allocate: the journal has room for all its entries from the start.
     ///
     /// # Errors
-    /// - `Bad`: another record is due, or the entry does not fit the outline that the entries before it leave. The
+    /// - `Bad`: another piece is due, or the entry does not fit the outline that the entries before it leave. The
     ///   database is unchanged.
     pub fn entry(&mut self, entry: Entry) -> Result<(), PieceFault>
         ensures ok { OnOk result (MayEntry self.old (entry_of entry)
@@ -516,7 +516,7 @@ impl Rebuild {
         Ok(())
     }
 
-    /// Returns the database, after all records were read. Does not allocate.
+    /// Returns the database, after all pieces were read. Does not allocate.
     pub fn finish(self) -> Database
         requires { due self ≡ NothingDue }
         ensures filed { filed self.header.version result ≡ self }

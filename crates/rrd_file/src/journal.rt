@@ -90,7 +90,7 @@ fn read_tag<R: Read + Drop>(input: &mut PieceReader<R>, build: &Rebuild) -> Resu
     Ok(tag)
 }
 
-// Reads all records of an entry.
+// Reads all pieces of an entry.
 fn read_untaken<R: Read + Drop>(
     alloc: Global,
     input: &mut PieceReader<R>,

@@ -17,17 +17,17 @@ pub fn examples()
     ensures sampled { worked.SampledFile }
 {}
 
-/// Theorem: a record that may come has as many bytes as are due.
+/// Theorem: a piece that may come has as many bytes as are due.
 pub fn sizes()
     ensures { laws.PiecesHaveTheirSize }
 {}
 
-/// Theorem: no two records that may come at a stage of a file have the same bytes.
+/// Theorem: no two pieces that may come at a stage of a file have the same bytes.
 pub fn one_spelling()
     ensures { laws.PiecesHaveOneSpelling }
 {}
 
-/// Theorem: no two entries that may come after the same records have the same records.
+/// Theorem: no two entries that may come after the same pieces have the same pieces.
 pub fn one_entry()
     ensures { laws.EntriesHaveOneSpelling }
 {}

@@ -1,4 +1,4 @@
-//! The constants that the writer and the reader of a file share: the mark, the versions, the sizes of records, the tags
+//! The constants that the writer and the reader of a file share: the mark, the versions, the sizes of pieces, the tags
 //! of entries, and the number that represents an absent value.
 ghost use Rattle.std.specs.Prelude.{◌≡◌, ◌≢◌, ◌*◌, ◌≤◌, IfSome, None, length, replicate};
 ghost use Rattle.std.specs.List.{flat_map};
@@ -39,7 +39,7 @@ pub(crate) const PREP_SIZE: usize = 4 + CELL_SIZE;
 /// The size of a data source's settings, in bytes: its name, type, heartbeat and bounds.
 pub(crate) const SETTINGS_SIZE: usize = NAME_SIZE + 1 + 8 + 2 * CELL_SIZE;
 
-/// The size of a data source, in bytes: its settings, and the values that an update replaces. No record is larger.
+/// The size of a data source, in bytes: its settings, and the values that an update replaces. No piece is larger.
 pub(crate) const SOURCE_SIZE: usize = SETTINGS_SIZE + BEFORE_UPDATE_SIZE;
 
 /// The size of an archive's settings, in bytes: its function, steps, share of unknown steps, and rows.

@@ -175,7 +175,7 @@ fn rows_in_all(database: &Database) -> u64
     rows
 }
 
-// Returns the size of the records between the header and the entries: data sources, archive headers, cells.
+// Returns the size of the pieces between the header and the entries: data sources, archive headers, cells.
 fn body_length(database: &Database) -> u64
     ensures count { result ≡ length (spelled (body_pieces (filed newest database.now))) }
     ensures few { result ≤ most_of_body }

@@ -1,6 +1,6 @@
 //! The file of a database: its definition, its writer and its reader.
 //!
-//! A file is a sequence of records, which the code names pieces. `rrd_tests/src/examples.rt` has a complete caller.
+//! A file is a sequence of pieces. `rrd_tests/src/examples.rt` has a complete caller.
 #![tactic(auto)]
 
 ghost use Rattle.std.specs.Prelude.{◌≡◌, ◌⊎◌, ℕ, List, OnOk, Some};
@@ -43,7 +43,7 @@ mod writer;
 pub use fault::FileFault;
 pub use length::encoded_length;
 
-// Writes the records between the header and the entries.
+// Writes the pieces between the header and the entries.
 fn write_body<W: Write>(out: &mut PieceWriter<'_, W>, database: &Database) -> Result<(), WriteFault>
     ensures { Gathers W.contents out.old out.new
         (spelled (body_pieces (filed newest database.now))) result }
@@ -82,7 +82,7 @@ pub fn encode<W: Write>(database: &Database, out: &mut W) -> Result<(), WriteFau
     pieces.write_rest()
 }
 
-// Reads the records between the header and the entries.
+// Reads the pieces between the header and the entries.
 fn read_body<R: Read + Drop>(
     input: &mut PieceReader<R>,
     build: &mut Rebuild,
@@ -139,10 +139,10 @@ fn read_end<R: Read + Drop>(input: &mut PieceReader<R>) -> Result<(), FileFault>
 /// The first fault in the order of the file's bytes:
 /// - `NotOurs`: the first four bytes are not the mark.
 /// - `Version`: the version is neither 1 nor 2.
-/// - `BadBlock`: a record of the header, the data sources, the archives or the cells breaks its rule.
-/// - `BadEntry`: a record of a journal entry breaks its rule.
+/// - `BadBlock`: a piece of the header, the data sources, the archives or the cells breaks its rule.
+/// - `BadEntry`: a piece of a journal entry breaks its rule.
 /// - `Trailing`: a byte follows the last entry.
-/// - `Truncated`: the input ends before a record is complete.
+/// - `Truncated`: the input ends before a piece is complete.
 ///
 /// Before that fault, at any time:
 /// - `Read`: a read fails, or is interrupted 1,001 times in a row.

@@ -1,4 +1,4 @@
-//! A reader of the records of an input.
+//! A reader of the pieces of an input.
 ghost use Rattle.std.specs.Prelude.{◌≡◌, ◌+◌, ◌^◌, ◌<◌, ◌≤◌, [], IfErr, IfOk, IfSome, OnOk, false, length, take, true};
 ghost use Rattle.std.specs.Io.KnownBytes.{Consumes, Keeps};
 ghost use Rattle.rrd_file.specs.declared.fault.FileFault.TheVariants.{Read as ReadFault};
@@ -17,7 +17,7 @@ mod waiting;
 /// A reader with a buffer of at most 65,536 bytes.
 ///
 /// Contracts see the bytes that were read and not taken, the bytes that the reader has left, and the offset of the next
-/// record.
+/// piece.
 #[derive(Drop)]
 pub(crate) struct PieceReader<R: Read + Drop> {
     reader: R,
@@ -52,7 +52,7 @@ impl<R: Read + Drop> PieceReader<R> {
         })
     }
 
-    /// Returns the offset of the next record.
+    /// Returns the offset of the next piece.
     pub(crate) fn at(&self) -> u64
         ensures { result ≡ self.now.at }
     {
@@ -86,7 +86,7 @@ impl<R: Read + Drop> PieceReader<R> {
         self.waiting.len()
     }
 
-    /// Waits until `size` bytes are there, at most those of the largest record.
+    /// Waits until `size` bytes are there, at most those of the largest piece.
     pub(crate) fn wait_for(&mut self, size: usize) -> Result<(), FileFault>
         requires { size ≤ SOURCE_SIZE }
         ensures keeps { OnOk result (Keeps (left self.old) (left self.new)) }
@@ -137,7 +137,7 @@ impl<R: Read + Drop> PieceReader<R> {
         self.waiting.skip(size);
     }
 
-    /// Fills `piece` with the next bytes, at most those of the largest record.
+    /// Fills `piece` with the next bytes, at most those of the largest piece.
     pub(crate) fn piece(&mut self, piece: &mut [u8]) -> Result<(), FileFault>
         requires { length piece.old ≤ SOURCE_SIZE }
         ensures read { ReadsPiece self.old piece.new self.new result }

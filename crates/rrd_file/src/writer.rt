@@ -1,4 +1,4 @@
-//! A writer of the records of an output.
+//! A writer of the pieces of an output.
 ghost use Rattle.std.specs.Prelude.{◌≡◌, ◌+◌, ◌≤◌, [], OnOk, length};
 ghost use Rattle.rrd_fixed.specs.Written.{Writes};
 ghost use Rattle.rrd_file.specs.Writer.{Gathers};
@@ -10,12 +10,12 @@ mod block;
 
 pub(crate) use block::{BLOCK_SIZE, Block, MAX_PIECE_SIZE};
 
-/// A writer with a block of 4,096 bytes, in which records wait until one write takes many records. Does not allocate.
-/// Records that wait are lost if `write_rest` is not called.
+/// A writer with a block of 4,096 bytes, in which records wait until one write takes many pieces. Does not allocate.
+/// Pieces that wait are lost if `write_rest` is not called.
 #[derive(Drop)]
 pub(crate) struct PieceWriter<'a, W: Write> {
     out: &'a mut W,
-    /// The bytes that wait. A record is added here after `make_room`.
+    /// The bytes that wait. A piece is added here after `make_room`.
     pub(crate) block: Block,
 }
 
@@ -32,7 +32,7 @@ impl<'a, W: Write> PieceWriter<'a, W> {
         }
     }
 
-    /// Makes room for a record or a row. If there may be too little room, writes all waiting bytes.
+    /// Makes room for a piece or a row. If there may be too little room, writes all waiting bytes.
     pub(crate) fn make_room(&mut self) -> Result<(), WriteFault>
         ensures added { Gathers W.contents self.old self.new [] result }
         ensures room { OnOk result (length self.new.block + MAX_PIECE_SIZE ≤ BLOCK_SIZE) }

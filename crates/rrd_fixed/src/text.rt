@@ -86,7 +86,7 @@ pub fn time_string(seconds: i64) -> ArrayString<20>
     text
 }
 
-/// Writes the text of a cell, as in `cell_string`.
+/// Writes the text of a cell, as in `cell_string`, for other callers: the program uses `cell_string`.
 ///
 /// # Errors
 /// - `WriteFault`: as in `write_bytes`.
@@ -96,7 +96,7 @@ pub fn write_cell<W: Write>(out: &mut W, cell: Cell) -> Result<(), WriteFault>
     write_bytes(out, cell_string(cell).as_str().as_bytes())
 }
 
-/// Writes the text of a raw value, as in `raw_string`.
+/// Writes the text of a raw value, as in `raw_string`, for other callers: the program uses `raw_string`.
 ///
 /// # Errors
 /// - `WriteFault`: as in `write_bytes`.
@@ -106,7 +106,7 @@ pub fn write_raw<W: Write>(out: &mut W, kind: Kind, raw: Raw) -> Result<(), Writ
     write_bytes(out, raw_string(kind, raw).as_str().as_bytes())
 }
 
-/// Writes the text of a time, as in `time_string`.
+/// Writes the text of a time, as in `time_string`, for other callers: the program uses `time_string`.
 ///
 /// # Errors
 /// - `WriteFault`: as in `write_bytes`.

@@ -1,4 +1,5 @@
-//! The four consolidation functions as types, for a caller that fixes the function at compile time.
+//! The four consolidation functions as types, for a caller that fixes the function at compile time. The program does not:
+//! it reads the function from a file.
 ghost use Rattle.std.specs.Prelude.{◌≡◌, ◌+◌, ◌≤◌, replicate};
 ghost use Rattle.std.specs.List.{fold};
 ghost use Rattle.rrd_fold.specs.Parts.{Part, with_cell, nothing};

@@ -60,7 +60,7 @@ impl RowPrep {
 
     /// Adds the cell of one step, in millionths, a known one from `-TOP` to `TOP`.
     ///
-    /// An unknown cell changes nothing. The meter counts one unit of work.
+    /// An unknown cell changes nothing. The meter counts one unit of work. The program calls `add_many`.
     pub fn add(&mut self, cell: Cell, meter: &mut Meter)
         requires fits { self.old.part.known + counted 1 cell ≤ most_known }
         requires bounded { IsBounded cell }

@@ -1,8 +1,8 @@
-//! The order of the records in a file.
+//! The order of the pieces in a file.
 
 use crate::RraDef;
 
-/// The kind of record that a file must have next.
+/// The kind of piece that a file must have next.
 #[derive(Clone, Copy, Debug)]
 pub enum Due {
     /// A data source, with its last raw value and its partial step.
@@ -15,6 +15,6 @@ pub enum Due {
     CellDue,
     /// A journal entry.
     EntryDue,
-    /// No further record: the database is complete.
+    /// No further piece: the database is complete.
     NothingDue,
 }

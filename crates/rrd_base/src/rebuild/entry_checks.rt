@@ -1,4 +1,4 @@
-//! The checks of a complete journal entry against an outline: each record by its rule in `EntryValidator`.
+//! The checks of a complete journal entry against an outline: each piece by its rule in `EntryValidator`.
 ghost use Rattle.std.specs.Prelude.{◌≡◌, ◌%◌, ◌/◌, List, ◌<◌, ◌≤◌, length, true};
 ghost use Rattle.std.specs.List.{AllByRecursion};
 ghost use Rattle.rrd_base.specs.Journal.{entry_of, update_of};

@@ -1,4 +1,4 @@
-//! Checks of the values in a file's records.
+//! Checks of the values in a file's pieces.
 ghost use Rattle.std.specs.Prelude.{◌≡◌, ◌≤◌, true};
 ghost use Rattle.std.specs.List.{AllByRecursion};
 ghost use Rattle.rrd_fixed.specs.Rate.{IsBounded};

@@ -1,6 +1,6 @@
 //! The checks of journal entries while a file is read.
 //!
-//! Each rule of an entry is here once: a reader checks each record of an entry by it, and `may_undo` checks the
+//! Each rule of an entry is here once: a reader checks each piece of an entry by it, and `may_undo` checks the
 //! complete entry.
 ghost use Rattle.std.specs.Prelude.{◌≡◌, ◌++◌, ◌∷◌, [], ◌%◌, ◌<◌, ◌≤◌, IfOk, IfSome, None, OnErr, OnOk, Some, length, min, slice_get, slice_index_or, true};
 ghost use Rattle.rrd_base.specs.Journal.{entry_of};

@@ -116,7 +116,7 @@ fn read_removed_settings<R: Read + Drop>(
     Ok(def)
 }
 
-/// Reads the records after the tag of a removal.
+/// Reads the pieces after the tag of a removal.
 pub(super) fn read_removed<R: Read + Drop>(
     alloc: Global,
     input: &mut PieceReader<R>,

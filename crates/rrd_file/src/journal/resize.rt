@@ -105,7 +105,7 @@ fn read_old_row_count<R: Read + Drop>(
     Ok(rows)
 }
 
-/// Reads the records after the tag of a resize.
+/// Reads the pieces after the tag of a resize.
 pub(super) fn read_resize<R: Read + Drop>(
     alloc: Global,
     input: &mut PieceReader<R>,

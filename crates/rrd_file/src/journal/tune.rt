@@ -145,7 +145,7 @@ fn read_named_source<R: Read + Drop>(
     Ok(old)
 }
 
-/// Reads the records after the tag of a tune.
+/// Reads the pieces after the tag of a tune.
 pub(super) fn read_tune<R: Read + Drop>(
     input: &mut PieceReader<R>,
     build: &Rebuild,

@@ -270,7 +270,7 @@ fn read_all_saved<R: Read + Drop>(
     Ok(olds)
 }
 
-/// Reads the records after the tag of an update.
+/// Reads the pieces after the tag of an update.
 pub(super) fn read_update<R: Read + Drop>(
     alloc: Global,
     input: &mut PieceReader<R>,
