@@ -1,7 +1,7 @@
 //! A file as the storage of a database. A run opens the file once: the run reads and writes one file, under one lock,
 //! even if another file gets the name meanwhile.
 use crate::file_bytes::FileBytes;
-use crate::locks::{Held, lock};
+use crate::locks::{LockResult, lock};
 use crate::reader::FileReader;
 use crate::writer::FileWriter;
 use crate::{Disk, DiskFile, Lock, Opening, Settings};
@@ -13,7 +13,7 @@ use std::path::Path;
 #[derive(Drop)]
 enum Locked<F: DiskFile> {
     /// A regular file, and the result of the lock.
-    Regular(FileBytes<F>, Held),
+    Regular(FileBytes<F>, LockResult),
     /// A directory, a device or a pipe.
     Other(F),
 }
@@ -72,14 +72,14 @@ impl<'a, D: Disk> FileStorage<'a, D> {
     }
 
     // Locks an open file, and reads the first bytes of the file.
-    fn lock(&self, file: D::File, how: Lock) -> io::Result<Locked<D::File>> {
-        let held = lock(self.disk, &file, how, self.settings.wait)?;
+    fn lock_and_read(&self, file: D::File, how: Lock) -> io::Result<Locked<D::File>> {
+        let lock_result = lock(self.disk, &file, how, self.settings.wait)?;
         let facts = self.disk.facts(&file)?;
         if !facts.is_regular {
             return Ok(Locked::Other(file));
         }
         let bytes = FileBytes::new(self.disk.alloc(), file, facts.length, self.settings.syncs);
-        Ok(Locked::Regular(bytes, held))
+        Ok(Locked::Regular(bytes, lock_result))
     }
 
     // Returns a reader of a file with an interrupted change, under a shared lock. If this run may write the file, the
@@ -88,18 +88,18 @@ impl<'a, D: Disk> FileStorage<'a, D> {
     fn read_marked(
         &self,
         marked: FileBytes<D::File>,
-        held: Held,
+        lock_result: LockResult,
     ) -> io::Result<FileReader<D::File>> {
-        if held == Held::Nothing {
+        if lock_result == LockResult::NoLocks {
             return Ok(marked.into_reader());
         }
         let Ok(file) = self.disk.open(self.path, Opening::Write) else {
             return Ok(marked.into_settled_reader());
         };
         drop(marked);
-        match self.lock(file, Lock::Own)? {
-            Locked::Regular(bytes, Held::Lock) => Ok(read_settled(bytes)),
-            Locked::Regular(bytes, Held::Nothing) => Ok(bytes.into_reader()),
+        match self.lock_and_read(file, Lock::Own)? {
+            Locked::Regular(bytes, LockResult::Taken) => Ok(read_settled(bytes)),
+            Locked::Regular(bytes, LockResult::NoLocks) => Ok(bytes.into_reader()),
             Locked::Other(file) => Ok(FileReader::File(file)),
         }
     }
@@ -117,8 +117,10 @@ impl<'a, D: Disk> FileStorage<'a, D> {
             Err(error) => return Err(error),
         };
         self.found = Found::Unwritable(unwritable);
-        let reader = match self.lock(file, Lock::Shared)? {
-            Locked::Regular(bytes, held) if bytes.is_marked() => self.read_marked(bytes, held)?,
+        let reader = match self.lock_and_read(file, Lock::Shared)? {
+            Locked::Regular(bytes, lock_result) if bytes.is_marked() => {
+                self.read_marked(bytes, lock_result)?
+            }
             Locked::Regular(bytes, _) => bytes.into_reader(),
             Locked::Other(file) => FileReader::File(file),
         };
@@ -172,7 +174,7 @@ impl<'a, D: Disk> FileStorage<'a, D> {
             Ok(file) => file,
             Err(error) => return self.open_unwritable(error),
         };
-        match self.lock(file, Lock::Own)? {
+        match self.lock_and_read(file, Lock::Own)? {
             Locked::Regular(bytes, _) => Ok(Some(self.hold(bytes)?)),
             Locked::Other(_) => Err(not_regular()),
         }
@@ -182,7 +184,7 @@ impl<'a, D: Disk> FileStorage<'a, D> {
     // file that a symbolic link names.
     fn open_to_write(&self) -> io::Result<FileBytes<D::File>> {
         let file = self.disk.open(self.path, Opening::Make)?;
-        let Locked::Regular(mut bytes, _) = self.lock(file, Lock::Own)? else {
+        let Locked::Regular(mut bytes, _) = self.lock_and_read(file, Lock::Own)? else {
             return Err(not_regular());
         };
         if bytes.is_marked() {
