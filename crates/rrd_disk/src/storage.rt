@@ -104,16 +104,19 @@ impl<'a, D: Disk> FileStorage<'a, D> {
         }
     }
 
+    // Notes that there is no file, for the reason `error`, and returns no reader.
+    fn miss(&mut self, error: Error) -> Option<FileReader<D::File>> {
+        self.found = Found::Missing;
+        self.cause = Some(error);
+        None
+    }
+
     // Opens the file for reading, under a lock that other readers share. `unwritable` is the reason why this run
     // cannot write the file.
     fn open_to_read(&mut self, unwritable: Error) -> io::Result<Option<FileReader<D::File>>> {
         let file = match self.disk.open(self.path, Opening::Read) {
             Ok(file) => file,
-            Err(error) if error.kind() == ErrorKind::NotFound => {
-                self.found = Found::Missing;
-                self.cause = Some(error);
-                return Ok(None);
-            }
+            Err(error) if error.kind() == ErrorKind::NotFound => return Ok(self.miss(error)),
             Err(error) => return Err(error),
         };
         self.found = Found::Unwritable(unwritable);
@@ -141,29 +144,19 @@ impl<'a, D: Disk> FileStorage<'a, D> {
         Ok(reader)
     }
 
-    // Checks that the directory exists in which a run may create the file. The check is for a batch, which creates a
-    // missing file only after its last line.
-    fn find_directory(&self) -> io::Result<()> {
-        let Some(directory) = Path::new(self.path).parent() else {
-            return Ok(());
+    // Checks that the directory of a missing file exists. Without the directory the run could not create the file: a
+    // batch then fails before its first line, and not after its last line.
+    fn check_directory(&self) -> io::Result<()> {
+        let directory = match Path::new(self.path).parent() {
+            Some(directory) if !directory.as_str().is_empty() => directory,
+            // The path names a file in the current directory.
+            _ => return Ok(()),
         };
-        if directory.as_str().is_empty() {
-            return Ok(());
-        }
         match self.disk.open(directory.as_str(), Opening::Read) {
             Err(error) if error.kind() == ErrorKind::NotFound => Err(error),
+            // The directory exists. If the run may not read it, the run may still create the file.
             _ => Ok(()),
         }
-    }
-
-    // Opens the file for reading, because the run cannot write the file for the reason `unwritable`. If there is no
-    // file, the run may create the file later.
-    fn open_unwritable(&mut self, unwritable: Error) -> io::Result<Option<FileReader<D::File>>> {
-        let opened = self.open_to_read(unwritable)?;
-        if opened.is_none() {
-            self.find_directory()?;
-        }
-        Ok(opened)
     }
 
     // Opens the file under this run's own lock, for reading and then writing. If the run cannot write the file, the
@@ -172,7 +165,11 @@ impl<'a, D: Disk> FileStorage<'a, D> {
     fn open_to_change(&mut self) -> io::Result<Option<FileReader<D::File>>> {
         let file = match self.disk.open(self.path, Opening::Write) {
             Ok(file) => file,
-            Err(error) => return self.open_unwritable(error),
+            Err(error) if error.kind() == ErrorKind::NotFound => {
+                self.check_directory()?;
+                return Ok(self.miss(error));
+            }
+            Err(error) => return self.open_to_read(error),
         };
         match self.lock_and_read(file, Lock::Own)? {
             Locked::Regular(bytes, _) => Ok(Some(self.hold(bytes)?)),
