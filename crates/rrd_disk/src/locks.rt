@@ -2,11 +2,8 @@
 //! is closed.
 ghost use Rattle.std.specs.Prelude.{◌≡◌, ◌+◌, IfSome};
 
-use crate::{Disk, DiskFile, Lock};
+use crate::{Disk, DiskFile, Lock, Settings};
 use std::io::{self, Error, ErrorKind};
-
-/// The maximum time in milliseconds for which a run waits.
-const MAX_WAIT: u64 = 3_600_000;
 
 /// The longest pause between two tries, in milliseconds.
 const MAX_PAUSE: u64 = 50;
@@ -61,7 +58,7 @@ pub(crate) fn lock<D: Disk>(
     lock: Lock,
     wait: u64,
 ) -> io::Result<LockResult> {
-    let wait = wait.min(MAX_WAIT);
+    let wait = wait.min(Settings::MAX_WAIT);
     let mut pauses = Pauses::within(wait);
     for _ in 0..=wait {
         match file.try_lock(lock) {
