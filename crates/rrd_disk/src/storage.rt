@@ -2,6 +2,7 @@
 //! even if another file gets the name meanwhile.
 use crate::file_bytes::FileBytes;
 use crate::locks::{LockResult, lock};
+use crate::once::open;
 use crate::reader::FileReader;
 use crate::writer::FileWriter;
 use crate::{Disk, DiskFile, Lock, Opening, Settings};
@@ -93,7 +94,7 @@ impl<'a, D: Disk> FileStorage<'a, D> {
         if lock_result == LockResult::NoLocks {
             return Ok(marked.into_reader());
         }
-        let Ok(file) = self.disk.open(self.path, Opening::Write) else {
+        let Ok(file) = open(self.disk, self.path, Opening::Write) else {
             return Ok(marked.into_settled_reader());
         };
         drop(marked);
@@ -114,7 +115,7 @@ impl<'a, D: Disk> FileStorage<'a, D> {
     // Opens the file for reading, under a lock that other readers share. `unwritable` is the reason why this run
     // cannot write the file.
     fn open_to_read(&mut self, unwritable: Error) -> io::Result<Option<FileReader<D::File>>> {
-        let file = match self.disk.open(self.path, Opening::Read) {
+        let file = match open(self.disk, self.path, Opening::Read) {
             Ok(file) => file,
             Err(error) if error.kind() == ErrorKind::NotFound => return Ok(self.miss(error)),
             Err(error) => return Err(error),
@@ -152,7 +153,7 @@ impl<'a, D: Disk> FileStorage<'a, D> {
             // The path names a file in the current directory.
             _ => return Ok(()),
         };
-        match self.disk.open(directory.as_str(), Opening::Read) {
+        match open(self.disk, directory.as_str(), Opening::Read) {
             Err(error) if error.kind() == ErrorKind::NotFound => Err(error),
             // The directory exists. If the run may not read it, the run may still create the file.
             _ => Ok(()),
@@ -163,7 +164,7 @@ impl<'a, D: Disk> FileStorage<'a, D> {
     // run opens the file for reading. A directory, a device or a pipe is refused: a second opening of a pipe could
     // lose bytes that the pipe delivered, and wait for more.
     fn open_to_change(&mut self) -> io::Result<Option<FileReader<D::File>>> {
-        let file = match self.disk.open(self.path, Opening::Write) {
+        let file = match open(self.disk, self.path, Opening::Write) {
             Ok(file) => file,
             Err(error) if error.kind() == ErrorKind::NotFound => {
                 self.check_directory()?;
@@ -180,7 +181,7 @@ impl<'a, D: Disk> FileStorage<'a, D> {
     // Opens the file for writing, whatever the file contains. If there is no file, the system creates the file, or the
     // file that a symbolic link names.
     fn open_to_write(&self) -> io::Result<FileBytes<D::File>> {
-        let file = self.disk.open(self.path, Opening::Make)?;
+        let file = open(self.disk, self.path, Opening::Make)?;
         let Locked::Regular(mut bytes, _) = self.lock_and_read(file, Lock::Own)? else {
             return Err(not_regular());
         };
