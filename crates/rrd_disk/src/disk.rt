@@ -100,7 +100,7 @@ pub trait Disk {
     /// Returns the allocator for the bytes of files.
     fn alloc(&self) -> Global;
 
-    /// Opens the file at `path`.
+    /// Opens the file at `path`. A signal may make the call fail with the kind `Interrupted`.
     ///
     /// # Errors
     ///

@@ -2,22 +2,19 @@
 //! is closed.
 ghost use Rattle.std.specs.Prelude.{◌≡◌, ◌+◌, IfSome};
 
-use crate::{Disk, DiskFile, Lock};
+use crate::{Disk, DiskFile, Lock, Settings};
 use std::io::{self, Error, ErrorKind};
-
-/// The maximum time in milliseconds for which a run waits.
-const MAX_WAIT: u64 = 3_600_000;
 
 /// The longest pause between two tries, in milliseconds.
 const MAX_PAUSE: u64 = 50;
 
 /// The result of a try to lock a file.
 #[derive(Clone, Copy, Debug, PartialEq, Eq)]
-pub(crate) enum Held {
+pub(crate) enum LockResult {
     /// This program holds the lock.
-    Lock,
+    Taken,
     /// The file system has no locks.
-    Nothing,
+    NoLocks,
 }
 
 /// The pauses between the tries, in milliseconds: each pause is twice as long as the pause before, up to 50.
@@ -52,21 +49,24 @@ impl Pauses {
 
 /// Locks a file, and tries again for `wait` milliseconds while another program holds a lock.
 ///
-/// Returns `Held::Nothing` if the file system has no locks.
-///
 /// # Errors
 ///
 /// `WouldBlock` if another program held a lock at each try.
-pub(crate) fn lock<D: Disk>(disk: &D, file: &D::File, lock: Lock, wait: u64) -> io::Result<Held> {
-    let wait = wait.min(MAX_WAIT);
+pub(crate) fn lock<D: Disk>(
+    disk: &D,
+    file: &D::File,
+    lock: Lock,
+    wait: u64,
+) -> io::Result<LockResult> {
+    let wait = wait.min(Settings::MAX_WAIT);
     let mut pauses = Pauses::within(wait);
     for _ in 0..=wait {
         match file.try_lock(lock) {
-            Ok(()) => return Ok(Held::Lock),
+            Ok(()) => return Ok(LockResult::Taken),
             Err(error)
                 if error.kind() == ErrorKind::WouldBlock
                     || error.kind() == ErrorKind::Interrupted => {}
-            Err(_) => return Ok(Held::Nothing),
+            Err(_) => return Ok(LockResult::NoLocks),
         }
         let Some(pause) = pauses.take() else {
             break;

@@ -1,7 +1,7 @@
 //! Calls of the system that a signal may interrupt, and bytes written by one call.
 ghost use Rattle.std.specs.Io.{ReadsAtMost};
 
-use crate::DiskFile;
+use crate::{Disk, DiskFile, Opening};
 use rrd_fixed::TRIES;
 use std::io::{self, Error, ErrorKind};
 
@@ -19,6 +19,11 @@ fn uninterrupted<T, C: FnMut() -> io::Result<T>>(mut call: C) -> io::Result<T>
         }
     }
     Err(Error::from(ErrorKind::Interrupted))
+}
+
+/// Opens the file at `path`.
+pub(crate) fn open<D: Disk>(disk: &D, path: &str, opening: Opening) -> io::Result<D::File> {
+    uninterrupted(|| disk.open(path, opening))
 }
 
 /// Writes all bytes from byte `at` on by one call.

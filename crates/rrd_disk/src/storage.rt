@@ -1,7 +1,8 @@
 //! A file as the storage of a database. A run opens the file once: the run reads and writes one file, under one lock,
 //! even if another file gets the name meanwhile.
 use crate::file_bytes::FileBytes;
-use crate::locks::{Held, lock};
+use crate::locks::{LockResult, lock};
+use crate::once::open;
 use crate::reader::FileReader;
 use crate::writer::FileWriter;
 use crate::{Disk, DiskFile, Lock, Opening, Settings};
@@ -13,7 +14,7 @@ use std::path::Path;
 #[derive(Drop)]
 enum Locked<F: DiskFile> {
     /// A regular file, and the result of the lock.
-    Regular(FileBytes<F>, Held),
+    Regular(FileBytes<F>, LockResult),
     /// A directory, a device or a pipe.
     Other(F),
 }
@@ -72,14 +73,14 @@ impl<'a, D: Disk> FileStorage<'a, D> {
     }
 
     // Locks an open file, and reads the first bytes of the file.
-    fn lock(&self, file: D::File, how: Lock) -> io::Result<Locked<D::File>> {
-        let held = lock(self.disk, &file, how, self.settings.wait)?;
+    fn lock_and_read(&self, file: D::File, how: Lock) -> io::Result<Locked<D::File>> {
+        let lock_result = lock(self.disk, &file, how, self.settings.wait)?;
         let facts = self.disk.facts(&file)?;
         if !facts.is_regular {
             return Ok(Locked::Other(file));
         }
         let bytes = FileBytes::new(self.disk.alloc(), file, facts.length, self.settings.syncs);
-        Ok(Locked::Regular(bytes, held))
+        Ok(Locked::Regular(bytes, lock_result))
     }
 
     // Returns a reader of a file with an interrupted change, under a shared lock. If this run may write the file, the
@@ -88,37 +89,42 @@ impl<'a, D: Disk> FileStorage<'a, D> {
     fn read_marked(
         &self,
         marked: FileBytes<D::File>,
-        held: Held,
+        lock_result: LockResult,
     ) -> io::Result<FileReader<D::File>> {
-        if held == Held::Nothing {
+        if lock_result == LockResult::NoLocks {
             return Ok(marked.into_reader());
         }
-        let Ok(file) = self.disk.open(self.path, Opening::Write) else {
+        let Ok(file) = open(self.disk, self.path, Opening::Write) else {
             return Ok(marked.into_settled_reader());
         };
         drop(marked);
-        match self.lock(file, Lock::Own)? {
-            Locked::Regular(bytes, Held::Lock) => Ok(read_settled(bytes)),
-            Locked::Regular(bytes, Held::Nothing) => Ok(bytes.into_reader()),
+        match self.lock_and_read(file, Lock::Own)? {
+            Locked::Regular(bytes, LockResult::Taken) => Ok(read_settled(bytes)),
+            Locked::Regular(bytes, LockResult::NoLocks) => Ok(bytes.into_reader()),
             Locked::Other(file) => Ok(FileReader::File(file)),
         }
+    }
+
+    // Notes that there is no file, for the reason `error`, and returns no reader.
+    fn miss(&mut self, error: Error) -> Option<FileReader<D::File>> {
+        self.found = Found::Missing;
+        self.cause = Some(error);
+        None
     }
 
     // Opens the file for reading, under a lock that other readers share. `unwritable` is the reason why this run
     // cannot write the file.
     fn open_to_read(&mut self, unwritable: Error) -> io::Result<Option<FileReader<D::File>>> {
-        let file = match self.disk.open(self.path, Opening::Read) {
+        let file = match open(self.disk, self.path, Opening::Read) {
             Ok(file) => file,
-            Err(error) if error.kind() == ErrorKind::NotFound => {
-                self.found = Found::Missing;
-                self.cause = Some(error);
-                return Ok(None);
-            }
+            Err(error) if error.kind() == ErrorKind::NotFound => return Ok(self.miss(error)),
             Err(error) => return Err(error),
         };
         self.found = Found::Unwritable(unwritable);
-        let reader = match self.lock(file, Lock::Shared)? {
-            Locked::Regular(bytes, held) if bytes.is_marked() => self.read_marked(bytes, held)?,
+        let reader = match self.lock_and_read(file, Lock::Shared)? {
+            Locked::Regular(bytes, lock_result) if bytes.is_marked() => {
+                self.read_marked(bytes, lock_result)?
+            }
             Locked::Regular(bytes, _) => bytes.into_reader(),
             Locked::Other(file) => FileReader::File(file),
         };
@@ -139,40 +145,34 @@ impl<'a, D: Disk> FileStorage<'a, D> {
         Ok(reader)
     }
 
-    // Checks that the directory exists in which a run may create the file. The check is for a batch, which creates a
-    // missing file only after its last line.
-    fn find_directory(&self) -> io::Result<()> {
-        let Some(directory) = Path::new(self.path).parent() else {
-            return Ok(());
+    // Checks that the directory of a missing file exists. Without the directory the run could not create the file: a
+    // batch then fails before its first line, and not after its last line.
+    fn check_directory(&self) -> io::Result<()> {
+        let directory = match Path::new(self.path).parent() {
+            Some(directory) if !directory.as_str().is_empty() => directory,
+            // The path names a file in the current directory.
+            _ => return Ok(()),
         };
-        if directory.as_str().is_empty() {
-            return Ok(());
-        }
-        match self.disk.open(directory.as_str(), Opening::Read) {
+        match open(self.disk, directory.as_str(), Opening::Read) {
             Err(error) if error.kind() == ErrorKind::NotFound => Err(error),
+            // The directory exists. If the run may not read it, the run may still create the file.
             _ => Ok(()),
         }
-    }
-
-    // Opens the file for reading, because the run cannot write the file for the reason `unwritable`. If there is no
-    // file, the run may create the file later.
-    fn open_unwritable(&mut self, unwritable: Error) -> io::Result<Option<FileReader<D::File>>> {
-        let opened = self.open_to_read(unwritable)?;
-        if opened.is_none() {
-            self.find_directory()?;
-        }
-        Ok(opened)
     }
 
     // Opens the file under this run's own lock, for reading and then writing. If the run cannot write the file, the
     // run opens the file for reading. A directory, a device or a pipe is refused: a second opening of a pipe could
     // lose bytes that the pipe delivered, and wait for more.
     fn open_to_change(&mut self) -> io::Result<Option<FileReader<D::File>>> {
-        let file = match self.disk.open(self.path, Opening::Write) {
+        let file = match open(self.disk, self.path, Opening::Write) {
             Ok(file) => file,
-            Err(error) => return self.open_unwritable(error),
+            Err(error) if error.kind() == ErrorKind::NotFound => {
+                self.check_directory()?;
+                return Ok(self.miss(error));
+            }
+            Err(error) => return self.open_to_read(error),
         };
-        match self.lock(file, Lock::Own)? {
+        match self.lock_and_read(file, Lock::Own)? {
             Locked::Regular(bytes, _) => Ok(Some(self.hold(bytes)?)),
             Locked::Other(_) => Err(not_regular()),
         }
@@ -181,8 +181,8 @@ impl<'a, D: Disk> FileStorage<'a, D> {
     // Opens the file for writing, whatever the file contains. If there is no file, the system creates the file, or the
     // file that a symbolic link names.
     fn open_to_write(&self) -> io::Result<FileBytes<D::File>> {
-        let file = self.disk.open(self.path, Opening::Make)?;
-        let Locked::Regular(mut bytes, _) = self.lock(file, Lock::Own)? else {
+        let file = open(self.disk, self.path, Opening::Make)?;
+        let Locked::Regular(mut bytes, _) = self.lock_and_read(file, Lock::Own)? else {
             return Err(not_regular());
         };
         if bytes.is_marked() {

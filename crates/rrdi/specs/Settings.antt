@@ -1,5 +1,5 @@
 -- Definition: the settings that the texts of the environment set (own).
-use Rattle.std.specs.Prelude.{ℕ, ◌*◌, ◌==◌, min, List, Option, Some, None, codes, if◌then◌else◌}
+use Rattle.std.specs.Prelude.{ℕ, ◌*◌, min, List, Option, Some, None, codes, if◌then◌else◌}
 use Rattle.std.specs.Str.{bytes_eq}
 use Rattle.rrd_fixed.specs.Reading.{whole_of}
 use Rattle.rrd_undo.specs.declared.tail.Syncs.{Syncs}

@@ -14,7 +14,7 @@ fn wait_of(text: &str) -> u64
     ensures { result ≡ wait_of text.now }
 {
     match read_whole(text.as_bytes()) {
-        Some(seconds) => seconds.min(3_600) * SECOND,
+        Some(seconds) => seconds.min(Settings::MAX_WAIT / SECOND) * SECOND,
         None => Settings::DEFAULT.wait,
     }
 }

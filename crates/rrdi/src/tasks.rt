@@ -10,10 +10,13 @@ use rrd_store::{
 };
 use rrd_tool::{Words, run_batch};
 use std::cell::Cell;
-use std::io::{BufWriter, Error};
+use std::io::{BufWriter, Error, Stdout};
 
 /// The maximum number of bytes of output that one call writes.
 const OUTPUT: usize = 65_536;
+
+/// The writer of the program's output.
+type OutputWriter = BufWriter<Stdout>;
 
 /// Reports a fault, and returns the status for it.
 pub(crate) fn fail(rt: &HostRuntime, fault: TaskFault) -> u8 {
@@ -50,42 +53,45 @@ fn cause_of(
     }
 }
 
-// Reports why a call on the file failed, if a call failed.
-fn report(rt: &HostRuntime, path: &str, cause: Option<Error>) {
-    if let Some(error) = cause {
-        report_cause(rt, path, error, settings(rt));
+// Runs a task on the database in the file at `path`, and returns the status of the program. If a call on the file
+// failed, reports why.
+//
+// `run` gets the file, and the writer of the output. It returns the status, and the fault that it reported.
+fn on_file<R>(rt: &HostRuntime, path: &str, run: R) -> u8
+where
+    R: FnOnce(&mut FileStorage<'_, Host<'_>>, &mut OutputWriter) -> (u8, Option<TaskFault>),
+    requires { R.IsAlwaysCallable run }
+{
+    let Ok(mut out) = BufWriter::with_capacity(rt.alloc(), OUTPUT, rt.stdout()) else {
+        return fail(rt, NO_MEMORY);
+    };
+    let settings = settings(rt);
+    let failed_read = Cell::new(None);
+    let disk = Host::new(rt, &failed_read);
+    let mut file = FileStorage::new(&disk, path, settings);
+    let (status, fault) = run(&mut file, &mut out);
+    if let Some(error) = cause_of(&file, failed_read.get(), fault) {
+        report_cause(rt, path, error, settings);
     }
+    status
 }
 
 /// Runs the commands on standard input on the database in a file.
 pub(crate) fn file_batch(rt: &HostRuntime, path: &str) -> u8 {
-    let Ok(mut out) = BufWriter::with_capacity(rt.alloc(), OUTPUT, rt.stdout()) else {
-        return fail(rt, NO_MEMORY);
-    };
-    let failed_read = Cell::new(None);
-    let disk = Host::new(rt, &failed_read);
-    let mut file = FileStorage::new(&disk, path, settings(rt));
-    let now = seconds_now(rt);
-    let end = run_file_batch(rt.alloc(), now, 0, &mut file, &mut rt.stdin(), &mut out);
-    let fault = match &end {
-        Ok(end) => end.unstored,
-        Err(fault) => Some(*fault),
-    };
-    let status = report_file_batch(&mut rt.stderr(), end);
-    report(rt, path, cause_of(&file, failed_read.get(), fault));
-    status
+    on_file(rt, path, |file, out| {
+        let end = run_file_batch(rt.alloc(), seconds_now(rt), 0, file, &mut rt.stdin(), out);
+        let fault = match &end {
+            Ok(end) => end.unstored,
+            Err(fault) => Some(*fault),
+        };
+        (report_file_batch(&mut rt.stderr(), end), fault)
+    })
 }
 
 /// Runs one command on the database in a file.
 pub(crate) fn single(rt: &HostRuntime, path: &str, words: &Words<'_>) -> u8 {
-    let Ok(mut out) = BufWriter::with_capacity(rt.alloc(), OUTPUT, rt.stdout()) else {
-        return fail(rt, NO_MEMORY);
-    };
-    let failed_read = Cell::new(None);
-    let disk = Host::new(rt, &failed_read);
-    let mut file = FileStorage::new(&disk, path, settings(rt));
-    let end = run_file_command(rt.alloc(), words, seconds_now(rt), &mut file, &mut out);
-    let status = report_command(&mut rt.stderr(), end);
-    report(rt, path, cause_of(&file, failed_read.get(), end.err()));
-    status
+    on_file(rt, path, |file, out| {
+        let end = run_file_command(rt.alloc(), words, seconds_now(rt), file, out);
+        (report_command(&mut rt.stderr(), end), end.err())
+    })
 }
