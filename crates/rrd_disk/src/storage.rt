@@ -148,11 +148,14 @@ impl<'a, D: Disk> FileStorage<'a, D> {
     // Checks that the directory of a missing file exists. Without the directory the run could not create the file: a
     // batch then fails before its first line, and not after its last line.
     fn check_directory(&self) -> io::Result<()> {
-        let directory = match Path::new(self.path).parent() {
-            Some(directory) if !directory.as_str().is_empty() => directory,
-            // The path names a file in the current directory.
-            _ => return Ok(()),
+        let Some(directory) = Path::new(self.path).parent() else {
+            // The path is empty, and names no file.
+            return Err(Error::from(ErrorKind::NotFound));
         };
+        if directory.as_str().is_empty() {
+            // The path names a file in the current directory.
+            return Ok(());
+        }
         match open(self.disk, directory.as_str(), Opening::Read) {
             Err(error) if error.kind() == ErrorKind::NotFound => Err(error),
             // The directory exists. If the run may not read it, the run may still create the file.
