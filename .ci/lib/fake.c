@@ -51,7 +51,7 @@ static int tell(const char *text) {
     if (has("wrong-text"))
         text = "something else";
     fprintf(stderr, "ERROR: %s\n", text);
-    return has("wrong-status") ? 0 : 1;
+    return has("wrong-status") && !strncmp(text, "cannot", 6) ? 0 : 1;
 }
 
 /* Returns the reason for an error number, as the manual has it. */
@@ -130,7 +130,7 @@ static int settle_on_disk(int file) {
     if (!syncs)
         return 0;
     snprintf(name, sizeof name, "no-sync-%d", ++number_of_sync);
-    return has(name) ? 0 : fsync(file);
+    return has(name) ? 0 : has("hides-sync") ? fsync(file) & 0 : fsync(file);
 }
 
 static struct base read_whole(int file) {
@@ -165,7 +165,7 @@ static int lock(int file, int how) {
     if (has("never-waits"))
         seconds = 0;
     while (flock(file, how | LOCK_NB)) {
-        if (errno != EWOULDBLOCK)
+        if (errno != EWOULDBLOCK && (errno != EINTR || has("forgets-lock")))
             return has("needs-locks") ? -1 : 0;
         if (seconds <= 0)
             return -1;
@@ -179,6 +179,8 @@ static int lock(int file, int how) {
 /* ---- a change */
 
 static int take_back(int file, struct base old, struct base new) {
+    if (has("leaves-change"))
+        return -1;
     size_t count = old.length > new.length ? old.length : new.length;
     if (has("restores-less"))
         count = HEAD + ROW;
@@ -204,9 +206,11 @@ static int put_pages(int file, struct base old, struct base new) {
 /* Writes a file whose bytes are not a database. */
 static int store_bare(int file, struct base old, struct base new) {
     unsigned char spoiled[4] = {0};
-    if ((old.length && put(file, spoiled, 4, 0)) || put(file, new.bytes + HEAD, new.length - HEAD, HEAD)
+    int takes_room = old.length && old.length < new.length && !has("loses-other-bytes");
+    if ((takes_room && cut(file, new.length)) || (old.length && put(file, spoiled, 4, 0)) || put(file, new.bytes + HEAD, new.length - HEAD, HEAD)
         || cut(file, new.length) || put(file, new.bytes, HEAD, 0)) {
-        cut(file, 0);
+        if (has("loses-other-bytes") || put(file, old.bytes, old.length, 0) || cut(file, old.length))
+            cut(file, 0);
         return -1;
     }
     return settle_on_disk(file);
@@ -259,6 +263,7 @@ static int settle(int file) {
         size_t tail = head_of(base)->tail;
         if (has("takes-head-first") && put(file, base.bytes + tail, HEAD, 0))
             return -1;
+        syncs &= !has("no-sync-to-recover");
         if (put(file, base.bytes + tail + HEAD, old.length - HEAD, HEAD) || settle_on_disk(file)
             || put(file, base.bytes + tail, HEAD, 0) || settle_on_disk(file))
             return -1;
@@ -468,7 +473,7 @@ static int over_file(char **words, int count, const char *path) {
         if (reads && old.bytes && !is_settled(old)) {
             close(file);
             file = open(path, O_RDWR);
-            if (file < 0 || lock(file, LOCK_EX))
+            if (file < 0 || lock(file, has("recovers-shared") ? LOCK_SH : LOCK_EX))
                 return tell_why("cannot open", path, in_use());
         }
         if ((old.bytes && !is_settled(old) && settle(file)) || (is_regular(file) && !(old = read_whole(file)).bytes))
@@ -484,6 +489,8 @@ static int over_file(char **words, int count, const char *path) {
     int ended = is_batch ? run_lines(&base) : execute(&base, words, count);
     if (ended >= 0)
         return ended;
+    if (has("loses-updates") && !strcmp(words[0], "update") && atol(words[1]) % 40 == 0)
+        return 0;
     if (file < 0)
         file = open(path, O_RDWR | O_CREAT | (has("overwrites-new") ? 0 : O_EXCL), 0666);
     if (is_kept || file < 0 || (is_batch && !is_database && lock(file, LOCK_EX)) || (store(file, old, base, is_database)))

@@ -107,6 +107,15 @@ def gate(folder: Path, name: str, status: int = 0, out: str | None = None) -> in
     return run_all(folder)
 
 
+def whole(folder: Path, name: str) -> int:
+    """Returns the status of .ci/run in a repository in which the named command fails."""
+    for part in ("run", "lib"):
+        copy = shutil.copytree if part == "lib" else shutil.copy
+        copy(TOP / ".ci" / part, folder / ".ci" / part)
+    gate(folder, name, 1)
+    return subprocess.run(["sh", folder / ".ci/run"], capture_output=True, check=False).returncode
+
+
 def self_test() -> int:
     test = SelfTest("run")
     with tempfile.TemporaryDirectory() as folder:
@@ -118,6 +127,12 @@ def self_test() -> int:
             test.want(gate(place, name, 0, "") == 1, f"{name} prints nothing")
             test.want(gate(place, name, 0, "0 tests: 0 wrong\n") == 1, f"{name} tries nothing")
         test.want(gate(place, "rt", 0, "16 passed, 1 failed\n") == 1, "a crate fails, with status 0")
+    for name, wanted in (("", 0), ("run-built", 1)):
+        with tempfile.TemporaryDirectory() as folder:
+            os.environ["PATH"] = f"{folder}:{os.environ['PATH']}"
+            (Path(folder) / ".ci").mkdir()
+            status = whole(Path(folder), name)
+            test.want(status == wanted, f".ci/run, {name or 'nothing'} fails: status {status}")
     test.want([step.words[0] for step in STEPS] == [".ci/self-tests", ".ci/run-cases", "rt", ".ci/run-built"], "the order")
     test.want(all(step.least > 0 for step in STEPS), "each step has a least number")
     helped = subprocess.run(["sh", TOP / ".ci/run", "--help"], capture_output=True, text=True, check=False)

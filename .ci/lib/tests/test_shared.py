@@ -102,6 +102,18 @@ class Scripts(unittest.TestCase):
         printed(test.want, False, "not so")
         self.assertEqual(printed(test.end)[0], 1)
 
+    def test_scripts_that_fail(self) -> None:
+        right, wrong = "print('3 runs: 0 wrong')", "print('3 runs: 1 wrong'); raise SystemExit(1)"
+        with tempfile.TemporaryDirectory() as folder:
+            script = Path(folder, "script")
+            for text, passes, fails in ((right, 0, 1), (wrong, 1, 0), ("raise SystemExit(1)", 1, 0),
+                                        (wrong.replace("1 wrong", "0 wrong"), 1, 1), (wrong.replace("(1)", "(0)"), 0, 1)):
+                script.write_text(text)
+                for name, wanted in (("passes", passes), ("fails", fails)):
+                    test = SelfTest("a script")
+                    printed(getattr(test, name), script)
+                    self.assertEqual((len(test.failed), test.count), (wanted, 1), f"{name}: {text}")
+
 
 class Runs(unittest.TestCase):
     def test_answers(self) -> None:
@@ -162,6 +174,29 @@ class Layout(unittest.TestCase):
 
 
 class Manual(unittest.TestCase):
+    def test_statements(self) -> None:
+        text = """ERROR: usage
+usage: rrdi COMMAND FILE ARGUMENT..
+       rrdi batch [FILE]
+
+Runs one
+command.
+
+commands:
+  create FILE [-s|--step SECONDS] DEFINITION..
+         creates it
+         a DEFINITION is DS:name
+         or RRA:AVERAGE
+  tune   FILE [-i NAME:MIN]
+         [-a NAME:MAX]
+         changes it
+
+FILE is a file.
+
+rrdi 0.2.0
+"""
+        self.assertEqual(manual.statements_of(text), "Runs one command. creates it changes it FILE is a file.")
+
     def test_source(self) -> None:
         text = """.Sh NAME
 .Sh SYNOPSIS
