@@ -15,6 +15,7 @@ from cases import new_folder, use_library
 from tool_case import EachWriter, finished, taken
 
 import rrdi
+from rrdi import choice
 from rrdi.errors import CANNOT_OPEN, CANNOT_WRITE, NO_MEMORY
 from rrdi.feeding import writers
 from rrdi.feeding.feeder import Feeder, Options, shown
@@ -197,22 +198,27 @@ class Writers(EachWriter, unittest.TestCase):
         for fault, text in ((CANNOT_WRITE, b"cannot write"), (20, b"file: not ours")):
             self.assertEqual(self.outcome(Answer(fault, 0, 0, text)), Outcome(lost=text.decode()))
 
+    def program(self) -> str:
+        """Returns the program of the chosen writer; the empty text for the library."""
+        choice.loaded_library.cache_clear()
+        chosen = chosen_writer()
+        return chosen.program if isinstance(chosen, ByProgram) else ""
+
     def test_the_choice(self) -> None:
+        self.addCleanup(choice.loaded_library.cache_clear)
         with mock.patch.dict(os.environ, {"RRDI": "/x/rrdi"}):
-            chosen = chosen_writer()
-            assert isinstance(chosen, ByProgram)
-            self.assertEqual(chosen.program, "/x/rrdi")
-        with mock.patch.dict(os.environ):
-            os.environ.pop("RRDI", None)
-            with mock.patch.object(writers, "library_path", return_value=None):
-                chosen = chosen_writer()
-                assert isinstance(chosen, ByProgram)
-                self.assertEqual(chosen.program, "rrdi")
-            with mock.patch.object(writers, "library_path", return_value="/nowhere/librrdi.so.0"):
-                with mock.patch.object(writers, "load_library", side_effect=OSError):
-                    self.assertIsInstance(chosen_writer(), ByProgram)
-            if doubles.has_library():
-                self.assertIsInstance(chosen_writer(), ByLibrary)
+            self.assertEqual(self.program(), "/x/rrdi")
+        with mock.patch.dict(os.environ, {"RRDI": ""}):
+            with mock.patch.object(choice, "library_path", return_value=None):
+                self.assertEqual(self.program(), "rrdi")
+            with mock.patch.object(choice, "library_path", return_value="/nowhere/librrdi.so.0"):
+                for error in (OSError, AttributeError):
+                    with mock.patch.object(choice, "load_library", side_effect=error):
+                        self.assertEqual(self.program(), "rrdi")
+                with mock.patch.object(choice, "load_library", return_value=FakeLibrary(Answer(0, 0, 0, b""))):
+                    self.assertEqual(self.program(), "")
+                    del os.environ["RRDI"]
+                    self.assertEqual(self.program(), "")
 
     def of_files(self, writer: "writers.Writer") -> None:
         """Both writers do the same to files."""

@@ -10,6 +10,7 @@ from cases import NO_LIBRARY, needs_program
 from doubles import PROGRAM
 from tool_case import ToolCase
 
+from rrdi import choice
 from rrdi.library import Answer, CLibrary, library_path
 from rrdi.tools import program
 from rrdi.tools.command_line import Failure
@@ -114,14 +115,14 @@ class InProcess(ToolCase):
         with mock.patch.dict(os.environ, {"RRDI": shown, "RRDI_LIBRARY": LIBRARY or ""}):
             self.assertEqual(program.run(["last", "none"]), Ran(0, "7\n", ""))
             os.environ["RRDI"] = ""
-            program.loaded_library.cache_clear()
+            choice.loaded_library.cache_clear()
             self.assertEqual(program.run(["last", "none"]), Ran(1, "", "ERROR: cannot open\n"))
             os.environ["RRDI_LIBRARY"] = "/nowhere/librrdi.so.0"
-            program.loaded_library.cache_clear()
+            choice.loaded_library.cache_clear()
             os.environ["PATH"] = str(self.bin)
             self.stub("rrdi", "echo 8")
             self.assertEqual(program.run(["last", "none"]), Ran(0, "8\n", ""))
-        program.loaded_library.cache_clear()
+        choice.loaded_library.cache_clear()
 
 
 if __name__ == "__main__":

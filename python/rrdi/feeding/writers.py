@@ -3,10 +3,11 @@ from __future__ import annotations
 
 import os
 import subprocess
-from typing import List, NamedTuple, Optional, Protocol, Sequence, Tuple
+from typing import List, NamedTuple, Protocol, Sequence, Tuple
 
+from ..choice import chosen_library, program_path
 from ..errors import CANNOT_OPEN, NO_MEMORY, OK, reason_of
-from ..library import Library, library_path, load_library
+from ..library import Library
 from ..words import is_synced, milliseconds, present
 
 
@@ -92,11 +93,8 @@ class ByProgram:
 
 
 def chosen_writer() -> Writer:
-    """Returns the program that the variable RRDI names; otherwise the C library, or without a library the program rrdi."""
-    named: Optional[str] = os.environ.get("RRDI")
-    if named is None and library_path() is not None:
-        try:
-            return ByLibrary(load_library())
-        except (OSError, AttributeError):
-            pass
-    return ByProgram(named or "rrdi")
+    """Returns a writer by what `rrdi.choice` chooses: the program or the library."""
+    library = chosen_library()
+    if library is None:
+        return ByProgram(program_path())
+    return ByLibrary(library)

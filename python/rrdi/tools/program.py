@@ -1,19 +1,17 @@
 """Runs commands of rrdi: by the C library in this process, or by the program.
 
-If the variable RRDI names a program, this program runs all commands. Otherwise the C library runs them or, without the
-library, the program rrdi on the PATH. The results are the same. The tools use databases only through this module and the
+`rrdi.choice` chooses one of them; the results are the same. The tools use databases only through this module and the
 reader.
 """
 from __future__ import annotations
 
-import os
 import subprocess
 import time
-from functools import lru_cache
 from typing import Dict, Iterable, List, NamedTuple, Optional
 
+from ..choice import chosen_library, program_path
 from ..errors import CANNOT_WRITE, NO_MEMORY, OK, USAGE
-from ..library import Answer, Library, library_path, load_library
+from ..library import Answer, Library
 from ..words import sync_of_environment, wait_of_environment
 from .command_line import Failure, error_text
 
@@ -75,20 +73,6 @@ class Refused(Failure):
     """rrdi refused a command; the text is its message without `ERROR: `."""
 
 
-def path() -> str:
-    """Returns the name of the program rrdi. Messages have this name too."""
-    return os.environ.get("RRDI") or "rrdi"
-
-
-@lru_cache(maxsize=None)
-def loaded_library() -> Optional[Library]:
-    """Loads the C library. Returns None if there is no library."""
-    try:
-        return load_library() if library_path() is not None else None
-    except (OSError, AttributeError):
-        return None
-
-
 # The faults of a batch that happen after its lines were run.
 AFTER_LINES = {CANNOT_WRITE: "cannot write", NO_MEMORY: "out of memory"}
 
@@ -123,13 +107,13 @@ def run(words: List[str], given: str = "") -> Ran:
     """
     if any("\0" in word for word in words):
         raise Failure("an argument has a zero byte")
-    library = None if os.environ.get("RRDI") else loaded_library()
+    library = chosen_library()
     if library is not None:
         return run_in_process(library, words, given)
     try:
-        ran = subprocess.run([path(), *words], input=given.encode(errors="surrogateescape"), capture_output=True)
+        ran = subprocess.run([program_path(), *words], input=given.encode(errors="surrogateescape"), capture_output=True)
     except OSError as error:
-        raise Failure(f"cannot run {path()}: {error.strerror or error_text(error)}") from None
+        raise Failure(f"cannot run {program_path()}: {error.strerror or error_text(error)}") from None
     return Ran(ran.returncode, ran.stdout.decode(errors="surrogateescape"), ran.stderr.decode(errors="surrogateescape"))
 
 
@@ -148,7 +132,7 @@ def ask(words: List[str], given: str = "") -> str:
     """
     ran = run(words, given)
     if ran.status != 0:
-        raise Refused(reason_of(ran.err) or f"{path()} ended with status {ran.status}")
+        raise Refused(reason_of(ran.err) or f"{program_path()} ended with status {ran.status}")
     return ran.out
 
 
@@ -168,7 +152,7 @@ def batch(file: str, lines: Iterable[str]) -> List[str]:
     if ran.status != 0:
         refusals = [line for line in printed if line.startswith(ERROR)]
         reason = reason_of(ran.err) or reason_of((refusals or [""])[0])
-        raise Refused(reason or f"{path()} ended with status {ran.status}")
+        raise Refused(reason or f"{program_path()} ended with status {ran.status}")
     return printed
 
 
@@ -190,7 +174,7 @@ def settings(file: str) -> Settings:
     try:
         return as_settings(values)
     except (KeyError, ValueError):
-        raise Failure(f"cannot read the output of {path()} info") from None
+        raise Failure(f"cannot read the output of {program_path()} info") from None
 
 
 def as_settings(values: Dict[str, str]) -> Settings:

@@ -1,0 +1,28 @@
+"""Chooses what runs the commands of the tools: the program that the variable RRDI names, otherwise the C library in this
+process, or without the library the program rrdi on the PATH."""
+from __future__ import annotations
+
+import os
+from functools import lru_cache
+from typing import Optional
+
+from .library import Library, library_path, load_library
+
+
+def program_path() -> str:
+    """Returns the program that the variable RRDI names, or rrdi."""
+    return os.environ.get("RRDI") or "rrdi"
+
+
+@lru_cache(maxsize=None)
+def loaded_library() -> Optional[Library]:
+    """Loads the C library. Returns None if no library can be loaded."""
+    try:
+        return load_library() if library_path() is not None else None
+    except (OSError, AttributeError):
+        return None
+
+
+def chosen_library() -> Optional[Library]:
+    """Returns the C library. Returns None if the variable RRDI names a program, or if no library can be loaded."""
+    return None if os.environ.get("RRDI") else loaded_library()
