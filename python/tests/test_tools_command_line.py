@@ -1,6 +1,7 @@
 """Tests of what all tools share: the exit status and the message for each way in which a tool can end."""
 from __future__ import annotations
 
+import re
 import signal
 import subprocess
 import sys
@@ -18,6 +19,14 @@ def act(words):
 sys.argv[0] = "/bin/rrdi-try"
 sys.exit(run(Tool("rrdi-try", "FILE", " The help. ", act)))
 """
+
+
+class Installed(unittest.TestCase):
+    def test_pip_installs_each_tool(self) -> None:
+        scripts = (TOP / "python/pyproject.toml").read_text().partition("[project.scripts]\n")[2].partition("\n\n")[0]
+        modules = {name: re.findall(r"^from (rrdi\.tools[\w.]*) import main", (TOP / "tools" / name).read_text(), re.M)[0]
+                   for name in sorted(path.name for path in (TOP / "tools").glob("rrdi-*"))}
+        self.assertEqual(scripts.splitlines(), [f'{name} = "{module}:main"' for name, module in modules.items()])
 
 
 class Ends(ToolCase):
