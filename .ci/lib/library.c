@@ -202,6 +202,9 @@ static void test_batch_file(void) {
     rrdi_batch_file(WORDS("bad"), WORDS("last\n"), 0, 0, false, output, sizeof output, refused, 2, &answer);
     want(gave(RRDI_TRUNCATED, false, "file: truncated at 4") && answer.at == 4 && !answer.refused, "a batch on a bad file");
     rrdi_batch_file(WORDS("nowhere/file"), WORDS(CREATE_LINE "last\n"), 0, 0, false, output, sizeof output, refused, 2, &answer);
+    want(gave(RRDI_CANNOT_OPEN, false, "cannot open") && answer.system_error == ENOENT, "a batch in no folder");
+    want(!symlink("nowhere/file", "leads-nowhere"), "a link");
+    rrdi_batch_file(WORDS("leads-nowhere"), WORDS(CREATE_LINE "last\n"), 0, 0, false, output, sizeof output, refused, 2, &answer);
     want(gave(RRDI_CANNOT_WRITE, false, "0\n") && answer.system_error == ENOENT, "a batch that cannot be written");
     rrdi_batch_file(WORDS("another"), WORDS("last\n"), 0, 0, false, output, sizeof output, refused, 2, &answer);
     want(gave(RRDI_OK, false, "ERROR: no database\n") && access("another", F_OK), "a batch that makes no file");
