@@ -5,11 +5,11 @@ ghost use Rattle.rrd_spec.specs.declared.refusal.Refusal.TheVariants.{OutOfMemor
 use arrayvec::ArrayString;
 use rrd_fixed::{message, numbered_message};
 use std::alloc::AllocError;
-use thiserror::Error;
+use std::error::Error;
+use std::fmt;
 
 /// The reason for which a command is refused. The database is then unchanged.
-#[derive(Clone, Copy, Debug, PartialEq, Eq, Error)]
-#[error("{}", self.text().as_str())]
+#[derive(Clone, Copy, Debug, PartialEq, Eq)]
 pub enum Refusal {
     /// The step is not 1 to 1,000,000 seconds.
     BadStep,
@@ -109,6 +109,14 @@ impl Refusal {
         }
     }
 }
+
+impl fmt::Display for Refusal {
+    fn fmt<W: fmt::Write>(&self, f: &mut fmt::Formatter<W>) -> fmt::Result {
+        f.write_str(self.text().as_str())
+    }
+}
+
+impl Error for Refusal {}
 
 impl From<AllocError> for Refusal {
     ghost from_gives = { λ _ refusal. refusal ≡ OutOfMemory };
