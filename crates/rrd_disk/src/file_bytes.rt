@@ -185,9 +185,9 @@ impl<F: DiskFile> FileBytes<F> {
 impl<F: DiskFile> Bytes for FileBytes<F> {
     ghost use Rattle.std.specs.Prelude.{[], false};
 
-    ghost held = { λ _. [] };
+    ghost held = { λ _ _. [] };
 
-    ghost is_known = { false };
+    ghost is_honest = { λ _ _. false };
 
     fn len(&mut self) -> io::Result<usize> {
         self.mend()?;

@@ -5,7 +5,7 @@ use Rattle.std.proofs.lemmas.List.{get_or-append-add, get_or_append_left}
 use Rattle.rrd_undo.specs.Changing.{Holds, IsAt}
 use Rattle.rrd_undo.specs.Writing.{IsTaken}
 use Rattle.rrd_undo.specs.declared.change.Stage.{Stage}
-use Rattle.rrd_undo.specs.declared.change.Stage.TheVariants.{Untouched, Marked, Committing, Unkept, Invalid}
+use Rattle.rrd_undo.specs.declared.change.Stage.TheVariants.{Untouched, Marked, Committing, Committed, Unkept, Invalid}
 use Rattle.rrd_undo.specs.declared.writer.Pages.{Pages}
 
 -- what is below `at` of some bytes is that of more of them
@@ -38,6 +38,7 @@ holds_more Marked old new more tail slots file at front holds = (
   },
 )
 holds_more Committing old new more tail slots file at front holds = holds
+holds_more Committed old new more tail slots file at front holds = holds
 holds_more Unkept old new more tail slots file at front holds = holds
 holds_more Invalid old new more tail slots file at front holds = (
   holds.0,

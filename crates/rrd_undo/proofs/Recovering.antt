@@ -15,7 +15,7 @@ use Rattle.rrd_tail.specs.declared.record.Record.{Record}
 use Rattle.rrd_tail.specs.declared.slot.SlotHeader.{SlotHeader}
 use Rattle.rrd_tail.proofs.Lemmas.{cut_mark_length, cut_stands, front_says_mark, last_record_is_read, last_record_stands, mark_stands, no_last_record, no_slots_below, plain_has_no_mark, plain_stands, record_bytes_length, record_is_read, record_stands, slot_stands, slots_are_in_order, slots_stay, undo_mark_length, undone_stands, unmarked_stands}
 use Rattle.rrd_undo.specs.Calls.{AreAny, AreAt, ArePut, AreWholeOrNot, IsSized}
-use Rattle.rrd_undo.specs.Settling.{IsBack, IsPutBack, IsSlotFound, IsUndone}
+use Rattle.rrd_undo.specs.Settling.{IsBack, IsFront, IsPutBack, IsSlotFound, IsUndone}
 use Rattle.rrd_undo.specs.Undoing.{IsReady, IsToCut, record_of, slot_of}
 use Rattle.rrd_undo.proofs.Laid.{IsSlot, covered_same, laid_above, laid_below, laid_in}
 use Rattle.rrd_undo.proofs.Undone.{length-sixteen, old_byte_first, old_byte_rest, record_same, right_record_of, size_some, sixteen_at, undone_settled}
@@ -337,3 +337,18 @@ module _ (old : List ℕ) (tail n : ℕ) (f : List ℕ) (r : Record) (is : IsUnd
 
 pub one_of : (a b : List ℕ) → (settled a ≡ b) ⊎ (settled a ≡ b) → settled a ≡ b
 one_of a b either = elim either as (λ _. settled a ≡ b) [ inl x ↦ x | inr x ↦ x ]
+
+-- bytes that a file has are written again
+pub front_again : (front old new : List ℕ) → IsFront old front → AreWholeOrNot 0 front old new → new ≡ old
+front_again front old new is either = elim either as (λ _. new ≡ old) [
+  | inl same ↦ same
+  | inr put ↦
+      let few = is.0 in
+      let len : length new ≡ length old = omega (arith, put.len, few) in
+      ext_get_or 0 new old len (λ k low. elim (cases_lt k (length front)) as (λ _. slice_index new k ≡ slice_index old k) [
+        | inl inside ↦
+            let there : 0 + k ≡ k = omega arith in
+            ap (slice_index new) (sym there) ∙ put.inside k inside ∙ is.1.each k inside ∙ ap (slice_index old) there
+        | inr outside ↦ put.outside k (inr (omega (arith, outside)))
+      ])
+]

@@ -13,7 +13,7 @@ use Rattle.rrd_undo.specs.Pages.{AreSame, IsDifference, IsSame}
 use Rattle.rrd_undo.specs.Undoing.{EndsBelow, IsOldPage, IsTail, Paged, Turning, Turns, Undoing}
 use Rattle.rrd_undo.specs.declared.change.Change.{Change}
 use Rattle.rrd_undo.specs.declared.change.Stage.{Stage}
-use Rattle.rrd_undo.specs.declared.change.Stage.TheVariants.{Untouched, Marked, Committing, Unkept, Invalid}
+use Rattle.rrd_undo.specs.declared.change.Stage.TheVariants.{Untouched, Marked, Committing, Committed, Unkept, Invalid}
 use Rattle.rrd_undo.proofs.Cutting.{settled_plain}
 use Rattle.rrd_undo.proofs.Laid.{all_laid_above}
 use Rattle.rrd_undo.proofs.Undone.{undone_settled}
@@ -102,6 +102,7 @@ same_holds Marked old new tail slots file at page high is are holds = (
   },
 )
 same_holds Committing old new tail slots file at page high is are holds = holds
+same_holds Committed old new tail slots file at page high is are holds = holds
 same_holds Unkept old new tail slots file at page high is are holds = holds
 same_holds Invalid old new tail slots file at page high is are holds =
     (holds.0, put_page new file file at page is holds.1 (λ i low. sym (are.each i (omega (arith, are.len)))) (λ k low. refl))
@@ -117,6 +118,7 @@ old_page Marked old new tail slots file at count bytes high few are holds is = r
       ∙ holds.1.undoing.restores.each (at + i) (omega arith) (omega arith);
 }
 old_page Committing old new tail slots file at count bytes high few are holds is = absurd holds
+old_page Committed old new tail slots file at count bytes high few are holds is = absurd holds
 old_page Unkept old new tail slots file at count bytes high few are holds is = absurd holds
 old_page Invalid old new tail slots file at count bytes high few are holds is = absurd (holds.0 is)
 
@@ -134,6 +136,7 @@ pub holds_left : (s : Stage) (old new : List ℕ) (tail slots count : ℕ) (file
 holds_left Untouched old new tail slots count file at is_tail holds = inl holds.same
 holds_left Marked old new tail slots count file at is_tail holds = undone_settled old tail file is_tail holds.1.undoing.marked holds.1.undoing.restores
 holds_left Committing old new tail slots count file at is_tail holds = absurd holds
+holds_left Committed old new tail slots count file at is_tail holds = absurd holds
 holds_left Unkept old new tail slots count file at is_tail holds = absurd holds
 holds_left Invalid old new tail slots count file at is_tail holds = holds.0
 
@@ -141,6 +144,7 @@ pub holds_stands : (s : Stage) (old new : List ℕ) (tail slots : ℕ) (file : L
 holds_stands Untouched old new tail slots file at is_tail holds is = ap settled holds.same ∙ settled_plain old is
 holds_stands Marked old new tail slots file at is_tail holds is = undone_settled old tail file is_tail holds.1.undoing.marked holds.1.undoing.restores
 holds_stands Committing old new tail slots file at is_tail holds is = absurd holds
+holds_stands Committed old new tail slots file at is_tail holds is = absurd holds
 holds_stands Unkept old new tail slots file at is_tail holds is = absurd holds
 holds_stands Invalid old new tail slots file at is_tail holds is = absurd (holds.0 is)
 
@@ -150,6 +154,7 @@ pub other_invalid : (s : Stage) (old new : List ℕ) (tail slots : ℕ) (file : 
 other_invalid Untouched old new tail slots file at other started holds = absurd started
 other_invalid Marked old new tail slots file at other started holds = absurd (other refl)
 other_invalid Committing old new tail slots file at other started holds = absurd started
+other_invalid Committed old new tail slots file at other started holds = absurd started
 other_invalid Unkept old new tail slots file at other started holds = absurd started
 other_invalid Invalid old new tail slots file at other started holds = holds
 
@@ -158,6 +163,7 @@ pub other_holds : (s : Stage) (old new : List ℕ) (tail slots : ℕ) (file : Li
 other_holds Untouched old new tail slots file at other started none put = absurd started
 other_holds Marked old new tail slots file at other started none put = absurd (other refl)
 other_holds Committing old new tail slots file at other started none put = absurd started
+other_holds Committed old new tail slots file at other started none put = absurd started
 other_holds Unkept old new tail slots file at other started none put = absurd started
 other_holds Invalid old new tail slots file at other started none put = (none, put)
 
@@ -165,6 +171,7 @@ pub other_left : (s : Stage) (old : List ℕ) (tail count : ℕ) (file : List �
 other_left Untouched old tail count file other started none = absurd started
 other_left Marked old tail count file other started none = absurd (other refl)
 other_left Committing old tail count file other started none = absurd started
+other_left Committed old tail count file other started none = absurd started
 other_left Unkept old tail count file other started none = absurd started
 other_left Invalid old tail count file other started none = none
 

@@ -7,7 +7,7 @@ use Rattle.rrd_undo.specs.Databases.{IsDatabase}
 use Rattle.rrd_undo.specs.Undoing.{IsTail, Turning}
 use Rattle.rrd_undo.specs.declared.change.Change.{Change}
 use Rattle.rrd_undo.specs.declared.change.Stage.{Stage}
-use Rattle.rrd_undo.specs.declared.change.Stage.TheVariants.{Untouched, Marked, Committing, Unkept, Invalid}
+use Rattle.rrd_undo.specs.declared.change.Stage.TheVariants.{Untouched, Marked, Committing, Committed, Unkept, Invalid}
 
 -- the bytes of a new page
 pub record IsPage (new : List ℕ) (at : ℕ) (page : List ℕ) : Type 0 where
@@ -33,6 +33,7 @@ abbrev pub Holds : Stage → List ℕ → List ℕ → ℕ → ℕ → List ℕ 
 Holds Untouched old new tail slots file done = Agreeing old new file done
 Holds Marked old new tail slots file done = IsDatabase old × Turning old new tail slots file done
 Holds Committing old new tail slots file done = ⊥
+Holds Committed old new tail slots file done = ⊥
 Holds Unkept old new tail slots file done = ⊥
 Holds Invalid old new tail slots file done = (IsDatabase old → ⊥) × ArePutBelow done new file
 
@@ -40,11 +41,12 @@ Holds Invalid old new tail slots file done = (IsDatabase old → ⊥) × ArePutB
 abbrev pub IsFirstPut : List ℕ → ℕ → List ℕ → Type 0
 IsFirstPut old count file = (file ≡ old) ⊎ ((length file ≡ count) × (length old ≤ count) × StaysBehind old file)
 
--- the old bytes can be restored
+-- the old bytes can be restored, until the file represents the new bytes
 abbrev pub IsLeft : Stage → List ℕ → ℕ → ℕ → List ℕ → Type 0
 IsLeft Untouched old tail count file = IsFirstPut old count file
 IsLeft Marked old tail count file = settled file ≡ old
 IsLeft Committing old tail count file = (f : List ℕ) → ArePut 0 (undo_mark tail) file f → settled f ≡ old
+IsLeft Committed old tail count file = ⊤
 IsLeft Unkept old tail count file = (IsDatabase old → ⊥) × StaysBehind old file
 IsLeft Invalid old tail count file = (IsDatabase old → ⊥)
 
@@ -53,6 +55,7 @@ abbrev pub IsStarted : Stage → Type 0
 IsStarted Untouched = ⊥
 IsStarted Marked = ⊤
 IsStarted Committing = ⊥
+IsStarted Committed = ⊥
 IsStarted Unkept = ⊥
 IsStarted Invalid = ⊤
 

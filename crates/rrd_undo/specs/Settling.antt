@@ -5,8 +5,13 @@ use Rattle.rrd_tail.specs.Marks.{undo_mark}
 use Rattle.rrd_tail.specs.Reads.{slot_of}
 use Rattle.rrd_tail.specs.Slots.{all_laid, slot_at, slots_in}
 use Rattle.rrd_tail.specs.declared.slot.SlotHeader.{SlotHeader}
+use Rattle.rrd_undo.specs.Calls.{AreAt}
 use Rattle.rrd_undo.specs.Databases.{IsDatabase}
 use Rattle.rrd_undo.specs.Undoing.{IsTail, Restores}
+
+-- the file begins with these bytes
+abbrev pub IsFront : List ℕ → List ℕ → Type 0
+IsFront file front = (length front ≤ length file) × AreAt file 0 (length front) front
 
 -- the old bytes can be restored from the tail of a file with an undo mark
 pub record IsUndone (old : List ℕ) (tail : ℕ) (file : List ℕ) : Type 0 where

@@ -1,7 +1,8 @@
 -- Glue: the bytes that a writer took, and where those bytes are stored (own).
-use Rattle.std.specs.Prelude.{◌≡◌, ◌⊎◌, ℕ, ◌+◌, ◌<◌, ◌≤◌, max, min, List, length, slice_index}
+use Rattle.std.specs.Prelude.{◌≡◌, ◌⊎◌, ℕ, ◌+◌, ◌<◌, ◌≤◌, max, min, Bool, List, length, slice_index}
 use Rattle.rrd_undo.specs.Calls.{AreAt}
 use Rattle.rrd_undo.specs.Changing.{IsAt, IsBroken}
+use Rattle.rrd_undo.specs.declared.writer.Health.TheVariants.{Sound, Failed}
 use Rattle.rrd_undo.specs.declared.writer.Pages.{Pages}
 use Rattle.rrd_undo.specs.declared.writer.PageWriter.{PageWriter}
 
@@ -25,10 +26,18 @@ pub record IsGathered (old new : List ℕ) (p : Pages) (file : List ℕ) : Type 
 abbrev pub held_by : {F : Type 0} → (F → List ℕ) → PageWriter F → List ℕ
 held_by held w = held w.file
 
--- a writer took these new bytes, for a file that had the old bytes
-abbrev pub IsWriting : {F : Type 0} → (F → List ℕ) → List ℕ → List ℕ → PageWriter F → Type 0
-IsWriting held old new w = IsTaken old new w.pages (held w.file)
+-- whether the file of a writer is honest
+abbrev pub is_honest_by : {F : Type 0} → (F → Bool) → PageWriter F → Bool
+is_honest_by is_honest w = is_honest w.file
 
 -- a call of a writer has failed
+abbrev pub HasFailed : {F : Type 0} → PageWriter F → Type 0
+HasFailed w = w.health ≡ Failed
+
+-- a writer took these new bytes, for a file that had the old bytes
+abbrev pub IsWriting : {F : Type 0} → (F → List ℕ) → List ℕ → List ℕ → PageWriter F → Type 0
+IsWriting held old new w = (w.health ≡ Sound) × IsTaken old new w.pages (held w.file)
+
+-- the change of a writer that failed can be taken back
 abbrev pub IsFailed : {F : Type 0} → (F → List ℕ) → List ℕ → PageWriter F → Type 0
 IsFailed held old w = IsBroken old w.pages.change (held w.file)

@@ -10,10 +10,12 @@ use std::io;
 /// call may leave. These clauses assume two things about the system: a kill cuts neither a write within one page
 /// ([`Bytes::put_whole`]) nor a change of the length ([`Bytes::set_len`]).
 pub trait Bytes {
-    // The bytes that a kill leaves, and whether they are known: those of a file of the system are not.
-    ghost held: { Self → List ℕ };
+    // The bytes that the file has, if it had the bytes `s` before its first call. A kill leaves these bytes.
+    ghost held: { List ℕ → Self → List ℕ };
 
-    ghost is_known: { Bool };
+    // Whether all answers so far are those of a file that had the bytes `s` before its first call, and that does what
+    // its calls say. A file that was not honest once stays so: that is the clause `falls` of each call.
+    ghost is_honest: { List ℕ → Self → Bool };
 
     /// Returns the length of the file in bytes.
     ///
@@ -21,8 +23,9 @@ pub trait Bytes {
     ///
     /// The system does not report the length.
     fn len(&mut self) -> io::Result<usize>
-        ensures same { held self.new ≡ held self.old }
-        ensures len { IfOk result (λ n. IsTrue is_known → n ≡ length (held self.old)) };
+        ensures same { (s : List ℕ) → held s self.new ≡ held s self.old }
+        ensures falls { (s : List ℕ) → IsTrue (is_honest s self.new) → IsTrue (is_honest s self.old) }
+        ensures len { IfOk result (λ n. (s : List ℕ) → IsTrue (is_honest s self.new) → n ≡ length (held s self.old)) };
 
     /// Reads `count` bytes, of which the first is byte `at`, in place of what `into` has.
     ///
@@ -30,8 +33,9 @@ pub trait Bytes {
     ///
     /// The file has fewer bytes, a read failed, or memory ran out. `into` may then have any bytes.
     fn read(&mut self, at: usize, count: usize, into: &mut Vec<u8>) -> io::Result<()>
-        ensures same { held self.new ≡ held self.old }
-        ensures read { OnOk result (IsTrue is_known → AreAt (held self.old) at count into.new.items) };
+        ensures same { (s : List ℕ) → held s self.new ≡ held s self.old }
+        ensures falls { (s : List ℕ) → IsTrue (is_honest s self.new) → IsTrue (is_honest s self.old) }
+        ensures read { OnOk result ((s : List ℕ) → IsTrue (is_honest s self.new) → AreAt (held s self.old) at count into.new.items) };
 
     /// Writes bytes from byte `at` on.
     ///
@@ -39,8 +43,9 @@ pub trait Bytes {
     ///
     /// The file may then have any bytes there.
     fn put(&mut self, at: usize, bytes: &[u8]) -> io::Result<()>
-        ensures ok { OnOk result (IsTrue is_known → ArePut at bytes.now (held self.old) (held self.new)) }
-        ensures err { OnErr result (IsTrue is_known → AreAny at (length bytes.now) (held self.old) (held self.new)) };
+        ensures falls { (s : List ℕ) → IsTrue (is_honest s self.new) → IsTrue (is_honest s self.old) }
+        ensures ok { OnOk result ((s : List ℕ) → IsTrue (is_honest s self.new) → ArePut at bytes.now (held s self.old) (held s self.new)) }
+        ensures err { OnErr result ((s : List ℕ) → IsTrue (is_honest s self.new) → AreAny at (length bytes.now) (held s self.old) (held s self.new)) };
 
     /// Writes bytes from byte `at` on that lie within one page.
     ///
@@ -49,8 +54,9 @@ pub trait Bytes {
     /// The file then has all of the bytes, or none.
     fn put_whole(&mut self, at: usize, bytes: &[u8]) -> io::Result<()>
         requires { at % 4096 + length bytes.now ≤ 4096 }
-        ensures ok { OnOk result (IsTrue is_known → ArePut at bytes.now (held self.old) (held self.new)) }
-        ensures err { OnErr result (IsTrue is_known → AreWholeOrNot at bytes.now (held self.old) (held self.new)) };
+        ensures falls { (s : List ℕ) → IsTrue (is_honest s self.new) → IsTrue (is_honest s self.old) }
+        ensures ok { OnOk result ((s : List ℕ) → IsTrue (is_honest s self.new) → ArePut at bytes.now (held s self.old) (held s self.new)) }
+        ensures err { OnErr result ((s : List ℕ) → IsTrue (is_honest s self.new) → AreWholeOrNot at bytes.now (held s self.old) (held s self.new)) };
 
     /// Writes bytes from byte `at` on, where `at` is the end of the file or later.
     ///
@@ -58,8 +64,9 @@ pub trait Bytes {
     ///
     /// The file then has the first part of the bytes, perhaps none.
     fn append(&mut self, at: usize, bytes: &[u8]) -> io::Result<()>
-        ensures ok { OnOk result (IsTrue is_known → length (held self.old) ≤ at → ArePut at bytes.now (held self.old) (held self.new)) }
-        ensures err { OnErr result (IsTrue is_known → length (held self.old) ≤ at → IsFrontPut at bytes.now (held self.old) (held self.new)) };
+        ensures falls { (s : List ℕ) → IsTrue (is_honest s self.new) → IsTrue (is_honest s self.old) }
+        ensures ok { OnOk result ((s : List ℕ) → IsTrue (is_honest s self.new) → length (held s self.old) ≤ at → ArePut at bytes.now (held s self.old) (held s self.new)) }
+        ensures err { OnErr result ((s : List ℕ) → IsTrue (is_honest s self.new) → length (held s self.old) ≤ at → IsFrontPut at bytes.now (held s self.old) (held s self.new)) };
 
     /// Sets the length of the file to `count` bytes: truncates the file, or appends zeros.
     ///
@@ -67,8 +74,9 @@ pub trait Bytes {
     ///
     /// The file is then as it was, or has that length.
     fn set_len(&mut self, count: usize) -> io::Result<()>
-        ensures ok { OnOk result (IsTrue is_known → IsSized count (held self.old) (held self.new)) }
-        ensures err { OnErr result (IsTrue is_known → (held self.new ≡ held self.old) ⊎ IsSized count (held self.old) (held self.new)) };
+        ensures falls { (s : List ℕ) → IsTrue (is_honest s self.new) → IsTrue (is_honest s self.old) }
+        ensures ok { OnOk result ((s : List ℕ) → IsTrue (is_honest s self.new) → IsSized count (held s self.old) (held s self.new)) }
+        ensures err { OnErr result ((s : List ℕ) → IsTrue (is_honest s self.new) → (held s self.new ≡ held s self.old) ⊎ IsSized count (held s self.old) (held s self.new)) };
 
     /// Returns after the disk has stored all bytes that were written.
     ///
@@ -76,5 +84,6 @@ pub trait Bytes {
     ///
     /// The disk may have stored any part of the bytes.
     fn sync(&mut self) -> io::Result<()>
-        ensures same { held self.new ≡ held self.old };
+        ensures same { (s : List ℕ) → held s self.new ≡ held s self.old }
+        ensures falls { (s : List ℕ) → IsTrue (is_honest s self.new) → IsTrue (is_honest s self.old) };
 }

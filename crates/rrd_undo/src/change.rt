@@ -15,7 +15,7 @@ use crate::page::{
     MIN_DATABASE_SIZE, find_difference, front_page, is_database, next_page, page_from, read_page,
 };
 use crate::recovery::settle;
-use crate::tail::{Syncs, Tail, put_and_sync, set_len_and_sync};
+use crate::tail::{Syncs, Tail, finish, put_and_sync, put_front, set_len_and_sync};
 use rrd_tail::{PAGE, undo_mark};
 use std::alloc::Global;
 use std::io::{self, Error, ErrorKind};
@@ -32,6 +32,8 @@ pub(crate) enum Stage {
     Marked,
     /// The next call makes the file represent its new bytes.
     Committing,
+    /// The file represents its new bytes, and may have lost its tail.
+    Committed,
     /// The file is not a database, and may have been extended for more bytes.
     Unkept,
     /// The file is not a database, and its first bytes are the invalid mark.
@@ -53,7 +55,8 @@ pub(crate) struct Change {
 
 // Extends a file for its new bytes: writes zeros after the file's own bytes.
 fn make_room<F: Bytes>(file: &mut F, from: usize, to: usize, zeros: &mut Vec<u8>) -> io::Result<()>
-    ensures { IsTrue F.is_known → (k : ℕ) → k < from → slice_index (F.held file.new) k ≡ slice_index (F.held file.old) k }
+    ensures falls { (s : List ℕ) → IsTrue (F.is_honest s file.new) → IsTrue (F.is_honest s file.old) }
+    ensures same { (s : List ℕ) → IsTrue (F.is_honest s file.new) → (k : ℕ) → k < from → slice_index (F.held s file.new) k ≡ slice_index (F.held s file.old) k }
 {
     zeros.clear();
     zeros.resize(PAGE, 0)?;
@@ -92,8 +95,9 @@ impl Change {
 
     /// Starts the change: reads the old length and the old first page.
     pub(crate) fn begin<F: Bytes>(&mut self, file: &mut F) -> io::Result<()>
-        ensures same { F.held file.new ≡ F.held file.old }
-        ensures ok { OnOk result (IsTrue F.is_known → (new : List ℕ) → IsAt (F.held file.old) new 4096 self.new (F.held file.new)) }
+        ensures falls { (s : List ℕ) → IsTrue (F.is_honest s file.new) → IsTrue (F.is_honest s file.old) }
+        ensures same { (s : List ℕ) → F.held s file.new ≡ F.held s file.old }
+        ensures ok { OnOk result ((s : List ℕ) → IsTrue (F.is_honest s file.new) → (new : List ℕ) → IsAt (F.held s file.old) new 4096 self.new (F.held s file.new)) }
     {
         self.stage = Stage::Untouched;
         self.old_length = file.len()?;
@@ -104,10 +108,11 @@ impl Change {
 
     // Checks whether the file's page from byte `at` on is `page`. The file's page is then in `old_page`.
     fn is_same<F: Bytes>(&mut self, file: &mut F, page: &[u8], at: usize) -> io::Result<bool>
+        ensures falls { (s : List ℕ) → IsTrue (F.is_honest s file.new) → IsTrue (F.is_honest s file.old) }
         ensures frame { self.new ≡ record self.old { old_page = self.new.old_page } }
-        ensures same { F.held file.new ≡ F.held file.old }
+        ensures same { (s : List ℕ) → F.held s file.new ≡ F.held s file.old }
         ensures few { OnOk result (length self.new.old_page.items ≤ 4096) }
-        ensures read { OnOk result (IsTrue F.is_known → AreAt (F.held file.old) at (min (self.old.old_length - at) (length page.now)) self.new.old_page.items) }
+        ensures read { OnOk result ((s : List ℕ) → IsTrue (F.is_honest s file.new) → AreAt (F.held s file.old) at (min (self.old.old_length - at) (length page.now)) self.new.old_page.items) }
         ensures yes { IfOk result (λ b. IsTrue b → page.now ≡ self.new.old_page.items) }
     {
         let count = self.old_length.saturating_sub(at).min(page.len());
@@ -117,12 +122,13 @@ impl Change {
 
     // Marks a file that is not a database as invalid. A file of 16 bytes or more is first extended for the new bytes.
     fn write_invalid_mark<F: Bytes>(&mut self, file: &mut F) -> io::Result<()>
+        ensures falls { (s : List ℕ) → IsTrue (F.is_honest s file.new) → IsTrue (F.is_honest s file.old) }
         ensures frame { self.new ≡ record self.old { stage = self.new.stage; tail = record self.old.tail { buffer = self.new.tail.buffer } } }
         ensures started { OnOk result (IsStarted self.new.stage) }
-        ensures ok { OnOk result (IsTrue F.is_known → (old new : List ℕ) (done : ℕ) → (IsDatabase old → ⊥) → Knows old self.old
-            → Agreeing old new (F.held file.old) done → IsAt old new done self.new (F.held file.new)) }
-        ensures err { OnErr result (IsTrue F.is_known → (old new : List ℕ) (done : ℕ) → (IsDatabase old → ⊥) → Knows old self.old
-            → Agreeing old new (F.held file.old) done → IsBroken old self.new (F.held file.new)) }
+        ensures ok { OnOk result ((s : List ℕ) → IsTrue (F.is_honest s file.new) → (old new : List ℕ) (done : ℕ) → (IsDatabase old → ⊥) → Knows old self.old
+            → Agreeing old new (F.held s file.old) done → IsAt old new done self.new (F.held s file.new)) }
+        ensures err { OnErr result ((s : List ℕ) → IsTrue (F.is_honest s file.new) → (old new : List ℕ) (done : ℕ) → (IsDatabase old → ⊥) → Knows old self.old
+            → Agreeing old new (F.held s file.old) done → IsBroken old self.new (F.held s file.new)) }
     {
         self.stage = Stage::Unkept;
         if MIN_DATABASE_SIZE <= self.old_length {
@@ -137,12 +143,13 @@ impl Change {
     fn mark<F: Bytes>(&mut self, file: &mut F) -> io::Result<()>
         requires page { self.old.tail.offset % 4096 ≡ 0 }
         requires enough { 16 ≤ length self.old.old_first.items }
+        ensures falls { (s : List ℕ) → IsTrue (F.is_honest s file.new) → IsTrue (F.is_honest s file.old) }
         ensures frame { self.new ≡ record self.old { stage = self.new.stage; tail = record self.old.tail { slots = 0 } } }
         ensures started { IsStarted self.new.stage }
-        ensures ok { OnOk result (IsTrue F.is_known → (old new : List ℕ) (done : ℕ) → IsDatabase old → Knows old self.old
-            → Agreeing old new (F.held file.old) done → IsAt old new done self.new (F.held file.new)) }
-        ensures err { OnErr result (IsTrue F.is_known → (old new : List ℕ) (done : ℕ) → IsDatabase old → Knows old self.old
-            → Agreeing old new (F.held file.old) done → IsBroken old self.new (F.held file.new) × (settled (F.held file.new) ≡ old)) }
+        ensures ok { OnOk result ((s : List ℕ) → IsTrue (F.is_honest s file.new) → (old new : List ℕ) (done : ℕ) → IsDatabase old → Knows old self.old
+            → Agreeing old new (F.held s file.old) done → IsAt old new done self.new (F.held s file.new)) }
+        ensures err { OnErr result ((s : List ℕ) → IsTrue (F.is_honest s file.new) → (old new : List ℕ) (done : ℕ) → IsDatabase old → Knows old self.old
+            → Agreeing old new (F.held s file.old) done → IsBroken old self.new (F.held s file.new) × (settled (F.held s file.new) ≡ old)) }
     {
         self.stage = Stage::Marked;
         self.tail.mark(file, self.old_length, &self.old_first)
@@ -158,31 +165,35 @@ impl Change {
 
     // Prepares a file for its first replaced page, unless the file is prepared: marks the file as changing or invalid.
     fn start<F: Bytes>(&mut self, file: &mut F) -> io::Result<()>
+        ensures falls { (s : List ℕ) → IsTrue (F.is_honest s file.new) → IsTrue (F.is_honest s file.old) }
         ensures page { self.new.old_page ≡ self.old.old_page }
         ensures length { self.new.length ≡ self.old.length }
         ensures started { OnOk result (IsStarted self.new.stage) }
-        ensures ok { OnOk result (IsTrue F.is_known → (old new : List ℕ) (done : ℕ) → IsAt old new done self.old (F.held file.old)
-            → IsAt old new done self.new (F.held file.new)) }
-        ensures err { OnErr result (IsTrue F.is_known → (old new : List ℕ) (done : ℕ) → IsAt old new done self.old (F.held file.old)
-            → IsBroken old self.new (F.held file.new) × StandsForOld old (F.held file.new)) }
+        ensures ok { OnOk result ((s : List ℕ) → IsTrue (F.is_honest s file.new) → (old new : List ℕ) (done : ℕ) → IsAt old new done self.old (F.held s file.old)
+            → IsAt old new done self.new (F.held s file.new)) }
+        ensures err { OnErr result ((s : List ℕ) → IsTrue (F.is_honest s file.new) → (old new : List ℕ) (done : ℕ) → IsAt old new done self.old (F.held s file.old)
+            → IsBroken old self.new (F.held s file.new) × StandsForOld old (F.held s file.new)) }
     {
         match self.stage {
             Stage::Marked | Stage::Invalid => Ok(()),
             Stage::Untouched if self.can_mark() => self.mark(file),
             Stage::Untouched => self.write_invalid_mark(file),
-            Stage::Committing | Stage::Unkept => Err(Error::from(ErrorKind::InvalidInput)),
+            Stage::Committing | Stage::Committed | Stage::Unkept => {
+                Err(Error::from(ErrorKind::InvalidInput))
+            }
         }
     }
 
     // Writes a page that differs from the old page in `old_page`.
     fn put_differing<F: Bytes>(&mut self, file: &mut F, page: &[u8], at: usize) -> io::Result<()>
         requires { 4096 ≤ at }
-        ensures ok { OnOk result (IsTrue F.is_known → (old new : List ℕ) → IsPage new at page.now → at + length page.now ≤ self.old.length → IsStarted self.old.stage
+        ensures falls { (s : List ℕ) → IsTrue (F.is_honest s file.new) → IsTrue (F.is_honest s file.old) }
+        ensures ok { OnOk result ((s : List ℕ) → IsTrue (F.is_honest s file.new) → (old new : List ℕ) → IsPage new at page.now → at + length page.now ≤ self.old.length → IsStarted self.old.stage
             → (IsDatabase old → AreAt old at (min (length old - at) (length page.now)) self.old.old_page.items)
-            → IsAt old new at self.old (F.held file.old) → IsAt old new (at + 4096) self.new (F.held file.new)) }
-        ensures err { OnErr result (IsTrue F.is_known → (old new : List ℕ) → IsPage new at page.now → at + length page.now ≤ self.old.length → IsStarted self.old.stage
+            → IsAt old new at self.old (F.held s file.old) → IsAt old new (at + 4096) self.new (F.held s file.new)) }
+        ensures err { OnErr result ((s : List ℕ) → IsTrue (F.is_honest s file.new) → (old new : List ℕ) → IsPage new at page.now → at + length page.now ≤ self.old.length → IsStarted self.old.stage
             → (IsDatabase old → AreAt old at (min (length old - at) (length page.now)) self.old.old_page.items)
-            → IsAt old new at self.old (F.held file.old) → IsBroken old self.new (F.held file.new) × StandsForOld old (F.held file.new)) }
+            → IsAt old new at self.old (F.held s file.old) → IsBroken old self.new (F.held s file.new) × StandsForOld old (F.held s file.new)) }
     {
         match self.stage {
             Stage::Marked => self.tail.turn(file, at, &self.old_page, page),
@@ -193,10 +204,11 @@ impl Change {
     /// Writes the next page from byte `at` on, if the page differs from the old page.
     pub(crate) fn put<F: Bytes>(&mut self, file: &mut F, page: &[u8], at: usize) -> io::Result<()>
         requires { 4096 ≤ at }
-        ensures ok { OnOk result (IsTrue F.is_known → (old new : List ℕ) → IsPage new at page.now
-            → IsAt old new at self.old (F.held file.old) → IsAt old new (at + 4096) self.new (F.held file.new)) }
-        ensures err { OnErr result (IsTrue F.is_known → (old new : List ℕ) → IsPage new at page.now
-            → IsAt old new at self.old (F.held file.old) → IsBroken old self.new (F.held file.new) × StandsForOld old (F.held file.new)) }
+        ensures falls { (s : List ℕ) → IsTrue (F.is_honest s file.new) → IsTrue (F.is_honest s file.old) }
+        ensures ok { OnOk result ((s : List ℕ) → IsTrue (F.is_honest s file.new) → (old new : List ℕ) → IsPage new at page.now
+            → IsAt old new at self.old (F.held s file.old) → IsAt old new (at + 4096) self.new (F.held s file.new)) }
+        ensures err { OnErr result ((s : List ℕ) → IsTrue (F.is_honest s file.new) → (old new : List ℕ) → IsPage new at page.now
+            → IsAt old new at self.old (F.held s file.old) → IsBroken old self.new (F.held s file.new) × StandsForOld old (F.held s file.new)) }
     {
         if self.length < at {
             return Err(Error::from(ErrorKind::InvalidInput));
@@ -224,11 +236,12 @@ impl Change {
     // Writes the first page of a change in which no other page differs and none is removed.
     fn put_alone<F: Bytes>(&self, file: &mut F, first: &[u8]) -> io::Result<()>
         requires { length first.now ≤ 4096 }
-        ensures ok { OnOk result (IsTrue F.is_known → (old new : List ℕ) (done : ℕ) → self.now.length ≡ length new → length old ≤ length new → length new ≤ done → 4096 ≤ done
-            → AreAt new 0 (min 4096 (length new)) first.now → Knows old self.now → Agreeing old new (F.held file.old) done → F.held file.new ≡ new) }
-        ensures err { OnErr result (IsTrue F.is_known → (old new : List ℕ) (done : ℕ) → self.now.length ≡ length new → length old ≤ length new → length new ≤ done → 4096 ≤ done
-            → AreAt new 0 (min 4096 (length new)) first.now → Knows old self.now → Agreeing old new (F.held file.old) done
-            → (F.held file.new ≡ old) ⊎ (F.held file.new ≡ new)) }
+        ensures falls { (s : List ℕ) → IsTrue (F.is_honest s file.new) → IsTrue (F.is_honest s file.old) }
+        ensures ok { OnOk result ((s : List ℕ) → IsTrue (F.is_honest s file.new) → (old new : List ℕ) (done : ℕ) → self.now.length ≡ length new → length old ≤ length new → length new ≤ done → 4096 ≤ done
+            → AreAt new 0 (min 4096 (length new)) first.now → Knows old self.now → Agreeing old new (F.held s file.old) done → F.held s file.new ≡ new) }
+        ensures err { OnErr result ((s : List ℕ) → IsTrue (F.is_honest s file.new) → (old new : List ℕ) (done : ℕ) → self.now.length ≡ length new → length old ≤ length new → length new ≤ done → 4096 ≤ done
+            → AreAt new 0 (min 4096 (length new)) first.now → Knows old self.now → Agreeing old new (F.held s file.old) done
+            → (F.held s file.new ≡ old) ⊎ (F.held s file.new ≡ new)) }
     {
         if self.old_length == self.length && first == self.old_first.as_slice() {
             return Ok(());
@@ -238,13 +251,14 @@ impl Change {
 
     // Writes the differing bytes of the new first page that follow the mark.
     fn put_first<F: Bytes>(&mut self, file: &mut F, first: &[u8]) -> io::Result<()>
+        ensures falls { (s : List ℕ) → IsTrue (F.is_honest s file.new) → IsTrue (F.is_honest s file.old) }
         ensures frame { self.new ≡ record self.old { tail = record self.old.tail { slots = self.new.tail.slots; buffer = self.new.tail.buffer } } }
-        ensures ok { OnOk result (IsTrue F.is_known → (old new : List ℕ) (done : ℕ) → IsDatabase old → Knows old self.old → self.old.length ≡ length new → length new ≤ done
-            → AreAt new 0 (min 4096 (length new)) first.now → Turning old new self.old.tail.offset self.old.tail.slots (F.held file.old) done
-            → Paged old new self.new.tail.offset self.new.tail.slots (F.held file.new)) }
-        ensures err { OnErr result (IsTrue F.is_known → (old new : List ℕ) (done : ℕ) → IsDatabase old → Knows old self.old → self.old.length ≡ length new → length new ≤ done
-            → AreAt new 0 (min 4096 (length new)) first.now → Turning old new self.old.tail.offset self.old.tail.slots (F.held file.old) done
-            → settled (F.held file.new) ≡ old) }
+        ensures ok { OnOk result ((s : List ℕ) → IsTrue (F.is_honest s file.new) → (old new : List ℕ) (done : ℕ) → IsDatabase old → Knows old self.old → self.old.length ≡ length new → length new ≤ done
+            → AreAt new 0 (min 4096 (length new)) first.now → Turning old new self.old.tail.offset self.old.tail.slots (F.held s file.old) done
+            → Paged old new self.new.tail.offset self.new.tail.slots (F.held s file.new)) }
+        ensures err { OnErr result ((s : List ℕ) → IsTrue (F.is_honest s file.new) → (old new : List ℕ) (done : ℕ) → IsDatabase old → Knows old self.old → self.old.length ≡ length new → length new ≤ done
+            → AreAt new 0 (min 4096 (length new)) first.now → Turning old new self.old.tail.offset self.old.tail.slots (F.held s file.old) done
+            → settled (F.held s file.new) ≡ old) }
     {
         let old = self.old_first.as_slice();
         if old.len() < MIN_DATABASE_SIZE || first.len() < MIN_DATABASE_SIZE {
@@ -259,25 +273,29 @@ impl Change {
     // Ends a change of a file that is marked.
     fn end_marked<F: Bytes>(&mut self, file: &mut F, first: &[u8]) -> io::Result<()>
         requires { 16 ≤ length first.now }
-        ensures ok { OnOk result (IsTrue F.is_known → (old new : List ℕ) (done : ℕ) → IsDatabase old → IsDatabase new → Knows old self.old → self.old.length ≡ length new → length new ≤ done
-            → AreAt new 0 (min 4096 (length new)) first.now → Turning old new self.old.tail.offset self.old.tail.slots (F.held file.old) done
-            → settled (F.held file.new) ≡ new) }
-        ensures err { self.old.stage ≡ Stage.Marked → OnErr result (IsTrue F.is_known → (old new : List ℕ) (done : ℕ) → IsDatabase old → IsDatabase new → Knows old self.old → self.old.length ≡ length new → length new ≤ done
-            → AreAt new 0 (min 4096 (length new)) first.now → Turning old new self.old.tail.offset self.old.tail.slots (F.held file.old) done
-            → IsBroken old self.new (F.held file.new) × StandsForEither old new (F.held file.new)) }
+        ensures falls { (s : List ℕ) → IsTrue (F.is_honest s file.new) → IsTrue (F.is_honest s file.old) }
+        ensures ok { OnOk result ((s : List ℕ) → IsTrue (F.is_honest s file.new) → (old new : List ℕ) (done : ℕ) → IsDatabase old → IsDatabase new → Knows old self.old → self.old.length ≡ length new → length new ≤ done
+            → AreAt new 0 (min 4096 (length new)) first.now → Turning old new self.old.tail.offset self.old.tail.slots (F.held s file.old) done
+            → settled (F.held s file.new) ≡ new) }
+        ensures err { self.old.stage ≡ Stage.Marked → OnErr result ((s : List ℕ) → IsTrue (F.is_honest s file.new) → (old new : List ℕ) (done : ℕ) → IsDatabase old → IsDatabase new → Knows old self.old → self.old.length ≡ length new → length new ≤ done
+            → AreAt new 0 (min 4096 (length new)) first.now → Turning old new self.old.tail.offset self.old.tail.slots (F.held s file.old) done
+            → IsBroken old self.new (F.held s file.new) × StandsForEither old new (F.held s file.new)) }
     {
         self.put_first(file, first)?;
         self.tail.record_new(file, self.length, first)?;
         self.stage = Stage::Committing;
-        self.tail.commit(file, self.length, first)
+        put_front(file, self.length, first, self.tail.syncs)?;
+        self.stage = Stage::Committed;
+        finish(file, self.length, self.tail.syncs)
     }
 
     // Ends a change of a file that is marked invalid.
     fn end_invalid<F: Bytes>(&mut self, file: &mut F, first: &[u8]) -> io::Result<()>
         requires { length first.now ≤ 4096 }
+        ensures falls { (s : List ℕ) → IsTrue (F.is_honest s file.new) → IsTrue (F.is_honest s file.old) }
         ensures frame { self.new ≡ self.old }
-        ensures ok { OnOk result (IsTrue F.is_known → (new : List ℕ) (done : ℕ) → self.old.length ≡ length new → length new ≤ done
-            → AreAt new 0 (min 4096 (length new)) first.now → ArePutBelow done new (F.held file.old) → F.held file.new ≡ new) }
+        ensures ok { OnOk result ((s : List ℕ) → IsTrue (F.is_honest s file.new) → (new : List ℕ) (done : ℕ) → self.old.length ≡ length new → length new ≤ done
+            → AreAt new 0 (min 4096 (length new)) first.now → ArePutBelow done new (F.held s file.old) → F.held s file.new ≡ new) }
     {
         set_len_and_sync(file, self.length, self.tail.syncs)?;
         put_and_sync(file, 0, first, self.tail.syncs)
@@ -287,11 +305,12 @@ impl Change {
     fn end_started<F: Bytes>(&mut self, file: &mut F, first: &[u8]) -> io::Result<()>
         requires few { length first.now ≤ 4096 }
         requires enough { 16 ≤ length first.now }
-        ensures ok { OnOk result (IsTrue F.is_known → (old new : List ℕ) (done : ℕ) → IsDatabase new → self.old.length ≡ length new → length new ≤ done
-            → AreAt new 0 (min 4096 (length new)) first.now → IsAt old new done self.old (F.held file.old) → settled (F.held file.new) ≡ new) }
-        ensures err { OnErr result (IsTrue F.is_known → (old new : List ℕ) (done : ℕ) → IsDatabase new → self.old.length ≡ length new → length new ≤ done
-            → AreAt new 0 (min 4096 (length new)) first.now → IsAt old new done self.old (F.held file.old)
-            → IsBroken old self.new (F.held file.new) × StandsForEither old new (F.held file.new)) }
+        ensures falls { (s : List ℕ) → IsTrue (F.is_honest s file.new) → IsTrue (F.is_honest s file.old) }
+        ensures ok { OnOk result ((s : List ℕ) → IsTrue (F.is_honest s file.new) → (old new : List ℕ) (done : ℕ) → IsDatabase new → self.old.length ≡ length new → length new ≤ done
+            → AreAt new 0 (min 4096 (length new)) first.now → IsAt old new done self.old (F.held s file.old) → settled (F.held s file.new) ≡ new) }
+        ensures err { OnErr result ((s : List ℕ) → IsTrue (F.is_honest s file.new) → (old new : List ℕ) (done : ℕ) → IsDatabase new → self.old.length ≡ length new → length new ≤ done
+            → AreAt new 0 (min 4096 (length new)) first.now → IsAt old new done self.old (F.held s file.old)
+            → IsBroken old self.new (F.held s file.new) × StandsForEither old new (F.held s file.new)) }
     {
         self.start(file)?;
         match self.stage {
@@ -310,11 +329,12 @@ impl Change {
         count: usize,
     ) -> io::Result<()>
         requires { length first.now ≤ 4096 }
-        ensures ok { OnOk result (IsTrue F.is_known → (old new : List ℕ) (done : ℕ) → count ≡ length new → length new ≤ done → 4096 ≤ done
-            → AreAt new 0 (min 4096 (length new)) first.now → IsAt old new done self.old (F.held file.old) → settled (F.held file.new) ≡ new) }
-        ensures err { OnErr result (IsTrue F.is_known → (old new : List ℕ) (done : ℕ) → count ≡ length new → length new ≤ done → 4096 ≤ done
-            → AreAt new 0 (min 4096 (length new)) first.now → IsAt old new done self.old (F.held file.old)
-            → IsBroken old self.new (F.held file.new) × StandsForEither old new (F.held file.new)) }
+        ensures falls { (s : List ℕ) → IsTrue (F.is_honest s file.new) → IsTrue (F.is_honest s file.old) }
+        ensures ok { OnOk result ((s : List ℕ) → IsTrue (F.is_honest s file.new) → (old new : List ℕ) (done : ℕ) → count ≡ length new → length new ≤ done → 4096 ≤ done
+            → AreAt new 0 (min 4096 (length new)) first.now → IsAt old new done self.old (F.held s file.old) → settled (F.held s file.new) ≡ new) }
+        ensures err { OnErr result ((s : List ℕ) → IsTrue (F.is_honest s file.new) → (old new : List ℕ) (done : ℕ) → count ≡ length new → length new ≤ done → 4096 ≤ done
+            → AreAt new 0 (min 4096 (length new)) first.now → IsAt old new done self.old (F.held s file.old)
+            → IsBroken old self.new (F.held s file.new) × StandsForEither old new (F.held s file.new)) }
     {
         if count != self.length || !is_database(first) {
             return Err(Error::from(ErrorKind::InvalidInput));
@@ -328,9 +348,10 @@ impl Change {
     // Restores the old first page. If the new length is not the old one, the file's length shows whether the page was
     // written.
     fn restore_first<F: Bytes>(&self, file: &mut F) -> io::Result<()>
-        ensures ok { OnOk result (IsTrue F.is_known → (old : List ℕ) → Knows old self.now → IsFirstPut old self.now.length (F.held file.old) → F.held file.new ≡ old) }
-        ensures err { OnErr result (IsTrue F.is_known → (old : List ℕ) → Knows old self.now → IsFirstPut old self.now.length (F.held file.old)
-            → (F.held file.new ≡ F.held file.old) ⊎ (F.held file.new ≡ old)) }
+        ensures falls { (s : List ℕ) → IsTrue (F.is_honest s file.new) → IsTrue (F.is_honest s file.old) }
+        ensures ok { OnOk result ((s : List ℕ) → IsTrue (F.is_honest s file.new) → (old : List ℕ) → Knows old self.now → IsFirstPut old self.now.length (F.held s file.old) → F.held s file.new ≡ old) }
+        ensures err { OnErr result ((s : List ℕ) → IsTrue (F.is_honest s file.new) → (old : List ℕ) → Knows old self.now → IsFirstPut old self.now.length (F.held s file.old)
+            → (F.held s file.new ≡ F.held s file.old) ⊎ (F.held s file.new ≡ old)) }
     {
         if self.old_length == self.length {
             return file.put_whole(0, front_page(&self.old_first));
@@ -343,22 +364,27 @@ impl Change {
 
     // Restores the old first page and the old length of a file that is not a database.
     fn restore<F: Bytes>(&self, file: &mut F) -> io::Result<()>
-        ensures { OnOk result (IsTrue F.is_known → (old : List ℕ) → Knows old self.now → StaysBehind old (F.held file.old) → F.held file.new ≡ old) }
+        ensures falls { (s : List ℕ) → IsTrue (F.is_honest s file.new) → IsTrue (F.is_honest s file.old) }
+        ensures ok { OnOk result ((s : List ℕ) → IsTrue (F.is_honest s file.new) → (old : List ℕ) → Knows old self.now → StaysBehind old (F.held s file.old) → F.held s file.new ≡ old) }
     {
         file.put_whole(0, front_page(&self.old_first))?;
         file.set_len(self.old_length)
     }
 
-    // Marks a file again, after the call that makes the file represent its new bytes failed.
+    // Marks a file again, after the call that makes the file represent its new bytes failed. The disk may have stored
+    // that call, so it must have stored the mark before `settle` restores a page.
     fn mark_again<F: Bytes>(&self, file: &mut F) -> io::Result<()>
-        ensures ok { OnOk result (IsTrue F.is_known → ArePut 0 (undo_mark self.now.tail.offset) (F.held file.old) (F.held file.new)) }
-        ensures err { OnErr result (IsTrue F.is_known → AreWholeOrNot 0 (undo_mark self.now.tail.offset) (F.held file.old) (F.held file.new)) }
+        ensures falls { (s : List ℕ) → IsTrue (F.is_honest s file.new) → IsTrue (F.is_honest s file.old) }
+        ensures ok { OnOk result ((s : List ℕ) → IsTrue (F.is_honest s file.new) → ArePut 0 (undo_mark self.now.tail.offset) (F.held s file.old) (F.held s file.new)) }
+        ensures err { OnErr result ((s : List ℕ) → IsTrue (F.is_honest s file.new) → AreWholeOrNot 0 (undo_mark self.now.tail.offset) (F.held s file.old) (F.held s file.new)) }
     {
-        file.put_whole(0, &undo_mark(self.tail.offset))
+        put_and_sync(file, 0, &undo_mark(self.tail.offset), self.tail.syncs)
     }
 
     // Leaves the first `count` of the new bytes in the file.
-    fn leave_front<F: Bytes>(&self, file: &mut F, first: &[u8], count: usize) -> io::Result<()> {
+    fn leave_front<F: Bytes>(&self, file: &mut F, first: &[u8], count: usize) -> io::Result<()>
+        ensures falls { (s : List ℕ) → IsTrue (F.is_honest s file.new) → IsTrue (F.is_honest s file.old) }
+    {
         file.set_len(count)?;
         file.put_whole(0, front_page(&first[..count.min(first.len())]))
     }
@@ -373,9 +399,10 @@ impl Change {
         first: &[u8],
         count: usize,
     ) -> io::Result<()>
-        ensures ok { OnOk result (IsTrue F.is_known → (old : List ℕ) → CanRestore old → IsBroken old self.old (F.held file.old) → F.held file.new ≡ old) }
-        ensures stands { IsTrue F.is_known → (old : List ℕ) → IsDatabase old → IsBroken old self.old (F.held file.old)
-            → (F.held file.new ≡ F.held file.old) ⊎ (settled (F.held file.new) ≡ settled (F.held file.old)) ⊎ (settled (F.held file.new) ≡ old) }
+        ensures falls { (s : List ℕ) → IsTrue (F.is_honest s file.new) → IsTrue (F.is_honest s file.old) }
+        ensures ok { OnOk result ((s : List ℕ) → IsTrue (F.is_honest s file.new) → (old : List ℕ) → CanRestore old → IsBroken old self.old (F.held s file.old) → F.held s file.new ≡ old) }
+        ensures stands { (s : List ℕ) → IsTrue (F.is_honest s file.new) → (old : List ℕ) → IsDatabase old → IsBroken old self.old (F.held s file.old)
+            → (F.held s file.new ≡ F.held s file.old) ⊎ (settled (F.held s file.new) ≡ settled (F.held s file.old)) ⊎ (settled (F.held s file.new) ≡ old) }
     {
         match self.stage {
             Stage::Untouched => self.restore_first(file),
@@ -388,6 +415,8 @@ impl Change {
                 settle(file, &mut self.old_page)?;
                 Ok(())
             }
+            // The next program that opens the file does the rest.
+            Stage::Committed => Err(Error::from(ErrorKind::InvalidInput)),
             Stage::Invalid if MIN_DATABASE_SIZE <= self.old_length => self.leave_front(
                 file, first, count,
             ),

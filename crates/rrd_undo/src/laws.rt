@@ -23,7 +23,8 @@ pub fn change_settled<F: Bytes>(
     new: &[u8],
     syncs: Syncs,
 ) -> io::Result<()>
-    ensures { OnOk result (IsTrue F.is_known → IsDatabase (F.held file.old) → (F.held file.new ≡ F.held file.old) ⊎ (F.held file.new ≡ new.now)) }
+    ensures falls { (s : List ℕ) → IsTrue (F.is_honest s file.new) → IsTrue (F.is_honest s file.old) }
+    ensures either { OnOk result ((s : List ℕ) → IsTrue (F.is_honest s file.new) → IsDatabase (F.held s file.old) → (F.held s file.new ≡ F.held s file.old) ⊎ (F.held s file.new ≡ new.now)) }
 {
     let _replaced = replace(alloc, file, new, syncs);
     let mut buffer = Vec::new(alloc);

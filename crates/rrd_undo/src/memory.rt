@@ -75,9 +75,9 @@ impl Bytes for Memory {
     ghost use Rattle.std.specs.Prelude.{true};
     ghost use Rattle.rrd_undo.specs.Memory.{memory_bytes};
 
-    ghost held = { memory_bytes };
+    ghost held = { λ _ m. memory_bytes m };
 
-    ghost is_known = { true };
+    ghost is_honest = { λ _ _. true };
 
     fn len(&mut self) -> io::Result<usize> {
         spend(&mut self.calls_left)?;

@@ -1,5 +1,5 @@
 //! Pages of a file: the offsets of pages, and the differences between pages.
-ghost use Rattle.std.specs.Prelude.{◌≡◌, ◌↔◌, ◌≤◌, ◌+◌, ◌%◌, ◌^◌, ◌<◌, ℕ, length, slice_index, IsNone, IsTrue, IfOk, IfSome, OnOk};
+ghost use Rattle.std.specs.Prelude.{◌≡◌, ◌↔◌, ◌≤◌, ◌+◌, ◌%◌, ◌^◌, ◌<◌, ℕ, List, length, slice_index, IsNone, IsTrue, IfOk, IfSome, OnOk};
 ghost use Rattle.rrd_undo.specs.Calls.{AreAt};
 ghost use Rattle.rrd_undo.specs.Databases.{IsDatabase};
 ghost use Rattle.rrd_undo.specs.Pages.{AreSame, IsDifference, IsSame};
@@ -41,9 +41,10 @@ pub(crate) fn read_page<F: Bytes>(
     count: usize,
     into: &mut Vec<u8>,
 ) -> io::Result<()>
-    ensures same { F.held file.new ≡ F.held file.old }
+    ensures falls { (s : List ℕ) → IsTrue (F.is_honest s file.new) → IsTrue (F.is_honest s file.old) }
+    ensures same { (s : List ℕ) → F.held s file.new ≡ F.held s file.old }
     ensures page { OnOk result (length into.new.items ≤ 4096) }
-    ensures read { OnOk result (IsTrue F.is_known → AreAt (F.held file.old) at count into.new.items) }
+    ensures read { OnOk result ((s : List ℕ) → IsTrue (F.is_honest s file.new) → AreAt (F.held s file.old) at count into.new.items) }
 {
     file.read(at, count, into)?;
     if into.len() > PAGE {

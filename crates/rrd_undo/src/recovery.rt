@@ -4,11 +4,11 @@ ghost use Rattle.rrd_tail.specs.Marks.{mark_of, shape_for, size_of};
 ghost use Rattle.rrd_tail.specs.Records.{if_shaped, last_record, record_at};
 ghost use Rattle.rrd_tail.specs.Settled.{settled};
 ghost use Rattle.rrd_tail.specs.declared.mark.Mark.{Mark};
-ghost use Rattle.rrd_undo.specs.Settling.{IsPutBack, IsSlotFound, IsUndone};
+ghost use Rattle.rrd_undo.specs.Settling.{IsFront, IsPutBack, IsSlotFound, IsUndone};
 ghost use Rattle.rrd_undo.specs.Undoing.{IsToCut};
 
 use crate::Bytes;
-use crate::page::MIN_DATABASE_SIZE;
+use crate::page::{MIN_DATABASE_SIZE, read_page};
 use crate::tail::{SLOT, Syncs, finish, offset_of_slot, put_and_sync, put_front, set_len_and_sync};
 use rrd_tail::{
     DATABASE_MARK, Mark, PAGE, RECORD_SIZE, Record, SLOT_HEADER_SIZE, Shape, SlotHeader, read_mark,
@@ -41,8 +41,9 @@ fn read_record<F: Bytes>(
     at: usize,
     buffer: &mut Vec<u8>,
 ) -> io::Result<Option<Record>>
-    ensures same { F.held file.new ≡ F.held file.old }
-    ensures ok { IfOk result (λ r. IsTrue F.is_known → file_length ≡ length (F.held file.new) → r ≡ record_at (F.held file.new) at) }
+    ensures falls { (s : List ℕ) → IsTrue (F.is_honest s file.new) → IsTrue (F.is_honest s file.old) }
+    ensures same { (s : List ℕ) → F.held s file.new ≡ F.held s file.old }
+    ensures ok { IfOk result (λ r. (s : List ℕ) → IsTrue (F.is_honest s file.new) → file_length ≡ length (F.held s file.new) → r ≡ record_at (F.held s file.new) at) }
 {
     let count = file_length.saturating_sub(at).min(RECORD_SIZE);
     file.read(at, count, buffer)?;
@@ -56,8 +57,9 @@ fn read_last<F: Bytes>(
     shape: Shape,
     buffer: &mut Vec<u8>,
 ) -> io::Result<Option<Record>>
-    ensures same { F.held file.new ≡ F.held file.old }
-    ensures ok { IfOk result (λ r. IsTrue F.is_known → file_length ≡ length (F.held file.new) → r ≡ last_record shape (F.held file.new)) }
+    ensures falls { (s : List ℕ) → IsTrue (F.is_honest s file.new) → IsTrue (F.is_honest s file.old) }
+    ensures same { (s : List ℕ) → F.held s file.new ≡ F.held s file.old }
+    ensures ok { IfOk result (λ r. (s : List ℕ) → IsTrue (F.is_honest s file.new) → file_length ≡ length (F.held s file.new) → r ≡ last_record shape (F.held s file.new)) }
 {
     if file_length % PAGE != shape.size() {
         return Ok(None);
@@ -83,10 +85,11 @@ fn shaped(shape: Shape, found: Option<Record>) -> Option<Record>
 
 // Replaces the cut mark of a file without a record by the mark of a database.
 fn unmark<F: Bytes>(file: &mut F) -> io::Result<()>
-    ensures stands { IsTrue F.is_known → (shape : Shape) → mark_of (F.held file.old) ≡ Some (Mark.Cut shape) → last_record shape (F.held file.old) ≡ None
-        → settled (F.held file.new) ≡ settled (F.held file.old) }
-    ensures ok { OnOk result (IsTrue F.is_known → (shape : Shape) → mark_of (F.held file.old) ≡ Some (Mark.Cut shape) → last_record shape (F.held file.old) ≡ None
-        → F.held file.new ≡ settled (F.held file.old)) }
+    ensures falls { (s : List ℕ) → IsTrue (F.is_honest s file.new) → IsTrue (F.is_honest s file.old) }
+    ensures stands { (s : List ℕ) → IsTrue (F.is_honest s file.new) → (shape : Shape) → mark_of (F.held s file.old) ≡ Some (Mark.Cut shape) → last_record shape (F.held s file.old) ≡ None
+        → settled (F.held s file.new) ≡ settled (F.held s file.old) }
+    ensures ok { OnOk result ((s : List ℕ) → IsTrue (F.is_honest s file.new) → (shape : Shape) → mark_of (F.held s file.old) ≡ Some (Mark.Cut shape) → last_record shape (F.held s file.old) ≡ None
+        → F.held s file.new ≡ settled (F.held s file.old)) }
 {
     put_and_sync(file, 0, &DATABASE_MARK, Syncs::Ordered)
 }
@@ -98,10 +101,11 @@ fn settle_cut<F: Bytes>(
     shape: Shape,
     buffer: &mut Vec<u8>,
 ) -> io::Result<Settled>
-    ensures stands { IsTrue F.is_known → file_length ≡ length (F.held file.old) → mark_of (F.held file.old) ≡ Some (Mark.Cut shape)
-        → settled (F.held file.new) ≡ settled (F.held file.old) }
-    ensures ok { OnOk result (IsTrue F.is_known → file_length ≡ length (F.held file.old) → mark_of (F.held file.old) ≡ Some (Mark.Cut shape)
-        → F.held file.new ≡ settled (F.held file.old)) }
+    ensures falls { (s : List ℕ) → IsTrue (F.is_honest s file.new) → IsTrue (F.is_honest s file.old) }
+    ensures stands { (s : List ℕ) → IsTrue (F.is_honest s file.new) → file_length ≡ length (F.held s file.old) → mark_of (F.held s file.old) ≡ Some (Mark.Cut shape)
+        → settled (F.held s file.new) ≡ settled (F.held s file.old) }
+    ensures ok { OnOk result ((s : List ℕ) → IsTrue (F.is_honest s file.new) → file_length ≡ length (F.held s file.old) → mark_of (F.held s file.old) ≡ Some (Mark.Cut shape)
+        → F.held s file.new ≡ settled (F.held s file.old)) }
 {
     match read_last(file, file_length, shape, buffer)? {
         None => unmark(file)?,
@@ -118,9 +122,10 @@ fn read_slot_at<F: Bytes>(
     number: usize,
     buffer: &mut Vec<u8>,
 ) -> io::Result<Option<SlotHeader>>
-    ensures same { F.held file.new ≡ F.held file.old }
+    ensures falls { (s : List ℕ) → IsTrue (F.is_honest s file.new) → IsTrue (F.is_honest s file.old) }
+    ensures same { (s : List ℕ) → F.held s file.new ≡ F.held s file.old }
     ensures few { IfOk result (λ found. IfSome found (λ header. 32 + header.count ≤ length buffer.new.items)) }
-    ensures ok { IfOk result (λ found. IsTrue F.is_known → file_length ≡ length (F.held file.new) → IsSlotFound tail (F.held file.new) number buffer.new.items found) }
+    ensures ok { IfOk result (λ found. (s : List ℕ) → IsTrue (F.is_honest s file.new) → file_length ≡ length (F.held s file.new) → IsSlotFound tail (F.held s file.new) number buffer.new.items found) }
 {
     let at = offset_of_slot(tail, number)?;
     if file_length <= at {
@@ -138,10 +143,11 @@ fn put_slots<F: Bytes>(
     tail: usize,
     buffer: &mut Vec<u8>,
 ) -> io::Result<()>
-    ensures stands { IsTrue F.is_known → (old : List ℕ) → file_length ≡ length (F.held file.old) → IsUndone old tail (F.held file.old)
-        → IsUndone old tail (F.held file.new) }
-    ensures ok { OnOk result (IsTrue F.is_known → (old : List ℕ) → file_length ≡ length (F.held file.old) → IsUndone old tail (F.held file.old)
-        → IsPutBack old (F.held file.new)) }
+    ensures falls { (s : List ℕ) → IsTrue (F.is_honest s file.new) → IsTrue (F.is_honest s file.old) }
+    ensures stands { (s : List ℕ) → IsTrue (F.is_honest s file.new) → (old : List ℕ) → file_length ≡ length (F.held s file.old) → IsUndone old tail (F.held s file.old)
+        → IsUndone old tail (F.held s file.new) }
+    ensures ok { OnOk result ((s : List ℕ) → IsTrue (F.is_honest s file.new) → (old : List ℕ) → file_length ≡ length (F.held s file.old) → IsUndone old tail (F.held s file.old)
+        → IsPutBack old (F.held s file.new)) }
 {
     for number in 0..usize::MAX {
         let Some(slot) = read_slot_at(file, file_length, tail, number, buffer)? else {
@@ -155,10 +161,11 @@ fn put_slots<F: Bytes>(
 
 // Removes the slots of a file whose old bytes are restored, and makes the file represent those bytes by a cut mark.
 fn release<F: Bytes>(file: &mut F, tail: usize, first: &Record) -> io::Result<()>
-    ensures ok { OnOk result (IsTrue F.is_known → (old : List ℕ) → IsUndone old tail (F.held file.old) → IsPutBack old (F.held file.old) → record_at (F.held file.old) tail ≡ Some first.now
-        → IsToCut old (F.held file.new)) }
-    ensures err { OnErr result (IsTrue F.is_known → (old : List ℕ) → IsUndone old tail (F.held file.old) → IsPutBack old (F.held file.old) → record_at (F.held file.old) tail ≡ Some first.now
-        → settled (F.held file.new) ≡ old) }
+    ensures falls { (s : List ℕ) → IsTrue (F.is_honest s file.new) → IsTrue (F.is_honest s file.old) }
+    ensures ok { OnOk result ((s : List ℕ) → IsTrue (F.is_honest s file.new) → (old : List ℕ) → IsUndone old tail (F.held s file.old) → IsPutBack old (F.held s file.old) → record_at (F.held s file.old) tail ≡ Some first.now
+        → IsToCut old (F.held s file.new)) }
+    ensures err { OnErr result ((s : List ℕ) → IsTrue (F.is_honest s file.new) → (old : List ℕ) → IsUndone old tail (F.held s file.old) → IsPutBack old (F.held s file.old) → record_at (F.held s file.old) tail ≡ Some first.now
+        → settled (F.held s file.new) ≡ old) }
 {
     let end = record_end(tail, first.length)?;
     set_len_and_sync(file, end, Syncs::Ordered)?;
@@ -183,10 +190,11 @@ fn undo<F: Bytes>(
     first: &Record,
     buffer: &mut Vec<u8>,
 ) -> io::Result<()>
-    ensures stands { IsTrue F.is_known → (old : List ℕ) → file_length ≡ length (F.held file.old) → IsUndone old tail (F.held file.old) → record_at (F.held file.old) tail ≡ Some first.now
-        → settled (F.held file.new) ≡ old }
-    ensures ok { OnOk result (IsTrue F.is_known → (old : List ℕ) → file_length ≡ length (F.held file.old) → IsUndone old tail (F.held file.old) → record_at (F.held file.old) tail ≡ Some first.now
-        → F.held file.new ≡ old) }
+    ensures falls { (s : List ℕ) → IsTrue (F.is_honest s file.new) → IsTrue (F.is_honest s file.old) }
+    ensures stands { (s : List ℕ) → IsTrue (F.is_honest s file.new) → (old : List ℕ) → file_length ≡ length (F.held s file.old) → IsUndone old tail (F.held s file.old) → record_at (F.held s file.old) tail ≡ Some first.now
+        → settled (F.held s file.new) ≡ old }
+    ensures ok { OnOk result ((s : List ℕ) → IsTrue (F.is_honest s file.new) → (old : List ℕ) → file_length ≡ length (F.held s file.old) → IsUndone old tail (F.held s file.old) → record_at (F.held s file.old) tail ≡ Some first.now
+        → F.held s file.new ≡ old) }
 {
     put_slots(file, file_length, tail, buffer)?;
     release(file, tail, first)?;
@@ -200,10 +208,11 @@ fn settle_undo<F: Bytes>(
     tail: usize,
     buffer: &mut Vec<u8>,
 ) -> io::Result<Settled>
-    ensures stands { IsTrue F.is_known → file_length ≡ length (F.held file.old) → mark_of (F.held file.old) ≡ Some (Mark.Undo tail)
-        → settled (F.held file.new) ≡ settled (F.held file.old) }
-    ensures ok { OnOk result (IsTrue F.is_known → file_length ≡ length (F.held file.old) → mark_of (F.held file.old) ≡ Some (Mark.Undo tail)
-        → F.held file.new ≡ settled (F.held file.old)) }
+    ensures falls { (s : List ℕ) → IsTrue (F.is_honest s file.new) → IsTrue (F.is_honest s file.old) }
+    ensures stands { (s : List ℕ) → IsTrue (F.is_honest s file.new) → file_length ≡ length (F.held s file.old) → mark_of (F.held s file.old) ≡ Some (Mark.Undo tail)
+        → settled (F.held s file.new) ≡ settled (F.held s file.old) }
+    ensures ok { OnOk result ((s : List ℕ) → IsTrue (F.is_honest s file.new) → file_length ≡ length (F.held s file.old) → mark_of (F.held s file.old) ≡ Some (Mark.Undo tail)
+        → F.held s file.new ≡ settled (F.held s file.old)) }
 {
     let Some(first) = read_record(file, file_length, tail, buffer)? else {
         return Ok(Settled::AsItWas);
@@ -219,16 +228,31 @@ struct Start {
     mark: Option<Mark>,
 }
 
-// Reads the length and the mark of a file.
+// Reads the length and the mark of a file. The buffer then has the first bytes of the file.
 fn read_start<F: Bytes>(file: &mut F, buffer: &mut Vec<u8>) -> io::Result<Start>
-    ensures same { F.held file.new ≡ F.held file.old }
-    ensures length { IfOk result (λ start. IsTrue F.is_known → start.length ≡ length (F.held file.new)) }
-    ensures mark { IfOk result (λ start. IsTrue F.is_known → start.mark ≡ mark_of (F.held file.new)) }
+    ensures falls { (s : List ℕ) → IsTrue (F.is_honest s file.new) → IsTrue (F.is_honest s file.old) }
+    ensures same { (s : List ℕ) → F.held s file.new ≡ F.held s file.old }
+    ensures front { OnOk result ((s : List ℕ) → IsTrue (F.is_honest s file.new) → IsFront (F.held s file.new) buffer.new.items) }
+    ensures few { OnOk result (length buffer.new.items ≤ 4096) }
+    ensures length { IfOk result (λ start. (s : List ℕ) → IsTrue (F.is_honest s file.new) → start.length ≡ length (F.held s file.new)) }
+    ensures mark { IfOk result (λ start. (s : List ℕ) → IsTrue (F.is_honest s file.new) → start.mark ≡ mark_of (F.held s file.new)) }
 {
     let length = file.len()?;
-    file.read(0, length.min(MIN_DATABASE_SIZE), buffer)?;
+    read_page(file, 0, length.min(MIN_DATABASE_SIZE), buffer)?;
     let mark = read_mark(buffer);
     Ok(Start { length, mark })
+}
+
+// Stores a file on the disk as it is, by writing its first bytes again.
+//
+// A kill may have left bytes that only the page cache has, and so may a sync that failed: the system then counts their
+// pages as stored, so that a sync alone does not store the mark. The next steps trust all of these bytes.
+fn store<F: Bytes>(file: &mut F, front: &[u8]) -> io::Result<()>
+    requires { length front.now ≤ 4096 }
+    ensures falls { (s : List ℕ) → IsTrue (F.is_honest s file.new) → IsTrue (F.is_honest s file.old) }
+    ensures same { (s : List ℕ) → IsTrue (F.is_honest s file.new) → IsFront (F.held s file.old) front.now → F.held s file.new ≡ F.held s file.old }
+{
+    put_and_sync(file, 0, front, Syncs::Ordered)
 }
 
 /// Makes a file have the bytes that the file represents.
@@ -240,13 +264,17 @@ fn read_start<F: Bytes>(file: &mut F, buffer: &mut Vec<u8>) -> io::Result<Start>
 ///
 /// A call of the file failed, or memory ran out. The file then still represents the same bytes.
 pub fn settle<F: Bytes>(file: &mut F, buffer: &mut Vec<u8>) -> io::Result<Settled>
-    ensures stands { IsTrue F.is_known → settled (F.held file.new) ≡ settled (F.held file.old) }
-    ensures ok { OnOk result (IsTrue F.is_known → F.held file.new ≡ settled (F.held file.old)) }
+    ensures falls { (s : List ℕ) → IsTrue (F.is_honest s file.new) → IsTrue (F.is_honest s file.old) }
+    ensures stands { (s : List ℕ) → IsTrue (F.is_honest s file.new) → settled (F.held s file.new) ≡ settled (F.held s file.old) }
+    ensures ok { OnOk result ((s : List ℕ) → IsTrue (F.is_honest s file.new) → F.held s file.new ≡ settled (F.held s file.old)) }
 {
     let start = read_start(file, buffer)?;
-    match start.mark {
-        None => Ok(Settled::AsItWas),
-        Some(Mark::Cut(shape)) => settle_cut(file, start.length, shape, buffer),
-        Some(Mark::Undo(tail)) => settle_undo(file, start.length, tail, buffer),
+    let Some(mark) = start.mark else {
+        return Ok(Settled::AsItWas);
+    };
+    store(file, buffer)?;
+    match mark {
+        Mark::Cut(shape) => settle_cut(file, start.length, shape, buffer),
+        Mark::Undo(tail) => settle_undo(file, start.length, tail, buffer),
     }
 }

@@ -33,7 +33,8 @@ pub enum Syncs {
 
 // Syncs the file, if `syncs` requests syncs.
 pub(crate) fn sync<F: Bytes>(file: &mut F, syncs: Syncs) -> io::Result<()>
-    ensures { F.held file.new ≡ F.held file.old }
+    ensures falls { (s : List ℕ) → IsTrue (F.is_honest s file.new) → IsTrue (F.is_honest s file.old) }
+    ensures same { (s : List ℕ) → F.held s file.new ≡ F.held s file.old }
 {
     match syncs {
         Syncs::Never => Ok(()),
@@ -49,8 +50,9 @@ pub(crate) fn put_and_sync<F: Bytes>(
     syncs: Syncs,
 ) -> io::Result<()>
     requires { at % 4096 + length bytes.now ≤ 4096 }
-    ensures ok { OnOk result (IsTrue F.is_known → ArePut at bytes.now (F.held file.old) (F.held file.new)) }
-    ensures either { IsTrue F.is_known → AreWholeOrNot at bytes.now (F.held file.old) (F.held file.new) }
+    ensures falls { (s : List ℕ) → IsTrue (F.is_honest s file.new) → IsTrue (F.is_honest s file.old) }
+    ensures ok { OnOk result ((s : List ℕ) → IsTrue (F.is_honest s file.new) → ArePut at bytes.now (F.held s file.old) (F.held s file.new)) }
+    ensures either { (s : List ℕ) → IsTrue (F.is_honest s file.new) → AreWholeOrNot at bytes.now (F.held s file.old) (F.held s file.new) }
 {
     file.put_whole(at, bytes)?;
     sync(file, syncs)
@@ -58,8 +60,9 @@ pub(crate) fn put_and_sync<F: Bytes>(
 
 /// Sets the length of the file, and then syncs the file.
 pub(crate) fn set_len_and_sync<F: Bytes>(file: &mut F, count: usize, syncs: Syncs) -> io::Result<()>
-    ensures ok { OnOk result (IsTrue F.is_known → IsSized count (F.held file.old) (F.held file.new)) }
-    ensures either { IsTrue F.is_known → (F.held file.new ≡ F.held file.old) ⊎ IsSized count (F.held file.old) (F.held file.new) }
+    ensures falls { (s : List ℕ) → IsTrue (F.is_honest s file.new) → IsTrue (F.is_honest s file.old) }
+    ensures ok { OnOk result ((s : List ℕ) → IsTrue (F.is_honest s file.new) → IsSized count (F.held s file.old) (F.held s file.new)) }
+    ensures either { (s : List ℕ) → IsTrue (F.is_honest s file.new) → (F.held s file.new ≡ F.held s file.old) ⊎ IsSized count (F.held s file.old) (F.held s file.new) }
 {
     file.set_len(count)?;
     sync(file, syncs)
@@ -78,8 +81,9 @@ fn sixteen(bytes: &[u8]) -> [u8; 16]
 // Writes a record at its offset, and then syncs the file.
 fn put_shaped<F: Bytes>(file: &mut F, shape: Shape, entry: &Record, syncs: Syncs) -> io::Result<()>
     requires { entry.now.offset % 4096 ≡ 0 }
-    ensures ok { OnOk result (IsTrue F.is_known → ArePut entry.now.offset (shaped_bytes shape entry.now) (F.held file.old) (F.held file.new)) }
-    ensures either { IsTrue F.is_known → AreWholeOrNot entry.now.offset (shaped_bytes shape entry.now) (F.held file.old) (F.held file.new) }
+    ensures falls { (s : List ℕ) → IsTrue (F.is_honest s file.new) → IsTrue (F.is_honest s file.old) }
+    ensures ok { OnOk result ((s : List ℕ) → IsTrue (F.is_honest s file.new) → ArePut entry.now.offset (shaped_bytes shape entry.now) (F.held s file.old) (F.held s file.new)) }
+    ensures either { (s : List ℕ) → IsTrue (F.is_honest s file.new) → AreWholeOrNot entry.now.offset (shaped_bytes shape entry.now) (F.held s file.old) (F.held s file.new) }
 {
     match shape {
         Shape::Short => put_and_sync(file, entry.offset, &entry.bytes(), syncs),
@@ -101,10 +105,11 @@ fn put_record<F: Bytes>(
 ) -> io::Result<()>
     requires page { offset % 4096 ≡ 0 }
     requires enough { 16 ≤ length first.now }
-    ensures ok { OnOk result (IsTrue F.is_known → (bytes : List ℕ) → IsDatabase bytes → count ≡ length bytes → AreAt bytes 0 (min 4096 (length bytes)) first.now
-        → ArePut offset (shaped_bytes (shape_for (length bytes)) (record_of offset bytes)) (F.held file.old) (F.held file.new)) }
-    ensures either { IsTrue F.is_known → (bytes : List ℕ) → IsDatabase bytes → count ≡ length bytes → AreAt bytes 0 (min 4096 (length bytes)) first.now
-        → AreWholeOrNot offset (shaped_bytes (shape_for (length bytes)) (record_of offset bytes)) (F.held file.old) (F.held file.new) }
+    ensures falls { (s : List ℕ) → IsTrue (F.is_honest s file.new) → IsTrue (F.is_honest s file.old) }
+    ensures ok { OnOk result ((s : List ℕ) → IsTrue (F.is_honest s file.new) → (bytes : List ℕ) → IsDatabase bytes → count ≡ length bytes → AreAt bytes 0 (min 4096 (length bytes)) first.now
+        → ArePut offset (shaped_bytes (shape_for (length bytes)) (record_of offset bytes)) (F.held s file.old) (F.held s file.new)) }
+    ensures either { (s : List ℕ) → IsTrue (F.is_honest s file.new) → (bytes : List ℕ) → IsDatabase bytes → count ≡ length bytes → AreAt bytes 0 (min 4096 (length bytes)) first.now
+        → AreWholeOrNot offset (shaped_bytes (shape_for (length bytes)) (record_of offset bytes)) (F.held s file.old) (F.held s file.new) }
 {
     let record = Record {
         offset,
@@ -132,22 +137,24 @@ pub(crate) fn put_front<F: Bytes>(
     syncs: Syncs,
 ) -> io::Result<()>
     requires { 16 ≤ length first.now }
-    ensures ok { OnOk result (IsTrue F.is_known → (old new : List ℕ) (tail : ℕ) → IsDatabase old → IsDatabase new → count ≡ length new
-        → take 16 first.now ≡ take 16 new → IsReady old new tail (F.held file.old) → IsToCut new (F.held file.new)) }
-    ensures either { IsTrue F.is_known → (old new : List ℕ) (tail : ℕ) → IsDatabase old → IsDatabase new → count ≡ length new
-        → take 16 first.now ≡ take 16 new → IsReady old new tail (F.held file.old)
-        → (settled (F.held file.new) ≡ old) ⊎ (settled (F.held file.new) ≡ new) }
-    ensures again { IsTrue F.is_known → (old new : List ℕ) (tail : ℕ) → IsDatabase old → IsDatabase new → count ≡ length new
-        → take 16 first.now ≡ take 16 new → IsReady old new tail (F.held file.old)
-        → (f : List ℕ) → ArePut 0 (undo_mark tail) (F.held file.new) f → settled f ≡ old }
+    ensures falls { (s : List ℕ) → IsTrue (F.is_honest s file.new) → IsTrue (F.is_honest s file.old) }
+    ensures ok { OnOk result ((s : List ℕ) → IsTrue (F.is_honest s file.new) → (old new : List ℕ) (tail : ℕ) → IsDatabase old → IsDatabase new → count ≡ length new
+        → take 16 first.now ≡ take 16 new → IsReady old new tail (F.held s file.old) → IsToCut new (F.held s file.new)) }
+    ensures either { (s : List ℕ) → IsTrue (F.is_honest s file.new) → (old new : List ℕ) (tail : ℕ) → IsDatabase old → IsDatabase new → count ≡ length new
+        → take 16 first.now ≡ take 16 new → IsReady old new tail (F.held s file.old)
+        → (settled (F.held s file.new) ≡ old) ⊎ (settled (F.held s file.new) ≡ new) }
+    ensures again { (s : List ℕ) → IsTrue (F.is_honest s file.new) → (old new : List ℕ) (tail : ℕ) → IsDatabase old → IsDatabase new → count ≡ length new
+        → take 16 first.now ≡ take 16 new → IsReady old new tail (F.held s file.old)
+        → (f : List ℕ) → ArePut 0 (undo_mark tail) (F.held s file.new) f → settled f ≡ old }
 {
     put_and_sync(file, 0, &cut_front(Shape::for_length(count), first), syncs)
 }
 
 /// Truncates a file with a cut mark to its new length, and writes the mark of a database.
 pub(crate) fn finish<F: Bytes>(file: &mut F, new_length: usize, syncs: Syncs) -> io::Result<()>
-    ensures stands { IsTrue F.is_known → (bytes : List ℕ) → new_length ≡ length bytes → IsToCut bytes (F.held file.old) → settled (F.held file.new) ≡ bytes }
-    ensures ok { OnOk result (IsTrue F.is_known → (bytes : List ℕ) → new_length ≡ length bytes → IsToCut bytes (F.held file.old) → F.held file.new ≡ bytes) }
+    ensures falls { (s : List ℕ) → IsTrue (F.is_honest s file.new) → IsTrue (F.is_honest s file.old) }
+    ensures stands { (s : List ℕ) → IsTrue (F.is_honest s file.new) → (bytes : List ℕ) → new_length ≡ length bytes → IsToCut bytes (F.held s file.old) → settled (F.held s file.new) ≡ bytes }
+    ensures ok { OnOk result ((s : List ℕ) → IsTrue (F.is_honest s file.new) → (bytes : List ℕ) → new_length ≡ length bytes → IsToCut bytes (F.held s file.old) → F.held s file.new ≡ bytes) }
 {
     set_len_and_sync(file, new_length, syncs)?;
     put_and_sync(file, 0, &DATABASE_MARK, syncs)
@@ -202,11 +209,12 @@ impl Tail {
     ) -> io::Result<()>
         requires page { self.old.offset % 4096 ≡ 0 }
         requires enough { 16 ≤ length first.now }
+        ensures falls { (s : List ℕ) → IsTrue (F.is_honest s file.new) → IsTrue (F.is_honest s file.old) }
         ensures frame { self.new ≡ record self.old { slots = 0 } }
-        ensures ok { OnOk result (IsTrue F.is_known → (old : List ℕ) → IsDatabase old → IsTail old self.old.offset → old_length ≡ length old
-            → AreAt old 0 (min 4096 (length old)) first.now → F.held file.old ≡ old → Undoing old self.old.offset 0 (F.held file.new)) }
-        ensures err { OnErr result (IsTrue F.is_known → (old : List ℕ) → IsDatabase old → IsTail old self.old.offset → old_length ≡ length old
-            → AreAt old 0 (min 4096 (length old)) first.now → F.held file.old ≡ old → settled (F.held file.new) ≡ old) }
+        ensures ok { OnOk result ((s : List ℕ) → IsTrue (F.is_honest s file.new) → (old : List ℕ) → IsDatabase old → IsTail old self.old.offset → old_length ≡ length old
+            → AreAt old 0 (min 4096 (length old)) first.now → F.held s file.old ≡ old → Undoing old self.old.offset 0 (F.held s file.new)) }
+        ensures err { OnErr result ((s : List ℕ) → IsTrue (F.is_honest s file.new) → (old : List ℕ) → IsDatabase old → IsTail old self.old.offset → old_length ≡ length old
+            → AreAt old 0 (min 4096 (length old)) first.now → F.held s file.old ≡ old → settled (F.held s file.new) ≡ old) }
     {
         self.slots = 0;
         self.record_old(file, old_length, first)?;
@@ -217,10 +225,11 @@ impl Tail {
     fn record_old<F: Bytes>(&self, file: &mut F, old_length: usize, first: &[u8]) -> io::Result<()>
         requires page { self.now.offset % 4096 ≡ 0 }
         requires enough { 16 ≤ length first.now }
-        ensures stands { IsTrue F.is_known → (old : List ℕ) → IsDatabase old → IsTail old self.now.offset → old_length ≡ length old
-            → AreAt old 0 (min 4096 (length old)) first.now → F.held file.old ≡ old → settled (F.held file.new) ≡ old }
-        ensures ok { OnOk result (IsTrue F.is_known → (old : List ℕ) → IsDatabase old → IsTail old self.now.offset → old_length ≡ length old
-            → AreAt old 0 (min 4096 (length old)) first.now → F.held file.old ≡ old → IsOldRecorded old self.now.offset (F.held file.new)) }
+        ensures falls { (s : List ℕ) → IsTrue (F.is_honest s file.new) → IsTrue (F.is_honest s file.old) }
+        ensures stands { (s : List ℕ) → IsTrue (F.is_honest s file.new) → (old : List ℕ) → IsDatabase old → IsTail old self.now.offset → old_length ≡ length old
+            → AreAt old 0 (min 4096 (length old)) first.now → F.held s file.old ≡ old → settled (F.held s file.new) ≡ old }
+        ensures ok { OnOk result ((s : List ℕ) → IsTrue (F.is_honest s file.new) → (old : List ℕ) → IsDatabase old → IsTail old self.now.offset → old_length ≡ length old
+            → AreAt old 0 (min 4096 (length old)) first.now → F.held s file.old ≡ old → IsOldRecorded old self.now.offset (F.held s file.new)) }
     {
         let mark = Shape::for_length(old_length).cut_mark();
         put_and_sync(file, 0, &mark, self.syncs)?;
@@ -229,12 +238,13 @@ impl Tail {
 
     // Copies the old bytes from byte `at` on to a slot, if there are any.
     fn keep<F: Bytes>(&mut self, file: &mut F, at: usize, bytes: &[u8]) -> io::Result<()>
+        ensures falls { (s : List ℕ) → IsTrue (F.is_honest s file.new) → IsTrue (F.is_honest s file.old) }
         ensures frame { self.new ≡ record self.old { slots = self.new.slots; buffer = self.new.buffer } }
-        ensures ok { OnOk result (IsTrue F.is_known → (old : List ℕ) → IsDatabase old → IsTail old self.old.offset → IsOldPage old at bytes.now
-            → Undoing old self.old.offset self.old.slots (F.held file.old)
-            → Keeps old self.old.offset self.new.slots at bytes.now (F.held file.old) (F.held file.new)) }
-        ensures err { OnErr result (IsTrue F.is_known → (old : List ℕ) → IsDatabase old → IsTail old self.old.offset → IsOldPage old at bytes.now
-            → Undoing old self.old.offset self.old.slots (F.held file.old) → settled (F.held file.new) ≡ old) }
+        ensures ok { OnOk result ((s : List ℕ) → IsTrue (F.is_honest s file.new) → (old : List ℕ) → IsDatabase old → IsTail old self.old.offset → IsOldPage old at bytes.now
+            → Undoing old self.old.offset self.old.slots (F.held s file.old)
+            → Keeps old self.old.offset self.new.slots at bytes.now (F.held s file.old) (F.held s file.new)) }
+        ensures err { OnErr result ((s : List ℕ) → IsTrue (F.is_honest s file.new) → (old : List ℕ) → IsDatabase old → IsTail old self.old.offset → IsOldPage old at bytes.now
+            → Undoing old self.old.offset self.old.slots (F.held s file.old) → settled (F.held s file.new) ≡ old) }
     {
         if bytes.is_empty() {
             return Ok(());
@@ -254,14 +264,15 @@ impl Tail {
         bytes: &[u8],
         page: &[u8],
     ) -> io::Result<()>
+        ensures falls { (s : List ℕ) → IsTrue (F.is_honest s file.new) → IsTrue (F.is_honest s file.old) }
         ensures frame { self.new ≡ record self.old { slots = self.new.slots; buffer = self.new.buffer } }
-        ensures ok { OnOk result (IsTrue F.is_known → (old : List ℕ) → IsDatabase old → IsTail old self.old.offset → IsOldPage old at bytes.now
+        ensures ok { OnOk result ((s : List ℕ) → IsTrue (F.is_honest s file.new) → (old : List ℕ) → IsDatabase old → IsTail old self.old.offset → IsOldPage old at bytes.now
             → length bytes.now ≡ min (length old - at) (length page.now) → at + length page.now ≤ self.old.offset
-            → Undoing old self.old.offset self.old.slots (F.held file.old)
-            → Turns old self.old.offset self.new.slots at page.now (F.held file.old) (F.held file.new)) }
-        ensures err { OnErr result (IsTrue F.is_known → (old : List ℕ) → IsDatabase old → IsTail old self.old.offset → IsOldPage old at bytes.now
+            → Undoing old self.old.offset self.old.slots (F.held s file.old)
+            → Turns old self.old.offset self.new.slots at page.now (F.held s file.old) (F.held s file.new)) }
+        ensures err { OnErr result ((s : List ℕ) → IsTrue (F.is_honest s file.new) → (old : List ℕ) → IsDatabase old → IsTail old self.old.offset → IsOldPage old at bytes.now
             → length bytes.now ≡ min (length old - at) (length page.now) → at + length page.now ≤ self.old.offset
-            → Undoing old self.old.offset self.old.slots (F.held file.old) → settled (F.held file.new) ≡ old) }
+            → Undoing old self.old.offset self.old.slots (F.held s file.old) → settled (F.held s file.new) ≡ old) }
     {
         self.keep(file, at, bytes)?;
         file.put(at, page)
@@ -275,12 +286,13 @@ impl Tail {
         first: &[u8],
     ) -> io::Result<()>
         requires { 16 ≤ length first.now }
-        ensures ok { OnOk result (IsTrue F.is_known → (old new : List ℕ) → IsDatabase old → IsDatabase new → IsTail old self.now.offset → length new ≤ self.now.offset
-            → new_length ≡ length new → AreAt new 0 (min 4096 (length new)) first.now → Paged old new self.now.offset self.now.slots (F.held file.old)
-            → IsReady old new self.now.offset (F.held file.new)) }
-        ensures err { OnErr result (IsTrue F.is_known → (old new : List ℕ) → IsDatabase old → IsDatabase new → IsTail old self.now.offset → length new ≤ self.now.offset
-            → new_length ≡ length new → AreAt new 0 (min 4096 (length new)) first.now → Paged old new self.now.offset self.now.slots (F.held file.old)
-            → settled (F.held file.new) ≡ old) }
+        ensures falls { (s : List ℕ) → IsTrue (F.is_honest s file.new) → IsTrue (F.is_honest s file.old) }
+        ensures ok { OnOk result ((s : List ℕ) → IsTrue (F.is_honest s file.new) → (old new : List ℕ) → IsDatabase old → IsDatabase new → IsTail old self.now.offset → length new ≤ self.now.offset
+            → new_length ≡ length new → AreAt new 0 (min 4096 (length new)) first.now → Paged old new self.now.offset self.now.slots (F.held s file.old)
+            → IsReady old new self.now.offset (F.held s file.new)) }
+        ensures err { OnErr result ((s : List ℕ) → IsTrue (F.is_honest s file.new) → (old new : List ℕ) → IsDatabase old → IsDatabase new → IsTail old self.now.offset → length new ≤ self.now.offset
+            → new_length ≡ length new → AreAt new 0 (min 4096 (length new)) first.now → Paged old new self.now.offset self.now.slots (F.held s file.old)
+            → settled (F.held s file.new) ≡ old) }
     {
         let offset = self.record_offset()?;
         put_record(file, offset, new_length, first, self.syncs)
@@ -296,26 +308,5 @@ impl Tail {
             Some(zeros) => page_from(zeros),
             None => Err(Error::from(ErrorKind::FileTooLarge)),
         }
-    }
-
-    /// Makes a file represent its new bytes, by one call.
-    pub(crate) fn commit<F: Bytes>(
-        &self,
-        file: &mut F,
-        new_length: usize,
-        first: &[u8],
-    ) -> io::Result<()>
-        requires { 16 ≤ length first.now }
-        ensures ok { OnOk result (IsTrue F.is_known → (old new : List ℕ) → IsDatabase old → IsDatabase new → new_length ≡ length new
-            → AreAt new 0 (min 4096 (length new)) first.now → IsReady old new self.now.offset (F.held file.old) → settled (F.held file.new) ≡ new) }
-        ensures err { OnErr result (IsTrue F.is_known → (old new : List ℕ) → IsDatabase old → IsDatabase new → new_length ≡ length new
-            → AreAt new 0 (min 4096 (length new)) first.now → IsReady old new self.now.offset (F.held file.old)
-            → ((settled (F.held file.new) ≡ old) ⊎ (settled (F.held file.new) ≡ new))
-            × ((f : List ℕ) → ArePut 0 (undo_mark self.now.offset) (F.held file.new) f → settled f ≡ old)) }
-    {
-        put_front(file, new_length, first, self.syncs)?;
-        // The file represents its new bytes: if a later call fails, the next program that opens the file does the rest.
-        let _finished = finish(file, new_length, self.syncs);
-        Ok(())
     }
 }

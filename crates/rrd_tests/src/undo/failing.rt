@@ -70,9 +70,9 @@ impl Failing {
 }
 
 impl Bytes for Failing {
-    ghost held = { λ f. [] };
+    ghost held = { λ _ _. [] };
 
-    ghost is_known = { false };
+    ghost is_honest = { λ _ _. false };
 
     fn len(&mut self) -> io::Result<usize> {
         self.before.spend()?;

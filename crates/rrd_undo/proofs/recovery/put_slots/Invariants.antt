@@ -4,5 +4,6 @@ use Rattle.rrd_undo.proofs.recovery.put_slots.Given as goal
 
 abbrev pub invariant-loop-number : goal.invariant-loop-number
 invariant-loop-number g l =
-    IsTrue g.F.Bytes.is_known → (old : List ℕ) → l.fn.file_length ≡ length (g.F.Bytes.held l.fn.file) → IsUndone old l.fn.tail (g.F.Bytes.held l.fn.file)
-    → IsBack old l.fn.tail l.number (g.F.Bytes.held l.file) × (l.fn.file_length ≡ length (g.F.Bytes.held l.file))
+    ((s : List ℕ) → IsTrue (g.F.Bytes.is_honest s l.file) → (old : List ℕ) → l.fn.file_length ≡ length (g.F.Bytes.held s l.fn.file) → IsUndone old l.fn.tail (g.F.Bytes.held s l.fn.file)
+    → IsBack old l.fn.tail l.number (g.F.Bytes.held s l.file) × (l.fn.file_length ≡ length (g.F.Bytes.held s l.file)))
+    × ((s : List ℕ) → IsTrue (g.F.Bytes.is_honest s l.file) → IsTrue (g.F.Bytes.is_honest s l.fn.file))

@@ -1,10 +1,10 @@
-use Rattle.std.proofs.Common.{◌∙◌, ap}
+use Rattle.std.proofs.Common.{rules, ◌∙◌, ap}
 use Rattle.rrd_tail.specs.Marks.{mark_of}
 use Rattle.rrd_undo.proofs.Recovering.{front_mark}
 use Rattle.rrd_undo.proofs.recovery.read_start.Goals as goal
 
 pub returns-clause-mark : goal.returns-clause-mark
-returns-clause-mark g c f =
-    let read = (rw c.len.ensures.same at (c.in_ok-read.ensures.read f)) in
-    rw (c.read.ensures.same ∙ c.len.ensures.same) (c.read_mark-mark.ensures ∙ ap mark_of c.deref.ensures.value
-    ∙ front_mark _ _ _ c.min.result (c.in_ok-length.ensures.len f) c.min.ensures read)
+returns-clause-mark g c s f =
+    let read = (rw (c.len.ensures.same s) at (c.in_ok-read_page.ensures.read s (search rules))) in
+    rw (c.read_page.ensures.same s ∙ (c.len.ensures.same s)) (c.read_mark-mark.ensures ∙ ap mark_of c.deref.ensures.value
+    ∙ front_mark _ _ _ c.min.result (c.in_ok-length.ensures.len s (search rules)) c.min.ensures read)

@@ -1,18 +1,18 @@
-use Rattle.std.proofs.Common.{◌∙◌, sym}
+use Rattle.std.proofs.Common.{rules, ◌∙◌, sym}
 use Rattle.rrd_undo.proofs.Recovering.{to_cut}
 use Rattle.rrd_undo.proofs.recovery.settle_cut.Goals as goal
 
 pub returns-in_err-finish-in-Some-clause-stands : goal.returns-in_err-finish-in-Some-clause-stands
-returns-in_err-finish-in-Some-clause-stands g c = rw (← c.read_last.ensures.same) (λ f len mark.
-    let cut = to_cut c.args.shape _ mark c.in-Some.last (sym (c.in_ok-read_last.ensures.ok f len) ∙ c.in-Some.is) in
-    c.finish.ensures.stands f _ cut.1 cut.0)
+returns-in_err-finish-in-Some-clause-stands g c s = rw (← (c.read_last.ensures.same s)) (λ f len mark.
+    let cut = to_cut c.args.shape _ mark c.in-Some.last (sym (c.in_ok-read_last.ensures.ok s (search rules) len) ∙ c.in-Some.is) in
+    c.finish.ensures.stands s (search rules) _ cut.1 cut.0)
 
 pub returns-in_ok-finish-in-Some-clause-stands : goal.returns-in_ok-finish-in-Some-clause-stands
-returns-in_ok-finish-in-Some-clause-stands g c = rw (← c.read_last.ensures.same) (λ f len mark.
-    let cut = to_cut c.args.shape _ mark c.in-Some.last (sym (c.in_ok-read_last.ensures.ok f len) ∙ c.in-Some.is) in
-    c.finish.ensures.stands f _ cut.1 cut.0)
+returns-in_ok-finish-in-Some-clause-stands g c s = rw (← (c.read_last.ensures.same s)) (λ f len mark.
+    let cut = to_cut c.args.shape _ mark c.in-Some.last (sym (c.in_ok-read_last.ensures.ok s (search rules) len) ∙ c.in-Some.is) in
+    c.finish.ensures.stands s (search rules) _ cut.1 cut.0)
 
 pub returns-in_ok-finish-in-Some-clause-ok : goal.returns-in_ok-finish-in-Some-clause-ok
-returns-in_ok-finish-in-Some-clause-ok g c = rw (← c.read_last.ensures.same) (λ f len mark.
-    let cut = to_cut c.args.shape _ mark c.in-Some.last (sym (c.in_ok-read_last.ensures.ok f len) ∙ c.in-Some.is) in
-    c.in_ok-finish-in-Some.ensures.ok f _ cut.1 cut.0)
+returns-in_ok-finish-in-Some-clause-ok g c s = rw (← (c.read_last.ensures.same s)) (λ f len mark.
+    let cut = to_cut c.args.shape _ mark c.in-Some.last (sym (c.in_ok-read_last.ensures.ok s (search rules) len) ∙ c.in-Some.is) in
+    c.in_ok-finish-in-Some.ensures.ok s (search rules) _ cut.1 cut.0)

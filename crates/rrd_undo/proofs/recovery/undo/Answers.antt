@@ -1,18 +1,18 @@
-use Rattle.std.proofs.Common.{ap}
+use Rattle.std.proofs.Common.{rules, ap}
 use Rattle.rrd_tail.specs.declared.record.Record.{Record}
 use Rattle.rrd_undo.proofs.Recovering.{record_eq, record_stays, undone_stands_for}
 use Rattle.rrd_undo.proofs.recovery.undo.Goals as goal
 
 pub returns-in_err-put_slots-clause-stands : goal.returns-in_err-put_slots-clause-stands
-returns-in_err-put_slots-clause-stands g c f old len is found = undone_stands_for old c.args.tail _ (c.put_slots.ensures.stands f old len is)
+returns-in_err-put_slots-clause-stands g c s f old len is found = undone_stands_for old c.args.tail _ (c.put_slots.ensures.stands s (search rules) old len is)
 
 pub returns-in_err-release-clause-stands : goal.returns-in_err-release-clause-stands
-returns-in_err-release-clause-stands g c f old len is found =
-    let undone = c.put_slots.ensures.stands f old len is in
-    c.in_err-release.ensures.err f old undone (c.in_ok-put_slots.ensures.ok f old len is) (record_stays old c.args.tail _ _ c.args.first.now is undone found)
+returns-in_err-release-clause-stands g c s f old len is found =
+    let undone = c.put_slots.ensures.stands s (search rules) old len is in
+    c.in_err-release.ensures.err s (search rules) old undone (c.in_ok-put_slots.ensures.ok s (search rules) old len is) (record_stays old c.args.tail _ _ c.args.first.now is undone found)
 
 pub returns-clause-stands : goal.returns-clause-stands
-returns-clause-stands g c f old len is found =
-    let undone = c.put_slots.ensures.stands f old len is in
-    let cut = c.in_ok-release.ensures.ok f old undone (c.in_ok-put_slots.ensures.ok f old len is) (record_stays old c.args.tail _ _ c.args.first.now is undone found) in
-    c.finish.ensures.stands f old (ap (λ (r : Record). r.length) (record_eq old c.args.tail _ c.args.first.now is found)) cut
+returns-clause-stands g c s f old len is found =
+    let undone = c.put_slots.ensures.stands s (search rules) old len is in
+    let cut = c.in_ok-release.ensures.ok s (search rules) old undone (c.in_ok-put_slots.ensures.ok s (search rules) old len is) (record_stays old c.args.tail _ _ c.args.first.now is undone found) in
+    c.finish.ensures.stands s (search rules) old (ap (λ (r : Record). r.length) (record_eq old c.args.tail _ c.args.first.now is found)) cut

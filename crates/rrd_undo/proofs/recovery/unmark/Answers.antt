@@ -1,9 +1,10 @@
+use Rattle.std.proofs.Common.{rules}
 use Rattle.rrd_undo.proofs.Laid.{on_ok}
 use Rattle.rrd_undo.proofs.Recovering.{unmark_or_not, unmark_put}
 use Rattle.rrd_undo.proofs.recovery.unmark.Goals as goal
 
 pub returns-clause-stands : goal.returns-clause-stands
-returns-clause-stands g c f shape mark none = unmark_or_not shape _ mark _ none (c.put_and_sync.ensures.either f)
+returns-clause-stands g c s f shape mark none = unmark_or_not shape _ mark _ none (c.put_and_sync.ensures.either s (search rules))
 
 pub returns-clause-ok : goal.returns-clause-ok
-returns-clause-ok g c = on_ok c.put_and_sync.result _ _ (λ put f shape mark none. unmark_put shape _ mark _ none (put f)) c.put_and_sync.ensures.ok
+returns-clause-ok g c = on_ok c.put_and_sync.result _ _ (λ put s f shape mark none. unmark_put shape _ mark _ none (put s f)) c.put_and_sync.ensures.ok

@@ -7,45 +7,45 @@ use Rattle.rrd_undo.proofs.Stages.{alone_left, at_left, database_of}
 use Rattle.rrd_undo.proofs.change.Change.end.Goals as goal
 
 pub returns-then-count-self-clause-err : goal.returns-then-count-self-clause-err
-returns-then-count-self-clause-err g c f old new done counts all high are is_at =
+returns-then-count-self-clause-err g c s f old new done counts all high are is_at =
     let both = at_left old new done _ _ is_at in
     (both.0, λ is. inl (both.1 is))
 
 pub returns-in-Untouched-clause-ok : goal.returns-in-Untouched-clause-ok
-returns-in-Untouched-clause-ok g c = on_ok c.put_alone.result _ _ (λ h f old new done counts all high are is_at.
+returns-in-Untouched-clause-ok g c = on_ok c.put_alone.result _ _ (λ h s f old new done counts all high are is_at.
     let yes : IsTrue c.is_database.result = search rules in
     let count_len : c.args.count ≡ c.args.self.now.length = search rules in
     let alone : IsTrue c.is_alone.result = search rules in
-    let agree : Agreeing old new (g.F.Bytes.held c.args.file.now) done = rw c.in-Untouched.is at is_at.holds in
+    let agree : Agreeing old new (g.F.Bytes.held s c.args.file.now) done = rw c.in-Untouched.is at is_at.holds in
     let longer : length old ≤ length new = omega (arith, c.is_alone.ensures alone, is_at.knows.old_length, counts, count_len) in
-    ap settled (h f old new done (sym count_len ∙ counts) longer all high are is_at.knows agree) ∙ settled_plain new (database_of new _ are (c.is_database.ensures.0 yes))) c.put_alone.ensures.ok
+    ap settled (h s f old new done (sym count_len ∙ counts) longer all high are is_at.knows agree) ∙ settled_plain new (database_of new _ are (c.is_database.ensures.0 yes))) c.put_alone.ensures.ok
 
 pub returns-in-Untouched-clause-err : goal.returns-in-Untouched-clause-err
-returns-in-Untouched-clause-err g c = on_err c.put_alone.result _ _ (λ h f old new done counts all high are is_at.
+returns-in-Untouched-clause-err g c = on_err c.put_alone.result _ _ (λ h s f old new done counts all high are is_at.
     let yes : IsTrue c.is_database.result = search rules in
     let count_len : c.args.count ≡ c.args.self.now.length = search rules in
     let alone : IsTrue c.is_alone.result = search rules in
     let len : c.args.self.now.length ≡ length new = sym count_len ∙ counts in
-    let agree : Agreeing old new (g.F.Bytes.held c.args.file.now) done = rw c.in-Untouched.is at is_at.holds in
+    let agree : Agreeing old new (g.F.Bytes.held s c.args.file.now) done = rw c.in-Untouched.is at is_at.holds in
     let longer : length old ≤ length new = omega (arith, c.is_alone.ensures alone, is_at.knows.old_length, counts, count_len) in
-    let either = h f old new done len longer all high are is_at.knows agree in
-    let first : IsFirstPut old c.args.self.now.length (g.F.Bytes.held c.put_alone.new.file) = rw len (alone_left old new _ c.args.first.now done agree all longer are _ either) in
-    let left : IsLeft c.args.self.now.stage old c.args.self.now.tail.offset c.args.self.now.length (g.F.Bytes.held c.put_alone.new.file) = rw c.in-Untouched.is first in (
+    let either = h s f old new done len longer all high are is_at.knows agree in
+    let first : IsFirstPut old c.args.self.now.length (g.F.Bytes.held s c.put_alone.new.file) = rw len (alone_left old new _ c.args.first.now done agree all longer are _ either) in
+    let left : IsLeft c.args.self.now.stage old c.args.self.now.tail.offset c.args.self.now.length (g.F.Bytes.held s c.put_alone.new.file) = rw c.in-Untouched.is first in (
       record { knows = is_at.knows; left = left },
-      λ is. elim either as (λ _. (settled (g.F.Bytes.held c.put_alone.new.file) ≡ old) ⊎ (settled (g.F.Bytes.held c.put_alone.new.file) ≡ new)) [
+      λ is. elim either as (λ _. (settled (g.F.Bytes.held s c.put_alone.new.file) ≡ old) ⊎ (settled (g.F.Bytes.held s c.put_alone.new.file) ≡ new)) [
         | inl e ↦ inl (ap settled e ∙ settled_plain old is)
         | inr e ↦ inr (ap settled e ∙ settled_plain new (database_of new _ are (c.is_database.ensures.0 yes)))
       ],
     )) c.put_alone.ensures.err
 
 pub returns-in_default-clause-ok : goal.returns-in_default-clause-ok
-returns-in_default-clause-ok g c = on_ok c.end_started.result _ _ (λ h f old new done counts all high are is_at.
+returns-in_default-clause-ok g c = on_ok c.end_started.result _ _ (λ h s f old new done counts all high are is_at.
     let yes : IsTrue c.is_database.result = search rules in
     let count_len : c.args.count ≡ c.args.self.now.length = search rules in
-    h f old new done (database_of new _ are (c.is_database.ensures.0 yes)) (sym count_len ∙ counts) all are is_at) c.end_started.ensures.ok
+    h s f old new done (database_of new _ are (c.is_database.ensures.0 yes)) (sym count_len ∙ counts) all are is_at) c.end_started.ensures.ok
 
 pub returns-in_default-clause-err : goal.returns-in_default-clause-err
-returns-in_default-clause-err g c = on_err c.end_started.result _ _ (λ h f old new done counts all high are is_at.
+returns-in_default-clause-err g c = on_err c.end_started.result _ _ (λ h s f old new done counts all high are is_at.
     let yes : IsTrue c.is_database.result = search rules in
     let count_len : c.args.count ≡ c.args.self.now.length = search rules in
-    h f old new done (database_of new _ are (c.is_database.ensures.0 yes)) (sym count_len ∙ counts) all are is_at) c.end_started.ensures.err
+    h s f old new done (database_of new _ are (c.is_database.ensures.0 yes)) (sym count_len ∙ counts) all are is_at) c.end_started.ensures.err

@@ -1,4 +1,4 @@
-use Rattle.std.proofs.Common.{◌∙◌, ap}
+use Rattle.std.proofs.Common.{rules, ◌∙◌, ap}
 use Rattle.rrd_tail.specs.Settled.{settled}
 use Rattle.rrd_undo.proofs.Cutting.{settled_plain}
 use Rattle.rrd_undo.proofs.Laid.{always_err, on_err, on_ok}
@@ -6,25 +6,26 @@ use Rattle.rrd_undo.proofs.Stages.{other_left, other_invalid}
 use Rattle.rrd_undo.proofs.change.Change.end_started.Goals as goal
 
 pub returns-in-Marked-clause-ok : goal.returns-in-Marked-clause-ok
-returns-in-Marked-clause-ok g c = on_ok c.end_marked.result _ _ (λ h f old new done is_new counts all are is_at.
-    let at2 = c.in_ok-start.ensures.ok f old new done is_at in
+returns-in-Marked-clause-ok g c = on_ok c.end_marked.result _ _ (λ h s f old new done is_new counts all are is_at.
+    let at2 = c.in_ok-start.ensures.ok s (search rules) old new done is_at in
     let marked = (rw c.in-Marked.is at at2.holds) in
-    h f old new done marked.0 is_new at2.knows (c.start.ensures.length ∙ counts) all are marked.1) c.end_marked.ensures.ok
+    h s f old new done marked.0 is_new at2.knows (c.start.ensures.length ∙ counts) all are marked.1) c.end_marked.ensures.ok
 
 pub returns-in-Marked-clause-err : goal.returns-in-Marked-clause-err
-returns-in-Marked-clause-err g c = on_err c.end_marked.result _ _ (λ h f old new done is_new counts all are is_at.
-    let at2 = c.in_ok-start.ensures.ok f old new done is_at in
+returns-in-Marked-clause-err g c = on_err c.end_marked.result _ _ (λ h s f old new done is_new counts all are is_at.
+    let at2 = c.in_ok-start.ensures.ok s (search rules) old new done is_at in
     let marked = (rw c.in-Marked.is at at2.holds) in
-    h f old new done marked.0 is_new at2.knows (c.start.ensures.length ∙ counts) all are marked.1) (c.end_marked.ensures.err c.in-Marked.is)
+    h s f old new done marked.0 is_new at2.knows (c.start.ensures.length ∙ counts) all are marked.1) (c.end_marked.ensures.err c.in-Marked.is)
 
 pub returns-in_default : goal.returns-in_default
 returns-in_default g c = record {
-  ok = on_ok c.end_invalid.result _ _ (λ h f old new done is_new counts all are is_at.
-      let at2 = c.in_ok-start.ensures.ok f old new done is_at in
+  falls = λ s f. search rules;
+  ok = on_ok c.end_invalid.result _ _ (λ h s f old new done is_new counts all are is_at.
+      let at2 = c.in_ok-start.ensures.ok s (search rules) old new done is_at in
       let other = other_invalid c.start.new.self.stage old new _ _ _ done c.in_default.not-Marked c.in_ok-start.ensures.started at2.holds in
-      ap settled (h f new done (c.start.ensures.length ∙ counts) all are other.1) ∙ settled_plain new is_new) c.end_invalid.ensures.ok;
-  err = always_err c.end_invalid.result _ (λ f old new done is_new counts all are is_at.
-      let at2 = c.in_ok-start.ensures.ok f old new done is_at in
+      ap settled (h s f new done (c.start.ensures.length ∙ counts) all are other.1) ∙ settled_plain new is_new) c.end_invalid.ensures.ok;
+  err = always_err c.end_invalid.result _ (λ s f old new done is_new counts all are is_at.
+      let at2 = c.in_ok-start.ensures.ok s (search rules) old new done is_at in
       let other = other_invalid c.start.new.self.stage old new _ _ _ done c.in_default.not-Marked c.in_ok-start.ensures.started at2.holds in (
         rw c.end_invalid.ensures.frame (record { knows = at2.knows; left = other_left c.start.new.self.stage old _ _ _ c.in_default.not-Marked c.in_ok-start.ensures.started other.0 }),
         λ is. absurd (other.0 is),

@@ -4,32 +4,32 @@ use Rattle.rrd_undo.proofs.Stages.{at_left, at_old_page, at_page_same, at_same, 
 use Rattle.rrd_undo.proofs.change.Change.put.Goals as goal
 
 pub returns-then-self-at-clause-err : goal.returns-then-self-at-clause-err
-returns-then-self-at-clause-err g c f old new is is_at = at_left old new c.args.at _ _ is_at
+returns-then-self-at-clause-err g c s f old new is is_at = at_left old new c.args.at _ _ is_at
 
 pub returns-then-page-self-clause-err : goal.returns-then-page-self-clause-err
-returns-then-page-self-clause-err g c f old new is is_at = at_left old new c.args.at _ _ is_at
+returns-then-page-self-clause-err g c s f old new is is_at = at_left old new c.args.at _ _ is_at
 
 pub returns-in_err-is_same-clause-err : goal.returns-in_err-is_same-clause-err
-returns-in_err-is_same-clause-err g c = always_err c.from_residual.result _ (λ f old new is is_at.
-    at_left old new c.args.at _ _ (at_same old new c.args.at _ _ _ _ c.is_same.ensures.frame c.is_same.ensures.same is_at))
+returns-in_err-is_same-clause-err g c = always_err c.from_residual.result _ (λ s f old new is is_at.
+    at_left old new c.args.at _ _ (at_same old new c.args.at _ _ _ _ c.is_same.ensures.frame (c.is_same.ensures.same s) is_at))
 
 pub returns-then-branch-clause-ok : goal.returns-then-branch-clause-ok
-returns-then-branch-clause-ok g c f old new is is_at =
+returns-then-branch-clause-ok g c s f old new is is_at =
     let yes : IsTrue c.in_ok-is_same.field-0 = search rules in
-    at_page_same old new c.args.at c.args.page.now _ _ _ _ c.requires c.is_same.ensures.frame c.is_same.ensures.same is (c.in_ok-is_same.ensures.yes yes) (c.in_ok-is_same.ensures.read f) is_at
+    at_page_same old new c.args.at c.args.page.now _ _ _ _ c.requires c.is_same.ensures.frame (c.is_same.ensures.same s) is (c.in_ok-is_same.ensures.yes yes) (c.in_ok-is_same.ensures.read s (search rules)) is_at
 
 pub returns-clause-ok : goal.returns-clause-ok
-returns-clause-ok g c = on_ok c.put_differing.result _ _ (λ h f old new is is_at.
-    let same = at_same old new c.args.at _ _ _ _ c.is_same.ensures.frame c.is_same.ensures.same is_at in
+returns-clause-ok g c = on_ok c.put_differing.result _ _ (λ h s f old new is is_at.
+    let same = at_same old new c.args.at _ _ _ _ c.is_same.ensures.frame (c.is_same.ensures.same s) is_at in
     let within : c.args.at + length c.args.page.now ≤ c.start.new.self.length = omega (arith, c.start.ensures.length, same_length c.args.self.now c.is_same.new.self c.is_same.ensures.frame) in
-    h f old new is within c.in_ok-start.ensures.started
-    (at_old_page old new c.args.at c.args.page.now c.is_same.new.self.old_page.items c.start.new.self.old_page.items c.args.self.now _ c.requires (c.in_ok-is_same.ensures.read f) is_at (ap (λ v. v.items) c.start.ensures.page))
-    (c.in_ok-start.ensures.ok f old new c.args.at same)) c.put_differing.ensures.ok
+    h s f old new is within c.in_ok-start.ensures.started
+    (at_old_page old new c.args.at c.args.page.now c.is_same.new.self.old_page.items c.start.new.self.old_page.items c.args.self.now _ c.requires (c.in_ok-is_same.ensures.read s (search rules)) is_at (ap (λ v. v.items) c.start.ensures.page))
+    (c.in_ok-start.ensures.ok s (search rules) old new c.args.at same)) c.put_differing.ensures.ok
 
 pub returns-clause-err : goal.returns-clause-err
-returns-clause-err g c = on_err c.put_differing.result _ _ (λ h f old new is is_at.
-    let same = at_same old new c.args.at _ _ _ _ c.is_same.ensures.frame c.is_same.ensures.same is_at in
+returns-clause-err g c = on_err c.put_differing.result _ _ (λ h s f old new is is_at.
+    let same = at_same old new c.args.at _ _ _ _ c.is_same.ensures.frame (c.is_same.ensures.same s) is_at in
     let within : c.args.at + length c.args.page.now ≤ c.start.new.self.length = omega (arith, c.start.ensures.length, same_length c.args.self.now c.is_same.new.self c.is_same.ensures.frame) in
-    h f old new is within c.in_ok-start.ensures.started
-    (at_old_page old new c.args.at c.args.page.now c.is_same.new.self.old_page.items c.start.new.self.old_page.items c.args.self.now _ c.requires (c.in_ok-is_same.ensures.read f) is_at (ap (λ v. v.items) c.start.ensures.page))
-    (c.in_ok-start.ensures.ok f old new c.args.at same)) c.put_differing.ensures.err
+    h s f old new is within c.in_ok-start.ensures.started
+    (at_old_page old new c.args.at c.args.page.now c.is_same.new.self.old_page.items c.start.new.self.old_page.items c.args.self.now _ c.requires (c.in_ok-is_same.ensures.read s (search rules)) is_at (ap (λ v. v.items) c.start.ensures.page))
+    (c.in_ok-start.ensures.ok s (search rules) old new c.args.at same)) c.put_differing.ensures.err

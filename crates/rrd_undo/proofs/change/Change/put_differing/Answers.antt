@@ -1,38 +1,39 @@
-use Rattle.std.proofs.Common.{◌≤◌, ◌+◌, length, arith}
+use Rattle.std.proofs.Common.{rules, ◌≤◌, ◌+◌, length, arith}
 use Rattle.rrd_undo.specs.Changing.{Holds}
 use Rattle.rrd_undo.proofs.Laid.{always_err, on_err, on_ok}
 use Rattle.rrd_undo.proofs.Stages.{other_holds, other_left, other_invalid, page_of, put_below, turned_turning}
 use Rattle.rrd_undo.proofs.change.Change.put_differing.Goals as goal
 
 pub returns-in-Marked-clause-ok : goal.returns-in-Marked-clause-ok
-returns-in-Marked-clause-ok g c = on_ok c.turn.result _ _ (λ h f old new is within started pages is_at.
+returns-in-Marked-clause-ok g c = on_ok c.turn.result _ _ (λ h s f old new is within started pages is_at.
     let marked = (rw c.in-Marked.is at is_at.holds) in
     let page = page_of old c.args.at c.args.page.now c.args.self.now.old_page.items c.deref.result.now (omega (arith, c.requires)) (omega (arith, is.len)) (pages marked.0) c.deref.ensures.value in
     let below : c.args.at + length c.args.page.now ≤ c.args.self.now.tail.offset = omega (arith, within, is_at.knows.below) in
-    let turns = h f old marked.0 is_at.knows.tail page.0 page.1 below marked.1.undoing in
-    let holds : Holds c.args.self.now.stage old new c.args.self.now.tail.offset c.turn.new.self.slots (g.F.Bytes.held c.turn.new.file) (c.args.at + 4096) =
+    let turns = h s f old marked.0 is_at.knows.tail page.0 page.1 below marked.1.undoing in
+    let holds : Holds c.args.self.now.stage old new c.args.self.now.tail.offset c.turn.new.self.slots (g.F.Bytes.held s c.turn.new.file) (c.args.at + 4096) =
     rw c.in-Marked.is (marked.0, turned_turning old new _ _ _ c.args.at c.args.page.now _ _ c.requires is below marked.1 turns) in
     rw c.turn.ensures.frame (record { knows = is_at.knows; holds = holds })) c.turn.ensures.ok
 
 pub returns-in-Marked-clause-err : goal.returns-in-Marked-clause-err
-returns-in-Marked-clause-err g c = on_err c.turn.result _ _ (λ h f old new is within started pages is_at.
+returns-in-Marked-clause-err g c = on_err c.turn.result _ _ (λ h s f old new is within started pages is_at.
     let marked = (rw c.in-Marked.is at is_at.holds) in
     let page = page_of old c.args.at c.args.page.now c.args.self.now.old_page.items c.deref.result.now (omega (arith, c.requires)) (omega (arith, is.len)) (pages marked.0) c.deref.ensures.value in
     let below : c.args.at + length c.args.page.now ≤ c.args.self.now.tail.offset = omega (arith, within, is_at.knows.below) in
-    let stands = h f old marked.0 is_at.knows.tail page.0 page.1 below marked.1.undoing in (
+    let stands = h s f old marked.0 is_at.knows.tail page.0 page.1 below marked.1.undoing in (
       rw c.turn.ensures.frame (record { knows = is_at.knows; left = rw c.in-Marked.is stands }),
       λ is_db. stands,
     )) c.turn.ensures.err
 
 pub returns-in_default : goal.returns-in_default
 returns-in_default g c = record {
-  ok = on_ok c.put.result _ _ (λ put f old new is within started pages is_at.
+  falls = λ s f. search rules;
+  ok = on_ok c.put.result _ _ (λ put s f old new is within started pages is_at.
       let other = other_invalid c.args.self.now.stage old new _ _ _ c.args.at c.in_default.not-Marked started is_at.holds in
       record {
         knows = is_at.knows;
-        holds = other_holds c.args.self.now.stage old new _ _ _ _ c.in_default.not-Marked started other.0 (put_below new _ _ c.args.at c.args.page.now is (put f) other.1);
+        holds = other_holds c.args.self.now.stage old new _ _ _ _ c.in_default.not-Marked started other.0 (put_below new _ _ c.args.at c.args.page.now is (put s f) other.1);
       }) c.put.ensures.ok;
-  err = always_err c.put.result _ (λ f old new is within started pages is_at.
+  err = always_err c.put.result _ (λ s f old new is within started pages is_at.
       let other = other_invalid c.args.self.now.stage old new _ _ _ c.args.at c.in_default.not-Marked started is_at.holds in (
         record { knows = is_at.knows; left = other_left c.args.self.now.stage old _ _ _ c.in_default.not-Marked started other.0 },
         λ is_db. absurd (other.0 is_db),

@@ -1,11 +1,12 @@
+use Rattle.std.proofs.Common.{rules}
 use Rattle.rrd_undo.proofs.Laid.{always_err, on_ok}
 use Rattle.rrd_undo.proofs.Undone.{undo_marked, undo_marked_or_not}
 use Rattle.rrd_undo.proofs.tail.Tail.mark.Goals as goal
 
 pub returns-clause-ok : goal.returns-clause-ok
-returns-clause-ok g c = on_ok c.put_and_sync.result _ _ (λ put f old is is_tail counts are same.
-    undo_marked old _ is is_tail _ _ (c.in_ok-record_old.ensures.ok f old is is_tail counts are same) (rw c.undo_mark.ensures at (put f))) c.put_and_sync.ensures.ok
+returns-clause-ok g c = on_ok c.put_and_sync.result _ _ (λ put s f old is is_tail counts are same.
+    undo_marked old _ is is_tail _ _ (c.in_ok-record_old.ensures.ok s (search rules) old is is_tail counts are same) (rw c.undo_mark.ensures at (put s f))) c.put_and_sync.ensures.ok
 
 pub returns-clause-err : goal.returns-clause-err
-returns-clause-err g c = always_err c.put_and_sync.result _ (λ f old is is_tail counts are same.
-    undo_marked_or_not old _ is is_tail _ _ (c.in_ok-record_old.ensures.ok f old is is_tail counts are same) (rw c.undo_mark.ensures at (c.put_and_sync.ensures.either f)))
+returns-clause-err g c = always_err c.put_and_sync.result _ (λ s f old is is_tail counts are same.
+    undo_marked_or_not old _ is is_tail _ _ (c.in_ok-record_old.ensures.ok s (search rules) old is is_tail counts are same) (rw c.undo_mark.ensures at (c.put_and_sync.ensures.either s (search rules))))

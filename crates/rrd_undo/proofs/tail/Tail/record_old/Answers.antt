@@ -1,17 +1,18 @@
+use Rattle.std.proofs.Common.{rules}
 use Rattle.rrd_undo.proofs.Laid.{on_ok}
 use Rattle.rrd_undo.proofs.Undone.{cut_marked, cut_marked_or_not, old_recorded, old_recorded_or_not}
 use Rattle.rrd_undo.proofs.tail.Tail.record_old.Goals as goal
 
 pub returns-in_err-put_and_sync-clause-stands : goal.returns-in_err-put_and_sync-clause-stands
-returns-in_err-put_and_sync-clause-stands g c f old is is_tail counts are same =
-    cut_marked_or_not old _ _ is same (rw (c.cut_mark-mark.ensures, c.for_length.ensures, counts) at (c.put_and_sync.ensures.either f))
+returns-in_err-put_and_sync-clause-stands g c s f old is is_tail counts are same =
+    cut_marked_or_not old _ _ is same (rw (c.cut_mark-mark.ensures, c.for_length.ensures, counts) at (c.put_and_sync.ensures.either s (search rules)))
 
 pub returns-clause-stands : goal.returns-clause-stands
-returns-clause-stands g c f old is is_tail counts are same =
-    let cut = cut_marked old _ _ is same (rw (c.cut_mark-mark.ensures, c.for_length.ensures, counts) at (c.in_ok-put_and_sync.ensures.ok f)) in
-    old_recorded_or_not old _ is is_tail _ _ cut (c.put_record.ensures.either f old is counts are)
+returns-clause-stands g c s f old is is_tail counts are same =
+    let cut = cut_marked old _ _ is same (rw (c.cut_mark-mark.ensures, c.for_length.ensures, counts) at (c.in_ok-put_and_sync.ensures.ok s (search rules))) in
+    old_recorded_or_not old _ is is_tail _ _ cut (c.put_record.ensures.either s (search rules) old is counts are)
 
 pub returns-clause-ok : goal.returns-clause-ok
-returns-clause-ok g c = on_ok c.put_record.result _ _ (λ put f old is is_tail counts are same.
-    let cut = cut_marked old _ _ is same (rw (c.cut_mark-mark.ensures, c.for_length.ensures, counts) at (c.in_ok-put_and_sync.ensures.ok f)) in
-    old_recorded old _ is is_tail _ _ cut (put f old is counts are)) c.put_record.ensures.ok
+returns-clause-ok g c = on_ok c.put_record.result _ _ (λ put s f old is is_tail counts are same.
+    let cut = cut_marked old _ _ is same (rw (c.cut_mark-mark.ensures, c.for_length.ensures, counts) at (c.in_ok-put_and_sync.ensures.ok s (search rules))) in
+    old_recorded old _ is is_tail _ _ cut (put s f old is counts are)) c.put_record.ensures.ok
