@@ -8,10 +8,10 @@ from dataclasses import dataclass
 from pathlib import Path
 from typing import Callable, Mapping, NamedTuple, Sequence
 
-# The program that `rt run`, `rt test` and `rt ci` leave, and the program of the tests that `rt test` and `rt ci` leave.
+# The program that `rt run`, `rt test` and `rt ci` leave, and the programs of the tests that `rt test` and `rt ci` leave.
 TOP = Path(__file__).resolve().parent.parent.parent
 BUILT = TOP / "crates/rrdi/out/rrdi"
-TESTS = TOP / "crates/rrd_tests/out/rrd_tests_tests"
+TESTS = tuple(TOP / f"crates/{name}/out/{name}_tests" for name in ("tests_of_parts", "tests_of_database", "tests_of_program"))
 # The maximum duration of a run in seconds.
 PATIENCE = 60
 # The status of a run that was killed.

@@ -1,6 +1,6 @@
 //! A round-robin database of many data sources and archives, with a journal that can undo its changes.
 //!
-//! `rrd_tests/src/examples.rt` has a complete caller.
+//! `tests_of_database/src/examples.rt` has a complete caller.
 #![tactic(auto)]
 
 mod archives;

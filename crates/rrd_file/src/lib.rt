@@ -1,6 +1,6 @@
 //! The file of a database: its definition, its writer and its reader.
 //!
-//! A file is a sequence of pieces. `rrd_tests/src/examples.rt` has a complete caller.
+//! A file is a sequence of pieces. `tests_of_database/src/examples.rt` has a complete caller.
 #![tactic(auto)]
 
 ghost use Rattle.std.specs.Prelude.{◌≡◌, ◌⊎◌, ℕ, List, OnOk, Some};

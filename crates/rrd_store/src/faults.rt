@@ -9,12 +9,12 @@ use arrayvec::ArrayString;
 use rrd_file::FileFault;
 use rrd_fixed::{WriteFault, message, write_bytes};
 use rrd_tool::{Fault, LineFault, StreamFault, write_error};
+use std::error::Error;
+use std::fmt;
 use std::io::Write;
-use thiserror::Error;
 
 /// The reason why a task was not done, or only in part.
-#[derive(Clone, Copy, Debug, PartialEq, Eq, Error)]
-#[error("{}", self.text().as_str())]
+#[derive(Clone, Copy, Debug, PartialEq, Eq)]
 pub enum TaskFault {
     /// The command was refused, or a write of its output failed.
     Command(Fault),
@@ -75,6 +75,14 @@ impl TaskFault {
         matches!(self, TaskFault::Command(Fault::Line(LineFault::Usage)))
     }
 }
+
+impl fmt::Display for TaskFault {
+    fn fmt<W: fmt::Write>(&self, f: &mut fmt::Formatter<W>) -> fmt::Result {
+        f.write_str(self.text().as_str())
+    }
+}
+
+impl Error for TaskFault {}
 
 // Writes the line of a fault.
 fn write_line<W: Write>(err: &mut W, fault: &TaskFault) -> Result<(), WriteFault>

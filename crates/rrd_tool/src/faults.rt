@@ -8,8 +8,9 @@ use itoa::Buffer;
 use rrd_base::Refusal;
 use rrd_fixed::{WriteFault, message, write_bytes};
 use std::alloc::AllocError;
+use std::error::Error;
+use std::fmt;
 use std::io::Write;
-use thiserror::Error;
 
 /// The parts of a command that may be unreadable.
 #[derive(Clone, Copy, Debug, PartialEq, Eq)]
@@ -85,8 +86,7 @@ impl Part {
 }
 
 /// The reason why words are not a command.
-#[derive(Clone, Copy, Debug, PartialEq, Eq, Error)]
-#[error("{}", self.text().as_str())]
+#[derive(Clone, Copy, Debug, PartialEq, Eq)]
 pub enum LineFault {
     /// clap refuses the words.
     Usage,
@@ -122,6 +122,14 @@ impl LineFault {
     }
 }
 
+impl fmt::Display for LineFault {
+    fn fmt<W: fmt::Write>(&self, f: &mut fmt::Formatter<W>) -> fmt::Result {
+        f.write_str(self.text().as_str())
+    }
+}
+
+impl Error for LineFault {}
+
 // Returns the text of an unreadable part.
 fn unread_string(part: Part, number: u64) -> ArrayString<96>
     ensures text { result.bytes ≡ unread_text part number }
@@ -138,8 +146,7 @@ fn unread_string(part: Part, number: u64) -> ArrayString<96>
 }
 
 /// The reason why a command failed, or its output is incomplete.
-#[derive(Clone, Copy, Debug, PartialEq, Eq, Error)]
-#[error("{}", self.text().as_str())]
+#[derive(Clone, Copy, Debug, PartialEq, Eq)]
 pub enum Fault {
     /// The words are not a command.
     Line(LineFault),
@@ -165,6 +172,14 @@ impl Fault {
         }
     }
 }
+
+impl fmt::Display for Fault {
+    fn fmt<W: fmt::Write>(&self, f: &mut fmt::Formatter<W>) -> fmt::Result {
+        f.write_str(self.text().as_str())
+    }
+}
+
+impl Error for Fault {}
 
 /// Writes the line of a reason: `ERROR: `, a text of at most 60 bytes, and LF.
 pub fn write_error<W: Write>(out: &mut W, text: &str) -> Result<(), WriteFault>

@@ -1,5 +1,5 @@
-//! Commands on a database: parses words, runs the command, and prints its output. `rrd_tests/src/examples.rt` shows how
-//! to call the crate.
+//! Commands on a database: parses words, runs the command, and prints its output. `tests_of_database/src/examples.rt`
+//! shows how to call the crate.
 #![tactic(auto)]
 
 mod arguments;

@@ -1,7 +1,0 @@
-//! Files: their bytes, how they are read back, and the texts of their faults.
-
-pub(crate) mod bytes;
-pub(crate) mod decoding;
-mod each_call;
-mod each_growth;
-mod lengths;

@@ -1,8 +1,0 @@
-//! Commands and batches: the words that they are read from, what they print, and their faults.
-
-pub(crate) mod batches;
-mod each_call;
-mod each_growth;
-mod failing_streams;
-mod faults;
-mod words;

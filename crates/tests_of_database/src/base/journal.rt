@@ -1,0 +1,320 @@
+//! Tunes and resizes, what the journal holds of a change, and what taking it back leaves.
+use crate::shared::databases::{NONE, assert_rows};
+use rrd_base::{Change, Database, Entry, RraDef, SavedArchive};
+use rrd_fixed::{Cell, Kind, Raw};
+use rrd_fold::Function;
+use std::process::Abort;
+use std::test::Fail;
+use test_data::plans::{
+    Deed, FOUR_LAST, NEW, PLAIN_GAUGE, Plan, Samples, Source, Tuned, UNTUNED, done, made, update_of,
+};
+
+// The newest entry.
+fn newest<'a>(rt: &impl Abort, database: &'a Database) -> &'a Entry {
+    assert!(rt; 0 < database.undoable());
+    database.entry(0)
+}
+
+// ---- updates
+
+// Three archives, with rows of four steps.
+const THREE_ARCHIVES: Plan = Plan {
+    name: "three archives",
+    sources: &[Source {
+        heartbeat: 1_000,
+        ..PLAIN_GAUGE
+    }],
+    archives: &[
+        RraDef {
+            function: Function::Average,
+            steps: 4,
+            rows: 2,
+            ..FOUR_LAST
+        },
+        RraDef {
+            function: Function::Min,
+            steps: 4,
+            rows: 10,
+            ..FOUR_LAST
+        },
+        RraDef {
+            function: Function::Max,
+            steps: 4,
+            rows: 5,
+            ..FOUR_LAST
+        },
+    ],
+    ..NEW
+};
+
+// The same with half a step.
+const HALF_A_STEP: Plan = Plan {
+    name: "three archives and half a step",
+    deeds: &[Deed::Update(&[(15, &[2])])],
+    ..THREE_ARCHIVES
+};
+
+// Steps of a second.
+const SECONDS: Plan = Plan {
+    name: "steps of a second",
+    step: 1,
+    start: 1_000_000_000,
+    sources: &[Source {
+        heartbeat: 9_999_999_999,
+        ..PLAIN_GAUGE
+    }],
+    archives: &[
+        RraDef {
+            function: Function::Average,
+            rows: 24,
+            ..FOUR_LAST
+        },
+        RraDef {
+            function: Function::Max,
+            steps: 3_600,
+            rows: 24,
+            ..FOUR_LAST
+        },
+    ],
+    ..NEW
+};
+
+const TWO_ROWS: Plan = Plan {
+    name: "two rows",
+    archives: &[RraDef {
+        rows: 2,
+        ..FOUR_LAST
+    }],
+    ..NEW
+};
+
+// A database, an update, how many cells its entry holds, and the least and most turns that it takes.
+const TURNS: &[(Plan, Samples, u64, u64, u64)] = &[
+    // Half a step at 2, then 20 steps at 5, which finish five rows of each archive: two are all that
+    // the first archive has, the second keeps five of ten, and the third loses all its five.
+    (THREE_ARCHIVES, &[(15, &[2])], 0, 0, 27),
+    (HALF_A_STEP, &[(215, &[5])], 12, 12, 39),
+    // A gap of ten years.
+    (SECONDS, &[(1_315_360_000, &[3])], 48, 48, 67),
+    // Of a thousand rows in an archive of two, two cells are written: the turns are these and at most
+    // eleven more, three for the source and eight for it in the archive.
+    (TWO_ROWS, &[(10_000, &[3])], 2, 2, 13),
+];
+
+#[test]
+fn turns_of_updates(rt: HostRuntime) -> Result<(), Fail> {
+    let alloc = rt.alloc();
+    for (plan, samples, cells, least, most) in TURNS {
+        let mut database = made(alloc, plan)?;
+        let receipt = database.update(alloc, &update_of(alloc, *samples)?)?;
+        assert_eq!(&rt; receipt.cells, *cells, "{}", plan.name);
+        let turns = receipt.turns;
+        let few = *least <= turns && turns <= *most;
+        assert!(&rt; few, "{}: {turns}", plan.name);
+    }
+    Ok(())
+}
+
+// An archive of this function lost so many rows, the oldest of them unknown, and had one step at 2 of
+// its unfinished row.
+fn assert_kept(rt: &impl Abort, kept: &SavedArchive, function: Function, count: u64) {
+    assert_eq!(rt; kept.function(), function);
+    let rows = kept.rows();
+    assert_eq!(rt; rows.len(), count);
+    assert!(rt; 0 < rows.len());
+    assert_eq!(rt; rows.row(0), [NONE].as_slice());
+    let preps = kept.preps();
+    assert!(rt; preps.len() == 1);
+    let row = &preps[0];
+    assert_eq!(rt; (row.known(), row.value()), (1, 2_000_000));
+}
+
+fn assert_second_update_kept(rt: &impl Abort, database: &Database) {
+    let Entry::Update(before) = newest(rt, database) else {
+        panic!(rt; "no update")
+    };
+    assert_eq!(rt; before.last, 15);
+    assert_eq!(rt; before.raws.as_slice(), [Raw::Known(2_000_000)].as_slice());
+    assert_eq!(rt; before.preps.len(), 1);
+    let step = &before.preps[0];
+    assert_eq!(rt; (step.known(), step.sum()), (5, 10_000_000));
+    assert_eq!(rt; before.archives.len(), 3);
+    assert_kept(rt, &before.archives[0], Function::Average, 2);
+    assert_kept(rt, &before.archives[1], Function::Min, 5);
+    assert_kept(rt, &before.archives[2], Function::Max, 5);
+}
+
+// It finished no row.
+fn assert_first_update_kept(rt: &impl Abort, database: &Database) {
+    assert!(rt; 1 < database.undoable());
+    let Entry::Update(before) = database.entry(1) else {
+        panic!(rt; "no update")
+    };
+    assert_eq!(rt; (before.last, before.archives.len()), (0, 3));
+    for kept in &before.archives {
+        assert_eq!(rt; kept.rows().len(), 0, "{:?}", kept.function());
+    }
+}
+
+#[test]
+fn an_update_keeps_what_it_replaces(rt: HostRuntime) -> Result<(), Fail> {
+    let alloc = rt.alloc();
+    let mut database = made(alloc, &HALF_A_STEP)?;
+    done(alloc, &mut database, &Deed::Update(&[(215, &[5])]))?;
+    assert_second_update_kept(&rt, &database);
+    assert_first_update_kept(&rt, &database);
+    Ok(())
+}
+
+// ---- tunes
+
+const COUNTER: Plan = Plan {
+    name: "a counter",
+    sources: &[Source {
+        name: "c",
+        kind: Kind::Counter,
+        ..PLAIN_GAUGE
+    }],
+    deeds: &[Deed::Update(&[(10, &[7])])],
+    ..NEW
+};
+
+const GAUGE_OF_ANOTHER_NAME: Tuned = Tuned {
+    kind: Some(("c", Kind::Gauge)),
+    rename: Some(("c", "g")),
+    ..UNTUNED
+};
+
+const THE_SAME_TYPE: Tuned = Tuned {
+    kind: Some(("c", Kind::Counter)),
+    ..UNTUNED
+};
+
+// The only source has this name, type and last raw value.
+fn assert_source(rt: &impl Abort, database: &Database, name: &str, kind: Kind, raw: Raw) {
+    assert!(rt; database.sources() == 1);
+    let source = database.source(0);
+    assert_eq!(rt; (source.name.as_str(), source.kind), (name, kind));
+    assert_eq!(rt; database.last_raw(0), raw);
+}
+
+// The newest entry is that of a tune of a counter.
+fn assert_counter_kept(rt: &impl Abort, database: &Database) {
+    let Entry::Tune(sources) = newest(rt, database) else {
+        panic!(rt; "no tune")
+    };
+    assert_eq!(rt; sources.len(), 1);
+    let before = &sources[0];
+    assert_eq!(rt; (before.number, before.source.name.as_str()), (0, "c"));
+    assert_eq!(rt;
+        (before.source.kind, before.raw),
+        (Kind::Counter, Raw::Known(7))
+    );
+}
+
+// Another type and name forget the raw value, until they are taken back; the same type keeps it.
+#[test]
+fn another_type_and_the_same(rt: HostRuntime) -> Result<(), Fail> {
+    let alloc = rt.alloc();
+    let mut database = made(alloc, &COUNTER)?;
+    assert_source(&rt, &database, "c", Kind::Counter, Raw::Known(7));
+    for (tuned, name, kind, raw) in [
+        (GAUGE_OF_ANOTHER_NAME, "g", Kind::Gauge, Raw::Unknown),
+        (THE_SAME_TYPE, "c", Kind::Counter, Raw::Known(7)),
+    ] {
+        done(alloc, &mut database, &Deed::Tune(tuned))?;
+        assert_source(&rt, &database, name, kind, raw);
+        assert_eq!(&rt; (database.last(), database.undoable()), (10, 2), "{name}");
+        assert_counter_kept(&rt, &database);
+        database.revert()?;
+        assert_source(&rt, &database, "c", Kind::Counter, Raw::Known(7));
+        assert_eq!(&rt; (database.last(), database.undoable()), (10, 1), "{name}");
+    }
+    Ok(())
+}
+
+// ---- resizes
+
+fn assert_four_rows_kept(rt: &impl Abort, database: &Database) {
+    let Entry::Resize { archive: 0, old } = newest(rt, database) else {
+        panic!(rt; "no resize")
+    };
+    assert_eq!(rt; old.rows(), 4);
+    assert_eq!(rt; old.row(0), [Cell::Known(1_000_000)].as_slice());
+    assert!(rt; database.archives() == 1);
+    assert_eq!(rt; database.archive(0).rows, 1);
+}
+
+// Two rows at 1, and two at 2.
+const FOUR_ROWS: Plan = Plan {
+    name: "four rows",
+    deeds: &[Deed::Update(&[(20, &[1]), (40, &[2])])],
+    ..NEW
+};
+
+#[test]
+fn a_resize_keeps_the_old_rows(rt: HostRuntime) -> Result<(), Fail> {
+    let alloc = rt.alloc();
+    let mut database = made(alloc, &FOUR_ROWS)?;
+    database.resize(alloc, 0, Change::Shrink, 3)?;
+    assert_four_rows_kept(&rt, &database);
+    assert_rows(&rt, &database, 40, 10, &[2_000_000]);
+    database.revert()?;
+    let rows = [1_000_000, 1_000_000, 2_000_000, 2_000_000];
+    assert_rows(&rt, &database, 10, 10, &rows);
+    Ok(())
+}
+
+// ---- archives that come and go
+
+// The archive that went is kept as it was, with the preparation of its unfinished row.
+fn assert_first_kept(rt: &impl Abort, database: &Database) {
+    let Entry::Removed { archive: 0, old } = newest(rt, database) else {
+        panic!(rt; "no removal")
+    };
+    assert_eq!(rt; (old.def().steps, old.def().rows), (2, 3));
+    assert_eq!(rt; old.preps().len(), 1);
+    assert_eq!(rt; old.preps()[0].known(), 1);
+    let rows = old.archive();
+    assert_eq!(rt; rows.rows(), 3);
+    assert_eq!(rt; rows.row(2), [Cell::Known(1_000_000)].as_slice());
+}
+
+// Another archive is added, and the first one is removed in the middle of a row.
+const FIRST_REMOVED: Plan = Plan {
+    name: "the first archive removed",
+    archives: &[RraDef {
+        steps: 2,
+        rows: 3,
+        ..FOUR_LAST
+    }],
+    deeds: &[
+        Deed::Add(FOUR_LAST),
+        Deed::Update(&[(20, &[1]), (30, &[2])]),
+        Deed::Remove(0),
+    ],
+    ..NEW
+};
+
+#[test]
+fn a_removal_keeps_the_archive(rt: HostRuntime) -> Result<(), Fail> {
+    let alloc = rt.alloc();
+    let mut database = made(alloc, &FIRST_REMOVED)?;
+    assert!(&rt; database.archives() == 1);
+    assert_eq!(&rt; database.archive(0).rows, 4);
+    assert_first_kept(&rt, &database);
+    database.revert()?;
+    assert!(&rt; database.archives() == 2);
+    assert_eq!(&rt;
+        (database.archive(0).rows, database.archive(1).rows),
+        (3, 4)
+    );
+    assert_eq!(&rt; database.row_prep(0, 0).known(), 1);
+    database.revert()?;
+    let Entry::Added = newest(&rt, &database) else {
+        return Err(Fail::from("no addition"));
+    };
+    database.revert()?;
+    assert!(&rt; database.archives() == 1);
+    Ok(())
+}

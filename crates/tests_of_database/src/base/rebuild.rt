@@ -1,0 +1,237 @@
+//! Databases from the pieces of their files, and pieces that are bad.
+use crate::shared::assert_bytes;
+use crate::shared::databases::NONE;
+use arrayvec::ArrayVec;
+use rrd_base::{
+    BeforeUpdate, Database, DsDef, Due, Entry, PieceFault, Rebuild, RraDef, SavedArchive,
+    SavedSource, Version,
+};
+use rrd_fixed::{Cell, Kind, Name, Raw};
+use rrd_fold::{Function, RowPrep, StepPrep};
+use rrd_ring::Dropped;
+use std::alloc::Global;
+use std::process::Abort;
+use std::test::Fail;
+use test_data::worked_files::{file_of, sampled_file};
+
+const ONE: Cell = Cell::Known(1_000_000);
+
+const BAD: Result<(), PieceFault> = Err(PieceFault::Bad);
+
+pub(super) fn gauge(name: &[u8], heartbeat: u64) -> Result<DsDef, &'static str> {
+    Ok(DsDef {
+        name: Name::fit(name).ok_or("no name")?,
+        kind: Kind::Gauge,
+        heartbeat,
+        min: None,
+        max: None,
+    })
+}
+
+// An archive of last values.
+pub(super) fn archive(steps: u64, rows: u64) -> RraDef {
+    RraDef {
+        function: Function::Last,
+        xff: 500_000,
+        steps,
+        rows,
+    }
+}
+
+// A piece that must be taken.
+pub(super) fn taken(taking: Result<(), PieceFault>) -> Result<(), Fail> {
+    taking.map_err(|_| Fail::from("not taken"))
+}
+
+fn begun(alloc: Global, sources: u64, entries: u64) -> Result<Rebuild, Fail> {
+    Rebuild::begin(alloc, Version::Two, 10, 10, 16, sources, 1, entries).map_err(|_| Fail::from(
+        "not begun",
+    ))
+}
+
+// The gauge `g` and an archive of four last values, after a sample of 1 at 10: what a file says of it
+// before its cells.
+fn with_heads(alloc: Global) -> Result<Rebuild, Fail> {
+    let mut pieces = begun(alloc, 1, 1)?;
+    let g = gauge(b"g", 100)?;
+    taken(pieces.source(g, Raw::Known(1_000_000), 0, 0))?;
+    taken(pieces.archive(archive(1, 4)))?;
+    taken(pieces.prep(0, 0))?;
+    Ok(pieces)
+}
+
+// The same with its cells: the row at 10 stands in the slot 1.
+fn with_cells(alloc: Global) -> Result<Rebuild, Fail> {
+    let mut pieces = with_heads(alloc)?;
+    for cell in [NONE, ONE, NONE, NONE] {
+        taken(pieces.cell(cell))?;
+    }
+    Ok(pieces)
+}
+
+// What was before the sample, the last time being this one: of the archive one row fell out.
+fn before(alloc: Global, last: u64) -> Result<Entry, Fail> {
+    let preps = vec![in alloc; RowPrep::new(Function::Last); 1]?;
+    let saved = SavedArchive::new(Function::Last, preps, Dropped::new(alloc, 1, 1)?);
+    let mut archives = Vec::new(alloc);
+    archives.push(saved)?;
+    Ok(Entry::Update(BeforeUpdate {
+        last,
+        raws: vec![in alloc; Raw::Unknown; 1]?,
+        preps: vec![in alloc; StepPrep::new(); 1]?,
+        archives,
+    }))
+}
+
+// The database of all pieces.
+pub(super) fn finished(rt: &impl Abort, pieces: Rebuild) -> Database {
+    let Due::NothingDue = pieces.due() else {
+        panic!(rt; "a piece is due")
+    };
+    pieces.finish()
+}
+
+#[test]
+fn a_file_made_again_by_its_pieces(rt: HostRuntime) -> Result<(), Fail> {
+    let alloc = rt.alloc();
+    let mut pieces = with_cells(alloc)?;
+    taken(pieces.entry(before(alloc, 0)?))?;
+    assert_eq!(&rt; pieces.undone().last, 0);
+    let database = finished(&rt, pieces);
+    let file = file_of(alloc, &database)?;
+    assert_bytes(&rt, &file, &sampled_file(alloc)?, "made again");
+    Ok(())
+}
+
+#[test]
+fn bad_headers(rt: HostRuntime) -> Result<(), Fail> {
+    let alloc = rt.alloc();
+    for (step, depth, sources, entries) in [(0, 16, 1, 1), (10, 16, 65, 1), (10, 16, 1, 17)] {
+        let made = Rebuild::begin(alloc, Version::Two, step, 10, depth, sources, 1, entries);
+        let Err(fault) = made else {
+            return Err(Fail::from("begun"));
+        };
+        assert_eq!(&rt;
+            fault,
+            PieceFault::Bad,
+            "{step} {depth} {sources} {entries}"
+        );
+    }
+    Ok(())
+}
+
+// A name twice, and rows for more than 8,000,000 cells of 64 sources.
+#[test]
+fn bad_sources_and_archives(rt: HostRuntime) -> Result<(), Fail> {
+    let alloc = rt.alloc();
+    let mut pieces = begun(alloc, 64, 0)?;
+    for number in 10..74u8 {
+        let name = [
+            b's',
+            b'0'.saturating_add(number / 10),
+            b'0'.saturating_add(number % 10),
+        ];
+        let def = gauge(&name, 1_000)?;
+        let again = def.duplicate();
+        taken(pieces.source(def, Raw::Unknown, 0, 0))?;
+        let double = pieces.source(again, Raw::Unknown, 0, 0);
+        assert_eq!(&rt; double, BAD, "{number}");
+    }
+    assert_eq!(&rt; pieces.archive(archive(1, 125_001)), BAD);
+    assert_eq!(&rt; pieces.archive(archive(0, 1)), BAD);
+    Ok(())
+}
+
+// No step of the row in progress has passed, and there are four cells.
+#[test]
+fn bad_preparations_and_cells(rt: HostRuntime) -> Result<(), Fail> {
+    let alloc = rt.alloc();
+    let mut pieces = begun(alloc, 1, 1)?;
+    let g = gauge(b"g", 100)?;
+    taken(pieces.source(g, Raw::Known(1_000_000), 0, 0))?;
+    taken(pieces.archive(archive(1, 4)))?;
+    assert_eq!(&rt; pieces.cell(NONE), BAD);
+    assert_eq!(&rt; pieces.prep(1, 1_000_000), BAD);
+    let mut pieces = with_heads(alloc)?;
+    let past = Cell::Known(18_446_744_073_709_551_615_000_001);
+    assert_eq!(&rt; pieces.cell(past), BAD);
+    let mut pieces = with_cells(alloc)?;
+    assert_eq!(&rt; pieces.cell(NONE), BAD);
+    Ok(())
+}
+
+// Two sources and an archive of three rows: what a file says of it before its cells.
+fn with_two_sources(alloc: Global) -> Result<Rebuild, Fail> {
+    let mut pieces = begun(alloc, 2, 0)?;
+    taken(pieces.source(gauge(b"a", 100)?, Raw::Unknown, 0, 0))?;
+    taken(pieces.source(gauge(b"b", 100)?, Raw::Unknown, 0, 0))?;
+    taken(pieces.archive(archive(1, 3)))?;
+    taken(pieces.prep(0, 0))?;
+    taken(pieces.prep(0, 0))?;
+    Ok(pieces)
+}
+
+// Rows at once come to the same as their cells one by one.
+#[test]
+fn rows_are_their_cells(rt: HostRuntime) -> Result<(), Fail> {
+    let alloc = rt.alloc();
+    let mut pieces = with_two_sources(alloc)?;
+    assert_eq!(&rt; pieces.rows(&[ONE, NONE, ONE]), 2);
+    assert_eq!(&rt; pieces.unknown_rows(3), 2);
+    assert_eq!(&rt; pieces.rows(&[NONE, ONE, ONE, ONE]), 2);
+    let mut again = with_two_sources(alloc)?;
+    for cell in [ONE, NONE, NONE, NONE, NONE, ONE] {
+        taken(again.cell(cell))?;
+    }
+    let (one, other) = (finished(&rt, pieces), finished(&rt, again));
+    assert_bytes(
+        &rt,
+        &file_of(alloc, &one)?,
+        &file_of(alloc, &other)?,
+        "rows at once",
+    );
+    Ok(())
+}
+
+// Whole rows alone are taken, and none where the next cell isn't the first of a row.
+#[test]
+fn rows_that_come_at_once(rt: HostRuntime) -> Result<(), Fail> {
+    let alloc = rt.alloc();
+    let mut pieces = with_two_sources(alloc)?;
+    assert_eq!(&rt; pieces.cells_in_row(), 2);
+    assert_eq!(&rt; pieces.rows(&[ONE]), 0);
+    assert_eq!(&rt; pieces.unknown_rows(1), 0);
+    assert_eq!(&rt; pieces.rows(&[ONE, NONE, ONE]), 2);
+    taken(pieces.cell(NONE))?;
+    assert_eq!(&rt; pieces.rows(&[ONE, ONE]), 0);
+    assert_eq!(&rt; pieces.unknown_rows(2), 0);
+    taken(pieces.cell(ONE))?;
+    assert_eq!(&rt; pieces.unknown_rows(64), 2);
+    assert_eq!(&rt; pieces.unknown_rows(64), 0);
+    let database = finished(&rt, pieces);
+    // The last time is 10, in slot 1: the newest row stands there.
+    let rows = database.rows(0);
+    for (number, row) in [[NONE, NONE], [ONE, NONE], [NONE, ONE]].iter().enumerate() {
+        assert!(&rt; (number as u64) < rows.rows(), "{number}");
+        assert_eq!(&rt; rows.row(number as u64), row.as_slice(), "{number}");
+    }
+    Ok(())
+}
+
+// An update that took no time, and a tune of a source that isn't there: the right one fits after them.
+#[test]
+fn bad_entries(rt: HostRuntime) -> Result<(), Fail> {
+    let alloc = rt.alloc();
+    let mut pieces = with_cells(alloc)?;
+    assert_eq!(&rt; pieces.entry(before(alloc, 10)?), BAD);
+    let mut olds = ArrayVec::new();
+    olds.push(SavedSource {
+        number: 1,
+        source: gauge(b"h", 100)?,
+        raw: Raw::Unknown,
+    });
+    assert_eq!(&rt; pieces.entry(Entry::Tune(olds)), BAD);
+    taken(pieces.entry(before(alloc, 0)?))?;
+    assert_eq!(&rt; finished(&rt, pieces).undoable(), 1);
+    Ok(())
+}

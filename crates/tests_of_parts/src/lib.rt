@@ -1,0 +1,11 @@
+//! The tests of rows, of parts of rows, of how a change of a file is undone, and of the record of the undo.
+#![tactic(auto)]
+
+#[cfg(test)]
+mod fold;
+#[cfg(test)]
+mod ring;
+#[cfg(test)]
+mod tail;
+#[cfg(test)]
+mod undo;
