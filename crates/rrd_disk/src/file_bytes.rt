@@ -102,12 +102,7 @@ impl<F: DiskFile> FileBytes<F> {
     // Finds the database that the file stands for, if the file has a mark.
     fn find_standing(&mut self) -> io::Result<Option<Standing>> {
         let length = self.len()?;
-        Standing::find(
-            self.alloc,
-            self.locked.file(),
-            length,
-            self.front.bytes(),
-        )
+        Standing::find(self.alloc, self.locked.file(), length, self.front.bytes())
     }
 
     /// Ends an interrupted change of the file, or takes the change back. Writes nothing to a file that stands for no

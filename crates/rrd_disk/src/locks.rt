@@ -100,10 +100,7 @@ fn has_no_locks(error: &Error) -> bool {
 
 // Checks whether a later try may lock the file: another program holds a lock, or a signal came.
 fn is_to_be_tried_again(error: &Error) -> bool {
-    matches!(
-        error.kind(),
-        ErrorKind::WouldBlock | ErrorKind::Interrupted
-    )
+    matches!(error.kind(), ErrorKind::WouldBlock | ErrorKind::Interrupted)
 }
 
 // Locks a file, and tries again during the pauses while another program holds a lock.

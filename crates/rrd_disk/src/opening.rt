@@ -55,9 +55,11 @@ fn openable_kind<D: Disk>(disk: &D, path: &str, opening: Opening) -> io::Result<
 // Checks whether a path names the regular file with these facts.
 fn names<D: Disk>(disk: &D, path: &str, facts: &Facts) -> io::Result<bool> {
     match disk.facts_at(path) {
-        Ok(named) => Ok(facts.kind == Kind::Regular
-            && named.device == facts.device
-            && named.inode == facts.inode),
+        Ok(named) => Ok(
+            facts.kind == Kind::Regular
+                && named.device == facts.device
+                && named.inode == facts.inode,
+        ),
         Err(error) if error.kind() == ErrorKind::NotFound => Ok(false),
         Err(error) => Err(error),
     }

@@ -116,7 +116,12 @@ fn lay_slot<F: DiskFile>(
     }
     let part = &mut into[from - start..end - start];
     let count = part.len();
-    if get(file, part, slot.at.saturating_add(from - slot.offset) as u64)? < count {
+    if get(
+        file,
+        part,
+        slot.at.saturating_add(from - slot.offset) as u64,
+    )? < count
+    {
         return Err(Error::from(ErrorKind::UnexpectedEof));
     }
     Ok(())

@@ -10,6 +10,7 @@ use std::io::{self, Write};
 pub struct FileWriter<'a, F: DiskFile> {
     pages: PageWriter<FileBytes<F>>,
     cause: &'a Cause,
+    has_failed: bool,
 }
 
 impl<'a, F: DiskFile> FileWriter<'a, F> {
@@ -24,6 +25,7 @@ impl<'a, F: DiskFile> FileWriter<'a, F> {
         Ok(FileWriter {
             pages: PageWriter::begin(alloc, file, length, syncs)?,
             cause,
+            has_failed: false,
         })
     }
 
@@ -49,7 +51,11 @@ impl<'a, F: DiskFile> FileWriter<'a, F> {
 impl<'a, F: DiskFile> Write for FileWriter<'a, F> {
     fn write(&mut self, buf: &[u8]) -> io::Result<usize> {
         let taken = self.pages.take(buf);
-        self.cause.note(&taken);
+        if taken.is_err() && !self.has_failed {
+            // Each later write fails too, and not for the reason of the first one.
+            self.cause.note(&taken);
+            self.has_failed = true;
+        }
         taken
     }
 
