@@ -174,8 +174,9 @@ impl Standing {
         let Some(slots) = find_slots(alloc, file, tail, old.length / PAGE + 1)? else {
             return Ok(None);
         };
+        let front = old.first;
         Ok(Some(Standing {
-            front: old.first,
+            front,
             length: old.length,
             slots,
             without_record: None,

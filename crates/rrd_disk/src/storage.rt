@@ -162,18 +162,21 @@ impl<'a, D: Disk> FileStorage<'a, D> {
     // Opens the file under this run's own lock, for reading and then writing. If the run may not write the file, the run
     // opens the file for reading.
     fn open_to_change(&mut self) -> io::Result<Option<Source<D::File>>> {
-        match self.open_locked(Opening::Write) {
-            Ok(Opened::Regular(locked, length)) => {
+        let opened = match self.open_locked(Opening::Write) {
+            Ok(opened) => opened,
+            Err(error) if error.kind() == ErrorKind::NotFound => {
+                self.check_directory()?;
+                return Ok(self.miss(error));
+            }
+            Err(error) => return Err(error),
+        };
+        match opened {
+            Opened::Regular(locked, length) => {
                 let bytes = self.begin_bytes(locked, length)?;
                 Ok(Some(self.hold(bytes)?))
             }
-            Ok(Opened::Pipe(_)) => Err(not_regular()),
-            Ok(Opened::Refused(error)) => self.open_to_read(error),
-            Err(error) if error.kind() == ErrorKind::NotFound => {
-                self.check_directory()?;
-                Ok(self.miss(error))
-            }
-            Err(error) => Err(error),
+            Opened::Pipe(_file) => Err(not_regular()),
+            Opened::Refused(error) => self.open_to_read(error),
         }
     }
 
