@@ -21,7 +21,7 @@
    BLOCKS were not freed, MOST bytes were held at a time, and TOUCHED kilobytes were in memory at a time.
 
    The file RECORD gets each change of a file with its bytes: a line `pwrite FILE AT SIZE` followed by the bytes,
-   `ftruncate FILE LENGTH 0`, `fsync FILE 0 0`. */
+   `ftruncate FILE LENGTH 0`, `fsync FILE 0 0`, and `unsynced FILE 0 0` for a sync that failed. */
 #define _GNU_SOURCE
 #include <errno.h>
 #include <fcntl.h>
@@ -284,8 +284,7 @@ int ftruncate64(int file, off_t length) {
 
 static int synced(const char *name, int file, long call_number) {
     long got = may(name, file, 1) ? syscall(call_number, file) : -1;
-    if (got == 0)
-        note(record_file, "fsync %d 0 0\n", file);
+    note(record_file, "%s %d 0 0\n", got == 0 ? "fsync" : "unsynced", file);
     return noted(name, file, 0, got, 0);
 }
 

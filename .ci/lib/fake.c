@@ -178,7 +178,8 @@ static int lock(int file, int how) {
 
 /* ---- a change */
 
-static int take_back(int file, struct base old, struct base new) {
+/* Takes a change back: marks the file again, since a failed sync may have left the new header on the disk alone. */
+static int take_back(int file, struct base old, struct base new, const struct head *marked) {
     if (has("leaves-change"))
         return -1;
     size_t count = old.length > new.length ? old.length : new.length;
@@ -186,13 +187,15 @@ static int take_back(int file, struct base old, struct base new) {
         count = HEAD + ROW;
     if (count > old.length)
         count = old.length;
-    if (!put(file, old.bytes + HEAD, count - HEAD, HEAD) && !put(file, old.bytes, HEAD, 0))
-        cut(file, old.length);
+    int is_marked = !put(file, (const unsigned char *)marked, HEAD, 0) && (has("marks-unsynced") || !settle_on_disk(file));
+    if (is_marked && !put(file, old.bytes + HEAD, count - HEAD, HEAD) && !settle_on_disk(file) && !put(file, old.bytes, HEAD, 0)
+        && !settle_on_disk(file) && !cut(file, old.length))
+        settle_on_disk(file);
     return -1;
 }
 
 static int put_pages(int file, struct base old, struct base new) {
-    for (size_t at = 0; at < new.length; at += PAGE) {
+    for (size_t at = has("first-page-at-once") ? PAGE : 0; at < new.length; at += PAGE) {
         if (has("slow"))
             usleep(500);
         size_t begin = at ? at : HEAD, end = at + PAGE < new.length ? at + PAGE : new.length;
@@ -235,11 +238,12 @@ static int store(int file, struct base old, struct base new, int is_database) {
         return -1;
     }
     if (has("marks-late") && put_pages(file, old, new))
-        return take_back(file, old, new);
-    if (put(file, (unsigned char *)&marked, HEAD, 0) || settle_on_disk(file) || put_pages(file, old, new)
-        || settle_on_disk(file) || (has("cuts-early") && cut(file, new.length)) || put(file, new.bytes, HEAD, 0))
-        return take_back(file, old, new);
-    settle_on_disk(file);
+        return take_back(file, old, new, &marked);
+    size_t front = has("first-page-at-once") && new.length > PAGE ? PAGE : HEAD;
+    int is_marked = has("marks-by-length") || (!put(file, (unsigned char *)&marked, HEAD, 0) && !settle_on_disk(file));
+    if (!is_marked || put_pages(file, old, new) || settle_on_disk(file) || (has("cuts-early") && cut(file, new.length))
+        || put(file, new.bytes, front, 0) || settle_on_disk(file))
+        return take_back(file, old, new, &marked);
     cut(file, new.length);
     settle_on_disk(file);
     return 0;
@@ -251,6 +255,13 @@ static int is_settled(struct base base) {
         || (head_of(base)->state == 0 && base.length <= head_of(base)->length);
 }
 
+/* Writes the header as it was read, so that the disk has what the cache has before anything else changes. */
+static int store_header(int file, struct base base) {
+    if (has("trusts-cache"))
+        return 0;
+    return (!has("syncs-cache") && put(file, base.bytes, HEAD, 0)) || settle_on_disk(file);
+}
+
 static int settle(int file) {
     struct base base = read_whole(file);
     if (!base.bytes)
@@ -258,9 +269,11 @@ static int settle(int file) {
     if (is_settled(base) || has("stays-marked"))
         return 0;
     struct head old = *head_of(base);
-    if (old.state) {
-        memcpy(&old, base.bytes + old.tail, HEAD);
-        size_t tail = head_of(base)->tail;
+    size_t tail = head_of(base)->state ? head_of(base)->tail : has("marks-by-length") ? PAGE : 0;
+    if (store_header(file, base))
+        return -1;
+    if (tail) {
+        memcpy(&old, base.bytes + tail, HEAD);
         if (has("takes-head-first") && put(file, base.bytes + tail, HEAD, 0))
             return -1;
         syncs &= !has("no-sync-to-recover");

@@ -60,6 +60,11 @@ class Small(unittest.TestCase):
         self.assertEqual(list(between.changes_of(record)), [Change("pwrite", 5, b"0123456789"), Change("pwrite", 15, b"abcdefghij"),
                                                             Change("ftruncate", 20), Change("fsync")])
 
+    def test_a_failed_sync_is_recorded(self) -> None:
+        record = self.folder / "record"
+        self.told(RECORD=record, CALL=6)
+        self.assertEqual([change.name for change in between.changes_of(record)], ["pwrite", "pwrite", "ftruncate", "unsynced"])
+
     def test_calls_fail_by_their_number(self) -> None:
         for number, told in ((1, "1 0 -1 -1 -1 -1 -1"), (2, "1 1 -1 10 10 0 0"), (3, "1 1 0 -1 10 0 0"), (4, "1 1 0 10 -1 0 0"),
                              (5, "1 1 0 10 10 -1 0"), (6, "1 1 0 10 10 0 -1")):
