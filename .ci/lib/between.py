@@ -35,7 +35,7 @@ def settings(library: str, **values: object) -> dict[str, str]:
 
 @dataclass
 class Event:
-    """A line of the log: `grow`, `end` or the name of a call, and the other words of the line."""
+    """A line of the log: `grow`, `fork`, `end` or the name of a call, and the other words of the line."""
     kind: str
     words: list[str]
 
@@ -60,7 +60,7 @@ class Event:
 
     @property
     def is_call(self) -> bool:
-        return self.kind not in ("grow", "end")
+        return self.kind not in ("grow", "end", "fork")
 
     @property
     def is_refused(self) -> bool:
