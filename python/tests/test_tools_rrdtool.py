@@ -103,7 +103,7 @@ class RRDtoolOutput(ToolCase):
         self.assertEqual(self.tool(TOOL, "update", "x.rrdi", "1000000010:1.5e0:100", "1000000025:-0.25:175"), Ran(0, "", ""))
 
     def test_usage(self) -> None:
-        self.check_usage(TOOL, "[--exact | --rrdi | --show] COMMAND ARGUMENT.. | [--exact] - [DIRECTORY]",
+        self.check_usage(TOOL, "[--exact | --rrdi | --show] COMMAND ARGUMENT.. | [--exact] [--lengths] - [DIRECTORY]",
                          [[], ["--rrdi"], ["--show"], ["-", "a", "b"], [""]])
         for words in (["-v"], ["--version"]):
             self.assertEqual(self.tool(TOOL, *words), Ran(0, VERSION + "\n", ""))
