@@ -10,7 +10,7 @@ from typing import Dict, List
 from doubles import PROGRAM, TOP
 from tool_case import Ran, ToolCase
 
-from rrdi.tools.answers import guarded, plain, with_lengths
+from rrdi.tools.answers import Printed, guarded, plain, with_lengths
 
 CC, PERL = shutil.which("cc"), shutil.which("perl")
 # Texts that read as the end of an answer, whole or in one of their lines. PRINT makes a line feed of %n.
@@ -22,7 +22,7 @@ TIMES = "times 'noon 20240101' start+1h"
 class Forms(unittest.TestCase):
     def test_rrdtools_form(self) -> None:
         picture = b"\nOK\nERROR: 1\n"
-        printed = ["1x1", "OK u:0.00", "a\nERROR: b\nc", "", "an OK", picture]
+        printed: Printed = ["1x1", "OK u:0.00", "a\nERROR: b\nc", "", "an OK", picture]
         self.assertEqual(plain(printed), b"1x1\nOK u:0.00\na\nERROR: b\nc\n\nan OK\n" + picture)
         self.assertEqual(guarded(printed), b"1x1\n OK u:0.00\na\n ERROR: b\nc\n\nan OK\n" + picture)
         self.assertEqual(guarded([]), b"")

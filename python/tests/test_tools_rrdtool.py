@@ -12,6 +12,7 @@ from doubles import TOP
 from tool_case import NO_RRDTOOL, RRDTOOL, Ran, ToolCase
 
 from rrdi.tools import fetching, program
+from rrdi.tools.answers import Printed
 from rrdi.tools.command_line import Failure
 from rrdi.tools.program import Archive, Settings, Source
 from rrdi.tools.rrdtool.commands import needed
@@ -265,8 +266,10 @@ class PipeMode(ToolCase):
         from rrdi.tools.rrdtool.pipe import Pipe
         output = io.BytesIO()
 
-        def run(name: str, _words: "list[str]") -> bytes:
-            return {"good": b"fine\n"}[name]
+        good: Printed = ["fine"]
+
+        def run(name: str, _words: "list[str]") -> Printed:
+            return {"good": good}[name]
 
         Pipe(run, "", output).answer_all(io.BytesIO(b"bad\ngood\n"))
         self.assertRegex(output.getvalue(), rb"^ERROR: internal error: KeyError\('bad'\)\nfine\nOK u:.*\n$")

@@ -5,6 +5,7 @@ reader.
 """
 from __future__ import annotations
 
+import re
 import subprocess
 import time
 from typing import Dict, Iterable, List, NamedTuple, Optional
@@ -12,10 +13,12 @@ from typing import Dict, Iterable, List, NamedTuple, Optional
 from ..choice import chosen_library, program_path
 from ..errors import CANNOT_WRITE, NO_MEMORY, OK, USAGE
 from ..library import Answer, Library
-from ..words import sync_of_environment, wait_of_environment
+from ..words import LONGEST_LINE, sync_of_environment, wait_of_environment
 from .command_line import Failure, error_text
 
 ERROR = "ERROR: "
+# A line of a batch has tabs and printable ASCII.
+OF_A_LINE = re.compile("[\t -~]*")
 
 
 class Ran(NamedTuple):
@@ -145,9 +148,14 @@ def batch(file: str, lines: Iterable[str]) -> List[str]:
     """Runs the lines of a batch on a file and returns their output.
 
     # Errors
-    `Refused` with the first refusal if a line was refused, or if the batch failed.
+    - `Failure` if a line is no text of a batch, for example because a line feed in it begins another line.
+    - `Refused` with the first refusal if a line was refused, or if the batch failed.
     """
-    ran = run(["batch", file_argument(file)], "".join(line + "\n" for line in lines))
+    given = list(lines)
+    for line in given:
+        if len(line) > LONGEST_LINE or not OF_A_LINE.fullmatch(line):
+            raise Failure(f"a line of a batch has a character that it cannot have, or is too long: {line[:60]!r}")
+    ran = run(["batch", file_argument(file)], "".join(line + "\n" for line in given))
     printed = ran.out.splitlines()
     if ran.status != 0:
         refusals = [line for line in printed if line.startswith(ERROR)]
