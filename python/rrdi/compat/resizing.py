@@ -2,7 +2,7 @@
 from __future__ import annotations
 
 import os
-import threading
+import time
 from typing import Callable, List
 
 RESIZED = "resize.rrd"
@@ -22,9 +22,9 @@ def resize_copy(file: str, resize: Callable[[str], object]) -> None:
         data = read_bytes(file)
     except OSError as error:
         raise OSError(error.errno, error.strerror, file) from None
-    copy = f"{RESIZED}.{os.getpid()}-{threading.get_native_id()}"
+    copy = f"{RESIZED}.{os.getpid()}-{time.monotonic_ns()}"
     try:
-        with open(copy, "wb") as opened:
+        with open(copy, "xb") as opened:
             opened.write(data)
         resize(copy)
         os.replace(copy, RESIZED)

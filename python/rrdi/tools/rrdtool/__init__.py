@@ -20,19 +20,20 @@ the status is 0 at the end of the input and after quit.
 """
 from __future__ import annotations
 
-import shlex
 import sys
 from functools import lru_cache
-from typing import List
+from typing import TYPE_CHECKING, List
 
 from .. import program
 from ..answers import Printed, lines_of, plain
 from ..command_line import Failure, Tool, WrongArguments, error_text, give_up_output, run
 from ..exponents import be_exact
-from ..graphing import Grapher
 from .commands import Commands, shown
-from .pipe import Pipe
 from .texts import VERSION
+
+# A command imports what it alone needs, because the imports are most of what a call costs.
+if TYPE_CHECKING:
+    from ..graphing import Grapher
 
 USAGE = "[--exact | --rrdi | --show] COMMAND ARGUMENT.. | [--exact] [--lengths] - [DIRECTORY]"
 HELP = ("usage: rrdi-rrdtool COMMAND ARGUMENT..\n"
@@ -60,10 +61,12 @@ def run_command(commands: Commands, name: str, words: List[str]) -> Printed:
 @lru_cache(maxsize=None)
 def the_grapher() -> Grapher:
     """Loads RRDtool's grapher at the first use."""
+    from ..graphing import Grapher
     return Grapher()
 
 
 def run_pipe(words: List[str], has_lengths: bool) -> int:
+    from .pipe import Pipe
     if len(words) > 1:
         raise WrongArguments
     if words:
@@ -80,6 +83,7 @@ def run_pipe(words: List[str], has_lengths: bool) -> int:
 
 def run_as_rrdi(name: str, words: List[str], is_shown: bool) -> int:
     """Translates a command to commands of rrdi, and runs them with rrdi's own output, or prints them."""
+    import shlex
     for command in shown(name, words):
         if name == "resize":
             raise Failure("resize writes resize.rrd; use it without --rrdi and --show, or rrdi resize")

@@ -13,7 +13,6 @@ from ...compat.translate import Command, Translation, translate
 from .. import program
 from ..command_line import Failure
 from ..fetching import FUNCTIONS, fetch, rows_of
-from ..outline import read_outline
 from ..program import Refused, Rows, Settings
 from .texts import NewCell, fetch_text, info_text, last_update_text, update_text
 
@@ -259,6 +258,7 @@ class Commands:
 
     def info(self, words: List[str]) -> str:
         file, _ = self.one_file("info", words)
+        from ..outline import read_outline
         return info_text(file, self.settings(file), read_outline(file))
 
     def times(self, words: List[str]) -> str:
