@@ -95,10 +95,12 @@ sub _quote {
 
 sub _write {
     my ($text) = @_;
+    my $pipe = $to;  # as in _read
+    no warnings 'closed';
     local $SIG{PIPE} = 'IGNORE';
     my $at = 0;
     while ($at < length $text) {
-        my $count = syswrite $to, $text, length($text) - $at, $at;
+        my $count = syswrite $pipe, $text, length($text) - $at, $at;
         next if not defined $count and $! == EINTR;
         return 0 unless defined $count;
         $at += $count;
@@ -106,12 +108,13 @@ sub _write {
     return 1;
 }
 
-# Reads as many bytes; returns undef at the end of the pipe.
+# Reads as many bytes of a pipe; returns undef at its end.
 sub _bytes {
-    my ($count) = @_;
+    my ($pipe, $count) = @_;
+    no warnings 'closed';
     my $text = '';
     while (length $text < $count) {
-        my $read = read $from, $text, $count - length $text, length $text;
+        my $read = read $pipe, $text, $count - length $text, length $text;
         next if not defined $read and $! == EINTR;
         return unless $read;
     }
@@ -121,12 +124,14 @@ sub _bytes {
 # Reads an answer: a line with OK or ERROR and the length of each text, and then the texts. Returns OK or ERROR and the
 # texts; or returns nothing if the program ended or did not answer in this form.
 sub _read {
-    my $head = readline $from;
+    my $pipe = $from;  # a call in a handler of a signal may close it, and start another process
+    no warnings 'closed';
+    my $head = readline $pipe;
     return unless defined $head and $head =~ /^(OK|ERROR)((?: \d{1,9})*)\n\z/;
     my ($status, @lengths) = ($1, split ' ', $2);
     my @texts;
     for my $length (@lengths) {
-        my $text = _bytes($length);
+        my $text = _bytes($pipe, $length);
         return unless defined $text;
         push @texts, $text;
     }
@@ -342,6 +347,13 @@ the time of the last sample, the names of the sources and their last values. C<d
 C<flushcached> and C<fetch_cb_register> set an error.
 
 One process of C<rrdi-rrdtool> serves all calls of a program. Line feeds in arguments become spaces.
+
+=head1 TAINT MODE
+
+C<perl -T> ignores C<PERL5LIB>, so the module must be in a directory of C<@INC>: docs/migrate.md has two ways. In this mode
+the environment chooses no program: the module runs the F<rrdi-rrdtool> of its own installation, with the C library, or
+with C<rrdi> in F</usr/local/bin>, F</usr/bin> or F</bin>. Numbers, names of sources and settings are not tainted, as those
+of RRDtool's own module are not. The texts of C<PRINT> are tainted.
 
 =head1 ENVIRONMENT
 

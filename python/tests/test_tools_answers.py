@@ -122,6 +122,14 @@ show again => RRDs::times('noon 20240101', 'start+1h'); chdir '..'; """ + self.N
             "again: 1704110400; 1704114000; undef", self.SHOWN[:-1]])
         self.assertEqual([path for path in self.folder.rglob("made")], [])
 
+    def test_a_call_in_a_handler(self) -> None:
+        """The call that was interrupted fails, and the next ones get their own answers."""
+        slow = self.stub("slow", """read line; case $line in *slow*) printf 'OK 5\\n1'; sleep 1 ;; esac; printf 'OK 1\\n7'; read line""")
+        script = r"""local $SIG{ALRM} = sub { show inner => RRDs::last('f') }; alarm 1; $| = 1;
+show outer => RRDs::last('slow'); show last => RRDs::last('f');"""
+        self.assertEqual(self.perl(script, f"-I{TOP}/perl", env={"RRDI_RRDTOOL": slow}),
+                         f"inner: 7; undef\nouter: undef; {slow} ended; is it installed?\nlast: 7; undef\n")
+
     def installed(self) -> str:
         """Installs the module with a program beside it, as `make install` does: in taint mode only that one is run."""
         (self.folder / "perl").mkdir()
