@@ -27,15 +27,17 @@ from collections import Counter
 from typing import Any, Callable, Dict, List, NamedTuple, Optional, Protocol, Sequence, Tuple, cast
 
 from .amounts import gauge_text
-from .commands import batch
+from .commands import RefusedLine, batch
 from .damaged import set_aside
 from .errors import Damaged, Error
 from .library import load_library
+from .making import NewFile
 
 FUNCTIONS = ("AVERAGE", "MIN", "MAX")
 SUFFIX, LONGEST_NAME = ".rrdi", 255
 # Lines of one file that wait while the file can't be written; the oldest ones of more are lost.
 MOST_LINES = 10_000
+NO_FILE = "no database"  # the reason of a refused sample if there is no file
 
 
 class Values(Protocol):
@@ -251,19 +253,31 @@ class Writer:
 
     def write_file(self, path: str, held: Held) -> None:
         """Runs one batch. If the file can't be written, its samples wait for the next time."""
-        begin = [] if os.path.exists(path) else [held.create]
         try:
-            os.makedirs(os.path.dirname(path), exist_ok=True)
-            refused = batch(path, begin + held.lines).refused
+            refused = None if os.path.exists(path) else self.begin(path, held)
+            if refused is None:
+                refused = batch(path, held.lines).refused
         except Damaged as fault:
             self.keep(path, held, f"{path}: {set_aside(path, fault)}")
             return
         except (Error, OSError) as fault:
             self.keep(path, held, str(fault))
             return
+        if refused and refused[0].reason == NO_FILE:
+            self.keep(path, held, f"{path}: {NO_FILE}")  # another program has taken the file away meanwhile
+            return
         self.counts["taken"] += len(held.lines) - len(refused)
         if refused:
             self.lose(path, len(refused), f"the first: {refused[0].line[:200]}: {refused[0].reason}")
+
+    def begin(self, path: str, held: Held) -> Optional[Sequence[RefusedLine]]:
+        """Makes a file with its first samples. Returns the refused ones, which are all if `create` is refused; None if
+        another program has made the file."""
+        with NewFile(path, makes_folder=True) as new:
+            refused = batch(new.unfinished, [held.create, *held.lines]).refused
+            if refused and refused[0].number == 1:
+                return [refused[0]] * len(held.lines)
+            return refused if new.appear() else None
 
     def keep(self, path: str, held: Held, reason: str) -> None:
         with self._guard:

@@ -1,8 +1,11 @@
 """The parts that many tests share: folders, threads, the library that a test calls, and tests that run twice."""
 from __future__ import annotations
 
+import os
 import shutil
+import signal
 import tempfile
+import time
 import threading
 import unittest
 from pathlib import Path
@@ -23,6 +26,26 @@ def new_folder(case: unittest.TestCase) -> Path:
     folder = Path(tempfile.mkdtemp(prefix="rrdi-tests"))
     case.addCleanup(shutil.rmtree, folder, ignore_errors=True)
     return folder
+
+
+def sleeping_child(case: unittest.TestCase) -> int:
+    """Forks a child, which has all open files of this process until the end of the test."""
+    child = os.fork()
+    if child == 0:
+        while True:
+            time.sleep(1)
+
+    def end() -> None:
+        os.kill(child, signal.SIGKILL)
+        os.waitpid(child, 0)
+    case.addCleanup(end)
+    return child
+
+
+def child_status(child: int) -> Optional[int]:
+    """Returns the status of a child that has ended, and None while it runs."""
+    ended, status = os.waitpid(child, os.WNOHANG)
+    return status if ended else None
 
 
 def run_in_threads(count: int, work: Callable[[int], object]) -> None:

@@ -238,7 +238,7 @@ class New(EachWriter, unittest.TestCase):
     def test_a_creation_is_tried_again(self) -> None:
         writer = Stub("cannot write")
         with mock.patch.object(writer, "create", side_effect=["cannot write", "cannot write", ""]) as create, \
-                mock.patch.object(metrics, "name_if_free"):
+                mock.patch.object(metrics.NewFile, "appear"):
             feeder, said = self.fed(b"f 1 20\nf 2 30", f"** x/** {ARGUMENTS}", writer)
         self.assertEqual((create.call_count, said, feeder.has_failed), (3, "", False))
         self.assertEqual(writer.batches, [(os.path.join(self.folder, b"x/f"), [b"20:1", b"30:2"])])

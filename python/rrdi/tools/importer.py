@@ -22,6 +22,7 @@ from typing import Iterator, List, NamedTuple, Optional
 from ..importing.batch import batch_of
 from ..importing.dump import Refusal, read_file
 from ..importing.whisper import read_whisper, whisper_batch
+from ..making import NewFile
 from . import program, rrdtool_program
 from .command_line import Failure, Progress, Tool, WrongArguments, called_name, run, say
 
@@ -67,21 +68,15 @@ def make(new: str, lines: Iterator[str]) -> None:
     """Creates a database with a batch. The database gets its name when it is complete."""
     if os.path.lexists(new):
         raise Failure(f"{new} already exists")
-    unfinished = new + ".new"
-    if os.path.lexists(unfinished):
-        raise Failure(f"{unfinished} already exists; another rrdi-import may be writing it")
     given, progress = [], Progress("converting")
     for line in lines:
         given.append(line)
         progress.show(len(given))
     progress.end()
-    try:
-        program.batch(unfinished, given)
-        os.rename(unfinished, new)
-    except BaseException:
-        if os.path.lexists(unfinished):
-            os.unlink(unfinished)
-        raise
+    with NewFile(new) as made:
+        program.batch(made.unfinished, given)
+        if not made.appear():
+            raise Failure(f"{new} already exists")
 
 
 def convert(words: List[str]) -> int:
