@@ -13,7 +13,8 @@ from .feeder import Feeder, Options
 from .rules import BadLine, Names
 from .writers import Outcome, Writer
 
-NUMBER = re.compile(rb"[-+]?([0-9]+\.?[0-9]*|\.[0-9]+)([eE][-+]?[0-9]{1,3})?|[-+]?[nN][aA][nN]|U")
+# Each text matches in one way at most, so that a text which does not match costs no more than its length.
+NUMBER = re.compile(rb"[-+]?([0-9]+(\.[0-9]*)?|\.[0-9]+)([eE][-+]?[0-9]{1,3})?|[-+]?[nN][aA][nN]|U")
 TIME = re.compile(rb"([0-9]+)(\.[0-9]*)?")
 NOW = (b"-1", b"N")
 AHEAD = 86_400  # seconds by which a time may be later than the present: later samples of the file would be refused

@@ -38,7 +38,7 @@ class Arguments(NamedTuple):
 def read_arguments(words: List[str]) -> Arguments:
     journal = None
     if words[:1] == ["--journal"]:
-        if len(words) < 2 or not re.fullmatch("[0-9]+", words[1]):
+        if len(words) < 2 or not re.fullmatch("[0-9]{1,12}", words[1]):
             raise WrongArguments
         journal, words = words[1], words[2:]
     if not 1 <= len(words) <= 2 or any(not word or word.startswith("-") for word in words):
