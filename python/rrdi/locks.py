@@ -7,14 +7,17 @@ from __future__ import annotations
 
 import errno
 import fcntl
+import os
 import time
 from contextlib import contextmanager
 from typing import Iterator
 
 SHARED, EXCLUSIVE = fcntl.LOCK_SH, fcntl.LOCK_EX
 FIRST_PAUSE, LONGEST_PAUSE = 0.001, 0.05  # seconds
-# What flock(2) answers if the file system has no locks. Any other error is one.
-NO_LOCKS = frozenset({errno.ENOSYS, errno.EOPNOTSUPP, errno.ENOTSUP})
+OPENINGS = 100  # if another program replaces the file each time, while this one waits for the lock
+# What the system answers if the file system has no locks, as rrdi takes it. Any other error is one: after ENOLCK, for
+# example, another program may hold the lock.
+NO_LOCKS = frozenset({errno.ENOSYS, errno.EOPNOTSUPP, errno.ENOTSUP, errno.EINVAL})
 
 
 def lock(file: int, kind: int, seconds: float) -> None:
@@ -45,6 +48,34 @@ def unlock(file: int) -> None:
         fcntl.flock(file, fcntl.LOCK_UN)
     except OSError:  # there was no lock
         pass
+
+
+def open_locked(path: str, kind: int, seconds: float) -> int:
+    """Opens a file for reading, and locks it; `close` gives both up. While this program waits for the lock, another one
+    may replace the file: then the new one is opened.
+
+    # Errors
+    Those of `lock`, and `OSError` if the file cannot be opened.
+    """
+    for _ in range(OPENINGS):
+        file = os.open(path, os.O_RDONLY | os.O_CLOEXEC)
+        try:
+            lock(file, kind, seconds)
+            if os.path.samestat(os.fstat(file), os.stat(path)):
+                return file
+        except FileNotFoundError:  # the next opening says so, or finds the new file
+            pass
+        except BaseException:
+            os.close(file)
+            raise
+        close(file)
+    raise OSError(errno.EBUSY, "cannot open: another program keeps replacing the file")
+
+
+def close(file: int) -> None:
+    """Gives up the lock of an open file, and closes it."""
+    unlock(file)
+    os.close(file)
 
 
 @contextmanager

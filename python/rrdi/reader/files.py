@@ -6,17 +6,17 @@ from contextlib import contextmanager
 from typing import Iterator
 
 from ..errors import Damaged
-from ..locks import SHARED, locked
+from ..locks import SHARED, close, locked, open_locked
 from ..words import milliseconds
 from .pieces import Parts, Reader
 from .undo import Stored
 
 
 def settled(data: bytes) -> bytes:
-    """Returns the bytes that the bytes of a file stand for: others, if a change of the file was broken off."""
+    """Returns the bytes that a file with these bytes stands for: others, if a change of a database was broken off."""
     stored = Stored.of_bytes(data)
-    if not stored.is_open_ended:
-        return stored[0:len(stored)]
+    if not stored.is_marked:
+        return data
     reader = Reader(stored)
     try:
         reader.database()
@@ -57,12 +57,11 @@ def opened(path: str) -> Iterator[Stored]:
     # Errors
     `OSError` if the file cannot be opened, locked or read.
     """
-    file = os.open(path, os.O_RDONLY | os.O_CLOEXEC)
+    file = open_locked(path, SHARED, patience())
     try:
-        with locked(file, SHARED, patience()):
-            yield Stored.of_file(file)
+        yield Stored.of_file(file)
     finally:
-        os.close(file)
+        close(file)
 
 
 def read_file(path: str) -> Parts:
@@ -72,7 +71,7 @@ def read_file(path: str) -> Parts:
     - `OSError` if the file cannot be opened, locked or read.
     - `Damaged` if the file is not a database.
     """
-    if path == "-":
+    if path == "-" or not os.path.isfile(path):  # a pipe is read to its end
         return read(read_bytes(path))
     with opened(path) as stored:
         return Reader(stored).database()

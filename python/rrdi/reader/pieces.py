@@ -152,15 +152,16 @@ class Reader:
         # Errors
         `Damaged` with the first fault.
         """
-        if isinstance(self.data, Stored) and self.data.is_open_ended:
-            try:
-                return self.pieces()
-            except Damaged:  # so the mark is not that of a database
+        marked = self.data if isinstance(self.data, Stored) and self.data.is_marked else None
+        try:
+            found = self.pieces()
+            if self.at < len(self.data) and not (marked and marked.may_end_at(self.at)):
+                raise Damaged(f"file: trailing at {self.at}", None, TRAILING, self.at)
+            return found
+        except Damaged:
+            if marked:  # the mark is not that of a database
                 raise not_ours() from None
-        found = self.pieces()
-        if self.at < len(self.data):
-            raise Damaged(f"file: trailing at {self.at}", None, TRAILING, self.at)
-        return found
+            raise
 
     def pieces(self) -> Parts:
         """Takes the pieces of a database, whatever follows them."""

@@ -5,14 +5,13 @@ database that the next command of rrdi would find.
 """
 from __future__ import annotations
 
-import os
 import struct
 from types import TracebackType
 from typing import Dict, Iterator, List, NamedTuple, Optional, Tuple, Type
 
 from ..amounts import Millionths
 from ..errors import TRUNCATED, Damaged
-from ..locks import SHARED, lock, unlock
+from ..locks import SHARED, close, open_locked
 from .files import patience
 from .pieces import UNKNOWN, VERSIONS, Parts, Reader, not_ours
 from .undo import MARK, Stored
@@ -74,9 +73,8 @@ class OpenFile:
     """
 
     def __init__(self, path: str):
-        self.file = os.open(path, os.O_RDONLY | os.O_CLOEXEC)
+        self.file = open_locked(path, SHARED, patience())
         try:
-            lock(self.file, SHARED, patience())
             self._stored = Stored.of_file(self.file)
             self.front = self._read_front()
             self._outline: Optional[Outline] = None
@@ -85,8 +83,7 @@ class OpenFile:
             raise
 
     def close(self) -> None:
-        unlock(self.file)
-        os.close(self.file)
+        close(self.file)
 
     def __enter__(self) -> OpenFile:
         return self
@@ -152,7 +149,7 @@ class OpenFile:
         try:
             return reader.outline()
         except Damaged:
-            if self._stored.is_open_ended:
+            if self._stored.is_marked:
                 raise not_ours() from None
             raise
 

@@ -33,10 +33,10 @@ class Record(NamedTuple):
     length: int
     first: bytes
 
-    @property
-    def size(self) -> int:
-        """The bytes that the record takes: a database never ends where a record of its own size would end."""
-        return LONG if self.length % PAGE == SHORT else SHORT
+
+def size_of_record(length: int) -> int:
+    """Returns the bytes that the record of a database takes: no database ends where a record of its own size would."""
+    return LONG if length % PAGE == SHORT else SHORT
 
 
 class Slot(NamedTuple):
@@ -59,11 +59,12 @@ def read_record(read: Read, at: int) -> Optional[Record]:
     return Record(length, first)
 
 
-def read_slots(read: Read, tail: int) -> List[Slot]:
-    """Returns the slots after the record at `tail`, up to the first one that is broken. Keeps none of their bytes."""
+def read_slots(read: Read, tail: int, most: int) -> Optional[List[Slot]]:
+    """Returns the slots after the record at `tail`, up to the first one that is broken; None if there are more than
+    `most`. Keeps none of their bytes."""
     found: List[Slot] = []
     at = tail + LONG
-    while True:
+    while len(found) <= most:
         data = read(at, SLOT.size + PAGE)
         if len(data) < SLOT.size:
             return found
@@ -74,23 +75,25 @@ def read_slots(read: Read, tail: int) -> List[Slot]:
             return found
         found.append(Slot(place, count, at + SLOT.size))
         at += SLOT.size + PAGE
+    return None
 
 
 class Stored:
     """The bytes that a file stands for. They are read when they are asked for, and taken like those of `bytes`.
 
-    If `is_open_ended`, the bytes stand for a database only if they begin with one; what follows it does not count.
+    The bytes of a file with a mark (`is_marked`) count only if they are a database: otherwise the file stands for itself,
+    and is none.
     """
 
     def __init__(self, read: Read, size: int):
         self._read, self._length = read, size
-        self.is_open_ended = False
         self._front = b""
+        self._missing = 0  # the size of the record that a cut mark announces, if the file has no record
         self._slots: List[Slot] = []
         self._by_page: Dict[int, List[int]] = {}
         self._window, self._window_at = read(0, PAGE), 0
         start = self._window[:UNDO_SIZE]
-        if start[:4] in CUT_MARKS:
+        if start[:4] in CUT_MARKS and len(start) == UNDO_SIZE:
             self._stand_for_new(size, CUT_MARKS[start[:4]])
         elif start[:8] == UNDO_MARK and len(start) == UNDO_SIZE:
             self._stand_for_old(size, int.from_bytes(start[8:], "big"))
@@ -109,21 +112,32 @@ class Stored:
         """Under a cut mark there is a database of the length in the record at the end."""
         record = read_record(self._read, size - record_size) if size % PAGE == record_size else None
         self._front = MARK
-        if record is not None and record.size == record_size:
+        if record is not None and size_of_record(record.length) == record_size:
             self._length = record.length
         else:
-            self.is_open_ended = True
+            self._missing = record_size
 
     def _stand_for_old(self, size: int, tail: int) -> None:
         """Under an undo mark there is a database of which some bytes are in the record and in the slots."""
         record = read_record(self._read, tail) if tail < size else None
-        if record is None:
+        # A change keeps each old page once.
+        slots = read_slots(self._read, tail, record.length // PAGE + 1) if record else None
+        if record is None or slots is None:
             return
-        self._length, self._front = record.length, record.first
-        self._slots = read_slots(self._read, tail)
+        self._length, self._front, self._slots = record.length, record.first, slots
         for number, slot in enumerate(self._slots):
             for page in range(slot.place // PAGE, (slot.place + slot.size - 1) // PAGE + 1):
                 self._by_page.setdefault(page, []).append(number)
+
+    @property
+    def is_marked(self) -> bool:
+        """Whether the file begins with a mark, and the bytes are others than its own."""
+        return self._front != b""
+
+    def may_end_at(self, length: int) -> bool:
+        """Checks whether the database may end there, and what follows does not count: a file system may have stored the
+        length of a file before the record at its end."""
+        return self._missing == size_of_record(length)
 
     def __len__(self) -> int:
         return self._length

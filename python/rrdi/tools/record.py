@@ -20,7 +20,7 @@ from contextlib import contextmanager
 from typing import Iterator, List, NamedTuple
 
 from ..damaged import held, is_being_made
-from ..locks import EXCLUSIVE, lock, unlock
+from ..locks import EXCLUSIVE, close, lock
 from ..making import NewFile
 from ..reader.undo import MARK
 from . import program
@@ -45,8 +45,7 @@ def alone(path: str) -> Iterator[None]:
         take_turn(file, path)
         yield
     finally:
-        unlock(file)
-        os.close(file)
+        close(file)
 
 
 def take_turn(file: int, path: str) -> None:
