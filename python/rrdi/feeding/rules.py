@@ -5,6 +5,8 @@ import os
 import re
 from typing import List, NamedTuple, Optional, Sequence, Tuple
 
+from ..words import is_word
+
 LONGEST_NAME = 1_024  # bytes of a name
 LONGEST_PATH, LONGEST_PART = 4_095, 255  # bytes of a path, and of a file's or directory's name in it
 # Parts with points between them. A part has no slash, no space and no control character.
@@ -93,7 +95,7 @@ def begins_of(piece: bytes, name: bytes, ends: bytearray) -> bytearray:
 
 def is_below(path: bytes) -> bool:
     """Checks whether a path, relative to the directory, stays below the directory."""
-    return not any(part in (b"", b".", b"..") for part in path.split(b"/"))
+    return b"\0" not in path and not any(part in (b"", b".", b"..") for part in path.split(b"/"))
 
 
 def read_rule(line: str) -> Rule:
@@ -107,6 +109,8 @@ def read_rule(line: str) -> Rule:
         raise BadRule("NAME and FILE have different numbers of stars")
     if not is_below(os.fsencode(file)):
         raise BadRule(f"FILE must be a path below the directory, not {file}")
+    if not all(map(is_word, arguments)):
+        raise BadRule("the arguments of create must be words of printable ASCII")
     if arguments and sum(word.startswith("DS:") for word in arguments) != 1:
         raise BadRule("a FILE has one data source: give one DS:..")
     return Rule(pieces(pattern), pieces(file), tuple(arguments))

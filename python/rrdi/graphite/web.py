@@ -22,6 +22,7 @@ from graphite.readers.utils import BaseReader, merge_with_carbonlink
 
 from ..errors import Error
 from ..reader.selected import OpenFile
+from ..words import in_one_line
 from .finding import TooMuch, find
 from .names import metric_of, path_of
 from .series import read_series
@@ -65,7 +66,7 @@ class RrdiReader(BaseReader):  # type: ignore[misc]
         return (found.start, found.end, found.step), values
 
     def complain(self, fault: Exception) -> None:
-        log.info(f"rrdi: cannot read {self.path}: {fault}")
+        log.info(in_one_line(f"rrdi: cannot read {self.path}: {fault}"))
 
 
 class RrdiFinder(BaseFinder):  # type: ignore[misc]

@@ -23,10 +23,12 @@ from ..importing.batch import batch_of
 from ..importing.dump import Refusal, read_file
 from ..importing.whisper import read_whisper, whisper_batch
 from ..making import NewFile
+from ..words import in_one_line
 from . import program, rrdtool_program
 from .command_line import Failure, Progress, Tool, WrongArguments, called_name, run, say
 
 WHISPER = ".wsp"
+LONGEST_NOTE = 1_000  # characters
 
 
 class Arguments(NamedTuple):
@@ -46,11 +48,14 @@ def read_arguments(words: List[str]) -> Arguments:
     return Arguments(journal, words[0], words[1] if len(words) == 2 else None)
 
 
+def note(text: str) -> None:
+    """Reports what cannot be converted, in one line, whatever the old file's texts have in them."""
+    shown = text if len(text) <= LONGEST_NOTE else f"{text[:LONGEST_NOTE]}.."
+    say(called_name(TOOL), in_one_line(shown))
+
+
 def lines_of(arguments: Arguments) -> Iterator[str]:
     """Reads the old file and yields the lines of the batch."""
-    def note(text: str) -> None:
-        say(called_name(TOOL), text)
-
     if arguments.old.endswith(WHISPER):
         yield from whisper_batch(read_whisper(arguments.old), arguments.journal, note)
         return
