@@ -235,6 +235,14 @@ class New(EachWriter, unittest.TestCase):
         _, said = self.fed(text, rules, Stub(), patience=0)
         self.assertIn("cannot create: ", said)
 
+    def test_a_file_that_is_taken_away(self) -> None:
+        """Another process has renamed the file meanwhile: the samples are tried again, and the file is made again."""
+        writer = Stub()
+        gone = Outcome(refused=((b"20:1", "no database"),))
+        with mock.patch.object(writer, "write", side_effect=[gone, Outcome()]) as write:
+            feeder, said = self.fed(b"f 1 20", f"** x/** {ARGUMENTS}", writer)
+        self.assertEqual((write.call_count, said, feeder.has_failed), (2, "", False))
+
     def test_a_creation_is_tried_again(self) -> None:
         writer = Stub("cannot write")
         with mock.patch.object(writer, "create", side_effect=["cannot write", "cannot write", ""]) as create, \
@@ -254,6 +262,16 @@ class New(EachWriter, unittest.TestCase):
         self.assertEqual(writer.create(os.path.join(self.folder, b"g"), ["DS:a:GAUGE:x:U:U"]), "unreadable definition 1")
         _, said = self.fed(b"none 1 20", EACH_NAME, writer)
         self.assertEqual(said, f"rrdi-feed: {os.fsdecode(self.folder)}/none.rrdi 20:1: no database\n")
+        self.being_made(writer)
+
+    def being_made(self, writer: Writer) -> None:
+        """An empty file that is new may be one that another program has not yet locked and filled."""
+        file = os.path.join(self.folder, b"new.rrdi")
+        with open(file, "wb"):
+            pass
+        self.assertEqual(writer.write(file, [b"30:1"]), Outcome(again="file: truncated at 0"))
+        os.utime(file, (20, 20))
+        self.assertEqual(writer.write(file, [b"30:1"]), Outcome(lost="file: truncated at 0"))
 
 
 class NoProgram(unittest.TestCase):
