@@ -17,6 +17,7 @@ from rrdi.feeding.feeder import Options
 from rrdi.feeding.metrics import Creating, MetricFeeder, as_sample, with_start
 from rrdi.feeding.rules import EACH_NAME, BadLine, BadRule, Names, read_rules
 from rrdi.feeding.writers import ByProgram, Outcome, Writer
+from rrdi.making import NewFile
 
 ARGUMENTS = "--step 10 DS:v:GAUGE:60:U:U RRA:AVERAGE:0.5:1:9"
 
@@ -246,7 +247,7 @@ class New(EachWriter, unittest.TestCase):
     def test_a_creation_is_tried_again(self) -> None:
         writer = Stub("cannot write")
         with mock.patch.object(writer, "create", side_effect=["cannot write", "cannot write", ""]) as create, \
-                mock.patch.object(metrics.NewFile, "appear"):
+                mock.patch.object(NewFile, "appear"):
             feeder, said = self.fed(b"f 1 20\nf 2 30", f"** x/** {ARGUMENTS}", writer)
         self.assertEqual((create.call_count, said, feeder.has_failed), (3, "", False))
         self.assertEqual(writer.batches, [(os.path.join(self.folder, b"x/f"), [b"20:1", b"30:2"])])

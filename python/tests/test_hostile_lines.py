@@ -8,7 +8,7 @@ import math
 import os
 import types
 import unittest
-from typing import Any, List, Sequence, Tuple
+from typing import Any, Dict, List, Sequence, Tuple
 from unittest import mock
 
 import graphite_doubles as graphite
@@ -185,8 +185,8 @@ class Feeding(LineCase):
             except (BadRule, ValueError):
                 continue
             file = os.fsencode(self.folder / "f.rrdi")
-            for writer in (ByLibrary(self.keeping), ByProgram("/bin/true")):
-                writer.create(file, rule.arguments)
+            ByLibrary(self.keeping).create(file, rule.arguments)
+            ByProgram("/bin/true").create(file, rule.arguments)
             self.assertEqual([[part.decode() for part in found] for found in self.keeping.commands],
                              [["create", *rule.arguments]])
             self.assertTrue(all(part.isprintable() for part in rule.arguments), ascii(word[:60]))
@@ -209,8 +209,8 @@ class Carbon(LineCase):
         self.assertEqual([name for name in self.files() if not name.startswith("data/")], [])
 
     def test_methods(self) -> None:
-        for word in HOSTILE:
-            with self.assertRaises((KeyError, ValueError)) if word else contextlib.nullcontext():
+        for word in filter(None, HOSTILE):  # no method is the usual one
+            with self.assertRaises((KeyError, ValueError)):
                 layout.template([(10, 60)], 0.5, word, 16)
 
     def test_values(self) -> None:
@@ -271,7 +271,7 @@ class Collectd(LineCase):
 
 class Importing(unittest.TestCase):
     def old(self, **more: Any) -> OldFile:
-        usual = {"column": 0, "name": "g", "kind": "COUNTER", "heartbeat": 20, "minimum": math.nan, "maximum": math.nan,
+        usual: Dict[str, Any] = {"column": 0, "name": "g", "kind": "COUNTER", "heartbeat": 20, "minimum": math.nan, "maximum": math.nan,
                  "last_raw": "5", "partial_sum": 0.0, "unknown_seconds": 0}
         archive = Archive(0, more.pop("function", "AVERAGE"), 1, 0.5, [math.nan], [0], columns=1)
         archive.cells.extend([1.0, 2.0])

@@ -88,10 +88,11 @@ class Marked(DataCase):
 
     def refused(self, data: bytes) -> None:
         self.path.write_bytes(data)
-        for read in (lambda: reader.read(data), lambda: reader.read_file(str(self.path))):
-            with self.assertRaises(errors.Damaged) as raised:
-                read()
-            self.assertEqual(str(raised.exception), "file: not ours")
+        with self.assertRaises(errors.Damaged) as of_bytes:
+            reader.read(data)
+        with self.assertRaises(errors.Damaged) as of_file:
+            reader.read_file(str(self.path))
+        self.assertEqual([str(of_bytes.exception), str(of_file.exception)], ["file: not ours"] * 2)
 
     def test_the_new_database(self) -> None:
         for data in (SMALL, NEW):
@@ -172,7 +173,11 @@ class Locks(DataCase):
             children = [sleeping_child(self)]
         with opened(self.path):
             children.append(sleeping_child(self))
-        with mock.patch("rrdi.reader.files.Stored.of_file", lambda file: children.append(sleeping_child(self)) or SMALL):
+
+        def forking(file: int) -> bytes:
+            children.append(sleeping_child(self))
+            return SMALL
+        with mock.patch("rrdi.reader.files.Stored.of_file", forking):
             reader.read_file(self.path)
         with open(self.path, "rb") as other:
             fcntl.flock(other, fcntl.LOCK_EX | fcntl.LOCK_NB)
@@ -183,10 +188,9 @@ class Locks(DataCase):
         flock = fcntl.flock
 
         def replace(file: int, kind: int) -> None:
-            if kind & fcntl.LOCK_SH and not replaced:
-                replaced.append(os.rename(self.path + ".new", self.path))
+            if os.path.exists(self.path + ".new"):
+                os.rename(self.path + ".new", self.path)
             flock(file, kind)
-        replaced: List[None] = []
         Path(self.path + ".new").write_bytes(NEW)
         with mock.patch("fcntl.flock", replace):
             self.assertEqual(reader.read_file(self.path)["last_time"], 140)

@@ -12,7 +12,7 @@ from typing import List
 from unittest import mock
 
 from cases import needs_program
-from doubles import TOP
+from doubles import PROGRAM, TOP
 from tool_case import NO_RRDTOOL, RRDTOOL, Ran, ToolCase
 
 from rrdi.tools.command_line import Progress
