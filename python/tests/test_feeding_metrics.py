@@ -12,7 +12,6 @@ from unittest import mock
 from cases import new_folder
 from tool_case import EachWriter, finished, taken
 
-from rrdi.feeding import metrics
 from rrdi.feeding.feeder import Options
 from rrdi.feeding.metrics import Creating, MetricFeeder, as_sample, with_start
 from rrdi.feeding.rules import EACH_NAME, BadLine, BadRule, Names, read_rules
