@@ -21,6 +21,8 @@ PAGE = 4_096
 OLD = graphite.file_bytes(130, archives=[(1, 400, {130: [2.5], 20: [1.5]})])  # over a page
 NEW = graphite.file_bytes(140, archives=[(1, 400, {140: [9.5], 130: [2.5]})])
 SMALL = graphite.file_bytes(130)
+# Its length ends where a short record would end, so its record is a long one.
+LONG = graphite.file_bytes(130, archives=[(1, 250, {130: [2.5]})])
 NOTES = b"RRDCached notes of a user\n" * 40
 
 
@@ -98,6 +100,13 @@ class Marked(DataCase):
         for data in (SMALL, NEW):
             self.check(cut(data), data)
             self.check(cut_with_record(data), data)
+
+    def test_a_long_record(self) -> None:
+        self.assertEqual(len(LONG) % PAGE, 64)
+        self.check(cut_with_record(LONG, shape=128), LONG)
+        self.check(cut(LONG, bytes(500), b"RRDc"), LONG)
+        for forged in (cut_with_record(LONG), cut(LONG, bytes(500))):
+            self.check(forged, forged)
 
     def test_the_old_database(self) -> None:
         self.check(undone(OLD, NEW, pages(OLD)), OLD)
