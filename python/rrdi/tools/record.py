@@ -89,8 +89,8 @@ def look(file: str) -> Found:
     try:
         return Found(program.last(file))
     except program.Refused as refused:
-        before, _, damage = str(refused).partition("file: ")
-        if before or not damage.startswith(DAMAGED) or not has_mark(file):
+        _, _, damage = str(refused).partition("file: ")
+        if not damage.startswith(DAMAGED) or not has_mark(file):
             raise Failure(f"{file}: {refused}") from None
         if damage == "truncated at 0" and is_being_made(file):
             raise Failure(f"{file}: {refused}; another program may be making the file") from None
