@@ -14,43 +14,13 @@ from decimal import Decimal
 from typing import Any, List
 from unittest import mock
 
-from cases import WithLibrary, WithProgram, new_folder, run_in_threads, use_library
+from cases import WithLibrary, WithProgram, run_in_threads
+from file_case import BOTH, LAST, OfFiles
 
 import rrdi
 from rrdi import words
 from rrdi.errors import OK
 from rrdi.library import Answer
-
-LAST = 1_600_000_030
-BOTH = ("DS:g:GAUGE:100:-10:U", "DS:c:COUNTER:100:0:50", "RRA:AVERAGE:0.5:1:4", "RRA:MAX:0.25:2:4")
-
-
-class OfFiles:
-    """Tests in a folder of their own. A class of tests adds which library they call."""
-
-    def setUp(self: Any) -> None:
-        self.folder = new_folder(self)
-        self.file = self.folder / "f.rrdi"
-        use_library(self, self.library())
-
-    def create(self: Any, *definitions: str) -> Any:
-        rrdi.create(self.file, *(definitions or BOTH), step=10, start=1_600_000_000)
-        return self.file
-
-    def fill(self: Any) -> Any:
-        self.create()
-        rrdi.update(self.file, "1600000010:1.5:5", "1600000020:U:8", "1600000030:-2.25:15")
-        return self.file
-
-    def refuses(self: Any, kind: type, reason: str, call: Any, *words: Any, **options: Any) -> Any:
-        """A call raises this exception with this reason, and the file stays as it is."""
-        before = self.file.read_bytes() if self.file.exists() else None
-        with self.assertRaises(kind) as raised:
-            call(*words, **options)
-        self.assertIs(type(raised.exception), kind)
-        self.assertEqual(raised.exception.reason, reason)
-        self.assertEqual(self.file.read_bytes() if self.file.exists() else None, before)
-        return raised.exception
 
 
 class Commands(OfFiles):
@@ -83,7 +53,7 @@ class Commands(OfFiles):
         found = rrdi.fetch(file, "MAX", "--", start=1_600_000_000, end=1_600_000_010)
         self.assertEqual(found[0], (1_600_000_000, 1_600_000_020, 20))
         # Rows of more than a day: the start is a day before the end.
-        rrdi.create(file, "DS:g:GAUGE:9:U:U", "RRA:LAST:0:1000:5", step=1_000, start=0)
+        rrdi.create(file, "DS:g:GAUGE:9:U:U", "RRA:LAST:0:1000:5", step=1_000, start=0, overwrite=True)
         self.assertEqual(rrdi.fetch(file, "LAST", end=1_500_000)[0], (1_000_000, 2_000_000, 1_000_000))
         self.assertEqual(rrdi.fetch(file, "LAST", end=80_000)[0], (0, 1_000_000, 1_000_000))
 
@@ -151,10 +121,11 @@ class Commands(OfFiles):
         found = rrdi.info(self.file)
         self.assertEqual((found["step"], found["journal"]), (300, 16))
         self.assertLessEqual(abs(rrdi.last(self.file) - time.time() + 10), 30)
-        rrdi.create(self.file, "DS:g:GAUGE:9:U:U", "RRA:LAST:0:1:5", "--journal", "3", step=7, start=70)
+        rrdi.create(self.file, "DS:g:GAUGE:9:U:U", "RRA:LAST:0:1:5", "--journal", "3", step=7, start=70,
+                    overwrite=True)
         found = rrdi.info(self.file)
         self.assertEqual((found["step"], found["journal"], found["last_update"]), (7, 3, 70))
-        rrdi.create(self.file, "DS:g:GAUGE:9:U:U", "RRA:LAST:0:1:5", journal=4)
+        rrdi.create(self.file, "DS:g:GAUGE:9:U:U", "RRA:LAST:0:1:5", journal=4, overwrite=True)
         self.assertEqual(rrdi.info(self.file)["journal"], 4)
 
     def test_refusals(self: Any) -> None:
@@ -167,7 +138,7 @@ class Commands(OfFiles):
         self.refuses(rrdi.Refused, "bad span", rrdi.fetch, file, "MAX", start=20, end=10)
         self.refuses(rrdi.Refused, "nothing to tune", rrdi.tune, file)
         self.refuses(rrdi.Refused, "shrinks too far", rrdi.resize, file, 0, "SHRINK", 4)
-        self.refuses(rrdi.Refused, "no archive", rrdi.create, file, "DS:g:GAUGE:9:U:U")
+        self.refuses(rrdi.Refused, "no archive", rrdi.create, file, "DS:g:GAUGE:9:U:U", overwrite=True)
         rrdi.revert(file)
         error = self.refuses(rrdi.Refused, "nothing to revert", rrdi.revert, file)
         self.assertEqual((error.fault, error.at, str(error)), (13, None, f"{file}: nothing to revert"))
@@ -261,7 +232,8 @@ class Commands(OfFiles):
             self.assertLess(time.monotonic() - begin, 2)
             self.assertEqual(str(error), f"{file}: cannot open: another program holds its lock")
             self.refuses(rrdi.Busy, "cannot open", rrdi.update, file, "1600000040:1:2", busy_timeout=0)
-            self.refuses(rrdi.Busy, "cannot write", rrdi.create, file, *BOTH, busy_timeout=0)
+            self.refuses(rrdi.Busy, "cannot write", rrdi.create, file, *BOTH, busy_timeout=0,
+                         overwrite=True)
             begin = time.monotonic()
             self.refuses(rrdi.Busy, "cannot open", rrdi.last, file, busy_timeout=1)
             self.assertGreater(time.monotonic() - begin, 0.9)
@@ -336,9 +308,11 @@ class Batches(OfFiles):
                  "time: g\n1600000010: 1.000000\n1600000020: 3.000000\n"
         self.assertEqual(ran.output, wanted)
         self.assertEqual(rrdi.info(file)["undoable"], 2)
-        rrdi.create(file, "DS:g:GAUGE:100:U:U", "RRA:AVERAGE:0.5:1:4", step=10, start=1_600_000_000)
+        file.unlink()
+        self.create("DS:g:GAUGE:100:U:U", "RRA:AVERAGE:0.5:1:4")
         self.assertEqual(rrdi.batch(file, "\n".join(lines)), ran)
-        rrdi.create(file, "DS:g:GAUGE:100:U:U", "RRA:AVERAGE:0.5:1:4", step=10, start=1_600_000_000)
+        file.unlink()
+        self.create("DS:g:GAUGE:100:U:U", "RRA:AVERAGE:0.5:1:4")
         self.assertEqual(rrdi.batch(file, (line + "\n" for line in lines)).output, wanted)
 
     def test_batch_without_a_file(self: Any) -> None:
