@@ -23,10 +23,8 @@ import os
 from typing import Callable, Iterable, List, NamedTuple, Optional, Tuple, Type, TypeVar, Union, overload
 
 from .errors import CANNOT_WRITE, OK, USAGE, Error, Exists, Refused, Unreadable, Usage, error_of, reason_of
-from .explaining import explain
 from .fetching import fetched
 from .library import Answer, the_library
-from .making import NewFile
 from .results import AnyNumber, Info, LastUpdate, Table, Value, info_of, last_update
 from .samples import Sample, sample_words
 from .times import Span, Time, moment, span_word, time_word
@@ -106,6 +104,7 @@ def make_at(path: FilePath, fill: Callable[[str], Filled]) -> Optional[Filled]:
     """
     if os.path.exists(encoded_path(path)):
         return None
+    from .making import NewFile  # here, since most programs create no file, and its imports take 5 ms
     with NewFile(path) as new:
         try:
             filled = fill(new.unfinished)
@@ -133,6 +132,7 @@ def update(path: FilePath, *samples: Sample, template: Optional[str] = None, now
     try:
         run_on(path, words, now, busy_timeout, sync)
     except (Refused, Unreadable) as error:
+        from .explaining import explain  # here, since most updates succeed
         explain(error, words, lambda question: run_on(path, question, now, 0, None))
         raise
 

@@ -8,7 +8,6 @@ from typing import List, NamedTuple, Optional, Tuple, Type, overload
 
 from .commands import Batch, RefusedLine, batch, creation, fetch_words, make_at, run_on
 from .errors import REFUSED, Exists, Refused, error_of_line
-from .explaining import explain
 from .fetching import fetched
 from .results import AnyNumber, Info, LastUpdate, Table, Value, info_of, last_update
 from .samples import Sample, sample_words
@@ -20,6 +19,7 @@ class RefusedLines(Refused):
     """Refused lines of a `Database`; `lines` has each line with its number and its reason."""
 
     def __init__(self, path: str, lines: Tuple[RefusedLine, ...]):
+        from .explaining import explain  # here, since most lines succeed
         one = lines[0]
         first = error_of_line(one.reason)
         explain(first, one.line.split())

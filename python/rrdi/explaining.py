@@ -103,7 +103,7 @@ def why_no_number(text: str) -> str:
 
 def _seconds(sample: List[str]) -> Optional[int]:
     """Returns the time of a sample. For N there is none, because the program takes it from its clock."""
-    return int(sample[0]) if sample[0].isdigit() else None
+    return int(sample[0]) if re.fullmatch(r"\d+", sample[0], re.ASCII) else None
 
 
 def _named(given: Given, number: int) -> str:

@@ -6,7 +6,6 @@ from typing import Iterable, NamedTuple, Optional, Tuple, Union
 
 from .commands import RefusedLine, lines_of, refused_lines
 from .errors import CANNOT_OPEN, OK, Error, error_of, reason_of
-from .explaining import explain
 from .library import Answer, the_library
 from .samples import Sample, sample_words
 from .times import Time, moment
@@ -50,6 +49,7 @@ def run(data: Optional[bytes], *words: Sample, now: Optional[Time] = None) -> Ra
     given = sample_words(words) if words[:1] == ("update",) else flat(words)  # type: ignore[arg-type]
     answer = the_library().run(data, encoded(given), moment(now))
     if answer.fault != OK:
+        from .explaining import explain  # here, since most commands succeed
         error = _failed(answer)
         explain(error, given, lambda question: run(data, *question, now=now).output)
         raise error
