@@ -8,6 +8,7 @@ from .errors import Error, Refused, Unreadable
 from .fetching import take_option
 from .samples import FRACTIONS_BELOW, LATEST, LEAST, MOST, too_late
 
+# A number in a sample, as the program reads it.
 NUMBER = re.compile(r"-?\d{1,20}(\.\d{1,6})?", re.ASCII)
 AS_NUMBERS = "update also takes (time, value, ..) tuples of numbers, which it rounds"
 WHOLE = "whole numbers without a point"
@@ -43,7 +44,7 @@ def explain(error: Error, words: Sequence[str], ask: Optional[Ask] = None) -> No
     elif error.reason == "bad time":
         error.detail = _why_bad_time(given)
     elif error.reason.startswith("not later than "):
-        error.detail = _why_not_later(given, int(error.reason.rpartition(" ")[2]))
+        error.detail = _why_not_later(given, int(error.reason.rpartition(" ")[2]), ask)
     elif error.reason == "wrong number of values":
         error.detail = _why_wrong_number(given, ask)
     elif error.reason == "bad value":
@@ -72,14 +73,9 @@ def why_unreadable(sample: List[str]) -> str:
     if time != "N" and not re.fullmatch(r"\d{1,20}", time, re.ASCII):
         return f"its time is {shown(time)}, not whole seconds since 1970 or N"
     for number, value in enumerate(values, 1):
-        if value != "U" and not is_number(value):
+        if value != "U" and not NUMBER.fullmatch(value):
             return f"its value {number} is {why_no_number(value)}"
     return ""
-
-
-def is_number(text: str) -> bool:
-    """Returns whether a text is a number of rrdi: at most 2^64 - 1, with at most six decimals."""
-    return NUMBER.fullmatch(text) is not None and abs(int(text.partition(".")[0])) <= MOST
 
 
 def why_no_number(text: str) -> str:
@@ -95,7 +91,7 @@ def why_no_number(text: str) -> str:
     if re.fullmatch(r"-?\d*\.\d{7,}", text):
         return f"{shown(text)}, with more than six decimals; {AS_NUMBERS}"
     if re.fullmatch(r"-?\d+(\.\d+)?", text):
-        return f"{shown(text)}, over 2^64 - 1"
+        return f"{shown(text)}, with more than 20 digits"
     return f"{shown(text)}; a value is a number, such as 21.5 or -3, or U for unknown"
 
 
@@ -119,27 +115,29 @@ def _why_bad_time(given: Given) -> str:
     return ""
 
 
-def _why_not_later(given: Given, last: int) -> str:
-    """Says which of several samples is too early: the first one, or the one after a sample of the time `last`."""
-    if len(given.samples) < 2:
+def _why_not_later(given: Given, before: int, ask: Optional[Ask]) -> str:
+    """Says which of several samples is too early: the first one, or one that follows a sample of the time `before`."""
+    last = _answer(ask, "last").strip()
+    if len(given.samples) < 2 or not last:
         return ""
     times = [_seconds(sample) for sample in given.samples]
-    for number, time in enumerate(times, 1):
-        before = last if number == 1 else times[number - 2]
-        if time is not None and before == last and time <= last:
+    for number, (earlier, time) in enumerate(zip([int(last), *times], times), 1):
+        if time is not None and earlier == before and time <= before:
             return f"sample {number} has the time {time}"
     return ""
 
 
+def _answer(ask: Optional[Ask], question: str) -> str:
+    """Returns the output of a question about the database; an empty text if there is no answer."""
+    try:
+        return ask([question]) if ask is not None else ""
+    except Error:
+        return ""
+
+
 def _sources(ask: Optional[Ask]) -> List[Source]:
     """Returns the sources of the database, or none if it does not answer."""
-    if ask is None:
-        return []
-    try:
-        text = ask(["info"])
-    except Error:
-        return []
-    found = re.findall(r"^ds\[\d+\]\.name = (.*)\nds\[\d+\]\.type = (.*)$", text, re.MULTILINE)
+    found = re.findall(r"^ds\[\d+\]\.name = (.*)\nds\[\d+\]\.type = (.*)$", _answer(ask, "info"), re.MULTILINE)
     return [Source(name, type) for name, type in found]
 
 

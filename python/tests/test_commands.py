@@ -325,6 +325,7 @@ class Batches(OfFiles):
     def test_faults_of_a_batch(self: Any) -> None:
         self.file.write_bytes(b"other bytes")
         self.refuses(rrdi.Damaged, "file: not ours", rrdi.batch, self.file, ["last"])
+        self.file.unlink()
         self.fill()
         with open(self.file, "rb") as other:
             fcntl.flock(other, fcntl.LOCK_EX)
@@ -469,7 +470,8 @@ class InMemory(OfFiles):
         data = rrdi.run(None, "create", "--step", "10", "--start", "0", "DS:g:GAUGE:99:U:U", "RRA:LAST:0:1:3").data
         faults: List[Any] = [(None, rrdi.NoDatabase, ["last"], "cannot open"),
                              (data, rrdi.Refused, ["revert"], "nothing to revert"),
-                             (data, rrdi.Unreadable, ["update", "x"], "unreadable sample 1"),
+                             (data, rrdi.Unreadable, ["update", "x"],
+                              "unreadable sample 1: 'x' has no value; write TIME:VALUE"),
                              (data, rrdi.Usage, ["graph"], "usage"), (data, rrdi.Usage, [], "usage"),
                              (data[:9], rrdi.Damaged, ["last"], "file: truncated at 9"),
                              (b"", rrdi.Damaged, ["last"], "file: truncated at 0")]

@@ -213,8 +213,8 @@ class Errors(OfFiles):
                 ("0.3333333", f"its value 2 is '0.3333333', with more than six decimals; {numbers}"),
                 ("", "its value 2 is empty; U is unknown"), ("nan", "its value 2 is 'nan'; U is unknown"),
                 ("None", "its value 2 is 'None'; U is unknown"),
-                ("99999999999999999999", "its value 2 is '99999999999999999999', over 2^64 - 1"),
-                ("1" * 60, "its value 2 is '11111111111111111111'.. (60 characters), over 2^64 - 1"),
+                ("1" * 21, f"its value 2 is '{'1' * 21}', with more than 20 digits"),
+                ("1" * 60, f"its value 2 is '{'1' * 20}'.. (60 characters), with more than 20 digits"),
                 ("inf", "its value 2 is 'inf'; a value is a number, such as 21.5 or -3, or U for unknown"),
                 ("+5", "its value 2 is '+5'; a value is a number, such as 21.5 or -3, or U for unknown")):
             self.says(rrdi.Unreadable, f"unreadable sample 2: {text}", "1600000040:1:2", f"1600000050:1:{sample}")
@@ -283,8 +283,11 @@ class Errors(OfFiles):
     def test_the_sources_are_not_known(self: Any) -> None:
         """The second question fails: the error is that of the update."""
         self.fill()
-        with mock.patch("rrdi.explaining.re.findall", side_effect=rrdi.Busy("cannot open")):
-            self.says(rrdi.Refused, "wrong number of values", "1600000040:1")
+        for reason in ("wrong number of values", "bad value", "not later than 5"):
+            faults = [rrdi.Refused(reason, str(self.file)), rrdi.Busy("cannot open")]
+            with mock.patch("rrdi.commands.run_on", side_effect=faults) as run_on:
+                self.says(rrdi.Refused, reason, "1600000040:1", "1600000050:1")
+            self.assertEqual(run_on.call_count, 2)
 
 
 class UpdatesByProgram(WithProgram, Updates, unittest.TestCase):
