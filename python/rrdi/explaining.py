@@ -6,7 +6,7 @@ from typing import Callable, Dict, List, NamedTuple, Optional, Sequence
 
 from .errors import Error, Refused, Unreadable
 from .fetching import take_option
-from .samples import FRACTIONS_BELOW, LATEST, LEAST, MOST, too_late
+from .samples import FRACTIONS_BELOW, LATEST, LEAST, MOST, why_bad_time
 
 # A number in a sample, as the program reads it.
 NUMBER = re.compile(r"-?\d{1,20}(\.\d{1,6})?", re.ASCII)
@@ -102,16 +102,11 @@ def _seconds(sample: List[str]) -> Optional[int]:
     return int(sample[0]) if re.fullmatch(r"\d+", sample[0], re.ASCII) else None
 
 
-def _named(given: Given, number: int) -> str:
-    """Returns what to call a sample: its number if there are others."""
-    return f"sample {number}: " if len(given.samples) > 1 else ""
-
-
 def _why_bad_time(given: Given) -> str:
     for number, sample in enumerate(given.samples, 1):
         seconds = _seconds(sample)
         if seconds is not None and seconds > LATEST:
-            return _named(given, number) + too_late(seconds)
+            return why_bad_time(seconds, number)
     return ""
 
 

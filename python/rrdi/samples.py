@@ -115,23 +115,29 @@ def _is_time(first: object) -> bool:
     return not isinstance(first, (list, tuple)) and not (isinstance(first, str) and first != "N" and not first.isdigit())
 
 
-def _time_text(time: object, now: Optional[int]) -> str:
+def _time_text(time: object, number: int, now: Optional[int]) -> str:
     if time == "N" and now is not None:
         return str(now)
     if isinstance(time, str):
         return time
-    seconds = seconds_of(time)  # type: ignore[arg-type]
+    try:
+        seconds = seconds_of(time)  # type: ignore[arg-type]
+    except ValueError as error:
+        raise ValueError(f"sample {number}: {error}") from None
     if not 0 <= seconds <= LATEST:
-        raise ValueError(too_late(seconds) if seconds > LATEST else f"its time {seconds} is before 1970")
+        raise ValueError(why_bad_time(seconds, number))
     return str(seconds)
 
 
-def too_late(seconds: int) -> str:
-    """Returns what is wrong with a time that rrdi cannot keep."""
+def why_bad_time(seconds: int, number: int) -> str:
+    """Returns what is wrong with the time of sample `number`, which rrdi cannot keep."""
+    text = f"sample {number} has the time {seconds}"
+    if seconds < 0:
+        return f"{text}, which is before 1970"
     for name, part in (("milliseconds", 10**3), ("microseconds", 10**6), ("nanoseconds", 10**9)):
         if seconds // part <= LATEST:
-            return f"its time {seconds} is over 9999999999; are these {name}? In seconds it is {seconds // part}"
-    return f"its time {seconds} is over 9999999999"
+            return f"{text}; if these are {name}, write {seconds // part}"
+    return f"{text}, which is over 9999999999"
 
 
 def decoded(path: Optional[FilePath]) -> Optional[str]:
@@ -146,9 +152,9 @@ def sample_text(sample: Sequence[object], number: int, path: Optional[FilePath] 
     - `TypeError` if the time or a value has another type.
     """
     try:
-        words = [_time_text(sample[0], now)]
+        words = [_time_text(sample[0], number, now)]
     except ValueError as error:
-        raise BadSample("bad time", decoded(path), f"sample {number}: {error}") from None
+        raise BadSample("bad time", decoded(path), str(error)) from None
     for at, value in enumerate(sample[1:], 1):
         try:
             words.append(value_text(value))

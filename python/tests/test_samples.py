@@ -163,9 +163,11 @@ class Updates(OfFiles):
              "1000000000000000000.5; a number with a fraction must be below 10^18"),
             ((naive, 1, 2), "bad time: sample 2: the datetime 2020-09-13 12:27:20 has no zone; write "
              "datetime.now(timezone.utc), or time.astimezone() for a local time"),
-            ((1_600_000_040_000, 1, 2), "bad time: sample 2: its time 1600000040000 is over 9999999999; are these "
-             "milliseconds? In seconds it is 1600000040"),
-            ((-5, 1, 2), "bad time: sample 2: its time -5 is before 1970")]
+            ((1_600_000_040_000, 1, 2), "bad time: sample 2 has the time 1600000040000; if these are milliseconds, write "
+             "1600000040"),
+            ((-5, 1, 2), "bad time: sample 2 has the time -5, which is before 1970"),
+            ((10**40, 1, 2), f"bad time: sample 2 has the time {10**40}, which is over 9999999999"),
+            ((math.nan, 1, 2), "bad time: sample 2: nan is no time")]
         with mock.patch("rrdi.commands.the_library"), mock.patch("rrdi.memory.the_library"):
             for sample, text in wanted:
                 error = self.refuses(rrdi.BadSample, text.partition(":")[0], rrdi.update, self.file, "1600000039:1:2",
@@ -231,10 +233,10 @@ class Errors(OfFiles):
 
     def test_refused(self: Any) -> None:
         self.fill()
-        self.says(rrdi.Refused, "bad time: its time 1600000040000 is over 9999999999; are these milliseconds? In seconds "
-                                "it is 1600000040", "1600000040000:1:2")
-        self.says(rrdi.Refused, "bad time: sample 2: its time 1600000050000000 is over 9999999999; are these microseconds? "
-                                "In seconds it is 1600000050", "1600000040:1:2", "1600000050000000:1:2")
+        self.says(rrdi.Refused, "bad time: sample 1 has the time 1600000040000; if these are milliseconds, write "
+                                "1600000040", "1600000040000:1:2")
+        self.says(rrdi.Refused, "bad time: sample 2 has the time 1600000050000000; if these are microseconds, write "
+                                "1600000050", "1600000040:1:2", "1600000050000000:1:2")
         self.says(rrdi.Refused, "wrong number of values: sample 1 has 1 value, 2 are wanted: g, c", "1600000040:1")
         self.says(rrdi.Refused, "wrong number of values: sample 2 has 3 values, 2 are wanted: g, c", (1_600_000_040, 1, 2),
                   "1600000050:1:2:3")
