@@ -95,6 +95,15 @@ class Commands(OfFiles):
         self.assertEqual(found, wanted)
         self.assertEqual({key: type(value) for key, value in found.items()},
                          {key: type(value) for key, value in wanted.items()})
+        exact = {key: Decimal(value) if isinstance(value, float) else value for key, value in wanted.items()}
+        self.assertEqual({key: (value, type(value)) for key, value in rrdi.info(self.file, values=Decimal).items()},
+                         {key: (value, type(value)) for key, value in exact.items()})
+        millionths = rrdi.info(self.file, values=rrdi.Millionths)
+        self.assertEqual((millionths["ds[g].min"], millionths["rra[1].xff"]), (-10_000_000, 250_000))
+        with self.assertRaises(TypeError):
+            rrdi.info(self.file, values=str)  # type: ignore[arg-type]
+        rrdi.tune(self.file, "--maximum", f"g:{2**64 - 1}")
+        self.assertEqual(rrdi.info(self.file, values=Decimal)["ds[g].max"], 2**64 - 1)
         rrdi.update(self.file, "1600000040:100:U")
         self.assertEqual((rrdi.info(self.file)["ds[g].last_ds"], rrdi.info(self.file)["ds[c].last_ds"]), ("100", "U"))
 
