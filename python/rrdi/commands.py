@@ -50,7 +50,8 @@ class Batch(NamedTuple):
 
 def _failed(answer: Answer, path: FilePath) -> Exception:
     """Returns the exception for the fault of an answer."""
-    return error_of(answer.fault, reason_of(answer.fault, answer.output), os.fsdecode(path), answer.at, answer.system_error)
+    reason = reason_of(answer.fault, answer.output)
+    return error_of(answer.fault, reason, os.fsdecode(path), answer.at, answer.system_error)
 
 
 def run_on(path: FilePath, words: List[str], now: Optional[Time] = None, busy_timeout: Optional[float] = None,
@@ -70,8 +71,8 @@ def create(path: FilePath, *definitions: Words, step: Optional[Span] = None, sta
            busy_timeout: Optional[float] = None, sync: Optional[bool] = None) -> None:
     """Creates a database with data sources (`DS:..`) and archives (`RRA:..`), whole or not at all.
 
-    `overwrite` replaces a file that is at `path`, whatever it contains; `revert` does not bring it back. `exist_ok` keeps
-    a database that is at `path`, as it is.
+    `overwrite` replaces a file that is at `path`, whatever it contains; `revert` does not bring it back. `exist_ok`
+    keeps a database that is at `path`, as it is.
 
     # Errors
     `Exists`, a `FileExistsError`, if there is a file, and neither is True.
@@ -98,13 +99,13 @@ def creation(definitions: Iterable[Words], step: Optional[Span], start: Optional
 
 
 def make_at(path: FilePath, fill: Callable[[str], Filled]) -> Optional[Filled]:
-    """Calls `fill` with another name, gives the file its name `path` when it is whole, and returns what `fill` returned.
+    """Calls `fill` with another name, gives the whole file its name `path`, and returns what `fill` returned.
 
     Returns None if there is a file at `path`, which stays as it is. `fill` may leave no file.
     """
     if os.path.exists(encoded_path(path)):
         return None
-    from .making import NewFile  # here, since most programs create no file, and its imports take 5 ms
+    from .making import NewFile  # here, since most calls make no file
     with NewFile(path) as new:
         try:
             filled = fill(new.unfinished)
@@ -121,8 +122,8 @@ def update(path: FilePath, *samples: Sample, template: Optional[str] = None, now
            busy_timeout: Optional[float] = None, sync: Optional[bool] = None) -> None:
     """Adds samples, all or none. A sample is a text `TIME:VALUE..`, or a tuple of a time and values.
 
-    In a tuple, the time is a time or `"N"`, and a value is an int, a float, a Decimal, a Fraction or a `Millionths`, which
-    is rounded to six decimals (half to even). None and nan are unknown, and a text is sent as it is.
+    In a tuple, the time is a time or `"N"`, and a value is an int, a float, a Decimal, a Fraction or a `Millionths`,
+    which is rounded to six decimals (half to even). None and nan are unknown, and a text is sent as it is.
 
     # Errors
     `BadSample`, a `ValueError`, if no database can take a time or a value of a tuple. Then nothing is sent.
@@ -191,8 +192,8 @@ def lastupdate(path: FilePath, *, values: type = float, tz: Optional[datetime.tz
                now: Optional[Time] = None, busy_timeout: Optional[float] = None) -> object:
     """Returns the last raw values: `{"date": datetime, "ds": {name: value}}`; an unknown value is None.
 
-    `values` is as in `fetch`. The date is in the zone `tz`; without one it is a local time without a zone, as in Python's
-    module `rrdtool`.
+    `values` is as in `fetch`. The date is in the zone `tz`; without one it is a local time without a zone, as in
+    Python's module `rrdtool`.
     """
     return last_update(run_on(path, ["lastupdate"], now, busy_timeout, None), values, tz)
 

@@ -78,9 +78,10 @@ class Database:
 
     def create(self, *definitions: Words, step: Optional[Span] = None, start: Optional[Time] = None,
                journal: Optional[int] = None, overwrite: bool = False, exist_ok: bool = False) -> None:
-        """Creates a database, as `rrdi.create`. If there is a file, `Exists` is raised at once, or nothing waits.
+        """Creates a database, as `rrdi.create`.
 
-        If another program makes the file before the waiting changes run, `flush` raises `Exists`, or runs the others.
+        Looks for a file at once, and again when the waiting changes run. If another program has made the file in
+        between, `flush` raises `Exists`, or with `exist_ok` runs the other changes.
         """
         words = creation(definitions, step, start, journal, overwrite, exist_ok)
         if not overwrite:

@@ -4,9 +4,11 @@ from __future__ import annotations
 import re
 from typing import Callable, Dict, List, NamedTuple, Optional, Sequence
 
+from .amounts import LARGEST
 from .errors import Error, Refused, Unreadable
 from .fetching import take_option
-from .samples import FRACTIONS_BELOW, LATEST, LEAST, MOST, why_bad_time
+from .samples import LEAST, MOST, why_bad_time
+from .times import LATEST
 
 # A number in a sample, as the program reads it.
 NUMBER = re.compile(r"-?\d{1,20}(\.\d{1,6})?", re.ASCII)
@@ -112,8 +114,8 @@ def _why_bad_time(given: Given) -> str:
 
 def _why_not_later(given: Given, before: int, ask: Optional[Ask]) -> str:
     """Says which of several samples is too early: the first one, or one that follows a sample of the time `before`."""
-    last = _answer(ask, "last").strip()
-    if len(given.samples) < 2 or not last:
+    last = _answer(ask, "last").strip() if len(given.samples) > 1 else ""
+    if not last:
         return ""
     times = [_seconds(sample) for sample in given.samples]
     for number, (earlier, time) in enumerate(zip([int(last), *times], times), 1):
@@ -162,7 +164,7 @@ def _why_not_taken(type: str, value: str) -> str:
     if value == "U" or not type:
         return ""
     if type in ("GAUGE", "ABSOLUTE"):
-        return "numbers below 10^18" if abs(int(value.partition(".")[0])) >= FRACTIONS_BELOW else ""
+        return "numbers below 10^18" if abs(int(value.partition(".")[0])) >= LARGEST else ""
     if type == "COUNTER":
         return "" if "." not in value and 0 <= int(value) <= MOST else f"{WHOLE} from 0 to 2^64 - 1"
     return "" if "." not in value and LEAST <= int(value) < -LEAST else f"{WHOLE} from -2^63 to 2^63 - 1"

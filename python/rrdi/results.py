@@ -6,7 +6,7 @@ from decimal import Decimal
 from typing import (TYPE_CHECKING, Callable, Dict, Generic, List, NamedTuple, Optional, Tuple, Type, TypedDict, TypeVar,
                     Union)
 
-from .amounts import MILLION, Millionths
+from .amounts import MILLION, Millionths, shortened
 
 Value = TypeVar("Value", float, Decimal, Millionths)
 Row = Tuple[Optional[Value], ...]
@@ -117,12 +117,7 @@ def _setting(name: str, word: str, convert: Callable[[str], AnyNumber]) -> Union
     if name in ("type", "cf"):
         return word
     if name == "last_raw":
-        return _shortened(word)
+        return shortened(word)
     if name in ("min", "max", "xff"):
         return None if word == "U" else convert(word)
     return int(word)
-
-
-def _shortened(word: str) -> str:
-    """Returns a number without zeros at the end of its fraction, as in a sample."""
-    return word.rstrip("0").rstrip(".") if "." in word else word

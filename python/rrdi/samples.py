@@ -13,9 +13,9 @@ from fractions import Fraction
 from numbers import Rational, Real
 from typing import Iterable, List, Optional, Sequence, Union
 
-from .amounts import MILLION, Millionths
+from .amounts import LARGEST, MILLION, Millionths, shortened
 from .errors import BadSample
-from .times import seconds_of
+from .times import LATEST, seconds_of
 from .words import FilePath
 
 Number = Union[int, float, Decimal, Fraction]
@@ -23,17 +23,8 @@ Cell = Union[str, Number, datetime.datetime, None]
 Sample = Union[str, int, Sequence[Cell], Sequence[Sequence[Cell]]]
 
 LEAST, MOST = -2**63, 2**64 - 1  # whole numbers: the least of a DERIVE, the most of a COUNTER
-FRACTIONS_BELOW = 10**18  # the size from which on no source takes a number with a fraction
-LATEST = 9_999_999_999
 EXACT = Context(prec=50, rounding=ROUND_HALF_EVEN, traps=[])
 MILLIONTH = Decimal("0.000001")
-
-
-def shortened(text: str) -> str:
-    """Returns a number without zeros at the end of its fraction. A COUNTER takes no number with a point."""
-    if "." in text:
-        text = text.rstrip("0").rstrip(".")
-    return "0" if text == "-0" else text
 
 
 def value_text(value: object) -> str:
@@ -77,13 +68,13 @@ def _of_decimal(value: Decimal) -> str:
         return "U"
     if value.is_infinite():
         raise ValueError(f"{value}, which is no number; None is unknown")
-    if abs(value) > MOST + 1:  # before its digits are written, which may be a million
+    if not -MOST <= value <= MOST:  # before its digits are written, which may be a million
         raise _beyond(value)
     return _within_limits(f"{value.quantize(MILLIONTH, context=EXACT):f}", value)
 
 
 def _of_fraction(value: Fraction) -> str:
-    if abs(value) > MOST + 1:
+    if not -MOST <= value <= MOST:
         raise _beyond(value)
     return _within_limits(str(Millionths(round(value * MILLION))), value)
 
@@ -96,7 +87,7 @@ def _within_limits(text: str, value: object) -> str:
     """
     text = shortened(text)
     if "." in text:
-        if abs(int(text.partition(".")[0])) >= FRACTIONS_BELOW:
+        if abs(int(text.partition(".")[0])) >= LARGEST:
             raise ValueError(f"{text}; a number with a fraction must be below 10^18")
     elif not LEAST <= int(text) <= MOST:
         raise _beyond(value)
@@ -112,7 +103,9 @@ def _beyond(value: object) -> ValueError:
 
 def _is_time(first: object) -> bool:
     """Returns whether the first part of a tuple or list is a time, so that the whole is a sample."""
-    return not isinstance(first, (list, tuple)) and not (isinstance(first, str) and first != "N" and not first.isdigit())
+    if isinstance(first, str):
+        return first == "N" or first.isdigit()
+    return not isinstance(first, (list, tuple))
 
 
 def _time_text(time: object, number: int, now: Optional[int]) -> str:
@@ -137,14 +130,16 @@ def why_bad_time(seconds: int, number: int) -> str:
     for name, part in (("milliseconds", 10**3), ("microseconds", 10**6), ("nanoseconds", 10**9)):
         if seconds // part <= LATEST:
             return f"{text}; if these are {name}, write {seconds // part}"
-    return f"{text}, which is over 9999999999"
+    return f"{text}, which is over {LATEST}"
 
 
-def decoded(path: Optional[FilePath]) -> Optional[str]:
+def _decoded(path: Optional[FilePath]) -> Optional[str]:
+    """Returns the path of an error; None in memory."""
     return None if path is None else os.fsdecode(path)
 
 
-def sample_text(sample: Sequence[object], number: int, path: Optional[FilePath] = None, now: Optional[int] = None) -> str:
+def sample_text(sample: Sequence[object], number: int, path: Optional[FilePath] = None,
+                now: Optional[int] = None) -> str:
     """Returns the text of sample `number`, which is a time and values.
 
     # Errors
@@ -154,12 +149,12 @@ def sample_text(sample: Sequence[object], number: int, path: Optional[FilePath] 
     try:
         words = [_time_text(sample[0], number, now)]
     except ValueError as error:
-        raise BadSample("bad time", decoded(path), str(error)) from None
+        raise BadSample("bad time", _decoded(path), str(error)) from None
     for at, value in enumerate(sample[1:], 1):
         try:
             words.append(value_text(value))
         except ValueError as error:
-            raise BadSample("bad value", decoded(path), f"value {at} of sample {number} is {error}") from None
+            raise BadSample("bad value", _decoded(path), f"value {at} of sample {number} is {error}") from None
         except TypeError as error:
             raise TypeError(f"value {at} of sample {number} is {error}") from None
     return ":".join(words)

@@ -42,7 +42,7 @@ class Values(unittest.TestCase):
         self.check([(1 / 3, "0.333333"), (0.1 + 0.2, "0.3"), (1e-07, "0"), (-1e-07, "0"), (21.5, "21.5"), (3.0, "3"),
                     (-2.25, "-2.25"), (1e17, "100000000000000000"), (Float(1.5), "1.5"), (0, "0"), (-5, "-5"),
                     (2**64 - 1, "18446744073709551615"), (-2**63, "-9223372036854775808"),
-                    (Decimal("1.5"), "1.5"), (Decimal("1E+3"), "1000"), (Decimal("1E-999999"), "0"),
+                    (Decimal("1.5"), "1.5"), (Decimal("1E+3"), "1000"), (Decimal("1E-9999999"), "0"),
                     (Decimal(10)**17, "1" + "0" * 17), (Fraction(2, 3), "0.666667"), (Fraction(6, 2), "3"),
                     (rrdi.Millionths(1_500_000), "1.5"), (rrdi.Millionths(-1), "-0.000001"),
                     (rrdi.Millionths(15_000_000), "15"), ("1.500", "1.500"), ("U", "U")])
@@ -61,7 +61,7 @@ class Values(unittest.TestCase):
 
     def test_beyond_the_limits(self) -> None:
         wrong: List[Any] = [math.inf, -math.inf, Decimal("inf"), 1e300, -1e19, 2**64, -2**63 - 1, 10**5_000,
-                            Decimal("1E+999999"), Decimal("1e18") + Decimal("0.5"), Fraction(10**40),
+                            Decimal("1E+9999999"), Decimal(-2**64), Decimal("1e18") + Decimal("0.5"), Fraction(10**40),
                             Fraction(10**18) + Fraction(1, 2), rrdi.Millionths(10**24 + 1)]
         for value in wrong:
             with self.assertRaises(ValueError) as raised:
