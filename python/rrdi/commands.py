@@ -65,6 +65,17 @@ def run_on(path: FilePath, words: List[str], now: Optional[Time] = None, busy_ti
     return answer.output.decode()
 
 
+def run_explained(path: FilePath, words: List[str], now: Optional[Time] = None, busy_timeout: Optional[float] = None,
+                  sync: Optional[bool] = None) -> str:
+    """Does the same as `run_on`, but an error also says which sample, value or time was wrong."""
+    try:
+        return run_on(path, words, now, busy_timeout, sync)
+    except (Refused, Unreadable) as error:
+        from .explaining import explain  # here, since most commands succeed
+        explain(error, words, lambda question: run_on(path, question, now, 0, None))
+        raise
+
+
 # ---- Changes
 
 def create(path: FilePath, *definitions: Words, step: Optional[Span] = None, start: Optional[Time] = None,
@@ -80,8 +91,8 @@ def create(path: FilePath, *definitions: Words, step: Optional[Span] = None, sta
     """
     words = creation(definitions, step, start, journal, overwrite, exist_ok)
     if overwrite:
-        run_on(path, words, now, busy_timeout, sync)
-    elif make_at(path, lambda new: run_on(new, words, now, busy_timeout, sync)) is None:
+        run_explained(path, words, now, busy_timeout, sync)
+    elif make_at(path, lambda new: run_explained(new, words, now, busy_timeout, sync)) is None:
         if not exist_ok:
             raise Exists(os.fsdecode(path))
         last(path, now=now, busy_timeout=busy_timeout)  # fails if the file is no database
@@ -131,12 +142,7 @@ def update(path: FilePath, *samples: Sample, template: Optional[str] = None, now
     """
     words = ["update"] if template is None else ["update", f"--template={template}"]
     words += sample_words(samples, path)
-    try:
-        run_on(path, words, now, busy_timeout, sync)
-    except (Refused, Unreadable) as error:
-        from .explaining import explain  # here, since most updates succeed
-        explain(error, words, lambda question: run_on(path, question, now, 0, None))
-        raise
+    run_explained(path, words, now, busy_timeout, sync)
 
 
 def tune(path: FilePath, *words: Words, now: Optional[Time] = None, busy_timeout: Optional[float] = None,
@@ -221,7 +227,7 @@ def fetch(path: FilePath, function: Words, *words: Words, values: type = Decimal
     """
     time = moment(now)
     asked = fetch_words(function, words, resolution, start, end)
-    return fetched(lambda line: run_on(path, line, time, busy_timeout, None), asked, time, values)
+    return fetched(lambda line: run_explained(path, line, time, busy_timeout, None), asked, time, values)
 
 
 def fetch_words(function: Words, words: Iterable[Words], resolution: Optional[Span], start: Optional[Time],

@@ -5,10 +5,10 @@ import datetime
 import os
 from decimal import Decimal
 from types import TracebackType
-from typing import List, NamedTuple, Optional, Tuple, Type, overload
+from typing import List, NamedTuple, Optional, Sequence, Tuple, Type, overload
 
-from .commands import Batch, RefusedLine, batch, creation, fetch_words, make_at, run_on
-from .errors import REFUSED, Exists, Refused, error_of_line
+from .commands import Batch, RefusedLine, batch, creation, fetch_words, make_at, run_explained
+from .errors import REFUSED, Error, Exists, Refused, error_of_line
 from .fetching import fetched
 from .results import AnyNumber, Info, LastUpdate, Table, Value, info_of, last_update
 from .samples import Sample, sample_words
@@ -16,14 +16,20 @@ from .times import Span, Time, moment, seconds_of
 from .words import FilePath, Words, flat, line_of, options
 
 
+def _explained(reason: str, words: Sequence[str], path: Optional[str] = None) -> Error:
+    """Returns the exception for the reason of a refused line, with what its words show."""
+    from .explaining import explain  # here, since most lines succeed
+    error = error_of_line(reason, path)
+    explain(error, words)
+    return error
+
+
 class RefusedLines(Refused):
     """Refused lines of a `Database`; `lines` has each line with its number and its reason."""
 
     def __init__(self, path: str, lines: Tuple[RefusedLine, ...]):
-        from .explaining import explain  # here, since most lines succeed
         one = lines[0]
-        first = error_of_line(one.reason)
-        explain(first, one.line.split())
+        first = _explained(one.reason, one.line.split())
         more = f" (and {len(lines) - 1} more)" if len(lines) > 1 else ""
         super().__init__(f"line {one.number}, {one.line}: {first}{more}", path, REFUSED)
         self.lines = lines
@@ -171,11 +177,11 @@ class Database:
     def _ask(self, words: List[str]) -> str:
         """Runs the waiting changes and then a query; returns the output of the query."""
         if not self._waiting:
-            return run_on(self.path, words, self.now, self.busy_timeout, None)
+            return run_explained(self.path, words, self.now, self.busy_timeout, None)
         before = len(self.refused)
         output = self._run([line_of(words)])
         if len(self.refused) > before and self.refused[-1].number == self._count + 1:
-            raise error_of_line(self.refused.pop().reason, self.path)
+            raise _explained(self.refused.pop().reason, words, self.path)
         lines = output.splitlines()
         return "\n".join(lines[sum(1 for line in lines if line.startswith("ERROR: ")):])
 

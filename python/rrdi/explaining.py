@@ -1,4 +1,4 @@
-"""Finds what was wrong with the samples of a refused update, since the program's text names at most the sample."""
+"""Finds what was wrong with the samples and times of a refused command, since the program's text names at most a sample."""
 from __future__ import annotations
 
 import re
@@ -13,6 +13,8 @@ from .times import LATEST
 # A number in a sample, as the program reads it.
 NUMBER = re.compile(r"-?\d{1,20}(\.\d{1,6})?", re.ASCII)
 AS_NUMBERS = "update also takes (time, value, ..) tuples of numbers, which it rounds"
+# The options of a command that are times.
+TIMES = {"create": [("-b", "--start")], "fetch": [("-s", "--start"), ("-e", "--end")]}
 WHOLE = "whole numbers without a point"
 
 Ask = Callable[[List[str]], str]
@@ -33,13 +35,19 @@ class Given(NamedTuple):
 
 
 def explain(error: Error, words: Sequence[str], ask: Optional[Ask] = None) -> None:
-    """Adds to the error of a command what was wrong with its words, as far as the words of an update show it.
+    """Adds to the error of a command what was wrong with its words, as far as they show it.
 
     `ask` runs a question about the same database, which names its sources.
     """
-    if words[:1] != ["update"] or not isinstance(error, (Refused, Unreadable)):
+    if not words or not isinstance(error, (Refused, Unreadable)):
         return
-    given = given_of(words[1:])
+    if words[0] == "update":
+        _explain_update(error, given_of(words[1:]), ask)
+    elif words[0] in TIMES and error.reason in ("bad time", "bad start"):
+        error.detail = _why_bad_option(words)
+
+
+def _explain_update(error: Error, given: Given, ask: Optional[Ask]) -> None:
     if error.reason.startswith("unreadable sample "):
         number = int(error.reason.rpartition(" ")[2])
         error.detail = why_unreadable(given.samples[number - 1]) if number <= len(given.samples) else ""
@@ -108,7 +116,15 @@ def _why_bad_time(given: Given) -> str:
     for number, sample in enumerate(given.samples, 1):
         seconds = _seconds(sample)
         if seconds is not None and seconds > LATEST:
-            return why_bad_time(seconds, number)
+            return why_bad_time(f"sample {number} has the time", seconds)
+    return ""
+
+
+def _why_bad_option(words: Sequence[str]) -> str:
+    for letter, name in TIMES[words[0]]:
+        value, _ = take_option(list(words[1:]), letter, name)
+        if value is not None and int(value) > LATEST:
+            return why_bad_time(f"{name} is", int(value))
     return ""
 
 

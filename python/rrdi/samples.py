@@ -118,13 +118,13 @@ def _time_text(time: object, number: int, now: Optional[int]) -> str:
     except ValueError as error:
         raise ValueError(f"sample {number}: {error}") from None
     if not 0 <= seconds <= LATEST:
-        raise ValueError(why_bad_time(seconds, number))
+        raise ValueError(why_bad_time(f"sample {number} has the time", seconds))
     return str(seconds)
 
 
-def why_bad_time(seconds: int, number: int) -> str:
-    """Returns what is wrong with the time of sample `number`, which rrdi cannot keep."""
-    text = f"sample {number} has the time {seconds}"
+def why_bad_time(what: str, seconds: int) -> str:
+    """Returns what is wrong with a time that rrdi cannot keep."""
+    text = f"{what} {seconds}"
     if seconds < 0:
         return f"{text}, which is before 1970"
     for name, part in (("milliseconds", 10**3), ("microseconds", 10**6), ("nanoseconds", 10**9)):

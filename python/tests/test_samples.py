@@ -249,6 +249,26 @@ class Errors(OfFiles):
                   "1600000040:1:2", "1600000039:1:2")
         self.says(rrdi.Refused, "no such data source", "1600000040:1", template="x")
 
+    def test_times_of_other_commands(self: Any) -> None:
+        file, late = self.fill(), 1_600_000_040_000
+        detail = "is 1600000040000; if these are milliseconds, write 1600000040"
+        calls: List[Tuple[str, Any]] = [
+            ("bad time: --start", lambda: rrdi.fetch(file, "MAX", start=late)),
+            ("bad time: --end", lambda: rrdi.fetch(file, "MAX", "-e", late)),
+            ("bad time: --end", lambda: rrdi.Database(file).fetch("MAX", end=late)),
+            ("bad start: --start", lambda: rrdi.create(file, "DS:g:GAUGE:9:U:U", "RRA:MAX:0:1:3", start=late,
+                                                       overwrite=True))]
+        for text, call in calls:
+            with self.assertRaises(rrdi.Refused) as raised:
+                call()
+            self.assertEqual(str(raised.exception), f"{file}: {text} {detail}")
+        database = rrdi.Database(file)
+        database.update("1600000040:1:2")
+        with self.assertRaises(rrdi.Refused) as raised:
+            database.fetch("MAX", end=late)
+        self.assertEqual(str(raised.exception), f"{file}: bad time: --end {detail}")
+        self.refuses(rrdi.Refused, "bad span", rrdi.fetch, file, "MAX", start=20, end=10)
+
     def test_bad_values(self: Any) -> None:
         self.create("DS:g:GAUGE:100:U:U", *COUNTERS)
         whole = "whole numbers without a point from"
