@@ -1,4 +1,4 @@
-"""Finds what was wrong with the samples and times of a refused command, since the program's text names at most a sample."""
+"""Finds which sample, value or time of a refused command was wrong; the program's text names at most the sample."""
 from __future__ import annotations
 
 import re
