@@ -167,6 +167,7 @@ define finish
 		'Maintainer: $(MAINTAINER)' "Installed-Size: $$(du -sk --apparent-size $(1)/usr | cut -f 1)" "Depends: $(4)" \
 		'Section: $(3)' 'Priority: optional' $(5) > $(1)/DEBIAN/control
 	cd $(1) && find usr -type f | LC_ALL=C sort | xargs -d '\n' md5sum > DEBIAN/md5sums
+	find $(1)/DEBIAN $(1)/usr/share/doc -type f ! -name '*inst' ! -name '*rm' -exec chmod 644 {} +
 	dpkg-deb --root-owner-group --build $(1) $(1)_$$(dpkg --print-architecture).deb
 	rm -rf $(1)
 endef
