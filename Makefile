@@ -148,7 +148,7 @@ uninstall:
 	done
 	-@$(UPDATE_LIBRARIES)
 
-# Four packages, as Debian wants them: the program with its documents and scripts, the shared library, what is needed to build
+# Packages, as Debian wants them: the program with its documents and scripts, the shared library, what is needed to build
 # with it, and the link by which Python finds the package, whose code is with the scripts that need it.
 # Each folder is a part of an installation below /usr, with a copyright, which has the licenses, and a changelog.
 RUNTIME = $(BUILD)/librrdi0_$(VERSION)

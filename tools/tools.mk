@@ -53,7 +53,7 @@ uninstall-tools:
 
 # Debian's package that puts the Perl module in the place of RRDtool's for all programs, also for those in taint mode, which
 # ignore PERL5LIB.
-OF_PERL = out/librrds-perl-rrdi_$(VERSION)
+OF_PERL = $(BUILD)/librrds-perl-rrdi_$(VERSION)
 ABOUT_PERL = 'Provides: librrds-perl (= 1.7.2)' 'Conflicts: librrds-perl' 'Replaces: librrds-perl' \
 	'Description: round-robin time-series database with exact undo (Perl module RRDs)' \
 	' The module has the functions of RRDtool'\''s module RRDs, and runs them on databases' \

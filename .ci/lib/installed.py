@@ -15,9 +15,9 @@ from pathlib import Path
 from typing import Iterator, Mapping, NamedTuple
 
 LIST = Path(__file__).resolve().parent / "installed.txt"
-# The sections of `make install`, which are the packages and what no package has.
-PACKAGES = ("rrdi", "librrdi0", "librrdi-dev", "python3-rrdi")
-INSTALLED = (*PACKAGES, "no package")
+# The packages of Debian, and the sections of `make install`.
+PACKAGES = ("rrdi", "librrdi0", "librrdi-dev", "python3-rrdi", "librrds-perl-rrdi")
+INSTALLED = ("rrdi", "librrdi0", "librrdi-dev", "python3-rrdi", "no package")
 
 
 class Line(NamedTuple):
