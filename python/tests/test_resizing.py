@@ -51,7 +51,7 @@ class Copies(unittest.TestCase):
 
     def test_it_waits_for_a_change(self) -> None:
         """The copy is of the file after the change that holds the lock."""
-        with open("f.rrd", "r+b") as held:
+        with mock.patch.dict(os.environ, {"RRDI_WAIT": "20"}), open("f.rrd", "r+b") as held:
             fcntl.flock(held, fcntl.LOCK_EX)
 
             def end() -> None:
