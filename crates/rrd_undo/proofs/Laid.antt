@@ -53,6 +53,10 @@ pub on_err : {T E : Type 0} (r : Result T E) (P Q : Type 0) → (P → Q) → On
 on_err (Ok x) P Q f h = tt
 on_err (Err e) P Q f h = f h
 
+pub always_ok : {T E : Type 0} (r : Result T E) (P : Type 0) → P → OnOk r P
+always_ok (Ok x) P h = h
+always_ok (Err e) P h = tt
+
 pub always_err : {T E : Type 0} (r : Result T E) (P : Type 0) → P → OnErr r P
 always_err (Ok x) P h = tt
 always_err (Err e) P h = h

@@ -72,6 +72,17 @@ fn make_room<F: Bytes>(file: &mut F, from: usize, to: usize, zeros: &mut Vec<u8>
     Ok(())
 }
 
+// Returns what is reported of the last calls of a change, after the file represents its new bytes.
+//
+// If one of them fails, the next program that opens the file does the rest, so the change is made. But who asks for syncs
+// wants to know that the disk failed.
+fn reported(finished: io::Result<()>, syncs: Syncs) -> io::Result<()> {
+    match syncs {
+        Syncs::Never => Ok(()),
+        Syncs::Ordered => finished,
+    }
+}
+
 impl Change {
     ghost use Rattle.rrd_undo.specs.Changing.{Agreeing, ArePutBelow, CanRestore, IsAt, IsBroken, IsFirstPut, IsPage, IsStarted, Knows, StandsForEither, StandsForOld, StaysBehind};
     ghost use Rattle.rrd_undo.specs.Undoing.{Paged, Turning};
@@ -286,7 +297,8 @@ impl Change {
         self.stage = Stage::Committing;
         put_front(file, self.length, first, self.tail.syncs)?;
         self.stage = Stage::Committed;
-        finish(file, self.length, self.tail.syncs)
+        let finished = finish(file, self.length, self.tail.syncs);
+        reported(finished, self.tail.syncs)
     }
 
     // Ends a change of a file that is marked invalid.

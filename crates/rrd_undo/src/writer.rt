@@ -222,9 +222,9 @@ impl<F: Bytes + Drop> PageWriter<F> {
     /// # Errors
     ///
     /// A call of the file failed, the bytes are not a database, or `begin` announced another number of bytes. A
-    /// database then represents its old bytes or the new ones. If a call failed after the file represents the new
-    /// bytes, these stay, and the next [`settle`](crate::settle) of the file does the rest. After an error each `take`
-    /// and `end` fails.
+    /// database then represents its old bytes or the new ones. If a call fails after the file represents the new bytes,
+    /// these stay, and the next [`settle`](crate::settle) of the file does the rest: only with [`Syncs::Ordered`] is that
+    /// an error. After an error each `take` and `end` fails.
     pub fn end(&mut self) -> io::Result<()>
         ensures failed { OnErr result (HasFailed self.new) }
         ensures stays { HasFailed self.old → OnOk result ⊥ × (self.new ≡ self.old) }

@@ -1,8 +1,6 @@
-use Rattle.std.proofs.Common.{rules, ◌≡◌, ◌∙◌, ap, inl, inr, length, arith}
-use Rattle.rrd_tail.specs.Settled.{settled}
+use Rattle.std.proofs.Common.{rules, ◌≡◌, inl, inr, length, arith}
 use Rattle.rrd_undo.specs.Changing.{Knows}
-use Rattle.rrd_undo.proofs.Cutting.{settled_plain}
-use Rattle.rrd_undo.proofs.Laid.{always_err, on_ok}
+use Rattle.rrd_undo.proofs.Laid.{always_err, always_ok}
 use Rattle.rrd_undo.proofs.Undone.{sixteen_of}
 use Rattle.rrd_undo.proofs.change.Change.end_marked.Goals as goal
 
@@ -35,21 +33,21 @@ returns-in_err-put_front-clause-err g c stage = always_err c.from_residual-in_er
     ))
 
 pub returns-clause-ok : goal.returns-clause-ok
-returns-clause-ok g c = on_ok c.finish.result _ _ (λ h s f old new done is_old is_new knows counts all are t.
+returns-clause-ok g c = always_ok c.reported.result _ (λ s f old new done is_old is_new knows counts all are t.
     let knows2 : Knows old c.put_first.new.self = rw c.put_first.ensures.frame knows in
     let counts2 : c.put_first.new.self.length ≡ length new = rw c.put_first.ensures.frame counts in
     let ready = c.in_ok-record_new.ensures.ok s (search rules) old new is_old is_new knows2.tail (omega (arith, counts2, knows2.below)) counts2 are
     (c.in_ok-put_first.ensures.ok s (search rules) old new done is_old knows counts all are t) in
     let to_cut = c.in_ok-put_front.ensures.ok s (search rules) old new _ is_old is_new counts2 (sixteen_of new c.args.first.now is_new.enough are) ready in
-    ap settled (h s f new counts2 to_cut) ∙ settled_plain new is_new) c.finish.ensures.ok
+    c.finish-finished.ensures.stands s (search rules) new counts2 to_cut)
 
 pub returns-clause-err : goal.returns-clause-err
-returns-clause-err g c stage = always_err c.finish.result _ (λ s f old new done is_old is_new knows counts all are t.
+returns-clause-err g c stage = always_err c.reported.result _ (λ s f old new done is_old is_new knows counts all are t.
     let knows2 : Knows old c.put_first.new.self = rw c.put_first.ensures.frame knows in
     let counts2 : c.put_first.new.self.length ≡ length new = rw c.put_first.ensures.frame counts in
     let ready = c.in_ok-record_new.ensures.ok s (search rules) old new is_old is_new knows2.tail (omega (arith, counts2, knows2.below)) counts2 are
     (c.in_ok-put_first.ensures.ok s (search rules) old new done is_old knows counts all are t) in
     let to_cut = c.in_ok-put_front.ensures.ok s (search rules) old new _ is_old is_new counts2 (sixteen_of new c.args.first.now is_new.enough are) ready in (
       record { knows = knows2; left = tt },
-      λ is. inr (c.finish.ensures.stands s (search rules) new counts2 to_cut),
+      λ is. inr (c.finish-finished.ensures.stands s (search rules) new counts2 to_cut),
     ))
