@@ -97,7 +97,7 @@ install-program: $(PROGRAM)
 	chmod 644 "$(MANUALS)/rrdi.1"
 	install -m 644 examples/rrdi.bash "$(COMPLETIONS)/rrdi"
 	install -m 644 README.md CHANGELOG.md CONTRIBUTING.md LICENSE* VERSION "$(SHARED)"
-	install -m 644 docs/*.md docs/*.png docs/rrdi.1 docs/rrdi.3 docs/first-session.txt "$(SHARED)/docs"
+	install -m 644 docs/*.md docs/*.png docs/*.svg docs/rrdi.1 docs/rrdi.3 docs/first-session.txt "$(SHARED)/docs"
 	@for folder in compat rrdi rrdi/compat rrdi/feeding rrdi/graphite rrdi/importing rrdi/reader; do \
 		install -d "$(PYTHON)/$$folder" && install -m 644 python/$$folder/*.py "$(PYTHON)/$$folder" || exit 1; \
 	done
