@@ -9,7 +9,7 @@ from typing import Dict, Iterator, List, Tuple
 CODE = re.compile(r"`[^`\n]+`")
 LINK = re.compile(r"(!?)\[((?:[^][]|\[[^]]*\])*)\]\(([^()\s]*)\)")
 # A link text that is the name of a file, not a phrase.
-FILE_NAME = re.compile(r"`?[\w./-]+\.(md|[13]|rt|py|h)`?$")
+FILE_NAME = re.compile(r"`?[\w./-]+\.(md|[13])`?$")
 ITEM = re.compile(r"\s*(?:[-*]|\d+\.)\s+")
 HEADING = re.compile(r"(#+)\s+(.*)")
 END = re.compile(r"(?<=[.!?])[)\"*]*\s+(?=[A-Z`*\[(\"])")
