@@ -209,16 +209,6 @@ class Record(ToolCase):
         self.assertEqual(self.record("b.rrdi"), Ran(
             0, "", "rrdi-record: b.rrdi is damaged (not ours) and no copy is readable; started an empty database\n"))
 
-    def test_a_file_of_a_newer_version_stays(self) -> None:
-        for name, start in (("b.rrdi", self.now - 100), ("b.rrdi.1", self.now - 200)):
-            self.make(name, start)
-        newer = bytearray(self.read("b.rrdi"))
-        newer[5] = 7
-        (self.folder / "b.rrdi").write_bytes(newer)
-        self.assertEqual(self.record("b.rrdi"), Ran(1, "", "rrdi-record: b.rrdi: file: version\n"))
-        self.assertEqual(self.read("b.rrdi"), bytes(newer))
-        self.assertFalse((self.folder / "b.rrdi.refused").exists())
-
     def test_what_is_not_recorded(self) -> None:
         self.make("a.rrdi", self.now + 500)
         self.assertEqual(self.record("a.rrdi"), Ran(1, "", f"rrdi-record: not later than {self.now + 500}\n"))

@@ -4,7 +4,7 @@
 
 rrdi-record runs rrdi with RRDI_SYNC=1, and holds the lock FILE.lock while it runs. FILE.1, FILE.2 and FILE.3 are copies,
 made an hour apart, the newest first. If FILE is no longer a database, rrdi-record keeps it as FILE.refused and restores
-the newest readable copy; a file of a newer rrdi it leaves as it is. docs/recording.md has more. The program is rrdi, or the program that the variable RRDI names.
+the newest readable copy. docs/recording.md has more. The program is rrdi, or the program that the variable RRDI names.
 The variable LOADAVG names the file with the load averages, instead of /proc/loadavg.
 
 Exit status: 0; 1 if the sample was not recorded; 2 after wrong arguments.
@@ -26,8 +26,6 @@ from .command_line import Failure, Tool, WrongArguments, called_name, run, say
 COPIES = 3
 HOUR = 3_600  # seconds between copies
 PATIENCE = 30.0  # seconds for which a run waits for another run
-# Reasons that do not mean that the file is damaged: an error of the system, and a file that a newer rrdi wrote.
-NOT_DAMAGED = ("file: read failed", "file: version")
 DEFINITIONS = ["DS:load1:GAUGE:150:0:U", "DS:load5:GAUGE:150:0:U", "DS:load15:GAUGE:150:0:U",
                "RRA:AVERAGE:0.5:1:1440", "RRA:AVERAGE:0.5:10:1008", "RRA:AVERAGE:0.5:180:3000", "RRA:MAX:0.5:180:3000"]
 
@@ -82,7 +80,7 @@ def make_ready(file: str) -> int:
     """Creates or restores the file if necessary, and returns its last time.
 
     # Errors
-    `Failure` if the file cannot be opened or read, or if a newer rrdi wrote it.
+    `Failure` if the file cannot be opened or read.
     """
     if not os.path.exists(file):
         create(file)
@@ -91,7 +89,7 @@ def make_ready(file: str) -> int:
         return program.last(file)
     except program.Refused as refused:
         reason = str(refused)
-        if not reason.startswith("file: ") or reason in NOT_DAMAGED:
+        if not reason.startswith("file: ") or reason == "file: read failed":
             raise Failure(f"{file}: {reason}") from None
         restore(file, reason[len("file: "):])
     return program.last(file)
