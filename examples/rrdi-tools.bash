@@ -55,7 +55,7 @@ _rrdi_tool() {
             ((COMP_CWORD > 1)) && ends='' || ends='png svg pdf'
             ;;
         rrdi-rrdtool)
-            options='--help --exact --rrdi --show --version'
+            options='--help --exact --lengths --rrdi --show --version'
             if [[ $COMP_CWORD == 1 || $COMP_CWORD == 2 && ${COMP_WORDS[1]} == --* ]]; then
                 [[ $current == -* ]] || options='create update updatev tune resize fetch first last lastupdate info'
                 [[ $current == -* ]] || options+=' graph graphv xport'

@@ -5,19 +5,35 @@
 # The completion knows commands, options, files, types and functions. `rrdi info FILE` gives the names of sources and the
 # numbers of archives. The completion does not understand words with quotes or escaped spaces.
 
+# The settings of a file, without a wait for a lock or for a pipe.
+_rrdi_info() {
+    [[ ! -f $2 ]] || RRDI_WAIT=0 "$1" info "$2" 2>/dev/null
+}
+
 # The names of the sources of a file.
 _rrdi_sources() {
-    "$1" info "$2" 2>/dev/null | sed -n 's/^ds\[[0-9]*\]\.name = //p'
+    _rrdi_info "$@" | sed -n 's/^ds\[[0-9]*\]\.name = //p'
 }
 
 # The numbers of the archives of a file.
 _rrdi_archives() {
-    "$1" info "$2" 2>/dev/null | sed -n 's/^rra\[\([0-9]*\)\]\.cf = .*/\1/p'
+    _rrdi_info "$@" | sed -n 's/^rra\[\([0-9]*\)\]\.cf = .*/\1/p'
+}
+
+# Puts the choices that begin with the first argument into COMPREPLY. Some choices begin with the typed word, and
+# compgen -W would run a $(command) in it.
+_rrdi_matching() {
+    local typed=$1 choice
+    shift
+    COMPREPLY=()
+    for choice; do
+        [[ $choice != "$typed"* ]] || COMPREPLY+=("$choice")
+    done
 }
 
 _rrdi() {
-    local types='GAUGE COUNTER DERIVE ABSOLUTE' functions='AVERAGE MIN MAX LAST'
-    local line=${COMP_LINE:0:COMP_POINT} words current previous command file choices='' taken name type
+    local types=(GAUGE COUNTER DERIVE ABSOLUTE) functions=(AVERAGE MIN MAX LAST)
+    local line=${COMP_LINE:0:COMP_POINT} words current previous command file choices=() names=() taken name
 
     # Bash itself cuts words at : and =, so the words are read from the line.
     read -ra words <<<"$line"
@@ -35,7 +51,7 @@ _rrdi() {
         return
     fi
     if ((${#words[@]} == 2)); then
-        choices='batch create fetch first info last lastupdate resize revert tune update'
+        choices=(batch create fetch first info last lastupdate resize revert tune update)
     elif ((${#words[@]} == 3)); then
         compopt -o filenames 2>/dev/null
         mapfile -t COMPREPLY < <(compgen -f -- "$current")
@@ -46,59 +62,59 @@ _rrdi() {
             fetch:-r | fetch:--resolution | fetch:-s | fetch:--start | fetch:-e | fetch:--end) ;;
             create:*)
                 case $current in
-                    DS:*:*:*:*:*) choices=${current%:*}:U ;;
-                    DS:*:*:*:*) choices=${current%:*}:U: ;;
+                    DS:*:*:*:*:*) choices=("${current%:*}:U") ;;
+                    DS:*:*:*:*) choices=("${current%:*}:U:") ;;
                     DS:*:*:*) ;;
-                    DS:*:*) for type in $types; do choices+=" ${current%:*}:$type:"; done ;;
+                    DS:*:*) for name in "${types[@]}"; do choices+=("${current%:*}:$name:"); done ;;
                     RRA:*:*) ;;
-                    RRA:*) for name in $functions; do choices+=" RRA:$name:"; done ;;
-                    *) choices='DS: RRA: --step --start --journal' ;;
+                    RRA:*) for name in "${functions[@]}"; do choices+=("RRA:$name:"); done ;;
+                    *) choices=(DS: RRA: --step --start --journal) ;;
                 esac
                 ;;
             update:-t | update:--template)
                 case $current in *:*) taken=${current%:*}: ;; *) taken= ;; esac
-                for name in $(_rrdi_sources "${words[0]}" "$file"); do choices+=" $taken$name"; done
+                mapfile -t names < <(_rrdi_sources "${words[0]}" "$file")
+                for name in "${names[@]}"; do choices+=("$taken$name"); done
                 ;;
-            update:*) choices='N: --template' ;;
+            update:*) choices=(N: --template) ;;
             tune:-d | tune:--data-source-type)
-                for name in $(_rrdi_sources "${words[0]}" "$file"); do
-                    for type in $types; do choices+=" $name:$type"; done
-                done
+                mapfile -t names < <(_rrdi_sources "${words[0]}" "$file")
+                for name in "${names[@]}"; do choices+=("${types[@]/#/$name:}"); done
                 ;;
             tune:--heartbeat | tune:-r | tune:--data-source-rename)
-                for name in $(_rrdi_sources "${words[0]}" "$file"); do choices+=" $name:"; done
+                mapfile -t names < <(_rrdi_sources "${words[0]}" "$file")
+                choices=("${names[@]/%/:}")
                 ;;
             tune:-i | tune:--minimum | tune:-a | tune:--maximum)
-                for name in $(_rrdi_sources "${words[0]}" "$file"); do choices+=" $name: $name:U"; done
+                mapfile -t names < <(_rrdi_sources "${words[0]}" "$file")
+                choices=("${names[@]/%/:}" "${names[@]/%/:U}")
                 ;;
             tune:*)
                 case $current in
                     RRA:*:*) ;;
-                    RRA:*) for name in $functions; do choices+=" RRA:$name:"; done ;;
+                    RRA:*) for name in "${functions[@]}"; do choices+=("RRA:$name:"); done ;;
                     DELRRA:*)
-                        for name in $(_rrdi_archives "${words[0]}" "$file"); do choices+=" DELRRA:$name"; done
+                        mapfile -t names < <(_rrdi_archives "${words[0]}" "$file")
+                        choices=("${names[@]/#/DELRRA:}")
                         ;;
-                    *)
-                        choices='--heartbeat --minimum --maximum --data-source-type --data-source-rename'
-                        choices+=' RRA: DELRRA:'
-                        ;;
+                    *) choices=(--heartbeat --minimum --maximum --data-source-type --data-source-rename RRA: DELRRA:) ;;
                 esac
                 ;;
             resize:*)
                 case ${#words[@]} in
-                    4) choices=$(_rrdi_archives "${words[0]}" "$file") ;;
-                    5) choices='GROW SHRINK' ;;
+                    4) mapfile -t choices < <(_rrdi_archives "${words[0]}" "$file") ;;
+                    5) choices=(GROW SHRINK) ;;
                 esac
                 ;;
             fetch:*)
-                choices='--resolution --start --end'
-                ((${#words[@]} > 4)) || choices=$functions
+                choices=(--resolution --start --end)
+                ((${#words[@]} > 4)) || choices=("${functions[@]}")
                 ;;
-            first:--rraindex) choices=$(_rrdi_archives "${words[0]}" "$file") ;;
-            first:*) choices='--rraindex' ;;
+            first:--rraindex) mapfile -t choices < <(_rrdi_archives "${words[0]}" "$file") ;;
+            first:*) choices=(--rraindex) ;;
         esac
     fi
-    mapfile -t COMPREPLY < <(compgen -W "$choices" -- "$current")
+    _rrdi_matching "$current" "${choices[@]}"
 
     # A complete word gets a space after it; a word that ends in : does not.
     case ${COMPREPLY[0]-} in *:) compopt -o nospace 2>/dev/null ;; esac

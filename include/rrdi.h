@@ -4,20 +4,34 @@
  * Memory. No function keeps anything between calls. A function frees all memory that it allocates before it returns; it
  * allocates by malloc, realloc and free, which must belong to one allocator, and align blocks to 16 bytes. A call needs less
  * than 64 KiB of stack.
- * Files. A function closes all files that it opens before it returns. It locks the file by flock, as the program does.
+ * Files. A function locks the file by flock, as the program does, and closes all files that it opens. It releases the lock
+ * before it returns, even if the process was forked during the call. If the process has locks of its own on the file, set by
+ * fcntl (F_SETLK), it loses them: the system drops them when the call closes the file.
+ * Streams. If a descriptor from 0 to 2 is closed, a call does not use it for the file, except for the moment of the opening.
+ * Other threads must not write to a closed descriptor.
  * Threads. Calls may run at the same time in several threads, each with its own answer and buffers. Do not call a function
- * from a signal handler, nor in the forked child of a process with several threads.
+ * from a signal handler, nor in the forked child of a process with several threads. Do not cancel a thread during a call
+ * (disable it by pthread_setcancelstate), and do not leave a call by longjmp: the file would stay open and locked.
  * Signals. No function installs a handler, or raises a signal. If a limit on the size of files (RLIMIT_FSIZE) is set, ignore
  * SIGXFSZ: then the call reports RRDI_CANNOT_WRITE.
  * No function prints, exits, starts a thread, or reads the clock or the environment.
  *
- * Pass no null pointer, even for a length of 0: any valid address will do then. No two buffers may overlap. */
+ * Buffers. Pass no null pointer, even for a length of 0: any valid address will do then. No two buffers may overlap. Nothing
+ * may change the bytes that a call reads while it runs: no other thread, and no other process through a shared mapping. So do
+ * not pass a mapping (MAP_SHARED) of a database's file. No length, and no room, is greater than PTRDIFF_MAX. A bool is 0 or 1,
+ * also if the caller is written in another language. */
 #ifndef RRDI_H
 #define RRDI_H
 
 #include <stdbool.h>
 #include <stddef.h>
 #include <stdint.h>
+
+#ifdef __GNUC__
+#define RRDI_NONNULL __attribute__((nonnull))
+#else
+#define RRDI_NONNULL
+#endif
 
 #ifdef __cplusplus
 extern "C" {
@@ -35,10 +49,11 @@ enum rrdi_fault {
     RRDI_BAD_WORD = 11,     /* A word cannot be read. The output names the word. */
     RRDI_NO_DATABASE = 12,  /* Does not happen: a line of a batch that needs a database is refused, and a command reports 14. */
     RRDI_REFUSED = 13,      /* The database refuses the command. The output gives the reason. */
-    RRDI_CANNOT_OPEN = 14,  /* The file does not exist or cannot be opened, or another process holds its lock. In memory: the command
-                               needs a file, and there is none. */
+    RRDI_CANNOT_OPEN = 14,  /* The file does not exist, is no regular file, or cannot be opened or locked; or another process holds
+                               its lock. In memory: the command needs a file, and there is none. */
     RRDI_CANNOT_WRITE = 15, /* The file cannot be written. */
-    RRDI_NOT_OURS = 20,     /* The file is not a database of rrdi. */
+    RRDI_NOT_OURS = 20,     /* The file is not a database of rrdi. In memory also: a change of the file was interrupted. Only a call
+                               on the file at its path repairs the file. */
     RRDI_OTHER_VERSION = 21,/* The file has a layout version that this library does not know. */
     RRDI_TRUNCATED = 22,    /* The file ends after the answer's `at` bytes, before the database does. */
     RRDI_BAD_BLOCK = 23,    /* The block that begins after the answer's `at` bytes is invalid. */
@@ -50,8 +65,8 @@ enum rrdi_fault {
 /* Begin with `struct rrdi_answer answer = {0};`. An answer may be used again. */
 struct rrdi_answer {
     uint32_t fault;         /* enum rrdi_fault. A batch whose lines were refused has no fault. */
-    uint32_t system_error;  /* With RRDI_CANNOT_OPEN and RRDI_CANNOT_WRITE: the errno of the call that failed; EAGAIN if
-                               another process holds the lock. Otherwise 0. */
+    uint32_t system_error;  /* With RRDI_CANNOT_OPEN, RRDI_CANNOT_WRITE and RRDI_READ: the errno of the call that failed, or the
+                               one that comes closest; EAGAIN if another process holds the lock. Otherwise 0. */
     bool is_changed;        /* In memory: new_file begins with the new file. On a file: the file has the new database. */
     bool is_cut;            /* The output is longer than its room; the call left the room unchanged. */
     uint64_t refused;       /* A batch: the number of refused lines. */
@@ -72,7 +87,7 @@ struct rrdi_answer {
  * output           room for the text that the command prints, or for the text of the fault, without "ERROR: ". */
 void rrdi_run(bool has_file, const uint8_t *file, size_t file_length, const uint8_t *words, size_t words_length,
               uint64_t now, uint8_t *new_file, size_t new_file_room, uint8_t *output, size_t output_room,
-              struct rrdi_answer *answer);
+              struct rrdi_answer *answer) RRDI_NONNULL;
 
 /* Runs lines on a file in memory, as `rrdi batch FILE` does on a file. A fault other than RRDI_NO_ROOM makes no new file.
  *
@@ -84,24 +99,26 @@ void rrdi_run(bool has_file, const uint8_t *file, size_t file_length, const uint
  *                  numbers: as many as answer->refused, or as there is room for. refused_room counts numbers, not bytes. */
 void rrdi_batch(bool has_file, const uint8_t *file, size_t file_length, const uint8_t *lines, size_t lines_length,
                 uint64_t now, uint8_t *new_file, size_t new_file_room, uint8_t *output, size_t output_room,
-                uint64_t *refused_lines, size_t refused_room, struct rrdi_answer *answer);
+                uint64_t *refused_lines, size_t refused_room, struct rrdi_answer *answer) RRDI_NONNULL;
 
 /* Runs one command on the file at a path, as `rrdi COMMAND FILE WORD..` does: locks the file, and writes it so that a kill
  * in the middle of a change leaves the old database or the new one (where there was no database, perhaps a damaged file).
- * With a fault the file is unchanged; docs/files.md says what RRDI_CANNOT_WRITE may leave if the disk fails.
+ * With a fault the file has the same database as before; docs/files.md says what RRDI_CANNOT_WRITE may leave if the disk
+ * fails. Its bytes may be others: if an earlier change was interrupted, a call repairs the file first, even if it then ends
+ * with a fault.
  *
  * path             UTF-8, without a zero byte, at most 4,095 bytes.
  * wait             the milliseconds for which the call waits for a lock that another process holds: 0 for one try, at most
  *                  3,600,000. The program waits for 5,000.
  * syncs            whether the call waits until the disk has stored the change, as the program does with RRDI_SYNC=1. */
 void rrdi_run_file(const uint8_t *path, size_t path_length, const uint8_t *words, size_t words_length, uint64_t now,
-                   uint64_t wait, bool syncs, uint8_t *output, size_t output_room, struct rrdi_answer *answer);
+                   uint64_t wait, bool syncs, uint8_t *output, size_t output_room, struct rrdi_answer *answer) RRDI_NONNULL;
 
 /* Runs lines on the file at a path, as `rrdi batch FILE` does: reads the file once and writes the file once. With a fault,
- * and if there is no room for the output, the file is unchanged. */
+ * and if there is no room for the output, the file has the same database as before. */
 void rrdi_batch_file(const uint8_t *path, size_t path_length, const uint8_t *lines, size_t lines_length, uint64_t now,
                      uint64_t wait, bool syncs, uint8_t *output, size_t output_room, uint64_t *refused_lines,
-                     size_t refused_room, struct rrdi_answer *answer);
+                     size_t refused_room, struct rrdi_answer *answer) RRDI_NONNULL;
 
 #ifdef __cplusplus
 }

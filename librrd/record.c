@@ -6,7 +6,8 @@
  * The functions have the names, arguments and results of rrd.h. docs/migrate.md lists the differences.
  *
  * An update stores each sample that rrdi accepts, and fails if rrdi refuses a sample. Numbers may have an exponent and any
- * number of digits; the functions round numbers to millionths, and halves up. */
+ * number of digits; the functions round numbers to millionths, and halves up. A call with a space or a control character in
+ * a definition, a sample or a name fails and changes nothing. */
 #define _POSIX_C_SOURCE 200809L
 #include "rrdi.h"
 
@@ -201,6 +202,32 @@ static void add_fields(struct text *text, const char *string, int first) {
 
 /* ---- The functions */
 
+/* Checks that a text is one word. An update is a line, which has no quotes, so a space would begin another word, and a
+ * line feed another command. */
+static bool is_word(const char *text) {
+    for (; *text != '\0'; text++) {
+        if ((unsigned char)*text <= ' ' || *text == 127) return false;
+    }
+    return true;
+}
+
+/* Reports the first text that is no word. */
+static int check_words(const char *path, const char *what, int count, const char **texts) {
+    for (int at = 0; at < count; at++) {
+        if (!is_word(texts[at])) return fail("%s: %s %d of %d has a space or a control character", path, what, at + 1, count);
+    }
+    return 0;
+}
+
+/* Reports the first definition that is none; it could be an option of rrdi. */
+static int check_definitions(int count, const char **definitions) {
+    for (int at = 0; at < count; at++) {
+        if (strncmp(definitions[at], "DS:", 3) != 0 && strncmp(definitions[at], "RRA:", 4) != 0)
+            return fail("can't parse argument '%s'", definitions[at]);
+    }
+    return 0;
+}
+
 /* Reports the answer of a call of rrdi. */
 static int report(const char *path, struct rrdi_answer *answer, const char *output) {
     bool is_writing = answer->fault == RRDI_CANNOT_WRITE;
@@ -216,6 +243,8 @@ EXPORTED int rrd_create_r(const char *path, unsigned long step, time_t start, in
     struct rrdi_answer answer = {0};
     char output[512] = "", number[64];
     rrd_clear_error();
+    if (check_words(path, "definition", count, definitions) != 0) return -1;
+    if (check_definitions(count, definitions) != 0) return -1;
     add_string(&words, "create");
     snprintf(number, sizeof number, "--step=%lu", step);
     add(&words, "", 1);
@@ -266,6 +295,8 @@ EXPORTED int rrd_update_r(const char *path, const char *names, int count, const 
     uint64_t refused[1] = {0};
     rrd_clear_error();
     if (access(path, F_OK) != 0) return fail("opening '%s': %s", path, strerror(errno));
+    if (names != NULL && !is_word(names)) return fail("%s: the template has a space or a control character", path);
+    if (check_words(path, "sample", count, samples) != 0) return -1;
     for (int at = 0; at < count; at++) add_update(&lines, names, samples[at]);
     /* Each line prints at most one short message. */
     add_zeros(&output, 128L * (count > 0 ? count : 1) + 512);

@@ -6,7 +6,8 @@ package RRDs;
 #
 # One process of rrdi-rrdtool in pipe mode serves all calls of a program. The process starts with the first call, and
 # again after a fork, or if a call was interrupted. The variable RRDI_RRDTOOL names a program to run instead of
-# rrdi-rrdtool. `perldoc RRDs` lists the functions.
+# rrdi-rrdtool. An answer begins with the lengths of its texts, so no text of the caller can read as an answer.
+# `pod2text RRDs.pm` lists the functions.
 
 use strict;
 use warnings;
@@ -55,7 +56,7 @@ sub _start {
             $ENV{PATH} = '/usr/local/bin:/usr/bin:/bin';
         }
         no warnings 'exec';
-        exec {$program} $program, '--exact', '-';
+        exec {$program} $program, '--exact', '--lengths', '-';
         POSIX::_exit(127);
     }
     close $child_reads;
@@ -94,10 +95,12 @@ sub _quote {
 
 sub _write {
     my ($text) = @_;
+    my $pipe = $to;  # as in _read
+    no warnings 'closed';
     local $SIG{PIPE} = 'IGNORE';
     my $at = 0;
     while ($at < length $text) {
-        my $count = syswrite $to, $text, length($text) - $at, $at;
+        my $count = syswrite $pipe, $text, length($text) - $at, $at;
         next if not defined $count and $! == EINTR;
         return 0 unless defined $count;
         $at += $count;
@@ -105,46 +108,70 @@ sub _write {
     return 1;
 }
 
-# Sends a line. Returns the lines of the answer; or returns undef, and sets the error.
+# Reads as many bytes of a pipe; returns undef at its end.
+sub _bytes {
+    my ($pipe, $count) = @_;
+    no warnings 'closed';
+    my $text = '';
+    while (length $text < $count) {
+        my $read = read $pipe, $text, $count - length $text, length $text;
+        next if not defined $read and $! == EINTR;
+        return unless $read;
+    }
+    return $text;
+}
+
+# Reads an answer: a line with OK or ERROR and the length of each text, and then the texts. Returns OK or ERROR and the
+# texts; or returns nothing if the program ended or did not answer in this form.
+sub _read {
+    my $pipe = $from;  # a call in a handler of a signal may close it, and start another process
+    no warnings 'closed';
+    my $head = readline $pipe;
+    return unless defined $head and $head =~ /^(OK|ERROR)((?: \d{1,9})*)\n\z/;
+    my ($status, @lengths) = ($1, split ' ', $2);
+    my @texts;
+    for my $length (@lengths) {
+        my $text = _bytes($pipe, $length);
+        return unless defined $text;
+        push @texts, $text;
+    }
+    return ($status, @texts);
+}
+
+# Sends a line. Returns the texts of the answer; or returns undef, and sets the error.
 sub _answer {
     my ($line) = @_;
     $is_busy = 1;
-    my @lines;
     local $.;  # so that later warnings of the program don't name this pipe
-    if (_write("$line\n")) {
-        while (defined(my $read = readline $from)) {
-            chomp $read;
-            if ($read =~ /^OK u:\d+\.\d\d s:\d+\.\d\d r:\d+\.\d\d\z/) {
-                $is_busy = 0;
-                return \@lines;
-            }
-            if ($read =~ s/^ERROR: //) {
-                $is_busy = 0;
-                $error = $read;
-                return;
-            }
-            push @lines, $read;
-        }
+    my ($status, @texts) = _write("$line\n") ? _read() : ();
+    if (not defined $status) {
+        my $program = _program();
+        _stop();
+        $error = "$program ended; is it installed?";
+        return;
     }
-    my $program = _program();
-    _stop();
-    $error = "$program ended; is it installed?";
+    $is_busy = 0;
+    return \@texts if $status eq 'OK';
+    $error = $texts[0];
     return;
 }
 
-# Runs a command. Returns the lines of its output; or returns undef, and sets the error.
+# Runs a command. Returns the texts of its output, which are lines without their ends; or returns undef, and sets the
+# error.
 sub _ask {
     my ($name, @words) = @_;
     undef $error;
     # A line of the pipe has no line feed in it.
     s/\n/ /g for grep { defined } @words;
-    _stop() if defined $child and ($owner != $$ or $is_busy or $environment ne _environment());
+    my $here = Cwd::getcwd();
+    my $is_elsewhere = defined $child && defined $here && $here ne $directory;
+    _stop() if defined $child and ($owner != $$ or $is_busy or $environment ne _environment()
+        # A directory whose name has a line feed is none for a line. A new process begins in it.
+        or $is_elsewhere && $here =~ /\n/);
     if (not defined $child) {
         $error = _start();
         return if defined $error;
-    }
-    my $here = Cwd::getcwd();
-    if (defined $here and $here ne $directory) {
+    } elsif ($is_elsewhere) {
         _answer('cd ' . _quote($here)) or return;
         $directory = $here;
     }
@@ -163,45 +190,61 @@ sub update { return _run('update', @_) }
 sub tune { return _run('tune', @_) }
 sub resize { return _run('resize', @_) }
 
+# The functions return numbers and names that a pattern has taken from an answer, so in taint mode these are not tainted,
+# as those of RRDtool's own module are not.
+
+# Returns a whole number; undef if the text is none.
+sub _whole {
+    my ($text) = @_;
+    return defined $text && $text =~ /^\s*(-?\d{1,18})\z/ ? 0 + $1 : undef;
+}
+
+# Returns a number; undef if the text is none, such as NaN.
+sub _value {
+    my ($text) = @_;
+    return $text =~ /^\s*([-+]?(?:\d+(?:\.\d*)?(?:e[-+]?\d+)?|inf))\z/i ? 0 + $1 : undef;
+}
+
+# Returns the names of sources in a line.
+sub _names {
+    my ($line) = @_;
+    return [$line =~ /([\w-]+)/ag];
+}
+
 sub _number {
     my $lines = _ask(@_) or return undef;
-    return 0 + $lines->[0];
+    return _whole($lines->[0]);
 }
 
 sub first { return _number('first', @_) }
 sub last { return _number('last', @_) }
 
-sub _value {
-    my ($text) = @_;
-    return $text =~ /^-?nan\z/i ? undef : 0 + $text;
-}
-
 # Returns the time of the first row, the seconds between rows, the names of the sources, and the rows.
 sub fetch {
     my $lines = _ask('rows', @_) or return undef;
     my ($begin, $head, undef, @rows) = @$lines;
-    my ($start, $step) = split ' ', $begin;
+    my ($start, $step) = map { _whole($_) } split ' ', $begin;
     my @cells = map { s/^\s*\d+: //; [map { _value($_) } split ' '] } @rows;
-    return ($start + $step, 0 + $step, [split ' ', $head], \@cells);
+    return ($start + $step, $step, _names($head), \@cells);
 }
 
 # Returns the time of the last sample, the names of the sources, and their last values as texts.
 sub lastupdate {
     my $lines = _ask('lastupdate', @_) or return undef;
     my ($head, undef, $row) = @$lines;
-    my ($time, @values) = split /:? /, $row =~ s/^\s+//r;
-    return (0 + $time, [split ' ', $head], \@values);
+    my ($time, $values) = $row =~ /^\s*(-?\d+):([-\d. U]*)\z/;
+    return (0 + $time, _names($head), [split ' ', $values]);
 }
 
-# Returns the lines KEY = VALUE as a hash.
+# Returns texts KEY = VALUE as a hash.
 sub _hash {
     my ($lines) = @_;
-    return { map { /^(\S+) = (.*)\z/ ? ($1, _typed($2)) : () } @$lines };
+    return { map { /^(\S+) = (.*)\z/s ? ($1, _typed($2)) : () } @$lines };
 }
 
 sub _typed {
     my ($text) = @_;
-    return $text =~ /^"(.*)"\z/ ? $1 : _value($text);
+    return $text =~ /^"(.*)"\z/s ? $1 : _value($text);
 }
 
 sub info {
@@ -217,7 +260,7 @@ sub updatev {
 # Returns a start and an end, in seconds since 1970.
 sub times {
     my $lines = _ask('times', @_) or return undef;
-    return map { 0 + $_ } split ' ', $lines->[0];
+    return map { _whole($_) } split ' ', $lines->[0];
 }
 
 # ---- Pictures
@@ -243,7 +286,7 @@ sub graph {
         print STDOUT $image;
     }
     my ($size, @printed) = @$lines;
-    my ($width, $height) = split /x/, $size;
+    my ($width, $height) = $size =~ /^(\d+)x(\d+)\z/;
     return (\@printed, 0 + $width, 0 + $height);
 }
 
@@ -259,11 +302,12 @@ sub graphv {
 sub xport {
     my $lines = _ask('xport', '--json', grep { not /^(-t|--showtime|--json|--enumds)\z/ } @_) or return undef;
     require JSON::PP;
-    my $found = JSON::PP->new->decode(join "\n", @$lines);
-    my ($meta, $rows) = @$found{qw(meta data)};
+    # A name is a string of JSON in a line with more spaces before it.
+    my ($at) = grep { $lines->[$_] eq '  "data": [' } 0 .. $#$lines;
+    my $meta = JSON::PP->new->decode(join "\n", @$lines[0 .. $at - 1], '  "data": []}')->{meta};
     utf8::encode($_) for @{ $meta->{legend} };
-    my @numbers = map { my $row = $_; [map { defined $_ ? 0 + $_ : undef } @$row] } @$rows;
-    return (@$meta{qw(start end step)}, scalar @{ $meta->{legend} }, $meta->{legend}, \@numbers);
+    my @rows = map { /^ +\[ (.*) \],?\z/ ? [map { _value($_) } split /, /, $1] : () } @$lines[$at + 1 .. $#$lines];
+    return (map({ _whole($_) } @$meta{qw(start end step)}), scalar @{ $meta->{legend} }, $meta->{legend}, \@rows);
 }
 
 # ---- Functions that rrdi does not have
@@ -303,6 +347,13 @@ the time of the last sample, the names of the sources and their last values. C<d
 C<flushcached> and C<fetch_cb_register> set an error.
 
 One process of C<rrdi-rrdtool> serves all calls of a program. Line feeds in arguments become spaces.
+
+=head1 TAINT MODE
+
+C<perl -T> ignores C<PERL5LIB>, so the module must be in a directory of C<@INC>: docs/migrate.md has two ways. In this mode
+the environment chooses no program: the module runs the F<rrdi-rrdtool> of its own installation, with the C library, or
+with C<rrdi> in F</usr/local/bin>, F</usr/bin> or F</bin>. Numbers, names of sources and settings are not tainted, as those
+of RRDtool's own module are not. The texts of C<PRINT> are tainted.
 
 =head1 ENVIRONMENT
 

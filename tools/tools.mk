@@ -39,3 +39,22 @@ uninstall-tools:
 	rm -rf "$(PRIVATE)"
 
 .PHONY: record install-tools uninstall-tools
+
+# Debian's package that puts the Perl module in the place of RRDtool's for all programs, also for those in taint mode, which
+# ignore PERL5LIB.
+OF_PERL = out/librrds-perl-rrdi_$(VERSION)
+ABOUT_PERL = 'Provides: librrds-perl (= 1.7.2)' 'Conflicts: librrds-perl' 'Replaces: librrds-perl' \
+	'Description: round-robin time-series database with exact undo (Perl module RRDs)' \
+	' The module has the functions of RRDtool'\''s module RRDs, and runs them on databases' \
+	' of rrdi. While this package is installed, all Perl programs on the machine that use' \
+	' RRDs, such as Munin, MRTG and Smokeping, use rrdi.'
+
+deb: deb-perl
+
+deb-perl:
+	rm -rf $(OF_PERL)
+	install -d $(OF_PERL)/usr/share/perl5 $(OF_PERL)/DEBIAN
+	ln -s ../rrdi/perl/RRDs.pm $(OF_PERL)/usr/share/perl5/RRDs.pm
+	$(call finish,$(OF_PERL),librrds-perl-rrdi,perl,perl$(COMMA) rrdi (= $(VERSION)),$(ABOUT_PERL))
+
+.PHONY: deb-perl

@@ -9,19 +9,21 @@
    CALL=N        call N fails. With MOVES=A,B,.. the call moves at most A bytes, the next call of the same name on the
                  same file at most B, and so on; -1 is a failure. With CUT=B the call moves B bytes, and from then on no
                  byte after these can be written. With INTERRUPTS=M the call and the next M - 1 calls that move bytes are
-                 interrupted.
+                 interrupted; with MOVES=A too, the call moves A bytes, and the next M such calls are interrupted.
    FROM=N        call N, and each later call that changes a file, fails
    WHY=E         the error number of such a failure (EIO)
    KILL=N        the process is killed before call N
+   FORK=N        before call N the process forks a child, which lives on for a minute and makes no call
 
    The log has a line for each:
        grow SIZE given|refused
        NAME FILE SIZE GOT AT       open: FLAGS instead of AT, and the path; flock and fcntl: the operation instead of SIZE
+       fork CHILD
        end BLOCKS GROWTHS REFUSED MOST TOUCHED
    BLOCKS were not freed, MOST bytes were held at a time, and TOUCHED kilobytes were in memory at a time.
 
    The file RECORD gets each change of a file with its bytes: a line `pwrite FILE AT SIZE` followed by the bytes,
-   `ftruncate FILE LENGTH 0`, `fsync FILE 0 0`. */
+   `ftruncate FILE LENGTH 0`, `fsync FILE 0 0`, and `unsynced FILE 0 0` for a sync that failed. */
 #define _GNU_SOURCE
 #include <errno.h>
 #include <fcntl.h>
@@ -41,11 +43,11 @@ extern void __libc_free(void *);
 #define MOST_MOVES 16
 
 static long growths, refused, blocks, held, most, calls;
-static long refuse, refuse_from, call, from, cut, interrupts, killed, why;
+static long refuse, refuse_from, call, from, cut, interrupts, killed, forked, why;
 static long moves[MOST_MOVES], moves_count, turn;
 static const char *victim;
 static long victim_file = -1, victim_moves, wall = -1, wall_file = -1;
-static int is_begun, is_by_lines, counts_shrinks, log_file = -1, record_file = -1;
+static int is_begun, is_short_first, is_by_lines, counts_shrinks, log_file = -1, record_file = -1;
 
 static long number(const char *name) {
     const char *text = getenv(name);
@@ -79,9 +81,11 @@ static void begin(void) {
     cut = number("CUT");
     interrupts = number("INTERRUPTS");
     killed = number("KILL");
+    forked = number("FORK");
     why = number("WHY") ? number("WHY") : EIO;
     is_by_lines = number("LINES") == 1;
     counts_shrinks = number("SHRINKS") == 1;
+    is_short_first = interrupts && getenv("MOVES");
     read_moves(getenv("MOVES"));
     log_file = made("LOG");
     record_file = made("RECORD");
@@ -194,14 +198,36 @@ static ssize_t failed(long error) {
     return -1;
 }
 
+/* Forks a child that has the same files open, makes no call, and is no reader or writer of the pipes to this process. */
+static void leave_child(void) {
+    long child = syscall(SYS_fork);
+    if (child) {
+        note(log_file, "fork %ld\n", child);
+        return;
+    }
+    for (int stream = 0; stream < 3; stream++)
+        syscall(SYS_close, stream);
+    sleep(60);
+    _exit(0);
+}
+
+/* Returns how many of `size` bytes a call may move while signals interrupt calls. */
+static ssize_t interrupted(size_t size) {
+    if (is_short_first && calls == call)
+        return (size_t)moves[0] < size ? moves[0] : (ssize_t)size;
+    return size > 0 && calls >= call && calls < call + interrupts + is_short_first ? failed(EINTR) : (ssize_t)size;
+}
+
 /* Returns how many of `size` bytes a call may move; -1 if the call has to fail. */
 static ssize_t admitted(const char *name, long file, size_t size, int changes) {
     begin();
     calls++;
     if (calls == killed)
         syscall(SYS_kill, syscall(SYS_getpid), SIGKILL);
+    if (calls == forked)
+        leave_child();
     if (interrupts > 0)
-        return size > 0 && calls >= call && calls < call + interrupts ? failed(EINTR) : (ssize_t)size;
+        return interrupted(size);
     if (from && calls >= from && (changes || calls == from))
         return failed(why);
     if (calls == call && !cut) {
@@ -263,6 +289,14 @@ int flock(int file, int how) {
     return noted("flock", file, how, may("flock", file, 0) ? syscall(SYS_flock, file, how) : -1, 0);
 }
 
+off_t lseek(int file, off_t at, int from_where) {
+    return noted("lseek", file, from_where, may("lseek", file, 0) ? syscall(SYS_lseek, file, at, from_where) : -1, at);
+}
+
+off_t lseek64(int file, off_t at, int from_where) {
+    return lseek(file, at, from_where);
+}
+
 int unlink(const char *path) {
     return noted("unlink", -1, 0, may("unlink", -1, 1) ? syscall(SYS_unlink, path) : -1, 0);
 }
@@ -284,8 +318,7 @@ int ftruncate64(int file, off_t length) {
 
 static int synced(const char *name, int file, long call_number) {
     long got = may(name, file, 1) ? syscall(call_number, file) : -1;
-    if (got == 0)
-        note(record_file, "fsync %d 0 0\n", file);
+    note(record_file, "%s %d 0 0\n", got == 0 ? "fsync" : "unsynced", file);
     return noted(name, file, 0, got, 0);
 }
 

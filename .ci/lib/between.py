@@ -35,7 +35,7 @@ def settings(library: str, **values: object) -> dict[str, str]:
 
 @dataclass
 class Event:
-    """A line of the log: `grow`, `end` or the name of a call, and the other words of the line."""
+    """A line of the log: `grow`, `fork`, `end` or the name of a call, and the other words of the line."""
     kind: str
     words: list[str]
 
@@ -60,7 +60,7 @@ class Event:
 
     @property
     def is_call(self) -> bool:
-        return self.kind not in ("grow", "end")
+        return self.kind not in ("grow", "end", "fork")
 
     @property
     def is_refused(self) -> bool:
@@ -85,18 +85,19 @@ def calls_of(events: Iterable[Event]) -> list[Event]:
 
 @dataclass(frozen=True)
 class Change:
-    """A change of a file that succeeded: bytes written at an offset, a new length, or a sync, which has neither."""
+    """A change of a file that succeeded: bytes written at an offset, a new length, or a sync, which has neither; or a sync
+    that failed."""
     name: str
     at: int = 0
     data: bytes = b""
 
     def __post_init__(self) -> None:
-        if self.name not in ("pwrite", "ftruncate", "fsync"):
+        if self.name not in ("pwrite", "ftruncate", "fsync", "unsynced"):
             raise ValueError(self.name)
 
     def over(self, held: bytes) -> bytes:
         """Returns the bytes of the file after this change."""
-        if self.name == "fsync":
+        if self.name in ("fsync", "unsynced"):
             return held
         if self.name == "ftruncate":
             return held[:self.at].ljust(self.at, b"\0")

@@ -11,7 +11,7 @@ from pathlib import Path
 from typing import Any, Callable, Sequence
 
 from lib import between, command_line
-from lib.program import Answer, Program, held, put
+from lib.program import KILLED, Answer, Program, held, put
 from lib.tally import Tally
 
 FILE = "net.rrdi"
@@ -19,6 +19,10 @@ READERS = frozenset({"fetch", "last", "info"})
 # The numbers of rows of files of one page, of a few pages, and of many pages.
 PAGE, PAGES, MANY = 4, 1_000, 4_000
 LOCK_SH, LOCK_EX, LOCK_UN = 1, 2, 8
+# A change of many pages and of the length, which is interrupted before one of its last calls that change the file; and the
+# number of that call, counted from the end.
+INTERRUPTED = ("resize", FILE, "0", "GROW", "300")
+FORMS = {"a change without its last call": 1, "a change without its last two calls": 2, "a change without its last three calls": 3}
 
 
 def create(rows: int, journal: int = 16, value: str = "U") -> str:
@@ -36,12 +40,14 @@ def samples(first: int, count: int) -> str:
 
 @dataclass(frozen=True)
 class Task:
-    """A command or a batch, and the file on which it runs: the file that lines create, fixed bytes, or no file."""
+    """A command or a batch, and the file on which it runs: the file that lines create, fixed bytes, or no file. With a
+    form, a later change of the file was interrupted before one of its last calls."""
     name: str
     words: tuple[str, ...]
     lines: str = ""
     made: str = ""
     foreign: bytes = b""
+    form: str = ""
 
     @property
     def reads(self) -> bool:
@@ -107,6 +113,20 @@ def readings() -> list[Task]:
     return tasks
 
 
+def over_interrupted() -> list[Task]:
+    """Returns runs over files whose change was interrupted."""
+    tasks = []
+    for form in FORMS:
+        for rows in (PAGE, PAGES):
+            more = {"made": made(rows), "form": form}
+            tasks += [single(f"last over {form}, {rows} rows", "last", **more),
+                      single(f"update over {form}, {rows} rows", "update 20:2", **more),
+                      single(f"a refused update over {form}, {rows} rows", "update 5:1", **more),
+                      single(f"create over {form}, {rows} rows", create(PAGE, value="0"), **more),
+                      Task(f"batch over {form}, {rows} rows", ("batch", FILE), "last\nupdate 20:2\n", **more)]
+    return tasks
+
+
 @dataclass
 class Ran:
     """A run: its answer, the file directly after the run, and its calls."""
@@ -126,6 +146,7 @@ class Place:
         self.program, self.library, self.folder = program, library, Path(folder)
         self.file, self.log = self.folder / FILE, self.folder / "log"
         self.count = 0
+        self.interrupted: dict[Task, bytes] = {}
 
     def plain(self, words: tuple[str, ...], lines: str = "", **settings: object) -> Answer:
         self.count += 1
@@ -133,17 +154,39 @@ class Place:
         return self.program.run(words, lines, cwd=self.folder, env=env)
 
     def old(self, task: Task) -> bytes | None:
-        """Returns the bytes on which a task runs."""
+        """Returns the bytes on which a task runs: the database, if an earlier change was interrupted."""
         if not task.made:
             return task.foreign or None
         put(self.file, None)
         answer = self.plain(("batch", FILE), task.made)
         if answer != Answer(0):
             raise RuntimeError(f"{task.name}: the file was not created: {answer}")
+        if task.form:
+            self.interrupt(task)
         return held(self.file)
 
+    def interrupt(self, task: Task) -> None:
+        """Kills a change of the file, keeps the bytes that are left, and lets the next command recover the file."""
+        made = held(self.file)
+        self.log.unlink(missing_ok=True)
+        self.plain(INTERRUPTED, LOG=self.log)
+        calls = between.calls_of(between.events_of(self.log))
+        numbers = [number for number, call in enumerate(calls, 1) if call.kind in between.CHANGING]
+        put(self.file, made)
+        killed = self.plain(INTERRUPTED, KILL=numbers[-FORMS[task.form]])
+        left = held(self.file)
+        answer, recovered = self.after_next()
+        if left is None or (killed.status, answer.status) != (KILLED, 0) or recovered == left:
+            raise RuntimeError(f"{task.name}: the change was not interrupted: {killed}, {answer}")
+        self.interrupted[task] = left
+
+    def begun(self, task: Task, old: bytes | None) -> bytes | None:
+        """Returns the bytes of a file that stands for the database on which a task runs."""
+        return self.interrupted[task] if task.form else old
+
     def run(self, task: Task, old: bytes | None, **settings: object) -> Ran:
-        put(self.file, old)
+        """Runs a task on the file of its database."""
+        put(self.file, self.begun(task, old))
         self.log.unlink(missing_ok=True)
         answer = self.plain(task.words, task.lines, LOG=self.log, **settings)
         return Ran(answer, held(self.file), between.events_of(self.log))

@@ -76,9 +76,13 @@ static int tell_why(const char *text, const char *path, const char *reason) {
     return status;
 }
 
-/* Returns the reason of a run that waited for a lock. */
+static int lock_error;
+
+/* Returns the reason of a run that waited for a lock, or could not lock the file. */
 static const char *in_use(void) {
     static char text[80];
+    if (lock_error)
+        return reason_of(lock_error);
     const char *wait = getenv("RRDI_WAIT");
     int seconds = wait && *wait && strspn(wait, "0123456789") == strlen(wait) ? atoi(wait) : 5;
     snprintf(text, sizeof text, "in use by another program (waited %d second%s)", seconds, seconds == 1 ? "" : "s");
@@ -157,6 +161,13 @@ static struct base read_whole(int file) {
     return base;
 }
 
+static int locked_file = -1;
+
+/* Checks whether an error of a lock says that the system has no locks. */
+static int has_no_locks(int number) {
+    return number == ENOSYS || number == EOPNOTSUPP || (has("goes-on-unlocked") && number != EWOULDBLOCK && number != EINTR);
+}
+
 static int lock(int file, int how) {
     const char *text = getenv("RRDI_WAIT");
     int is_whole = text && *text && strspn(text, "0123456789") == strlen(text) && atof(text) <= 3600;
@@ -165,20 +176,30 @@ static int lock(int file, int how) {
     if (has("never-waits"))
         seconds = 0;
     while (flock(file, how | LOCK_NB)) {
-        if (errno != EWOULDBLOCK && (errno != EINTR || has("forgets-lock")))
+        if (has_no_locks(errno) || (errno == EINTR && has("forgets-lock")))
             return has("needs-locks") ? -1 : 0;
-        if (seconds <= 0)
+        lock_error = errno == EWOULDBLOCK || errno == EINTR ? 0 : errno;
+        if (lock_error || seconds <= 0)
             return -1;
         usleep(pause * 1000);
         seconds -= pause / 1000.0;
         pause = pause * 2 > 50 ? 50 : pause * 2;
     }
+    locked_file = file;
     return 0;
+}
+
+/* A child that was forked meanwhile has the file open too, so that to close the file would not be enough. */
+static void unlock(void) {
+    if (locked_file >= 0 && !has("keeps-lock"))
+        flock(locked_file, LOCK_UN);
+    locked_file = -1;
 }
 
 /* ---- a change */
 
-static int take_back(int file, struct base old, struct base new) {
+/* Takes a change back: marks the file again, since a failed sync may have left the new header on the disk alone. */
+static int take_back(int file, struct base old, struct base new, const struct head *marked) {
     if (has("leaves-change"))
         return -1;
     size_t count = old.length > new.length ? old.length : new.length;
@@ -186,13 +207,15 @@ static int take_back(int file, struct base old, struct base new) {
         count = HEAD + ROW;
     if (count > old.length)
         count = old.length;
-    if (!put(file, old.bytes + HEAD, count - HEAD, HEAD) && !put(file, old.bytes, HEAD, 0))
-        cut(file, old.length);
+    int is_marked = !put(file, (const unsigned char *)marked, HEAD, 0) && (has("marks-unsynced") || !settle_on_disk(file));
+    if (is_marked && !put(file, old.bytes + HEAD, count - HEAD, HEAD) && !settle_on_disk(file) && !put(file, old.bytes, HEAD, 0)
+        && !settle_on_disk(file) && !cut(file, old.length))
+        settle_on_disk(file);
     return -1;
 }
 
 static int put_pages(int file, struct base old, struct base new) {
-    for (size_t at = 0; at < new.length; at += PAGE) {
+    for (size_t at = has("first-page-at-once") ? PAGE : 0; at < new.length; at += PAGE) {
         if (has("slow"))
             usleep(500);
         size_t begin = at ? at : HEAD, end = at + PAGE < new.length ? at + PAGE : new.length;
@@ -201,6 +224,16 @@ static int put_pages(int file, struct base old, struct base new) {
             return -1;
     }
     return 0;
+}
+
+/* With a fault, a second try takes half-written pages for old ones. */
+static int put_all_pages(int file, struct base old, struct base new, size_t tail) {
+    int error = put_pages(file, old, new);
+    if (!error || !has("saves-again"))
+        return error;
+    struct base present = read_whole(file);
+    memcpy(present.bytes, old.bytes, HEAD);
+    return put(file, present.bytes, old.length, tail) || put_pages(file, old, new);
 }
 
 /* Writes a file whose bytes are not a database. */
@@ -235,11 +268,12 @@ static int store(int file, struct base old, struct base new, int is_database) {
         return -1;
     }
     if (has("marks-late") && put_pages(file, old, new))
-        return take_back(file, old, new);
-    if (put(file, (unsigned char *)&marked, HEAD, 0) || settle_on_disk(file) || put_pages(file, old, new)
-        || settle_on_disk(file) || (has("cuts-early") && cut(file, new.length)) || put(file, new.bytes, HEAD, 0))
-        return take_back(file, old, new);
-    settle_on_disk(file);
+        return take_back(file, old, new, &marked);
+    size_t front = has("first-page-at-once") && new.length > PAGE ? PAGE : HEAD;
+    int is_marked = has("marks-by-length") || (!put(file, (unsigned char *)&marked, HEAD, 0) && !settle_on_disk(file));
+    if (!is_marked || put_all_pages(file, old, new, tail) || settle_on_disk(file) || (has("cuts-early") && cut(file, new.length))
+        || put(file, new.bytes, front, 0) || settle_on_disk(file))
+        return take_back(file, old, new, &marked);
     cut(file, new.length);
     settle_on_disk(file);
     return 0;
@@ -251,6 +285,13 @@ static int is_settled(struct base base) {
         || (head_of(base)->state == 0 && base.length <= head_of(base)->length);
 }
 
+/* Writes the header as it was read, so that the disk has what the cache has before anything else changes. */
+static int store_header(int file, struct base base) {
+    if (has("trusts-cache"))
+        return 0;
+    return (!has("syncs-cache") && put(file, base.bytes, HEAD, 0)) || settle_on_disk(file);
+}
+
 static int settle(int file) {
     struct base base = read_whole(file);
     if (!base.bytes)
@@ -258,9 +299,11 @@ static int settle(int file) {
     if (is_settled(base) || has("stays-marked"))
         return 0;
     struct head old = *head_of(base);
-    if (old.state) {
-        memcpy(&old, base.bytes + old.tail, HEAD);
-        size_t tail = head_of(base)->tail;
+    size_t tail = head_of(base)->state ? head_of(base)->tail : has("marks-by-length") ? PAGE : 0;
+    if (store_header(file, base))
+        return -1;
+    if (tail) {
+        memcpy(&old, base.bytes + tail, HEAD);
         if (has("takes-head-first") && put(file, base.bytes + tail, HEAD, 0))
             return -1;
         syncs &= !has("no-sync-to-recover");
@@ -269,6 +312,16 @@ static int settle(int file) {
             return -1;
     }
     return cut(file, old.length) || settle_on_disk(file);
+}
+
+/* Returns the bytes that a file stands for, if the file itself cannot be written. */
+static struct base settled_in_memory(struct base base) {
+    size_t tail = head_of(base)->state ? head_of(base)->tail : 0;
+    if (has("reads-marked"))
+        tail = 0;
+    base.bytes += tail;
+    base.length = head_of(base)->length;
+    return base;
 }
 
 /* ---- commands, on bytes in memory */
@@ -467,16 +520,30 @@ static int over_file(char **words, int count, const char *path) {
         int skips = (reads && has("reads-without-lock")) || (makes && has("creates-without-lock"));
         if (!skips && lock(file, how))
             return tell_why(makes ? "cannot write" : "cannot open", path, in_use());
+        errno = 0;
         if (makes && !is_regular(file))
-            return has("writes-devices") ? 0 : tell_why("cannot write", path, "not a regular file");
+            return has("writes-devices") ? 0 : tell_why("cannot write", path, errno ? reason_of(errno) : "not a regular file");
         old = read_whole(file);
         if (reads && old.bytes && !is_settled(old)) {
+            int again = open(path, O_RDWR);
+            if (again < 0)
+                return tell_why("cannot open", path, reason_of(errno));
+            unlock();
             close(file);
-            file = open(path, O_RDWR);
-            if (file < 0 || lock(file, has("recovers-shared") ? LOCK_SH : LOCK_EX))
+            file = again;
+            if (lock(file, has("recovers-shared") ? LOCK_SH : LOCK_EX))
                 return tell_why("cannot open", path, in_use());
         }
-        if ((old.bytes && !is_settled(old) && settle(file)) || (is_regular(file) && !(old = read_whole(file)).bytes))
+        int is_marked = old.bytes && !is_settled(old), is_failed = is_marked && (is_kept || settle(file));
+        if (is_failed && makes)
+            return tell_why("cannot write", path, reason_of(errno));
+        if (is_failed) {
+            why = why ? why : errno;
+            is_kept = 1;
+            old = settled_in_memory(old);
+        } else if (is_marked)
+            old = read_whole(file);
+        if (!old.bytes)
             return tell_why("file: read failed", path, reason_of(errno));
         is_database = old.length >= HEAD && !memcmp(old.bytes, "RRDI", 4) && head_of(old)->length == old.length;
         if (!makes && fault(old))
@@ -511,5 +578,7 @@ int main(int count, char **words) {
     }
     const char *path = words[2];
     words[2] = words[1];
-    return over_file(words + 2, count - 2, path);
+    int status = over_file(words + 2, count - 2, path);
+    unlock();
+    return status;
 }

@@ -13,16 +13,15 @@ from __future__ import annotations
 
 from typing import TYPE_CHECKING
 
-from .amounts import Millionths
-from .commands import (Batch, RefusedLine, batch, create, fetch, first, info, last, lastupdate, resize, revert, tune,
-                       update)
-from .database import Database, RefusedLines
-from .errors import (Busy, CannotOpen, CannotRead, CannotWrite, Damaged, Error, NoDatabase, OperationalError,
-                     OutOfMemory, ProgrammingError, Refused, Unreadable, Usage)
-from .library import library_path, load_library
-from .memory import Ran, RanBatch, run, run_batch
-
 if TYPE_CHECKING:
+    from .amounts import Millionths
+    from .commands import (Batch, RefusedLine, batch, create, fetch, first, info, last, lastupdate, resize, revert, tune,
+                           update)
+    from .database import Database, RefusedLines
+    from .errors import (Busy, CannotOpen, CannotRead, CannotWrite, Damaged, Error, NoDatabase, OperationalError,
+                         OutOfMemory, ProgrammingError, Refused, Unreadable, Usage)
+    from .library import library_path, load_library
+    from .memory import Ran, RanBatch, run, run_batch
     from .reader import Fault, Reader, read, read_file
 
 __version__ = "0.2.0"
@@ -33,12 +32,31 @@ __all__ = ["Batch", "Busy", "CannotOpen", "CannotRead", "CannotWrite", "Damaged"
            "first", "info", "last", "lastupdate", "library_path", "load_library", "read", "read_file", "resize",
            "revert", "run", "run_batch", "tune", "update"]
 
-_OF_THE_READER = frozenset({"Fault", "Reader", "read", "read_file"})
+# The modules and their names. A module is imported when a program first asks for one of its names, so that a tool, or a
+# program that only reads, imports what it uses.
+_HOMES = {name: module for module, names in {
+    "amounts": "Millionths",
+    "commands": "Batch RefusedLine batch create fetch first info last lastupdate resize revert tune update",
+    "database": "Database RefusedLines",
+    "errors": "Busy CannotOpen CannotRead CannotWrite Damaged Error NoDatabase OperationalError OutOfMemory "
+              "ProgrammingError Refused Unreadable Usage",
+    "library": "library_path load_library",
+    "memory": "Ran RanBatch run run_batch",
+    "reader": "Fault Reader read read_file"}.items() for name in names.split()}
 
 
 def __getattr__(name: str) -> object:
-    """Imports the reader when a program first asks for one of its names."""
-    if name not in _OF_THE_READER:
+    """Imports the module of a name, or a module of the package, when a program first asks for it."""
+    from importlib import import_module
+    if name in _HOMES:
+        found: object = getattr(import_module("." + _HOMES[name], __name__), name)
+    elif name in _HOMES.values():
+        found = import_module("." + name, __name__)
+    else:
         raise AttributeError(f"module {__name__!r} has no attribute {name!r}")
-    from . import reader
-    return getattr(reader, name)
+    globals()[name] = found
+    return found
+
+
+def __dir__() -> "list[str]":
+    return sorted({*globals(), *__all__})

@@ -4,9 +4,10 @@ from __future__ import annotations
 
 import os
 from functools import lru_cache
-from typing import Optional
+from typing import TYPE_CHECKING, Optional
 
-from .library import Library, library_path, load_library
+if TYPE_CHECKING:
+    from .library import Library
 
 
 def program_path() -> str:
@@ -17,6 +18,7 @@ def program_path() -> str:
 @lru_cache(maxsize=None)
 def loaded_library() -> Optional[Library]:
     """Loads the C library. Returns None if no library can be loaded."""
+    from .library import library_path, load_library
     try:
         return load_library() if library_path() is not None else None
     except (OSError, AttributeError):

@@ -8,7 +8,6 @@ from __future__ import annotations
 import ctypes
 import os
 import threading
-from pathlib import Path
 from typing import List, NamedTuple, Optional, Protocol, Tuple
 
 from .errors import NO_ROOM, OK
@@ -200,8 +199,9 @@ def library_path() -> Optional[str]:
         return named
     for folder in _folders():
         for name in NAMES:
-            if (folder / name).is_file():
-                return str(folder / name)
+            path = os.path.join(folder, name)
+            if os.path.isfile(path):
+                return path
     for name in NAMES[:1]:
         try:
             ctypes.CDLL(name)
@@ -211,13 +211,13 @@ def library_path() -> Optional[str]:
     return None
 
 
-def _folders() -> List[Path]:
+def _folders() -> List[str]:
     """Returns folders near this package: in a wheel, an installation (PREFIX/share/rrdi/python), a repository."""
-    package = Path(__file__).resolve().parent
-    above = package.parent.parent
-    folders = [package, above / "out"]
-    if package.parent.name == "python" and above.name == "rrdi" and above.parent.name == "share":
-        folders.append(above.parent.parent / "lib")
+    package = os.path.dirname(os.path.realpath(__file__))
+    above, name = os.path.split(os.path.dirname(package))
+    folders = [package, os.path.join(above, "out")]
+    if name == "python" and above.endswith("/share/rrdi"):
+        folders.append(os.path.join(os.path.dirname(os.path.dirname(above)), "lib"))
     return folders
 
 

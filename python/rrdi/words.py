@@ -11,7 +11,7 @@ from .errors import USAGE, Usage
 
 Word = Union[str, int]
 Words = Union[Word, Sequence[Word]]
-FilePath = Union[str, bytes, "os.PathLike[str]", "os.PathLike[bytes]"]
+FilePath = Union[str, bytes, os.PathLike]
 
 LONGEST_WAIT = 3_600.0  # seconds
 FILE_SYSTEM = sys.getfilesystemencoding()

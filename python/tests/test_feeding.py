@@ -15,7 +15,7 @@ from cases import new_folder, use_library
 from tool_case import EachWriter, finished, taken
 
 import rrdi
-from rrdi import choice
+from rrdi import choice, library
 from rrdi.errors import CANNOT_OPEN, CANNOT_WRITE, NO_MEMORY
 from rrdi.feeding import writers
 from rrdi.feeding.feeder import Feeder, Options, shown
@@ -209,13 +209,13 @@ class Writers(EachWriter, unittest.TestCase):
         with mock.patch.dict(os.environ, {"RRDI": "/x/rrdi"}):
             self.assertEqual(self.program(), "/x/rrdi")
         with mock.patch.dict(os.environ, {"RRDI": ""}):
-            with mock.patch.object(choice, "library_path", return_value=None):
+            with mock.patch.object(library, "library_path", return_value=None):
                 self.assertEqual(self.program(), "rrdi")
-            with mock.patch.object(choice, "library_path", return_value="/nowhere/librrdi.so.0"):
+            with mock.patch.object(library, "library_path", return_value="/nowhere/librrdi.so.0"):
                 for error in (OSError, AttributeError):
-                    with mock.patch.object(choice, "load_library", side_effect=error):
+                    with mock.patch.object(library, "load_library", side_effect=error):
                         self.assertEqual(self.program(), "rrdi")
-                with mock.patch.object(choice, "load_library", return_value=FakeLibrary(Answer(0, 0, 0, b""))):
+                with mock.patch.object(library, "load_library", return_value=FakeLibrary(Answer(0, 0, 0, b""))):
                     self.assertEqual(self.program(), "")
                     del os.environ["RRDI"]
                     self.assertEqual(self.program(), "")

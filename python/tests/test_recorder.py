@@ -22,8 +22,8 @@ NO_RECORDER = "there is no out/librrdi-record.so: type make record"
 class Recorder:
     """The functions as a program in C calls them."""
 
-    def __init__(self) -> None:
-        self.library = ctypes.CDLL(PATH)
+    def __init__(self, path: str = PATH) -> None:
+        self.library = ctypes.CDLL(path)
         self.library.rrd_get_error.restype = ctypes.c_char_p
         self.library.rrd_create_r.argtypes = [ctypes.c_char_p, ctypes.c_ulong, ctypes.c_long, ctypes.c_int,
                                               ctypes.POINTER(ctypes.c_char_p)]

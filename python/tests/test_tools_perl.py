@@ -63,7 +63,7 @@ show none => RRDs::xport(@span, 'DEF:a=none:g:AVERAGE', 'XPORT:a');
 
 
 def has_module() -> bool:
-    return bool(PERL) and subprocess.run([str(PERL), "-MRRDs", "-e", "1"], capture_output=True).returncode == 0
+    return bool(PERL) and subprocess.run([str(PERL), "-MRRDs", "-e", "exit !!RRDs->can(q(_ask))"], capture_output=True).returncode == 0
 
 
 @needs_program

@@ -12,6 +12,7 @@ from doubles import TOP
 from tool_case import NO_RRDTOOL, RRDTOOL, Ran, ToolCase
 
 from rrdi.tools import fetching, program
+from rrdi.tools.answers import Printed
 from rrdi.tools.command_line import Failure
 from rrdi.tools.program import Archive, Settings, Source
 from rrdi.tools.rrdtool.commands import needed
@@ -103,7 +104,7 @@ class RRDtoolOutput(ToolCase):
         self.assertEqual(self.tool(TOOL, "update", "x.rrdi", "1000000010:1.5e0:100", "1000000025:-0.25:175"), Ran(0, "", ""))
 
     def test_usage(self) -> None:
-        self.check_usage(TOOL, "[--exact | --rrdi | --show] COMMAND ARGUMENT.. | [--exact] - [DIRECTORY]",
+        self.check_usage(TOOL, "[--exact | --rrdi | --show] COMMAND ARGUMENT.. | [--exact] [--lengths] - [DIRECTORY]",
                          [[], ["--rrdi"], ["--show"], ["-", "a", "b"], [""]])
         for words in (["-v"], ["--version"]):
             self.assertEqual(self.tool(TOOL, *words), Ran(0, VERSION + "\n", ""))
@@ -265,8 +266,10 @@ class PipeMode(ToolCase):
         from rrdi.tools.rrdtool.pipe import Pipe
         output = io.BytesIO()
 
-        def run(name: str, _words: "list[str]") -> bytes:
-            return {"good": b"fine\n"}[name]
+        good: Printed = ["fine"]
+
+        def run(name: str, _words: "list[str]") -> Printed:
+            return {"good": good}[name]
 
         Pipe(run, "", output).answer_all(io.BytesIO(b"bad\ngood\n"))
         self.assertRegex(output.getvalue(), rb"^ERROR: internal error: KeyError\('bad'\)\nfine\nOK u:.*\n$")

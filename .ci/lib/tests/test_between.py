@@ -2,6 +2,9 @@
 from __future__ import annotations
 
 import errno
+import fcntl
+import os
+import signal
 import subprocess
 import tempfile
 import unittest
@@ -60,6 +63,11 @@ class Small(unittest.TestCase):
         self.assertEqual(list(between.changes_of(record)), [Change("pwrite", 5, b"0123456789"), Change("pwrite", 15, b"abcdefghij"),
                                                             Change("ftruncate", 20), Change("fsync")])
 
+    def test_a_failed_sync_is_recorded(self) -> None:
+        record = self.folder / "record"
+        self.told(RECORD=record, CALL=6)
+        self.assertEqual([change.name for change in between.changes_of(record)], ["pwrite", "pwrite", "ftruncate", "unsynced"])
+
     def test_calls_fail_by_their_number(self) -> None:
         for number, told in ((1, "1 0 -1 -1 -1 -1 -1"), (2, "1 1 -1 10 10 0 0"), (3, "1 1 0 -1 10 0 0"), (4, "1 1 0 10 -1 0 0"),
                              (5, "1 1 0 10 10 -1 0"), (6, "1 1 0 10 10 0 -1")):
@@ -73,6 +81,18 @@ class Small(unittest.TestCase):
         self.assertEqual(self.told(CALL=3, MOVES=[4, -1]), "1 1 0 4 -1 0 0")
         self.assertEqual(self.told(CALL=3, CUT=6), "1 1 0 6 -1 0 0")
         self.assertEqual(self.told(CALL=3, INTERRUPTS=1), "1 1 0 -1 10 0 0")
+
+    def test_a_short_call_before_interrupted_ones(self) -> None:
+        self.assertEqual(self.told(CALL=3, MOVES=[4], INTERRUPTS=1), "1 1 0 4 -1 0 0")
+        self.assertEqual(self.told(CALL=4, MOVES=[4], INTERRUPTS=1), "1 1 0 10 4 0 0")
+
+    def test_a_child_has_the_lock(self) -> None:
+        log = self.folder / "log"
+        self.assertEqual(self.told(LOG=log, FORK=3), "1 1 0 10 10 0 0")
+        child = next(event for event in between.events_of(log) if event.kind == "fork").file
+        with open(self.file) as file, self.assertRaises(BlockingIOError):
+            fcntl.flock(file, fcntl.LOCK_SH | fcntl.LOCK_NB)
+        os.kill(child, signal.SIGKILL)
 
     def test_a_kill_comes_before_its_call(self) -> None:
         answer = self.program.run([self.file], env=between.settings(self.library, KILL=4))

@@ -24,13 +24,30 @@ pub enum Lock {
     Own,
 }
 
-/// The facts that the system reports of an open file.
+/// The kind of a file.
+#[derive(Clone, Copy, Debug, PartialEq, Eq)]
+pub enum Kind {
+    /// A file that keeps its bytes.
+    Regular,
+    /// A directory.
+    Directory,
+    /// A pipe without a name, such as a shell makes for `|`. To open such a pipe never waits.
+    Pipe,
+    /// A pipe with a name, a device or a socket. To open one may wait for another program.
+    Other,
+}
+
+/// The facts that the system reports of a file.
 #[derive(Clone, Copy, Debug, PartialEq, Eq)]
 pub struct Facts {
-    /// Whether the file is a regular file: no directory, device or pipe.
-    pub is_regular: bool,
+    /// The kind of the file.
+    pub kind: Kind,
     /// The length of the file in bytes.
     pub length: u64,
+    /// The device that has the file.
+    pub device: u64,
+    /// The number of the file on its device. No two files have both numbers in common.
+    pub inode: u64,
 }
 
 /// An open file, which is closed when the value is dropped.
@@ -81,8 +98,16 @@ pub trait DiskFile: Read + Drop {
     /// # Errors
     ///
     /// - `WouldBlock` if another program holds a lock that excludes this one.
-    /// - Any other error if the file system has no locks.
+    /// - `Unsupported` or `InvalidInput` if the file system has no locks.
+    /// - Any other error if the file could not be locked.
     fn try_lock(&self, lock: Lock) -> io::Result<()>;
+
+    /// Releases the lock, also for the other handles of the same open file, and for the processes that share them.
+    ///
+    /// # Errors
+    ///
+    /// The lock stays until the last handle is closed.
+    fn unlock(&self) -> io::Result<()>;
 
     /// Returns after the disk has stored all bytes that were written.
     ///
@@ -102,6 +127,9 @@ pub trait Disk {
 
     /// Opens the file at `path`. A signal may make the call fail with the kind `Interrupted`.
     ///
+    /// No standard stream of the process is the open file: the numbers 0 to 2 are for the streams, even if they are
+    /// closed.
+    ///
     /// # Errors
     ///
     /// The file cannot be opened for that purpose: `NotFound` if there is no file, or no directory for a new one.
@@ -113,6 +141,13 @@ pub trait Disk {
     ///
     /// The system does not report the facts.
     fn facts(&self, file: &Self::File) -> io::Result<Facts>;
+
+    /// Returns the facts that the system reports of the file at `path`, without opening the file.
+    ///
+    /// # Errors
+    ///
+    /// The system does not report the facts: `NotFound` if there is no file.
+    fn facts_at(&self, path: &str) -> io::Result<Facts>;
 
     /// Waits for `milliseconds`.
     fn pause(&self, milliseconds: u64);

@@ -1,8 +1,11 @@
 //! An open file as bytes that are changed. The contracts do not know the bytes of a file on disk.
+use crate::DiskFile;
+use crate::locks::LockedFile;
 use crate::once::{get, put, set_length, sync};
+use crate::reader::Source;
+use crate::standing::Standing;
 use crate::window::Window;
-use crate::{DiskFile, FileReader};
-use rrd_undo::{Bytes, Memory, PAGE, Syncs, is_marked, settle};
+use rrd_undo::{Bytes, PAGE, Syncs, is_marked, settle};
 use std::alloc::Global;
 use std::io::{self, Cursor, Error, ErrorKind};
 use std::rc::Rc;
@@ -24,7 +27,7 @@ struct Owed {
 #[derive(Drop)]
 pub(crate) struct FileBytes<F: DiskFile> {
     alloc: Global,
-    file: F,
+    locked: LockedFile<F>,
     syncs: Syncs,
     // The length of the file in bytes, if known.
     length: Option<u64>,
@@ -37,13 +40,20 @@ pub(crate) struct FileBytes<F: DiskFile> {
 }
 
 impl<F: DiskFile> FileBytes<F> {
-    /// Creates the bytes of a file of `length` bytes.
+    /// Creates the bytes of a file of `length` bytes. Reads the first page, or all bytes of a short file.
     ///
-    /// Reads the first page, or all bytes of a short file. If that read fails, later calls read the bytes.
-    pub(crate) fn new(alloc: Global, file: F, length: u64, syncs: Syncs) -> FileBytes<F> {
+    /// # Errors
+    ///
+    /// The read failed, or memory ran out.
+    pub(crate) fn new(
+        alloc: Global,
+        locked: LockedFile<F>,
+        length: u64,
+        syncs: Syncs,
+    ) -> io::Result<FileBytes<F>> {
         let mut bytes = FileBytes {
             alloc,
-            file,
+            locked,
             syncs,
             length: Some(length),
             front: Window::new(alloc),
@@ -51,8 +61,8 @@ impl<F: DiskFile> FileBytes<F> {
             lent: None,
             owed: None,
         };
-        let _read = bytes.read_front(length);
-        bytes
+        bytes.read_front(length)?;
+        Ok(bytes)
     }
 
     // Reads the first page of a file of `length` bytes, or all bytes of a short file.
@@ -67,7 +77,7 @@ impl<F: DiskFile> FileBytes<F> {
     fn fill(&mut self, at: usize, count: u64) -> io::Result<()> {
         let mut bytes = self.take_window();
         bytes.resize(count as usize, 0)?;
-        let read = get(&self.file, &mut bytes, at as u64)?;
+        let read = get(self.locked.file(), &mut bytes, at as u64)?;
         bytes.truncate(read);
         self.window = Window::at(at, bytes);
         Ok(())
@@ -78,13 +88,39 @@ impl<F: DiskFile> FileBytes<F> {
         self.length == Some(0)
     }
 
-    /// Checks whether a change of the file was interrupted.
+    /// Checks whether the file begins with a mark: a change of a database was interrupted, or the file is another
+    /// program's.
     pub(crate) fn is_marked(&self) -> bool {
-        is_marked(self.window.bytes())
+        is_marked(self.front.bytes())
     }
 
-    /// Ends an interrupted change of the file, or takes the change back.
+    /// Checks whether this run holds the lock of the file.
+    pub(crate) fn is_locked(&self) -> bool {
+        self.locked.is_locked()
+    }
+
+    // Finds the database that the file stands for, if the file has a mark.
+    fn find_standing(&mut self) -> io::Result<Option<Standing>> {
+        let length = self.len()?;
+        Standing::find(self.alloc, self.locked.file(), length, self.front.bytes())
+    }
+
+    /// Ends an interrupted change of the file, or takes the change back. Writes nothing to a file that stands for no
+    /// database.
+    ///
+    /// # Errors
+    ///
+    /// A call failed, or memory ran out. The file then still stands for the same database.
     pub(crate) fn settle(&mut self) -> io::Result<()> {
+        let Some(standing) = self.find_standing()? else {
+            return Ok(());
+        };
+        let length = self.len()?;
+        if let Some(end) = standing.unrecorded_end(length) {
+            // The file keeps its cut mark, and `settle` then finds the database alone.
+            self.set_len(end)?;
+            self.sync()?;
+        }
         let mut buffer = Vec::new(self.alloc);
         let _settled = settle(self, &mut buffer)?;
         let length = self.len()? as u64;
@@ -111,42 +147,40 @@ impl<F: DiskFile> FileBytes<F> {
         }
     }
 
-    /// Returns a reader of the file, which is changed later. The reader shares the bytes that were read.
-    pub(crate) fn reader(&mut self) -> io::Result<FileReader<F>> {
+    /// Returns the place of the file's bytes for a reader. The file is changed later, and keeps the bytes that were read.
+    pub(crate) fn source(&mut self) -> io::Result<Source<F>> {
         if self.is_whole() {
             if let Ok(bytes) = Rc::new(self.alloc, self.take_window()) {
-                let reader = FileReader::Shared(bytes.clone()?, 0);
+                let source = Source::Shared(bytes.clone()?, 0);
                 self.lent = Some(bytes);
-                return Ok(reader);
+                return Ok(source);
             }
         }
-        Ok(FileReader::File(self.file.again()?))
+        Ok(Source::Handle(self.locked.file().again()?))
     }
 
-    /// Returns a reader of the file, which is not changed.
-    pub(crate) fn into_reader(self) -> FileReader<F> {
+    /// Returns the place of the file's bytes for a reader. The file is not changed.
+    pub(crate) fn into_source(self) -> Source<F> {
         if self.is_whole() {
-            return FileReader::Held(Cursor::new(self.window.into_bytes()));
+            return Source::Held(Cursor::new(self.window.into_bytes()));
         }
-        FileReader::File(self.file)
+        Source::File(self.locked)
     }
 
-    // Returns all bytes of the file, settled in memory.
-    fn settled(&self) -> io::Result<Vec<u8>> {
-        let length = self.file.length()?;
-        let mut bytes = vec![in self.alloc; 0; length as usize]?;
-        let count = get(&self.file, &mut bytes, 0)?;
-        bytes.truncate(count);
-        let mut memory = Memory::new(bytes, u64::MAX);
-        let _settled = settle(&mut memory, &mut Vec::new(self.alloc))?;
-        Ok(memory.into_bytes())
-    }
-
-    /// Returns a reader of the bytes that the file represents. The file is unchanged.
-    pub(crate) fn into_settled_reader(self) -> FileReader<F> {
-        match self.settled() {
-            Ok(bytes) => FileReader::Held(Cursor::new(bytes)),
-            Err(_) => FileReader::File(self.file),
+    /// Returns the place of the bytes that the file stands for, or of its own bytes if it stands for no database. The
+    /// file is not changed.
+    ///
+    /// # Errors
+    ///
+    /// A read failed, or memory ran out.
+    pub(crate) fn into_standing_source(mut self) -> io::Result<Source<F>> {
+        // A call that failed may have left other bytes than those that were read.
+        let length = self.locked.file().length()?;
+        self.length = Some(length);
+        self.read_front(length)?;
+        match self.find_standing()? {
+            Some(standing) => Ok(Source::Standing(self.locked, standing, 0)),
+            None => Ok(self.into_source()),
         }
     }
 
@@ -167,9 +201,9 @@ impl<F: DiskFile> FileBytes<F> {
         };
         let kept = self.front.from(owed.at);
         if !kept.is_empty() {
-            put(&self.file, kept, owed.at as u64)?;
+            put(self.locked.file(), kept, owed.at as u64)?;
         }
-        set_length(&self.file, owed.length as u64)?;
+        set_length(self.locked.file(), owed.length as u64)?;
         self.length = Some(owed.length as u64);
         self.owed = None;
         Ok(())
@@ -194,7 +228,7 @@ impl<F: DiskFile> Bytes for FileBytes<F> {
         if let Some(length) = self.length {
             return Ok(length as usize);
         }
-        let length = self.file.length()?;
+        let length = self.locked.file().length()?;
         self.length = Some(length);
         Ok(length as usize)
     }
@@ -217,7 +251,7 @@ impl<F: DiskFile> Bytes for FileBytes<F> {
 
     fn put(&mut self, at: usize, bytes: &[u8]) -> io::Result<()> {
         self.mend()?;
-        let ended = put(&self.file, bytes, at as u64);
+        let ended = put(self.locked.file(), bytes, at as u64);
         match &ended {
             Ok(()) => self.note(at, bytes),
             Err(_) => self.forget(),
@@ -227,7 +261,7 @@ impl<F: DiskFile> Bytes for FileBytes<F> {
 
     fn put_whole(&mut self, at: usize, bytes: &[u8]) -> io::Result<()> {
         let length = self.len()?;
-        let ended = put(&self.file, bytes, at as u64);
+        let ended = put(self.locked.file(), bytes, at as u64);
         if ended.is_ok() {
             self.note(at, bytes);
         } else {
@@ -243,7 +277,7 @@ impl<F: DiskFile> Bytes for FileBytes<F> {
 
     fn set_len(&mut self, count: usize) -> io::Result<()> {
         self.mend()?;
-        let ended = set_length(&self.file, count as u64);
+        let ended = set_length(self.locked.file(), count as u64);
         match &ended {
             Ok(()) => {
                 self.front.cut(count);
@@ -258,7 +292,7 @@ impl<F: DiskFile> Bytes for FileBytes<F> {
     fn sync(&mut self) -> io::Result<()> {
         match self.syncs {
             Syncs::Never => Ok(()),
-            Syncs::Ordered => sync(&self.file),
+            Syncs::Ordered => sync(self.locked.file()),
         }
     }
 }

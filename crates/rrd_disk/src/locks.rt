@@ -1,5 +1,4 @@
-//! The advisory lock on an open file. The system releases the lock when the last handle of that open file
-//! is closed.
+//! The advisory lock on an open file.
 ghost use Rattle.std.specs.Prelude.{◌≡◌, ◌+◌, IfSome};
 
 use crate::{Disk, DiskFile, Lock, Settings};
@@ -10,7 +9,7 @@ const MAX_PAUSE: u64 = 50;
 
 /// The result of a try to lock a file.
 #[derive(Clone, Copy, Debug, PartialEq, Eq)]
-pub(crate) enum LockResult {
+enum LockResult {
     /// This program holds the lock.
     Taken,
     /// The file system has no locks.
@@ -19,15 +18,16 @@ pub(crate) enum LockResult {
 
 /// The pauses between the tries, in milliseconds: each pause is twice as long as the pause before, up to 50.
 #[derive(Drop)]
-struct Pauses {
+pub(crate) struct Pauses {
     left: u64,
     next: u64,
 }
 
 impl Pauses {
-    fn within(milliseconds: u64) -> Pauses {
+    /// Creates pauses of `milliseconds` in all, at most [`Settings::MAX_WAIT`].
+    pub(crate) fn within(milliseconds: u64) -> Pauses {
         Pauses {
-            left: milliseconds,
+            left: milliseconds.min(Settings::MAX_WAIT),
             next: 1,
         }
     }
@@ -47,26 +47,75 @@ impl Pauses {
     }
 }
 
-/// Locks a file, and tries again for `wait` milliseconds while another program holds a lock.
+/// An open file, and the lock that this run holds on the file, if the file system has locks.
 ///
-/// # Errors
-///
-/// `WouldBlock` if another program held a lock at each try.
-pub(crate) fn lock<D: Disk>(
+/// The lock is released when the value is dropped. To close the file would not be enough: a process that was forked in
+/// the meantime has the file open too, and would hold the lock for as long as that process lives.
+pub(crate) struct LockedFile<F: DiskFile> {
+    file: F,
+    lock_result: LockResult,
+}
+
+impl<F: DiskFile> LockedFile<F> {
+    /// Returns the open file.
+    pub(crate) fn file(&self) -> &F {
+        &self.file
+    }
+
+    /// Returns the open file, to be read on from its position.
+    pub(crate) fn file_mut(&mut self) -> &mut F {
+        &mut self.file
+    }
+
+    /// Checks whether this run holds the lock. Without the lock another program may be changing the file.
+    pub(crate) fn is_locked(&self) -> bool {
+        self.lock_result == LockResult::Taken
+    }
+}
+
+impl<F: DiskFile> Drop for LockedFile<F> {
+    fn drop(self) {
+        let LockedFile { file, lock_result } = self;
+        if lock_result == LockResult::Taken {
+            let _unlocked = file.unlock();
+        }
+    }
+}
+
+// Checks whether an error of a lock says that the file system has no locks.
+//
+// Linux answers `ENOSYS` if it is built without locks of files (`CONFIG_FILE_LOCKING`), and so does Lustre if it is
+// mounted without the option `flock`. `EOPNOTSUPP` is the answer for an operation that a file system lacks. Both have the
+// kind `Unsupported`. `EINVAL` (`InvalidInput`) is the answer of POSIX (fcntl, `F_SETLK`) for a file that does not
+// support locks, which a file system over a network may pass on. flock(2) has no other use for it: the operation is
+// one of its own.
+//
+// `ENOLCK` is no such answer: the server or the memory for locks failed, so another program may hold the lock.
+fn has_no_locks(error: &Error) -> bool {
+    matches!(
+        error.kind(),
+        ErrorKind::Unsupported | ErrorKind::InvalidInput
+    )
+}
+
+// Checks whether a later try may lock the file: another program holds a lock, or a signal came.
+fn is_to_be_tried_again(error: &Error) -> bool {
+    matches!(error.kind(), ErrorKind::WouldBlock | ErrorKind::Interrupted)
+}
+
+// Locks a file, and tries again during the pauses while another program holds a lock.
+fn try_until_locked<D: Disk>(
     disk: &D,
     file: &D::File,
     lock: Lock,
-    wait: u64,
+    pauses: &mut Pauses,
 ) -> io::Result<LockResult> {
-    let wait = wait.min(Settings::MAX_WAIT);
-    let mut pauses = Pauses::within(wait);
-    for _ in 0..=wait {
+    for _ in 0..=Settings::MAX_WAIT {
         match file.try_lock(lock) {
             Ok(()) => return Ok(LockResult::Taken),
-            Err(error)
-                if error.kind() == ErrorKind::WouldBlock
-                    || error.kind() == ErrorKind::Interrupted => {}
-            Err(_) => return Ok(LockResult::NoLocks),
+            Err(error) if is_to_be_tried_again(&error) => {}
+            Err(error) if has_no_locks(&error) => return Ok(LockResult::NoLocks),
+            Err(error) => return Err(error),
         }
         let Some(pause) = pauses.take() else {
             break;
@@ -74,4 +123,20 @@ pub(crate) fn lock<D: Disk>(
         disk.pause(pause);
     }
     Err(Error::new(ErrorKind::WouldBlock, "in use by another program"))
+}
+
+/// Locks a file, and tries again during the pauses while another program holds a lock.
+///
+/// # Errors
+///
+/// - `WouldBlock` if another program held a lock at each try.
+/// - Another error if the system could not lock the file, for a reason other than that the file system has no locks.
+pub(crate) fn lock<D: Disk>(
+    disk: &D,
+    file: D::File,
+    lock: Lock,
+    pauses: &mut Pauses,
+) -> io::Result<LockedFile<D::File>> {
+    let lock_result = try_until_locked(disk, &file, lock, pauses)?;
+    Ok(LockedFile { file, lock_result })
 }

@@ -1,29 +1,31 @@
 //! The writer of the bytes that replace those of a file.
-use crate::DiskFile;
 use crate::file_bytes::FileBytes;
+use crate::{Cause, DiskFile};
 use rrd_undo::{PageWriter, Syncs};
 use std::alloc::Global;
-use std::io::{self, Error, Write};
+use std::io::{self, Write};
 
 /// A writer of the bytes that replace those of a file, which is locked.
 #[derive(Drop)]
-pub struct FileWriter<F: DiskFile> {
+pub struct FileWriter<'a, F: DiskFile> {
     pages: PageWriter<FileBytes<F>>,
-    // The reason why the last failed write failed.
-    cause: Option<Error>,
+    cause: &'a Cause,
+    has_failed: bool,
 }
 
-impl<F: DiskFile> FileWriter<F> {
-    /// Begins to replace the bytes of a file by `length` bytes.
+impl<'a, F: DiskFile> FileWriter<'a, F> {
+    /// Begins to replace the bytes of a file by `length` bytes. The writer notes in `cause` why a write failed.
     pub(crate) fn begin(
         alloc: Global,
         file: FileBytes<F>,
         length: usize,
         syncs: Syncs,
-    ) -> io::Result<FileWriter<F>> {
+        cause: &'a Cause,
+    ) -> io::Result<FileWriter<'a, F>> {
         Ok(FileWriter {
             pages: PageWriter::begin(alloc, file, length, syncs)?,
-            cause: None,
+            cause,
+            has_failed: false,
         })
     }
 
@@ -40,18 +42,19 @@ impl<F: DiskFile> FileWriter<F> {
         ended
     }
 
-    /// Takes the change back, and returns why a write failed.
-    pub(crate) fn abort(mut self) -> Option<Error> {
+    /// Takes the change back, after a write that failed.
+    pub(crate) fn abort(mut self) {
         let _taken = self.pages.take_back();
-        self.cause
     }
 }
 
-impl<F: DiskFile> Write for FileWriter<F> {
+impl<'a, F: DiskFile> Write for FileWriter<'a, F> {
     fn write(&mut self, buf: &[u8]) -> io::Result<usize> {
         let taken = self.pages.take(buf);
-        if let Err(error) = &taken {
-            self.cause = Some(*error);
+        if taken.is_err() && !self.has_failed {
+            // Each later write fails too, and not for the reason of the first one.
+            self.cause.note(&taken);
+            self.has_failed = true;
         }
         taken
     }

@@ -1,38 +1,34 @@
 //! The files of the system, by calls of the runtime.
 ghost use Rattle.std.specs.Io.{ReadsAtMost};
 
-use rrd_disk::{Disk, DiskFile, Facts, Lock, Opening};
+use rrd_disk::{Disk, DiskFile, Facts, Kind, Lock, Opening};
 use std::alloc::Global;
-use std::cell::Cell;
-use std::fs::File;
-use std::io::{self, Error};
-use std::os::unix::fs::FileExt;
+use std::fs::{self, File, Metadata};
+use std::io::{self, ErrorKind};
+use std::os::fd::AsRawFd;
+use std::os::unix::fs::{FileExt, FileTypeExt, MetadataExt};
 use std::thread::sleep;
 use std::time::Duration;
 
+/// The highest number of a standard stream.
+const LAST_STREAM: i32 = 2;
+
 /// An open file of the system.
 #[derive(Drop)]
-pub(crate) struct HostFile<'a> {
+pub(crate) struct HostFile {
     file: File,
-    failed_read: &'a Cell<Option<Error>>,
 }
 
-impl<'a> io::Read for HostFile<'a> {
+impl io::Read for HostFile {
     fn read(&mut self, buf: &mut [u8]) -> io::Result<usize> {
-        let ended = self.file.read(buf);
-        self.failed_read.set(match &ended {
-            Ok(_) => None,
-            Err(error) => Some(*error),
-        });
-        ended
+        self.file.read(buf)
     }
 }
 
-impl<'a> DiskFile for HostFile<'a> {
-    fn again(&self) -> io::Result<HostFile<'a>> {
+impl DiskFile for HostFile {
+    fn again(&self) -> io::Result<HostFile> {
         Ok(HostFile {
             file: self.file.try_clone()?,
-            failed_read: self.failed_read,
         })
     }
 
@@ -60,52 +56,100 @@ impl<'a> DiskFile for HostFile<'a> {
         Ok(())
     }
 
+    fn unlock(&self) -> io::Result<()> {
+        self.file.unlock()
+    }
+
     fn sync(&self) -> io::Result<()> {
         self.file.sync_data()
     }
+}
+
+// Moves a file that took the number of a standard stream to a higher number. If the stream is closed, what the program
+// writes to the stream must not land in the file.
+fn above_streams(file: File) -> io::Result<File> {
+    if file.as_raw_fd() > LAST_STREAM {
+        return Ok(file);
+    }
+    file.try_clone()
 }
 
 /// The files of the system.
 #[derive(Drop)]
 pub(crate) struct Host<'a> {
     rt: &'a HostRuntime,
-    failed_read: &'a Cell<Option<Error>>,
 }
 
 impl<'a> Host<'a> {
     /// Creates the system whose files the runtime opens.
-    ///
-    /// `failed_read` gets the reason why the last read of a whole file failed, and `None` if that read succeeded.
-    pub(crate) fn new(rt: &'a HostRuntime, failed_read: &'a Cell<Option<Error>>) -> Host<'a> {
-        Host { rt, failed_read }
+    pub(crate) fn new(rt: &'a HostRuntime) -> Host<'a> {
+        Host { rt }
+    }
+
+    // Returns the kind of the file at a path, of which the system reports `known`.
+    fn kind_at(&self, path: &str, known: &Metadata) -> Kind {
+        if known.file_type().is_fifo() && self.is_without_name(path) {
+            return Kind::Pipe;
+        }
+        kind_of(known)
+    }
+
+    // Checks whether a path, such as `/dev/stdin`, leads to an open file that has no name of its own.
+    fn is_without_name(&self, path: &str) -> bool {
+        match fs::canonicalize(self.rt, path) {
+            Ok(_) => false,
+            Err(error) => error.kind() == ErrorKind::NotFound,
+        }
+    }
+}
+
+// Returns the kind of a file of which the system reports `known`, as if each pipe had a name.
+fn kind_of(known: &Metadata) -> Kind {
+    if known.is_file() {
+        Kind::Regular
+    } else if known.is_dir() {
+        Kind::Directory
+    } else {
+        Kind::Other
+    }
+}
+
+// Returns the facts of a file of this kind, of which the system reports `known`.
+fn facts_of(kind: Kind, known: &Metadata) -> Facts {
+    Facts {
+        kind,
+        length: known.len(),
+        device: known.dev(),
+        inode: known.ino(),
     }
 }
 
 impl<'a> Disk for Host<'a> {
-    type File = HostFile<'a>;
+    type File = HostFile;
 
     fn alloc(&self) -> Global {
         self.rt.alloc()
     }
 
-    fn open(&self, path: &str, opening: Opening) -> io::Result<HostFile<'a>> {
+    fn open(&self, path: &str, opening: Opening) -> io::Result<HostFile> {
         let file = File::options()
             .read(true)
             .write(opening != Opening::Read)
             .create(opening == Opening::Make)
             .open(self.rt, path)?;
         Ok(HostFile {
-            file,
-            failed_read: self.failed_read,
+            file: above_streams(file)?,
         })
     }
 
-    fn facts(&self, file: &HostFile<'a>) -> io::Result<Facts> {
+    fn facts(&self, file: &HostFile) -> io::Result<Facts> {
         let known = file.file.metadata()?;
-        Ok(Facts {
-            is_regular: known.is_file(),
-            length: known.len(),
-        })
+        Ok(facts_of(kind_of(&known), &known))
+    }
+
+    fn facts_at(&self, path: &str) -> io::Result<Facts> {
+        let known = fs::metadata(self.rt, path)?;
+        Ok(facts_of(self.kind_at(path, &known), &known))
     }
 
     fn pause(&self, milliseconds: u64) {

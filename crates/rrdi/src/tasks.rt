@@ -4,12 +4,11 @@ use crate::causes::report_cause;
 use crate::clock::seconds_now;
 use crate::disk::Host;
 use crate::settings::settings;
-use rrd_disk::FileStorage;
+use rrd_disk::{Cause, FileStorage};
 use rrd_store::{
     TaskFault, report_batch, report_command, report_file_batch, run_file_batch, run_file_command,
 };
 use rrd_tool::{Words, run_batch};
-use std::cell::Cell;
 use std::io::{BufWriter, Error, Stdout};
 
 /// The maximum number of bytes of output that one call writes.
@@ -39,16 +38,11 @@ pub(crate) fn batch(rt: &HostRuntime) -> u8 {
     report_batch(&mut rt.stderr(), end.refused, end.stream, None)
 }
 
-// Returns why the file could not be opened, read or written, if `fault` is such a fault. `failed_read` is the reason
-// why the last read failed; there is none if the fault is about the bytes that were read.
-fn cause_of(
-    file: &FileStorage<'_, Host<'_>>,
-    failed_read: Option<Error>,
-    fault: Option<TaskFault>,
-) -> Option<Error> {
+// Returns why the file could not be opened, read or written, if `fault` is such a fault. After a fault of the bytes that
+// were read there is no reason, because the last read succeeded.
+fn reason_of(cause: &Cause, fault: Option<TaskFault>) -> Option<Error> {
     match fault {
-        Some(TaskFault::CannotOpen | TaskFault::CannotWrite) => file.cause(),
-        Some(TaskFault::File(_)) => failed_read,
+        Some(TaskFault::CannotOpen | TaskFault::CannotWrite | TaskFault::File(_)) => cause.last(),
         _ => None,
     }
 }
@@ -66,11 +60,11 @@ where
         return fail(rt, NO_MEMORY);
     };
     let settings = settings(rt);
-    let failed_read = Cell::new(None);
-    let disk = Host::new(rt, &failed_read);
-    let mut file = FileStorage::new(&disk, path, settings);
+    let cause = Cause::new();
+    let disk = Host::new(rt);
+    let mut file = FileStorage::new(&disk, path, settings, &cause);
     let (status, fault) = run(&mut file, &mut out);
-    if let Some(error) = cause_of(&file, failed_read.get(), fault) {
+    if let Some(error) = reason_of(&cause, fault) {
         report_cause(rt, path, error, settings);
     }
     status

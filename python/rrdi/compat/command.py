@@ -14,12 +14,12 @@ from __future__ import annotations
 
 import os
 import shlex
-import shutil
 import subprocess
 import sys
 import time
 from typing import List
 
+from .resizing import RESIZED, resize_copy
 from .syntax import Untranslatable
 from .translate import Command, translate
 
@@ -51,17 +51,27 @@ def run(commands: List[Command], is_shown: bool) -> int:
     return 0
 
 
+class Ended(Exception):
+    """A command of rrdi failed; it has printed why. The argument is its exit status."""
+
+
 def resize(command: Command, is_shown: bool) -> int:
     """Resizes as rrdtool does: the file stays as it is, and resize.rrd in this folder is the resized file."""
     name, file, *others = command
     if is_shown:
-        print(shlex.join(["cp", file, "resize.rrd"]))
-        return run([[name, "resize.rrd", *others]], True)
-    shutil.copyfile(file, "resize.rrd")
-    status = run([[name, "resize.rrd", *others]], False)
-    if status:
-        os.remove("resize.rrd")
-    return status
+        print(shlex.join(["cp", file, RESIZED]))
+        return run([[name, RESIZED, *others]], True)
+
+    def resize_file(copy: str) -> None:
+        status = run([[name, copy, *others]], False)
+        if status:
+            raise Ended(status)
+
+    try:
+        resize_copy(file, resize_file)
+    except Ended as ended:
+        return int(ended.args[0])
+    return 0
 
 
 def main() -> int:

@@ -12,15 +12,14 @@ module. A function that rrdi does not have, such as `graph`, raises `Operational
 from __future__ import annotations
 
 import builtins
-import os
 import time
 from typing import Callable, List, NoReturn, Optional, Tuple, Union
 
 from .. import __version__ as __version__
 from .. import commands
 from ..errors import Error, OperationalError, ProgrammingError
-from ..reader import read_bytes
 from ..results import Info, LastUpdate, Table, info_of, last_update
+from .resizing import RESIZED, resize_copy
 from .syntax import Untranslatable
 from .translate import Command, translate
 
@@ -106,16 +105,12 @@ def resize(*words: Words) -> None:
     with _AsRrdtool():
         (name, file, *others), = _translated("resize", words)
         try:
-            data = read_bytes(file)
-            with open("resize.rrd", "wb") as copy:
-                copy.write(data)
-        except OSError as error:
-            raise OperationalError("cannot open", file, 0, None, error.errno or 0) from None
-        try:
-            commands.run_on("resize.rrd", [name, *others])
-        except Error:
-            os.remove("resize.rrd")
+            resize_copy(file, lambda copy: commands.run_on(copy, [name, *others]))
+        except Error as error:
+            error.path = RESIZED
             raise
+        except OSError as error:
+            raise OperationalError("cannot open", error.filename, 0, None, error.errno or 0) from None
 
 
 def fetch(*words: Words) -> Table[float]:

@@ -2,7 +2,6 @@
 from __future__ import annotations
 
 import re
-from decimal import Decimal
 from typing import Dict, List, Tuple
 
 Options = List[Tuple[str, str]]
@@ -81,6 +80,7 @@ def read_number(text: str) -> str:
         return text  # rrdi refuses the text and names it
     if re.fullmatch(r"-?\d+(\.\d{1,6})?", text):
         return text
+    from decimal import Decimal  # most numbers need no rounding
     sign, digits, exponent = Decimal(text).as_tuple()
     value = int("".join(map(str, digits))) * (-1 if sign else 1)
     power = int(exponent) + 6

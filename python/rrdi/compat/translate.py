@@ -68,7 +68,7 @@ class Translation:
                 told += ["--step", str(step)]
             elif name == "--start":
                 told += ["--start", str(self.seconds(value))]
-            elif os.path.exists(file):
+            elif os.path.lexists(file):
                 raise Untranslatable(f"{file} already exists")
         return [["create", file, *told, *(self.definition(word, step) for word in definitions)]]
 

@@ -1,5 +1,4 @@
 """The parts that all tools share: help, messages, exit statuses, and reports of progress."""
-from __future__ import annotations
 
 import os
 import sys

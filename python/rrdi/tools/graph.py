@@ -15,6 +15,7 @@ from __future__ import annotations
 import sys
 from typing import List
 
+from .answers import plain
 from .command_line import Tool, WrongArguments, run
 from .graphing import Grapher
 
@@ -22,7 +23,7 @@ from .graphing import Grapher
 def draw(words: List[str]) -> int:
     if len(words) < 2 or not words[0] or words[0].startswith("-") and words[0] != "-":
         raise WrongArguments
-    sys.stdout.buffer.write(Grapher().graph(words))
+    sys.stdout.buffer.write(plain(Grapher().graph(words)))
     return 0
 
 

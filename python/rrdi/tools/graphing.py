@@ -6,6 +6,7 @@ import locale
 import re
 from typing import List
 
+from .answers import Printed, lines_of
 from .command_line import Failure
 from .exponents import exponent
 from .fetching import fetch
@@ -64,39 +65,38 @@ class Grapher:
     def draw(self, words: List[str]) -> List[Info]:
         return self.library.graph([rewrite(word) for word in words], rows_for)
 
-    def graph(self, words: List[str]) -> bytes:
+    def graph(self, words: List[str]) -> Printed:
         """Draws a picture. Returns its size and the texts of PRINT, or the picture itself if the file is `-`."""
         found = self.draw(words)
         if words[:1] == ["-"]:
-            return b"".join(info.value for info in found if isinstance(info.value, bytes))
+            return [info.value for info in found if isinstance(info.value, bytes)]
         sizes = {info.key: info.value for info in found}
         # Without anything to draw there are no sizes.
-        lines = [f"{sizes.get('image_width', 0)}x{sizes.get('image_height', 0)}",
-                 *(info.value for info in found if info.key.startswith("print[") and isinstance(info.value, str))]
-        return "".join(line + "\n" for line in lines).encode(errors="surrogateescape")
+        return [f"{sizes.get('image_width', 0)}x{sizes.get('image_height', 0)}",
+                *(info.value for info in found if info.key.startswith("print[") and isinstance(info.value, str))]
 
-    def graph_with_sizes(self, words: List[str]) -> bytes:
+    def graph_with_sizes(self, words: List[str]) -> Printed:
         """Draws a picture. Returns RRDtool's information about the picture, and the picture itself if the file is `-`."""
-        return b"".join(as_line(info) for info in self.draw(words))
+        return [item for info in self.draw(words) for item in as_items(info)]
 
-    def xport(self, words: List[str]) -> bytes:
+    def xport(self, words: List[str]) -> Printed:
         """Returns rows as XML, or as JSON with --json."""
         found = self.library.xport([rewrite(word) for word in words], rows_for)
         has_times = "-t" in words or "--showtime" in words
-        printed = as_json(found, has_times) if "--json" in words else as_xml(found, has_times, "--enumds" in words)
-        return printed.encode(errors="surrogateescape")
+        return lines_of(as_json(found, has_times) if "--json" in words else
+                        as_xml(found, has_times, "--enumds" in words))
 
 
-def as_line(info: Info) -> bytes:
-    """Returns a line as `rrdtool graphv` prints it."""
+def as_items(info: Info) -> Printed:
+    """Returns a line as `rrdtool graphv` prints it, and the bytes of a picture after its line."""
     value = info.value
     if isinstance(value, bytes):
-        return f"{info.key} = BLOB_SIZE:{len(value)}\n".encode() + value
+        return [f"{info.key} = BLOB_SIZE:{len(value)}", value]
     if isinstance(value, float):
         shown = exponent(value, "NaN")
     else:
         shown = f'"{value}"' if isinstance(value, str) else str(value)
-    return f"{info.key} = {shown}\n".encode(errors="surrogateescape")
+    return [f"{info.key} = {shown}"]
 
 
 def as_xml(found: Exported, has_times: bool, is_numbered: bool) -> str:

@@ -3,19 +3,22 @@
 `rrdi.choice` chooses one of them; the results are the same. The tools use databases only through this module and the
 reader.
 """
-from __future__ import annotations
 
-import subprocess
+import re
 import time
-from typing import Dict, Iterable, List, NamedTuple, Optional
+from typing import TYPE_CHECKING, Dict, Iterable, List, NamedTuple, Optional, Tuple
 
 from ..choice import chosen_library, program_path
 from ..errors import CANNOT_WRITE, NO_MEMORY, OK, USAGE
-from ..library import Answer, Library
-from ..words import sync_of_environment, wait_of_environment
+from ..words import LONGEST_LINE, sync_of_environment, wait_of_environment
 from .command_line import Failure, error_text
 
+if TYPE_CHECKING:
+    from ..library import Answer, Library
+
 ERROR = "ERROR: "
+# A line of a batch has tabs and printable ASCII.
+OF_A_LINE = re.compile("[\t -~]*")
 
 
 class Ran(NamedTuple):
@@ -81,11 +84,11 @@ def as_bytes(text: str) -> bytes:
     return text.encode(errors="surrogateescape")
 
 
-def run_in_process(library: Library, words: List[str], given: str) -> Ran:
+def run_in_process(library: "Library", words: List[str], given: str) -> Ran:
     """Runs a command, or a batch, by the library. The result is the same as the program's."""
     name, file, *others = words
     now, wait, syncs = int(time.time()), wait_of_environment(), sync_of_environment()
-    answer: Answer
+    answer: "Answer"
     if name == "batch":
         answer = library.batch_file(as_bytes(file), as_bytes(given), now, wait, syncs)
     else:
@@ -110,6 +113,7 @@ def run(words: List[str], given: str = "") -> Ran:
     library = chosen_library()
     if library is not None:
         return run_in_process(library, words, given)
+    import subprocess  # the library needs no process
     try:
         ran = subprocess.run([program_path(), *words], input=given.encode(errors="surrogateescape"), capture_output=True)
     except OSError as error:
@@ -145,9 +149,14 @@ def batch(file: str, lines: Iterable[str]) -> List[str]:
     """Runs the lines of a batch on a file and returns their output.
 
     # Errors
-    `Refused` with the first refusal if a line was refused, or if the batch failed.
+    - `Failure` if a line is no text of a batch, for example because a line feed in it begins another line.
+    - `Refused` with the first refusal if a line was refused, or if the batch failed.
     """
-    ran = run(["batch", file_argument(file)], "".join(line + "\n" for line in lines))
+    given = list(lines)
+    for line in given:
+        if len(line) > LONGEST_LINE or not OF_A_LINE.fullmatch(line):
+            raise Failure(f"a line of a batch has a character that it cannot have, or is too long: {line[:60]!r}")
+    ran = run(["batch", file_argument(file)], "".join(line + "\n" for line in given))
     printed = ran.out.splitlines()
     if ran.status != 0:
         refusals = [line for line in printed if line.startswith(ERROR)]
@@ -210,7 +219,7 @@ class Rows(NamedTuple):
     cells: List[List[Optional[float]]]
 
 
-def printed_rows(text: str) -> "tuple[List[str], Dict[int, List[str]]]":
+def printed_rows(text: str) -> Tuple[List[str], Dict[int, List[str]]]:
     """Reads the output of `rrdi fetch`: the names of the sources, and the cells of each row by its time."""
     head, *lines = text.splitlines() or [""]
     rows = {}

@@ -1,7 +1,7 @@
 """Runs commands in RRDtool's syntax on rrdi's files, and prints what RRDtool prints.
 
     rrdi-rrdtool COMMAND ARGUMENT..
-    rrdi-rrdtool [--exact] - [DIRECTORY]
+    rrdi-rrdtool [--exact] [--lengths] - [DIRECTORY]
     rrdi-rrdtool [--exact | --rrdi | --show] COMMAND ARGUMENT..
 
 COMMAND is create, update, updatev, tune, resize, fetch, first, last, lastupdate, info, graph, graphv or xport, with
@@ -11,57 +11,62 @@ library, which draws the picture; rrdi-graph --help has more.
 The second form is RRDtool's pipe mode: it reads a command per line from standard input. After each command it prints the
 command's output and `OK`, or `ERROR` and the reason. Pipe mode also has cd, mkdir, ls, pwd and quit. With --exact,
 numbers have 17 digits instead of RRDtool's 11; with --rrdi the output is rrdi's own; with --show rrdi-rrdtool prints the
-commands of rrdi and changes nothing. The program is rrdi, or the program that the variable RRDI names. docs/migrate.md
-has more.
+commands of rrdi and changes nothing. With --lengths an answer in pipe mode begins with a line that has OK or ERROR and
+the number of bytes of each text that follows, so no text reads as an answer. The program is rrdi, or the program that
+the variable RRDI names. docs/migrate.md has more.
 
 Exit status: 0; 1 and `ERROR: REASON` on standard error if the command is refused; 2 after wrong arguments. In pipe mode
 the status is 0 at the end of the input and after quit.
 """
 from __future__ import annotations
 
-import shlex
 import sys
 from functools import lru_cache
-from typing import List
+from typing import TYPE_CHECKING, List
 
 from .. import program
+from ..answers import Printed, lines_of, plain
 from ..command_line import Failure, Tool, WrongArguments, error_text, give_up_output, run
 from ..exponents import be_exact
-from ..graphing import Grapher
 from .commands import Commands, shown
-from .pipe import Pipe
 from .texts import VERSION
 
-USAGE = "[--exact | --rrdi | --show] COMMAND ARGUMENT.. | [--exact] - [DIRECTORY]"
+# A command imports what it alone needs, because the imports are most of what a call costs.
+if TYPE_CHECKING:
+    from ..graphing import Grapher
+
+USAGE = "[--exact | --rrdi | --show] COMMAND ARGUMENT.. | [--exact] [--lengths] - [DIRECTORY]"
 HELP = ("usage: rrdi-rrdtool COMMAND ARGUMENT..\n"
         "commands: create, update, updatev, tune, resize, fetch, first, last, lastupdate, info, graph, graphv, xport\n"
         "in pipe mode also: quit, ls, cd, mkdir, pwd\n")
 
 
-def run_command(commands: Commands, name: str, words: List[str]) -> bytes:
+def run_command(commands: Commands, name: str, words: List[str]) -> Printed:
     """Runs a command and returns its output.
 
     # Errors
     `Failure` if the command is refused.
     """
     if name in ("-v", "--version"):
-        return (VERSION + "\n").encode()
+        return [VERSION]
     if name == "help":
-        return HELP.encode()
+        return lines_of(HELP)
     if name in ("graph", "graphv", "xport"):
         grapher = the_grapher()
         ways = {"graph": grapher.graph, "graphv": grapher.graph_with_sizes, "xport": grapher.xport}
         return ways[name](words)
-    return commands.run(name, words).encode(errors="surrogateescape")
+    return lines_of(commands.run(name, words))
 
 
 @lru_cache(maxsize=None)
 def the_grapher() -> Grapher:
     """Loads RRDtool's grapher at the first use."""
+    from ..graphing import Grapher
     return Grapher()
 
 
-def run_pipe(words: List[str]) -> int:
+def run_pipe(words: List[str], has_lengths: bool) -> int:
+    from .pipe import Pipe
     if len(words) > 1:
         raise WrongArguments
     if words:
@@ -71,13 +76,14 @@ def run_pipe(words: List[str]) -> int:
             print(f"ERROR: {failure}", file=sys.stderr)
             return 2
     commands = Commands()
-    pipe = Pipe(lambda name, others: run_command(commands, name, others), HELP, sys.stdout.buffer)
+    pipe = Pipe(lambda name, others: run_command(commands, name, others), HELP, sys.stdout.buffer, has_lengths)
     pipe.answer_all(sys.stdin.buffer)
     return 0
 
 
 def run_as_rrdi(name: str, words: List[str], is_shown: bool) -> int:
     """Translates a command to commands of rrdi, and runs them with rrdi's own output, or prints them."""
+    import shlex
     for command in shown(name, words):
         if name == "resize":
             raise Failure("resize writes resize.rrd; use it without --rrdi and --show, or rrdi resize")
@@ -93,16 +99,18 @@ def run_words(words: List[str]) -> int:
     if words[:1] == ["--exact"]:
         be_exact()
         words = words[1:]
+    has_lengths = words[:1] == ["--lengths"]
+    words = words[has_lengths:]
     mode = words[0] if words[:1] in (["--rrdi"], ["--show"]) else ""
     name, *others = (words[1:] if mode else words) or [""]
-    if not name:
+    if not name or has_lengths and words[0] != "-":
         raise WrongArguments
     if name == "-" and not mode:
-        return run_pipe(others)
+        return run_pipe(others, has_lengths)
     try:
         if mode:
             return run_as_rrdi(name, others, mode == "--show")
-        sys.stdout.buffer.write(run_command(Commands(), name, others))
+        sys.stdout.buffer.write(plain(run_command(Commands(), name, others)))
         sys.stdout.flush()
         return 0
     except Failure as failure:

@@ -3,17 +3,16 @@ from __future__ import annotations
 
 import os
 import re
-import shutil
 import time
 from contextlib import contextmanager
 from typing import Callable, Dict, Iterator, List, Tuple
 
+from ...compat.resizing import resize_copy
 from ...compat.syntax import Untranslatable, read_length, read_options
 from ...compat.translate import Command, Translation, translate
 from .. import program
 from ..command_line import Failure
 from ..fetching import FUNCTIONS, fetch, rows_of
-from ..outline import read_outline
 from ..program import Refused, Rows, Settings
 from .texts import NewCell, fetch_text, info_text, last_update_text, update_text
 
@@ -195,16 +194,13 @@ class Commands:
 
     def resize(self, words: List[str]) -> str:
         """Leaves the file as it is, and writes the resized database to resize.rrd in this directory."""
-        command = self.translated("resize", words)[0]
+        name, file, *others = self.translated("resize", words)[0]
         try:
-            shutil.copyfile(command[1], "resize.rrd")
+            resize_copy(file, lambda copy: program.ask([name, copy, *others]))
         except OSError as error:
             raise Failure(f"opening '{error.filename}': {error.strerror}") from None
-        try:
-            program.ask(["resize", "resize.rrd", *command[2:]])
         except Refused as refused:
-            os.unlink("resize.rrd")
-            raise Failure(explain(command[1], str(refused))) from None
+            raise Failure(explain(file, str(refused))) from None
         return ""
 
     # ---- Reading
@@ -262,6 +258,7 @@ class Commands:
 
     def info(self, words: List[str]) -> str:
         file, _ = self.one_file("info", words)
+        from ..outline import read_outline
         return info_text(file, self.settings(file), read_outline(file))
 
     def times(self, words: List[str]) -> str:

@@ -1,10 +1,11 @@
-"""The pipe mode of RRDtool: a command per line, and `OK` or `ERROR` after each."""
+"""The pipe mode of RRDtool: a command per line, and an answer to each."""
 from __future__ import annotations
 
 import os
 import time
 from typing import BinaryIO, Callable, Dict, List
 
+from ..answers import Printed, guarded, lines_of, one_line, with_lengths
 from ..command_line import Failure, error_text
 
 
@@ -44,12 +45,16 @@ def split(line: str) -> List[str]:
 
 
 class Pipe:
-    """Answers lines. `run` takes the name and the arguments of a command, and returns the bytes of its output."""
+    """Answers lines. `run` takes the name and the arguments of a command, and returns what the command prints.
 
-    def __init__(self, run: Callable[[str, List[str]], bytes], usage: str, output: BinaryIO):
-        self.run_command, self.usage, self.output = run, usage, output
+    An answer has RRDtool's form: the output and a line with OK, or a line with ERROR. With `has_lengths` it has the form
+    that `answers.with_lengths` describes.
+    """
+
+    def __init__(self, run: Callable[[str, List[str]], Printed], usage: str, output: BinaryIO, has_lengths: bool = False):
+        self.run_command, self.usage, self.output, self.has_lengths = run, usage, output, has_lengths
         self.begun = time.monotonic()
-        self.own: Dict[str, Callable[[List[str]], bytes]] = {
+        self.own: Dict[str, Callable[[List[str]], Printed]] = {
             "quit": self.quit, "cd": self.change_directory, "mkdir": self.make_directory, "ls": self.list_directory,
             "pwd": self.print_directory}
 
@@ -64,19 +69,25 @@ class Pipe:
     def answer(self, line: str) -> None:
         try:
             words = split(line)
-            printed = self.run(words[0], words[1:]) if words else self.usage.encode()
-            self.output.write(printed + self.times())
+            answer = self.accepted(self.run(words[0], words[1:]) if words else lines_of(self.usage))
         except Quit:
             raise
         except Failure as failure:
-            self.output.write(f"ERROR: {failure}\n".encode(errors="surrogateescape"))
+            answer = self.refused(str(failure))
         except OSError as error:
-            if isinstance(error, BrokenPipeError):
-                raise
-            self.output.write(f"ERROR: {error_text(error)}\n".encode(errors="surrogateescape"))
+            answer = self.refused(error_text(error))
         except Exception as error:  # a fault of this program; the caller still needs an answer
-            self.output.write(f"ERROR: internal error: {error!r}\n".encode(errors="backslashreplace"))
+            answer = self.refused(f"internal error: {error!r}")
+        self.output.write(answer)
         self.output.flush()
+
+    def accepted(self, printed: Printed) -> bytes:
+        return with_lengths("OK", printed) if self.has_lengths else guarded(printed) + self.times()
+
+    def refused(self, reason: str) -> bytes:
+        if self.has_lengths:
+            return with_lengths("ERROR", [reason])
+        return f"ERROR: {one_line(reason)}\n".encode(errors="surrogateescape")
 
     def times(self) -> bytes:
         """Returns the line after a successful command: seconds in the program, in the system, and since the start."""
@@ -84,7 +95,7 @@ class Pipe:
         return (f"OK u:{used.user + used.children_user:.2f} s:{used.system + used.children_system:.2f} "
                 f"r:{time.monotonic() - self.begun:.2f}\n").encode()
 
-    def run(self, name: str, words: List[str]) -> bytes:
+    def run(self, name: str, words: List[str]) -> Printed:
         if name in self.own:
             if len(words) != (1 if name in ("cd", "mkdir") else 0):
                 raise Failure(f"invalid parameter count for {name}")
@@ -92,36 +103,36 @@ class Pipe:
         return self.run_command(name, words)
 
     @staticmethod
-    def quit(_words: List[str]) -> bytes:
+    def quit(_words: List[str]) -> Printed:
         raise Quit
 
     @staticmethod
-    def change_directory(words: List[str]) -> bytes:
+    def change_directory(words: List[str]) -> Printed:
         try:
             os.chdir(words[0])
         except OSError as error:
             raise Failure(f"chdir {words[0]} {error.strerror}") from None
-        return b""
+        return []
 
     @staticmethod
-    def make_directory(words: List[str]) -> bytes:
+    def make_directory(words: List[str]) -> Printed:
         try:
             os.mkdir(words[0])
         except OSError as error:
             raise Failure(f"mkdir {words[0]}: {error.strerror}") from None
-        return b""
+        return []
 
     @staticmethod
-    def list_directory(_words: List[str]) -> bytes:
+    def list_directory(_words: List[str]) -> Printed:
         """Lists directories, and files with names that end in .rrd or .rrdi."""
-        lines = []
+        lines: Printed = []
         for name in [".", "..", *sorted(os.listdir("."))]:
             if os.path.isdir(name):
                 lines.append(f"d {name}")
             elif os.path.isfile(name) and name.endswith((".rrd", ".rrdi")):
                 lines.append(f"- {name}")
-        return "".join(line + "\n" for line in lines).encode(errors="surrogateescape")
+        return lines
 
     @staticmethod
-    def print_directory(_words: List[str]) -> bytes:
-        return os.fsencode(os.getcwd()) + b"\n"
+    def print_directory(_words: List[str]) -> Printed:
+        return [os.fsencode(os.getcwd()).decode(errors="surrogateescape")]

@@ -1,11 +1,12 @@
 """RRDtool's texts: the output of `rrdtool fetch`, `lastupdate`, `info` and `updatev`."""
-from __future__ import annotations
 
-from typing import List, NamedTuple, Optional
+from typing import TYPE_CHECKING, List, NamedTuple, Optional
 
 from ..exponents import exponent
-from ..outline import Outline
 from ..program import Rows, Settings
+
+if TYPE_CHECKING:
+    from ..outline import Outline
 
 VERSION = "RRDtool 1.7.2 (rrdi-rrdtool, on rrdi's files)"
 
@@ -33,7 +34,7 @@ def last_update_text(settings: Settings) -> str:
     return f"{names}\n\n{settings.last:10}:{values}\n"
 
 
-def source_lines(settings: Settings, outline: Outline) -> List[str]:
+def source_lines(settings: Settings, outline: "Outline") -> List[str]:
     lines = []
     for number, (source, part) in enumerate(zip(settings.sources, outline.steps)):
         key = f"ds[{source.name}]"
@@ -46,7 +47,7 @@ def source_lines(settings: Settings, outline: Outline) -> List[str]:
     return lines
 
 
-def archive_lines(settings: Settings, outline: Outline) -> List[str]:
+def archive_lines(settings: Settings, outline: "Outline") -> List[str]:
     lines = []
     for number, archive in enumerate(settings.archives):
         key = f"rra[{number}]"
@@ -59,7 +60,7 @@ def archive_lines(settings: Settings, outline: Outline) -> List[str]:
     return lines
 
 
-def info_text(file: str, settings: Settings, outline: Outline) -> str:
+def info_text(file: str, settings: Settings, outline: "Outline") -> str:
     lines = [f'filename = "{file}"', 'rrd_version = "0003"', f"step = {settings.step}",
              f"last_update = {settings.last}", f"header_size = {outline.header_size}",
              *source_lines(settings, outline), *archive_lines(settings, outline)]

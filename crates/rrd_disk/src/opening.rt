@@ -1,0 +1,119 @@
+//! Opens a file and locks it, so that the path still names the file when the lock is held.
+use crate::locks::{LockedFile, Pauses, lock};
+use crate::once::open;
+use crate::{Disk, DiskFile, Facts, Kind, Lock, Opening};
+use std::io::{self, Error, ErrorKind};
+
+/// The maximum number of openings, if each time another program replaces the file before it is locked.
+const OPENINGS: u32 = 100;
+
+/// An open file.
+#[derive(Drop)]
+pub(crate) enum Opened<F: DiskFile> {
+    /// A regular file that is locked, and its length.
+    Regular(LockedFile<F>, u64),
+    /// A pipe without a name, which is only read, and has no lock.
+    Pipe(F),
+    /// There is a file that the system does not open for this purpose, for this reason.
+    Refused(Error),
+}
+
+// Returns the lock that a run needs.
+fn lock_for(opening: Opening) -> Lock {
+    match opening {
+        Opening::Read => Lock::Shared,
+        Opening::Write | Opening::Make => Lock::Own,
+    }
+}
+
+/// Returns the reason why a device, or a pipe, is not opened.
+pub(crate) fn not_regular() -> Error {
+    Error::new(ErrorKind::Unsupported, "not a regular file")
+}
+
+// Returns the kind of the file at a path, if a file of this kind may be opened. The system is asked before the file is
+// opened: to open a pipe with a name would wait for a program at the pipe's other end.
+//
+// A second opening of a pipe could lose bytes that the pipe delivered, and wait for more. So a pipe is only read, and not
+// changed.
+fn openable_kind<D: Disk>(disk: &D, path: &str, opening: Opening) -> io::Result<Kind> {
+    match disk.facts_at(path) {
+        Ok(facts) => match facts.kind {
+            Kind::Regular => Ok(Kind::Regular),
+            Kind::Pipe if opening == Opening::Read => Ok(Kind::Pipe),
+            Kind::Directory => Err(Error::from(ErrorKind::IsADirectory)),
+            Kind::Pipe | Kind::Other => Err(not_regular()),
+        },
+        // The system creates a regular file.
+        Err(error) if error.kind() == ErrorKind::NotFound && opening == Opening::Make => {
+            Ok(Kind::Regular)
+        }
+        Err(error) => Err(error),
+    }
+}
+
+// Checks whether a path names the regular file with these facts.
+fn names<D: Disk>(disk: &D, path: &str, facts: &Facts) -> io::Result<bool> {
+    match disk.facts_at(path) {
+        Ok(named) => Ok(
+            facts.kind == Kind::Regular
+                && named.device == facts.device
+                && named.inode == facts.inode,
+        ),
+        Err(error) if error.kind() == ErrorKind::NotFound => Ok(false),
+        Err(error) => Err(error),
+    }
+}
+
+// Opens the file at a path once, and locks the file. Returns `None` if the path then names another file.
+fn open_once<D: Disk>(
+    disk: &D,
+    path: &str,
+    opening: Opening,
+    pauses: &mut Pauses,
+) -> io::Result<Option<Opened<D::File>>> {
+    let kind = openable_kind(disk, path, opening)?;
+    let file = match open(disk, path, opening) {
+        Ok(file) => file,
+        Err(error) if error.kind() == ErrorKind::NotFound => return Err(error),
+        Err(error) => return Ok(Some(Opened::Refused(error))),
+    };
+    if kind == Kind::Pipe {
+        return Ok(Some(Opened::Pipe(file)));
+    }
+    let locked = lock(disk, file, lock_for(opening), pauses)?;
+    let facts = disk.facts(locked.file())?;
+    if !names(disk, path, &facts)? {
+        return Ok(None);
+    }
+    Ok(Some(Opened::Regular(locked, facts.length)))
+}
+
+/// Opens the file at a path, and locks the file: a reader shares the lock with other readers.
+///
+/// Another program may replace the file while this run waits for the lock. The run then opens the new file, so that no
+/// change goes to a file without a name. `wait` is the time in milliseconds for which the run waits in all.
+///
+/// # Errors
+///
+/// - `NotFound` if there is no file, or no directory for a new one.
+/// - The file is no regular file. A pipe without a name may be read.
+/// - `WouldBlock` if another program held a lock at each try.
+/// - The file cannot be locked, or another program replaced it each time.
+pub(crate) fn open_locked<D: Disk>(
+    disk: &D,
+    path: &str,
+    opening: Opening,
+    wait: u64,
+) -> io::Result<Opened<D::File>> {
+    let mut pauses = Pauses::within(wait);
+    for _ in 0..OPENINGS {
+        if let Some(opened) = open_once(disk, path, opening, &mut pauses)? {
+            return Ok(opened);
+        }
+    }
+    Err(Error::new(
+        ErrorKind::ResourceBusy,
+        "another program keeps replacing the file",
+    ))
+}

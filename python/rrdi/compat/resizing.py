@@ -1,0 +1,41 @@
+"""RRDtool's `resize`: the file stays as it is, and resize.rrd in this directory is the resized database."""
+from __future__ import annotations
+
+import os
+import time
+from typing import Callable, List
+
+RESIZED = "resize.rrd"
+
+
+def resize_copy(file: str, resize: Callable[[str], object]) -> None:
+    """Calls `resize` on a copy of a file, and gives the copy the name resize.rrd.
+
+    The file is read under a shared lock, so that no other program changes the file meanwhile. If it cannot be resized, there
+    is no resize.rrd, so a script that goes on moves no older copy to the place of the file.
+
+    # Errors
+    `OSError` with a file name if the file cannot be read or locked, or the copy cannot be written.
+    """
+    from ..reader.files import read_bytes  # only this command reads a file itself
+    try:
+        data = read_bytes(file)
+    except OSError as error:
+        raise OSError(error.errno, error.strerror, file) from None
+    copy = f"{RESIZED}.{os.getpid()}-{time.monotonic_ns()}"
+    try:
+        with open(copy, "xb") as opened:
+            opened.write(data)
+        resize(copy)
+        os.replace(copy, RESIZED)
+    except BaseException:
+        remove([copy, RESIZED])
+        raise
+
+
+def remove(files: List[str]) -> None:
+    for file in files:
+        try:
+            os.unlink(file)
+        except FileNotFoundError:
+            pass
